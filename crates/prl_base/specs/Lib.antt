@@ -1,0 +1,5 @@
+pub mod Values
+pub mod Names
+pub mod Clocks
+pub mod Ratios
+pub mod Reading

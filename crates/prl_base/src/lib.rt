@@ -1,0 +1,22 @@
+//! What every layer of the compiler speaks of: values and their types, names, places in a text,
+//! ratios, strictly periodic clocks, the operators on flows, limits, and the numbers by which the
+//! layers name tasks, edges, cells and flows. It stands on nothing but `std`.
+#![tactic(auto)]
+
+mod limits;
+mod names;
+mod numbers;
+mod operators;
+mod places;
+mod ratios;
+mod seqs;
+mod values;
+
+pub use limits::{Limit, What};
+pub use names::{Label, Name, NameFault, is_word, is_word_byte, is_word_start};
+pub use numbers::{CellNo, EdgeNo, FlowNo, TaskNo};
+pub use operators::{Clock, Op};
+pub use places::Span;
+pub use ratios::{Past, Ratio};
+pub use seqs::Seq;
+pub use values::{Ty, Value};

@@ -1,0 +1,30 @@
+//! Strictly periodic clocks, and the operators on flows.
+
+use crate::{Ratio, Value};
+
+/// A strictly periodic clock, in ticks: the dates `start`, `start + period`, `start + 2 * period`
+/// and so on. A clock of the language has a period of at least 1 (`IsClock` in contracts).
+#[derive(Clone, Copy, Debug, PartialEq, Eq)]
+pub struct Clock {
+    pub period: u64,
+    pub start: u64,
+}
+
+/// An operator on one flow. Pagetti, Forget, Boniol, Cordovil and Lesens, "Multi-task implementation
+/// of multi-periodic synchronous programs" (2011), has the operators; the dates that each of them reads
+/// are `OperatorByDate` in the crate of flows.
+#[derive(Clone, Copy, Debug, PartialEq, Eq)]
+pub enum Op {
+    /// `c fby x`: one period late, the constant first.
+    Fby(Value),
+    /// `c :: x`: the constant one period before the first value of `x`.
+    Cons(Value),
+    /// `tail x`: without the first value.
+    Tail,
+    /// `x *^ k`: each value `k` times.
+    Up(u32),
+    /// `x /^ k`: the first of each `k` values.
+    Down(u32),
+    /// `x ~> q`: later by `q` periods.
+    Shift(Ratio),
+}
