@@ -1,0 +1,12 @@
+//! Flat programs: lists of flows, each a sensor's, a copy, a constant or an operator on another flow.
+//! What their flows are is defined by date (`specs/`), and `evaluate` computes them by instance.
+//! It stands on `prl_base`.
+#![tactic(auto)]
+
+mod evaluation;
+mod programs;
+mod rows;
+
+pub use evaluation::{FlowFault, FlowTable, evaluate};
+pub use programs::{Clocks, Def, Flat, Flow, OutFlow};
+pub use rows::Sensors;
