@@ -26,7 +26,7 @@ so_far-more {old = old} text rest count so_far grown =
     rw take_rest (record {
       front = so_far.front ++ take count rest;
       parts = append_assoc so_far.front (take count rest) (drop count rest) ∙ ap (λ r. so_far.front ++ r) whole ∙ so_far.parts;
-      grown = grown ∙ ap (λ m. appended m (take count rest)) so_far.grown ∙ appended-append old so_far.front (take count rest)
+      grown = grown ∙ ap (λ m. appended m (take count rest)) so_far.grown ∙ appended-append old so_far.front (take count rest);
     })
 
 -- the pieces up to a number, that one and those behind it are all of them
@@ -34,8 +34,8 @@ flat_map-around : {X : Type 0} (f : X → List ℕ) (xs : List X) (i : ℕ) (d :
     → flat_map f (take i xs) ++ (f (get_or xs i d) ++ flat_map f (drop (i + 1) xs)) ≡ flat_map f xs
 flat_map-around f xs i d below =
     let one : flat_map f (take (i + 1) xs) ≡ flat_map f (take i xs) ++ f (get_or xs i d) =
-      ap (flat_map f) (take_more xs i d below) ∙ flat_map-append f (take i xs) (get_or xs i d ∷ [])
-      ∙ ap (λ r. flat_map f (take i xs) ++ r) (append-nil (f (get_or xs i d))) in
+    ap (flat_map f) (take_more xs i d below) ∙ flat_map-append f (take i xs) (get_or xs i d ∷ [])
+    ∙ ap (λ r. flat_map f (take i xs) ++ r) (append-nil (f (get_or xs i d))) in
     sym (append_assoc (flat_map f (take i xs)) (f (get_or xs i d)) (flat_map f (drop (i + 1) xs)))
     ∙ ap (λ r. r ++ flat_map f (drop (i + 1) xs)) (sym one)
     ∙ sym (flat_map-append f (take (i + 1) xs) (drop (i + 1) xs))
@@ -50,16 +50,16 @@ pieces-stop {old = old} f pieces i d below before stopped =
       front = flat_map f (take i pieces) ++ stopped.front;
       rest = stopped.rest ++ flat_map f (drop (i + 1) pieces);
       parts =
-        let here = f (get_or pieces i d) in
-        let later = flat_map f (drop (i + 1) pieces) in
-        let regrouped : stopped.front ++ (stopped.rest ++ later) ≡ here ++ later =
+          let here = f (get_or pieces i d) in
+          let later = flat_map f (drop (i + 1) pieces) in
+          let regrouped : stopped.front ++ (stopped.rest ++ later) ≡ here ++ later =
           sym (append_assoc stopped.front stopped.rest later) ∙ ap (λ r. r ++ later) stopped.parts in
-        append_assoc (flat_map f (take i pieces)) stopped.front (stopped.rest ++ later)
-        ∙ ap (λ r. flat_map f (take i pieces) ++ r) regrouped
-        ∙ flat_map-around f pieces i d below;
+          append_assoc (flat_map f (take i pieces)) stopped.front (stopped.rest ++ later)
+          ∙ ap (λ r. flat_map f (take i pieces) ++ r) regrouped
+          ∙ flat_map-around f pieces i d below;
       unwritten =
-        omega (arith, stopped.unwritten, length-append stopped.rest (flat_map f (drop (i + 1) pieces)));
-      grown = stopped.grown ∙ ap (λ m. appended m stopped.front) before ∙ appended-append old (flat_map f (take i pieces)) stopped.front
+          omega (arith, stopped.unwritten, length-append stopped.rest (flat_map f (drop (i + 1) pieces)));
+      grown = stopped.grown ∙ ap (λ m. appended m stopped.front) before ∙ appended-append old (flat_map f (take i pieces)) stopped.front;
     }
 
 -- an error leaves a front
