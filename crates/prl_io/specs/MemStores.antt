@@ -1,5 +1,5 @@
 -- A sink in memory.
-use Rattle.std.specs.Prelude.{◌≡◌, ◌+◌, ◌-◌, ◌++◌, ◌||◌, ℕ, Bool, List, [], length, take, min, nat_le, Option, Some, None, Result, Ok, Err, if◌then◌else◌}
+use Rattle.std.specs.Prelude.{◌+◌, ◌-◌, ◌++◌, ◌||◌, ℕ, Bool, List, [], length, min, nat_le, Option, Some, Result, Ok, Err, if◌then◌else◌}
 use Rattle.prl_io.specs.declared.writing.Failed.{Failed}
 use Rattle.prl_io.specs.Numbering.{following, fails_at}
 use Rattle.prl_io.specs.Growth.{taken}

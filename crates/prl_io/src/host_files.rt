@@ -21,7 +21,9 @@ pub struct HostFiles<'a, R: Runtime> {
 
 impl<'a, R: Runtime> HostFiles<'a, R> {
     /// The files that this runtime reaches. It takes no memory.
-    pub fn new(rt: &'a R) -> HostFiles<'a, R> {
+    pub fn new(rt: &'a R) -> HostFiles<'a, R>
+        ensures { ⟦<HostFiles<'a, R> as Files>⟧.faults result ≡ 0 }
+    {
         HostFiles {
             rt,
             count: FaultCount::new(),

@@ -16,7 +16,9 @@ pub struct HostSink<W: Write + Drop> {
 
 impl<W: Write + Drop> HostSink<W> {
     /// A sink over this writer. It takes no memory.
-    pub fn new(writer: W) -> HostSink<W> {
+    pub fn new(writer: W) -> HostSink<W>
+        ensures { ⟦<HostSink<W> as Sink>⟧.faults result ≡ 0 }
+    {
         HostSink {
             writer,
             count: FaultCount::new(),

@@ -1,6 +1,7 @@
 //! Calls by their numbers from 0, some of which are to fail.
 
-ghost use Rattle.std.specs.Prelude.{◌≡◌, ℕ};
+ghost use Rattle.std.specs.Prelude.{◌≡◌, ◌==◌, ℕ};
+ghost use Rattle.std.specs.List.{list_any};
 ghost use Rattle.prl_io.specs.Numbering.{following, fails_at};
 
 /// Which calls are to fail, and the number of the next one. The number is None once every `u64` is
@@ -32,9 +33,15 @@ impl Calls {
         match self.next {
             Some(number) => {
                 self.next = number.checked_add(1);
-                self.fails.iter().any(|failing| *failing == number)
+                is_listed(self.fails.as_slice(), number)
             }
             None => false,
         }
     }
+}
+
+fn is_listed(numbers: &[u64], number: u64) -> bool
+    ensures { result ≡ list_any (λ listed. listed == number) numbers.now }
+{
+    numbers.iter().any(|listed| *listed == number)
 }
