@@ -1,9 +1,8 @@
 -- The tokens of a text, or its first fault.
-use Rattle.std.specs.Prelude.{◌≡◌, ◌≤◌, ℕ, zero, suc, ◌+◌, ◌-◌, ◌^◌, ◌==◌, ◌&&◌, nat_lt, nat_le, List, [], ◌∷◌, length, take, drop, Option, Some, None, Result, Ok, Err, if◌then◌else◌}
+use Rattle.std.specs.Prelude.{◌≡◌, ◌≤◌, ℕ, zero, suc, ◌+◌, ◌-◌, ◌^◌, ◌==◌, nat_lt, nat_le, List, [], ◌∷◌, length, take, drop, Option, Some, None, Result, Ok, Err, if◌then◌else◌}
 use Rattle.std.specs.Str.Parse.{digits_value}
 use Rattle.prl_base.specs.Names.{IsName}
 use Rattle.prl_base.specs.Reading.{◌>>=◌}
-use Rattle.prl_base.specs.declared.limits.Limit.{Limit}
 use Rattle.prl_base.specs.declared.limits.What.TheVariants as limits
 use Rattle.prl_lex.specs.declared.tokens.Kind.{Kind}
 use Rattle.prl_lex.specs.declared.tokens.Kind.TheVariants.{Word, Number, Symbol}
@@ -64,11 +63,12 @@ tokens_from at depth zero (b ∷ bs) =
 abbrev pub tokens_of : List ℕ → Result (List Token) LexFault
 tokens_of text = tokens_from 0 0 0 text
 
--- what is known of a token of a text: it lies in the text, a word is a name, and only a number has one
+-- what is known of a token of a text: it lies in the text, and a word is a name
 pub record IsTokenOf (text : List ℕ) (t : Token) : Type 0 where
   pub inside : t.span.at + t.span.len ≤ length text
   pub word : t.kind ≡ Word → IsName (token_text text t)
 
--- one token ends before the other begins
-abbrev pub IsBefore : Token → Token → Type 0
-IsBefore s t = s.span.at + s.span.len ≤ t.span.at
+-- from a place on, each begins where the one before it ended, or later
+abbrev pub AreInOrder : ℕ → List Token → Type 0
+AreInOrder at [] = Unit {0}
+AreInOrder at (t ∷ ts) = (at ≤ t.span.at) × AreInOrder (t.span.at + t.span.len) ts

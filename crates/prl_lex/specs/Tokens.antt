@@ -1,7 +1,8 @@
 -- What tokens are, and what stands at the front of a text.
-use Rattle.std.specs.Prelude.{ℕ, zero, suc, ◌+◌, ◌==◌, ◌&&◌, ◌||◌, Bool, false, List, [], ◌∷◌, length, take, drop, codes, Option, Some, None, if◌then◌else◌}
+use Rattle.std.specs.Prelude.{◌≡◌, ◌<◌, ◌≤◌, IsTrue, ℕ, zero, suc, ◌+◌, ◌==◌, ◌&&◌, ◌||◌, Bool, false, List, [], ◌∷◌, length, take, drop, codes, Option, Some, None, if◌then◌else◌}
 use Rattle.std.specs.Char.{is_ascii_digit}
 use Rattle.std.specs.List.{list_any, list_all, position_or_len}
+use Rattle.std.specs.Option.{option_map}
 use Rattle.prl_base.specs.Names.{is_word}
 use Rattle.prl_lex.specs.declared.tokens.Kind.{Kind}
 use Rattle.prl_lex.specs.declared.tokens.Kind.TheVariants.{Word, Number, Symbol}
@@ -57,14 +58,10 @@ begins x y (a ∷ b ∷ rest) = (a == x) && (b == y)
 abbrev pub line_len : List ℕ → ℕ
 line_len text = position_or_len (λ b. b == 10) text
 
-abbrev pub one_more : Option ℕ → Option ℕ
-one_more None = None
-one_more (Some n) = Some (n + 1)
-
 -- how many bytes there are up to the end of the first `*)`; None where there is none
 abbrev pub closing_len : List ℕ → Option ℕ
 closing_len [] = None
-closing_len (b ∷ bs) = if begins 42 41 (b ∷ bs) then Some 2 else one_more (closing_len bs)
+closing_len (b ∷ bs) = if begins 42 41 (b ∷ bs) then Some 2 else option_map (λ n. n + 1) (closing_len bs)
 
 -- a comment whose closing ends so many bytes behind its two opening ones; one that is not closed is no token
 abbrev pub closed : Option ℕ → Piece
@@ -83,3 +80,9 @@ piece_of (b ∷ bs) =
     else (if begins 45 45 (b ∷ bs) then pieces.Gap (line_len (b ∷ bs))
     else (if begins 40 42 (b ∷ bs) then closed (closing_len (drop 1 bs))
     else token_of_len (b ∷ bs) (longest (b ∷ bs))))
+
+-- a piece has a byte at least, and lies in the text
+abbrev pub FitsPiece : List ℕ → Piece → Type 0
+FitsPiece text pieces.Bad = Unit {0}
+FitsPiece text (pieces.Gap n) = (0 < n) × (n ≤ length text)
+FitsPiece text (pieces.Token kind n) = (0 < n) × (n ≤ length text) × (kind ≡ kind_of (take n text)) × IsTrue (is_token (take n text))

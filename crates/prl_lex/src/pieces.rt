@@ -1,10 +1,11 @@
 //! What stands at the front of a text.
 
-ghost use Rattle.std.specs.Prelude.{◌≡◌, ◌<◌, ◌≤◌, length};
+ghost use Rattle.std.specs.Prelude.{◌≡◌, ◌≤◌, length, drop, IfSome};
 ghost use Rattle.std.specs.Char.{is_ascii_digit};
 ghost use Rattle.std.specs.List.{prefix_len};
 ghost use Rattle.prl_base.specs.Names.{is_word_byte};
-ghost use Rattle.prl_lex.specs.Tokens.{is_blank, is_one_byte_symbol, is_two_byte_symbol, line_len, closing_len, closed, token_of_len, longest, piece_of};
+ghost use Rattle.prl_lex.specs.FirstByte.{symbol_by_bytes, token_by_first};
+ghost use Rattle.prl_lex.specs.Tokens.{is_blank, is_one_byte_symbol, is_two_byte_symbol, line_len, begins, closing_len, closed, token_of_len, longest, piece_of, FitsPiece};
 
 use crate::tokens::Kind;
 use prl_base::{is_word_byte, is_word_start};
@@ -47,7 +48,8 @@ fn is_two_byte_symbol(first: u8, second: u8) -> bool
 
 /// How many bytes of a word the text begins with, its first byte aside.
 fn word_len(text: &[u8]) -> usize
-    ensures { result ≡ prefix_len is_word_byte text.now }
+    ensures exact { result ≡ prefix_len is_word_byte text.now }
+    ensures within { result ≤ length text.now }
 {
     for (i, byte) in text.iter().enumerate() {
         if !is_word_byte(*byte) {
@@ -59,7 +61,8 @@ fn word_len(text: &[u8]) -> usize
 
 /// How many digits the text begins with.
 fn digits_len(text: &[u8]) -> usize
-    ensures { result ≡ prefix_len is_ascii_digit text.now }
+    ensures exact { result ≡ prefix_len is_ascii_digit text.now }
+    ensures within { result ≤ length text.now }
 {
     for (i, byte) in text.iter().enumerate() {
         if !byte.is_ascii_digit() {
@@ -81,62 +84,104 @@ fn line_len(text: &[u8]) -> usize
     text.len()
 }
 
+/// Whether the text begins with the two bytes.
+fn begins(text: &[u8], first: u8, second: u8) -> bool
+    ensures { result ≡ begins first second text.now }
+{
+    match text {
+        [a, b, ..] => *a == first && *b == second,
+        [_] => false,
+        [] => false,
+    }
+}
+
 /// How many bytes there are up to the end of the first `*)`.
 fn closing_len(text: &[u8]) -> Option<usize>
-    ensures { result ≡ closing_len text.now }
+    ensures exact { result ≡ closing_len text.now }
+    ensures within { IfSome result (λ len. len ≤ length text.now) }
 {
-    let mut star = false;
-    for (i, byte) in text.iter().enumerate() {
-        if star && *byte == b')' {
-            return Some(i + 1);
+    for i in 0..text.len() {
+        if begins(&text[i..], b'*', b')') {
+            return Some(i + 2);
         }
-        star = *byte == b'*';
     }
     None
 }
 
-/// A comment, of which these bytes stand behind its opening.
-fn comment(rest: &[u8]) -> Piece
-    ensures { result ≡ closed (closing_len rest.now) }
+/// The comment at the front of a text that begins with `(*`.
+fn comment(text: &[u8]) -> Piece
+    requires { 2 ≤ length text.now }
+    ensures { result ≡ closed (closing_len (drop 2 text.now)) }
 {
-    match closing_len(rest) {
+    match closing_len(&text[2..]) {
         Some(len) => Piece::Gap(len + 2),
         None => Piece::Bad,
     }
 }
 
-/// How many bytes the symbol has with which a text begins; 0 where it begins with none.
-fn symbol_len(first: u8, rest: &[u8]) -> usize {
-    match rest {
-        [second, ..] if is_two_byte_symbol(first, *second) => 2,
-        _ if is_one_byte_symbol(first) => 1,
-        _ => 0,
+/// The symbol at the front, of which these are the first byte and the rest.
+fn symbol(first: u8, rest: &[u8]) -> Piece
+    ensures { result ≡ symbol_by_bytes first rest.now }
+{
+    if let [second, ..] = rest
+        && is_two_byte_symbol(first, *second)
+    {
+        return Piece::Token(Kind::Symbol, 2);
+    }
+    if is_one_byte_symbol(first) {
+        return Piece::Token(Kind::Symbol, 1);
+    }
+    Piece::Bad
+}
+
+/// The token at the front, whose kind its first byte tells.
+fn token_by_first(text: &[u8]) -> Piece
+    ensures { result ≡ token_by_first text.now }
+{
+    match text {
+        [] => Piece::Bad,
+        [first, rest @ ..] => {
+            if is_word_start(*first) {
+                Piece::Token(Kind::Word, word_len(rest) + 1)
+            } else if first.is_ascii_digit() {
+                Piece::Token(Kind::Number, digits_len(rest) + 1)
+            } else {
+                symbol(*first, rest)
+            }
+        }
     }
 }
 
 /// The longest token at the front.
-fn token(first: u8, rest: &[u8]) -> Piece {
-    if is_word_start(first) {
-        return Piece::Token(Kind::Word, word_len(rest) + 1);
-    }
-    if first.is_ascii_digit() {
-        return Piece::Token(Kind::Number, digits_len(rest) + 1);
-    }
-    match symbol_len(first, rest) {
-        0 => Piece::Bad,
-        len => Piece::Token(Kind::Symbol, len),
+fn token(text: &[u8]) -> Piece
+    ensures { result ≡ token_of_len text.now (longest text.now) }
+{
+    token_by_first(text)
+}
+
+fn front(text: &[u8]) -> Piece
+    ensures { result ≡ piece_of text.now }
+{
+    match text {
+        [] => Piece::Bad,
+        [first, ..] => {
+            if is_blank(*first) {
+                Piece::Gap(1)
+            } else if begins(text, b'-', b'-') {
+                Piece::Gap(line_len(text))
+            } else if begins(text, b'(', b'*') {
+                comment(text)
+            } else {
+                token(text)
+            }
+        }
     }
 }
 
 /// What stands at the front of a text.
 pub fn piece_of(text: &[u8]) -> Piece
-    ensures { result ≡ piece_of text.now }
+    ensures exact { result ≡ piece_of text.now }
+    ensures fits { FitsPiece text.now result }
 {
-    match text {
-        [] => Piece::Bad,
-        [b' ' | b'\t' | b'\r' | b'\n', ..] => Piece::Gap(1),
-        [b'-', b'-', ..] => Piece::Gap(line_len(text)),
-        [b'(', b'*', rest @ ..] => comment(rest),
-        [first, rest @ ..] => token(*first, rest),
-    }
+    front(text)
 }
