@@ -1,6 +1,6 @@
 -- Dates of clocks, and the values of flows at them.
-use Rattle.std.proofs.Common.{◌≡◌, ◌≢◌, ◌+◌, ◌-◌, ◌*◌, ◌/◌, ◌%◌, ◌<◌, ◌≤◌, ◌↔◌, ◌==◌, ℕ, zero, suc, List, ◌∷◌, length, slice_get, Option, Some, refl, sym, ◌∙◌, ap, subst, arith, inl, inr, if◌then◌else◌, nat_le, nat_abs}
-use Rattle.std.proofs.Math.Nat.{le-div_iff_mul-le, mul-le-mul_right, mul-div_cancel, mul-div-mul_right, mul-div_cancel_left, mul-le-mul_left, mul_comm, mul_assoc, mul-add, le_of_mul-le-mul_left, div-mul-le_self, div-lt_iff_lt-mul, zero-mul}
+use Rattle.std.proofs.Common.{◌≡◌, ◌+◌, ◌-◌, ◌*◌, ◌/◌, ◌<◌, ◌≤◌, ◌↔◌, ℕ, zero, suc, List, length, slice_get, refl, sym, ◌∙◌, ap, arith, inl, inr, nat_abs}
+use Rattle.std.proofs.Math.Nat.{le-div_iff_mul-le, mul-le-mul_right, mul-div_cancel, mul-div-mul_right, mul-le-mul_left, mul_comm, mul_assoc, mul-add, le_of_mul-le-mul_left, div-mul-le_self, div-lt_iff_lt-mul, zero-mul}
 use Rattle.std.proofs.lemmas.Bool.{cases_lt, lt-leb, le-leb, ne_eqb, eq-eqb}
 use Rattle.prl_base.specs.Clocks.{IsClock, date_at, IsDate}
 use Rattle.prl_base.specs.declared.operators.Clock.{Clock}
@@ -10,14 +10,15 @@ use Rattle.prl_base.specs.declared.values.Value.{Value}
 use Rattle.prl_flow.specs.Counts.{dates_before}
 use Rattle.prl_flow.specs.Flows.{IsUpTo, value_at, delay, IsResultClock, value_of_operator, OperatorByDate}
 use Rattle.prl_flow.proofs.Lists.{same_from_elements}
-use Rattle.prl_flow.specs.Instances.{instance_of_operator, AreFirst, HasEnough}
+use Rattle.prl_flow.specs.Instances.{instance_of_operator, AreFirst, HasEnough, IsDenominated}
 
 -- a quotient that is rounded up
 pub below_ceiling : (d t k : ℕ) → 1 ≤ t → (k < (d + t - 1) / t) ↔ (k * t < d)
 below_ceiling d t k positive =
-    let quotient : (k + 1 ≤ (d + t - 1) / t) ↔ ((k + 1) * t ≤ d + t - 1) = le-div_iff_mul-le (omega arith) in
-    (λ below. let h : (k + 1) * t ≤ d + t - 1 = quotient.0 (omega arith) in omega arith,
-     λ below. let h : k + 1 ≤ (d + t - 1) / t = quotient.1 (omega arith) in omega arith)
+    let quotient : (k + 1 ≤ (d + t - 1) / t) ↔ ((k + 1) * t ≤ d + t - 1) = le-div_iff_mul-le (omega arith) in (
+      λ below. let h : (k + 1) * t ≤ d + t - 1 = quotient.0 (omega arith) in omega arith,
+      λ below. let h : k + 1 ≤ (d + t - 1) / t = quotient.1 (omega arith) in omega arith,
+    )
 
 pub dates_before-late : (until : ℕ) (c : Clock) → until ≤ c.start → dates_before until c ≡ 0
 dates_before-late until c late = rw (le-leb until c.start late)
@@ -28,23 +29,24 @@ dates_before-early until c early = rw (lt-leb until c.start early)
 -- the dates before `until` are those of a number below their count
 pub dates_before-place : (until : ℕ) (c : Clock) (k : ℕ) → IsClock c → (k < dates_before until c) ↔ (date_at c k < until)
 dates_before-place until c k clock = elim (cases_lt c.start until) [
-    inl early ↦
-        let count = dates_before-early until c early in
-        let place = below_ceiling (until - c.start) c.period k clock in
-        (λ below. let h : k * c.period < until - c.start = place.0 (rw count at below) in omega arith,
-         λ before. rw count (place.1 (omega arith)))
-    | inr late ↦
-        let count = dates_before-late until c late in
-        (λ below. let h : k < 0 = rw count at below in absurd (omega arith), λ before. absurd (omega arith))
+  | inl early ↦
+      let count = dates_before-early until c early in
+      let place = below_ceiling (until - c.start) c.period k clock in (
+        λ below. let h : k * c.period < until - c.start = place.0 (rw count at below) in omega arith,
+        λ before. rw count (place.1 (omega arith)),
+      )
+  | inr late ↦
+      let count = dates_before-late until c late in
+      (λ below. let h : k < 0 = rw count at below in absurd (omega arith), λ before. absurd (omega arith))
 ]
 
 pub dates_before-le : (until : ℕ) (c : Clock) → IsClock c → dates_before until c ≤ until
 dates_before-le until c clock = elim (cases_lt until (dates_before until c)) [
-    inl more ↦
-        let h : date_at c until < until = (dates_before-place until c until clock).0 more in
-        let g : until * 1 ≤ until * c.period = mul-le-mul_left until clock in
-        absurd (omega arith)
-    | inr le ↦ le
+  | inl more ↦
+      let h : date_at c until < until = (dates_before-place until c until clock).0 more in
+      let g : until * 1 ≤ until * c.period = mul-le-mul_left until clock in
+      absurd (omega arith)
+  | inr le ↦ le
 ]
 
 -- a flow up to a date has as many values as its clock has dates before it
@@ -57,10 +59,10 @@ length-from_IsUpTo until c values clock up_to =
     let not_less : length values < count → ⊥ = λ less. let e : length values < length values = (up_to (length values)).1 ((dates_before-place until c (length values) clock).0 less) in omega arith in
     let not_more : count < length values → ⊥ = λ more. let e : count < count = (dates_before-place until c count clock).1 ((up_to count).0 more) in omega arith in
     elim (cases_lt (length values) count) [
-      inl less ↦ absurd (not_less less)
+      | inl less ↦ absurd (not_less less)
       | inr le ↦ elim (cases_lt count (length values)) [
-          inl more ↦ absurd (not_more more)
-          | inr ge ↦ omega arith
+        | inl more ↦ absurd (not_more more)
+        | inr ge ↦ omega arith
       ]
     ]
 
@@ -74,15 +76,6 @@ value_at-date c values k clock =
 -- the same at a date that is written otherwise
 pub value_at-place : (c : Clock) (values : List Value) (t k : ℕ) → IsClock c → t ≡ date_at c k → value_at c values t ≡ slice_get values k
 value_at-place c values t k clock same = rw same (value_at-date c values k clock)
-
--- the denominator of a shift is not 0
-abbrev pub IsDenominated : Op → Type 0
-IsDenominated (operators.Fby c) = Unit {0}
-IsDenominated (operators.Cons c) = Unit {0}
-IsDenominated operators.Tail = Unit {0}
-IsDenominated (operators.Up k) = Unit {0}
-IsDenominated (operators.Down k) = Unit {0}
-IsDenominated (operators.Shift q) = 1 ≤ q.den
 
 -- at its j-th date an operator has the value of its j-th instance
 pub value_of_operator-date : (op : Op) (x : Clock) (values : List Value) (y : Clock) (j : ℕ) → IsClock x → IsClock y → IsResultClock op x y → IsDenominated op
@@ -117,8 +110,8 @@ value_of_operator-date (operators.Shift q) x values y j xs ys (period, start) fi
 
 count_le : (count bound : ℕ) → ((j : ℕ) → j < count → j < bound) → count ≤ bound
 count_le count bound within = elim (cases_lt bound count) [
-    inl more ↦ let e : bound < bound = within bound more in absurd (omega arith)
-    | inr le ↦ le
+  | inl more ↦ let e : bound < bound = within bound more in absurd (omega arith)
+  | inr le ↦ le
 ]
 
 -- as many values as dates before `until`, where each of them is there
@@ -143,23 +136,25 @@ pub HasEnough-from_IsUpTo : (op : Op) (x : Clock) (values : List Value) (y : Clo
     → IsUpTo until x values → HasEnough op values (dates_before until y)
 HasEnough-from_IsUpTo (operators.Fby c) x values y until xs ys (period, start) fits up_to =
     dates_before-within until y (length values + 1) ys (λ j before.
-      let same : date_at x j ≡ date_at y j = rw (period, start) refl in
-      let below : j < length values = (up_to j).1 (rw same before) in
-      omega arith)
+    let same : date_at x j ≡ date_at y j = rw (period, start) refl in
+    let below : j < length values = (up_to j).1 (rw same before) in
+    omega arith)
 HasEnough-from_IsUpTo (operators.Cons c) x values y until xs ys (period, start) fits up_to =
     dates_before-within until y (length values + 1) ys (cons_within x values y until period start up_to)
 HasEnough-from_IsUpTo operators.Tail x values y until xs ys (period, start) fits up_to =
     dates_before-within until y (length values - 1) ys (λ j before.
-      let same : date_at x (j + 1) ≡ date_at y j = rw (period, start) (omega arith) in
-      let below : j + 1 < length values = (up_to (j + 1)).1 (rw same before) in
-      omega arith)
+    let same : date_at x (j + 1) ≡ date_at y j = rw (period, start) (omega arith) in
+    let below : j + 1 < length values = (up_to (j + 1)).1 (rw same before) in
+    omega arith)
 HasEnough-from_IsUpTo (operators.Up k) x values y until xs ys (period, start) fits up_to =
-    let positive : 1 ≤ k = positive_factor k y.period x.period period xs in
-    (positive, dates_before-within until y (length values * k) ys (λ j before.
-      let down : j / k * k * y.period ≤ j * y.period = mul-le-mul_right y.period (div-mul-le_self j k) in
-      let place : j / k * x.period ≡ j / k * k * y.period = rw (← period) (sym (mul_assoc (j / k) k y.period)) in
-      let below : j / k < length values = (up_to (j / k)).1 (omega arith) in
-      (div-lt_iff_lt-mul positive).0 below))
+    let positive : 1 ≤ k = positive_factor k y.period x.period period xs in (
+      positive,
+      dates_before-within until y (length values * k) ys (λ j before.
+          let down : j / k * k * y.period ≤ j * y.period = mul-le-mul_right y.period (div-mul-le_self j k) in
+          let place : j / k * x.period ≡ j / k * k * y.period = rw (← period) (sym (mul_assoc (j / k) k y.period)) in
+          let below : j / k < length values = (up_to (j / k)).1 (omega arith) in
+          (div-lt_iff_lt-mul positive).0 below),
+    )
 HasEnough-from_IsUpTo (operators.Down k) x values y until xs ys (period, start) fits up_to = λ j below.
     let same : date_at x (j * k) ≡ date_at y j = rw (period, start) (ap (λ n. x.start + n) (mul_assoc j k x.period)) in
     (up_to (j * k)).1 (rw same ((dates_before-place until y j ys).0 below))
@@ -172,13 +167,13 @@ pub OperatorByDate-from_instances : (op : Op) (x : Clock) (values : List Value) 
     → IsClock x → IsClock y → IsResultClock op x y → IsDenominated op
     → AreFirst (instance_of_operator op values) (dates_before until y) results → OperatorByDate op x values y results until
 OperatorByDate-from_instances op x values y results until xs ys clock fits first = record {
-    clock = clock;
-    up_to = IsUpTo-from_length until y results ys first.number;
-    each = λ t (k, same) before.
+  clock = clock;
+  up_to = IsUpTo-from_length until y results ys first.number;
+  each = λ t (k, same) before.
       let place : date_at y k < until = rw same at before in
       value_at-place y results t k ys same
-        ∙ first.each k ((dates_before-place until y k ys).1 place)
-        ∙ sym (ap (value_of_operator op x values y.start) same ∙ value_of_operator-date op x values y k xs ys clock fits)
+      ∙ first.each k ((dates_before-place until y k ys).1 place)
+      ∙ sym (ap (value_of_operator op x values y.start) same ∙ value_of_operator-date op x values y k xs ys clock fits);
 }
 
 -- two flows on one clock, up to one date, that have the same value at each date are one flow
@@ -186,4 +181,4 @@ pub same_by_date : (until : ℕ) (c : Clock) (xs ys : List Value) → IsClock c 
     → ((t : ℕ) → IsDate c t → t < until → value_at c xs t ≡ value_at c ys t) → xs ≡ ys
 same_by_date until c xs ys clock x_up_to y_up_to each =
     same_from_elements xs ys (length-from_IsUpTo until c xs clock x_up_to ∙ sym (length-from_IsUpTo until c ys clock y_up_to)) (λ k below.
-      sym (value_at-date c xs k clock) ∙ each (date_at c k) (k, refl) ((x_up_to k).0 below) ∙ value_at-date c ys k clock)
+    sym (value_at-date c xs k clock) ∙ each (date_at c k) (k, refl) ((x_up_to k).0 below) ∙ value_at-date c ys k clock)

@@ -1,5 +1,5 @@
 -- Elements of lists by their numbers.
-use Rattle.std.proofs.Common.{◌≡◌, ◌+◌, ◌<◌, ◌≤◌, ℕ, zero, suc, List, [], ◌∷◌, ◌++◌, length, take, drop, slice_get, Option, Some, None, refl, sym, ◌∙◌, ap, arith, add-one, length-append, below_more, subst}
+use Rattle.std.proofs.Common.{◌≡◌, ◌+◌, ◌<◌, ℕ, zero, suc, List, [], ◌∷◌, ◌++◌, length, take, drop, replicate, slice_get, Option, Some, refl, sym, ◌∙◌, arith, add-one, length-append, below_more, subst}
 use Rattle.prl_base.specs.declared.values.Value.{Value}
 use Rattle.prl_flow.specs.Instances.{AreFirst}
 
@@ -21,6 +21,11 @@ slice_get-take (suc n) (x ∷ xs) (suc k) below = slice_get-take n xs k (omega a
 pub slice_get-drop_one : {A : Type 0} (xs : List A) (k : ℕ) → slice_get (drop 1 xs) k ≡ slice_get xs (k + 1)
 slice_get-drop_one [] k = refl
 slice_get-drop_one (x ∷ xs) k = rw add-one refl
+
+pub slice_get-replicate : {A : Type 0} (n : ℕ) (x : A) (k : ℕ) → k < n → slice_get (replicate n x) k ≡ Some x
+slice_get-replicate zero x k below = absurd (omega arith)
+slice_get-replicate (suc n) x zero below = refl
+slice_get-replicate (suc n) x (suc k) below = slice_get-replicate n x k (omega arith)
 
 -- a list has an element at each number below its length
 pub element_at : {A : Type 0} (xs : List A) (k : ℕ) → k < length xs → (x : A) × (slice_get xs k ≡ Some x)
@@ -46,6 +51,6 @@ pub AreFirst-push : (instance : ℕ → Option Value) (n : ℕ) (xs : List Value
 AreFirst-push instance n xs x first next =
     let number : length xs ≡ n = first.number in
     let at : (j : ℕ) → j < n + 1 → slice_get (xs ++ x ∷ []) j ≡ instance j = below_more (λ j. slice_get (xs ++ x ∷ []) j ≡ instance j) n
-      (λ j below. slice_get-append_left xs (x ∷ []) j (omega arith) ∙ first.each j below)
-      (subst (λ (m : ℕ). slice_get (xs ++ x ∷ []) m ≡ instance n) number (slice_get-push xs x ∙ sym next)) in
+    (λ j below. slice_get-append_left xs (x ∷ []) j (omega arith) ∙ first.each j below)
+    (subst (λ (m : ℕ). slice_get (xs ++ x ∷ []) m ≡ instance n) number (slice_get-push xs x ∙ sym next)) in
     record { number = omega (arith, length-append xs (x ∷ [])); each = at }

@@ -26,6 +26,15 @@ pub record AreFirst (instance : ℕ → Option Value) (count : ℕ) (values : Li
   pub number : length values ≡ count
   pub each : (j : ℕ) → j < count → slice_get values j ≡ instance j
 
+-- the denominator of a shift is not 0
+abbrev pub IsDenominated : Op → Type 0
+IsDenominated (operators.Fby c) = Unit {0}
+IsDenominated (operators.Cons c) = Unit {0}
+IsDenominated operators.Tail = Unit {0}
+IsDenominated (operators.Up k) = Unit {0}
+IsDenominated (operators.Down k) = Unit {0}
+IsDenominated (operators.Shift q) = 1 ≤ q.den
+
 -- the flow that the operator stands on has a value for each of the first `count` instances
 abbrev pub HasEnough : Op → List Value → ℕ → Type 0
 HasEnough (operators.Fby c) values count = count ≤ length values + 1

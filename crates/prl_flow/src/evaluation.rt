@@ -115,6 +115,8 @@ pub fn evaluate(
     ensures fault { IfErr result (IsFlowFault (values_before until clocks.now.of)) }
 {
     let clocks = clocks.of.as_slice();
+    // A program has fewer than 2^32 flows, so the sum fits.
+    prove!(flat.flows().len() < 1 << 32);
     let values = values_before(until, clocks);
     if values > MAX_VALUES {
         return Err(FlowFault::Limit(Limit {

@@ -1,7 +1,7 @@
 //! The values of one flow, by instance.
 
 ghost use Rattle.std.specs.Prelude.{◌≡◌, ◌+◌, ◌-◌, ◌*◌, ◌/◌, ◌<◌, ◌≤◌, ℕ, List, ◌∷◌, length, take, drop, slice_get, replicate, IfOk};
-ghost use Rattle.prl_flow.specs.Instances.{instance_of_operator, AreFirst, HasEnough};
+ghost use Rattle.prl_flow.specs.Instances.{instance_of_operator, AreFirst, HasEnough, IsDenominated};
 
 use prl_base::{Op, Value};
 use std::alloc::{AllocError, Global};
@@ -23,7 +23,12 @@ pub(crate) fn constant(alloc: Global, value: Value, count: usize) -> Result<Vec<
 }
 
 /// The constant, and then the values of the flow, `count` in all.
-fn after_constant(alloc: Global, first: Value, of: &[Value], count: usize) -> Result<Vec<Value>, AllocError>
+fn after_constant(
+    alloc: Global,
+    first: Value,
+    of: &[Value],
+    count: usize,
+) -> Result<Vec<Value>, AllocError>
     requires { count ≤ length of.now + 1 }
     ensures { IfOk result (λ v. v.items ≡ take count (first ∷ of.now)) }
 {
@@ -46,7 +51,12 @@ fn without_first(values: &[Value]) -> &[Value]
 }
 
 /// Each value of the flow `factor` times, `count` in all.
-fn repeated(alloc: Global, of: &[Value], factor: u32, count: usize) -> Result<Vec<Value>, AllocError>
+fn repeated(
+    alloc: Global,
+    of: &[Value],
+    factor: u32,
+    count: usize,
+) -> Result<Vec<Value>, AllocError>
     requires factor { 1 ≤ factor }
     requires enough { count ≤ length of.now * factor }
     ensures { IfOk result (λ v. AreFirst (λ j. slice_get of.now (j / factor)) count v.items) }
@@ -71,9 +81,15 @@ fn sampled(alloc: Global, of: &[Value], factor: u32, count: usize) -> Result<Vec
 }
 
 /// The first `count` values that the operator makes of the flow.
-pub(crate) fn operator_values(alloc: Global, op: Op, of: &[Value], count: usize) -> Result<Vec<Value>, AllocError>
-    requires { HasEnough op of.now count }
-    ensures { IfOk result (λ v. AreFirst (instance_of_operator op of.now) count v.items) }
+pub(crate) fn operator_values(
+    alloc: Global,
+    op: Op,
+    of: &[Value],
+    count: usize,
+) -> Result<Vec<Value>, AllocError>
+    requires { IsDenominated op → HasEnough op of.now count }
+    ensures values { IfOk result (λ v. AreFirst (instance_of_operator op of.now) count v.items) }
+    ensures denominated { IsDenominated op }
 {
     match op {
         Op::Fby(first) => after_constant(alloc, first, of, count),
