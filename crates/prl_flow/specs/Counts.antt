@@ -1,5 +1,5 @@
 -- How many values flows have.
-use Rattle.std.specs.Prelude.{◌≡◌, ◌+◌, ◌-◌, ◌/◌, ◌<◌, ℕ, List, sum_by, nat_le, if◌then◌else◌}
+use Rattle.std.specs.Prelude.{◌+◌, ◌-◌, ◌/◌, ℕ, List, sum_by, nat_le, if◌then◌else◌}
 use Rattle.prl_base.specs.declared.operators.Clock.{Clock}
 
 -- how many dates of the clock come before `until`

@@ -1,6 +1,5 @@
 -- When the flows of a program are not computed.
 use Rattle.std.specs.Prelude.{◌≡◌, ◌<◌, ℕ}
-use Rattle.prl_base.specs.declared.limits.Limit.{Limit}
 use Rattle.prl_base.specs.declared.limits.What.TheVariants as whats
 use Rattle.prl_flow.specs.declared.evaluation.FlowFault.{FlowFault}
 use Rattle.prl_flow.specs.declared.evaluation.FlowFault.TheVariants as faults

@@ -1,6 +1,6 @@
 -- Flows by date: what a flow is, and what each operator makes of one. No instance number occurs in the operators.
-use Rattle.std.specs.Prelude.{◌≡◌, ◌+◌, ◌-◌, ◌*◌, ◌/◌, ◌==◌, ◌<◌, ◌≤◌, ◌↔◌, ℕ, List, length, Option, Some, slice_get, nat_abs, if◌then◌else◌}
-use Rattle.prl_base.specs.Clocks.{IsClock, date_at, IsDate}
+use Rattle.std.specs.Prelude.{◌≡◌, ◌+◌, ◌-◌, ◌*◌, ◌/◌, ◌==◌, ◌<◌, ◌↔◌, ℕ, List, length, Option, Some, slice_get, nat_abs, if◌then◌else◌}
+use Rattle.prl_base.specs.Clocks.{date_at, IsDate}
 use Rattle.prl_base.specs.Ratios.{Fraction}
 use Rattle.prl_base.specs.declared.operators.Clock.{Clock}
 use Rattle.prl_base.specs.declared.operators.Op.{Op}

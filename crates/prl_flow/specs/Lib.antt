@@ -5,3 +5,4 @@ pub mod Solutions
 pub mod Actuators
 pub mod Counts
 pub mod Faults
+pub mod Instances

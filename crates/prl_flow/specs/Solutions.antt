@@ -1,9 +1,7 @@
 -- The meaning of a flat program: its clocks, and its flows up to a date.
-use Rattle.std.specs.Prelude.{◌≡◌, ◌<◌, ◌≤◌, ℕ, List, [], length, take, Option, Some, slice_get, slice_index_or}
+use Rattle.std.specs.Prelude.{◌≡◌, ◌<◌, ℕ, List, [], length, take, Some, slice_get, slice_index_or}
 use Rattle.prl_base.specs.Clocks.{IsClock, date_at, IsDate}
-use Rattle.prl_base.specs.Values.{type_of}
 use Rattle.prl_base.specs.declared.operators.Clock.{Clock}
-use Rattle.prl_base.specs.declared.operators.Op.{Op}
 use Rattle.prl_base.specs.declared.numbers.FlowNo.{FlowNo}
 use Rattle.prl_base.specs.declared.values.Value.{Value}
 use Rattle.prl_flow.specs.declared.programs.Def.{Def}

@@ -3,10 +3,13 @@
 //! It stands on `prl_base`.
 #![tactic(auto)]
 
+mod dates;
 mod evaluation;
+mod instances;
 mod programs;
 mod rows;
 
+pub use dates::dates_before;
 pub use evaluation::{FlowFault, FlowTable, evaluate};
 pub use programs::{Clocks, Def, Flat, Flow, OutFlow};
 pub use rows::Sensors;
