@@ -60,7 +60,8 @@ pub fn decimal_of(text: &[u8]) -> Option<u64>
     }
 }
 
-fn positive(size: u64) -> Option<i32>
+/// The integer of 32 bits of this size. None where it is above 2^31 - 1.
+pub fn positive(size: u64) -> Option<i32>
     ensures { result ≡ positive size }
 {
     if size < 1 << 31 {
@@ -70,7 +71,8 @@ fn positive(size: u64) -> Option<i32>
     }
 }
 
-fn negative(size: u64) -> Option<i32>
+/// The negative of this size as an integer of 32 bits. None where the size is above 2^31.
+pub fn negative(size: u64) -> Option<i32>
     ensures { result ≡ negative size }
 {
     if size == 0 {
