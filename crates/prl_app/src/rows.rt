@@ -71,5 +71,9 @@ pub fn rows_of(alloc: Global, name: &[u8], text: &[u8]) -> Result<Option<Vec<Val
         }
         rest = behind;
     }
-    Ok(if rest.is_empty() { Some(values) } else { None })
+    if rest.is_empty() {
+        Ok(Some(values))
+    } else {
+        Ok(None)
+    }
 }
