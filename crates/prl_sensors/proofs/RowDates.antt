@@ -1,18 +1,18 @@
 -- The dates of actuators' rows, and the text up to a date.
-use Rattle.std.proofs.Common.{◌≡◌, ◌+◌, ◌-◌, ◌*◌, ◌/◌, ◌%◌, ◌<◌, ◌≤◌, ◌++◌, ℕ, zero, suc, Bool, true, false, List, [], ◌∷◌, length, slice_get, Some, None, refl, sym, ◌∙◌, ap, subst, arith, add-one, All, nat_le, ◌==◌, inl, inr}
+use Rattle.std.proofs.Common.{◌≡◌, ◌+◌, ◌-◌, ◌/◌, ◌%◌, ◌<◌, ◌≤◌, ◌++◌, ℕ, zero, suc, true, List, [], ◌∷◌, length, None, refl, ◌∙◌, ap, arith, add-one, All, nat_le, ◌==◌, inl, inr}
 use Rattle.std.specs.List.{flat_map}
 use Rattle.std.proofs.lemmas.Bool.{cases_Bool, cases_lt, and_parts, leb-true, eqb-true}
 use Rattle.std.proofs.lemmas.List.Concat.{flat_map-append}
 use Rattle.std.proofs.lemmas.List.{append-nil}
-use Rattle.std.proofs.lemmas.List.Elements.{All-head, All-tail, All-weaker}
+use Rattle.std.proofs.lemmas.List.Elements.{All-head, All-tail}
 use Rattle.std.proofs.lemmas.Nat.{div-add-mod'}
 use Rattle.std.proofs.lemmas.Option.{slice_get_past}
 use Rattle.std.proofs.Math.Nat.{lt_of_mul-lt-mul_right}
-use Rattle.prl_base.specs.Clocks.{IsClock, date_at}
+use Rattle.prl_base.specs.Clocks.{date_at}
 use Rattle.prl_base.specs.declared.operators.Clock.{Clock}
 use Rattle.prl_flow.specs.declared.programs.OutFlow.{OutFlow}
-use Rattle.prl_flow.specs.Flows.{IsUpTo, value_at}
-use Rattle.prl_flow.specs.Actuators.{AreUpTo, Row, is_date, row_with, row_at, actuator_rows, actuator_text, row_text}
+use Rattle.prl_flow.specs.Flows.{value_at}
+use Rattle.prl_flow.specs.Actuators.{AreUpTo, is_date, row_at, actuator_rows, actuator_text, row_text}
 use Rattle.prl_sensors.specs.Ends.{EndsBefore}
 
 -- a date of the clock has a number
@@ -26,10 +26,10 @@ date_of c t date =
 -- where the actuator has no value of the date's number it has no row
 pub row_at-none : (out : OutFlow) (t : ℕ) → ((k : ℕ) → t ≡ date_at out.clock k → length out.values ≤ k) → row_at t out ≡ []
 row_at-none out t past = elim (cases_Bool (is_date out.clock t)) [
-    inl date ↦
-        let none : value_at out.clock out.values t ≡ None = slice_get_past out.values ((t - out.clock.start) / out.clock.period) (past _ (date_of out.clock t date)) in
-        rw (date, none) refl
-    | inr other ↦ rw other refl
+  | inl date ↦
+      let none : value_at out.clock out.values t ≡ None = slice_get_past out.values ((t - out.clock.start) / out.clock.period) (past _ (date_of out.clock t date)) in
+      rw (date, none) refl
+  | inr other ↦ rw other refl
 ]
 
 -- dates of one clock are in the order of their numbers
@@ -47,17 +47,17 @@ no_rows_after_end end [] t ends late = refl
 no_rows_after_end end (out ∷ outs) t ends late =
     let first : EndsBefore end out = All-head (EndsBefore end) out outs ends in
     let none : row_at t out ≡ [] = row_at-none out t (λ k same. elim (cases_lt k (length out.values)) [
-        inl within ↦ let h : date_at out.clock k < end = first.dates k within in absurd (omega arith)
-        | inr past ↦ past
-      ]) in
+      | inl within ↦ let h : date_at out.clock k < end = first.dates k within in absurd (omega arith)
+      | inr past ↦ past
+    ]) in
     rw (none, no_rows_after_end end outs t (All-tail (EndsBefore end) out outs ends) late) refl
 
 -- the text does not grow where there is no row
 actuator_rows-skip : (outs : List OutFlow) (a b : ℕ) → a ≤ b → ((t : ℕ) → a ≤ t → t < b → flat_map (row_at t) outs ≡ []) → actuator_rows b outs ≡ actuator_rows a outs
 actuator_rows-skip outs a zero order none = let e : a ≡ zero = omega arith in rw e refl
 actuator_rows-skip outs a (suc b) order none = elim (cases_lt b a) [
-    inl less ↦ let e : a ≡ suc b = omega arith in rw e refl
-    | inr more ↦ rw (none b more (omega arith)) (append-nil (actuator_rows b outs) ∙ actuator_rows-skip outs a b more (λ t from before. none t from (omega arith)))
+  | inl less ↦ let e : a ≡ suc b = omega arith in rw e refl
+  | inr more ↦ rw (none b more (omega arith)) (append-nil (actuator_rows b outs) ∙ actuator_rows-skip outs a b more (λ t from before. none t from (omega arith)))
 ]
 
 pub actuator_text-skip : (outs : List OutFlow) (a b : ℕ) → a ≤ b → ((t : ℕ) → a ≤ t → t < b → flat_map (row_at t) outs ≡ []) → actuator_text b outs ≡ actuator_text a outs

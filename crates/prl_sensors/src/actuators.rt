@@ -35,7 +35,13 @@ fn push_value(text: &mut Vec<u8>, value: Value) -> Result<(), AllocError>
 }
 
 /// Appends the row of an actuator.
-fn push_row(text: &mut Vec<u8>, name: &[u8], instance: u64, date: u64, value: Value) -> Result<(), AllocError>
+fn push_row(
+    text: &mut Vec<u8>,
+    name: &[u8],
+    instance: u64,
+    date: u64,
+    value: Value,
+) -> Result<(), AllocError>
     ensures { OnOk result (text.new.items ≡ text.old.items ++ row_text (record { name = name.now; instance = instance; date = date; value = value })) }
 {
     text.extend_from_slice(name)?;

@@ -14,12 +14,13 @@ pub loop-date-preserved : goal.loop-date-preserved
 loop-date-preserved c =
     let outs = c.args.outs.now in
     let date = c.loop-date.date in
-    let next = c.next_date-date-in-loop-date.ensures in
-    (c.in_ok-push_rows_at.ensures
-       ∙ ap (λ (bytes : List ℕ). bytes ++ flat_map row_text (flat_map (row_at date) outs)) c.loop-date.invariant.0
-       ∙ sym (actuator_text-more outs date)
-       ∙ sym (actuator_text-skip outs _ c.next_date-date-in-loop-date.result next.low next.none),
-     next.high)
+    let next = c.next_date-date-in-loop-date.ensures in (
+      c.in_ok-push_rows_at.ensures
+          ∙ ap (λ (bytes : List ℕ). bytes ++ flat_map row_text (flat_map (row_at date) outs)) c.loop-date.invariant.0
+          ∙ sym (actuator_text-more outs date)
+          ∙ sym (actuator_text-skip outs _ c.next_date-date-in-loop-date.result next.low next.none),
+      next.high,
+    )
 
 pub returns : goal.returns
 returns c = λ until up_to.
@@ -28,4 +29,4 @@ returns c = λ until up_to.
     let order : end ≤ until = c.end_of-end.ensures.least until (EndsBefore-from_AreUpTo until outs up_to) in
     let same : c.loop-date.date ≡ end = omega arith in
     c.loop-date.invariant.0 ∙ ap (λ t. actuator_text t outs) same
-      ∙ sym (actuator_text-skip outs end until order (λ t from before. no_rows_after_end end outs t c.end_of-end.ensures.ends from))
+    ∙ sym (actuator_text-skip outs end until order (λ t from before. no_rows_after_end end outs t c.end_of-end.ensures.ends from))
