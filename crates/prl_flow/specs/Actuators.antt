@@ -1,12 +1,13 @@
 -- The text that a run of the actuators writes.
-use Rattle.std.specs.Prelude.{◌-◌, ◌/◌, ◌%◌, ◌==◌, ◌&&◌, ◌++◌, ℕ, zero, suc, Bool, true, false, List, [], ◌∷◌, Option, Some, None, nat_le, if◌then◌else◌, codes}
+use Rattle.std.specs.Prelude.{◌-◌, ◌/◌, ◌%◌, ◌==◌, ◌&&◌, ◌++◌, ℕ, zero, suc, Bool, true, false, List, [], ◌∷◌, Option, Some, None, nat_le, if◌then◌else◌, codes, All}
 use Rattle.std.specs.List.{flat_map}
 use Rattle.std.specs.Fmt.{decimal, signed_decimal}
+use Rattle.prl_base.specs.Clocks.{IsClock}
 use Rattle.prl_base.specs.declared.operators.Clock.{Clock}
 use Rattle.prl_base.specs.declared.values.Value.{Value}
 use Rattle.prl_base.specs.declared.values.Value.TheVariants as variants
 use Rattle.prl_flow.specs.declared.programs.OutFlow.{OutFlow}
-use Rattle.prl_flow.specs.Flows.{value_at}
+use Rattle.prl_flow.specs.Flows.{IsUpTo, value_at}
 
 -- one value of an actuator: its instance, its date in ticks, and the value
 pub record Row : Type 0 where
@@ -45,3 +46,7 @@ row_text r = r.name ++ 44 ∷ decimal r.instance ++ 44 ∷ decimal r.date ++ 44 
 
 abbrev pub actuator_text : ℕ → List OutFlow → List ℕ
 actuator_text until outs = flat_map row_text (actuator_rows until outs)
+
+-- the flows of the actuators are up to the date `until`
+abbrev pub AreUpTo : ℕ → List OutFlow → Type 0
+AreUpTo until outs = All (λ out. IsClock out.clock × IsUpTo until out.clock out.values) outs
