@@ -2,6 +2,8 @@
 use Rattle.std.specs.Prelude.{◌≡◌, ◌==◌, ◌&&◌, ◌||◌, ◌<◌, ◌≤◌, ◌^◌, ℕ, ℤ, Bool, true, false, not, List, [], ◌∷◌, length, Option, Some, None, Result, Ok, Err, nat_le, nat_lt, if◌then◌else◌, codes}
 use Rattle.std.specs.Str.{bytes_eq}
 use Rattle.prl_base.specs.Decimals.{positive, negative}
+use Rattle.prl_base.specs.Names.{is_word, IsName}
+use Rattle.prl_flow.specs.Programs.{IsFactor}
 use Rattle.prl_lex.specs.declared.tokens.Kind.{Kind}
 use Rattle.prl_lex.specs.declared.tokens.Kind.TheVariants as kinds
 use Rattle.prl_lex.specs.declared.tokens.Token.{Token}
@@ -40,21 +42,18 @@ is_equation_keyword w =
 abbrev pub is_keyword : List ℕ → Bool
 is_keyword w = is_declaration_keyword w || is_note_keyword w || is_equation_keyword w
 
-abbrev pub is_word : Kind → Bool
-is_word kinds.Word = true
-is_word kinds.Number = false
-is_word kinds.Symbol = false
-
 abbrev pub is_number : Kind → Bool
 is_number kinds.Word = false
 is_number kinds.Number = true
 is_number kinds.Symbol = false
 
--- a name: a word that is no keyword
+-- a name: a word of at most 64 bytes that is no keyword
+abbrev pub is_name : List ℕ → Bool
+is_name bytes = is_word bytes && nat_le (length bytes) 64 && not (is_keyword bytes)
+
 abbrev pub name_at : List ℕ → List Token → Reading Token
 name_at text [] = None
-name_at text (token ∷ tokens) =
-    if is_word token.kind && not (is_keyword (token_text text token)) then Some (token, tokens) else None
+name_at text (token ∷ tokens) = if is_name (token_text text token) then Some (token, tokens) else None
 
 abbrev pub number_at : List Token → Reading ℕ
 number_at [] = None
@@ -162,16 +161,16 @@ parts_at text tokens = do
 abbrev pub same : List ℕ → Token → Token → Bool
 same text a b = bytes_eq (token_text text a) (token_text text b)
 
--- the input is the sensor's and is used, the output is the actuator's and is defined, and they differ
+-- the input is the sensor's and is used, and the output is the actuator's and is defined
 abbrev pub are_named : List ℕ → Pieces → Bool
 are_named text p =
     (same text p.input.0 p.sensor.0 && same text p.used p.input.0)
     && (same text p.output p.actuator.0 && same text p.left p.output)
-    && not (same text p.input.0 p.output)
 
 abbrev pub thin_with : List ℕ → Pieces → List Token → Option Thin
 thin_with text p [] =
-    if are_named text p then
+    if same text p.input.0 p.output then None
+    else if are_named text p then
     Some (record { input = p.input.0; output = p.output; wcet_in = p.sensor.1; wcet_out = p.actuator.1; period = p.input.1; right = p.right })
     else None
 thin_with text p (token ∷ tokens) = None
@@ -186,3 +185,27 @@ thin_from text (Ok tokens) = do
 -- the program that the text spells, if it is of the form
 abbrev pub thin_of : List ℕ → Option Thin
 thin_of text = thin_from text (tokens_of text)
+
+-- the token is a name
+abbrev pub NamesAt : List ℕ → Token → Type 0
+NamesAt text token = IsName (token_text text token)
+
+-- a device has a name, and its WCET is 1 to 2^31 - 1
+abbrev pub IsDevice : List ℕ → Token × ℕ → Type 0
+IsDevice text d = NamesAt text d.0 × IsFactor d.1
+
+-- what is known of the parts of a program
+pub record ArePieces (text : List ℕ) (p : Pieces) : Type 0 where
+  pub sensor : IsDevice text p.sensor
+  pub actuator : IsDevice text p.actuator
+  pub input : IsDevice text p.input
+  pub output : NamesAt text p.output
+
+-- what is known of a program: its names are two, and its numbers are 1 to 2^31 - 1
+pub record IsThin (text : List ℕ) (p : Thin) : Type 0 where
+  pub input : NamesAt text p.input
+  pub output : NamesAt text p.output
+  pub apart : same text p.input p.output ≡ false
+  pub wcet_in : IsFactor p.wcet_in
+  pub wcet_out : IsFactor p.wcet_out
+  pub period : IsFactor p.period

@@ -1,12 +1,13 @@
 //! The form of programs that is built so far: a sensor, an actuator, and a node with one equation whose
 //! right side is the input or `const fby` the input. It is read here from the tokens.
 
-ghost use Rattle.std.specs.Prelude.{◌≡◌, ◌<◌, ◌^◌, length, IfOk};
+ghost use Rattle.std.specs.Prelude.{◌≡◌, ◌<◌, ◌^◌, length, IfOk, IfSome};
 ghost use Rattle.std.specs.Option.{option_map};
 ghost use Rattle.prl_lex.specs.Lexing.{token_text};
-ghost use Rattle.prl_app.specs.Thin.{expect, name_at, number_at, factor_at, const_at, right_after, device_at, input_at, node_at, equation_at, parts_at, same, are_named, thin_with, thin_of, is_declaration_keyword, is_note_keyword, is_equation_keyword, is_keyword};
+ghost use Rattle.prl_app.specs.Thin.{expect, is_name, name_at, number_at, factor_at, const_at, right_after, device_at, input_at, node_at, equation_at, parts_at, same, are_named, thin_with, thin_of, is_declaration_keyword, is_note_keyword, is_equation_keyword, is_keyword, NamesAt, IsDevice, ArePieces, IsThin};
+ghost use Rattle.prl_flow.specs.Programs.{IsFactor};
 
-use prl_base::{negative, positive};
+use prl_base::{is_word, negative, positive};
 use prl_lex::{Kind, LexFault, Token, lex};
 use std::alloc::{AllocError, Global};
 
@@ -101,13 +102,20 @@ fn is_keyword(word: &[u8]) -> bool
     is_declaration_keyword(word) || is_note_keyword(word) || is_equation_keyword(word)
 }
 
+fn is_name(bytes: &[u8]) -> bool
+    ensures { result ≡ is_name bytes.now }
+{
+    is_word(bytes) && bytes.len() <= 64 && !is_keyword(bytes)
+}
+
 fn name_at<'a>(text: &[u8], tokens: &'a [Token]) -> Read<'a, Token>
-    ensures { option_map (λ r. (r.0, r.1.now)) result ≡ name_at text.now tokens.now }
+    ensures exact { option_map (λ r. (r.0, r.1.now)) result ≡ name_at text.now tokens.now }
+    ensures name { IfSome result (λ r. NamesAt text.now r.0) }
 {
     match tokens {
         [] => None,
         [token, rest @ ..] => {
-            if token.kind == Kind::Word && !is_keyword(bytes_of(text, *token)) {
+            if is_name(bytes_of(text, *token)) {
                 Some((*token, rest))
             } else {
                 None
@@ -132,7 +140,8 @@ fn number_at(tokens: &[Token]) -> Read<'_, u64>
 }
 
 fn factor_at(tokens: &[Token]) -> Read<'_, u32>
-    ensures { option_map (λ r. (r.0, r.1.now)) result ≡ factor_at tokens.now }
+    ensures exact { option_map (λ r. (r.0, r.1.now)) result ≡ factor_at tokens.now }
+    ensures factor { IfSome result (λ r. IsFactor r.0) }
 {
     let (number, rest) = number_at(tokens)?;
     if 1 <= number && number < 1 << 31 {
@@ -160,7 +169,8 @@ fn const_at<'a>(text: &[u8], tokens: &'a [Token]) -> Read<'a, i32>
 /// KIND NAME wcet NUMBER ;
 #[tactic(auto, unfolding(crate::specs::Thin::device_at))]
 fn device_at<'a>(text: &[u8], kind: &[u8], tokens: &'a [Token]) -> Read<'a, (Token, u32)>
-    ensures { option_map (λ r. (r.0, r.1.now)) result ≡ device_at text.now kind.now tokens.now }
+    ensures exact { option_map (λ r. (r.0, r.1.now)) result ≡ device_at text.now kind.now tokens.now }
+    ensures device { IfSome result (λ r. IsDevice text.now r.0) }
 {
     let rest = expect(text, tokens, kind)?;
     let (name, rest) = name_at(text, rest)?;
@@ -173,7 +183,8 @@ fn device_at<'a>(text: &[u8], kind: &[u8], tokens: &'a [Token]) -> Read<'a, (Tok
 /// NAME : int rate ( NUMBER , 0 )
 #[tactic(auto, unfolding(crate::specs::Thin::input_at))]
 fn input_at<'a>(text: &[u8], tokens: &'a [Token]) -> Read<'a, (Token, u32)>
-    ensures { option_map (λ r. (r.0, r.1.now)) result ≡ input_at text.now tokens.now }
+    ensures exact { option_map (λ r. (r.0, r.1.now)) result ≡ input_at text.now tokens.now }
+    ensures device { IfSome result (λ r. IsDevice text.now r.0) }
 {
     let (name, rest) = name_at(text, tokens)?;
     let rest = expect(text, rest, b":")?;
@@ -190,7 +201,8 @@ fn input_at<'a>(text: &[u8], tokens: &'a [Token]) -> Read<'a, (Token, u32)>
 /// node NAME ( INPUT ) returns ( NAME )
 #[tactic(auto, unfolding(crate::specs::Thin::node_at))]
 fn node_at<'a>(text: &[u8], tokens: &'a [Token]) -> Read<'a, ((Token, u32), Token)>
-    ensures { option_map (λ r. (r.0, r.1.now)) result ≡ node_at text.now tokens.now }
+    ensures exact { option_map (λ r. (r.0, r.1.now)) result ≡ node_at text.now tokens.now }
+    ensures names { IfSome result (λ r. IsDevice text.now r.0.0 × NamesAt text.now r.0.1) }
 {
     let rest = expect(text, tokens, b"node")?;
     let (_, rest) = name_at(text, rest)?;
@@ -254,7 +266,8 @@ struct Pieces {
 
 #[tactic(auto, unfolding(crate::specs::Thin::parts_at))]
 fn parts_at<'a>(text: &[u8], tokens: &'a [Token]) -> Read<'a, Pieces>
-    ensures { option_map (λ r. (r.0, r.1.now)) result ≡ parts_at text.now tokens.now }
+    ensures exact { option_map (λ r. (r.0, r.1.now)) result ≡ parts_at text.now tokens.now }
+    ensures pieces { IfSome result (λ r. ArePieces text.now r.0) }
 {
     let (sensor, rest) = device_at(text, b"sensor", tokens)?;
     let (actuator, rest) = device_at(text, b"actuator", rest)?;
@@ -283,15 +296,18 @@ fn are_named(text: &[u8], p: &Pieces) -> bool
 {
     (same(text, p.input.0, p.sensor.0) && same(text, p.used, p.input.0))
         && (same(text, p.output, p.actuator.0) && same(text, p.left, p.output))
-        && !same(text, p.input.0, p.output)
 }
 
 fn thin_with(text: &[u8], p: &Pieces, rest: &[Token]) -> Option<Thin>
-    ensures { result ≡ thin_with text.now p.now rest.now }
+    requires { ArePieces text.now p.now }
+    ensures exact { result ≡ thin_with text.now p.now rest.now }
+    ensures sound { IfSome result (IsThin text.now) }
 {
     match rest {
         [] => {
-            if are_named(text, p) {
+            if same(text, p.input.0, p.output) {
+                None
+            } else if are_named(text, p) {
                 Some(Thin {
                     input: p.input.0,
                     output: p.output,
@@ -311,7 +327,8 @@ fn thin_with(text: &[u8], p: &Pieces, rest: &[Token]) -> Option<Thin>
 /// The program that the text spells; None where it is not of the form.
 pub fn thin_of(alloc: Global, text: &[u8]) -> Result<Option<Thin>, AllocError>
     requires { length text.now < 2 ^ 32 }
-    ensures { IfOk result (λ thin. thin ≡ thin_of text.now) }
+    ensures exact { IfOk result (λ thin. thin ≡ thin_of text.now) }
+    ensures sound { IfOk result (λ thin. IfSome thin (IsThin text.now)) }
 {
     let tokens = match lex(alloc, text) {
         Ok(tokens) => tokens,
