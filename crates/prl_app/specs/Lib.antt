@@ -2,3 +2,5 @@ pub mod Words
 pub mod OptionViews
 pub mod Thin
 pub mod Rows
+pub mod Runs
+pub mod Outcomes

@@ -2,7 +2,9 @@
 //! calls `prelude` and `prelude_alone` stand on the public clauses of the crates below.
 #![tactic(auto)]
 
+mod refusals;
 mod rows;
+mod runs;
 mod thin;
 mod words;
 

@@ -1,0 +1,38 @@
+//! Why a command does not end with its text.
+
+use prl_base::{Limit, Name};
+use std::alloc::AllocError;
+
+/// A file that a command names.
+#[derive(Clone, Copy, Debug, PartialEq, Eq)]
+pub enum Part {
+    Program,
+    Sensors,
+}
+
+/// Why a stage of a command refuses.
+#[derive(Debug, Drop)]
+pub enum Refusal {
+    /// There is no file of this name.
+    Absent(Part),
+    /// The file has more bytes than it may have.
+    TooLong(Part),
+    /// The file is not of the form that is built so far.
+    NotBuilt(Part),
+    /// The sensor has fewer rows than its flow has dates.
+    Short { name: Name, have: u64, need: u64 },
+    /// A count is past its limit.
+    Limit(Limit),
+    Memory,
+}
+
+impl From<AllocError> for Refusal {
+    ghost use Rattle.std.specs.Prelude.{◌≡◌};
+    ghost use Rattle.prl_app.specs.declared.refusals.Refusal.TheVariants.{Memory};
+
+    ghost from_gives = { λ _ e. e ≡ Memory };
+
+    fn from(_error: AllocError) -> Refusal {
+        Refusal::Memory
+    }
+}

@@ -1,0 +1,147 @@
+//! What a program and its rows ask to be computed, and the text of its actuators.
+
+ghost use Rattle.std.specs.Prelude.{◌≡◌, IfOk, [], ◌∷◌};
+ghost use Rattle.std.specs.Vec.{vec_items};
+ghost use Rattle.prl_base.specs.Names.{IsName};
+ghost use Rattle.prl_base.specs.Clocks.{IsClock};
+ghost use Rattle.prl_lex.specs.Lexing.{token_text};
+ghost use Rattle.prl_app.specs.Thin.{IsThin, NamesAt};
+ghost use Rattle.prl_app.specs.Runs.{thin_run, thin_program, thin_flow, thin_def, IsReady, IsTextOf, out_flows};
+ghost use Rattle.prl_app.specs.Outcomes.{within_limit, IsAnswer};
+
+use crate::refusals::Refusal;
+use crate::thin::{Right, Thin, bytes_of};
+use prl_base::{Clock, FlowNo, Label, Name, NameFault, Op, Seq, Span, Ty, Value};
+use prl_flow::{Clocks, Def, Flat, Flow, FlowFault, FlowTable, OutFlow, Sensors, evaluate};
+use prl_lex::Token;
+use prl_sensors::actuator_text;
+use std::alloc::{AllocError, Global};
+
+/// A flat program with its clocks, the rows of its sensors, and the date up to which it runs.
+#[derive(Debug, Drop)]
+pub struct Run {
+    pub flat: Flat,
+    pub clocks: Clocks,
+    pub sensors: Sensors,
+    /// In ticks.
+    pub until: u32,
+}
+
+/// The name that the bytes are.
+fn name_of(alloc: Global, bytes: &[u8]) -> Result<Name, AllocError>
+    requires { IsName bytes.now }
+    ensures { IfOk result (λ name. name ≡ bytes.now) }
+{
+    match Name::new(alloc, bytes) {
+        Ok(name) => Ok(name),
+        Err(NameFault::Memory) => Err(AllocError),
+        Err(NameFault::Shape) => unreachable!(),
+        Err(NameFault::Long(_)) => unreachable!(),
+    }
+}
+
+fn one<T: Drop>(alloc: Global, item: T) -> Result<Vec<T>, AllocError>
+    ensures { IfOk result (λ items. vec_items items ≡ item ∷ []) }
+{
+    let mut items = Vec::with_capacity(alloc, 1)?;
+    items.push(item)?;
+    Ok(items)
+}
+
+fn two<T: Drop>(alloc: Global, first: T, second: T) -> Result<Vec<T>, AllocError>
+    ensures { IfOk result (λ items. vec_items items ≡ first ∷ second ∷ []) }
+{
+    let mut items = Vec::with_capacity(alloc, 2)?;
+    items.push(first)?;
+    items.push(second)?;
+    Ok(items)
+}
+
+/// How the output is defined. The input is flow 0.
+fn thin_def(right: Right) -> Def
+    ensures { result ≡ thin_def right }
+{
+    match right {
+        Right::Input => Def::Copy(FlowNo(0)),
+        Right::Delayed(number) => Def::Op {
+            op: Op::Fby(Value::Int(number)),
+            of: FlowNo(0),
+        },
+    }
+}
+
+fn thin_flow(alloc: Global, text: &[u8], token: Token, def: Def) -> Result<Flow, AllocError>
+    ensures { IfOk result (λ flow. flow ≡ thin_flow text.now token def) }
+{
+    Ok(Flow {
+        label: Label::new(alloc, bytes_of(text, token))?,
+        ty: Ty::Int,
+        def,
+        at: token.span,
+    })
+}
+
+fn thin_flows(alloc: Global, text: &[u8], program: Thin) -> Result<Seq<Flow>, AllocError>
+    ensures { IfOk result (λ flows. flows ≡ (thin_program text.now program).flows) }
+{
+    let input = thin_flow(alloc, text, program.input, Def::Sensor(0))?;
+    let output = thin_flow(alloc, text, program.output, thin_def(program.right))?;
+    Ok(Seq::new(two(alloc, input, output)?))
+}
+
+/// The list of one device: the name is a token of the text.
+fn device(
+    alloc: Global,
+    text: &[u8],
+    token: Token,
+    wcet: u32,
+) -> Result<Vec<(Name, u32)>, AllocError>
+    requires { NamesAt text.now token }
+    ensures { IfOk result (λ devices. vec_items devices ≡ (token_text text.now token, wcet) ∷ []) }
+{
+    one(alloc, (name_of(alloc, bytes_of(text, token))?, wcet))
+}
+
+/// The list of one flow.
+fn one_flow(alloc: Global, flow: FlowNo) -> Result<Seq<FlowNo>, AllocError>
+    ensures { IfOk result (λ flows. flows ≡ flow ∷ []) }
+{
+    Ok(Seq::new(one(alloc, flow)?))
+}
+
+fn thin_flat(alloc: Global, text: &[u8], program: Thin) -> Result<Flat, AllocError>
+    requires { IsThin text.now program }
+    ensures { IfOk result (λ flat. flat ≡ thin_program text.now program) }
+{
+    let flows = thin_flows(alloc, text, program)?;
+    let ins = one_flow(alloc, FlowNo(0))?;
+    let outs = one_flow(alloc, FlowNo(1))?;
+    let sensors = device(alloc, text, program.input, program.wcet_in)?;
+    let actuators = device(alloc, text, program.output, program.wcet_out)?;
+    Ok(Flat::new(flows, ins, outs, sensors, actuators))
+}
+
+/// What a program of the small form and the values of its input ask to be computed.
+pub fn thin_run(
+    alloc: Global,
+    text: &[u8],
+    program: Thin,
+    values: Vec<Value>,
+    until: u32,
+) -> Result<Run, AllocError>
+    requires { IsThin text.now program }
+    ensures { IfOk result (λ run. run ≡ thin_run text.now program values.items until) }
+{
+    let clock = Clock {
+        period: u64::from(program.period),
+        start: 0,
+    };
+    Ok(Run {
+        flat: thin_flat(alloc, text, program)?,
+        clocks: Clocks {
+            of: Seq::new(two(alloc, clock, clock)?),
+        },
+        sensors: Sensors::new(one(alloc, Seq::new(values))?),
+        until,
+    })
+}
