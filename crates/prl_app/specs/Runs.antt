@@ -60,12 +60,15 @@ pub record IsReady (run : Run) : Type 0 where
   pub ordered : IsOrdered run.flat
   pub rows : HasRows run.flat run.clocks.of run.sensors run.until
 
--- the flows of main's outputs from number k on, with their names and clocks
+-- the flow of main's output of number k, with its name and clock
+abbrev pub out_flow : Run → List (List Value) → ℕ → FlowNo → OutFlow
+out_flow run flows k flow =
+    record { name = name_of run.flat.out_devices k; clock = clock_of run.clocks.of flow.0; values = values_of flows flow.0 }
+
+-- the flows of main's outputs from number k on
 abbrev pub out_flows : Run → List (List Value) → ℕ → List FlowNo → List OutFlow
 out_flows run flows k [] = []
-out_flows run flows k (flow ∷ rest) =
-    record { name = name_of run.flat.out_devices k; clock = clock_of run.clocks.of flow.0; values = values_of flows flow.0 }
-    ∷ out_flows run flows (k + 1) rest
+out_flows run flows k (flow ∷ rest) = out_flow run flows k flow ∷ out_flows run flows (k + 1) rest
 
 -- The program has one solution for the rows, and the text is that of its actuators.
 pub record IsTextOf (run : Run) (text : List ℕ) : Type 0 where

@@ -1,12 +1,13 @@
 //! What a program and its rows ask to be computed, and the text of its actuators.
 
-ghost use Rattle.std.specs.Prelude.{◌≡◌, IfOk, [], ◌∷◌};
+ghost use Rattle.std.specs.Prelude.{◌≡◌, ◌<◌, ◌^◌, IfOk, [], ◌∷◌, length, slice_index_or};
 ghost use Rattle.std.specs.Vec.{vec_items};
 ghost use Rattle.prl_base.specs.Names.{IsName};
 ghost use Rattle.prl_base.specs.Clocks.{IsClock};
 ghost use Rattle.prl_lex.specs.Lexing.{token_text};
+ghost use Rattle.prl_flow.specs.Solutions.{AreClocks};
 ghost use Rattle.prl_app.specs.Thin.{IsThin, NamesAt};
-ghost use Rattle.prl_app.specs.Runs.{thin_run, thin_program, thin_flow, thin_def, IsReady, IsTextOf, out_flows};
+ghost use Rattle.prl_app.specs.Runs.{thin_run, thin_program, thin_flow, thin_def, IsReady, IsTextOf, out_flow, out_flows};
 ghost use Rattle.prl_app.specs.Outcomes.{within_limit, IsAnswer};
 
 use crate::refusals::Refusal;
@@ -144,4 +145,44 @@ pub fn thin_run(
         sensors: Sensors::new(one(alloc, Seq::new(values))?),
         until,
     })
+}
+
+/// The flow of main's output `k`, with its name and clock.
+fn out_flow(
+    alloc: Global,
+    run: &Run,
+    table: &FlowTable,
+    k: u32,
+    flow: FlowNo,
+) -> Result<OutFlow, AllocError>
+    requires output { k < length run.now.flat.outs }
+    requires flow { flow.0 < length run.now.flat.flows }
+    requires clocks { length run.now.clocks.of ≡ length run.now.flat.flows }
+    requires table { length table.now ≡ length run.now.flat.flows }
+    ensures { IfOk result (λ out. out ≡ out_flow run.now table.now k flow) }
+{
+    let clock = run.clocks.of.as_slice()[flow.0 as usize];
+    let values = Vec::from_slice(alloc, table.values(flow))?;
+    Ok(OutFlow {
+        name: run.flat.out_name(k).copy(alloc)?,
+        clock,
+        values: Seq::new(values),
+    })
+}
+
+/// The flows of main's outputs, with their names and clocks, in order.
+fn out_flows(alloc: Global, run: &Run, table: &FlowTable) -> Result<Vec<OutFlow>, AllocError>
+    requires clocks { length run.now.clocks.of ≡ length run.now.flat.flows }
+    requires table { length table.now ≡ length run.now.flat.flows }
+    requires few { length run.now.flat.outs < 2 ^ 32 }
+    ensures { IfOk result (λ outs. vec_items outs ≡ out_flows run.now table.now 0 run.now.flat.outs) }
+{
+    let flows = run.flat.outs();
+    let mut outs = Vec::with_capacity(alloc, flows.len())?;
+    let mut k: u32 = 0;
+    for flow in flows {
+        outs.push(out_flow(alloc, run, table, k, *flow)?)?;
+        k += 1;
+    }
+    Ok(outs)
 }

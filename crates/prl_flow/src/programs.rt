@@ -102,7 +102,8 @@ impl Flat {
 
     /// The flows that are main's outputs, in order.
     pub fn outs(&self) -> &[FlowNo]
-        ensures { result.now ≡ self.now.outs }
+        ensures outs { result.now ≡ self.now.outs }
+        ensures well_formed { IsFlat self.now }
     {
         self.outs.as_slice()
     }
