@@ -1,2 +1,3 @@
 pub mod RowLines
 pub mod ThinPrograms
+pub mod Outputs

@@ -49,7 +49,10 @@ flows_outcome program sensors until = do
   values ← enough_rows program thin read until
   within_limit (thin_run program thin values until)
 
--- an answer to an outcome: the text of what is to be computed, or the refusal
-abbrev pub IsAnswer : Result Run Refusal → Result (List ℕ) Refusal → Type 0
-IsAnswer outcome (Ok text) = (run : Run) × (outcome ≡ Ok run) × IsTextOf run text
-IsAnswer outcome (Err refusal) = FailsAs (refusal_of refusal) outcome
+-- the text of what is to be computed
+abbrev pub IsTextFor : Result Run Refusal → List ℕ → Type 0
+IsTextFor outcome text = (run : Run) × (outcome ≡ Ok run) × IsTextOf run text
+
+-- the outcome is this refusal, or memory ran out
+abbrev pub IsRefusalOf : Result Run Refusal → Refusal → Type 0
+IsRefusalOf outcome refusal = FailsAs (refusal_of refusal) outcome

@@ -1,14 +1,15 @@
 //! What a program and its rows ask to be computed, and the text of its actuators.
 
-ghost use Rattle.std.specs.Prelude.{◌≡◌, ◌<◌, ◌^◌, IfOk, [], ◌∷◌, length, slice_index_or};
+ghost use Rattle.std.specs.Prelude.{◌≡◌, ◌<◌, ◌^◌, IfOk, MatchResult, [], ◌∷◌, length, slice_index_or};
 ghost use Rattle.std.specs.Vec.{vec_items};
 ghost use Rattle.prl_base.specs.Names.{IsName};
 ghost use Rattle.prl_base.specs.Clocks.{IsClock};
 ghost use Rattle.prl_lex.specs.Lexing.{token_text};
+ghost use Rattle.prl_flow.specs.Programs.{IsFlat};
 ghost use Rattle.prl_flow.specs.Solutions.{AreClocks};
 ghost use Rattle.prl_app.specs.Thin.{IsThin, NamesAt};
 ghost use Rattle.prl_app.specs.Runs.{thin_run, thin_program, thin_flow, thin_def, IsReady, IsTextOf, out_flow, out_flows};
-ghost use Rattle.prl_app.specs.Outcomes.{within_limit, IsAnswer};
+ghost use Rattle.prl_app.specs.Outcomes.{within_limit, IsTextFor, IsRefusalOf};
 
 use crate::refusals::Refusal;
 use crate::thin::{Right, Thin, bytes_of};
@@ -175,7 +176,8 @@ fn out_flows(alloc: Global, run: &Run, table: &FlowTable) -> Result<Vec<OutFlow>
     requires clocks { length run.now.clocks.of ≡ length run.now.flat.flows }
     requires table { length table.now ≡ length run.now.flat.flows }
     requires few { length run.now.flat.outs < 2 ^ 32 }
-    ensures { IfOk result (λ outs. vec_items outs ≡ out_flows run.now table.now 0 run.now.flat.outs) }
+    ensures exact { IfOk result (λ outs. vec_items outs ≡ out_flows run.now table.now 0 run.now.flat.outs) }
+    ensures well_formed { IsFlat run.now.flat }
 {
     let flows = run.flat.outs();
     let mut outs = Vec::with_capacity(alloc, flows.len())?;
@@ -185,4 +187,26 @@ fn out_flows(alloc: Global, run: &Run, table: &FlowTable) -> Result<Vec<OutFlow>
         k += 1;
     }
     Ok(outs)
+}
+
+/// The text of the actuators' flows. `Limit` where the flows have more than 4,000,000 values.
+pub fn run_text(alloc: Global, run: &Run) -> Result<Vec<u8>, Refusal>
+    requires ready { IsReady run.now }
+    requires few { length run.now.flat.outs < 2 ^ 32 }
+    ensures { MatchResult result (λ text. IsTextFor (within_limit run.now) text.items) (IsRefusalOf (within_limit run.now)) }
+{
+    let until = run.until as u64;
+    let table = match evaluate(alloc, &run.flat, &run.clocks, &run.sensors, until) {
+        Ok(table) => table,
+        Err(FlowFault::Limit(limit)) => return Err(Refusal::Limit(limit)),
+        Err(FlowFault::Memory) => return Err(Refusal::Memory),
+    };
+    let outs = match out_flows(alloc, run, &table) {
+        Ok(outs) => outs,
+        Err(_) => return Err(Refusal::Memory),
+    };
+    match actuator_text(alloc, &outs) {
+        Ok(text) => Ok(text),
+        Err(_) => Err(Refusal::Memory),
+    }
 }
