@@ -2,6 +2,7 @@
 //! calls `prelude` and `prelude_alone` stand on the public clauses of the crates below.
 #![tactic(auto)]
 
+mod flows;
 mod refusals;
 mod rows;
 mod runs;

@@ -30,7 +30,7 @@ pub struct Run {
 }
 
 /// The name that the bytes are.
-fn name_of(alloc: Global, bytes: &[u8]) -> Result<Name, AllocError>
+pub fn name_of(alloc: Global, bytes: &[u8]) -> Result<Name, AllocError>
     requires { IsName bytes.now }
     ensures { IfOk result (λ name. name ≡ bytes.now) }
 {
