@@ -2,4 +2,5 @@ pub mod Values
 pub mod Names
 pub mod Clocks
 pub mod Ratios
+pub mod Reductions
 pub mod Reading
