@@ -1,10 +1,10 @@
 -- Products of signed numbers.
-use Rattle.std.proofs.Common.{◌≡◌, ◌≢◌, ◌+◌, ◌*◌, ◌<◌, ◌≤◌, ℕ, ℤ, pos, negsuc, neg_ℤ, nat_abs, ◌*ℤ◌, ◌-ℤ◌, ◌^◌, w64, rules, Bool, true, false, zero, suc, refl, sym, ap, ◌∙◌, subst, arith, mul-zero}
+use Rattle.std.proofs.Common.{◌≡◌, ◌≢◌, ◌*◌, ◌<◌, ℕ, ℤ, pos, negsuc, neg_ℤ, nat_abs, ◌*ℤ◌, ◌-ℤ◌, ◌^◌, w64, rules, Bool, true, false, zero, suc, refl, sym, ap, ◌∙◌, arith, mul-zero}
 use Rattle.std.proofs.Math.IntN.{neg_ℤ-neg_ℤ, *ℤ_comm, +ℤ_idl}
 use mir.Val.{SFits}
 use Rattle.std.specs.Int.Signed.{lt_z}
 use Rattle.std.proofs.lemmas.Int.{fits_signed_from_abs}
-use Rattle.std.proofs.Math.Nat.{zero-mul, eq_of_mul-eq-mul_right, mul-pos}
+use Rattle.std.proofs.Math.Nat.{eq_of_mul-eq-mul_right, mul-pos}
 use Rattle.prl_base.specs.Reductions.{signed}
 
 pub nat_abs-signed : (negative : Bool) (size : ℕ) → nat_abs (signed negative size) ≡ size

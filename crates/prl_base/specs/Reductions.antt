@@ -1,6 +1,7 @@
 -- Fractions in lowest terms, and what the arithmetic of ratios gives.
-use Rattle.std.specs.Prelude.{◌≡◌, ◌≤◌, ◌^◌, ◌*ℤ◌, ◌+ℤ◌, ◌*◌, ◌⊎◌, ℕ, ℤ, pos, neg_ℤ, nat_abs, Bool, true, false, Result, Ok, Err}
+use Rattle.std.specs.Prelude.{◌≡◌, ◌≤◌, ◌^◌, ◌*ℤ◌, ◌⊎◌, ℕ, ℤ, pos, neg_ℤ, nat_abs, Bool, true, false, List, ◌∷◌, ◌++◌, ◌==◌, if◌then◌else◌, Result, Ok, Err}
 use Rattle.std.specs.Int.{IsGcd}
+use Rattle.std.specs.Fmt.{decimal, signed_decimal}
 use Rattle.prl_base.specs.Ratios.{Fraction, IsSmallFraction}
 use Rattle.prl_base.specs.declared.ratios.Past.{Past}
 
@@ -23,3 +24,7 @@ IsReduction top bottom (Err past) = (f : Fraction) × (IsReducedForm top bottom 
 abbrev pub signed : Bool → ℕ → ℤ
 signed true size = neg_ℤ (pos size)
 signed false size = pos size
+
+-- the numerator, and behind it `/` and the denominator unless that is 1
+abbrev pub fraction_text : Fraction → List ℕ
+fraction_text f = if f.den == 1 then signed_decimal f.num else signed_decimal f.num ++ 47 ∷ decimal f.den

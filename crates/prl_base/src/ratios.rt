@@ -1,6 +1,6 @@
 //! Ratios of whole numbers.
 
-ghost use Rattle.std.specs.Prelude.{◌≡◌, ◌≢◌, ◌<◌, ◌≤◌, ◌^◌, ◌*◌, ◌*ℤ◌, ◌+ℤ◌, ℤ, pos, nat_abs};
+ghost use Rattle.std.specs.Prelude.{◌≡◌, ◌≢◌, ◌<◌, ◌≤◌, ◌^◌, ◌*◌, ◌*ℤ◌, ◌+ℤ◌, ℤ, pos, nat_abs, Some};
 ghost use Rattle.std.specs.Int.{IsGcd};
 ghost use Rattle.prl_base.specs.Ratios.{Fraction};
 ghost use Rattle.prl_base.specs.Reductions.{IsReducedForm, IsReduction, signed};
@@ -158,7 +158,12 @@ fn product(a: i64, b: i64) -> i64
     a * b
 }
 
+/// As `3/2`, and as `-10` where the denominator is 1.
 impl fmt::Display for Ratio {
+    ghost use Rattle.prl_base.specs.Reductions.{fraction_text};
+
+    ghost output = { λ ratio. Some (fraction_text ratio) };
+
     fn fmt<W: fmt::Write>(&self, f: &mut fmt::Formatter<W>) -> fmt::Result {
         let num = self.num;
         let den = self.den;

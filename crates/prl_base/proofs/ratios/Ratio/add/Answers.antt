@@ -1,4 +1,4 @@
-use Rattle.std.proofs.Common.{◌≡◌, ◌+ℤ◌, ◌*◌, ◌*ℤ◌, ℕ, ℤ, pos, rules, w64, ap, ◌∙◌, subst}
+use Rattle.std.proofs.Common.{◌≡◌, ◌+ℤ◌, ◌*ℤ◌, ℕ, ℤ, pos, rules, w64, ap, ◌∙◌, subst}
 use mir.Val.{to_z, of_z, SFits}
 use Rattle.std.proofs.lemmas.Int.{to_z-of_z}
 use Rattle.prl_base.specs.Reductions.{IsReduction}

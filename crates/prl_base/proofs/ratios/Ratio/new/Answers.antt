@@ -1,11 +1,10 @@
-use Rattle.std.proofs.Common.{◌≡◌, ◌⊎◌, inl, inr, ◌/◌, ◌<◌, ◌≤◌, ◌^◌, ℕ, ℤ, pos, nat_abs, rules, w64, sym, ap, ◌∙◌, subst, arith}
+use Rattle.std.proofs.Common.{◌≡◌, ◌⊎◌, inl, inr, ◌/◌, ◌<◌, ◌≤◌, ◌^◌, ℕ, ℤ, pos, nat_abs, rules, w64, ap, ◌∙◌, subst, arith}
 use mir.Val.{to_z, of_z, SFits}
 use Rattle.std.specs.Int.{IsGcd}
 use Rattle.std.specs.Int.Signed.{lt_z}
 use Rattle.std.proofs.lemmas.Int.{to_z-of_z}
-use Rattle.prl_base.specs.Ratios.{IsSmallFraction}
-use Rattle.prl_base.specs.Reductions.{IsReducedForm, signed}
-use Rattle.prl_base.proofs.Lowest.{divisor-positive, lowest, lowest-is, lowest-small, lowest-past}
+use Rattle.prl_base.specs.Reductions.{signed}
+use Rattle.prl_base.proofs.Lowest.{divisor-positive, lowest-is, lowest-small, lowest-past}
 use Rattle.prl_base.proofs.ratios.Ratio.new.Goals as goal
 
 -- a number that was passed on is the same number
