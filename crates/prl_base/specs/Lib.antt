@@ -4,3 +4,4 @@ pub mod Clocks
 pub mod Ratios
 pub mod Reductions
 pub mod Reading
+pub mod Decimals
