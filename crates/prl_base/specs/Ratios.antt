@@ -1,5 +1,5 @@
 -- Ratios: reduced fractions whose parts are small.
-use Rattle.std.specs.Prelude.{◌≡◌, ◌≤◌, ◌<◌, ◌^◌, ℕ, ℤ, nat_abs}
+use Rattle.std.specs.Prelude.{◌≤◌, ◌<◌, ◌^◌, ℕ, ℤ, nat_abs}
 use Rattle.std.specs.Int.{IsGcd}
 
 pub record Fraction : Type 0 where

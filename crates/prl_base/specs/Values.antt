@@ -1,5 +1,4 @@
 -- The types of values, and the values that a program can hold.
-use Rattle.std.specs.Prelude.{ℤ}
 use Rattle.std.specs.Prelude.{FitsSigned}
 use Rattle.std.specs.Int.{w32}
 use Rattle.prl_base.specs.declared.values.Ty.{Ty}

@@ -1,0 +1,139 @@
+-- Lowest terms: there are some, and no others.
+use Prim.Native.Nat.{◌∣◌}
+use Rattle.std.proofs.Common.{◌≡◌, ◌≢◌, ◌⊎◌, inl, inr, Result, Ok, Err, ◌^◌, ◌*◌, ◌/◌, ◌<◌, ◌≤◌, ℕ, ℤ, pos, negsuc, neg_ℤ, nat_abs, ◌*ℤ◌, Bool, true, false, zero, suc, refl, sym, ap, ◌∙◌, subst, arith, rules}
+use Rattle.std.proofs.Math.Nat.{mul_right_comm, mul_assoc, zero-mul, one-mul, one-dvd, dvd-mul_left, div-mul_cancel, mul-dvd-mul_right, dvd_of_mul-dvd-mul_right, eq_of_mul-eq-mul_right}
+use Rattle.std.specs.Int.{IsGcd}
+use Rattle.std.specs.Int.Signed.{lt_z}
+use Rattle.std.proofs.lemmas.Nat.Gcd.{dvd_antisymm}
+use Rattle.std.proofs.lemmas.Int.{unsigned_abs-mul}
+use Rattle.prl_base.specs.Ratios.{Fraction, IsSmallFraction}
+use Rattle.prl_base.specs.Reductions.{IsReducedForm, IsReduction, IsPast, signed}
+use Rattle.prl_base.specs.declared.ratios.Past.{Past}
+use Rattle.prl_base.proofs.Coprime.{divides_other}
+use Rattle.prl_base.proofs.Signs.{cancel, nat_abs-signed, neg-mul, mul-neg, neg-injective}
+
+-- two fractions that equal top / bottom, by their sizes
+crosswise : (a b c d top bottom : ℕ) → 0 < bottom → a * bottom ≡ top * b → c * bottom ≡ top * d → a * d ≡ c * b
+crosswise a b c d top bottom some first second =
+    eq_of_mul-eq-mul_right bottom some (a * d) (c * b)
+    (mul_right_comm a d bottom ∙ ap (λ n. n * d) first ∙ mul_right_comm top b d ∙ ap (λ n. n * b) (sym second) ∙ mul_right_comm c bottom b)
+
+divides : (a b c d : ℕ) → IsGcd a b 1 → a * d ≡ c * b → b ∣ d
+divides a b c d reduced cross =
+    divides_other a b d reduced (let P : ℕ → Type 0 = λ n. b ∣ n in subst P (sym cross) (dvd-mul_left b c))
+
+sizes : {top bottom : ℤ} {f : Fraction} → IsReducedForm top bottom f → nat_abs f.num * nat_abs bottom ≡ nat_abs top * f.den
+sizes {top = top} {bottom = bottom} {f = f} form =
+    sym (unsigned_abs-mul f.num bottom) ∙ ap nat_abs form.equal ∙ unsigned_abs-mul top (pos f.den)
+
+pub size-positive : (z : ℤ) → z ≢ pos 0 → 0 < nat_abs z
+size-positive (pos zero) nonzero = absurd (nonzero refl)
+size-positive (pos (suc n)) nonzero = omega arith
+size-positive (negsuc n) nonzero = omega arith
+
+fraction-same : (f g : Fraction) → f.num ≡ g.num → f.den ≡ g.den → f ≡ g
+fraction-same f g nums dens = λ i. record { num = nums i; den = dens i }
+
+pub lowest-only : (top bottom : ℤ) (f g : Fraction) → bottom ≢ pos 0 → IsReducedForm top bottom f → IsReducedForm top bottom g
+    → f ≡ g
+lowest-only top bottom f g nonzero left right =
+    let cross : nat_abs f.num * g.den ≡ nat_abs g.num * f.den =
+    crosswise (nat_abs f.num) f.den (nat_abs g.num) g.den (nat_abs top) (nat_abs bottom) (size-positive bottom nonzero) (sizes left) (sizes right) in
+    let dens : f.den ≡ g.den =
+    dvd_antisymm (divides (nat_abs f.num) f.den (nat_abs g.num) g.den left.reduced cross)
+    (divides (nat_abs g.num) g.den (nat_abs f.num) f.den right.reduced (sym cross)) in
+    fraction-same f g
+    (cancel f.num g.num bottom nonzero (left.equal ∙ ap (λ d. top *ℤ pos d) dens ∙ sym right.equal)) dens
+
+-- the greatest common divisor of a number that is not 0 is not 0
+pub divisor-positive : (size den g : ℕ) → 1 ≤ den → IsGcd size den g → 0 < g
+divisor-positive size den zero positive gcd =
+    let e : den / 0 * 0 ≡ den = div-mul_cancel 0 gcd.1 in absurd (omega arith)
+divisor-positive size den (suc g) positive gcd = omega arith
+
+-- both divided by their greatest common divisor
+lowest-sizes : (size den g : ℕ) → 0 < g → IsGcd size den g → IsGcd (size / g) (den / g) 1
+lowest-sizes size den g some gcd = (
+  one-dvd (size / g),
+  one-dvd (den / g),
+  λ d p q.
+      let P : ℕ → ℕ → Type 0 = λ m n. m ∣ n in
+      let over_size : d * g ∣ size = subst (P (d * g)) (div-mul_cancel g gcd.0) (mul-dvd-mul_right d p g) in
+      let over_den : d * g ∣ den = subst (P (d * g)) (div-mul_cancel g gcd.1) (mul-dvd-mul_right d q g) in
+      let over_g : d * g ∣ 1 * g = subst (P (d * g)) (sym (one-mul g)) (gcd.2 (d * g) over_size over_den) in
+      dvd_of_mul-dvd-mul_right d some over_g,
+)
+
+products : (size den g : ℕ) → g ∣ size → g ∣ den → size / g * den ≡ size * (den / g)
+products size den g p q =
+    ap (λ n. size / g * n) (sym (div-mul_cancel g q)) ∙ sym (mul_assoc (size / g) (den / g) g) ∙ mul_right_comm (size / g) (den / g) g
+    ∙ ap (λ n. n * (den / g)) (div-mul_cancel g p)
+
+signed-equal : (negative : Bool) (size den g : ℕ) → g ∣ size → g ∣ den
+    → signed negative (size / g) *ℤ pos den ≡ signed negative size *ℤ pos (den / g)
+signed-equal false size den g p q = ap pos (products size den g p q)
+signed-equal true size den g p q =
+    neg-mul (pos (size / g)) (pos den) ∙ ap (λ n. neg_ℤ (pos n)) (products size den g p q) ∙ sym (neg-mul (pos size) (pos (den / g)))
+
+factor-positive : (factor other whole : ℕ) → factor * other ≡ whole → 1 ≤ whole → 1 ≤ factor
+factor-positive zero other whole is positive =
+    let none : 0 ≡ whole = sym (zero-mul other) ∙ is in omega arith
+factor-positive (suc factor) other whole is positive = omega arith
+
+pub lowest-form : (num : ℤ) (negative : Bool) (size den g : ℕ) → num ≡ signed negative size → 1 ≤ den → IsGcd size den g
+    → IsReducedForm num (pos den) (record { num = signed negative (size / g); den = den / g })
+lowest-form num negative size den g is positive gcd =
+    let some : 0 < g = divisor-positive size den g positive gcd in
+    record {
+      positive = factor-positive (den / g) g den (div-mul_cancel g gcd.1) positive;
+      reduced = rw (nat_abs-signed negative (size / g)) (lowest-sizes size den g some gcd);
+      equal = rw is (signed-equal negative size den g gcd.0 gcd.1);
+    }
+
+-- top and bottom with the other sign each
+pub lowest-flipped : (top bottom : ℤ) (f : Fraction) → IsReducedForm (neg_ℤ top) (neg_ℤ bottom) f → IsReducedForm top bottom f
+lowest-flipped top bottom f form =
+    record {
+      positive = form.positive;
+      reduced = form.reduced;
+      equal =
+          neg-injective (f.num *ℤ bottom) (top *ℤ pos f.den)
+          (sym (mul-neg f.num bottom) ∙ form.equal ∙ neg-mul top (pos f.den));
+    }
+
+-- num / den in lowest terms, by the greatest common divisor
+abbrev pub lowest : ℤ → ℕ → ℕ → Fraction
+lowest num den g = record { num = signed (lt_z num (pos 0)) (nat_abs num / g); den = den / g }
+
+signed-nat_abs : (z : ℤ) → z ≡ signed (lt_z z (pos 0)) (nat_abs z)
+signed-nat_abs (pos n) = search rules
+signed-nat_abs (negsuc n) = refl
+
+pub lowest-is : (num : ℤ) (den g : ℕ) → 1 ≤ den → IsGcd (nat_abs num) den g → IsReducedForm num (pos den) (lowest num den g)
+lowest-is num den g positive gcd =
+    lowest-form num (lt_z num (pos 0)) (nat_abs num) den g (signed-nat_abs num) positive gcd
+
+-- the parts fit
+pub lowest-small : (num : ℤ) (den g : ℕ) → 1 ≤ den → IsGcd (nat_abs num) den g → nat_abs num / g < 2 ^ 31 → den / g < 2 ^ 31
+    → IsSmallFraction (lowest num den g)
+lowest-small num den g positive gcd top bottom =
+    let form : IsReducedForm num (pos den) (lowest num den g) = lowest-is num den g positive gcd in
+    record {
+      positive = form.positive;
+      reduced = form.reduced;
+      num = rw (nat_abs-signed (lt_z num (pos 0)) (nat_abs num / g)) top;
+      den = bottom;
+    }
+
+-- a part does not fit
+pub lowest-past : (num : ℤ) (den g : ℕ) → 1 ≤ den → IsGcd (nat_abs num) den g → (2 ^ 31 ≤ nat_abs num / g) ⊎ (2 ^ 31 ≤ den / g)
+    → (f : Fraction) × (IsReducedForm num (pos den) f × IsPast f)
+lowest-past num den g positive gcd (inl top) =
+    (lowest num den g, (lowest-is num den g positive gcd, inl (rw (nat_abs-signed (lt_z num (pos 0)) (nat_abs num / g)) top)))
+lowest-past num den g positive gcd (inr bottom) =
+    (lowest num den g, (lowest-is num den g positive gcd, inr bottom))
+
+pub reduction-flipped : (top bottom : ℤ) (result : Result Fraction Past) → IsReduction (neg_ℤ top) (neg_ℤ bottom) result
+    → IsReduction top bottom result
+reduction-flipped top bottom (Ok f) (form, small) = (lowest-flipped top bottom f form, small)
+reduction-flipped top bottom (Err past) (f, (form, is_past)) = (f, (lowest-flipped top bottom f form, is_past))
