@@ -1,3 +1,4 @@
 pub mod RowLines
 pub mod ThinPrograms
 pub mod Outputs
+pub mod Contents

@@ -4,3 +4,4 @@ pub mod Thin
 pub mod Rows
 pub mod Runs
 pub mod Outcomes
+pub mod Endings

@@ -2,11 +2,15 @@
 //! calls `prelude` and `prelude_alone` stand on the public clauses of the crates below.
 #![tactic(auto)]
 
+mod answers;
+mod endings;
 mod flows;
+mod lines;
 mod refusals;
 mod rows;
 mod runs;
 mod thin;
+mod top;
 mod words;
 
 pub use words::{Command, Mode, WordsFault, read_words};

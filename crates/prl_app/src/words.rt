@@ -1,6 +1,6 @@
 //! The words of the command line.
 
-ghost use Rattle.std.specs.Prelude.{◌≡◌, map};
+ghost use Rattle.std.specs.Prelude.{◌≡◌, ◌<◌, ◌≤◌, ◌^◌, map, IfOk, IfSome, IsSome, Err};
 ghost use Rattle.std.specs.Option.{option_map};
 ghost use Rattle.std.specs.String.{string_bytes};
 ghost use Rattle.prl_base.specs.Reading.{Gives};
@@ -65,7 +65,8 @@ fn is_value(word: &[u8]) -> bool
 }
 
 fn number_up_to(most: u32, word: &[u8]) -> Option<u32>
-    ensures { result ≡ number_up_to most word.now }
+    ensures exact { result ≡ number_up_to most word.now }
+    ensures within { IfSome result (λ number. number ≤ most) }
 {
     match decimal_of(word) {
         None => None,
@@ -106,7 +107,8 @@ struct FlowsOptions<'a> {
 
 /// The options, where no word is left behind them.
 fn at_end<'a>(options: FlowsOptions<'a>, rest: &[String]) -> Option<FlowsOptions<'a>>
-    ensures { option_map named result ≡ at_end (named options.entry) (map string_bytes rest.now) }
+    ensures exact { option_map named result ≡ at_end (named options.entry) (map string_bytes rest.now) }
+    ensures until { IfSome result (λ o. o.until ≡ options.entry.until) }
 {
     match rest {
         [] => Some(options),
@@ -116,7 +118,8 @@ fn at_end<'a>(options: FlowsOptions<'a>, rest: &[String]) -> Option<FlowsOptions
 
 #[tactic(auto, unfolding(crate::specs::Words::flows_at))]
 fn flows_at<'a>(words: &'a [String]) -> Option<FlowsOptions<'a>>
-    ensures { option_map named result ≡ flows_at (map string_bytes words.now) }
+    ensures exact { option_map named result ≡ flows_at (map string_bytes words.now) }
+    ensures until { IfSome result (λ o. o.until < 2 ^ 31) }
 {
     let (program, rest) = option_at(b"--program", words)?;
     let (sensors, rest) = option_at(b"--sensors", rest)?;
@@ -133,7 +136,8 @@ fn flows_at<'a>(words: &'a [String]) -> Option<FlowsOptions<'a>>
 }
 
 fn flows_words<'a>(words: &'a [String]) -> Option<FlowsOptions<'a>>
-    ensures { option_map named result ≡ flows_words (map string_bytes words.now) }
+    ensures exact { option_map named result ≡ flows_words (map string_bytes words.now) }
+    ensures until { IfSome result (λ o. o.until < 2 ^ 31) }
 {
     match words {
         [_, mode, rest @ ..] => {
@@ -152,7 +156,9 @@ fn flows_words<'a>(words: &'a [String]) -> Option<FlowsOptions<'a>>
 /// others are `flows --program NAME --sensors NAME --until N`, in this order: a NAME is not empty and does
 /// not begin with `-`, and N has 1 to 20 digits and is at most 2147483647.
 pub fn read_words(alloc: Global, words: &[String]) -> Result<Command, WordsFault>
-    ensures { Gives (λ c. c) words_fault result (meaning_of (command_of (map string_bytes words.now))) }
+    ensures exact { Gives (λ c. c) words_fault result (meaning_of (command_of (map string_bytes words.now))) }
+    ensures until { IfOk result (λ c. c.until < 2 ^ 31) }
+    ensures memory { result ≡ Err WordsFault.Memory → IsSome (command_of (map string_bytes words.now)) }
 {
     let Some(options) = flows_words(words) else {
         return Err(WordsFault::Refused);

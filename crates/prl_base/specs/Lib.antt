@@ -5,3 +5,4 @@ pub mod Ratios
 pub mod Reductions
 pub mod Reading
 pub mod Decimals
+pub mod Limits

@@ -35,9 +35,15 @@ pub enum What {
     Values,
 }
 
-impl fmt::Display for What {
-    fn fmt<W: fmt::Write>(&self, f: &mut fmt::Formatter<W>) -> fmt::Result {
-        f.write_str(match self {
+impl What {
+    ghost use Rattle.std.specs.Prelude.{◌≡◌};
+    ghost use Rattle.prl_base.specs.Limits.{what_text};
+
+    /// The name of the limit, as it is written.
+    pub fn text(self) -> &'static str
+        ensures { result.now ≡ what_text self }
+    {
+        match self {
             What::Name => "name",
             What::Depth => "depth",
             What::Nodes => "nodes",
@@ -52,7 +58,13 @@ impl fmt::Display for What {
             What::Jobs => "jobs",
             What::Events => "events",
             What::Values => "values",
-        })
+        }
+    }
+}
+
+impl fmt::Display for What {
+    fn fmt<W: fmt::Write>(&self, f: &mut fmt::Formatter<W>) -> fmt::Result {
+        f.write_str(self.text())
     }
 }
 

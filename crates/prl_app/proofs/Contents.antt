@@ -1,0 +1,34 @@
+-- What files give, and stops.
+use Rattle.std.proofs.Common.{◌≡◌, ℕ, ◌<◌, ◌≤◌, List, [], length, Option, Some, None, Result, Ok, Err, refl, sym, ap, ◌∙◌, arith}
+use Rattle.prl_io.specs.Folders.{reading_of}
+use Rattle.prl_app.specs.declared.answers.Stop.{Stop}
+use Rattle.prl_app.specs.declared.answers.Stop.TheVariants as stops
+use Rattle.prl_app.specs.declared.refusals.Part.{Part}
+use Rattle.prl_app.specs.declared.refusals.Part.TheVariants as parts
+use Rattle.prl_app.specs.declared.refusals.Refusal.{Refusal}
+use Rattle.prl_app.specs.declared.refusals.Refusal.TheVariants as refusals
+use Rattle.prl_app.specs.declared.words.Command.{Command}
+use Rattle.prl_app.specs.Endings.{Folder, IsContent, IsStop, ComesTo, read_as}
+
+-- each file gives something
+some_content : (told : Option Folder) (part : Part) (name : Option (List ℕ)) (most : ℕ) → (content : Result (List ℕ) Refusal) × IsContent told part name most content
+some_content told part None most = (Ok [], refl)
+some_content None part (Some name) most = (Ok [], omega arith)
+some_content (Some folder) part (Some name) most = (read_as part (reading_of (folder name) most), refl)
+
+-- a cause of each refusal is a cause of the stop
+pub IsStop-map : (rose : Type 0) (P Q : Refusal → Type 0) → ((refusal : Refusal) → P refusal → Q refusal) → (stop : Stop) → IsStop rose P stop → IsStop rose Q stop
+IsStop-map rose P Q f (stops.Unread part) h = h
+IsStop-map rose P Q f (stops.Refused (refusals.Absent part)) h = f (refusals.Absent part) h
+IsStop-map rose P Q f (stops.Refused (refusals.TooLong part)) h = f (refusals.TooLong part) h
+IsStop-map rose P Q f (stops.Refused (refusals.NotBuilt part)) h = f (refusals.NotBuilt part) h
+IsStop-map rose P Q f (stops.Refused (refusals.Short name have need)) h = f (refusals.Short name have need) h
+IsStop-map rose P Q f (stops.Refused (refusals.Limit limit)) h = f (refusals.Limit limit) h
+IsStop-map rose P Q f (stops.Refused refusals.Memory) h = tt
+
+-- a command whose program is refused comes to that refusal
+pub ComesTo-program : (told : Option Folder) (command : Command) (refusal : Refusal)
+    → IsContent told parts.Program command.program 1048576 (Err refusal) → ComesTo told command (Err refusal)
+ComesTo-program told command refusal h =
+    let rows = some_content told parts.Sensors command.sensors 33554432 in
+    record { program = Err refusal; sensors = rows.0; program_file = h; sensors_file = rows.1; stages = refl }

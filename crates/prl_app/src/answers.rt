@@ -1,0 +1,78 @@
+//! The answer of a command: its files are read, and its stages give the text.
+
+ghost use Rattle.std.specs.Prelude.{◌≡◌, ◌<◌, ◌≤◌, ◌^◌, ℕ, Ok, Err, MatchResult, IfOk, length};
+ghost use Rattle.prl_app.specs.Endings.{IsContent, IsStop, ComesTo};
+ghost use Rattle.prl_app.specs.Outcomes.{IsTextFor};
+ghost use Rattle.prl_app.specs.Runs.{IsTextOf};
+ghost use Rattle.prl_app.specs.declared.runs.Run.{Run as AnyRun};
+
+use crate::flows::flows;
+use crate::refusals::{Part, Refusal};
+use crate::words::Command;
+use prl_base::Label;
+use prl_io::{FileFault, Files};
+use std::alloc::Global;
+
+/// The most bytes that a program may have.
+const MAX_PROGRAM: u64 = 1_048_576;
+
+/// The most bytes that sensor rows may have.
+const MAX_SENSORS: u64 = 33_554_432;
+
+/// Why a command gives no text.
+#[derive(Debug, Drop)]
+pub enum Stop {
+    /// A reading of the file failed.
+    Unread(Part),
+    /// A stage refuses, or memory ran out.
+    Refused(Refusal),
+}
+
+/// What a file gives to the stages: nothing where none is named.
+fn read_part<F: Files>(
+    alloc: Global,
+    files: &mut F,
+    part: Part,
+    name: &Option<Label>,
+    most: u64,
+) -> Result<Vec<u8>, Stop>
+    ensures content { MatchResult result (λ bytes. IsContent (F.folder files.old) part name.now most (Ok bytes.items))
+        (IsStop (F.faults files.old < F.faults files.new) (λ refusal. IsContent (F.folder files.old) part name.now most (Err refusal))) }
+    ensures few { IfOk result (λ bytes. length bytes.items ≤ most) }
+    ensures kept { F.folder files.new ≡ F.folder files.old }
+    ensures counted { F.faults files.old ≤ F.faults files.new }
+{
+    let Some(name) = name else {
+        return Ok(Vec::new(alloc));
+    };
+    match files.read(alloc, name, most) {
+        Ok(bytes) => Ok(bytes),
+        Err(FileFault::Absent) => Err(Stop::Refused(Refusal::Absent(part))),
+        Err(FileFault::TooLong) => Err(Stop::Refused(Refusal::TooLong(part))),
+        Err(FileFault::Failed) => Err(Stop::Unread(part)),
+        Err(FileFault::Memory) => Err(Stop::Refused(Refusal::Memory)),
+    }
+}
+
+/// The text that the command asks for.
+pub fn answer<F: Files>(alloc: Global, files: &mut F, command: &Command) -> Result<Vec<u8>, Stop>
+    requires until { command.now.until < 2 ^ 31 }
+    ensures answered { MatchResult result
+        (λ text. (run : AnyRun) × ComesTo (F.folder files.old) command.now (Ok run) × IsTextOf run text.items)
+        (IsStop (F.faults files.old < F.faults files.new) (λ refusal. ComesTo (F.folder files.old) command.now (Err refusal))) }
+    ensures kept { F.folder files.new ≡ F.folder files.old }
+    ensures counted { F.faults files.old ≤ F.faults files.new }
+{
+    let program = match read_part(alloc, files, Part::Program, &command.program, MAX_PROGRAM) {
+        Ok(program) => program,
+        Err(stop) => return Err(stop),
+    };
+    let sensors = match read_part(alloc, files, Part::Sensors, &command.sensors, MAX_SENSORS) {
+        Ok(sensors) => sensors,
+        Err(stop) => return Err(stop),
+    };
+    match flows(alloc, &program, &sensors, command.until) {
+        Ok(text) => Ok(text),
+        Err(refusal) => Err(Stop::Refused(refusal)),
+    }
+}

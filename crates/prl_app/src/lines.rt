@@ -1,0 +1,115 @@
+//! The line on `err` that tells how a call ended.
+
+ghost use Rattle.std.specs.Prelude.{◌≡◌, ◌<◌, ◌≤◌, [], unwrap_or, OnErr};
+ghost use Rattle.prl_io.specs.Growth.{IsWritten};
+ghost use Rattle.prl_app.specs.Endings.{file_name, named_line, short_line, limit_line, refusal_line, line_of};
+
+use crate::endings::Ending;
+use crate::refusals::{Part, Refusal};
+use crate::words::Command;
+use itoa::Buffer;
+use prl_base::{Label, Limit};
+use prl_io::{Failed, Sink, write_all, write_pieces};
+
+fn label_bytes(label: &Option<Label>) -> &[u8]
+    ensures { result.now ≡ unwrap_or label.now [] }
+{
+    match label {
+        None => &[],
+        Some(label) => label.bytes(),
+    }
+}
+
+/// The name that the command gives to a file.
+fn file_name(command: &Option<Command>, part: Part) -> &[u8]
+    ensures { result.now ≡ file_name command.now part }
+{
+    match command {
+        None => &[],
+        Some(command) => match part {
+            Part::Program => label_bytes(&command.program),
+            Part::Sensors => label_bytes(&command.sensors),
+        },
+    }
+}
+
+/// Writes a line of two parts.
+fn write_two<E: Sink>(err: &mut E, front: &[u8], name: &[u8]) -> Result<(), Failed>
+    ensures grown { IsWritten (E.written err.old) (E.written err.new) (named_line front.now name.now) result }
+    ensures counted { E.faults err.old ≤ E.faults err.new }
+    ensures failed { OnErr result (E.faults err.old < E.faults err.new) }
+{
+    write_pieces(err, &[front, name, b"\n".as_slice()])
+}
+
+/// Writes the line of a sensor that has too few rows.
+fn write_short<E: Sink>(err: &mut E, name: &[u8], have: u64, need: u64) -> Result<(), Failed>
+    ensures grown { IsWritten (E.written err.old) (E.written err.new) (short_line name.now have need) result }
+    ensures counted { E.faults err.old ≤ E.faults err.new }
+    ensures failed { OnErr result (E.faults err.old < E.faults err.new) }
+{
+    let mut first = Buffer::new();
+    let mut second = Buffer::new();
+    let have = first.format(have).as_bytes();
+    let need = second.format(need).as_bytes();
+    let front = b"84 short ".as_slice();
+    let blank = b" ".as_slice();
+    let end = b"\n".as_slice();
+    write_pieces(err, &[front, name, blank, have, blank, need, end])
+}
+
+/// Writes the line of a limit that is passed.
+fn write_limit<E: Sink>(err: &mut E, limit: Limit) -> Result<(), Failed>
+    ensures grown { IsWritten (E.written err.old) (E.written err.new) (limit_line limit) result }
+    ensures counted { E.faults err.old ≤ E.faults err.new }
+    ensures failed { OnErr result (E.faults err.old < E.faults err.new) }
+{
+    let mut buffer = Buffer::new();
+    let found = buffer.format(limit.found).as_bytes();
+    let front = b"4 limit ".as_slice();
+    let middle = b" found ".as_slice();
+    let end = b"\n".as_slice();
+    write_pieces(
+        err,
+        &[front, limit.what.text().as_bytes(), middle, found, end],
+    )
+}
+
+/// Writes the line of a refusal.
+fn write_refusal<E: Sink>(
+    err: &mut E,
+    command: &Option<Command>,
+    refusal: &Refusal,
+) -> Result<(), Failed>
+    ensures grown { IsWritten (E.written err.old) (E.written err.new) (refusal_line command.now refusal.now) result }
+    ensures counted { E.faults err.old ≤ E.faults err.new }
+    ensures failed { OnErr result (E.faults err.old < E.faults err.new) }
+{
+    match refusal {
+        Refusal::Absent(part) => write_two(err, b"absent ", file_name(command, *part)),
+        Refusal::TooLong(part) => write_two(err, b"too long ", file_name(command, *part)),
+        Refusal::NotBuilt(part) => write_two(err, b"9 not built ", file_name(command, *part)),
+        Refusal::Short { name, have, need } => write_short(err, name.bytes(), *have, *need),
+        Refusal::Limit(limit) => write_limit(err, *limit),
+        Refusal::Memory => write_all(err, b"memory\n"),
+    }
+}
+
+/// Writes the line that tells the ending; nothing where all is done.
+pub fn write_line<E: Sink>(
+    err: &mut E,
+    command: &Option<Command>,
+    ending: &Ending,
+) -> Result<(), Failed>
+    ensures grown { IsWritten (E.written err.old) (E.written err.new) (line_of command.now ending.now) result }
+    ensures counted { E.faults err.old ≤ E.faults err.new }
+    ensures failed { OnErr result (E.faults err.old < E.faults err.new) }
+{
+    match ending {
+        Ending::Done => write_all(err, b""),
+        Ending::Words => write_all(err, b"usage: prelude MODE --OPTION VALUE ..\n"),
+        Ending::Unread(part) => write_two(err, b"read fault ", file_name(command, *part)),
+        Ending::Unwritten => write_all(err, b"write fault\n"),
+        Ending::Refused(refusal) => write_refusal(err, command, refusal),
+    }
+}
