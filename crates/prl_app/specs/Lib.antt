@@ -5,3 +5,4 @@ pub mod Rows
 pub mod Runs
 pub mod Outcomes
 pub mod Endings
+pub mod Statuses

@@ -13,4 +13,9 @@ mod thin;
 mod top;
 mod words;
 
+pub use endings::Ending;
+pub use refusals::{Part, Refusal};
+pub use runs::Run;
+pub use thin::{Right, Thin};
+pub use top::{Status, prelude, prelude_alone};
 pub use words::{Command, Mode, WordsFault, read_words};

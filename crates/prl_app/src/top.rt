@@ -101,3 +101,48 @@ fn tell<E: Sink>(err: &mut E, command: &Option<Command>, ending: &Ending)
 {
     let _ = write_line(err, command, ending);
 }
+
+/// What `prelude` does where it waits for nobody. It is None exactly where the words ask for a run on two
+/// workers or more, of which none is built so far; then nothing was read or written.
+pub fn prelude_alone<F: Files, S: Sink, E: Sink>(
+    alloc: Global,
+    words: &[String],
+    files: &mut F,
+    out: &mut S,
+    err: &mut E,
+) -> Option<Status>
+    ensures ran { IsSome result }
+    ensures answered { IfSome result (λ status. IsAnswered (map string_bytes words.now)
+        (record { folder = F.folder files.old; file_faults = F.faults files.old; out_bytes = S.written out.old; out_faults = S.faults out.old; err_bytes = E.written err.old; err_faults = E.faults err.old })
+        (record { folder = F.folder files.new; file_faults = F.faults files.new; out_bytes = S.written out.new; out_faults = S.faults out.new; err_bytes = E.written err.new; err_faults = E.faults err.new })
+        status.code) }
+{
+    let (command, ending) = perform(alloc, words, files, out);
+    tell(err, &command, &ending);
+    Some(Status {
+        code: status_of(&ending),
+    })
+}
+
+/// Does what the words ask for, and tells how it ended: the text goes to `out`, and at every status but 0
+/// one line goes to `err`. The runtime and the probe serve runs on several workers, of which none is built so
+/// far.
+pub fn prelude<R: Threads + Wait + Sync, F: Files, S: Sink, E: Sink, P: Probe>(
+    _rt: &R,
+    alloc: Global,
+    words: &[String],
+    files: &mut F,
+    out: &mut S,
+    err: &mut E,
+    _probe: &P,
+) -> Status
+    ensures answered { IsAnswered (map string_bytes words.now)
+        (record { folder = F.folder files.old; file_faults = F.faults files.old; out_bytes = S.written out.old; out_faults = S.faults out.old; err_bytes = E.written err.old; err_faults = E.faults err.old })
+        (record { folder = F.folder files.new; file_faults = F.faults files.new; out_bytes = S.written out.new; out_faults = S.faults out.new; err_bytes = E.written err.new; err_faults = E.faults err.new })
+        result.code }
+{
+    match prelude_alone(alloc, words, files, out, err) {
+        Some(status) => status,
+        None => unreachable!(),
+    }
+}
