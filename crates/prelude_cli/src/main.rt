@@ -1,0 +1,41 @@
+//! The program `prelude`: the command on the files and the standard streams of the process. It stands on
+//! `prl_app` alone; what it trusts of the outside is said in `prl_io`.
+#![tactic(auto)]
+
+use prl_app::prelude;
+use prl_io::{HostFiles, HostSink, NoProbe};
+use std::process::ExitCode;
+use std::{env, io};
+
+/// The status where the process has no memory for its own words.
+const NO_MEMORY: u8 = 6;
+
+/// The status where the process cannot read its own words, which no call of `prelude` answers.
+const NO_WORDS: u8 = 11;
+
+fn words(rt: &HostRuntime) -> io::Result<Vec<String>> {
+    Ok(env::args(rt)?.collect(rt.alloc())?)
+}
+
+fn main(rt: HostRuntime) -> ExitCode {
+    let words = match words(&rt) {
+        Ok(words) => words,
+        Err(error) if error.kind() == io::ErrorKind::OutOfMemory => {
+            return ExitCode::from(NO_MEMORY);
+        }
+        Err(_) => return ExitCode::from(NO_WORDS),
+    };
+    let mut files = HostFiles::new(&rt);
+    let mut out = HostSink::new(rt.stdout());
+    let mut err = HostSink::new(rt.stderr());
+    let status = prelude(
+        &rt,
+        rt.alloc(),
+        &words,
+        &mut files,
+        &mut out,
+        &mut err,
+        &NoProbe,
+    );
+    ExitCode::from(status.code)
+}
