@@ -1,5 +1,5 @@
 -- How a call of the command ends: its status, its line on err, and what each ending says.
-use Rattle.std.specs.Prelude.{◌≡◌, ◌<◌, ◌≤◌, ◌++◌, ℕ, List, [], ◌∷◌, length, Option, Some, None, Result, Ok, Err, MatchOption, unwrap_or, ◌⊎◌, codes}
+use Rattle.std.specs.Prelude.{◌≡◌, ◌<◌, ◌≤◌, ◌++◌, ℕ, List, [], ◌∷◌, length, Option, Some, None, Result, Ok, Err, MatchOption, IsSome, unwrap_or, ◌⊎◌, codes}
 use Rattle.std.specs.List.{concat}
 use Rattle.std.specs.Fmt.{decimal}
 use Rattle.prl_base.specs.Reading.{◌>>=◌}
@@ -159,13 +159,15 @@ abbrev pub Ends : List (List ℕ) → Outside → Outside → Ending → Type 0
 Ends words old new endings.Done = (text : List ℕ) × Means words old.folder text × (new.out_bytes ≡ appended old.out_bytes text)
 -- the words are no command
 Ends words old new endings.Words = (command_of words ≡ None) × (new.out_bytes ≡ old.out_bytes)
--- a reading failed, and the fault was counted
-Ends words old new (endings.Unread part) = (old.file_faults < new.file_faults) × (new.out_bytes ≡ old.out_bytes)
+-- a reading of a file of the command failed, and the fault was counted
+Ends words old new (endings.Unread part) =
+    (old.file_faults < new.file_faults) × (new.out_bytes ≡ old.out_bytes) × IsSome (command_of words)
 -- a writing failed, the fault was counted, and a front of the text is in out
 Ends words old new endings.Unwritten =
     (text : List ℕ) × Means words old.folder text × AppendsFront old.out_bytes new.out_bytes text × (old.out_faults < new.out_faults)
--- a stage refuses
-Ends words old new (endings.Refused refusal) = HasCause words old.folder refusal × (new.out_bytes ≡ old.out_bytes)
+-- a stage of the command refuses
+Ends words old new (endings.Refused refusal) =
+    HasCause words old.folder refusal × (new.out_bytes ≡ old.out_bytes) × IsSome (command_of words)
 
 -- err grew by the line, or by a front of it, where a fault was counted
 abbrev pub IsToldOn : Outside → Outside → List ℕ → Type 0

@@ -51,3 +51,16 @@ IsComplete words old new code =
 abbrev pub IsStatus : ℕ → Type 0
 IsStatus code =
     (code ≡ 0) ⊎ ((code ≡ 1) ⊎ ((code ≡ 2) ⊎ ((code ≡ 3) ⊎ ((code ≡ 4) ⊎ ((code ≡ 6) ⊎ ((code ≡ 7) ⊎ (code ≡ 9)))))))
+
+-- All that the status of a call says, and what it does not: want of memory (6) may come wherever the words are a
+-- command.
+pub record SaysAll (words : List (List ℕ)) (old new : Outside) (code : ℕ) : Type 0 where
+  pub done : SaysDone words old new code
+  pub words_refused : SaysWords words code
+  pub unread : SaysUnread old new code
+  pub unwritten : SaysUnwritten words old new code
+  pub refused : SaysRefused words old new code
+  pub silent : IsSilent old new code
+  pub exact : IsExact words old new code
+  pub complete : IsComplete words old new code
+  pub status : IsStatus code

@@ -4,6 +4,7 @@ ghost use Rattle.std.specs.Prelude.{◌≡◌, ◌≢◌, ◌<◌, ◌≤◌, �
 ghost use Rattle.std.specs.String.{string_bytes};
 ghost use Rattle.prl_app.specs.Words.{command_of};
 ghost use Rattle.prl_app.specs.Endings.{status_of, status_of_part, status_of_refusal, line_of, Ends, IsToldOn, IsAnswered, IsLater};
+ghost use Rattle.prl_app.specs.Statuses.{SaysAll};
 ghost use Rattle.prl_app.specs.declared.refusals.Refusal.{Refusal as AnyRefusal};
 ghost use Rattle.prl_app.specs.declared.runs.Run.{Run as AnyRun};
 
@@ -102,6 +103,26 @@ fn tell<E: Sink>(err: &mut E, command: &Option<Command>, ending: &Ending)
     let _ = write_line(err, command, ending);
 }
 
+/// Does what the words ask for, and tells how it ended.
+fn finish<F: Files, S: Sink, E: Sink>(
+    alloc: Global,
+    words: &[String],
+    files: &mut F,
+    out: &mut S,
+    err: &mut E,
+) -> Status
+    ensures { IsAnswered (map string_bytes words.now)
+        (record { folder = F.folder files.old; file_faults = F.faults files.old; out_bytes = S.written out.old; out_faults = S.faults out.old; err_bytes = E.written err.old; err_faults = E.faults err.old })
+        (record { folder = F.folder files.new; file_faults = F.faults files.new; out_bytes = S.written out.new; out_faults = S.faults out.new; err_bytes = E.written err.new; err_faults = E.faults err.new })
+        result.code }
+{
+    let (command, ending) = perform(alloc, words, files, out);
+    tell(err, &command, &ending);
+    Status {
+        code: status_of(&ending),
+    }
+}
+
 /// What `prelude` does where it waits for nobody. It is None exactly where the words ask for a run on two
 /// workers or more, of which none is built so far; then nothing was read or written.
 pub fn prelude_alone<F: Files, S: Sink, E: Sink>(
@@ -112,16 +133,18 @@ pub fn prelude_alone<F: Files, S: Sink, E: Sink>(
     err: &mut E,
 ) -> Option<Status>
     ensures ran { IsSome result }
+    // How the call ended, with its cause, its line on `err` and what it left in `out`.
     ensures answered { IfSome result (λ status. IsAnswered (map string_bytes words.now)
         (record { folder = F.folder files.old; file_faults = F.faults files.old; out_bytes = S.written out.old; out_faults = S.faults out.old; err_bytes = E.written err.old; err_faults = E.faults err.old })
         (record { folder = F.folder files.new; file_faults = F.faults files.new; out_bytes = S.written out.new; out_faults = S.faults out.new; err_bytes = E.written err.new; err_faults = E.faults err.new })
         status.code) }
+    // What each status says.
+    ensures says { IfSome result (λ status. SaysAll (map string_bytes words.now)
+        (record { folder = F.folder files.old; file_faults = F.faults files.old; out_bytes = S.written out.old; out_faults = S.faults out.old; err_bytes = E.written err.old; err_faults = E.faults err.old })
+        (record { folder = F.folder files.new; file_faults = F.faults files.new; out_bytes = S.written out.new; out_faults = S.faults out.new; err_bytes = E.written err.new; err_faults = E.faults err.new })
+        status.code) }
 {
-    let (command, ending) = perform(alloc, words, files, out);
-    tell(err, &command, &ending);
-    Some(Status {
-        code: status_of(&ending),
-    })
+    Some(finish(alloc, words, files, out, err))
 }
 
 /// Does what the words ask for, and tells how it ended: the text goes to `out`, and at every status but 0
@@ -136,7 +159,13 @@ pub fn prelude<R: Threads + Wait + Sync, F: Files, S: Sink, E: Sink, P: Probe>(
     err: &mut E,
     _probe: &P,
 ) -> Status
+    // How the call ended, with its cause, its line on `err` and what it left in `out`.
     ensures answered { IsAnswered (map string_bytes words.now)
+        (record { folder = F.folder files.old; file_faults = F.faults files.old; out_bytes = S.written out.old; out_faults = S.faults out.old; err_bytes = E.written err.old; err_faults = E.faults err.old })
+        (record { folder = F.folder files.new; file_faults = F.faults files.new; out_bytes = S.written out.new; out_faults = S.faults out.new; err_bytes = E.written err.new; err_faults = E.faults err.new })
+        result.code }
+    // What each status says.
+    ensures says { SaysAll (map string_bytes words.now)
         (record { folder = F.folder files.old; file_faults = F.faults files.old; out_bytes = S.written out.old; out_faults = S.faults out.old; err_bytes = E.written err.old; err_faults = E.faults err.old })
         (record { folder = F.folder files.new; file_faults = F.faults files.new; out_bytes = S.written out.new; out_faults = S.faults out.new; err_bytes = E.written err.new; err_faults = E.faults err.new })
         result.code }
