@@ -1,3 +1,4 @@
 pub mod Lists
 pub mod ClockDates
 pub mod Solved
+pub mod Chains
