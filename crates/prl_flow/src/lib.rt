@@ -8,6 +8,8 @@ mod evaluation;
 mod instances;
 mod programs;
 mod rows;
+#[cfg(test)]
+mod tests;
 
 pub use dates::dates_before;
 pub use evaluation::{FlowFault, FlowTable, evaluate};

@@ -4,5 +4,7 @@
 
 mod actuators;
 mod ends;
+#[cfg(test)]
+mod tests;
 
 pub use actuators::actuator_text;
