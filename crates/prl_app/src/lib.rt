@@ -19,3 +19,6 @@ pub use runs::Run;
 pub use thin::{Right, Thin};
 pub use top::{Status, prelude, prelude_alone};
 pub use words::{Command, Mode, WordsFault, read_words};
+
+#[cfg(test)]
+mod tests;
