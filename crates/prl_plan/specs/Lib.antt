@@ -1,0 +1,9 @@
+pub mod Operands
+pub mod Jobs
+pub mod Precedence
+pub mod Graphs
+pub mod Dates
+pub mod Cells
+pub mod Plans
+pub mod Runs
+pub mod Rules

@@ -1,0 +1,16 @@
+//! Plans of multi-periodic programs: the task graph with its tasks and edges, the jobs of a horizon, the operand that
+//! each job reads, encoded dates, buffer cells, and the lists of events that an executive may do. It stands on
+//! `prl_base` alone.
+#![tactic(auto)]
+
+mod events;
+mod graphs;
+mod horizons;
+mod tables;
+mod walks;
+
+pub use events::{Event, Rule};
+pub use graphs::{Edge, Kind, Producer, Task, TaskGraph};
+pub use horizons::Horizon;
+pub use tables::{Used, Window};
+pub use walks::Operand;

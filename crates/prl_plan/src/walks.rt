@@ -1,0 +1,12 @@
+//! The operand of a job, found by a walk over the operators of an edge.
+
+use prl_base::Value;
+
+/// What a job reads on an edge.
+#[derive(Clone, Copy, Debug, PartialEq, Eq)]
+pub enum Operand {
+    /// A constant.
+    Const(Value),
+    /// The value of the producer's job of this number.
+    From(u64),
+}
