@@ -7,3 +7,5 @@ pub mod Cells
 pub mod Plans
 pub mod Runs
 pub mod Rules
+pub mod Facts
+pub mod States

@@ -36,9 +36,13 @@ pub record ExecState : Type 0 where
 abbrev pub opening : RunConstants → ExecState
 opening c = record { now = 0; ended = replicate c.tasks 0; places = replicate c.tasks 0; tags = replicate c.cells 0 }
 
--- the next action of task i; behind a job's last action stands its end
+-- the action at a place of job n of task i; behind the last one stands the job's end
+abbrev pub action_at : RunConstants → ℕ → ℕ → ℕ → Action
+action_at c i n place = slice_index_or (c.actions i n) place finish
+
+-- the next action of task i
 abbrev pub next_action : RunConstants → ExecState → ℕ → Action
-next_action c s i = slice_index_or (c.actions i (slice_index s.ended i)) (slice_index s.places i) finish
+next_action c s i = action_at c i (slice_index s.ended i) (slice_index s.places i)
 
 -- the state behind a next action that does not end the job: the place moves
 abbrev pub moved : ExecState → ℕ → ExecState
