@@ -10,7 +10,7 @@ use Rattle.prl_plan.specs.Runs.{Action, constant, read, write, finish, RunConsta
 use Rattle.prl_plan.specs.Rules.{IsUnfinished, HasJob, ActsReleased, ActsFirst, MayTick, FindsTag, KeepsGated, KeepsLegal}
 use Rattle.prl_plan.specs.Facts.{IsJob, ReadsAt, WritesAt, Provides, HasPlanFacts}
 use Rattle.prl_plan.specs.States.{IsDone, IsAhead, IsSound}
-use Rattle.prl_plan.proofs.Lists.{get-set}
+use Rattle.prl_plan.proofs.Places.{get-set}
 
 -- a write is no other action
 pub write-not-finish : (e m cell : ℕ) → write e m cell ≡ finish → ⊥
