@@ -15,4 +15,4 @@ pub use graphs::{Edge, Kind, Producer, Task, TaskGraph};
 pub use horizons::Horizon;
 pub use laws::{gated_list_keeps_cells, legal_list_is_gated, run_of_two_lists, write_finds_cell_free};
 pub use tables::{Used, Window};
-pub use walks::Operand;
+pub use walks::{Operand, operand_by_walk, walk_back};
