@@ -1,9 +1,12 @@
 -- Legal lists are gated: each read finds its tag.
 use Rattle.std.proofs.Common.{◌≡◌, ◌+◌, ◌<◌, ◌≤◌, ℕ, List, [], ◌∷◌, get_or, inl, inr, refl, sym, arith}
 use Rattle.std.proofs.lemmas.Bool.{cases_lt, cases_order}
+use Rattle.prl_base.specs.declared.numbers.EdgeNo.{EdgeNo}
+use Rattle.prl_plan.specs.declared.events.Action.{Action}
+use Rattle.prl_plan.specs.declared.events.Action.TheVariants as actions
 use Rattle.prl_plan.specs.declared.events.Event.{Event}
 use Rattle.prl_plan.specs.declared.events.Event.TheVariants as events
-use Rattle.prl_plan.specs.Runs.{Action, constant, read, write, finish, RunConstants, ExecState, opening, action_at, next_action, after_event, after_events}
+use Rattle.prl_plan.specs.Runs.{RunConstants, ExecState, opening, action_at, next_action, after_event, after_events}
 use Rattle.prl_plan.specs.Rules.{IsUnfinished, HasJob, ActsReleased, ActsFirst, FindsTag, KeepsGated, KeepsLegal, IsGated, IsLegal}
 use Rattle.prl_plan.specs.Facts.{IsJob, ReadsAt, WritesAt, Provides, HasPlanFacts}
 use Rattle.prl_plan.specs.States.{IsSound}
@@ -14,10 +17,11 @@ module _ (c : RunConstants) (facts : HasPlanFacts c) where
   -- a legal read finds its instance: its writer comes earlier, and has ended
   pub legal_finds : (s : ExecState) → IsSound c s → (i : ℕ) → HasJob c s i → ActsReleased c s i → ActsFirst c s i →
       (action : Action) → next_action c s i ≡ action → FindsTag s action
-  legal_finds s sound i has released first (constant port value) is = tt
-  legal_finds s sound i has released first (write e m cell) is = tt
-  legal_finds s sound i has released first finish is = tt
-  legal_finds s sound i has released first (read port e m cell) is =
+  legal_finds s sound i has released first (actions.ReadConst port value) is = tt
+  legal_finds s sound i has released first (actions.Write e m cell) is = tt
+  legal_finds s sound i has released first actions.End is = tt
+  legal_finds s sound i has released first (actions.Read port e m in_cell) is =
+      let cell : ℕ = in_cell.0 in
       let n : ℕ = get_or s.ended i 0 in
       let place : ℕ = get_or s.places i 0 in
       let reads : ReadsAt c i n place m cell = record { job = record { task = has.task; job = has.job }; action = (port, e, is) } in
@@ -56,8 +60,8 @@ module _ (c : RunConstants) (facts : HasPlanFacts c) where
       IsGated-sound (after_event c s event) (sound-event c facts s sound event gated.0) list gated.1
 
   -- a write finds its cell empty, or holding an instance whose readers have ended
-  pub write_finds_free : (s : ExecState) → IsSound c s → (i e m cell : ℕ) → HasJob c s i → ActsReleased c s i →
-      next_action c s i ≡ write e m cell → (j k place l : ℕ) → ReadsAt c j k place l cell → get_or s.tags cell 0 ≡ l + 1 → k < get_or s.ended j 0
+  pub write_finds_free : (s : ExecState) → IsSound c s → (i : ℕ) (e : EdgeNo) (m cell : ℕ) → HasJob c s i → ActsReleased c s i →
+      next_action c s i ≡ actions.Write e m (record { 0 = cell }) → (j k place l : ℕ) → ReadsAt c j k place l cell → get_or s.tags cell 0 ≡ l + 1 → k < get_or s.ended j 0
   write_finds_free s sound i e m cell has released is j k place l reads holds =
       let n : ℕ = get_or s.ended i 0 in
       let here : ℕ = get_or s.places i 0 in

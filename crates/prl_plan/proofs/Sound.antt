@@ -4,27 +4,35 @@ use Rattle.std.proofs.lemmas.Bool.{cases_eq, cases_lt, cases_order}
 use Rattle.std.proofs.lemmas.List.{length-set, length-replicate, get_or-replicate, get_or-set_other}
 use Rattle.std.proofs.lemmas.Grind.{get_or-set_at}
 use Rattle.prl_base.specs.declared.values.Value.{Value}
+use Rattle.prl_base.specs.declared.numbers.CellNo.{CellNo}
+use Rattle.prl_base.specs.declared.numbers.EdgeNo.{EdgeNo}
+use Rattle.prl_plan.specs.declared.events.Action.{Action}
+use Rattle.prl_plan.specs.declared.events.Action.TheVariants as actions
 use Rattle.prl_plan.specs.declared.events.Event.{Event}
 use Rattle.prl_plan.specs.declared.events.Event.TheVariants as events
-use Rattle.prl_plan.specs.Runs.{Action, constant, read, write, finish, RunConstants, ExecState, opening, action_at, next_action, moved, after_action, after_event}
+use Rattle.prl_plan.specs.Runs.{RunConstants, ExecState, opening, action_at, next_action, moved, after_action, after_event}
 use Rattle.prl_plan.specs.Rules.{IsUnfinished, HasJob, ActsReleased, ActsFirst, MayTick, FindsTag, KeepsGated, KeepsLegal}
 use Rattle.prl_plan.specs.Facts.{IsJob, ReadsAt, WritesAt, Provides, HasPlanFacts}
 use Rattle.prl_plan.specs.States.{IsDone, IsAhead, IsSound}
 use Rattle.prl_plan.proofs.Places.{get-set}
 
 -- a write is no other action
-pub write-not-finish : (e m cell : ℕ) → write e m cell ≡ finish → ⊥
+pub write-not-finish : (e : EdgeNo) (m : ℕ) (cell : CellNo) → actions.Write e m cell ≡ actions.End → ⊥
 write-not-finish e m cell h = cc
 
-constant-not-write : (port : ℕ) (value : Value) (e m cell : ℕ) → constant port value ≡ write e m cell → ⊥
+constant-not-write : (port : ℕ) (value : Value) (e : EdgeNo) (m : ℕ) (cell : CellNo) → actions.ReadConst port value ≡ actions.Write e m cell → ⊥
 constant-not-write port value e m cell h = cc
 
-read-not-write : (port e m cell e' m' cell' : ℕ) → read port e m cell ≡ write e' m' cell' → ⊥
+read-not-write : (port : ℕ) (e : EdgeNo) (m : ℕ) (cell : CellNo) (e' : EdgeNo) (m' : ℕ) (cell' : CellNo) → actions.Read port e m cell ≡ actions.Write e' m' cell' → ⊥
 read-not-write port e m cell e' m' cell' h = cc
 
 -- equal writes are to one cell
-same-cell : (e m cell e' m' cell' : ℕ) → write e m cell ≡ write e' m' cell' → cell ≡ cell'
-same-cell e m cell e' m' cell' h = cc
+same-cell : (e : EdgeNo) (m cell : ℕ) (e' : EdgeNo) (m' cell' : ℕ) → actions.Write e m (record { 0 = cell }) ≡ actions.Write e' m' (record { 0 = cell' }) → cell ≡ cell'
+same-cell e m cell e' m' cell' h =
+    let here : CellNo = record { 0 = cell } in
+    let there : CellNo = record { 0 = cell' } in
+    let same : here ≡ there = cc in
+    ap (λ (x : CellNo). x.0) same
 
 module _ (c : RunConstants) (facts : HasPlanFacts c) where
 
@@ -73,7 +81,7 @@ module _ (c : RunConstants) (facts : HasPlanFacts c) where
 
   -- a place moves past an action that writes nothing
   sound-moved : (s : ExecState) → IsSound c s → (i : ℕ) → i < c.tasks →
-      ((e m cell : ℕ) → next_action c s i ≡ write e m cell → ⊥) → IsSound c (moved s i)
+      ((e : EdgeNo) (m cell : ℕ) → next_action c s i ≡ actions.Write e m (record { 0 = cell }) → ⊥) → IsSound c (moved s i)
   sound-moved s sound i task no_write =
       let inside : i < length s.places = omega (arith, sound.places) in
       record {
@@ -98,8 +106,8 @@ module _ (c : RunConstants) (facts : HasPlanFacts c) where
       }
 
   -- a job writes its instance to a cell
-  sound-write : (s : ExecState) → IsSound c s → (i e m cell : ℕ) → HasJob c s i → ActsReleased c s i →
-      next_action c s i ≡ write e m cell → IsSound c (record (moved s i) { tags = set s.tags cell (m + 1) })
+  sound-write : (s : ExecState) → IsSound c s → (i : ℕ) (e : EdgeNo) (m cell : ℕ) → HasJob c s i → ActsReleased c s i →
+      next_action c s i ≡ actions.Write e m (record { 0 = cell }) → IsSound c (record (moved s i) { tags = set s.tags cell (m + 1) })
   sound-write s sound i e m cell has released is =
       let n : ℕ = get_or s.ended i 0 in
       let job : IsJob c i n = record { task = has.task; job = has.job } in
@@ -170,7 +178,7 @@ module _ (c : RunConstants) (facts : HasPlanFacts c) where
       }
 
   -- done behind the end of a job of task i: done before it
-  done-finished : (s : ExecState) (i : ℕ) → HasJob c s i → next_action c s i ≡ finish → i < length s.ended → i < length s.places →
+  done-finished : (s : ExecState) (i : ℕ) → HasJob c s i → next_action c s i ≡ actions.End → i < length s.ended → i < length s.places →
       (j k place m cell : ℕ) → WritesAt c j k place m cell →
       IsDone (record s { ended = set s.ended i (get_or s.ended i 0 + 1); places = set s.places i 0 }) j k place → IsDone s j k place
   done-finished s i has is inside inside_places j k place m cell writes done =
@@ -186,14 +194,14 @@ module _ (c : RunConstants) (facts : HasPlanFacts c) where
                 inl earlier ↦ inl (omega (arith, earlier, at))
               | inr not_earlier ↦
                   (let now : k ≡ get_or s.ended i 0 = omega (arith, below, counted, not_earlier) in
-                  let its : action_at c i (get_or s.ended i 0) place ≡ write (writes.action.0) m cell =
+                  let its : action_at c i (get_or s.ended i 0) place ≡ actions.Write (writes.action.0) m (record { 0 = cell }) =
                       sym (ap (λ x. action_at c x (get_or s.ended i 0) place) same) ∙ sym (ap (λ x. action_at c j x place) now) ∙ writes.action.1 in
                   elim (cases_order place (get_or s.places i 0)) [
-                    inl here ↦ absurd (write-not-finish (writes.action.0) m cell (sym its ∙ ap (λ x. action_at c i (get_or s.ended i 0) x) here ∙ is))
+                    inl here ↦ absurd (write-not-finish (writes.action.0) m (record { 0 = cell }) (sym its ∙ ap (λ x. action_at c i (get_or s.ended i 0) x) here ∙ is))
                   | inr apart ↦
                       (elim apart [
                         inl before ↦ inr ((omega (arith, now, at)), (omega (arith, before, at_place)))
-                      | inr behind ↦ absurd (write-not-finish (writes.action.0) m cell (sym its ∙ facts.last i (get_or s.ended i 0) (get_or s.places i 0) place (record { task = has.task; job = has.job }) is behind))
+                      | inr behind ↦ absurd (write-not-finish (writes.action.0) m (record { 0 = cell }) (sym its ∙ facts.last i (get_or s.ended i 0) (get_or s.places i 0) place (record { task = has.task; job = has.job }) is behind))
                       ])
                   ])
               ])
@@ -230,7 +238,7 @@ module _ (c : RunConstants) (facts : HasPlanFacts c) where
       ]
 
   -- a job ends
-  sound-finish : (s : ExecState) → IsSound c s → (i : ℕ) → HasJob c s i → next_action c s i ≡ finish →
+  sound-finish : (s : ExecState) → IsSound c s → (i : ℕ) → HasJob c s i → next_action c s i ≡ actions.End →
       IsSound c (record s { ended = set s.ended i (get_or s.ended i 0 + 1); places = set s.places i 0 })
   sound-finish s sound i has is =
       let n : ℕ = get_or s.ended i 0 in
@@ -265,10 +273,10 @@ module _ (c : RunConstants) (facts : HasPlanFacts c) where
   -- an act does its next action
   sound-action : (s : ExecState) → IsSound c s → (i : ℕ) → HasJob c s i → ActsReleased c s i → (action : Action) →
       next_action c s i ≡ action → IsSound c (after_action s i action)
-  sound-action s sound i has released (constant port value) is = sound-moved s sound i has.task (λ x y z h. constant-not-write port value x y z (sym is ∙ h))
-  sound-action s sound i has released (read port e m cell) is = sound-moved s sound i has.task (λ x y z h. read-not-write port e m cell x y z (sym is ∙ h))
-  sound-action s sound i has released (write e m cell) is = sound-write s sound i e m cell has released is
-  sound-action s sound i has released finish is = sound-finish s sound i has is
+  sound-action s sound i has released (actions.ReadConst port value) is = sound-moved s sound i has.task (λ x y z h. constant-not-write port value x y (record { 0 = z }) (sym is ∙ h))
+  sound-action s sound i has released (actions.Read port e m cell) is = sound-moved s sound i has.task (λ x y z h. read-not-write port e m cell x y (record { 0 = z }) (sym is ∙ h))
+  sound-action s sound i has released (actions.Write e m cell) is = sound-write s sound i e m cell.0 has released is
+  sound-action s sound i has released actions.End is = sound-finish s sound i has is
 
   -- an event that a gated list allows keeps a sound state
   pub sound-event : (s : ExecState) → IsSound c s → (event : Event) → KeepsGated c s event → IsSound c (after_event c s event)

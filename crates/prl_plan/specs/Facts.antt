@@ -1,6 +1,8 @@
 -- What holds of the jobs of every plan, as an executive needs it.
 use Rattle.std.specs.Prelude.{◌≡◌, ◌+◌, ◌<◌, ◌≤◌, ℕ}
-use Rattle.prl_plan.specs.Runs.{Action, read, write, finish, RunConstants, action_at}
+use Rattle.prl_base.specs.declared.numbers.EdgeNo.{EdgeNo}
+use Rattle.prl_plan.specs.declared.events.Action.TheVariants as actions
+use Rattle.prl_plan.specs.Runs.{RunConstants, action_at}
 
 -- job n of task i is a horizon job
 pub record IsJob (c : RunConstants) (i n : ℕ) : Type 0 where
@@ -10,12 +12,12 @@ pub record IsJob (c : RunConstants) (i n : ℕ) : Type 0 where
 -- at this place, job n of task i reads instance m from the cell
 pub record ReadsAt (c : RunConstants) (i n place m cell : ℕ) : Type 0 where
   pub job : IsJob c i n
-  pub action : (port : ℕ) × (edge : ℕ) × (action_at c i n place ≡ read port edge m cell)
+  pub action : (port : ℕ) × (edge : EdgeNo) × (action_at c i n place ≡ actions.Read port edge m (record { 0 = cell }))
 
 -- at this place, job n of task i writes instance m to the cell
 pub record WritesAt (c : RunConstants) (i n place m cell : ℕ) : Type 0 where
   pub job : IsJob c i n
-  pub action : (edge : ℕ) × (action_at c i n place ≡ write edge m cell)
+  pub action : (edge : EdgeNo) × (action_at c i n place ≡ actions.Write edge m (record { 0 = cell }))
 
 -- horizon job n of task i writes instance m to the cell, and comes before job k of task j
 pub record Provides (c : RunConstants) (m cell j k i n place : ℕ) : Type 0 where
@@ -29,7 +31,7 @@ pub record HasPlanFacts (c : RunConstants) : Type 0 where
   pub within : (i n : ℕ) → IsJob c i n → c.deadline i n ≤ c.end
   pub rising : (i m n : ℕ) → IsJob c i n → m < n → c.deadline i m < c.deadline i n
   -- a job's end is its last action
-  pub last : (i n place later : ℕ) → IsJob c i n → action_at c i n place ≡ finish → place < later → action_at c i n later ≡ finish
+  pub last : (i n place later : ℕ) → IsJob c i n → action_at c i n place ≡ actions.End → place < later → action_at c i n later ≡ actions.End
   -- cells are in range, and a job writes its own instance
   pub read_cell : (i n place m cell : ℕ) → ReadsAt c i n place m cell → cell < c.cells
   pub write_cell : (i n place m cell : ℕ) → WritesAt c i n place m cell → cell < c.cells

@@ -1,5 +1,7 @@
 -- Plans: a task graph with its encoded dates and its cells, and what its jobs do in a horizon.
 use Rattle.std.specs.Prelude.{◌≡◌, ◌+◌, ◌*◌, ◌/◌, ◌%◌, ◌==◌, ◌<◌, ◌≤◌, ◌++◌, ℕ, zero, suc, ℤ, pos, nat_abs, List, [], ◌∷◌, length, sum, Option, Some, None, is_some, unwrap_or, slice_index, slice_index_or, if◌then◌else◌, ◌⊎◌}
+use Rattle.prl_plan.specs.declared.events.Action.{Action}
+use Rattle.prl_plan.specs.declared.events.Action.TheVariants as actions
 use Rattle.prl_plan.specs.declared.graphs.Edge.{Edge}
 use Rattle.prl_plan.specs.declared.graphs.TaskGraph.{TaskGraph}
 use Rattle.prl_plan.specs.declared.graphs.Producer.{Producer}
@@ -14,7 +16,7 @@ use Rattle.prl_plan.specs.Jobs.{task_at, job_count, IsHorizonJob}
 use Rattle.prl_plan.specs.Operands.{operand_of}
 use Rattle.prl_plan.specs.Dates.{AreEncodedDates, encoded_release, encoded_deadline}
 use Rattle.prl_plan.specs.Cells.{AreLeastCells, place_of, no_used}
-use Rattle.prl_plan.specs.Runs.{Action, constant, read, write, finish, RunConstants}
+use Rattle.prl_plan.specs.Runs.{RunConstants}
 
 -- what is known of a plan
 pub record PlanView : Type 0 where
@@ -47,8 +49,8 @@ abbrev pub cell_of : PlanView → ℕ → ℕ → ℕ
 cell_of plan e m = slice_index plan.bases e + unwrap_or (place_on plan e m) 0 % slice_index plan.counts e
 
 abbrev pub reading : PlanView → ℕ → Edge → Operand → Action
-reading plan e edge (operands.Const c) = constant edge.port c
-reading plan e edge (operands.From m) = read edge.port e m (cell_of plan e m)
+reading plan e edge (operands.Const c) = actions.ReadConst edge.port c
+reading plan e edge (operands.From m) = actions.Read edge.port (record { 0 = e }) m (record { 0 = cell_of plan e m })
 
 -- the reads of job n of task i, over these edges, of which the first is edge e
 abbrev pub reads_of : PlanView → ℕ → ℕ → ℕ → List Edge → List Action
@@ -60,7 +62,7 @@ reads_of plan i n e (edge ∷ edges) =
 abbrev pub writing : PlanView → ℕ → ℕ → ℕ → Producer → List Action
 writing plan i n e (producers.Constant value) = []
 writing plan i n e (producers.Port task out) =
-    if task.0 == i then (if is_some (place_on plan e n) then write e n (cell_of plan e n) ∷ [] else []) else []
+    if task.0 == i then (if is_some (place_on plan e n) then actions.Write (record { 0 = e }) n (record { 0 = cell_of plan e n }) ∷ [] else []) else []
 
 abbrev pub writes_of : PlanView → ℕ → ℕ → ℕ → List Edge → List Action
 writes_of plan i n e [] = []
@@ -68,7 +70,7 @@ writes_of plan i n e (edge ∷ edges) = writing plan i n e edge.from ++ writes_o
 
 -- the actions of job n of task i: its reads in the order of ports, its writes in the order of edges, and its end
 abbrev pub actions_of : PlanView → ℕ → ℕ → List Action
-actions_of plan i n = reads_of plan i n 0 plan.graph.edges ++ writes_of plan i n 0 plan.graph.edges ++ finish ∷ []
+actions_of plan i n = reads_of plan i n 0 plan.graph.edges ++ writes_of plan i n 0 plan.graph.edges ++ actions.End ∷ []
 
 -- what stays the same over a run of a plan up to `until`, where `end` is the greatest encoded deadline of a horizon job
 abbrev pub constants_up_to : PlanView → ℕ → ℕ → RunConstants

@@ -1,10 +1,12 @@
 -- The lists of events that an executive may do.
 use Rattle.std.specs.Prelude.{◌≡◌, ◌+◌, ◌<◌, ◌≤◌, ◌⊎◌, ℕ, List, [], ◌∷◌, slice_index}
+use Rattle.prl_plan.specs.declared.events.Action.{Action}
+use Rattle.prl_plan.specs.declared.events.Action.TheVariants as actions
 use Rattle.prl_plan.specs.declared.events.Event.{Event}
 use Rattle.prl_plan.specs.declared.events.Event.TheVariants as events
 use Rattle.prl_plan.specs.declared.events.Rule.{Rule}
 use Rattle.prl_plan.specs.declared.events.Rule.TheVariants as rules
-use Rattle.prl_plan.specs.Runs.{Action, constant, read, write, finish, RunConstants, ExecState, next_action, after_event}
+use Rattle.prl_plan.specs.Runs.{RunConstants, ExecState, next_action, after_event}
 
 -- the first job of task i that has not ended
 abbrev pub first_unfinished : ExecState → ℕ → ℕ
@@ -36,10 +38,10 @@ pub record MayTick (c : RunConstants) (s : ExecState) : Type 0 where
 
 -- a read of an instance finds it in its cell
 abbrev pub FindsTag : ExecState → Action → Type 0
-FindsTag s (constant port value) = Unit {0}
-FindsTag s (read port edge instance cell) = slice_index s.tags cell ≡ instance + 1
-FindsTag s (write edge instance cell) = Unit {0}
-FindsTag s finish = Unit {0}
+FindsTag s (actions.ReadConst port value) = Unit {0}
+FindsTag s (actions.Read port edge instance cell) = slice_index s.tags cell.0 ≡ instance + 1
+FindsTag s (actions.Write edge instance cell) = Unit {0}
+FindsTag s actions.End = Unit {0}
 
 -- the event meets L1, L2, L3 and L4
 abbrev pub KeepsLegal : RunConstants → ExecState → Event → Type 0

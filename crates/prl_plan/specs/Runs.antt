@@ -1,16 +1,9 @@
 -- The state of an executive, and what events make of it.
 use Rattle.std.specs.Prelude.{◌≡◌, ◌+◌, ℕ, zero, suc, List, [], ◌∷◌, replicate, slice_index, slice_index_or, slice_set}
-use Rattle.prl_base.specs.declared.values.Value.{Value}
+use Rattle.prl_plan.specs.declared.events.Action.{Action}
+use Rattle.prl_plan.specs.declared.events.Action.TheVariants as actions
 use Rattle.prl_plan.specs.declared.events.Event.{Event}
 use Rattle.prl_plan.specs.declared.events.Event.TheVariants as events
-
--- One action of a job: it takes a constant at a port; it reads an instance of an edge, at a port, from a cell; it writes
--- its instance to an edge, in a cell; it ends.
-pub data Action : Type 0 where
-  constant : (port : ℕ) (value : Value) → Action
-  read : (port edge instance cell : ℕ) → Action
-  write : (edge instance cell : ℕ) → Action
-  finish : Action
 
 -- what stays the same over a run
 pub record RunConstants : Type 0 where
@@ -38,7 +31,7 @@ opening c = record { now = 0; ended = replicate c.tasks 0; places = replicate c.
 
 -- the action at a place of job n of task i; behind the last one stands the job's end
 abbrev pub action_at : RunConstants → ℕ → ℕ → ℕ → Action
-action_at c i n place = slice_index_or (c.actions i n) place finish
+action_at c i n place = slice_index_or (c.actions i n) place actions.End
 
 -- the next action of task i
 abbrev pub next_action : RunConstants → ExecState → ℕ → Action
@@ -49,10 +42,10 @@ abbrev pub moved : ExecState → ℕ → ExecState
 moved s i = record s { places = slice_set s.places i (slice_index s.places i + 1) }
 
 abbrev pub after_action : ExecState → ℕ → Action → ExecState
-after_action s i (constant port value) = moved s i
-after_action s i (read port edge instance cell) = moved s i
-after_action s i (write edge instance cell) = record (moved s i) { tags = slice_set s.tags cell (instance + 1) }
-after_action s i finish =
+after_action s i (actions.ReadConst port value) = moved s i
+after_action s i (actions.Read port edge instance cell) = moved s i
+after_action s i (actions.Write edge instance cell) = record (moved s i) { tags = slice_set s.tags cell.0 (instance + 1) }
+after_action s i actions.End =
     record s { ended = slice_set s.ended i (slice_index s.ended i + 1); places = slice_set s.places i 0 }
 
 abbrev pub after_event : RunConstants → ExecState → Event → ExecState

@@ -1,6 +1,6 @@
 //! What an executive does, one event at a time, and the rules that its events keep.
 
-use prl_base::TaskNo;
+use prl_base::{CellNo, EdgeNo, TaskNo, Value};
 
 /// One event of an executive.
 #[derive(Clone, Copy, Debug, PartialEq, Eq)]
@@ -9,6 +9,29 @@ pub enum Event {
     Tick,
     /// The task does the next action of its first unfinished job.
     Act(TaskNo),
+}
+
+/// One action of a job. A job reads its ports in order, then it writes to the edges that use its instance, in the order
+/// of edges, and then it ends.
+#[derive(Clone, Copy, Debug, PartialEq, Eq)]
+pub enum Action {
+    /// It takes a constant at a port.
+    ReadConst { port: u32, value: Value },
+    /// It reads an instance of an edge at a port, from a cell.
+    Read {
+        port: u32,
+        edge: EdgeNo,
+        instance: u64,
+        cell: CellNo,
+    },
+    /// It writes its instance to an edge, in a cell.
+    Write {
+        edge: EdgeNo,
+        instance: u64,
+        cell: CellNo,
+    },
+    /// It ends.
+    End,
 }
 
 /// A rule of legal lists of events.

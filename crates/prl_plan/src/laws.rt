@@ -1,8 +1,10 @@
 //! Laws of lists of events, as functions that do nothing: the contract of each is the law, over the definitions alone.
 
 ghost use Rattle.std.specs.Prelude.{◌≡◌, ◌+◌, ◌<◌, ◌≤◌, ◌++◌, ◌↔◌, ℕ, List, slice_index};
+ghost use Rattle.prl_base.specs.declared.numbers.EdgeNo.{EdgeNo};
+ghost use Rattle.prl_plan.specs.declared.events.Action.TheVariants as actions;
 ghost use Rattle.prl_plan.specs.declared.events.Event.{Event};
-ghost use Rattle.prl_plan.specs.Runs.{RunConstants, ExecState, opening, next_action, write, after_events};
+ghost use Rattle.prl_plan.specs.Runs.{RunConstants, ExecState, opening, next_action, after_events};
 ghost use Rattle.prl_plan.specs.Rules.{IsLegal, IsGated, IsFree, IsUnfinished, HasJob, ActsReleased};
 ghost use Rattle.prl_plan.specs.Facts.{HasPlanFacts, ReadsAt};
 
@@ -63,9 +65,9 @@ pub fn gated_list_keeps_cells()
 pub fn write_finds_cell_free()
     ensures {
         (c : RunConstants) → HasPlanFacts c → (events : List Event) → IsGated c (opening c) events →
-        (i edge m cell : ℕ) → HasJob c (after_events c (opening c) events) i →
+        (i : ℕ) (edge : EdgeNo) (m cell : ℕ) → HasJob c (after_events c (opening c) events) i →
         ActsReleased c (after_events c (opening c) events) i →
-        next_action c (after_events c (opening c) events) i ≡ write edge m cell →
+        next_action c (after_events c (opening c) events) i ≡ actions.Write edge m (record { 0 = cell }) →
         (j n place l : ℕ) → ReadsAt c j n place l cell →
         slice_index (after_events c (opening c) events).tags cell ≡ l + 1 →
         n < slice_index (after_events c (opening c) events).ended j

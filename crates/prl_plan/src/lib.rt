@@ -10,7 +10,7 @@ mod laws;
 mod tables;
 mod walks;
 
-pub use events::{Event, Rule};
+pub use events::{Action, Event, Rule};
 pub use graphs::{Edge, Kind, Producer, Task, TaskGraph};
 pub use horizons::Horizon;
 pub use laws::{gated_list_keeps_cells, legal_list_is_gated, run_of_two_lists, write_finds_cell_free};
