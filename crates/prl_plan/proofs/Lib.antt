@@ -2,3 +2,4 @@ pub mod Places
 pub mod Sound
 pub mod Legal
 pub mod Runs
+pub mod TwoTasks

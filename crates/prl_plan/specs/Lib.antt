@@ -9,3 +9,5 @@ pub mod Runs
 pub mod Rules
 pub mod Facts
 pub mod States
+pub mod Horizons
+pub mod TwoTasks

@@ -1,5 +1,7 @@
 -- Plans: a task graph with its encoded dates and its cells, and what its jobs do in a horizon.
 use Rattle.std.specs.Prelude.{◌≡◌, ◌+◌, ◌*◌, ◌/◌, ◌%◌, ◌==◌, ◌<◌, ◌≤◌, ◌++◌, ℕ, zero, suc, ℤ, pos, nat_abs, List, [], ◌∷◌, length, sum, Option, Some, None, is_some, unwrap_or, slice_index, slice_index_or, if◌then◌else◌, ◌⊎◌}
+use Rattle.prl_base.specs.declared.values.Ty.TheVariants as types
+use Rattle.prl_base.specs.declared.values.Value.TheVariants as values
 use Rattle.prl_plan.specs.declared.events.Action.{Action}
 use Rattle.prl_plan.specs.declared.events.Action.TheVariants as actions
 use Rattle.prl_plan.specs.declared.graphs.Edge.{Edge}
@@ -10,7 +12,6 @@ use Rattle.prl_plan.specs.declared.walks.Operand.{Operand}
 use Rattle.prl_plan.specs.declared.walks.Operand.TheVariants as operands
 use Rattle.prl_plan.specs.declared.tables.Window.{Window}
 use Rattle.prl_plan.specs.declared.tables.Used.{Used}
-use Rattle.prl_plan.specs.declared.horizons.Horizon.{Horizon}
 use Rattle.prl_plan.specs.Graphs.{IsWellFormed}
 use Rattle.prl_plan.specs.Jobs.{task_at, job_count, IsHorizonJob}
 use Rattle.prl_plan.specs.Operands.{operand_of}
@@ -39,6 +40,13 @@ release_at plan i n = nat_abs (encoded_release plan.graph plan.windows i (pos n)
 
 abbrev pub deadline_at : PlanView → ℕ → ℕ → ℕ
 deadline_at plan i n = nat_abs (encoded_deadline plan.graph plan.windows i (pos n))
+
+-- stands where there is no edge
+abbrev pub no_edge : Edge
+no_edge = record { from = producers.Constant (values.Int (pos 0)); to = record { 0 = 0 }; port = 0; ops = []; period = 1; ty = types.Int }
+
+abbrev pub edge_at : TaskGraph → ℕ → Edge
+edge_at graph e = slice_index_or graph.edges e no_edge
 
 -- where instance m of edge e stands among the used instances of that edge, if it is one
 abbrev pub place_on : PlanView → ℕ → ℕ → Option ℕ
@@ -71,45 +79,3 @@ writes_of plan i n e (edge ∷ edges) = writing plan i n e edge.from ++ writes_o
 -- the actions of job n of task i: its reads in the order of ports, its writes in the order of edges, and its end
 abbrev pub actions_of : PlanView → ℕ → ℕ → List Action
 actions_of plan i n = reads_of plan i n 0 plan.graph.edges ++ writes_of plan i n 0 plan.graph.edges ++ actions.End ∷ []
-
--- what stays the same over a run of a plan up to `until`, where `end` is the greatest encoded deadline of a horizon job
-abbrev pub constants_up_to : PlanView → ℕ → ℕ → RunConstants
-constants_up_to plan until end = record {
-    tasks = length plan.graph.tasks;
-    cells = sum plan.counts;
-    jobs = λ i. job_count (task_at plan.graph i) until;
-    release = release_at plan;
-    deadline = deadline_at plan;
-    actions = actions_of plan;
-    end = end
-  }
-
--- the sum of f over the numbers below n
-abbrev pub sum_below : (ℕ → ℕ) → ℕ → ℕ
-sum_below f zero = 0
-sum_below f (suc n) = sum_below f n + f n
-
--- how many jobs of the plan are released before `until`
-abbrev pub jobs_up_to : PlanView → ℕ → ℕ
-jobs_up_to plan until = sum_below (λ i. job_count (task_at plan.graph i) until) (length plan.graph.tasks)
-
--- how many actions these jobs have
-abbrev pub actions_up_to : PlanView → ℕ → ℕ
-actions_up_to plan until =
-    sum_below (λ i. sum_below (λ n. length (actions_of plan i n)) (job_count (task_at plan.graph i) until)) (length plan.graph.tasks)
-
--- `end` is the greatest encoded deadline of a horizon job, 0 where there is none
-pub record IsEnd (plan : PlanView) (until end : ℕ) : Type 0 where
-  pub above : (i n : ℕ) → IsHorizonJob plan.graph until i n → deadline_at plan i n ≤ end
-  pub attained : (end ≡ 0) ⊎ ((i : ℕ) × (n : ℕ) × IsHorizonJob plan.graph until i n × (end ≡ deadline_at plan i n))
-
--- the horizon of the plan up to `until`, within the limits
-pub record IsHorizon (plan : PlanView) (horizon : Horizon) : Type 0 where
-  pub end : IsEnd plan horizon.until horizon.end
-  pub jobs : horizon.jobs ≡ jobs_up_to plan horizon.until
-  pub events : horizon.events ≡ actions_up_to plan horizon.until + horizon.end
-  pub few_jobs : horizon.jobs ≤ 200000
-  pub few_events : horizon.events ≤ 1000000
-
-abbrev pub constants_of : PlanView → Horizon → RunConstants
-constants_of plan horizon = constants_up_to plan horizon.until horizon.end
