@@ -3,3 +3,5 @@ pub mod Sound
 pub mod Legal
 pub mod Runs
 pub mod TwoTasks
+pub mod Counts
+pub mod TwoFacts

@@ -38,12 +38,12 @@ mod-one : (n : ℕ) → n % 1 ≡ 0
 mod-one n = omega arith
 
 -- a list of one window gives it for every job
-window-one : (w : Window) (m : ℤ) → slice_index_or (w ∷ []) (place_in m 1) no_window ≡ w
+pub window-one : (w : Window) (m : ℤ) → slice_index_or (w ∷ []) (place_in m 1) no_window ≡ w
 window-one w (pos n) = ap (λ x. slice_index_or (w ∷ []) x no_window) (mod-one n)
 window-one w (negsuc n) = ap (λ x. slice_index_or (w ∷ []) x no_window) (let z : 1 - 1 - n % 1 ≡ 0 = omega arith in z)
 
 -- instances that follow each other without a gap
-used-all : (k : ℕ) → used_at (record { first = 0; gaps = 1 ∷ [] }) k ≡ k
+pub used-all : (k : ℕ) → used_at (record { first = 0; gaps = 1 ∷ [] }) k ≡ k
 used-all k =
     let whole : k / 1 ≡ k = omega arith in
     let rest : ◌≡◌ {A = List ℕ} (take (k % 1) (1 ∷ [])) [] = ap (λ n. take n (1 ∷ [])) (mod-one k) in
@@ -135,16 +135,16 @@ module _ (T a b : ℕ) (fits : AreInPeriod T a b) where
           (subst (λ x. P 0 x 1 after.number) (sym is.2) (each after.number)))
 
   -- the encoded dates, by task
-  release-0 : (m : ℤ) → encoded_release (two_graph T a b) (two_windows T a b) 0 m ≡ (pos 0 +ℤ (m *ℤ pos T)) +ℤ pos 0
+  pub release-0 : (m : ℤ) → encoded_release (two_graph T a b) (two_windows T a b) 0 m ≡ (pos 0 +ℤ (m *ℤ pos T)) +ℤ pos 0
   release-0 m = ap (λ (w : Window). (pos 0 +ℤ (m *ℤ pos T)) +ℤ pos w.lead) (window-one (record { lead = 0; tail = T - b }) m)
 
-  release-1 : (m : ℤ) → encoded_release (two_graph T a b) (two_windows T a b) 1 m ≡ (pos 0 +ℤ (m *ℤ pos T)) +ℤ pos a
+  pub release-1 : (m : ℤ) → encoded_release (two_graph T a b) (two_windows T a b) 1 m ≡ (pos 0 +ℤ (m *ℤ pos T)) +ℤ pos a
   release-1 m = ap (λ (w : Window). (pos 0 +ℤ (m *ℤ pos T)) +ℤ pos w.lead) (window-one (record { lead = a; tail = T }) m)
 
-  deadline-0 : (m : ℤ) → encoded_deadline (two_graph T a b) (two_windows T a b) 0 m ≡ (pos 0 +ℤ (m *ℤ pos T)) +ℤ pos (T - b)
+  pub deadline-0 : (m : ℤ) → encoded_deadline (two_graph T a b) (two_windows T a b) 0 m ≡ (pos 0 +ℤ (m *ℤ pos T)) +ℤ pos (T - b)
   deadline-0 m = ap (λ (w : Window). (pos 0 +ℤ (m *ℤ pos T)) +ℤ pos w.tail) (window-one (record { lead = 0; tail = T - b }) m)
 
-  deadline-1 : (m : ℤ) → encoded_deadline (two_graph T a b) (two_windows T a b) 1 m ≡ (pos 0 +ℤ (m *ℤ pos T)) +ℤ pos T
+  pub deadline-1 : (m : ℤ) → encoded_deadline (two_graph T a b) (two_windows T a b) 1 m ≡ (pos 0 +ℤ (m *ℤ pos T)) +ℤ pos T
   deadline-1 m = ap (λ (w : Window). (pos 0 +ℤ (m *ℤ pos T)) +ℤ pos w.tail) (window-one (record { lead = a; tail = T }) m)
 
   two-above : (i : ℕ) (m : ℤ) → i < 2 → release_of (task_at (two_graph T a b) i) m ≤ℤ encoded_release (two_graph T a b) (two_windows T a b) i m
