@@ -247,3 +247,8 @@ module _ (T a b : ℕ) (fits : AreInPeriod T a b) where
 
   pub two-plan : IsPlan (two_plan T a b)
   two-plan = record { graph = two-well_formed; dates = two-encoded; cells = two-cells }
+
+  -- the one edge has no operators
+  pub two-reads : (e m : ℕ) → e < 1 → Reads (edge_at (two_graph T a b) e) m m
+  two-reads zero m inside = refl
+  two-reads (suc e) m inside = absurd (omega arith)

@@ -1,5 +1,5 @@
 -- Plans: a task graph with its encoded dates and its cells, and what its jobs do in a horizon.
-use Rattle.std.specs.Prelude.{◌≡◌, ◌+◌, ◌*◌, ◌/◌, ◌%◌, ◌==◌, ◌<◌, ◌≤◌, ◌++◌, ℕ, zero, suc, ℤ, pos, nat_abs, List, [], ◌∷◌, length, sum, Option, Some, None, is_some, unwrap_or, slice_index, slice_index_or, if◌then◌else◌, ◌⊎◌}
+use Rattle.std.specs.Prelude.{◌≡◌, ◌+◌, ◌*◌, ◌/◌, ◌%◌, ◌==◌, ◌<◌, ◌≤◌, ◌^◌, ◌++◌, ℕ, zero, suc, ℤ, pos, nat_abs, List, [], ◌∷◌, length, sum, Option, Some, None, is_some, unwrap_or, slice_index, slice_index_or, if◌then◌else◌, ◌⊎◌}
 use Rattle.prl_base.specs.declared.values.Ty.TheVariants as types
 use Rattle.prl_base.specs.declared.values.Value.TheVariants as values
 use Rattle.prl_plan.specs.declared.events.Action.{Action}
@@ -79,3 +79,13 @@ writes_of plan i n e (edge ∷ edges) = writing plan i n e edge.from ++ writes_o
 -- the actions of job n of task i: its reads in the order of ports, its writes in the order of edges, and its end
 abbrev pub actions_of : PlanView → ℕ → ℕ → List Action
 actions_of plan i n = reads_of plan i n 0 plan.graph.edges ++ writes_of plan i n 0 plan.graph.edges ++ actions.End ∷ []
+
+-- the operand has a number that a look-up may tell
+abbrev pub IsSmallOperand : Operand → Type 0
+IsSmallOperand (operands.Const c) = Unit {0}
+IsSmallOperand (operands.From m) = m < 2 ^ 63
+
+-- the edge comes from a task
+abbrev pub ComesFromTask : Producer → Type 0
+ComesFromTask (producers.Port task out) = Unit {0}
+ComesFromTask (producers.Constant value) = ⊥

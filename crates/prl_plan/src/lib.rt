@@ -7,6 +7,7 @@ mod events;
 mod graphs;
 mod horizons;
 mod laws;
+mod plans;
 mod tables;
 mod walks;
 
@@ -14,5 +15,6 @@ pub use events::{Action, Event, Rule};
 pub use graphs::{Edge, Kind, Producer, Task, TaskGraph};
 pub use horizons::Horizon;
 pub use laws::{gated_list_keeps_cells, legal_list_is_gated, run_of_two_lists, write_finds_cell_free};
+pub use plans::Plan;
 pub use tables::{Used, Window};
 pub use walks::{Operand, operand_by_walk, walk_back};
