@@ -5,3 +5,4 @@ pub mod Runs
 pub mod TwoTasks
 pub mod Counts
 pub mod TwoFacts
+pub mod TwoHorizon

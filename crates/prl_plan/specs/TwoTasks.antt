@@ -38,3 +38,7 @@ two_plan period wcet_in wcet_out = record {
     counts = 1 ∷ [];
     used = record { first = 0; gaps = 1 ∷ [] } ∷ []
   }
+
+-- the plan is one of two tasks
+abbrev pub IsTwo : PlanView → Type 0
+IsTwo plan = (period : ℕ) × (wcet_in : ℕ) × (wcet_out : ℕ) × AreInPeriod period wcet_in wcet_out × (plan ≡ two_plan period wcet_in wcet_out)

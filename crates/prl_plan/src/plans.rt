@@ -1,12 +1,13 @@
 //! Plans: a task graph with its encoded dates and its buffer cells.
 
-ghost use Rattle.std.specs.Prelude.{◌≡◌, ◌+◌, ◌<◌, ◌^◌, ◌↔◌, pos, length, sum, slice_index, slice_index_or, is_some, IsTrue, IfOk};
+ghost use Rattle.std.specs.Prelude.{◌≡◌, ◌+◌, ◌*◌, ◌<◌, ◌^◌, ◌↔◌, pos, length, sum, slice_index, slice_index_or, is_some, IsTrue, IfOk};
 ghost use Rattle.prl_plan.specs.declared.events.Action.TheVariants as actions;
 ghost use Rattle.prl_plan.specs.Operands.{operand_of};
 ghost use Rattle.prl_plan.specs.Dates.{encoded_release, encoded_deadline};
 ghost use Rattle.prl_plan.specs.Cells.{IsUsed};
 ghost use Rattle.prl_plan.specs.Plans.{IsPlan, edge_at, release_at, deadline_at, place_on, cell_of, actions_of, IsSmallOperand, ComesFromTask};
-ghost use Rattle.prl_plan.specs.TwoTasks.{AreInPeriod, two_plan};
+ghost use Rattle.prl_plan.specs.TwoTasks.{AreInPeriod, two_plan, IsTwo};
+ghost use Rattle.prl_plan.specs.Jobs.{task_at, job_count};
 
 use crate::{Action, Edge, Kind, Operand, Producer, Task, TaskGraph};
 use prl_base::{CellNo, Clock, EdgeNo, Label, Seq, TaskNo, Ty};
@@ -214,5 +215,33 @@ impl Plan {
             instance: n,
             cell: CellNo(0),
         }
+    }
+
+    /// The plan is one of two tasks.
+    pub(crate) fn is_two(&self)
+        ensures { IsTwo self.now }
+    {
+        let _ = &self.period;
+    }
+
+    /// How many jobs of task `i` are released before `until`.
+    pub(crate) fn jobs_before(&self, i: TaskNo, until: u64) -> u64
+        requires task { i.0 < length self.now.graph.tasks }
+        requires until { until < 2 ^ 32 }
+        ensures { result ≡ job_count (task_at self.now.graph i.0) until }
+    {
+        let _ = i;
+        (until + (self.period - 1)) / self.period
+    }
+
+    /// How many jobs of each of the two tasks are released before `until`, and the greatest encoded deadline of one.
+    pub(crate) fn jobs_and_end(&self, until: u32) -> (u64, u64)
+        ensures jobs { result.0 ≡ job_count (task_at self.now.graph 0) until }
+        ensures end { result.1 ≡ result.0 * (task_at self.now.graph 0).clock.period }
+        ensures small { (result.0 < 2 ^ 32) × (result.1 < 2 ^ 33) }
+    {
+        let period = self.period;
+        let jobs = self.jobs_before(TaskNo(0), u64::from(until));
+        (jobs, jobs * period)
     }
 }
