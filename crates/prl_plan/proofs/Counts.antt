@@ -1,6 +1,6 @@
 -- How many jobs of a task are released before a date.
-use Rattle.std.proofs.Common.{◌≡◌, ◌+◌, ◌-◌, ◌*◌, ◌/◌, ◌<◌, ◌≤◌, ◌↔◌, ℕ, inl, inr, arith}
-use Rattle.std.specs.Prelude.{ℤ, pos, ◌+ℤ◌, ◌*ℤ◌, ◌<ℤ◌, length}
+use Rattle.std.proofs.Common.{◌≡◌, ◌+◌, ◌-◌, ◌*◌, ◌/◌, ◌<◌, ◌≤◌, ℕ, inl, inr, arith}
+use Rattle.std.specs.Prelude.{pos, ◌+ℤ◌, ◌*ℤ◌, ◌<ℤ◌, length}
 use Rattle.std.proofs.Math.Nat.{lt-div-mul-add, div-mul-le_self, mul-le-mul_right}
 use Rattle.std.proofs.lemmas.Bool.{cases_lt}
 use Rattle.std.proofs.lemmas.Int.{ints}
@@ -22,11 +22,11 @@ below-count s T until n some h =
     let x : ℕ = until - s + (T - 1) in
     let q : ℕ = x / T in
     elim (cases_lt n q) [
-      inl below ↦ below
-    | inr above ↦ absurd
-        (let over : x < q * T + T = lt-div-mul-add some in
-        let up : q * T ≤ n * T = mul-le-mul_right T above in
-        omega (arith, over, up))
+      | inl below ↦ below
+      | inr above ↦ absurd
+          (let over : x < q * T + T = lt-div-mul-add some in
+          let up : q * T ≤ n * T = mul-le-mul_right T above in
+          omega (arith, over, up))
     ]
 
 -- a task's horizon jobs are those with a number below their count

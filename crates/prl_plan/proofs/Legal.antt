@@ -1,19 +1,18 @@
 -- Legal lists are gated: each read finds its tag.
-use Rattle.std.proofs.Common.{◌≡◌, ◌+◌, ◌<◌, ◌≤◌, ℕ, List, [], ◌∷◌, get_or, inl, inr, refl, sym, arith}
-use Rattle.std.proofs.lemmas.Bool.{cases_lt, cases_order}
+use Rattle.std.proofs.Common.{◌≡◌, ◌+◌, ◌<◌, ◌≤◌, ℕ, List, [], ◌∷◌, get_or, inl, inr, refl, arith}
+use Rattle.std.proofs.lemmas.Bool.{cases_lt}
 use Rattle.prl_base.specs.declared.numbers.EdgeNo.{EdgeNo}
 use Rattle.prl_plan.specs.declared.events.Action.{Action}
 use Rattle.prl_plan.specs.declared.events.Action.TheVariants as actions
 use Rattle.prl_plan.specs.declared.events.Event.{Event}
 use Rattle.prl_plan.specs.declared.events.Event.TheVariants as events
-use Rattle.prl_plan.specs.Runs.{RunConstants, ExecState, opening, action_at, next_action, after_event, after_events}
+use Rattle.prl_plan.specs.Runs.{RunConstants, ExecState, next_action, after_event, after_events}
 use Rattle.prl_plan.specs.Rules.{IsUnfinished, HasJob, ActsReleased, ActsFirst, FindsTag, KeepsGated, KeepsLegal, IsGated, IsLegal}
 use Rattle.prl_plan.specs.Facts.{IsJob, ReadsAt, WritesAt, Provides, HasPlanFacts}
 use Rattle.prl_plan.specs.States.{IsSound}
-use Rattle.prl_plan.proofs.Sound.{sound-event, sound-opening}
+use Rattle.prl_plan.proofs.Sound.{sound-event}
 
 module _ (c : RunConstants) (facts : HasPlanFacts c) where
-
   -- a legal read finds its instance: its writer comes earlier, and has ended
   pub legal_finds : (s : ExecState) → IsSound c s → (i : ℕ) → HasJob c s i → ActsReleased c s i → ActsFirst c s i →
       (action : Action) → next_action c s i ≡ action → FindsTag s action
@@ -33,13 +32,13 @@ module _ (c : RunConstants) (facts : HasPlanFacts c) where
       let own : m ≡ k = facts.own j k (before.2) m cell provides.writes in
       let early : c.release j k ≤ s.now = (let a : c.release j k ≤ c.release i n = provides.release in let b : c.release i n ≤ s.now = released in omega (arith, a, b)) in
       elim (cases_lt k (get_or s.ended j 0)) [
-        inl ended ↦
-          (let lower : m + 1 ≤ get_or s.tags cell 0 = sound.written j k (before.2) m cell provides.writes (inl ended) in omega (arith, upper, lower))
-      | inr left ↦ absurd
-          (let unfinished : IsUnfinished c s j k = record { task = provides.writes.job.task; job = provides.writes.job.job; unfinished = left } in
-          let not_after : c.deadline i n ≤ c.deadline j k = first j k unfinished early in
-          let earlier : c.deadline j k < c.deadline i n = provides.deadline in
-          omega (arith, not_after, earlier))
+        | inl ended ↦
+            (let lower : m + 1 ≤ get_or s.tags cell 0 = sound.written j k (before.2) m cell provides.writes (inl ended) in omega (arith, upper, lower))
+        | inr left ↦ absurd
+            (let unfinished : IsUnfinished c s j k = record { task = provides.writes.job.task; job = provides.writes.job.job; unfinished = left } in
+            let not_after : c.deadline i n ≤ c.deadline j k = first j k unfinished early in
+            let earlier : c.deadline j k < c.deadline i n = provides.deadline in
+            omega (arith, not_after, earlier))
       ]
 
   -- what a legal list allows, a gated one allows

@@ -1,5 +1,5 @@
 -- A run of two lists of events: the second's from where the first ends.
-use Rattle.std.proofs.Common.{◌≡◌, ◌++◌, ◌↔◌, ℕ, List, [], ◌∷◌, refl}
+use Rattle.std.proofs.Common.{◌≡◌, ◌++◌, ◌↔◌, List, [], ◌∷◌, refl}
 use Rattle.prl_plan.specs.declared.events.Event.{Event}
 use Rattle.prl_plan.specs.Runs.{RunConstants, ExecState, after_event, after_events}
 use Rattle.prl_plan.specs.Rules.{IsLegal, IsGated, IsFree}

@@ -1,7 +1,6 @@
 -- What the jobs of two tasks do.
-use Rattle.std.proofs.Common.{◌≡◌, ◌≢◌, ◌+◌, ◌-◌, ◌*◌, ◌/◌, ◌%◌, ◌<◌, ◌≤◌, ◌^◌, ◌⊎◌, ℕ, zero, suc, Bool, true, false, List, [], ◌∷◌, length, get_or, Option, Some, None, inl, inr, refl, sym, ◌∙◌, ap, subst, arith, eqb, lit<, lit≤, cond}
-use Rattle.std.specs.Prelude.{ℤ, pos, ◌+ℤ◌, ◌*ℤ◌, nat_abs, is_some, unwrap_or, ◌++◌, if◌then◌else◌}
-use Rattle.std.proofs.lemmas.Int.{ints}
+use Rattle.std.proofs.Common.{◌≡◌, ◌+◌, ◌-◌, ◌*◌, ◌%◌, ◌<◌, ◌≤◌, ℕ, zero, suc, true, List, [], ◌∷◌, get_or, Option, Some, refl, sym, ◌∙◌, ap, subst, arith, eqb, lit<, cond}
+use Rattle.std.specs.Prelude.{pos, is_some, unwrap_or, ◌++◌, if◌then◌else◌}
 use Rattle.std.proofs.lemmas.Bool.Decides.{nat_tests}
 use Rattle.std.proofs.Math.Nat.{mul-le-mul_right}
 use Rattle.prl_base.specs.declared.numbers.CellNo.{CellNo}
@@ -9,14 +8,12 @@ use Rattle.prl_base.specs.declared.numbers.EdgeNo.{EdgeNo}
 use Rattle.prl_plan.specs.declared.events.Action.{Action}
 use Rattle.prl_plan.specs.declared.events.Action.TheVariants as actions
 use Rattle.prl_plan.specs.declared.horizons.Horizon.{Horizon}
-use Rattle.prl_plan.specs.declared.tables.Used.{Used}
 use Rattle.prl_plan.specs.declared.tables.Window.{Window}
 use Rattle.prl_plan.specs.Cells.{used_at, place_up_to, place_of}
 use Rattle.prl_plan.specs.Jobs.{task_at, job_count}
-use Rattle.prl_plan.specs.Plans.{PlanView, release_at, deadline_at, actions_of, cell_of, place_on}
-use Rattle.prl_plan.specs.Runs.{RunConstants, action_at}
-use Rattle.prl_plan.specs.Facts.{IsJob, ReadsAt, WritesAt, Provides, HasPlanFacts}
-use Rattle.prl_plan.specs.Horizons.{constants_of, IsHorizon, IsEnd}
+use Rattle.prl_plan.specs.Plans.{release_at, deadline_at, actions_of, cell_of}
+use Rattle.prl_plan.specs.Facts.{ReadsAt, WritesAt, Provides, HasPlanFacts}
+use Rattle.prl_plan.specs.Horizons.{constants_of, IsHorizon}
 use Rattle.prl_plan.specs.TwoTasks.{AreInPeriod, two_plan}
 use Rattle.prl_plan.proofs.Counts.{IsHorizonJob-count}
 use Rattle.prl_plan.proofs.TwoTasks.{used-all, window-one}
@@ -27,11 +24,11 @@ place-two m = subst (λ k. place_up_to (record { first = 0; gaps = 1 ∷ [] }) m
   where
     test : (x y : ℕ) → x ≡ y → eqb x y ≡ true
     test x y h = grind (arith, nat_tests)
+
     found : (m : ℕ) → place_up_to (record { first = 0; gaps = 1 ∷ [] }) m (suc m) ≡ Some m
     found m = ap (λ x. cond x (Some m) (place_up_to (record { first = 0; gaps = 1 ∷ [] }) m m)) (test (used_at (record { first = 0; gaps = 1 ∷ [] }) m) m (used-all m))
 
 module _ (T a b : ℕ) (fits : AreInPeriod T a b) where
-
   pub cell-two : (m : ℕ) → cell_of (two_plan T a b) 0 m ≡ 0
   cell-two m = omega arith
 
@@ -99,25 +96,24 @@ end-last x first (suc place) (suc zero) h before = refl
 end-last x first (suc place) (suc (suc later)) h before = refl
 
 module _ (T a b : ℕ) (fits : AreInPeriod T a b) (h : Horizon) (is : IsHorizon (two_plan T a b) h) where
-
   reads-two : (i n place m cell : ℕ) → ReadsAt (constants_of (two_plan T a b) h) i n place m cell → (i ≡ 1) × (place ≡ 0) × (m ≡ n) × (cell ≡ 0)
   reads-two zero n place m cell reads =
       absurd (write-end n place reads.action.0 reads.action.1 m cell
-        (sym (ap (λ (xs : List Action). get_or xs place actions.End) (actions-two-0 T a b fits n)) ∙ reads.action.2))
+      (sym (ap (λ (xs : List Action). get_or xs place actions.End) (actions-two-0 T a b fits n)) ∙ reads.action.2))
   reads-two (suc zero) n place m cell reads =
       (let e = read-reads n place reads.action.0 reads.action.1 m cell
-        (sym (ap (λ (xs : List Action). get_or xs place actions.End) (actions-two-1 T a b fits n)) ∙ reads.action.2) in
+      (sym (ap (λ (xs : List Action). get_or xs place actions.End) (actions-two-1 T a b fits n)) ∙ reads.action.2) in
       (refl, e.0, e.1, e.2))
   reads-two (suc (suc i)) n place m cell reads = absurd (let j : suc (suc i) < 2 = reads.job.task in omega (arith, j))
 
   writes-two : (i n place m cell : ℕ) → WritesAt (constants_of (two_plan T a b) h) i n place m cell → (i ≡ 0) × (place ≡ 0) × (m ≡ n) × (cell ≡ 0)
   writes-two zero n place m cell writes =
       (let e = write-writes n place writes.action.0 m cell
-        (sym (ap (λ (xs : List Action). get_or xs place actions.End) (actions-two-0 T a b fits n)) ∙ writes.action.1) in
+      (sym (ap (λ (xs : List Action). get_or xs place actions.End) (actions-two-0 T a b fits n)) ∙ writes.action.1) in
       (refl, e.0, e.1, e.2))
   writes-two (suc zero) n place m cell writes =
       absurd (read-end n place writes.action.0 m cell
-        (sym (ap (λ (xs : List Action). get_or xs place actions.End) (actions-two-1 T a b fits n)) ∙ writes.action.1))
+      (sym (ap (λ (xs : List Action). get_or xs place actions.End) (actions-two-1 T a b fits n)) ∙ writes.action.1))
   writes-two (suc (suc i)) n place m cell writes = absurd (let j : suc (suc i) < 2 = writes.job.task in omega (arith, j))
 
   positive-two : (i n : ℕ) → i < 2 → 1 ≤ deadline_at (two_plan T a b) i n
@@ -128,48 +124,51 @@ module _ (T a b : ℕ) (fits : AreInPeriod T a b) (h : Horizon) (is : IsHorizon 
   rising-two : (i m n : ℕ) → i < 2 → m < n → deadline_at (two_plan T a b) i m < deadline_at (two_plan T a b) i n
   rising-two zero m n task before =
       rw (deadline-two-0 T a b fits m, deadline-two-0 T a b fits n)
-        (let up : (m + 1) * T ≤ n * T = mul-le-mul_right T (let g : m + 1 ≤ n = omega arith in g) in
-        let e : (m + 1) * T ≡ m * T + T = omega arith in
-        let g : 1 ≤ T = fits.some in
-        omega (arith, up, e, g))
+      (let up : (m + 1) * T ≤ n * T = mul-le-mul_right T (let g : m + 1 ≤ n = omega arith in g) in
+      let e : (m + 1) * T ≡ m * T + T = omega arith in
+      let g : 1 ≤ T = fits.some in
+      omega (arith, up, e, g))
   rising-two (suc zero) m n task before =
       rw (deadline-two-1 T a b fits m, deadline-two-1 T a b fits n)
-        (let up : (m + 1) * T ≤ n * T = mul-le-mul_right T (let g : m + 1 ≤ n = omega arith in g) in
-        let e : (m + 1) * T ≡ m * T + T = omega arith in
-        let g : 1 ≤ T = fits.some in
-        omega (arith, up, e, g))
+      (let up : (m + 1) * T ≤ n * T = mul-le-mul_right T (let g : m + 1 ≤ n = omega arith in g) in
+      let e : (m + 1) * T ≡ m * T + T = omega arith in
+      let g : 1 ≤ T = fits.some in
+      omega (arith, up, e, g))
   rising-two (suc (suc i)) m n task before = absurd (omega arith)
 
   last-two : (i n place later : ℕ) → i < 2 → get_or (actions_of (two_plan T a b) i n) place actions.End ≡ actions.End → place < later →
       get_or (actions_of (two_plan T a b) i n) later actions.End ≡ actions.End
-  last-two zero n place later task = 
+  last-two zero n place later task =
       subst (λ (xs : List Action). get_or xs place actions.End ≡ actions.End → place < later → get_or xs later actions.End ≡ actions.End)
-        (sym (actions-two-0 T a b fits n)) (end-last (actions.Write (record { 0 = 0 }) n (record { 0 = 0 })) (λ e. cc) place later)
+      (sym (actions-two-0 T a b fits n)) (end-last (actions.Write (record { 0 = 0 }) n (record { 0 = 0 })) (λ e. cc) place later)
   last-two (suc zero) n place later task =
       subst (λ (xs : List Action). get_or xs place actions.End ≡ actions.End → place < later → get_or xs later actions.End ≡ actions.End)
-        (sym (actions-two-1 T a b fits n)) (end-last (actions.Read 0 (record { 0 = 0 }) n (record { 0 = 0 })) (λ e. cc) place later)
+      (sym (actions-two-1 T a b fits n)) (end-last (actions.Read 0 (record { 0 = 0 }) n (record { 0 = 0 })) (λ e. cc) place later)
   last-two (suc (suc i)) n place later task = absurd (omega arith)
 
   over-two : (j k i n : ℕ) → j ≡ 1 → i ≡ 0 → k < n → deadline_at (two_plan T a b) j k ≤ release_at (two_plan T a b) i n
   over-two j k i n one none before =
       rw (one, none, deadline-two-1 T a b fits k, release-two-0 T a b fits n)
-        (let up : (k + 1) * T ≤ n * T = mul-le-mul_right T (let g : k + 1 ≤ n = omega arith in g) in
-        let e : (k + 1) * T ≡ k * T + T = omega arith in
-        omega (arith, up, e))
+      (let up : (k + 1) * T ≤ n * T = mul-le-mul_right T (let g : k + 1 ≤ n = omega arith in g) in
+      let e : (k + 1) * T ≡ k * T + T = omega arith in
+      omega (arith, up, e))
 
   provided-two : (k m cell : ℕ) → k < job_count (task_at (two_plan T a b).graph 1) h.until → m ≡ k → cell ≡ 0 →
       Provides (constants_of (two_plan T a b) h) m cell 1 k 0 k 0
   provided-two k m cell job own in_cell = record {
-      writes = record {
-          job = record { task = lit< tt; job = job };
-          action = (record { 0 = 0 }, ap (λ (xs : List Action). get_or xs 0 actions.End) (actions-two-0 T a b fits k)
+    writes = record {
+      job = record { task = lit< tt; job = job };
+      action = (
+        record { 0 = 0 },
+        ap (λ (xs : List Action). get_or xs 0 actions.End) (actions-two-0 T a b fits k)
             ∙ ap (λ (x : ℕ). actions.Write (record { 0 = 0 }) x (record { 0 = 0 })) (sym own)
-            ∙ ap (λ (x : ℕ). actions.Write (record { 0 = 0 }) m (record { 0 = x })) (sym in_cell))
-        };
-      release = rw (release-two-0 T a b fits k, release-two-1 T a b fits k) (omega arith);
-      deadline = rw (deadline-two-0 T a b fits k, deadline-two-1 T a b fits k)
-        (let f : a + b ≤ T = fits.together in let g : 1 ≤ b = fits.some_out in omega (arith, f, g))
-    }
+            ∙ ap (λ (x : ℕ). actions.Write (record { 0 = 0 }) m (record { 0 = x })) (sym in_cell),
+      );
+    };
+    release = rw (release-two-0 T a b fits k, release-two-1 T a b fits k) (omega arith);
+    deadline = rw (deadline-two-0 T a b fits k, deadline-two-1 T a b fits k)
+        (let f : a + b ≤ T = fits.together in let g : 1 ≤ b = fits.some_out in omega (arith, f, g));
+  }
 
   period-two : (i : ℕ) → i < 2 → 1 ≤ (task_at (two_plan T a b).graph i).clock.period
   period-two zero task = fits.some
@@ -178,22 +177,26 @@ module _ (T a b : ℕ) (fits : AreInPeriod T a b) (h : Horizon) (is : IsHorizon 
 
   pub two-facts : HasPlanFacts (constants_of (two_plan T a b) h)
   two-facts = record {
-      positive = λ i n job. positive-two i n job.task;
-      within = λ i n job. is.end.above i n (IsHorizonJob-count (two_plan T a b).graph h.until i n job.task (period-two i job.task) job.job);
-      rising = λ i m n job before. rising-two i m n job.task before;
-      last = λ i n place later job ends before. last-two i n place later job.task ends before;
-      read_cell = λ i n place m cell reads. (let e = reads-two i n place m cell reads in omega (arith, e.3));
-      write_cell = λ i n place m cell writes. (let e = writes-two i n place m cell writes in omega (arith, e.3));
-      own = λ i n place m cell writes. (writes-two i n place m cell writes).2;
-      writer = λ i n place m j k other l cell first second.
+    positive = λ i n job. positive-two i n job.task;
+    within = λ i n job. is.end.above i n (IsHorizonJob-count (two_plan T a b).graph h.until i n job.task (period-two i job.task) job.job);
+    rising = λ i m n job before. rising-two i m n job.task before;
+    last = λ i n place later job ends before. last-two i n place later job.task ends before;
+    read_cell = λ i n place m cell reads. (let e = reads-two i n place m cell reads in omega (arith, e.3));
+    write_cell = λ i n place m cell writes. (let e = writes-two i n place m cell writes in omega (arith, e.3));
+    own = λ i n place m cell writes. (writes-two i n place m cell writes).2;
+    writer = λ i n place m j k other l cell first second.
         (writes-two i n place m cell first).0 ∙ sym (writes-two j k other l cell second).0;
-      once = λ i n place m other l cell first second.
+    once = λ i n place m other l cell first second.
         (writes-two i n place m cell first).1 ∙ sym (writes-two i n other l cell second).1;
-      provided = λ j k place m cell reads.
-        (let e = reads-two j k place m cell reads in
-        (0, k, 0, subst (λ (x : ℕ). Provides (constants_of (two_plan T a b) h) m cell x k 0 k 0) (sym e.0)
-          (provided-two k m cell (subst (λ (x : ℕ). k < job_count (task_at (two_plan T a b).graph x) h.until) e.0 reads.job.job) e.2 e.3)));
-      over = λ j k place m i n written l cell reads writes before.
+    provided = λ j k place m cell reads.
+        (let e = reads-two j k place m cell reads in (
+          0,
+          k,
+          0,
+          subst (λ (x : ℕ). Provides (constants_of (two_plan T a b) h) m cell x k 0 k 0) (sym e.0)
+              (provided-two k m cell (subst (λ (x : ℕ). k < job_count (task_at (two_plan T a b).graph x) h.until) e.0 reads.job.job) e.2 e.3),
+        ));
+    over = λ j k place m i n written l cell reads writes before.
         over-two j k i n (reads-two j k place m cell reads).0 (writes-two i n written l cell writes).0
-          (let e = reads-two j k place m cell reads in let f = writes-two i n written l cell writes in omega (arith, e.2, f.2, before))
-    }
+        (let e = reads-two j k place m cell reads in let f = writes-two i n written l cell writes in omega (arith, e.2, f.2, before));
+  }

@@ -60,7 +60,7 @@ pub record AreLeastCells (graph : TaskGraph) (windows : List (List Window)) (bas
   pub lengths : (length bases ≡ length graph.edges) × (length counts ≡ length graph.edges) × (length used ≡ length graph.edges)
   pub cells : (e : ℕ) (edge : Edge) → slice_get graph.edges e ≡ Some edge →
       HasCells edge edge.from (encoded_release graph windows) (encoded_deadline graph windows)
-        (sum (take e counts)) (slice_index bases e) (slice_index counts e) (slice_index_or used e no_used)
+      (sum (take e counts)) (slice_index bases e) (slice_index counts e) (slice_index_or used e no_used)
 
 -- The place of instance m among the used ones, if it is one: it is at most m, since they rise.
 abbrev pub place_up_to : Used → ℕ → ℕ → Option ℕ

@@ -1,5 +1,5 @@
 -- Well-formed task graphs.
-use Rattle.std.specs.Prelude.{◌≡◌, ◌≢◌, ◌+◌, ◌*◌, ◌≤◌, ◌<◌, ◌^◌, ◌++◌, ◌⊎◌, ℕ, ℤ, pos, ◌≤ℤ◌, Bool, true, false, List, [], ◌∷◌, map, length, Some, slice_get, nat_abs}
+use Rattle.std.specs.Prelude.{◌≡◌, ◌≢◌, ◌+◌, ◌*◌, ◌≤◌, ◌<◌, ◌^◌, ◌++◌, ◌⊎◌, ℕ, pos, ◌≤ℤ◌, Bool, true, false, List, [], ◌∷◌, map, length, Some, slice_get, nat_abs}
 use Rattle.std.specs.Fmt.{decimal}
 use Rattle.prl_base.specs.Names.{IsName}
 use Rattle.prl_base.specs.Values.{type_of}
@@ -90,7 +90,7 @@ pub record IsEdge (graph : TaskGraph) (edge : Edge) : Type 0 where
   pub to : edge.to.0 < length graph.tasks
   pub receives : is_sensor (task_at graph edge.to.0).kind ≡ false
   pub clocks : (clock : Clock) × (clock.period ≡ edge.period) × IsSource graph edge clock edge.from
-    × TakeClock graph.hyper edge.ops clock (task_at graph edge.to.0).clock
+      × TakeClock graph.hyper edge.ops clock (task_at graph edge.to.0).clock
   pub operators : (k : ℕ) (op : Op) → slice_get edge.ops k ≡ Some op → IsOperatorFor edge.ty op
   pub few : length edge.ops < 2 ^ 32
 

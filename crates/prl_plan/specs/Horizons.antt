@@ -49,11 +49,11 @@ IsPastLimit plan until limit = IsPast plan until limit.what limit.found
 -- what stays the same over a run of a plan in a horizon
 abbrev pub constants_of : PlanView → Horizon → RunConstants
 constants_of plan horizon = record {
-    tasks = length plan.graph.tasks;
-    cells = sum plan.counts;
-    jobs = λ i. job_count (task_at plan.graph i) horizon.until;
-    release = release_at plan;
-    deadline = deadline_at plan;
-    actions = actions_of plan;
-    end = horizon.end
-  }
+  tasks = length plan.graph.tasks;
+  cells = sum plan.counts;
+  jobs = λ i. job_count (task_at plan.graph i) horizon.until;
+  release = release_at plan;
+  deadline = deadline_at plan;
+  actions = actions_of plan;
+  end = horizon.end;
+}

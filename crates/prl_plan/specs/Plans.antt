@@ -1,5 +1,5 @@
 -- Plans: a task graph with its encoded dates and its cells, and what its jobs do in a horizon.
-use Rattle.std.specs.Prelude.{◌≡◌, ◌+◌, ◌*◌, ◌/◌, ◌%◌, ◌==◌, ◌<◌, ◌≤◌, ◌^◌, ◌++◌, ℕ, zero, suc, ℤ, pos, nat_abs, List, [], ◌∷◌, length, sum, Option, Some, None, is_some, unwrap_or, slice_index, slice_index_or, if◌then◌else◌, ◌⊎◌}
+use Rattle.std.specs.Prelude.{◌+◌, ◌%◌, ◌==◌, ◌<◌, ◌^◌, ◌++◌, ℕ, pos, nat_abs, List, [], ◌∷◌, Option, is_some, unwrap_or, slice_index, slice_index_or, if◌then◌else◌}
 use Rattle.prl_base.specs.declared.values.Ty.TheVariants as types
 use Rattle.prl_base.specs.declared.values.Value.TheVariants as values
 use Rattle.prl_plan.specs.declared.events.Action.{Action}
@@ -13,11 +13,9 @@ use Rattle.prl_plan.specs.declared.walks.Operand.TheVariants as operands
 use Rattle.prl_plan.specs.declared.tables.Window.{Window}
 use Rattle.prl_plan.specs.declared.tables.Used.{Used}
 use Rattle.prl_plan.specs.Graphs.{IsWellFormed}
-use Rattle.prl_plan.specs.Jobs.{task_at, job_count, IsHorizonJob}
 use Rattle.prl_plan.specs.Operands.{operand_of}
 use Rattle.prl_plan.specs.Dates.{AreEncodedDates, encoded_release, encoded_deadline}
 use Rattle.prl_plan.specs.Cells.{AreLeastCells, place_of, no_used}
-use Rattle.prl_plan.specs.Runs.{RunConstants}
 
 -- what is known of a plan
 pub record PlanView : Type 0 where

@@ -1,5 +1,5 @@
 -- Periodic precedence: which job of a producer comes before which job of a consumer, over all whole numbers.
-use Rattle.std.specs.Prelude.{◌≡◌, ◌+◌, ◌*◌, ◌/◌, ℕ, ℤ, pos, negsuc, ◌*ℤ◌, List, [], ◌∷◌, Some, slice_get}
+use Rattle.std.specs.Prelude.{◌≡◌, ◌/◌, ℕ, ℤ, pos, negsuc, ◌*ℤ◌, List, [], ◌∷◌, Some, slice_get}
 use lib.IntN.{suc_ℤ, pred_ℤ}
 use Rattle.prl_base.specs.declared.operators.Op.{Op}
 use Rattle.prl_base.specs.declared.operators.Op.TheVariants as operators

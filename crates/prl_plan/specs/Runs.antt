@@ -1,5 +1,5 @@
 -- The state of an executive, and what events make of it.
-use Rattle.std.specs.Prelude.{◌≡◌, ◌+◌, ℕ, zero, suc, List, [], ◌∷◌, replicate, slice_index, slice_index_or, slice_set}
+use Rattle.std.specs.Prelude.{◌+◌, ℕ, List, [], ◌∷◌, replicate, slice_index, slice_index_or, slice_set}
 use Rattle.prl_plan.specs.declared.events.Action.{Action}
 use Rattle.prl_plan.specs.declared.events.Action.TheVariants as actions
 use Rattle.prl_plan.specs.declared.events.Event.{Event}

@@ -18,13 +18,13 @@ pub record AreInPeriod (period wcet_in wcet_out : ℕ) : Type 0 where
 -- the sensor task is called `i` and the actuator task `o`
 abbrev pub two_graph : ℕ → ℕ → ℕ → TaskGraph
 two_graph period wcet_in wcet_out = record {
-    tasks =
+  tasks =
       record { name = codes "i"; kind = kinds.Sensor 0; clock = record { period = period; start = 0 }; wcet = wcet_in; due = period }
-        ∷ record { name = codes "o"; kind = kinds.Actuator 0; clock = record { period = period; start = 0 }; wcet = wcet_out; due = period }
-        ∷ [];
-    edges = record { from = producers.Port (record { 0 = 0 }) 0; to = record { 0 = 1 }; port = 0; ops = []; period = period; ty = types.Int } ∷ [];
-    hyper = period
-  }
+      ∷ record { name = codes "o"; kind = kinds.Actuator 0; clock = record { period = period; start = 0 }; wcet = wcet_out; due = period }
+      ∷ [];
+  edges = record { from = producers.Port (record { 0 = 0 }) 0; to = record { 0 = 1 }; port = 0; ops = []; period = period; ty = types.Int } ∷ [];
+  hyper = period;
+}
 
 abbrev pub two_windows : ℕ → ℕ → ℕ → List (List Window)
 two_windows period wcet_in wcet_out =
@@ -32,12 +32,12 @@ two_windows period wcet_in wcet_out =
 
 abbrev pub two_plan : ℕ → ℕ → ℕ → PlanView
 two_plan period wcet_in wcet_out = record {
-    graph = two_graph period wcet_in wcet_out;
-    windows = two_windows period wcet_in wcet_out;
-    bases = 0 ∷ [];
-    counts = 1 ∷ [];
-    used = record { first = 0; gaps = 1 ∷ [] } ∷ []
-  }
+  graph = two_graph period wcet_in wcet_out;
+  windows = two_windows period wcet_in wcet_out;
+  bases = 0 ∷ [];
+  counts = 1 ∷ [];
+  used = record { first = 0; gaps = 1 ∷ [] } ∷ [];
+}
 
 -- the plan is one of two tasks
 abbrev pub IsTwo : PlanView → Type 0

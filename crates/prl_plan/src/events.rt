@@ -16,7 +16,10 @@ pub enum Event {
 #[derive(Clone, Copy, Debug, PartialEq, Eq)]
 pub enum Action {
     /// It takes a constant at a port.
-    ReadConst { port: u32, value: Value },
+    ReadConst {
+        port: u32,
+        value: Value,
+    },
     /// It reads an instance of an edge at a port, from a cell.
     Read {
         port: u32,

@@ -32,9 +32,7 @@ impl Horizon {
     /// The horizon of the plan up to a tick. A horizon of more than 200,000 jobs is refused, and then one of more than
     /// 1,000,000 events. Takes no memory.
     pub fn new(plan: &Plan, until: u32) -> Result<Horizon, Limit>
-        ensures {
-            MatchResult result (λ horizon. IsHorizon plan.now horizon × (horizon.until ≡ until)) (IsPastLimit plan.now until)
-        }
+        ensures { MatchResult result (λ horizon. IsHorizon plan.now horizon × (horizon.until ≡ until)) (IsPastLimit plan.now until) }
     {
         plan.is_two();
         let (each, end) = plan.jobs_and_end(until);
@@ -72,12 +70,9 @@ impl Horizon {
 
 /// The horizon jobs of a task are those whose number is below their count.
 pub fn horizon_jobs_are_counted()
-    ensures {
-        (graph : Graph) (until i n : ℕ) → i < length graph.tasks → 0 < (task_at graph i).clock.period →
-        IsHorizonJob graph until i n ↔ (n < job_count (task_at graph i) until)
-    }
-{
-}
+    ensures { (graph : Graph) (until i n : ℕ) → i < length graph.tasks → 0 < (task_at graph i).clock.period →
+        IsHorizonJob graph until i n ↔ (n < job_count (task_at graph i) until) }
+{}
 
 /// What the jobs of a plan keep in each of its horizons.
 pub fn plan_facts(plan: &Plan, horizon: Horizon)

@@ -14,7 +14,9 @@ mod walks;
 pub use events::{Action, Event, Rule};
 pub use graphs::{Edge, Kind, Producer, Task, TaskGraph};
 pub use horizons::{Horizon, horizon_jobs_are_counted, plan_facts};
-pub use laws::{gated_list_keeps_cells, legal_list_is_gated, run_of_two_lists, write_finds_cell_free};
+pub use laws::{
+    gated_list_keeps_cells, legal_list_is_gated, run_of_two_lists, write_finds_cell_free,
+};
 pub use plans::Plan;
 pub use tables::{Used, Window};
 pub use walks::{Operand, operand_by_walk, walk_back};

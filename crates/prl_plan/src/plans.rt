@@ -43,9 +43,7 @@ fn make_task(
     period: u64,
     wcet: u32,
 ) -> Result<Task, AllocError>
-    ensures {
-        IfOk result (λ task. task ≡ record { name = name.now; kind = kind; clock = record { period = period; start = 0 }; wcet = wcet; due = period })
-    }
+    ensures { IfOk result (λ task. task ≡ record { name = name.now; kind = kind; clock = record { period = period; start = 0 }; wcet = wcet; due = period }) }
 {
     Ok(Task {
         name: Label::new(alloc, name)?,
@@ -59,12 +57,7 @@ fn make_task(
 impl Plan {
     /// The plan of a sensor task `i` and an actuator task `o` on the clock of this period, in ticks, from 0 on, with one
     /// edge between them and one cell. The WCETs are in ticks.
-    pub fn two(
-        alloc: Global,
-        period: u64,
-        wcet_in: u32,
-        wcet_out: u32,
-    ) -> Result<Plan, AllocError>
+    pub fn two(alloc: Global, period: u64, wcet_in: u32, wcet_out: u32) -> Result<Plan, AllocError>
         requires { AreInPeriod period wcet_in wcet_out }
         ensures value { IfOk result (λ plan. plan ≡ two_plan period wcet_in wcet_out) }
         ensures plan { IfOk result IsPlan }

@@ -6,4 +6,4 @@ use Rattle.prl_plan.proofs.laws.write_finds_cell_free.Goals as goal
 pub returns : goal.returns
 returns c = λ k facts list gated i e m cell has released is j n place l reads holds.
     write_finds_free k facts (after_events k (opening k) list) (IsGated-sound k facts (opening k) (sound-opening k facts) list gated)
-      i e m cell has released is j n place l reads holds
+    i e m cell has released is j n place l reads holds
