@@ -3,3 +3,4 @@ pub mod Names
 pub mod Clocks
 pub mod Ratios
 pub mod Reading
+pub mod Decimals

@@ -3,6 +3,7 @@
 //! layers name tasks, edges, cells and flows. It stands on nothing but `std`.
 #![tactic(auto)]
 
+mod decimals;
 mod limits;
 mod names;
 mod numbers;
@@ -12,6 +13,7 @@ mod ratios;
 mod seqs;
 mod values;
 
+pub use decimals::{are_digits, decimal_of, integer_of, negative, positive};
 pub use limits::{Limit, What};
 pub use names::{Label, Name, NameFault, is_word, is_word_byte, is_word_start};
 pub use numbers::{CellNo, EdgeNo, FlowNo, TaskNo};

@@ -1,0 +1,4 @@
+pub mod Words
+pub mod OptionViews
+pub mod Thin
+pub mod Rows

@@ -1,0 +1,73 @@
+-- The words of the command line.
+use Rattle.std.specs.Prelude.{◌≡◌, ◌==◌, ◌&&◌, ℕ, Bool, false, not, List, [], ◌∷◌, length, Option, Some, None, Result, Ok, Err, nat_le, if◌then◌else◌, codes}
+use Rattle.std.specs.Str.{bytes_eq}
+use Rattle.std.specs.Str.Parse.{digits_value}
+use Rattle.prl_base.specs.Decimals.{are_digits, decimal_of}
+use Rattle.prl_app.specs.declared.words.Mode.TheVariants.{Flows}
+use Rattle.prl_app.specs.declared.words.Command.{Command}
+use Rattle.prl_app.specs.declared.words.WordsFault.{WordsFault}
+use Rattle.prl_app.specs.declared.words.WordsFault.TheVariants as faults
+
+infixl 10 ◌>>=◌
+abbrev pub ◌>>=◌ : {A B : Type 0} → Option A → (A → Option B) → Option B
+None >>= f = None
+(Some x) >>= f = f x
+
+-- the value of an option is not empty and does not begin with `-`
+abbrev pub is_value : List ℕ → Bool
+is_value [] = false
+is_value (b ∷ bs) = not (b == 45)
+
+-- a number of 1 to 20 digits that is at most so much
+abbrev pub number_up_to : ℕ → List ℕ → Option ℕ
+number_up_to most text = do
+  number ← decimal_of text
+  if nat_le (length text) 20 && nat_le number most then Some number else None
+
+-- an option of this name at the front, in two words: its value, and the words behind it
+abbrev pub option_at : List ℕ → List (List ℕ) → Option (List ℕ × List (List ℕ))
+option_at name (word ∷ value ∷ rest) = if bytes_eq word name && is_value value then Some (value, rest) else None
+option_at name (word ∷ []) = None
+option_at name [] = None
+
+-- what the words of mode `flows` name
+pub record FlowsWords : Type 0 where
+  pub program : List ℕ
+  pub sensors : List ℕ
+  pub until : ℕ
+
+abbrev pub at_end : {A : Type 0} → A → List (List ℕ) → Option A
+at_end x [] = Some x
+at_end x (word ∷ words) = None
+
+-- `--program NAME --sensors NAME --until N`, and no more
+unfoldable pub flows_at : List (List ℕ) → Option FlowsWords
+flows_at words = do
+  program ← option_at (codes "--program") words
+  sensors ← option_at (codes "--sensors") program.1
+  until ← option_at (codes "--until") sensors.1
+  number ← number_up_to 2147483647 until.0
+  at_end (record { program = program.0; sensors = sensors.0; until = number }) until.1
+
+-- the program's own name, the mode, and what the mode asks for
+abbrev pub flows_words : List (List ℕ) → Option FlowsWords
+flows_words (own ∷ mode ∷ rest) = if bytes_eq mode (codes "flows") then flows_at rest else None
+flows_words (own ∷ []) = None
+flows_words [] = None
+
+abbrev pub flows_command : Option FlowsWords → Option Command
+flows_command None = None
+flows_command (Some w) = Some (record { mode = Flows; program = Some w.program; sensors = Some w.sensors; until = w.until })
+
+-- the command that the words ask for, if they are of the form of one
+abbrev pub command_of : List (List ℕ) → Option Command
+command_of words = flows_command (flows_words words)
+
+-- words that are no command are refused; want of memory is free
+abbrev pub meaning_of : Option Command → Result Command WordsFault
+meaning_of None = Err faults.Refused
+meaning_of (Some command) = Ok command
+
+abbrev pub words_fault : WordsFault → Option WordsFault
+words_fault faults.Refused = Some faults.Refused
+words_fault faults.Memory = None

@@ -1,0 +1,57 @@
+-- Flows by instance: the values that each operator makes, by their numbers.
+use Rattle.std.specs.Prelude.{◌≡◌, ◌+◌, ◌-◌, ◌*◌, ◌/◌, ◌<◌, ◌≤◌, ℕ, List, ◌∷◌, length, Option, slice_get}
+use Rattle.prl_base.specs.Clocks.{IsClock}
+use Rattle.prl_base.specs.declared.operators.Clock.{Clock}
+use Rattle.prl_base.specs.declared.operators.Op.{Op}
+use Rattle.prl_base.specs.declared.operators.Op.TheVariants as operators
+use Rattle.prl_base.specs.declared.values.Value.{Value}
+use Rattle.prl_flow.specs.declared.programs.Def.{Def}
+use Rattle.prl_flow.specs.declared.programs.Def.TheVariants as definitions
+use Rattle.prl_flow.specs.Counts.{dates_before}
+use Rattle.prl_flow.specs.Flows.{IsUpTo, IsResultClock}
+use Rattle.prl_flow.specs.Rows.{Rows, rows_of}
+use Rattle.prl_flow.specs.Solutions.{values_of, clock_of}
+
+-- the value of an operator's instance `j`, from the values of the flow that it stands on
+abbrev pub instance_of_operator : Op → List Value → ℕ → Option Value
+instance_of_operator (operators.Fby c) values j = slice_get (c ∷ values) j
+instance_of_operator (operators.Cons c) values j = slice_get (c ∷ values) j
+instance_of_operator operators.Tail values j = slice_get values (j + 1)
+instance_of_operator (operators.Up k) values j = slice_get values (j / k)
+instance_of_operator (operators.Down k) values j = slice_get values (j * k)
+instance_of_operator (operators.Shift q) values j = slice_get values j
+
+-- these are the values of the first `count` instances
+pub record AreFirst (instance : ℕ → Option Value) (count : ℕ) (values : List Value) : Type 0 where
+  pub number : length values ≡ count
+  pub each : (j : ℕ) → j < count → slice_get values j ≡ instance j
+
+-- the denominator of a shift is not 0
+abbrev pub IsDenominated : Op → Type 0
+IsDenominated (operators.Fby c) = Unit {0}
+IsDenominated (operators.Cons c) = Unit {0}
+IsDenominated operators.Tail = Unit {0}
+IsDenominated (operators.Up k) = Unit {0}
+IsDenominated (operators.Down k) = Unit {0}
+IsDenominated (operators.Shift q) = 1 ≤ q.den
+
+-- the flow that the operator stands on has a value for each of the first `count` instances
+abbrev pub HasEnough : Op → List Value → ℕ → Type 0
+HasEnough (operators.Fby c) values count = count ≤ length values + 1
+HasEnough (operators.Cons c) values count = count ≤ length values + 1
+HasEnough operators.Tail values count = count ≤ length values - 1
+HasEnough (operators.Up k) values count = (1 ≤ k) × (count ≤ length values * k)
+HasEnough (operators.Down k) values count = (j : ℕ) → j < count → j * k < length values
+HasEnough (operators.Shift q) values count = count ≤ length values
+
+-- what a flow on the clock `c` is made of is there: the rows, or the other flow up to the date `until`
+abbrev pub HasSource : List Clock → Rows → ℕ → List (List Value) → Clock → Def → Type 0
+HasSource clocks rows until flows c (definitions.Sensor k) = dates_before until c ≤ length (rows_of rows k)
+HasSource clocks rows until flows c (definitions.Copy of) =
+    (of.0 < length flows) × IsUpTo until c (values_of flows of.0)
+HasSource clocks rows until flows c (definitions.Const v) = Unit {0}
+HasSource clocks rows until flows c (definitions.Op op of) =
+    (of.0 < length flows)
+    × IsClock (clock_of clocks of.0)
+    × IsResultClock op (clock_of clocks of.0) c
+    × IsUpTo until (clock_of clocks of.0) (values_of flows of.0)

@@ -1,0 +1,71 @@
+-- Flat programs.
+use Rattle.std.specs.Prelude.{◌≡◌, ◌≤◌, ◌<◌, ◌^◌, ◌++◌, ℕ, pos, ◌≤ℤ◌, List, [], length, Some, slice_get, slice_index_or}
+use Rattle.prl_base.specs.Values.{type_of}
+use Rattle.prl_base.specs.declared.values.Ty.{Ty}
+use Rattle.prl_base.specs.declared.operators.Op.{Op}
+use Rattle.prl_base.specs.declared.operators.Op.TheVariants as operators
+use Rattle.prl_base.specs.declared.numbers.FlowNo.{FlowNo}
+use Rattle.prl_flow.specs.declared.programs.Def.{Def}
+use Rattle.prl_flow.specs.declared.programs.Def.TheVariants as definitions
+use Rattle.prl_flow.specs.declared.programs.Flow.{Flow}
+
+-- a device: its name and its WCET in ticks
+abbrev pub Device : Type 0
+Device = List ℕ × ℕ
+
+-- flows, which of them are main's inputs and outputs, and the devices of these
+pub record FlatProgram : Type 0 where
+  pub flows : List Flow
+  pub ins : List FlowNo
+  pub outs : List FlowNo
+  pub in_devices : List Device
+  pub out_devices : List Device
+
+abbrev pub name_of : List Device → ℕ → List ℕ
+name_of devices k = (slice_index_or devices k ([], 0)).0
+
+abbrev pub wcet_of : List Device → ℕ → ℕ
+wcet_of devices k = (slice_index_or devices k ([], 0)).1
+
+-- a factor, a WCET or a period: 1 to 2^31 - 1
+abbrev pub IsFactor : ℕ → Type 0
+IsFactor k = (1 ≤ k) × (k < 2 ^ 31)
+
+-- the operator may stand on a flow of this type
+abbrev pub FitsType : Ty → Op → Type 0
+FitsType ty (operators.Fby c) = type_of c ≡ ty
+FitsType ty (operators.Cons c) = type_of c ≡ ty
+FitsType ty operators.Tail = Unit {0}
+FitsType ty (operators.Up k) = IsFactor k
+FitsType ty (operators.Down k) = IsFactor k
+FitsType ty (operators.Shift q) = pos 0 ≤ℤ q.num
+
+-- the flow of this number has the type
+abbrev pub HasType : FlatProgram → Ty → FlowNo → Type 0
+HasType p ty flow = (f : Flow) × (slice_get p.flows flow.0 ≡ Some f) × (f.ty ≡ ty)
+
+-- what a definition of the flow i, of type ty, needs: the numbers that it names are there, and the types agree
+abbrev pub IsWellDefined : FlatProgram → ℕ → Ty → Def → Type 0
+IsWellDefined p i ty (definitions.Sensor k) = slice_get p.ins k ≡ Some (record { 0 = i })
+IsWellDefined p i ty (definitions.Copy of) = HasType p ty of
+IsWellDefined p i ty (definitions.Const c) = type_of c ≡ ty
+IsWellDefined p i ty (definitions.Op op of) = HasType p ty of × FitsType ty op
+
+-- the k-th input is the flow of the k-th sensor
+abbrev pub IsInput : FlatProgram → ℕ → FlowNo → Type 0
+IsInput p k flow = (f : Flow) × (slice_get p.flows flow.0 ≡ Some f) × (f.def ≡ definitions.Sensor k)
+
+-- the devices have names of their own and WCETs
+abbrev pub AreDevices : List Device → Type 0
+AreDevices devices =
+    ((k : ℕ) (d : Device) → slice_get devices k ≡ Some d → IsFactor d.1)
+    × ((j k : ℕ) (c d : Device) → slice_get devices j ≡ Some c → slice_get devices k ≡ Some d → c.0 ≡ d.0 → j ≡ k)
+
+pub record IsFlat (p : FlatProgram) : Type 0 where
+  pub in_count : length p.in_devices ≡ length p.ins
+  pub out_count : length p.out_devices ≡ length p.outs
+  pub devices : AreDevices (p.in_devices ++ p.out_devices)
+  pub flows : (i : ℕ) (flow : Flow) → slice_get p.flows i ≡ Some flow → IsWellDefined p i flow.ty flow.def
+  pub ins : (k : ℕ) (flow : FlowNo) → slice_get p.ins k ≡ Some flow → IsInput p k flow
+  pub outs : (k : ℕ) (flow : FlowNo) → slice_get p.outs k ≡ Some flow → flow.0 < length p.flows
+  pub few : length p.flows < 2 ^ 32

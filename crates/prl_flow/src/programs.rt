@@ -1,0 +1,158 @@
+//! Flat programs and the clocks of their flows.
+
+ghost use Rattle.std.specs.Prelude.{◌≡◌, ◌<◌, length};
+ghost use Rattle.prl_flow.specs.Programs.{name_of, wcet_of, IsFlat};
+
+use prl_base::{Clock, FlowNo, Label, Name, Op, Seq, Span, Ty, Value};
+use std::marker::Model;
+
+/// How a flow of a flat program is defined.
+#[derive(Clone, Copy, Debug, PartialEq, Eq)]
+pub enum Def {
+    /// The rows of main's input of this number.
+    Sensor(u32),
+    /// The values of another flow.
+    Copy(FlowNo),
+    /// One value at each date.
+    Const(Value),
+    /// An operator on another flow.
+    Op { op: Op, of: FlowNo },
+}
+
+/// A flow of a flat program.
+#[derive(Debug, Drop)]
+pub struct Flow {
+    /// Its name in the program, or a made one.
+    pub label: Label,
+    pub ty: Ty,
+    pub def: Def,
+    /// Where it stands in the source text.
+    pub at: Span,
+}
+
+/// A flat program: its flows, and which of them are main's inputs and outputs, in order. A device of an
+/// input is a sensor and one of an output an actuator: a name and a WCET in ticks. Contracts see a
+/// `FlatProgram`.
+#[derive(Debug, Drop)]
+pub struct Flat {
+    pub flows: Seq<Flow>,
+    pub ins: Seq<FlowNo>,
+    pub outs: Seq<FlowNo>,
+    in_devices: Vec<(Name, u32)>,
+    out_devices: Vec<(Name, u32)>,
+}
+
+impl Model for Flat {
+    ghost use Rattle.prl_flow.specs.Programs.{FlatProgram, IsFlat};
+
+    ghost Value = { FlatProgram };
+
+    ghost view = { λ f. record {
+      flows = f.flows;
+      ins = f.ins;
+      outs = f.outs;
+      in_devices = f.in_devices.items;
+      out_devices = f.out_devices.items;
+    } };
+
+    ghost invariant = { λ f. IsFlat (record {
+      flows = f.flows;
+      ins = f.ins;
+      outs = f.outs;
+      in_devices = f.in_devices.items;
+      out_devices = f.out_devices.items;
+    }) };
+}
+
+impl Flat {
+    /// The flat program of these lists. Takes no memory.
+    pub fn new(
+        flows: Seq<Flow>,
+        ins: Seq<FlowNo>,
+        outs: Seq<FlowNo>,
+        in_devices: Vec<(Name, u32)>,
+        out_devices: Vec<(Name, u32)>,
+    ) -> Flat
+        requires { IsFlat (record { flows = flows; ins = ins; outs = outs; in_devices = in_devices.items; out_devices = out_devices.items }) }
+        ensures { result ≡ record { flows = flows; ins = ins; outs = outs; in_devices = in_devices.items; out_devices = out_devices.items } }
+    {
+        Flat {
+            flows,
+            ins,
+            outs,
+            in_devices,
+            out_devices,
+        }
+    }
+
+    /// The flows, in order.
+    pub fn flows(&self) -> &[Flow]
+        ensures flows { result.now ≡ self.now.flows }
+        ensures well_formed { IsFlat self.now }
+    {
+        self.flows.as_slice()
+    }
+
+    /// The flows that are main's inputs, in order.
+    pub fn ins(&self) -> &[FlowNo]
+        ensures { result.now ≡ self.now.ins }
+    {
+        self.ins.as_slice()
+    }
+
+    /// The flows that are main's outputs, in order.
+    pub fn outs(&self) -> &[FlowNo]
+        ensures { result.now ≡ self.now.outs }
+    {
+        self.outs.as_slice()
+    }
+
+    /// The name of main's input `k`.
+    pub fn in_name(&self, k: u32) -> &Name
+        requires { k < length self.now.ins }
+        ensures { result.now ≡ name_of self.now.in_devices k }
+    {
+        let (name, _) = &self.in_devices[k as usize];
+        name
+    }
+
+    /// The WCET of the sensor of main's input `k`, in ticks.
+    pub fn in_wcet(&self, k: u32) -> u32
+        requires { k < length self.now.ins }
+        ensures { result ≡ wcet_of self.now.in_devices k }
+    {
+        self.in_devices[k as usize].1
+    }
+
+    /// The name of main's output `k`.
+    pub fn out_name(&self, k: u32) -> &Name
+        requires { k < length self.now.outs }
+        ensures { result.now ≡ name_of self.now.out_devices k }
+    {
+        let (name, _) = &self.out_devices[k as usize];
+        name
+    }
+
+    /// The WCET of the actuator of main's output `k`, in ticks.
+    pub fn out_wcet(&self, k: u32) -> u32
+        requires { k < length self.now.outs }
+        ensures { result ≡ wcet_of self.now.out_devices k }
+    {
+        self.out_devices[k as usize].1
+    }
+}
+
+/// The clocks of the flows of a flat program, in the order of the flows.
+#[derive(Debug, Drop)]
+pub struct Clocks {
+    pub of: Seq<Clock>,
+}
+
+/// The values of an actuator's flow, one for each date of its clock, in order.
+#[derive(Debug, Drop)]
+pub struct OutFlow {
+    /// The actuator.
+    pub name: Name,
+    pub clock: Clock,
+    pub values: Seq<Value>,
+}

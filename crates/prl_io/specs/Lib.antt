@@ -1,0 +1,5 @@
+pub mod Folders
+pub mod Growth
+pub mod Numbering
+pub mod MemFolders
+pub mod MemStores

@@ -1,0 +1,69 @@
+//! Files of the host.
+
+ghost use Rattle.std.specs.Prelude.{◌≡◌, ◌+◌, None};
+
+use super::fault_count::FaultCount;
+use super::reading::{FileFault, Files};
+use prl_base::Label;
+use std::alloc::Global;
+use std::fs::File;
+use std::io;
+use std::io::{ErrorKind, Read};
+use std::rt::Runtime;
+
+/// The files of the host, by their paths. Their contents are not known. A fault is each error but a
+/// missing file and want of memory, and a name that is not UTF-8.
+#[derive(Drop)]
+pub struct HostFiles<'a, R: Runtime> {
+    rt: &'a R,
+    count: FaultCount,
+}
+
+impl<'a, R: Runtime> HostFiles<'a, R> {
+    /// The files that this runtime reaches. It takes no memory.
+    pub fn new(rt: &'a R) -> HostFiles<'a, R>
+        ensures { ⟦<HostFiles<'a, R> as Files>⟧.faults result ≡ 0 }
+    {
+        HostFiles {
+            rt,
+            count: FaultCount::new(),
+        }
+    }
+
+    fn fault(&mut self) -> FileFault
+        ensures { self.new.count.total ≡ self.old.count.total + 1 }
+    {
+        self.count = FaultCount::one_more(&self.count);
+        FileFault::Failed
+    }
+}
+
+/// The bytes of the file, up to one more than `most`.
+fn bytes_of<F: Read + Drop>(alloc: Global, file: F, most: u64) -> io::Result<Vec<u8>> {
+    let mut bytes = Vec::new(alloc);
+    file.take(most.saturating_add(1)).read_to_end(&mut bytes)?;
+    Ok(bytes)
+}
+
+impl<R: Runtime> Files for HostFiles<'_, R> {
+    ghost folder = { λ _. None };
+
+    ghost faults = { λ f. f.count.total };
+
+    fn read(&mut self, alloc: Global, name: &Label, most: u64) -> Result<Vec<u8>, FileFault> {
+        let Ok(path) = str::from_utf8(name.bytes()) else {
+            return Err(self.fault());
+        };
+        let file = match File::open(self.rt, path) {
+            Ok(file) => file,
+            Err(error) if error.kind() == ErrorKind::NotFound => return Err(FileFault::Absent),
+            Err(_) => return Err(self.fault()),
+        };
+        match bytes_of(alloc, file, most) {
+            Ok(bytes) if bytes.len() as u64 > most => Err(FileFault::TooLong),
+            Ok(bytes) => Ok(bytes),
+            Err(error) if error.kind() == ErrorKind::OutOfMemory => Err(FileFault::Memory),
+            Err(_) => Err(self.fault()),
+        }
+    }
+}

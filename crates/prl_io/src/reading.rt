@@ -1,0 +1,39 @@
+//! Files that are read by their names.
+
+ghost use Rattle.std.specs.Prelude.{◌≡◌, ◌<◌, ◌≤◌, ℕ, List, Option, Err, IfOk, IfSome, vec_len, vec_items};
+ghost use Rattle.prl_base.specs.Reading.{Gives};
+ghost use Rattle.prl_io.specs.Folders.{reading_of, told_fault};
+
+use prl_base::Label;
+use std::alloc::Global;
+
+/// Why a file was not read.
+#[derive(Clone, Copy, Debug, PartialEq, Eq)]
+pub enum FileFault {
+    /// There is no file of this name.
+    Absent,
+    /// The file has more bytes than may be read.
+    TooLong,
+    /// The reading failed, and the fault was counted.
+    Failed,
+    /// Memory ran out.
+    Memory,
+}
+
+/// A folder of files that no reading changes.
+pub trait Files {
+    /// The bytes of the file of each name, where this is known.
+    ghost folder: { Self → Option (List ℕ → Option (List ℕ)) };
+
+    /// How many faults there have been.
+    ghost faults: { Self → ℕ };
+
+    /// The bytes of the file of this name, if they are at most `most`.
+    fn read(&mut self, alloc: Global, name: &Label, most: u64) -> Result<Vec<u8>, FileFault>
+        ensures most { IfOk result (λ bytes. vec_len bytes ≤ most) }
+        ensures answer { IfSome (folder self.old)
+            (λ folder. Gives vec_items told_fault result (reading_of (folder name.now) most)) }
+        ensures kept { folder self.new ≡ folder self.old }
+        ensures counted { faults self.old ≤ faults self.new }
+        ensures failed { result ≡ Err FileFault.Failed → faults self.old < faults self.new };
+}

@@ -1,0 +1,4 @@
+pub mod Tokens
+pub mod Lexing
+pub mod FirstByte
+pub mod Digits
