@@ -6,3 +6,4 @@ pub mod TwoTasks
 pub mod Counts
 pub mod TwoFacts
 pub mod TwoHorizon
+pub mod Actions

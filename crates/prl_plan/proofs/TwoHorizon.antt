@@ -9,7 +9,8 @@ use Rattle.prl_plan.specs.Facts.{HasPlanFacts}
 use Rattle.prl_plan.specs.Horizons.{IsEnd, IsHorizon, constants_of, sum_below, jobs_up_to, actions_up_to}
 use Rattle.prl_plan.specs.TwoTasks.{AreInPeriod, two_plan, IsTwo}
 use Rattle.prl_plan.proofs.Counts.{IsHorizonJob-count, job_count-horizon}
-use Rattle.prl_plan.proofs.TwoFacts.{deadline-two-0, deadline-two-1, actions-two-0, actions-two-1, two-facts}
+use Rattle.prl_plan.proofs.TwoFacts.{deadline-two-0, deadline-two-1, actions-two-0, actions-two-1, two-facts, links-two}
+use Rattle.prl_plan.specs.Devices.{LinksDevices}
 
 -- a sum of twos
 sum-twos : (f : ℕ → ℕ) → ((n : ℕ) → f n ≡ 2) → (n : ℕ) → sum_below f n ≡ n * 2
@@ -79,3 +80,6 @@ two-counted p two u =
 pub two-plan_facts : (p : PlanView) → IsTwo p → (h : Horizon) → IsHorizon p h → HasPlanFacts (constants_of p h)
 two-plan_facts p two h =
     subst (λ (q : PlanView). IsHorizon q h → HasPlanFacts (constants_of q h)) (sym two.4) (λ is. two-facts two.0 two.1 two.2 two.3 h is)
+
+pub two-links : (p : PlanView) → IsTwo p → LinksDevices p
+two-links p two = subst (λ (q : PlanView). LinksDevices q) (sym two.4) (links-two two.0 two.1 two.2 two.3)

@@ -1,5 +1,5 @@
 -- What holds of the jobs of every plan, as an executive needs it.
-use Rattle.std.specs.Prelude.{◌≡◌, ◌<◌, ◌≤◌, ℕ}
+use Rattle.std.specs.Prelude.{◌≡◌, ◌<◌, ◌≤◌, ◌^◌, ℕ, length}
 use Rattle.prl_base.specs.declared.numbers.EdgeNo.{EdgeNo}
 use Rattle.prl_plan.specs.declared.events.Action.TheVariants as actions
 use Rattle.prl_plan.specs.Runs.{RunConstants, action_at}
@@ -26,10 +26,16 @@ pub record Provides (c : RunConstants) (m cell j k i n place : ℕ) : Type 0 whe
   pub deadline : c.deadline i n < c.deadline j k
 
 pub record HasPlanFacts (c : RunConstants) : Type 0 where
-  -- each encoded deadline is at least 1 and within the end, and those of a task rise
+  -- tasks are numbered by 32 bits
+  pub few : c.tasks < 2 ^ 32
+  -- each encoded deadline is at least 1 and within the end
   pub positive : (i n : ℕ) → IsJob c i n → 1 ≤ c.deadline i n
   pub within : (i n : ℕ) → IsJob c i n → c.deadline i n ≤ c.end
-  pub rising : (i m n : ℕ) → IsJob c i n → m < n → c.deadline i m < c.deadline i n
+  -- a job is due after it is released, and a later job of its task is not released before it is due
+  pub window : (i n : ℕ) → IsJob c i n → c.release i n < c.deadline i n
+  pub apart : (i m n : ℕ) → IsJob c i n → m < n → c.deadline i m ≤ c.release i n
+  -- a list of actions has fewer than 2^32
+  pub short : (i n : ℕ) → IsJob c i n → length (c.actions i n) < 2 ^ 32
   -- a job's end is its last action
   pub last : (i n place later : ℕ) → IsJob c i n → action_at c i n place ≡ actions.End → place < later → action_at c i n later ≡ actions.End
   -- cells are in range, and a job writes its own instance
@@ -39,6 +45,9 @@ pub record HasPlanFacts (c : RunConstants) : Type 0 where
   -- one task writes to a cell, and each of its jobs at one place
   pub writer : (i n place m j k other l cell : ℕ) → WritesAt c i n place m cell → WritesAt c j k other l cell → i ≡ j
   pub once : (i n place m other l cell : ℕ) → WritesAt c i n place m cell → WritesAt c i n other l cell → place ≡ other
+  -- a cell is of one edge
+  pub edge : (j k place m i n written l cell : ℕ) (reads : ReadsAt c j k place m cell) (writes : WritesAt c i n written l cell) →
+      reads.action.1 ≡ writes.action.0
   -- what is read, a job writes that comes earlier
   pub provided : (j k place m cell : ℕ) → ReadsAt c j k place m cell →
       (i : ℕ) × (n : ℕ) × (written : ℕ) × Provides c m cell j k i n written

@@ -11,3 +11,4 @@ pub mod Facts
 pub mod States
 pub mod Horizons
 pub mod TwoTasks
+pub mod Devices

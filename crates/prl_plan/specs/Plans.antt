@@ -1,5 +1,5 @@
 -- Plans: a task graph with its encoded dates and its cells, and what its jobs do in a horizon.
-use Rattle.std.specs.Prelude.{◌+◌, ◌%◌, ◌==◌, ◌<◌, ◌^◌, ◌++◌, ℕ, pos, nat_abs, List, [], ◌∷◌, Option, is_some, unwrap_or, slice_index, slice_index_or, if◌then◌else◌}
+use Rattle.std.specs.Prelude.{◌≡◌, length, ◌+◌, ◌%◌, ◌==◌, ◌<◌, ◌^◌, ◌++◌, ℕ, pos, nat_abs, List, [], ◌∷◌, Option, is_some, IsSome, unwrap_or, slice_index, slice_index_or, if◌then◌else◌}
 use Rattle.prl_base.specs.declared.values.Ty.TheVariants as types
 use Rattle.prl_base.specs.declared.values.Value.TheVariants as values
 use Rattle.prl_plan.specs.declared.events.Action.{Action}
@@ -14,6 +14,7 @@ use Rattle.prl_plan.specs.declared.tables.Window.{Window}
 use Rattle.prl_plan.specs.declared.tables.Used.{Used}
 use Rattle.prl_plan.specs.Graphs.{IsWellFormed}
 use Rattle.prl_plan.specs.Operands.{operand_of}
+use Rattle.prl_plan.specs.Precedence.{ComesFrom}
 use Rattle.prl_plan.specs.Dates.{AreEncodedDates, encoded_release, encoded_deadline}
 use Rattle.prl_plan.specs.Cells.{AreLeastCells, place_of, no_used}
 
@@ -87,3 +88,17 @@ IsSmallOperand (operands.From m) = m < 2 ^ 63
 abbrev pub ComesFromTask : Producer → Type 0
 ComesFromTask (producers.Port task out) = Unit {0}
 ComesFromTask (producers.Constant value) = ⊥
+
+-- What an action of job n of task i is, by the definitions of operands and cells: a read is at a port of an edge into
+-- the task, of the job's operand there; a write is to an edge from the task, of the job's own instance, which is used.
+abbrev pub IsActionOf : PlanView → ℕ → ℕ → Action → Type 0
+IsActionOf plan i n (actions.ReadConst port value) =
+    (e : ℕ) × (e < length plan.graph.edges) × ((edge_at plan.graph e).to.0 ≡ i) × ((edge_at plan.graph e).port ≡ port)
+    × (operand_of (edge_at plan.graph e) n ≡ operands.Const value)
+IsActionOf plan i n (actions.Read port e m cell) =
+    (e.0 < length plan.graph.edges) × ((edge_at plan.graph e.0).to.0 ≡ i) × ((edge_at plan.graph e.0).port ≡ port)
+    × (operand_of (edge_at plan.graph e.0) n ≡ operands.From m) × (cell.0 ≡ cell_of plan e.0 m)
+IsActionOf plan i n (actions.Write e m cell) =
+    (e.0 < length plan.graph.edges) × ComesFrom (edge_at plan.graph e.0).from i × (m ≡ n) × IsSome (place_on plan e.0 n)
+    × (cell.0 ≡ cell_of plan e.0 n)
+IsActionOf plan i n actions.End = Unit {0}

@@ -1,10 +1,8 @@
 //! The horizon of a run: which jobs it has, and when it ends.
 
-ghost use Rattle.std.specs.Prelude.{◌≡◌, ◌<◌, ◌↔◌, ℕ, length, MatchResult};
-ghost use Rattle.prl_plan.specs.declared.graphs.TaskGraph.{TaskGraph as Graph};
-ghost use Rattle.prl_plan.specs.Jobs.{task_at, job_count, IsHorizonJob};
-ghost use Rattle.prl_plan.specs.Facts.{HasPlanFacts};
-ghost use Rattle.prl_plan.specs.Horizons.{IsHorizon, IsPastLimit, constants_of};
+ghost use Rattle.std.specs.Prelude.{◌≡◌, ◌<◌, length, MatchResult};
+ghost use Rattle.prl_plan.specs.Jobs.{task_at, job_count};
+ghost use Rattle.prl_plan.specs.Horizons.{IsHorizon, IsPastLimit};
 
 use crate::Plan;
 use prl_base::{Limit, TaskNo, What};
@@ -66,19 +64,4 @@ impl Horizon {
     {
         plan.jobs_before(i, self.until)
     }
-}
-
-/// The horizon jobs of a task are those whose number is below their count.
-pub fn horizon_jobs_are_counted()
-    ensures { (graph : Graph) (until i n : ℕ) → i < length graph.tasks → 0 < (task_at graph i).clock.period →
-        IsHorizonJob graph until i n ↔ (n < job_count (task_at graph i) until) }
-{}
-
-/// What the jobs of a plan keep in each of its horizons.
-pub fn plan_facts(plan: &Plan, horizon: Horizon)
-    requires { IsHorizon plan.now horizon }
-    ensures { HasPlanFacts (constants_of plan.now horizon) }
-{
-    let _ = horizon;
-    plan.is_two();
 }

@@ -4,6 +4,7 @@
 #![tactic(auto)]
 
 mod events;
+mod facts;
 mod graphs;
 mod horizons;
 mod laws;
@@ -12,8 +13,11 @@ mod tables;
 mod walks;
 
 pub use events::{Action, Event, Rule};
+pub use facts::{
+    actions_are_as_defined, horizon_jobs_are_counted, plan_facts, plan_is_one, plan_links_devices,
+};
 pub use graphs::{Edge, Kind, Producer, Task, TaskGraph};
-pub use horizons::{Horizon, horizon_jobs_are_counted, plan_facts};
+pub use horizons::Horizon;
 pub use laws::{
     gated_list_keeps_cells, legal_list_is_gated, run_of_two_lists, write_finds_cell_free,
 };
