@@ -37,7 +37,6 @@ equal : (x y : ℕ) → eqb x y ≡ true → x ≡ y
 equal x y h = grind (arith, nat_tests)
 
 module _ (plan : PlanView) (i n : ℕ) where
-
   -- from edge e on, the list of edges is this one
   abbrev Stands : ℕ → List Edge → Type 0
   Stands e edges = (k : ℕ) → k < length edges → (e + k < length plan.graph.edges) × (edge_at plan.graph (e + k) ≡ get_or edges k no_edge)
@@ -65,32 +64,32 @@ module _ (plan : PlanView) (i n : ℕ) where
   reads-fit e [] stands k = each-none (IsActionOf plan i n) tt k
   reads-fit e (edge ∷ edges) stands k =
       each-append (IsActionOf plan i n) (cond (eqb edge.to.0 i) (reading plan e edge (operand_of edge n) ∷ []) []) (reads_of plan i n (e + 1) edges) tt
-        (each-if (IsActionOf plan i n) (eqb edge.to.0 i) (reading plan e edge (operand_of edge n) ∷ []) tt
-          (λ test. each-one (IsActionOf plan i n) (reading plan e edge (operand_of edge n)) tt
-            (reading-fits e edge (here e edge edges stands).0 (here e edge edges stands).1 (equal edge.to.0 i test) (operand_of edge n) refl)))
-        (reads-fit (e + 1) edges (behind e edge edges stands)) k
+      (each-if (IsActionOf plan i n) (eqb edge.to.0 i) (reading plan e edge (operand_of edge n) ∷ []) tt
+      (λ test. each-one (IsActionOf plan i n) (reading plan e edge (operand_of edge n)) tt
+      (reading-fits e edge (here e edge edges stands).0 (here e edge edges stands).1 (equal edge.to.0 i test) (operand_of edge n) refl)))
+      (reads-fit (e + 1) edges (behind e edge edges stands)) k
 
   writing-fits : (e : ℕ) → e < length plan.graph.edges → (from : Producer) → (edge_at plan.graph e).from ≡ from → (k : ℕ) →
       IsActionOf plan i n (get_or (writing plan i n e from) k actions.End)
   writing-fits e inside (producers.Constant value) is k = each-none (IsActionOf plan i n) tt k
   writing-fits e inside (producers.Port task out) is k =
       each-if (IsActionOf plan i n) (eqb task.0 i)
-        (cond (is_some (place_on plan e n)) (actions.Write (record { 0 = e }) n (record { 0 = cell_of plan e n }) ∷ []) []) tt
-        (λ own. each-if (IsActionOf plan i n) (is_some (place_on plan e n)) (actions.Write (record { 0 = e }) n (record { 0 = cell_of plan e n }) ∷ []) tt
-          (λ used. each-one (IsActionOf plan i n) (actions.Write (record { 0 = e }) n (record { 0 = cell_of plan e n })) tt
-            (inside, subst (λ (p : Producer). ComesFrom p i) (sym is) (equal task.0 i own), refl, used, refl))) k
+      (cond (is_some (place_on plan e n)) (actions.Write (record { 0 = e }) n (record { 0 = cell_of plan e n }) ∷ []) []) tt
+      (λ own. each-if (IsActionOf plan i n) (is_some (place_on plan e n)) (actions.Write (record { 0 = e }) n (record { 0 = cell_of plan e n }) ∷ []) tt
+      (λ used. each-one (IsActionOf plan i n) (actions.Write (record { 0 = e }) n (record { 0 = cell_of plan e n })) tt
+      (inside, subst (λ (p : Producer). ComesFrom p i) (sym is) (equal task.0 i own), refl, used, refl))) k
 
   writes-fit : (e : ℕ) (edges : List Edge) → Stands e edges → (k : ℕ) → IsActionOf plan i n (get_or (writes_of plan i n e edges) k actions.End)
   writes-fit e [] stands k = each-none (IsActionOf plan i n) tt k
   writes-fit e (edge ∷ edges) stands k =
       each-append (IsActionOf plan i n) (writing plan i n e edge.from) (writes_of plan i n (e + 1) edges) tt
-        (writing-fits e (here e edge edges stands).0 edge.from (ap (λ (x : Edge). x.from) (here e edge edges stands).1))
-        (writes-fit (e + 1) edges (behind e edge edges stands)) k
+      (writing-fits e (here e edge edges stands).0 edge.from (ap (λ (x : Edge). x.from) (here e edge edges stands).1))
+      (writes-fit (e + 1) edges (behind e edge edges stands)) k
 
   pub actions-fit : (k : ℕ) → IsActionOf plan i n (get_or (actions_of plan i n) k actions.End)
   actions-fit k =
       let all : Stands 0 plan.graph.edges = λ j h. (omega (arith, h), ap (λ (x : ℕ). edge_at plan.graph x) (let z : 0 + j ≡ j = omega arith in z)) in
       each-append (IsActionOf plan i n) (reads_of plan i n 0 plan.graph.edges ++ writes_of plan i n 0 plan.graph.edges) (actions.End ∷ []) tt
-        (each-append (IsActionOf plan i n) (reads_of plan i n 0 plan.graph.edges) (writes_of plan i n 0 plan.graph.edges) tt
-          (reads-fit 0 plan.graph.edges all) (writes-fit 0 plan.graph.edges all))
-        (each-one (IsActionOf plan i n) actions.End tt tt) k
+      (each-append (IsActionOf plan i n) (reads_of plan i n 0 plan.graph.edges) (writes_of plan i n 0 plan.graph.edges) tt
+      (reads-fit 0 plan.graph.edges all) (writes-fit 0 plan.graph.edges all))
+      (each-one (IsActionOf plan i n) actions.End tt tt) k

@@ -62,9 +62,11 @@ module _ (T a b : ℕ) (fits : AreInPeriod T a b) where
       sensor : (e i : ℕ) → e < 1 → ComesFrom (edge_at (two_plan T a b).graph e).from i → (k : ℕ) × ((task_at (two_plan T a b).graph i).kind ≡ kinds.Sensor k)
       sensor zero i inside from = (0, ap (λ (x : ℕ). (task_at (two_plan T a b).graph x).kind) (sym from))
       sensor (suc e) i inside from = absurd (omega arith)
+
       actuator : (e : ℕ) → e < 1 → (k : ℕ) × ((task_at (two_plan T a b).graph (edge_at (two_plan T a b).graph e).to.0).kind ≡ kinds.Actuator k)
       actuator zero inside = (0, refl)
       actuator (suc e) inside = absurd (omega arith)
+
       port : (e n : ℕ) → e < 1 → actions_of (two_plan T a b) (edge_at (two_plan T a b).graph e).to.0 n
           ≡ reading (two_plan T a b) e (edge_at (two_plan T a b).graph e) (operand_of (edge_at (two_plan T a b).graph e) n) ∷ actions.End ∷ []
       port zero n inside = refl
@@ -137,19 +139,19 @@ module _ (T a b : ℕ) (fits : AreInPeriod T a b) (h : Horizon) (is : IsHorizon 
   edge-reads : (i n place m cell : ℕ) (reads : ReadsAt (constants_of (two_plan T a b) h) i n place m cell) → reads.action.1 ≡ record { 0 = 0 }
   edge-reads zero n place m cell reads =
       absurd (write-end n place reads.action.0 reads.action.1 m cell
-        (sym (ap (λ (xs : List Action). get_or xs place actions.End) (actions-two-0 T a b fits n)) ∙ reads.action.2))
+      (sym (ap (λ (xs : List Action). get_or xs place actions.End) (actions-two-0 T a b fits n)) ∙ reads.action.2))
   edge-reads (suc zero) n place m cell reads =
       (read-reads n place reads.action.0 reads.action.1 m cell
-        (sym (ap (λ (xs : List Action). get_or xs place actions.End) (actions-two-1 T a b fits n)) ∙ reads.action.2)).3
+      (sym (ap (λ (xs : List Action). get_or xs place actions.End) (actions-two-1 T a b fits n)) ∙ reads.action.2)).3
   edge-reads (suc (suc i)) n place m cell reads = absurd (let j : suc (suc i) < 2 = reads.job.task in omega (arith, j))
 
   edge-writes : (i n place m cell : ℕ) (writes : WritesAt (constants_of (two_plan T a b) h) i n place m cell) → writes.action.0 ≡ record { 0 = 0 }
   edge-writes zero n place m cell writes =
       (write-writes n place writes.action.0 m cell
-        (sym (ap (λ (xs : List Action). get_or xs place actions.End) (actions-two-0 T a b fits n)) ∙ writes.action.1)).3
+      (sym (ap (λ (xs : List Action). get_or xs place actions.End) (actions-two-0 T a b fits n)) ∙ writes.action.1)).3
   edge-writes (suc zero) n place m cell writes =
       absurd (read-end n place writes.action.0 m cell
-        (sym (ap (λ (xs : List Action). get_or xs place actions.End) (actions-two-1 T a b fits n)) ∙ writes.action.1))
+      (sym (ap (λ (xs : List Action). get_or xs place actions.End) (actions-two-1 T a b fits n)) ∙ writes.action.1))
   edge-writes (suc (suc i)) n place m cell writes = absurd (let j : suc (suc i) < 2 = writes.job.task in omega (arith, j))
 
   positive-two : (i n : ℕ) → i < 2 → 1 ≤ deadline_at (two_plan T a b) i n
@@ -167,14 +169,14 @@ module _ (T a b : ℕ) (fits : AreInPeriod T a b) (h : Horizon) (is : IsHorizon 
   apart-two : (i m n : ℕ) → i < 2 → m < n → deadline_at (two_plan T a b) i m ≤ release_at (two_plan T a b) i n
   apart-two zero m n task before =
       rw (deadline-two-0 T a b fits m, release-two-0 T a b fits n)
-        (let up : (m + 1) * T ≤ n * T = mul-le-mul_right T (let g : m + 1 ≤ n = omega arith in g) in
-        let e : (m + 1) * T ≡ m * T + T = omega arith in
-        omega (arith, up, e))
+      (let up : (m + 1) * T ≤ n * T = mul-le-mul_right T (let g : m + 1 ≤ n = omega arith in g) in
+      let e : (m + 1) * T ≡ m * T + T = omega arith in
+      omega (arith, up, e))
   apart-two (suc zero) m n task before =
       rw (deadline-two-1 T a b fits m, release-two-1 T a b fits n)
-        (let up : (m + 1) * T ≤ n * T = mul-le-mul_right T (let g : m + 1 ≤ n = omega arith in g) in
-        let e : (m + 1) * T ≡ m * T + T = omega arith in
-        omega (arith, up, e))
+      (let up : (m + 1) * T ≤ n * T = mul-le-mul_right T (let g : m + 1 ≤ n = omega arith in g) in
+      let e : (m + 1) * T ≡ m * T + T = omega arith in
+      omega (arith, up, e))
   apart-two (suc (suc i)) m n task before = absurd (omega arith)
 
   short-two : (i n : ℕ) → i < 2 → length (actions_of (two_plan T a b) i n) < 2 ^ 32

@@ -13,20 +13,14 @@ use crate::{Horizon, Plan};
 
 /// The horizon jobs of a task are those whose number is below their count.
 pub fn horizon_jobs_are_counted()
-    ensures {
-        (graph : TaskGraph) (until i n : ℕ) → i < length graph.tasks → 0 < (task_at graph i).clock.period →
-        IsHorizonJob graph until i n ↔ (n < job_count (task_at graph i) until)
-    }
-{
-}
+    ensures { (graph : TaskGraph) (until i n : ℕ) → i < length graph.tasks → 0 < (task_at graph i).clock.period →
+        IsHorizonJob graph until i n ↔ (n < job_count (task_at graph i) until) }
+{}
 
 /// Each action of a job is what the definitions of operands, used instances and cells say.
 pub fn actions_are_as_defined()
-    ensures {
-        (plan : PlanView) (i n place : ℕ) → IsActionOf plan i n (slice_index_or (actions_of plan i n) place actions.End)
-    }
-{
-}
+    ensures { (plan : PlanView) (i n place : ℕ) → IsActionOf plan i n (slice_index_or (actions_of plan i n) place actions.End) }
+{}
 
 /// Each plan is one: its graph is well formed, and its dates and cells are those of the graph.
 pub fn plan_is_one(plan: &Plan)

@@ -10,6 +10,8 @@ mod horizons;
 mod laws;
 mod plans;
 mod tables;
+#[cfg(test)]
+mod tests;
 mod walks;
 
 pub use events::{Action, Event, Rule};

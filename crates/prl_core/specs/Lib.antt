@@ -1,0 +1,4 @@
+pub mod Values
+pub mod Machine
+pub mod Columns
+pub mod Inside
