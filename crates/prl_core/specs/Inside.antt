@@ -8,7 +8,7 @@ use Rattle.prl_plan.specs.Facts.{IsJob, WritesAt}
 use Rattle.prl_plan.specs.States.{IsSound, IsDone}
 use Rattle.prl_plan.specs.Horizons.{IsHorizon}
 use Rattle.prl_core.specs.Columns.{column}
-use Rattle.prl_core.specs.Values.{HasRows, value_of_job, operand_value}
+use Rattle.prl_core.specs.Values.{HasRows, HasRoom, value_of_job, operand_value}
 use Rattle.prl_core.specs.Machine.{CoreView, constants}
 
 -- the values in the cells, and by task what its jobs read
@@ -17,10 +17,7 @@ pub record IsWhole (core : CoreView) (values : List Value) (columns : List (List
   pub rows : HasRows core.plan core.horizon.until core.rows
   pub sound : IsSound (constants core) core.state
   pub cells : length values ≡ sum core.plan.counts
-  pub tasks : length columns ≡ length core.plan.graph.tasks
-  -- a task with a port has room for what each of its jobs reads
-  pub room : (e : ℕ) → e < length core.plan.graph.edges →
-      length (column columns (edge_at core.plan.graph e).to.0) ≡ job_count (task_at core.plan.graph (edge_at core.plan.graph e).to.0) core.horizon.until
+  pub room : HasRoom core.plan core.horizon.until columns
   -- beside the tag of an instance stands its value
   pub stored : (i n place m cell : ℕ) → WritesAt (constants core) i n place m cell → slice_index core.state.tags cell ≡ m + 1 →
       slice_get values cell ≡ value_of_job core.rows (task_at core.plan.graph i).kind m

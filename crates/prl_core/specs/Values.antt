@@ -1,5 +1,5 @@
 -- Values by instance, where a task without ports is a sensor's and no task runs a body.
-use Rattle.std.specs.Prelude.{◌≡◌, ◌<◌, ◌≤◌, ℕ, length, Option, Some, None, slice_get}
+use Rattle.std.specs.Prelude.{◌≡◌, ◌<◌, ◌≤◌, ℕ, List, length, Option, Some, None, slice_get}
 use Rattle.prl_base.specs.declared.values.Value.{Value}
 use Rattle.prl_flow.specs.Rows.{Rows, rows_of}
 use Rattle.prl_plan.specs.declared.graphs.Kind.{Kind}
@@ -11,7 +11,8 @@ use Rattle.prl_plan.specs.declared.graphs.TaskGraph.{TaskGraph}
 use Rattle.prl_plan.specs.declared.walks.Operand.{Operand}
 use Rattle.prl_plan.specs.declared.walks.Operand.TheVariants as operands
 use Rattle.prl_plan.specs.Jobs.{task_at, job_count}
-use Rattle.prl_plan.specs.Plans.{PlanView}
+use Rattle.prl_plan.specs.Plans.{PlanView, edge_at}
+use Rattle.prl_core.specs.Columns.{column}
 
 -- what job m of a task of this kind gives: a sensor's row m
 abbrev pub value_of_job : Rows → Kind → ℕ → Option Value
@@ -38,3 +39,8 @@ abbrev pub HasRows : PlanView → ℕ → Rows → Type 0
 HasRows plan until rows =
     (i k : ℕ) → i < length plan.graph.tasks → (task_at plan.graph i).kind ≡ kinds.Sensor k →
     (k < length rows) × (job_count (task_at plan.graph i) until ≤ length (rows_of rows k))
+
+-- the columns have room for what the horizon jobs of each task read
+pub record HasRoom (plan : PlanView) (until : ℕ) (columns : List (List Value)) : Type 0 where
+  pub tasks : length columns ≡ length plan.graph.tasks
+  pub room : (i : ℕ) → i < length plan.graph.tasks → length (column columns i) ≡ job_count (task_at plan.graph i) until

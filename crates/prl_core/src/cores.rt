@@ -1,13 +1,16 @@
 //! The machine.
 
-ghost use Rattle.std.specs.Prelude.{◌≡◌, IfOk};
+ghost use Rattle.std.specs.Prelude.{◌≡◌, ◌+◌, ◌<◌, ◌≤◌, ℕ, map, length, IfOk, MatchOption};
+ghost use Rattle.std.specs.Bool.{OnTrue, OnFalse};
+ghost use Rattle.prl_plan.specs.Facts.{IsJob};
 ghost use Rattle.prl_plan.specs.Horizons.{IsHorizon, constants_of};
+ghost use Rattle.prl_plan.specs.Rules.{first_unfinished, IsUnfinished};
 ghost use Rattle.prl_plan.specs.Runs.{opening};
-ghost use Rattle.prl_core.specs.Values.{HasRows};
+ghost use Rattle.prl_core.specs.Values.{HasRows, HasRoom};
 
 use prl_base::{Seq, TaskNo, Value};
 use prl_flow::Sensors;
-use prl_plan::{Action, Event, Horizon, Kind, Plan, Rule};
+use prl_plan::{Action, Event, Horizon, Kind, Plan, Rule, plan_facts, plan_links_devices};
 use std::alloc::{AllocError, Global};
 use std::marker::Model;
 
@@ -42,10 +45,93 @@ impl<'a> Model for Core<'a> {
 }
 
 impl<'a> Core<'a> {
-    /// Whether the machine's clock is at 0.
-    pub fn is_early(&self) -> bool
-        ensures { result ≡ result }
+    ghost use Rattle.prl_core.specs.Machine.{constants};
+
+    /// The machine before the first event. The horizon is one of the plan, and each sensor has a row for each horizon
+    /// job.
+    pub fn new(
+        alloc: Global,
+        plan: &'a Plan,
+        sensors: &'a Sensors,
+        horizon: Horizon,
+    ) -> Result<Core<'a>, AllocError>
+        requires horizon { IsHorizon plan.now horizon }
+        requires rows { HasRows plan.now horizon.until sensors.now }
+        ensures {
+            IfOk result (λ core. core ≡ record { plan = plan.now; rows = sensors.now; horizon = horizon; state = opening (constants_of plan.now horizon) })
+        }
     {
-        self.now == 0
+        let tasks = plan.graph().tasks.len();
+        let cells = plan.total() as usize;
+        let columns = room_for_reads(alloc, plan, horizon)?;
+        let ended = vec![in alloc; 0; tasks]?;
+        let places = vec![in alloc; 0; tasks]?;
+        let tags = vec![in alloc; 0; cells]?;
+        let values = vec![in alloc; Value::Int(0); cells]?;
+        plan_facts(plan, horizon);
+        plan_links_devices(plan);
+        Ok(Core {
+            plan,
+            sensors,
+            horizon,
+            now: 0,
+            ended,
+            places,
+            tags,
+            values,
+            columns,
+        })
     }
+
+    /// The first unfinished job of task `j` in the horizon, if there is one.
+    fn unfinished(&self, j: TaskNo) -> Option<u64>
+        requires { j.0 < length self.now.plan.graph.tasks }
+        ensures {
+            MatchOption result ((constants self.entry.now).jobs j.0 ≤ first_unfinished self.entry.now.state j.0)
+                (λ n. (n ≡ first_unfinished self.entry.now.state j.0) × IsUnfinished (constants self.entry.now) self.entry.now.state j.0 n)
+        }
+    {
+        let n = self.ended[j.0 as usize];
+        if n < self.horizon.jobs_of(self.plan, j) {
+            Some(n)
+        } else {
+            None
+        }
+    }
+
+    /// The encoded release of a horizon job.
+    fn release(&self, j: TaskNo, n: u64) -> u64
+        requires { IsJob (constants self.now) j.0 n }
+        ensures { result ≡ (constants self.entry.now).release j.0 n }
+    {
+        plan_facts(self.plan, self.horizon);
+        self.plan.release(j, n)
+    }
+
+    /// The encoded deadline of a horizon job.
+    fn deadline(&self, j: TaskNo, n: u64) -> u64
+        requires { IsJob (constants self.now) j.0 n }
+        ensures { result ≡ (constants self.entry.now).deadline j.0 n }
+    {
+        plan_facts(self.plan, self.horizon);
+        self.plan.deadline(j, n)
+    }
+}
+
+/// Room for what the jobs of each task read.
+fn room_for_reads(
+    alloc: Global,
+    plan: &Plan,
+    horizon: Horizon,
+) -> Result<Vec<Vec<Value>>, AllocError>
+    requires { IsHorizon plan.now horizon }
+    ensures { IfOk result (λ columns. HasRoom plan.now horizon.until (map (λ c. c.items) columns.items)) }
+{
+    plan_facts(plan, horizon);
+    let mut columns = Vec::new(alloc);
+    for i in 0..plan.graph().tasks.len() {
+        let jobs = horizon.jobs_of(plan, TaskNo(i as u32));
+        columns.push(vec![in alloc; Value::Int(0); jobs as usize]?)?;
+    }
+    Ok(columns)
 }

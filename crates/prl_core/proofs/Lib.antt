@@ -1,0 +1,2 @@
+pub mod ColumnLists
+pub mod Opening
