@@ -2,3 +2,4 @@ pub mod Values
 pub mod Machine
 pub mod Columns
 pub mod Inside
+pub mod Tests

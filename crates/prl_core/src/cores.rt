@@ -1,14 +1,16 @@
 //! The machine.
 
-ghost use Rattle.std.specs.Prelude.{◌≡◌, ◌+◌, ◌<◌, ◌≤◌, ℕ, map, length, IfOk, MatchOption};
+ghost use Rattle.std.specs.Prelude.{◌≡◌, ◌+◌, ◌<◌, ◌≤◌, ℕ, map, length, IfOk, MatchOption, MatchResult};
 ghost use Rattle.std.specs.Bool.{OnTrue, OnFalse};
 ghost use Rattle.prl_plan.specs.Facts.{IsJob};
 ghost use Rattle.prl_plan.specs.Horizons.{IsHorizon, constants_of};
-ghost use Rattle.prl_plan.specs.Rules.{first_unfinished, IsUnfinished};
+ghost use Rattle.prl_plan.specs.Rules.{first_unfinished, IsUnfinished, IsComplete, IsFirstUnfinished, KeepsLegal, FirstBroken};
 ghost use Rattle.prl_plan.specs.Runs.{opening};
+ghost use Rattle.prl_core.specs.Tests.{Overtakes, StaysBehind, IsDueFirst, IsInTime};
 ghost use Rattle.prl_core.specs.Values.{HasRows, HasRoom};
 
-use prl_base::{Seq, TaskNo, Value};
+use crate::{Illegal, Seen, Unfinished};
+use prl_base::{TaskNo, Value};
 use prl_flow::Sensors;
 use prl_plan::{Action, Event, Horizon, Kind, Plan, Rule, plan_facts, plan_links_devices};
 use std::alloc::{AllocError, Global};
@@ -115,6 +117,110 @@ impl<'a> Core<'a> {
     {
         plan_facts(self.plan, self.horizon);
         self.plan.deadline(j, n)
+    }
+
+    /// How many tasks the plan has.
+    fn tasks(&self) -> u32
+        ensures { result ≡ length self.entry.now.plan.graph.tasks }
+    {
+        plan_facts(self.plan, self.horizon);
+        self.plan.graph().tasks.len() as u32
+    }
+
+    /// Whether the first unfinished job of task `j` is released, and due before `deadline`.
+    fn overtakes(&self, j: TaskNo, deadline: u64) -> bool
+        requires { j.0 < length self.now.plan.graph.tasks }
+        ensures yes { OnTrue result (Overtakes (constants self.entry.now) self.entry.now.state j.0 deadline) }
+        ensures no { OnFalse result (StaysBehind (constants self.entry.now) self.entry.now.state j.0 deadline) }
+    {
+        plan_facts(self.plan, self.horizon);
+        match self.unfinished(j) {
+            Some(n) => self.release(j, n) <= self.now && self.deadline(j, n) < deadline,
+            None => false,
+        }
+    }
+
+    /// Whether a released unfinished job is due before `deadline`.
+    fn is_overtaken(&self, deadline: u64) -> bool
+        ensures yes { OnTrue result ((j : ℕ) × Overtakes (constants self.entry.now) self.entry.now.state j deadline) }
+        ensures no {
+            OnFalse result ((j : ℕ) → j < length self.entry.now.plan.graph.tasks → StaysBehind (constants self.entry.now) self.entry.now.state j deadline)
+        }
+    {
+        for j in 0..self.tasks() {
+            if self.overtakes(TaskNo(j), deadline) {
+                return true;
+            }
+        }
+        false
+    }
+
+    /// Whether the first unfinished job of task `j` is due at the next tick.
+    fn is_due(&self, j: TaskNo) -> bool
+        requires { j.0 < length self.now.plan.graph.tasks }
+        ensures yes { OnTrue result (IsDueFirst (constants self.entry.now) self.entry.now.state j.0) }
+        ensures no { OnFalse result (IsInTime (constants self.entry.now) self.entry.now.state j.0) }
+    {
+        plan_facts(self.plan, self.horizon);
+        match self.unfinished(j) {
+            Some(n) => self.deadline(j, n) - 1 <= self.now,
+            None => false,
+        }
+    }
+
+    /// Whether an unfinished job is due at the next tick.
+    fn has_due(&self) -> bool
+        ensures yes { OnTrue result ((j : ℕ) × IsDueFirst (constants self.entry.now) self.entry.now.state j) }
+        ensures no {
+            OnFalse result ((j : ℕ) → j < length self.entry.now.plan.graph.tasks → IsInTime (constants self.entry.now) self.entry.now.state j)
+        }
+    {
+        for j in 0..self.tasks() {
+            if self.is_due(TaskNo(j)) {
+                return true;
+            }
+        }
+        false
+    }
+
+    /// Refused where a horizon job has not ended: the first such job of the lowest task that has one. Takes no memory.
+    pub fn finished(&self) -> Result<(), Unfinished>
+        ensures {
+            MatchResult result (λ _. IsComplete (constants self.entry.now) self.entry.now.state)
+                (λ left. IsFirstUnfinished (constants self.entry.now) self.entry.now.state left.task.0 left.job)
+        }
+    {
+        for j in 0..self.tasks() {
+            if let Some(job) = self.unfinished(TaskNo(j)) {
+                return Err(Unfinished {
+                    task: TaskNo(j),
+                    job,
+                });
+            }
+        }
+        Ok(())
+    }
+
+    /// The first unfinished job of the task, where an act of the task keeps the rules, or else the first rule that it
+    /// breaks.
+    fn may_act(&self, task: TaskNo) -> Result<u64, Rule>
+        requires { task.0 < length self.now.plan.graph.tasks }
+        ensures {
+            MatchResult result
+                (λ job. (job ≡ first_unfinished self.entry.now.state task.0) × KeepsLegal (constants self.entry.now) self.entry.now.state (Event.Act task))
+                (FirstBroken (constants self.entry.now) self.entry.now.state (Event.Act task))
+        }
+    {
+        let Some(job) = self.unfinished(task) else {
+            return Err(Rule::L2);
+        };
+        if self.now < self.release(task, job) {
+            return Err(Rule::L1);
+        }
+        if self.is_overtaken(self.deadline(task, job)) {
+            return Err(Rule::L3);
+        }
+        Ok(job)
     }
 }
 
