@@ -1,16 +1,21 @@
 //! The machine.
 
-ghost use Rattle.std.specs.Prelude.{◌≡◌, ◌+◌, ◌<◌, ◌≤◌, ℕ, map, length, IfOk, MatchOption, MatchResult};
+ghost use Rattle.std.specs.Prelude.{◌≡◌, ◌+◌, ◌<◌, ◌≤◌, ℕ, map, length, slice_index, IfOk, IfErr, MatchOption, MatchResult};
 ghost use Rattle.std.specs.Bool.{OnTrue, OnFalse};
 ghost use Rattle.prl_plan.specs.Facts.{IsJob};
 ghost use Rattle.prl_plan.specs.Horizons.{IsHorizon, constants_of};
 ghost use Rattle.prl_plan.specs.Rules.{first_unfinished, IsUnfinished, IsComplete, IsFirstUnfinished, KeepsLegal, FirstBroken};
-ghost use Rattle.prl_plan.specs.Runs.{opening};
+ghost use Rattle.prl_base.specs.declared.numbers.EdgeNo.{EdgeNo};
+ghost use Rattle.prl_plan.specs.declared.events.Action.TheVariants as actions;
+ghost use Rattle.prl_plan.specs.Runs.{opening, moved, next_action, after_action, after_event};
 ghost use Rattle.prl_core.specs.Tests.{Overtakes, StaysBehind, IsDueFirst, IsInTime};
-ghost use Rattle.prl_core.specs.Values.{HasRows, HasRoom};
+ghost use Rattle.prl_plan.specs.Jobs.{task_at};
+ghost use Rattle.prl_plan.specs.declared.graphs.Kind.TheVariants as kinds;
+ghost use Rattle.prl_core.specs.Values.{HasRows, HasRoom, value_of_job};
 
 use crate::{Illegal, Seen, Unfinished};
-use prl_base::{TaskNo, Value};
+use crate::columns::put;
+use prl_base::{CellNo, TaskNo, Value};
 use prl_flow::Sensors;
 use prl_plan::{Action, Event, Horizon, Kind, Plan, Rule, plan_facts, plan_links_devices};
 use std::alloc::{AllocError, Global};
@@ -47,7 +52,8 @@ impl<'a> Model for Core<'a> {
 }
 
 impl<'a> Core<'a> {
-    ghost use Rattle.prl_core.specs.Machine.{constants};
+    ghost use Rattle.prl_core.specs.Machine.{constants, Tells};
+    ghost use Rattle.prl_core.specs.Tests.{ReadsValue};
 
     /// The machine before the first event. The horizon is one of the plan, and each sensor has a row for each horizon
     /// job.
@@ -221,6 +227,82 @@ impl<'a> Core<'a> {
             return Err(Rule::L3);
         }
         Ok(job)
+    }
+
+    /// The clock goes on by one tick.
+    fn tick(&mut self) -> Result<Seen, Illegal>
+        ensures ok {
+            IfOk result (λ seen. KeepsLegal (constants self.entry.now) self.entry.now.state Event.Tick × Tells self.entry.now Event.Tick seen
+                × (self.exit.now ≡ record self.entry.now { state = after_event (constants self.entry.now) self.entry.now.state Event.Tick }))
+        }
+        ensures err {
+            IfErr result (λ e. FirstBroken (constants self.entry.now) self.entry.now.state Event.Tick e.rule × (self.exit.now ≡ self.entry.now))
+        }
+    {
+        if self.now >= self.horizon.end || self.has_due() {
+            return Err(Illegal { rule: Rule::L4 });
+        }
+        plan_facts(self.plan, self.horizon);
+        self.now += 1;
+        Ok(Seen::Ticked(self.now))
+    }
+
+    /// The job of the task reads a value.
+    fn take(&mut self, task: TaskNo, job: u64, value: Value)
+        requires allowed { KeepsLegal (constants self.old) self.old.state (Event.Act task) }
+        requires job { job ≡ first_unfinished self.old.state task.0 }
+        requires reads { ReadsValue self.old task.0 job (slice_index self.old.state.places task.0) value }
+        ensures { self.exit.now ≡ record self.entry.now { state = moved self.entry.now.state task.0 } }
+    {
+        plan_facts(self.plan, self.horizon);
+        plan_links_devices(self.plan);
+        let i = task.0 as usize;
+        put(&mut self.columns, i, job as usize, value);
+        self.places[i] += 1;
+    }
+
+    /// What a job of a sensor task gives: its row.
+    fn sensed(&self, task: TaskNo, job: u64) -> Value
+        requires job { IsJob (constants self.now) task.0 job }
+        requires sensor { (k : ℕ) × ((task_at self.now.plan.graph task.0).kind ≡ kinds.Sensor k) }
+        ensures { value_of_job self.entry.now.rows (task_at self.entry.now.plan.graph task.0).kind job ≡ Some result }
+    {
+        match self.plan.graph().tasks.as_slice()[task.0 as usize].kind {
+            Kind::Sensor(k) => self.sensors.value(k, job),
+            Kind::Node(_) | Kind::Actuator(_) => unreachable!(),
+        }
+    }
+
+    /// The job of the task writes its instance to a cell.
+    fn write(&mut self, task: TaskNo, job: u64, cell: CellNo)
+        requires allowed { KeepsLegal (constants self.old) self.old.state (Event.Act task) }
+        requires job { job ≡ first_unfinished self.old.state task.0 }
+        requires writes {
+            (edge : EdgeNo) × (next_action (constants self.old) self.old.state task.0 ≡ actions.Write edge job cell)
+        }
+        ensures { self.exit.now ≡ record self.entry.now { state = after_action self.entry.now.state task.0 (next_action (constants self.entry.now) self.entry.now.state task.0) } }
+    {
+        plan_facts(self.plan, self.horizon);
+        plan_links_devices(self.plan);
+        let i = task.0 as usize;
+        let value = self.sensed(task, job);
+        self.places[i] += 1;
+        self.tags[cell.0 as usize] = job + 1;
+        self.values[cell.0 as usize] = value;
+    }
+
+    /// The job of the task ends.
+    fn end(&mut self, task: TaskNo, job: u64)
+        requires allowed { KeepsLegal (constants self.old) self.old.state (Event.Act task) }
+        requires job { job ≡ first_unfinished self.old.state task.0 }
+        requires ends { next_action (constants self.old) self.old.state task.0 ≡ actions.End }
+        ensures { self.exit.now ≡ record self.entry.now { state = after_action self.entry.now.state task.0 actions.End } }
+    {
+        plan_facts(self.plan, self.horizon);
+        plan_links_devices(self.plan);
+        let i = task.0 as usize;
+        self.ended[i] = job + 1;
+        self.places[i] = 0;
     }
 }
 
