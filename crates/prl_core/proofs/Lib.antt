@@ -1,2 +1,4 @@
 pub mod ColumnLists
 pub mod Opening
+pub mod Places
+pub mod Kept

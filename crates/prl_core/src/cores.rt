@@ -243,6 +243,7 @@ impl<'a> Core<'a> {
             return Err(Illegal { rule: Rule::L4 });
         }
         plan_facts(self.plan, self.horizon);
+        plan_links_devices(self.plan);
         self.now += 1;
         Ok(Seen::Ticked(self.now))
     }

@@ -54,7 +54,7 @@ module _ (c : RunConstants) (facts : HasPlanFacts c) where
   }
 
   -- done behind a move of task i: done before it, or what the move did
-  done-moved : (s : ExecState) (i : ℕ) → i < length s.places → (j n place : ℕ) → IsDone (moved s i) j n place →
+  pub done-moved : (s : ExecState) (i : ℕ) → i < length s.places → (j n place : ℕ) → IsDone (moved s i) j n place →
       IsDone s j n place ⊎ ((j ≡ i) × (n ≡ get_or s.ended i 0) × (place ≡ get_or s.places i 0))
   done-moved s i h j n place (inl below) = inl (inl below)
   done-moved s i h j n place (inr here) =
