@@ -2,3 +2,4 @@ pub mod ColumnLists
 pub mod Opening
 pub mod Places
 pub mod Kept
+pub mod Writers

@@ -48,3 +48,8 @@ pub record AreOutputs (core : CoreView) (i : ℕ) (values : List Value) : Type 0
   pub ended : length values ≡ slice_index core.state.ended i
   pub each : (e n : ℕ) → e < length core.plan.graph.edges → (edge_at core.plan.graph e).to.0 ≡ i → n < slice_index core.state.ended i →
       slice_get values n ≡ operand_value core.plan.graph core.rows (edge_at core.plan.graph e) (operand_of (edge_at core.plan.graph e) n)
+
+-- an act is of a task of the plan
+abbrev pub IsOfPlan : PlanView → Event → Type 0
+IsOfPlan plan events.Tick = Unit {0}
+IsOfPlan plan (events.Act task) = task.0 < length plan.graph.tasks

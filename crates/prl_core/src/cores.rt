@@ -52,7 +52,7 @@ impl<'a> Model for Core<'a> {
 }
 
 impl<'a> Core<'a> {
-    ghost use Rattle.prl_core.specs.Machine.{constants, Tells};
+    ghost use Rattle.prl_core.specs.Machine.{constants, Tells, IsOfPlan};
     ghost use Rattle.prl_core.specs.Tests.{ReadsValue};
 
     /// The machine before the first event. The horizon is one of the plan, and each sensor has a row for each horizon
@@ -304,6 +304,97 @@ impl<'a> Core<'a> {
         let i = task.0 as usize;
         self.ended[i] = job + 1;
         self.places[i] = 0;
+    }
+
+    /// The job of the task does its next action, and tells of it.
+    fn proceed(&mut self, task: TaskNo, job: u64) -> Seen
+        requires allowed { KeepsLegal (constants self.old) self.old.state (Event.Act task) }
+        requires job { job ≡ first_unfinished self.old.state task.0 }
+        ensures state {
+            self.exit.now ≡ record self.entry.now { state = after_event (constants self.entry.now) self.entry.now.state (Event.Act task) }
+        }
+        ensures tells { Tells self.entry.now (Event.Act task) result }
+    {
+        plan_facts(self.plan, self.horizon);
+        plan_links_devices(self.plan);
+        let place = self.places[task.0 as usize];
+        match self.plan.action(task, job, place) {
+            Action::ReadConst { port, value } => {
+                self.take(task, job, value);
+                Seen::ReadConst {
+                    task,
+                    job,
+                    port,
+                    value,
+                }
+            }
+            Action::Read {
+                port,
+                edge,
+                instance,
+                cell,
+            } => {
+                let value = self.values[cell.0 as usize];
+                self.take(task, job, value);
+                Seen::Read {
+                    task,
+                    job,
+                    port,
+                    edge,
+                    instance,
+                    cell,
+                    value,
+                }
+            }
+            Action::Write { edge, cell, .. } => {
+                self.write(task, job, cell);
+                Seen::Wrote {
+                    task,
+                    job,
+                    edge,
+                    cell,
+                }
+            }
+            Action::End => {
+                self.end(task, job);
+                Seen::Ended { task, job }
+            }
+        }
+    }
+
+    /// An act of the task.
+    fn act(&mut self, task: TaskNo) -> Result<Seen, Illegal>
+        requires { task.0 < length self.old.plan.graph.tasks }
+        ensures ok {
+            IfOk result (λ seen. KeepsLegal (constants self.entry.now) self.entry.now.state (Event.Act task) × Tells self.entry.now (Event.Act task) seen
+                × (self.exit.now ≡ record self.entry.now { state = after_event (constants self.entry.now) self.entry.now.state (Event.Act task) }))
+        }
+        ensures err {
+            IfErr result (λ e. FirstBroken (constants self.entry.now) self.entry.now.state (Event.Act task) e.rule × (self.exit.now ≡ self.entry.now))
+        }
+    {
+        match self.may_act(task) {
+            Ok(job) => Ok(self.proceed(task, job)),
+            Err(rule) => Err(Illegal { rule }),
+        }
+    }
+
+    /// Does one event, and tells what it saw. Where the event breaks a rule the first such rule is answered, and the
+    /// state stays. Takes no memory.
+    pub fn step(&mut self, event: Event) -> Result<Seen, Illegal>
+        requires { IsOfPlan self.old.plan event }
+        ensures ok {
+            IfOk result (λ seen. KeepsLegal (constants self.entry.now) self.entry.now.state event × Tells self.entry.now event seen
+                × (self.exit.now ≡ record self.entry.now { state = after_event (constants self.entry.now) self.entry.now.state event }))
+        }
+        ensures err {
+            IfErr result (λ e. FirstBroken (constants self.entry.now) self.entry.now.state event e.rule × (self.exit.now ≡ self.entry.now))
+        }
+    {
+        match event {
+            Event::Tick => self.tick(),
+            Event::Act(task) => self.act(task),
+        }
     }
 }
 

@@ -8,6 +8,7 @@ use Rattle.prl_core.specs.Columns.{column}
 use Rattle.prl_core.specs.Machine.{CoreView, constants}
 use Rattle.prl_core.specs.Tests.{IsInTime, ReadsValue}
 use Rattle.prl_core.specs.Inside.{IsWhole}
+use Rattle.std.proofs.lemmas.Grind.{get_or_default_zero}
 use Rattle.prl_core.proofs.Kept.{kept-tick, kept-end, kept-write, kept-take}
 use Rattle.prl_core.proofs.cores.Core.take.Goals as goal
 
@@ -25,7 +26,8 @@ invariant_of-self c =
         subst (λ (v : CoreView). c.args.job ≡ first_unfinished v.state c.args.task.0) (sym seen) c.requires.job in
     let reads : ReadsValue core c.args.task.0 c.args.job (get_or core.state.places c.args.task.0 0) c.args.value =
         subst (λ (v : CoreView). ReadsValue v c.args.task.0 c.args.job (get_or v.state.places c.args.task.0 0) c.args.value) (sym seen) c.requires.reads in
-    let place : c.index_mut.result.now ≡ get_or core.state.places c.args.task.0 0 = ? in
+    let place : c.index_mut.result.now ≡ get_or core.state.places c.args.task.0 0 =
+        c.index_mut.ensures.value ∙ get_or_default_zero core.state.places c.args.task.0 c.index_mut.result.now (let l = c.self.invariant.sound.places in let t = keeps.0.task in omega (arith, l, t)) in
     subst (λ (xs : List (List Value)). IsWhole (record core { state = record core.state { places = set core.state.places c.args.task.0 (c.index_mut.result.now + 1) } })
         c.self.inside.values.items xs) (sym c.put.ensures)
       (subst (λ (p : ℕ). IsWhole (record core { state = record core.state { places = set core.state.places c.args.task.0 (p + 1) } })
