@@ -3,3 +3,4 @@ pub mod Opening
 pub mod Places
 pub mod Kept
 pub mod Writers
+pub mod LegalReads
