@@ -52,7 +52,7 @@ impl<'a> Model for Core<'a> {
 }
 
 impl<'a> Core<'a> {
-    ghost use Rattle.prl_core.specs.Machine.{constants, Tells, IsOfPlan};
+    ghost use Rattle.prl_core.specs.Machine.{constants, Tells, IsOfPlan, Drives, AreOutputs};
     ghost use Rattle.prl_core.specs.Tests.{ReadsValue};
 
     /// The machine before the first event. The horizon is one of the plan, and each sensor has a row for each horizon
@@ -395,6 +395,28 @@ impl<'a> Core<'a> {
             Event::Tick => self.tick(),
             Event::Act(task) => self.act(task),
         }
+    }
+
+    /// The task of the actuator of main's output of this number.
+    fn task_of(&self, actuator: u32) -> usize
+        requires { (i : ℕ) × Drives self.now.plan i actuator }
+        ensures { Drives self.entry.now.plan result actuator }
+    {
+        for (i, task) in self.plan.graph().tasks.as_slice().iter().enumerate() {
+            if task.kind == Kind::Actuator(actuator) {
+                return i;
+            }
+        }
+        unreachable!()
+    }
+
+    /// The values of the ended jobs of the actuator of main's output of this number, in order. Takes no memory.
+    pub fn output(&self, actuator: u32) -> &[Value]
+        requires { (i : ℕ) × Drives self.now.plan i actuator }
+        ensures { (i : ℕ) × Drives self.entry.now.plan i actuator × AreOutputs self.entry.now i result.now }
+    {
+        let i = self.task_of(actuator);
+        &self.columns[i].as_slice()[..self.ended[i] as usize]
     }
 }
 
