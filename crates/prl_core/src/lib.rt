@@ -5,6 +5,8 @@
 mod columns;
 mod cores;
 mod seen;
+#[cfg(test)]
+mod tests;
 
 pub use cores::Core;
 pub use prl_plan::{Event, Rule};
