@@ -1,0 +1,6 @@
+pub mod ColumnLists
+pub mod Opening
+pub mod Places
+pub mod Kept
+pub mod Writers
+pub mod LegalReads

@@ -1,0 +1,5 @@
+pub mod Values
+pub mod Machine
+pub mod Columns
+pub mod Inside
+pub mod Tests

@@ -1,0 +1,51 @@
+//! What the machine tells of an event, and why it refuses one.
+
+use prl_base::{CellNo, EdgeNo, TaskNo, Value};
+use prl_plan::Rule;
+
+/// What an event did.
+#[derive(Clone, Copy, Debug, PartialEq, Eq)]
+pub enum Seen {
+    /// The clock shows this tick.
+    Ticked(u64),
+    /// A job read an instance from a cell.
+    Read {
+        task: TaskNo,
+        job: u64,
+        port: u32,
+        edge: EdgeNo,
+        instance: u64,
+        cell: CellNo,
+        value: Value,
+    },
+    /// A job took a constant.
+    ReadConst {
+        task: TaskNo,
+        job: u64,
+        port: u32,
+        value: Value,
+    },
+    /// A job wrote its instance to a cell.
+    Wrote {
+        task: TaskNo,
+        job: u64,
+        edge: EdgeNo,
+        cell: CellNo,
+    },
+    /// A job ended.
+    Ended { task: TaskNo, job: u64 },
+}
+
+/// An event that breaks a rule.
+#[derive(Clone, Copy, Debug, PartialEq, Eq)]
+pub struct Illegal {
+    /// The first rule that it breaks. An act is tried against L2, then L1, then L3, and a tick against L4.
+    pub rule: Rule,
+}
+
+/// A job of the horizon that has not ended.
+#[derive(Clone, Copy, Debug, PartialEq, Eq)]
+pub struct Unfinished {
+    pub task: TaskNo,
+    pub job: u64,
+}

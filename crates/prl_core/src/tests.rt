@@ -1,0 +1,81 @@
+ghost use Rattle.std.specs.Prelude.{◌≡◌};
+ghost use Rattle.prl_plan.specs.TwoTasks.{two_plan};
+
+use crate::{Core, Event, Illegal, Rule, Seen, Unfinished};
+use prl_base::{CellNo, EdgeNo, Seq, TaskNo, Value};
+use prl_flow::Sensors;
+use prl_plan::{Horizon, Plan};
+use std::test::Fail;
+
+/// Does the events of a list in which `t` is a tick, `i` an act of task 0 and `o` one of task 1, up to the first that is
+/// refused: its place, from 1, and the rule. Else the last thing that was seen.
+fn play(core: &mut Core<'_>, events: &[u8]) -> Result<Option<Seen>, (usize, Rule)>
+    requires { core.old.plan ≡ two_plan 10 1 1 }
+    ensures { core.exit.now.plan ≡ two_plan 10 1 1 }
+{
+    let mut last = None;
+    for (k, letter) in events.iter().enumerate() {
+        let event = match *letter {
+            b't' => Event::Tick,
+            b'i' => Event::Act(TaskNo(0)),
+            _ => Event::Act(TaskNo(1)),
+        };
+        match core.step(event) {
+            Ok(seen) => last = Some(seen),
+            Err(Illegal { rule }) => return Err((k + 1, rule)),
+        }
+    }
+    Ok(last)
+}
+
+/// Plays a list on a sensor with the rows 1 and 2 and its actuator, both of WCET 1 on period 10, until 20.
+fn outcome(rt: &HostRuntime, events: &[u8]) -> Result<Result<Option<Seen>, (usize, Rule)>, Fail> {
+    let plan = Plan::two(rt.alloc(), 10, 1, 1)?;
+    let rows = Seq::new(vec![in rt.alloc(); Value::Int(1), Value::Int(2)]?);
+    let sensors = Sensors::new(vec![in rt.alloc(); rows]?);
+    let horizon = Horizon::new(&plan, 20).ok().ok_or("a small horizon")?;
+    let mut core = Core::new(rt.alloc(), &plan, &sensors, horizon)?;
+    Ok(play(&mut core, events))
+}
+
+#[test]
+fn illegal_events(rt: HostRuntime) -> Result<(), Fail> {
+    assert_eq!(rt; outcome(&rt, b"o")?, Err((1, Rule::L1)));
+    assert_eq!(rt; outcome(&rt, b"to")?, Err((2, Rule::L3)));
+    assert_eq!(rt; outcome(&rt, b"ttttttttt")?, Err((9, Rule::L4)));
+    assert_eq!(rt; outcome(&rt, b"iitootttttttttiitooo")?, Err((20, Rule::L2)));
+    Ok(())
+}
+
+#[test]
+fn reads_of_a_run(rt: HostRuntime) -> Result<(), Fail> {
+    let first = Seen::Read {
+        task: TaskNo(1),
+        job: 0,
+        port: 0,
+        edge: EdgeNo(0),
+        instance: 0,
+        cell: CellNo(0),
+        value: Value::Int(1),
+    };
+    assert_eq!(rt; outcome(&rt, b"iito")?, Ok(Some(first)));
+    let plan = Plan::two(rt.alloc(), 10, 1, 1)?;
+    let rows = Seq::new(vec![in rt.alloc(); Value::Int(1), Value::Int(2)]?);
+    let sensors = Sensors::new(vec![in rt.alloc(); rows]?);
+    let horizon = Horizon::new(&plan, 20).ok().ok_or("a small horizon")?;
+    let mut core = Core::new(rt.alloc(), &plan, &sensors, horizon)?;
+    let left = Unfinished {
+        task: TaskNo(0),
+        job: 0,
+    };
+    assert_eq!(rt; core.finished(), Err(left));
+    let end = play(&mut core, b"iitootttttttttiitoo").ok().ok_or("a legal list")?;
+    let ended = Seen::Ended {
+        task: TaskNo(1),
+        job: 1,
+    };
+    assert_eq!(rt; end, Some(ended));
+    assert_eq!(rt; core.finished(), Ok(()));
+    assert_eq!(rt; core.output(0), [Value::Int(1), Value::Int(2)].as_slice());
+    Ok(())
+}

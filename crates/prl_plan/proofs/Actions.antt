@@ -1,0 +1,95 @@
+-- The actions of a job are what the definitions of operands and cells say.
+use Rattle.std.proofs.Common.{◌≡◌, ◌+◌, ◌<◌, ◌≤◌, ◌⊎◌, ◌++◌, ℕ, zero, suc, Bool, true, false, List, [], ◌∷◌, length, get_or, Option, Some, None, inl, inr, refl, sym, ◌∙◌, ap, subst, arith, cond, eqb}
+use Rattle.std.specs.Prelude.{is_some, IsSome, if◌then◌else◌}
+use Rattle.std.proofs.lemmas.Bool.Decides.{nat_tests}
+use Rattle.prl_plan.specs.declared.events.Action.{Action}
+use Rattle.prl_plan.specs.declared.events.Action.TheVariants as actions
+use Rattle.prl_plan.specs.declared.graphs.Edge.{Edge}
+use Rattle.prl_plan.specs.declared.graphs.Producer.{Producer}
+use Rattle.prl_plan.specs.declared.graphs.Producer.TheVariants as producers
+use Rattle.prl_plan.specs.declared.walks.Operand.{Operand}
+use Rattle.prl_plan.specs.declared.walks.Operand.TheVariants as operands
+use Rattle.prl_plan.specs.Operands.{operand_of}
+use Rattle.prl_plan.specs.Precedence.{ComesFrom}
+use Rattle.prl_plan.specs.Plans.{PlanView, edge_at, no_edge, place_on, cell_of, reading, reads_of, writing, writes_of, actions_of, IsActionOf}
+
+-- what holds of the end and of each element of two lists holds of what stands in one after the other
+each-append : (P : Action → Type 0) → (xs ys : List Action) → P actions.End → ((k : ℕ) → P (get_or xs k actions.End)) → ((k : ℕ) → P (get_or ys k actions.End)) →
+    (k : ℕ) → P (get_or (xs ++ ys) k actions.End)
+each-append P [] ys end first second k = second k
+each-append P (x ∷ xs) ys end first second zero = first 0
+each-append P (x ∷ xs) ys end first second (suc k) = each-append P xs ys end (λ n. first (suc n)) second k
+
+each-one : (P : Action → Type 0) → (x : Action) → P actions.End → P x → (k : ℕ) → P (get_or (x ∷ []) k actions.End)
+each-one P x end is zero = is
+each-one P x end is (suc k) = end
+
+each-none : (P : Action → Type 0) → P actions.End → (k : ℕ) → P (get_or [] k actions.End)
+each-none P end k = end
+
+-- what holds of the elements of a list where the test is true holds of those of the list under the test
+each-if : (P : Action → Type 0) → (b : Bool) (xs : List Action) → P actions.End → (b ≡ true → (k : ℕ) → P (get_or xs k actions.End)) →
+    (k : ℕ) → P (get_or (cond b xs []) k actions.End)
+each-if P true xs end is k = is refl k
+each-if P false xs end is k = end
+
+equal : (x y : ℕ) → eqb x y ≡ true → x ≡ y
+equal x y h = grind (arith, nat_tests)
+
+module _ (plan : PlanView) (i n : ℕ) where
+  -- from edge e on, the list of edges is this one
+  abbrev Stands : ℕ → List Edge → Type 0
+  Stands e edges = (k : ℕ) → k < length edges → (e + k < length plan.graph.edges) × (edge_at plan.graph (e + k) ≡ get_or edges k no_edge)
+
+  reading-fits : (e : ℕ) (edge : Edge) → e < length plan.graph.edges → edge_at plan.graph e ≡ edge → edge.to.0 ≡ i → (operand : Operand) →
+      operand_of edge n ≡ operand → IsActionOf plan i n (reading plan e edge operand)
+  reading-fits e edge inside is to (operands.Const c) reads =
+      (e, inside, ap (λ (x : Edge). x.to.0) is ∙ to, ap (λ (x : Edge). x.port) is, ap (λ (x : Edge). operand_of x n) is ∙ reads)
+  reading-fits e edge inside is to (operands.From m) reads =
+      (inside, ap (λ (x : Edge). x.to.0) is ∙ to, ap (λ (x : Edge). x.port) is, ap (λ (x : Edge). operand_of x n) is ∙ reads, refl)
+
+  here : (e : ℕ) (edge : Edge) (edges : List Edge) → Stands e (edge ∷ edges) → (e < length plan.graph.edges) × (edge_at plan.graph e ≡ edge)
+  here e edge edges stands =
+      let first = stands 0 (omega arith) in
+      let same : e + 0 ≡ e = omega arith in
+      (omega (arith, first.0, same), ap (λ (x : ℕ). edge_at plan.graph x) (sym same) ∙ first.1)
+
+  behind : (e : ℕ) (edge : Edge) (edges : List Edge) → Stands e (edge ∷ edges) → Stands (e + 1) edges
+  behind e edge edges stands k h =
+      let next = stands (suc k) (omega arith) in
+      let same : e + suc k ≡ e + 1 + k = omega arith in
+      (omega (arith, next.0, same), ap (λ (x : ℕ). edge_at plan.graph x) (sym same) ∙ next.1)
+
+  reads-fit : (e : ℕ) (edges : List Edge) → Stands e edges → (k : ℕ) → IsActionOf plan i n (get_or (reads_of plan i n e edges) k actions.End)
+  reads-fit e [] stands k = each-none (IsActionOf plan i n) tt k
+  reads-fit e (edge ∷ edges) stands k =
+      each-append (IsActionOf plan i n) (cond (eqb edge.to.0 i) (reading plan e edge (operand_of edge n) ∷ []) []) (reads_of plan i n (e + 1) edges) tt
+      (each-if (IsActionOf plan i n) (eqb edge.to.0 i) (reading plan e edge (operand_of edge n) ∷ []) tt
+      (λ test. each-one (IsActionOf plan i n) (reading plan e edge (operand_of edge n)) tt
+      (reading-fits e edge (here e edge edges stands).0 (here e edge edges stands).1 (equal edge.to.0 i test) (operand_of edge n) refl)))
+      (reads-fit (e + 1) edges (behind e edge edges stands)) k
+
+  writing-fits : (e : ℕ) → e < length plan.graph.edges → (from : Producer) → (edge_at plan.graph e).from ≡ from → (k : ℕ) →
+      IsActionOf plan i n (get_or (writing plan i n e from) k actions.End)
+  writing-fits e inside (producers.Constant value) is k = each-none (IsActionOf plan i n) tt k
+  writing-fits e inside (producers.Port task out) is k =
+      each-if (IsActionOf plan i n) (eqb task.0 i)
+      (cond (is_some (place_on plan e n)) (actions.Write (record { 0 = e }) n (record { 0 = cell_of plan e n }) ∷ []) []) tt
+      (λ own. each-if (IsActionOf plan i n) (is_some (place_on plan e n)) (actions.Write (record { 0 = e }) n (record { 0 = cell_of plan e n }) ∷ []) tt
+      (λ used. each-one (IsActionOf plan i n) (actions.Write (record { 0 = e }) n (record { 0 = cell_of plan e n })) tt
+      (inside, subst (λ (p : Producer). ComesFrom p i) (sym is) (equal task.0 i own), refl, used, refl))) k
+
+  writes-fit : (e : ℕ) (edges : List Edge) → Stands e edges → (k : ℕ) → IsActionOf plan i n (get_or (writes_of plan i n e edges) k actions.End)
+  writes-fit e [] stands k = each-none (IsActionOf plan i n) tt k
+  writes-fit e (edge ∷ edges) stands k =
+      each-append (IsActionOf plan i n) (writing plan i n e edge.from) (writes_of plan i n (e + 1) edges) tt
+      (writing-fits e (here e edge edges stands).0 edge.from (ap (λ (x : Edge). x.from) (here e edge edges stands).1))
+      (writes-fit (e + 1) edges (behind e edge edges stands)) k
+
+  pub actions-fit : (k : ℕ) → IsActionOf plan i n (get_or (actions_of plan i n) k actions.End)
+  actions-fit k =
+      let all : Stands 0 plan.graph.edges = λ j h. (omega (arith, h), ap (λ (x : ℕ). edge_at plan.graph x) (let z : 0 + j ≡ j = omega arith in z)) in
+      each-append (IsActionOf plan i n) (reads_of plan i n 0 plan.graph.edges ++ writes_of plan i n 0 plan.graph.edges) (actions.End ∷ []) tt
+      (each-append (IsActionOf plan i n) (reads_of plan i n 0 plan.graph.edges) (writes_of plan i n 0 plan.graph.edges) tt
+      (reads-fit 0 plan.graph.edges all) (writes-fit 0 plan.graph.edges all))
+      (each-one (IsActionOf plan i n) actions.End tt tt) k

@@ -1,0 +1,5 @@
+use Rattle.prl_plan.proofs.Actions.{actions-fit}
+use Rattle.prl_plan.proofs.facts.actions_are_as_defined.Goals as goal
+
+pub returns : goal.returns
+returns c = actions-fit

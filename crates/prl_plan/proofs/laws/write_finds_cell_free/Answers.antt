@@ -1,0 +1,9 @@
+use Rattle.prl_plan.specs.Runs.{opening, after_events}
+use Rattle.prl_plan.proofs.Sound.{sound-opening}
+use Rattle.prl_plan.proofs.Legal.{IsGated-sound, write_finds_free}
+use Rattle.prl_plan.proofs.laws.write_finds_cell_free.Goals as goal
+
+pub returns : goal.returns
+returns c = λ k facts list gated i e m cell has released is j n place l reads holds.
+    write_finds_free k facts (after_events k (opening k) list) (IsGated-sound k facts (opening k) (sound-opening k facts) list gated)
+    i e m cell has released is j n place l reads holds

@@ -1,0 +1,59 @@
+-- The horizon of a run: its jobs, and the constants of the run.
+use Rattle.std.specs.Prelude.{◌≡◌, ◌+◌, ◌<◌, ◌≤◌, ◌^◌, ◌⊎◌, ℕ, zero, suc, length, sum}
+use Rattle.prl_base.specs.declared.limits.Limit.{Limit}
+use Rattle.prl_base.specs.declared.limits.What.{What}
+use Rattle.prl_base.specs.declared.limits.What.TheVariants as whats
+use Rattle.prl_plan.specs.declared.horizons.Horizon.{Horizon}
+use Rattle.prl_plan.specs.Jobs.{task_at, job_count, IsHorizonJob}
+use Rattle.prl_plan.specs.Plans.{PlanView, release_at, deadline_at, actions_of}
+use Rattle.prl_plan.specs.Runs.{RunConstants}
+
+-- the sum of f over the numbers below n
+abbrev pub sum_below : (ℕ → ℕ) → ℕ → ℕ
+sum_below f zero = 0
+sum_below f (suc n) = sum_below f n + f n
+
+-- how many jobs of the plan are released before `until`
+abbrev pub jobs_up_to : PlanView → ℕ → ℕ
+jobs_up_to plan until = sum_below (λ i. job_count (task_at plan.graph i) until) (length plan.graph.tasks)
+
+-- how many actions these jobs have
+abbrev pub actions_up_to : PlanView → ℕ → ℕ
+actions_up_to plan until =
+    sum_below (λ i. sum_below (λ n. length (actions_of plan i n)) (job_count (task_at plan.graph i) until)) (length plan.graph.tasks)
+
+-- `end` is the greatest encoded deadline of a horizon job, 0 where there is none
+pub record IsEnd (plan : PlanView) (until end : ℕ) : Type 0 where
+  pub above : (i n : ℕ) → IsHorizonJob plan.graph until i n → deadline_at plan i n ≤ end
+  pub attained : (end ≡ 0) ⊎ ((i : ℕ) × (n : ℕ) × IsHorizonJob plan.graph until i n × (end ≡ deadline_at plan i n))
+
+-- the horizon of the plan up to `until`, within the limits
+pub record IsHorizon (plan : PlanView) (horizon : Horizon) : Type 0 where
+  pub until : horizon.until < 2 ^ 32
+  pub end : IsEnd plan horizon.until horizon.end
+  pub jobs : horizon.jobs ≡ jobs_up_to plan horizon.until
+  pub events : horizon.events ≡ actions_up_to plan horizon.until + horizon.end
+  pub few_jobs : horizon.jobs ≤ 200000
+  pub few_events : horizon.events ≤ 1000000
+
+-- When a horizon is refused: it has more than 200,000 jobs, or else more than 1,000,000 events, and this is how many.
+abbrev pub IsPast : PlanView → ℕ → What → ℕ → Type 0
+IsPast plan until whats.Jobs found = (found ≡ jobs_up_to plan until) × (200000 < found)
+IsPast plan until whats.Events found =
+    (jobs_up_to plan until ≤ 200000) × ((end : ℕ) × IsEnd plan until end × (found ≡ actions_up_to plan until + end)) × (1000000 < found)
+IsPast plan until _ found = ⊥
+
+abbrev pub IsPastLimit : PlanView → ℕ → Limit → Type 0
+IsPastLimit plan until limit = IsPast plan until limit.what limit.found
+
+-- what stays the same over a run of a plan in a horizon
+abbrev pub constants_of : PlanView → Horizon → RunConstants
+constants_of plan horizon = record {
+  tasks = length plan.graph.tasks;
+  cells = sum plan.counts;
+  jobs = λ i. job_count (task_at plan.graph i) horizon.until;
+  release = release_at plan;
+  deadline = deadline_at plan;
+  actions = actions_of plan;
+  end = horizon.end;
+}

@@ -1,0 +1,14 @@
+pub mod Operands
+pub mod Jobs
+pub mod Precedence
+pub mod Graphs
+pub mod Dates
+pub mod Cells
+pub mod Plans
+pub mod Runs
+pub mod Rules
+pub mod Facts
+pub mod States
+pub mod Horizons
+pub mod TwoTasks
+pub mod Devices

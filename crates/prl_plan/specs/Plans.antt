@@ -1,0 +1,104 @@
+-- Plans: a task graph with its encoded dates and its cells, and what its jobs do in a horizon.
+use Rattle.std.specs.Prelude.{◌≡◌, length, ◌+◌, ◌%◌, ◌==◌, ◌<◌, ◌^◌, ◌++◌, ℕ, pos, nat_abs, List, [], ◌∷◌, Option, is_some, IsSome, unwrap_or, slice_index, slice_index_or, if◌then◌else◌}
+use Rattle.prl_base.specs.declared.values.Ty.TheVariants as types
+use Rattle.prl_base.specs.declared.values.Value.TheVariants as values
+use Rattle.prl_plan.specs.declared.events.Action.{Action}
+use Rattle.prl_plan.specs.declared.events.Action.TheVariants as actions
+use Rattle.prl_plan.specs.declared.graphs.Edge.{Edge}
+use Rattle.prl_plan.specs.declared.graphs.TaskGraph.{TaskGraph}
+use Rattle.prl_plan.specs.declared.graphs.Producer.{Producer}
+use Rattle.prl_plan.specs.declared.graphs.Producer.TheVariants as producers
+use Rattle.prl_plan.specs.declared.walks.Operand.{Operand}
+use Rattle.prl_plan.specs.declared.walks.Operand.TheVariants as operands
+use Rattle.prl_plan.specs.declared.tables.Window.{Window}
+use Rattle.prl_plan.specs.declared.tables.Used.{Used}
+use Rattle.prl_plan.specs.Graphs.{IsWellFormed}
+use Rattle.prl_plan.specs.Operands.{operand_of}
+use Rattle.prl_plan.specs.Precedence.{ComesFrom}
+use Rattle.prl_plan.specs.Dates.{AreEncodedDates, encoded_release, encoded_deadline}
+use Rattle.prl_plan.specs.Cells.{AreLeastCells, place_of, no_used}
+
+-- what is known of a plan
+pub record PlanView : Type 0 where
+  pub graph : TaskGraph
+  -- by task, the windows of its jobs, which repeat from job 0 on
+  pub windows : List (List Window)
+  -- by edge, its first cell, its number of cells, and its used instances
+  pub bases : List ℕ
+  pub counts : List ℕ
+  pub used : List Used
+
+pub record IsPlan (plan : PlanView) : Type 0 where
+  pub graph : IsWellFormed plan.graph
+  pub dates : AreEncodedDates plan.graph plan.windows
+  pub cells : AreLeastCells plan.graph plan.windows plan.bases plan.counts plan.used
+
+-- the encoded release of job n of task i, where n is at least 0
+abbrev pub release_at : PlanView → ℕ → ℕ → ℕ
+release_at plan i n = nat_abs (encoded_release plan.graph plan.windows i (pos n))
+
+abbrev pub deadline_at : PlanView → ℕ → ℕ → ℕ
+deadline_at plan i n = nat_abs (encoded_deadline plan.graph plan.windows i (pos n))
+
+-- stands where there is no edge
+abbrev pub no_edge : Edge
+no_edge = record { from = producers.Constant (values.Int (pos 0)); to = record { 0 = 0 }; port = 0; ops = []; period = 1; ty = types.Int }
+
+abbrev pub edge_at : TaskGraph → ℕ → Edge
+edge_at graph e = slice_index_or graph.edges e no_edge
+
+-- where instance m of edge e stands among the used instances of that edge, if it is one
+abbrev pub place_on : PlanView → ℕ → ℕ → Option ℕ
+place_on plan e m = place_of (slice_index_or plan.used e no_used) m
+
+-- the cell of a used instance: the cells of an edge in turn
+abbrev pub cell_of : PlanView → ℕ → ℕ → ℕ
+cell_of plan e m = slice_index plan.bases e + unwrap_or (place_on plan e m) 0 % slice_index plan.counts e
+
+abbrev pub reading : PlanView → ℕ → Edge → Operand → Action
+reading plan e edge (operands.Const c) = actions.ReadConst edge.port c
+reading plan e edge (operands.From m) = actions.Read edge.port (record { 0 = e }) m (record { 0 = cell_of plan e m })
+
+-- the reads of job n of task i, over these edges, of which the first is edge e
+abbrev pub reads_of : PlanView → ℕ → ℕ → ℕ → List Edge → List Action
+reads_of plan i n e [] = []
+reads_of plan i n e (edge ∷ edges) =
+    (if edge.to.0 == i then reading plan e edge (operand_of edge n) ∷ [] else []) ++ reads_of plan i n (e + 1) edges
+
+-- what a job writes to an edge from its own task: its instance, where that is used
+abbrev pub writing : PlanView → ℕ → ℕ → ℕ → Producer → List Action
+writing plan i n e (producers.Constant value) = []
+writing plan i n e (producers.Port task out) =
+    if task.0 == i then (if is_some (place_on plan e n) then actions.Write (record { 0 = e }) n (record { 0 = cell_of plan e n }) ∷ [] else []) else []
+
+abbrev pub writes_of : PlanView → ℕ → ℕ → ℕ → List Edge → List Action
+writes_of plan i n e [] = []
+writes_of plan i n e (edge ∷ edges) = writing plan i n e edge.from ++ writes_of plan i n (e + 1) edges
+
+-- the actions of job n of task i: its reads in the order of ports, its writes in the order of edges, and its end
+abbrev pub actions_of : PlanView → ℕ → ℕ → List Action
+actions_of plan i n = reads_of plan i n 0 plan.graph.edges ++ writes_of plan i n 0 plan.graph.edges ++ actions.End ∷ []
+
+-- the operand has a number that a look-up may tell
+abbrev pub IsSmallOperand : Operand → Type 0
+IsSmallOperand (operands.Const c) = Unit {0}
+IsSmallOperand (operands.From m) = m < 2 ^ 63
+
+-- the edge comes from a task
+abbrev pub ComesFromTask : Producer → Type 0
+ComesFromTask (producers.Port task out) = Unit {0}
+ComesFromTask (producers.Constant value) = ⊥
+
+-- What an action of job n of task i is, by the definitions of operands and cells: a read is at a port of an edge into
+-- the task, of the job's operand there; a write is to an edge from the task, of the job's own instance, which is used.
+abbrev pub IsActionOf : PlanView → ℕ → ℕ → Action → Type 0
+IsActionOf plan i n (actions.ReadConst port value) =
+    (e : ℕ) × (e < length plan.graph.edges) × ((edge_at plan.graph e).to.0 ≡ i) × ((edge_at plan.graph e).port ≡ port)
+    × (operand_of (edge_at plan.graph e) n ≡ operands.Const value)
+IsActionOf plan i n (actions.Read port e m cell) =
+    (e.0 < length plan.graph.edges) × ((edge_at plan.graph e.0).to.0 ≡ i) × ((edge_at plan.graph e.0).port ≡ port)
+    × (operand_of (edge_at plan.graph e.0) n ≡ operands.From m) × (cell.0 ≡ cell_of plan e.0 m)
+IsActionOf plan i n (actions.Write e m cell) =
+    (e.0 < length plan.graph.edges) × ComesFrom (edge_at plan.graph e.0).from i × (m ≡ n) × IsSome (place_on plan e.0 n)
+    × (cell.0 ≡ cell_of plan e.0 n)
+IsActionOf plan i n actions.End = Unit {0}

@@ -1,0 +1,28 @@
+//! Plans of multi-periodic programs: the task graph with its tasks and edges, the jobs of a horizon, the operand that
+//! each job reads, encoded dates, buffer cells, and the lists of events that an executive may do. It stands on
+//! `prl_base` alone.
+#![tactic(auto)]
+
+mod events;
+mod facts;
+mod graphs;
+mod horizons;
+mod laws;
+mod plans;
+mod tables;
+#[cfg(test)]
+mod tests;
+mod walks;
+
+pub use events::{Action, Event, Rule};
+pub use facts::{
+    actions_are_as_defined, horizon_jobs_are_counted, plan_facts, plan_is_one, plan_links_devices,
+};
+pub use graphs::{Edge, Kind, Producer, Task, TaskGraph};
+pub use horizons::Horizon;
+pub use laws::{
+    gated_list_keeps_cells, legal_list_is_gated, run_of_two_lists, write_finds_cell_free,
+};
+pub use plans::Plan;
+pub use tables::{Used, Window};
+pub use walks::{Operand, operand_by_walk, walk_back};

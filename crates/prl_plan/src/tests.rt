@@ -1,0 +1,60 @@
+use crate::{Action, Horizon, Operand, Plan, walk_back};
+use prl_base::{CellNo, EdgeNo, Limit, Op, TaskNo, Value, What};
+use std::test::Fail;
+
+// A sensor task and an actuator task on period 10, both with WCET 1.
+#[test]
+fn dates_and_cells_of_two_tasks(rt: HostRuntime) -> Result<(), Fail> {
+    let plan = Plan::two(rt.alloc(), 10, 1, 1)?;
+    assert_eq!(rt; plan.release(TaskNo(0), 2), 20);
+    assert_eq!(rt; plan.release(TaskNo(1), 2), 21);
+    assert_eq!(rt; plan.deadline(TaskNo(0), 0), 9);
+    assert_eq!(rt; plan.deadline(TaskNo(1), 1), 20);
+    assert_eq!(rt; plan.operand(EdgeNo(0), 7), Operand::From(7));
+    assert!(rt; plan.uses(EdgeNo(0), 7));
+    assert_eq!(rt; plan.cell(EdgeNo(0), 7), CellNo(0));
+    assert_eq!(rt; plan.base(EdgeNo(0)), CellNo(0));
+    assert_eq!(rt; plan.count(EdgeNo(0)), 1);
+    assert_eq!(rt; plan.total(), 1);
+    assert_eq!(rt; plan.graph().edges.len(), 1);
+    assert_eq!(rt; plan.action(TaskNo(1), 3, 1), Action::End);
+    Ok(())
+}
+
+#[test]
+fn horizons_of_two_tasks(rt: HostRuntime) -> Result<(), Fail> {
+    let plan = Plan::two(rt.alloc(), 10, 1, 1)?;
+    let horizon = Horizon {
+        until: 20,
+        end: 20,
+        jobs: 4,
+        events: 28,
+    };
+    assert_eq!(rt; Horizon::new(&plan, 20), Ok(horizon));
+    assert_eq!(rt; Horizon::new(&plan, 0).map(|h| h.events), Ok(0));
+    let jobs = Limit {
+        what: What::Jobs,
+        found: 200_002,
+    };
+    assert_eq!(rt; Horizon::new(&plan, 1_000_001), Err(jobs));
+    let events = Limit {
+        what: What::Events,
+        found: 1_000_006,
+    };
+    assert_eq!(rt; Horizon::new(&plan, 714_290), Err(events));
+    Ok(())
+}
+
+// Rows that other layers share: the operators stand from the consumer's end on.
+#[test]
+fn operands_by_walk(rt: HostRuntime) -> Result<(), Fail> {
+    let late = [Op::Up(3), Op::Fby(Value::Int(0))];
+    assert_eq!(rt; walk_back(&late, 2), Operand::Const(Value::Int(0)));
+    assert_eq!(rt; walk_back(&late, 3), Operand::From(0));
+    assert_eq!(rt; walk_back(&late, 8), Operand::From(1));
+    assert_eq!(rt; walk_back(&[Op::Down(3)], 4), Operand::From(12));
+    assert_eq!(rt; walk_back(&[Op::Up(3), Op::Down(3)], 5), Operand::From(3));
+    let never = [Op::Tail, Op::Cons(Value::Int(9))];
+    assert_eq!(rt; walk_back(&never, 0), Operand::From(0));
+    Ok(())
+}
