@@ -1,3 +1,4 @@
 pub mod Coprime
 pub mod Signs
 pub mod Lowest
+pub mod LineCuts

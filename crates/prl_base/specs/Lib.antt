@@ -6,3 +6,4 @@ pub mod Reductions
 pub mod Reading
 pub mod Decimals
 pub mod Limits
+pub mod Lines

@@ -5,6 +5,7 @@
 
 mod decimals;
 mod limits;
+mod lines;
 mod names;
 mod numbers;
 mod operators;
@@ -15,6 +16,7 @@ mod values;
 
 pub use decimals::{are_digits, decimal_of, integer_of, negative, positive};
 pub use limits::{Limit, What};
+pub use lines::{cut_line, line_len};
 pub use names::{Label, Name, NameFault, is_word, is_word_byte, is_word_start};
 pub use numbers::{CellNo, EdgeNo, FlowNo, TaskNo};
 pub use operators::{Clock, Op};

@@ -1,0 +1,7 @@
+//! Schedules and their replay: the events that a text lists are done one by one on the machine of a plan. It
+//! stands on `prl_plan` and `prl_core`.
+#![tactic(auto)]
+
+mod schedules;
+
+pub use schedules::{ScheduleFault, read_schedule};

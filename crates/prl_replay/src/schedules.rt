@@ -1,0 +1,116 @@
+//! Texts of schedules: one event a line.
+
+ghost use Rattle.std.specs.Prelude.{◌≡◌, ◌<◌, ◌≤◌, ◌^◌, All, IfOk, IfSome, length};
+ghost use Rattle.std.specs.Option.{option_map};
+ghost use Rattle.std.specs.Vec.{vec_items};
+ghost use Rattle.prl_base.specs.Reading.{Gives};
+ghost use Rattle.prl_replay.specs.Schedules.{task_of, event_of, without_return, or_line, schedule_of, schedule_fault, IsOfTasks};
+
+use prl_base::{Label, TaskNo, cut_line};
+use prl_plan::Event;
+use std::alloc::{AllocFailed, Global};
+
+/// Why a text is no schedule.
+#[derive(Clone, Copy, Debug, PartialEq, Eq)]
+pub enum ScheduleFault {
+    /// The line of this number, counted from 1, is no event.
+    Syntax(u64),
+    Memory,
+}
+
+impl<T: Drop> From<AllocFailed<T>> for ScheduleFault {
+    ghost use Rattle.std.specs.Prelude.{◌≡◌};
+    ghost use Rattle.prl_replay.specs.declared.schedules.ScheduleFault.TheVariants.{Memory};
+
+    ghost from_gives = { λ _ e. e ≡ Memory };
+
+    fn from(_error: AllocFailed<T>) -> ScheduleFault {
+        ScheduleFault::Memory
+    }
+}
+
+/// The first task of this name.
+fn task_of(names: &[Label], name: &[u8]) -> Option<TaskNo>
+    requires { length names.now < 2 ^ 32 }
+    ensures exact { result ≡ task_of names.now name.now }
+    ensures task { IfSome result (λ task. task.0 < length names.now) }
+{
+    for (i, task) in names.iter().enumerate() {
+        if task.bytes() == name {
+            return Some(TaskNo(i as u32));
+        }
+    }
+    None
+}
+
+/// The event that a line writes: `tick`, or `act` and the name of a task.
+fn event_of(names: &[Label], line: &[u8]) -> Option<Event>
+    requires { length names.now < 2 ^ 32 }
+    ensures exact { result ≡ event_of names.now line.now }
+    ensures tasks { IfSome result (IsOfTasks (length names.now)) }
+{
+    if line == b"tick".as_slice() {
+        return Some(Event::Tick);
+    }
+    match line.strip_prefix(b"act ") {
+        None => None,
+        Some(name) => match task_of(names, name) {
+            None => None,
+            Some(task) => Some(Event::Act(task)),
+        },
+    }
+}
+
+/// The line without a carriage return at its end.
+fn without_return(line: &[u8]) -> &[u8]
+    ensures { result.now ≡ without_return line.now }
+{
+    match line {
+        [front @ .., b'\r'] => front,
+        _ => line,
+    }
+}
+
+/// The event of a line, where it is one.
+fn event_at(names: &[Label], line: &[u8], number: u64) -> Result<Event, ScheduleFault>
+    requires { length names.now < 2 ^ 32 }
+    ensures exact { Gives (λ event. event) schedule_fault result (or_line number (event_of names.now line.now)) }
+    ensures tasks { IfOk result (IsOfTasks (length names.now)) }
+{
+    match event_of(names, line) {
+        Some(event) => Ok(event),
+        None => Err(ScheduleFault::Syntax(number)),
+    }
+}
+
+/// The events of the schedule, a line each, whose acts are of the tasks of these names. `Syntax` at the first line that
+/// is no event.
+pub fn read_schedule(
+    alloc: Global,
+    text: &[u8],
+    names: &[Label],
+) -> Result<Vec<Event>, ScheduleFault>
+    requires { length names.now < 2 ^ 32 }
+    ensures exact { Gives vec_items schedule_fault result (schedule_of names.now text.now) }
+    ensures tasks { IfOk result (λ events. All (IsOfTasks (length names.now)) events.items) }
+{
+    let mut events = Vec::new(alloc);
+    let mut rest = text;
+    let mut number: u64 = 1;
+    while let Some((line, behind)) = cut_line(rest) {
+        match event_at(names, without_return(line), number) {
+            Ok(event) => events.push(event)?,
+            Err(fault) => return Err(fault),
+        }
+        rest = behind;
+        number += 1;
+    }
+    if rest.is_empty() {
+        return Ok(events);
+    }
+    match event_at(names, rest, number) {
+        Ok(event) => events.push(event)?,
+        Err(fault) => return Err(fault),
+    }
+    Ok(events)
+}
