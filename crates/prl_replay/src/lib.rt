@@ -2,6 +2,8 @@
 //! stands on `prl_plan` and `prl_core`.
 #![tactic(auto)]
 
+mod replays;
 mod schedules;
 
+pub use replays::{ReplayFault, replay};
 pub use schedules::{ScheduleFault, read_schedule};
