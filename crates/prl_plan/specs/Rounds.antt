@@ -16,11 +16,14 @@ asked graph date (producers.Constant value) ops m best = best
 asked graph date (producers.Port task out) ops m best =
     int_max best (date task.0 (preceding ops m) +ℤ pos (task_at graph task.0).wcet)
 
+-- the later of a date and what an edge asks of job m of task i
+abbrev pub asked_of : TaskGraph → Family → ℕ → ℤ → Edge → ℤ → ℤ
+asked_of graph date i m edge best = if edge.to.0 == i then asked graph date edge.from edge.ops m best else best
+
 -- the latest of a date and what these edges ask of job m of task i
 abbrev pub latest : TaskGraph → Family → ℕ → ℤ → List Edge → ℤ → ℤ
 latest graph date i m [] best = best
-latest graph date i m (edge ∷ edges) best =
-    latest graph date i m edges (if edge.to.0 == i then asked graph date edge.from edge.ops m best else best)
+latest graph date i m (edge ∷ edges) best = latest graph date i m edges (asked_of graph date i m edge best)
 
 -- the releases after so many rounds
 abbrev pub releases_after : TaskGraph → ℕ → Family
