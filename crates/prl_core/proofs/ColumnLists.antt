@@ -1,5 +1,5 @@
 -- Columns of values that get one more.
-use Rattle.std.proofs.Common.{◌≡◌, ◌+◌, ◌<◌, ◌++◌, ℕ, zero, suc, List, [], ◌∷◌, length, map, get_or, arith, Vec, Global, sym, ◌∙◌, ap, subst}
+use Rattle.std.proofs.Common.{◌≡◌, ◌+◌, ◌<◌, ◌++◌, ℕ, zero, suc, List, [], ◌∷◌, length, map, arith, Vec, Global, sym, ◌∙◌, ap, subst}
 use Rattle.std.proofs.lemmas.List.{length-map, map-append}
 use Rattle.prl_base.specs.declared.values.Value.{Value}
 use Rattle.prl_core.specs.Columns.{column}
@@ -22,4 +22,4 @@ room-more cs new x i count is len before last j inside =
     let there : map items new ≡ map items cs ++ x.items ∷ [] = ap (λ (ys : List (Vec Value Global)). map items ys) is ∙ map-append items cs (x ∷ []) in
     let many : length (map items cs) ≡ i = (let l = length-map cs items in omega (arith, l, len)) in
     subst (λ (ys : List (List Value)). length (column ys j) ≡ count j) (sym there)
-      (columns-push (map items cs) x.items count (λ k h. before k (omega (arith, many, h))) (last ∙ ap count (sym many)) j (omega (arith, many, inside)))
+    (columns-push (map items cs) x.items count (λ k h. before k (omega (arith, many, h))) (last ∙ ap count (sym many)) j (omega (arith, many, inside)))

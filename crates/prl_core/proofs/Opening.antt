@@ -1,6 +1,6 @@
 -- The machine before the first event.
-use Rattle.std.proofs.Common.{◌≡◌, ◌+◌, ◌<◌, ℕ, List, length, replicate, get_or, inl, inr, sym, ◌∙◌, ap, subst, arith}
-use Rattle.std.proofs.lemmas.List.{length-replicate, get_or-replicate}
+use Rattle.std.proofs.Common.{◌≡◌, ℕ, List, length, replicate, get_or, inl, inr, sym, subst, arith}
+use Rattle.std.proofs.lemmas.List.{get_or-replicate}
 use Rattle.prl_base.specs.declared.values.Value.{Value}
 use Rattle.prl_flow.specs.Rows.{Rows}
 use Rattle.prl_plan.specs.declared.horizons.Horizon.{Horizon}
@@ -10,31 +10,29 @@ use Rattle.prl_plan.specs.Horizons.{IsHorizon, constants_of}
 use Rattle.prl_plan.specs.Runs.{opening}
 use Rattle.prl_plan.proofs.Sound.{sound-opening}
 use Rattle.prl_core.specs.Values.{HasRows, HasRoom}
-use Rattle.prl_core.specs.Machine.{CoreView, constants}
 use Rattle.prl_core.specs.Inside.{IsWhole}
-use Rattle.prl_core.specs.Columns.{column}
 
 pub opened : (plan : PlanView) (rows : Rows) (horizon : Horizon) → IsHorizon plan horizon → HasRows plan horizon.until rows →
     HasPlanFacts (constants_of plan horizon) → (values : List Value) (columns : List (List Value)) →
     length values ≡ (constants_of plan horizon).cells → HasRoom plan horizon.until columns →
     IsWhole (record { plan = plan; rows = rows; horizon = horizon; state = opening (constants_of plan horizon) }) values columns
 opened plan rows horizon is has facts values columns cells room = record {
-    horizon = is;
-    rows = has;
-    sound = sound-opening (constants_of plan horizon) facts;
-    cells = cells;
-    room = room;
-    stored = λ i n place m cell writes holds.
+  horizon = is;
+  rows = has;
+  sound = sound-opening (constants_of plan horizon) facts;
+  cells = cells;
+  room = room;
+  stored = λ i n place m cell writes holds.
       absurd (let z : ◌≡◌ {A = ℕ} (get_or (replicate (constants_of plan horizon).cells 0) cell 0) 0 =
-          get_or-replicate (constants_of plan horizon).cells cell 0 0 (facts.write_cell i n place m cell writes) in omega (arith, z, holds));
-    told = λ e n inside job done.
+      get_or-replicate (constants_of plan horizon).cells cell 0 0 (facts.write_cell i n place m cell writes) in omega (arith, z, holds));
+  told = λ e n inside job done.
       (let i : ℕ = (edge_at plan.graph e).to.0 in
       let z : ◌≡◌ {A = ℕ} (get_or (replicate (constants_of plan horizon).tasks 0) i 0) 0 = get_or-replicate (constants_of plan horizon).tasks i 0 0 job.task in
       elim done [
-        inl below ↦ absurd (omega (arith, below, z))
-      | inr here ↦ absurd (omega (arith, here.1, z))
-      ])
-  }
+        | inl below ↦ absurd (omega (arith, below, z))
+        | inr here ↦ absurd (omega (arith, here.1, z))
+      ]);
+}
 
 -- the same, of lists that are zeros
 pub opened-at : (plan : PlanView) (rows : Rows) (horizon : Horizon) → IsHorizon plan horizon → HasRows plan horizon.until rows →
@@ -44,6 +42,6 @@ pub opened-at : (plan : PlanView) (rows : Rows) (horizon : Horizon) → IsHorizo
     IsWhole (record { plan = plan; rows = rows; horizon = horizon; state = record { now = 0; ended = ended; places = places; tags = tags } }) values columns
 opened-at plan rows horizon is has facts values columns cells room ended places tags is_ended is_places is_tags =
     subst (λ (x : List ℕ). IsWhole (record { plan = plan; rows = rows; horizon = horizon; state = record { now = 0; ended = x; places = places; tags = tags } }) values columns) (sym is_ended)
-      (subst (λ (x : List ℕ). IsWhole (record { plan = plan; rows = rows; horizon = horizon; state = record { now = 0; ended = replicate (constants_of plan horizon).tasks 0; places = x; tags = tags } }) values columns) (sym is_places)
-        (subst (λ (x : List ℕ). IsWhole (record { plan = plan; rows = rows; horizon = horizon; state = record { now = 0; ended = replicate (constants_of plan horizon).tasks 0; places = replicate (constants_of plan horizon).tasks 0; tags = x } }) values columns) (sym is_tags)
-          (opened plan rows horizon is has facts values columns cells room)))
+    (subst (λ (x : List ℕ). IsWhole (record { plan = plan; rows = rows; horizon = horizon; state = record { now = 0; ended = replicate (constants_of plan horizon).tasks 0; places = x; tags = tags } }) values columns) (sym is_places)
+    (subst (λ (x : List ℕ). IsWhole (record { plan = plan; rows = rows; horizon = horizon; state = record { now = 0; ended = replicate (constants_of plan horizon).tasks 0; places = replicate (constants_of plan horizon).tasks 0; tags = x } }) values columns) (sym is_tags)
+    (opened plan rows horizon is has facts values columns cells room)))

@@ -1,5 +1,5 @@
 -- Which tasks write, and where.
-use Rattle.std.proofs.Common.{◌≡◌, ◌<◌, ℕ, List, length, get_or, sym, ◌∙◌, ap, subst, arith}
+use Rattle.std.proofs.Common.{◌≡◌, ◌<◌, ℕ, get_or, subst}
 use Rattle.prl_base.specs.declared.numbers.CellNo.{CellNo}
 use Rattle.prl_base.specs.declared.numbers.EdgeNo.{EdgeNo}
 use Rattle.prl_base.specs.declared.numbers.TaskNo.{TaskNo}
@@ -9,7 +9,7 @@ use Rattle.prl_plan.specs.declared.events.Event.TheVariants as events
 use Rattle.prl_plan.specs.declared.graphs.Kind.TheVariants as kinds
 use Rattle.prl_plan.specs.Jobs.{task_at}
 use Rattle.prl_plan.specs.Plans.{IsActionOf}
-use Rattle.prl_plan.specs.Facts.{WritesAt, HasPlanFacts}
+use Rattle.prl_plan.specs.Facts.{HasPlanFacts}
 use Rattle.prl_plan.specs.Devices.{LinksDevices}
 use Rattle.prl_plan.specs.Runs.{next_action}
 use Rattle.prl_plan.specs.Rules.{HasJob, KeepsLegal}
@@ -20,8 +20,8 @@ pub writer-is-sensor : (core : CoreView) → LinksDevices core.plan → (i : ℕ
     next_action (constants core) core.state i ≡ actions.Write edge n cell → (k : ℕ) × ((task_at core.plan.graph i).kind ≡ kinds.Sensor k)
 writer-is-sensor core links i edge n cell is =
     let fits : IsActionOf core.plan i (get_or core.state.ended i 0) (actions.Write edge n cell) =
-        subst (λ (a : Action). IsActionOf core.plan i (get_or core.state.ended i 0) a) is
-          (actions-fit core.plan i (get_or core.state.ended i 0) (get_or core.state.places i 0)) in
+    subst (λ (a : Action). IsActionOf core.plan i (get_or core.state.ended i 0) a) is
+    (actions-fit core.plan i (get_or core.state.ended i 0) (get_or core.state.places i 0)) in
     links.sensor edge.0 i fits.0 fits.1
 
 pub written-in-range : (core : CoreView) → HasPlanFacts (constants core) → (task : TaskNo) → KeepsLegal (constants core) core.state (events.Act task) →
@@ -29,4 +29,4 @@ pub written-in-range : (core : CoreView) → HasPlanFacts (constants core) → (
 written-in-range core facts task keeps edge n cell is =
     let has : HasJob (constants core) core.state task.0 = keeps.0 in
     facts.write_cell task.0 (get_or core.state.ended task.0 0) (get_or core.state.places task.0 0) n cell.0
-      (record { job = record { task = has.task; job = has.job }; action = (edge, is) })
+    (record { job = record { task = has.task; job = has.job }; action = (edge, is) })

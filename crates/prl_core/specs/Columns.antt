@@ -1,6 +1,5 @@
 -- Columns of values, one a task.
-use Rattle.std.specs.Prelude.{ℕ, List, map, slice_index_or, []}
-use Rattle.std.specs.declared.vec.Vec.{Vec}
+use Rattle.std.specs.Prelude.{ℕ, List, slice_index_or, []}
 use Rattle.prl_base.specs.declared.values.Value.{Value}
 
 -- the values of task i

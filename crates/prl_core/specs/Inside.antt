@@ -1,7 +1,7 @@
 -- What the machine keeps beside what is seen of it.
-use Rattle.std.specs.Prelude.{◌≡◌, ◌+◌, ◌<◌, ◌≤◌, ℕ, List, length, sum, slice_get, slice_index}
+use Rattle.std.specs.Prelude.{◌≡◌, ◌+◌, ◌<◌, ℕ, List, length, sum, slice_get, slice_index}
 use Rattle.prl_base.specs.declared.values.Value.{Value}
-use Rattle.prl_plan.specs.Jobs.{task_at, job_count}
+use Rattle.prl_plan.specs.Jobs.{task_at}
 use Rattle.prl_plan.specs.Operands.{operand_of}
 use Rattle.prl_plan.specs.Plans.{edge_at}
 use Rattle.prl_plan.specs.Facts.{IsJob, WritesAt}
@@ -25,4 +25,4 @@ pub record IsWhole (core : CoreView) (values : List Value) (columns : List (List
   pub told : (e n : ℕ) → e < length core.plan.graph.edges → IsJob (constants core) (edge_at core.plan.graph e).to.0 n →
       IsDone core.state (edge_at core.plan.graph e).to.0 n 0 →
       slice_get (column columns (edge_at core.plan.graph e).to.0) n
-        ≡ operand_value core.plan.graph core.rows (edge_at core.plan.graph e) (operand_of (edge_at core.plan.graph e) n)
+      ≡ operand_value core.plan.graph core.rows (edge_at core.plan.graph e) (operand_of (edge_at core.plan.graph e) n)

@@ -11,7 +11,7 @@ use Rattle.prl_plan.specs.declared.graphs.TaskGraph.{TaskGraph}
 use Rattle.prl_plan.specs.declared.walks.Operand.{Operand}
 use Rattle.prl_plan.specs.declared.walks.Operand.TheVariants as operands
 use Rattle.prl_plan.specs.Jobs.{task_at, job_count}
-use Rattle.prl_plan.specs.Plans.{PlanView, edge_at}
+use Rattle.prl_plan.specs.Plans.{PlanView}
 use Rattle.prl_core.specs.Columns.{column}
 
 -- what job m of a task of this kind gives: a sensor's row m

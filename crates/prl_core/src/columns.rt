@@ -9,10 +9,8 @@ use prl_base::Value;
 pub(crate) fn put(columns: &mut Vec<Vec<Value>>, i: usize, n: usize, value: Value)
     requires column { i < vec_len columns.old }
     requires place { n < length (column (map (λ c. c.items) columns.old.items) i) }
-    ensures {
-        map (λ c. c.items) columns.new.items
-        ≡ slice_set (map (λ c. c.items) columns.old.items) i (slice_set (column (map (λ c. c.items) columns.old.items) i) n value)
-    }
+    ensures { map (λ c. c.items) columns.new.items
+        ≡ slice_set (map (λ c. c.items) columns.old.items) i (slice_set (column (map (λ c. c.items) columns.old.items) i) n value) }
 {
     let column = &mut columns[i];
     column[n] = value;

@@ -13,8 +13,8 @@ ghost use Rattle.prl_plan.specs.Jobs.{task_at};
 ghost use Rattle.prl_plan.specs.declared.graphs.Kind.TheVariants as kinds;
 ghost use Rattle.prl_core.specs.Values.{HasRows, HasRoom, value_of_job};
 
-use crate::{Illegal, Seen, Unfinished};
 use crate::columns::put;
+use crate::{Illegal, Seen, Unfinished};
 use prl_base::{CellNo, TaskNo, Value};
 use prl_flow::Sensors;
 use prl_plan::{Action, Event, Horizon, Kind, Plan, Rule, plan_facts, plan_links_devices};
@@ -65,9 +65,7 @@ impl<'a> Core<'a> {
     ) -> Result<Core<'a>, AllocError>
         requires horizon { IsHorizon plan.now horizon }
         requires rows { HasRows plan.now horizon.until sensors.now }
-        ensures {
-            IfOk result (λ core. core ≡ record { plan = plan.now; rows = sensors.now; horizon = horizon; state = opening (constants_of plan.now horizon) })
-        }
+        ensures { IfOk result (λ core. core ≡ record { plan = plan.now; rows = sensors.now; horizon = horizon; state = opening (constants_of plan.now horizon) }) }
     {
         let tasks = plan.graph().tasks.len();
         let cells = plan.total() as usize;
@@ -94,10 +92,8 @@ impl<'a> Core<'a> {
     /// The first unfinished job of task `j` in the horizon, if there is one.
     fn unfinished(&self, j: TaskNo) -> Option<u64>
         requires { j.0 < length self.now.plan.graph.tasks }
-        ensures {
-            MatchOption result ((constants self.entry.now).jobs j.0 ≤ first_unfinished self.entry.now.state j.0)
-                (λ n. (n ≡ first_unfinished self.entry.now.state j.0) × IsUnfinished (constants self.entry.now) self.entry.now.state j.0 n)
-        }
+        ensures { MatchOption result ((constants self.entry.now).jobs j.0 ≤ first_unfinished self.entry.now.state j.0)
+            (λ n. (n ≡ first_unfinished self.entry.now.state j.0) × IsUnfinished (constants self.entry.now) self.entry.now.state j.0 n) }
     {
         let n = self.ended[j.0 as usize];
         if n < self.horizon.jobs_of(self.plan, j) {
@@ -149,9 +145,7 @@ impl<'a> Core<'a> {
     /// Whether a released unfinished job is due before `deadline`.
     fn is_overtaken(&self, deadline: u64) -> bool
         ensures yes { OnTrue result ((j : ℕ) × Overtakes (constants self.entry.now) self.entry.now.state j deadline) }
-        ensures no {
-            OnFalse result ((j : ℕ) → j < length self.entry.now.plan.graph.tasks → StaysBehind (constants self.entry.now) self.entry.now.state j deadline)
-        }
+        ensures no { OnFalse result ((j : ℕ) → j < length self.entry.now.plan.graph.tasks → StaysBehind (constants self.entry.now) self.entry.now.state j deadline) }
     {
         for j in 0..self.tasks() {
             if self.overtakes(TaskNo(j), deadline) {
@@ -177,9 +171,7 @@ impl<'a> Core<'a> {
     /// Whether an unfinished job is due at the next tick.
     fn has_due(&self) -> bool
         ensures yes { OnTrue result ((j : ℕ) × IsDueFirst (constants self.entry.now) self.entry.now.state j) }
-        ensures no {
-            OnFalse result ((j : ℕ) → j < length self.entry.now.plan.graph.tasks → IsInTime (constants self.entry.now) self.entry.now.state j)
-        }
+        ensures no { OnFalse result ((j : ℕ) → j < length self.entry.now.plan.graph.tasks → IsInTime (constants self.entry.now) self.entry.now.state j) }
     {
         for j in 0..self.tasks() {
             if self.is_due(TaskNo(j)) {
@@ -191,10 +183,8 @@ impl<'a> Core<'a> {
 
     /// Refused where a horizon job has not ended: the first such job of the lowest task that has one. Takes no memory.
     pub fn finished(&self) -> Result<(), Unfinished>
-        ensures {
-            MatchResult result (λ _. IsComplete (constants self.entry.now) self.entry.now.state)
-                (λ left. IsFirstUnfinished (constants self.entry.now) self.entry.now.state left.task.0 left.job)
-        }
+        ensures { MatchResult result (λ _. IsComplete (constants self.entry.now) self.entry.now.state)
+            (λ left. IsFirstUnfinished (constants self.entry.now) self.entry.now.state left.task.0 left.job) }
     {
         for j in 0..self.tasks() {
             if let Some(job) = self.unfinished(TaskNo(j)) {
@@ -211,11 +201,9 @@ impl<'a> Core<'a> {
     /// breaks.
     fn may_act(&self, task: TaskNo) -> Result<u64, Rule>
         requires { task.0 < length self.now.plan.graph.tasks }
-        ensures {
-            MatchResult result
-                (λ job. (job ≡ first_unfinished self.entry.now.state task.0) × KeepsLegal (constants self.entry.now) self.entry.now.state (Event.Act task))
-                (FirstBroken (constants self.entry.now) self.entry.now.state (Event.Act task))
-        }
+        ensures { MatchResult result
+            (λ job. (job ≡ first_unfinished self.entry.now.state task.0) × KeepsLegal (constants self.entry.now) self.entry.now.state (Event.Act task))
+            (FirstBroken (constants self.entry.now) self.entry.now.state (Event.Act task)) }
     {
         let Some(job) = self.unfinished(task) else {
             return Err(Rule::L2);
@@ -231,13 +219,9 @@ impl<'a> Core<'a> {
 
     /// The clock goes on by one tick.
     fn tick(&mut self) -> Result<Seen, Illegal>
-        ensures ok {
-            IfOk result (λ seen. KeepsLegal (constants self.entry.now) self.entry.now.state Event.Tick × Tells self.entry.now Event.Tick seen
-                × (self.exit.now ≡ record self.entry.now { state = after_event (constants self.entry.now) self.entry.now.state Event.Tick }))
-        }
-        ensures err {
-            IfErr result (λ e. FirstBroken (constants self.entry.now) self.entry.now.state Event.Tick e.rule × (self.exit.now ≡ self.entry.now))
-        }
+        ensures ok { IfOk result (λ seen. KeepsLegal (constants self.entry.now) self.entry.now.state Event.Tick × Tells self.entry.now Event.Tick seen
+            × (self.exit.now ≡ record self.entry.now { state = after_event (constants self.entry.now) self.entry.now.state Event.Tick })) }
+        ensures err { IfErr result (λ e. FirstBroken (constants self.entry.now) self.entry.now.state Event.Tick e.rule × (self.exit.now ≡ self.entry.now)) }
     {
         if self.now >= self.horizon.end || self.has_due() {
             return Err(Illegal { rule: Rule::L4 });
@@ -278,9 +262,7 @@ impl<'a> Core<'a> {
     fn write(&mut self, task: TaskNo, job: u64, cell: CellNo)
         requires allowed { KeepsLegal (constants self.old) self.old.state (Event.Act task) }
         requires job { job ≡ first_unfinished self.old.state task.0 }
-        requires writes {
-            (edge : EdgeNo) × (next_action (constants self.old) self.old.state task.0 ≡ actions.Write edge job cell)
-        }
+        requires writes { (edge : EdgeNo) × (next_action (constants self.old) self.old.state task.0 ≡ actions.Write edge job cell) }
         ensures { self.exit.now ≡ record self.entry.now { state = after_action self.entry.now.state task.0 (next_action (constants self.entry.now) self.entry.now.state task.0) } }
     {
         plan_facts(self.plan, self.horizon);
@@ -310,9 +292,7 @@ impl<'a> Core<'a> {
     fn proceed(&mut self, task: TaskNo, job: u64) -> Seen
         requires allowed { KeepsLegal (constants self.old) self.old.state (Event.Act task) }
         requires job { job ≡ first_unfinished self.old.state task.0 }
-        ensures state {
-            self.exit.now ≡ record self.entry.now { state = after_event (constants self.entry.now) self.entry.now.state (Event.Act task) }
-        }
+        ensures state { self.exit.now ≡ record self.entry.now { state = after_event (constants self.entry.now) self.entry.now.state (Event.Act task) } }
         ensures tells { Tells self.entry.now (Event.Act task) result }
     {
         plan_facts(self.plan, self.horizon);
@@ -365,13 +345,9 @@ impl<'a> Core<'a> {
     /// An act of the task.
     fn act(&mut self, task: TaskNo) -> Result<Seen, Illegal>
         requires { task.0 < length self.old.plan.graph.tasks }
-        ensures ok {
-            IfOk result (λ seen. KeepsLegal (constants self.entry.now) self.entry.now.state (Event.Act task) × Tells self.entry.now (Event.Act task) seen
-                × (self.exit.now ≡ record self.entry.now { state = after_event (constants self.entry.now) self.entry.now.state (Event.Act task) }))
-        }
-        ensures err {
-            IfErr result (λ e. FirstBroken (constants self.entry.now) self.entry.now.state (Event.Act task) e.rule × (self.exit.now ≡ self.entry.now))
-        }
+        ensures ok { IfOk result (λ seen. KeepsLegal (constants self.entry.now) self.entry.now.state (Event.Act task) × Tells self.entry.now (Event.Act task) seen
+            × (self.exit.now ≡ record self.entry.now { state = after_event (constants self.entry.now) self.entry.now.state (Event.Act task) })) }
+        ensures err { IfErr result (λ e. FirstBroken (constants self.entry.now) self.entry.now.state (Event.Act task) e.rule × (self.exit.now ≡ self.entry.now)) }
     {
         match self.may_act(task) {
             Ok(job) => Ok(self.proceed(task, job)),
@@ -383,13 +359,9 @@ impl<'a> Core<'a> {
     /// state stays. Takes no memory.
     pub fn step(&mut self, event: Event) -> Result<Seen, Illegal>
         requires { IsOfPlan self.old.plan event }
-        ensures ok {
-            IfOk result (λ seen. KeepsLegal (constants self.entry.now) self.entry.now.state event × Tells self.entry.now event seen
-                × (self.exit.now ≡ record self.entry.now { state = after_event (constants self.entry.now) self.entry.now.state event }))
-        }
-        ensures err {
-            IfErr result (λ e. FirstBroken (constants self.entry.now) self.entry.now.state event e.rule × (self.exit.now ≡ self.entry.now))
-        }
+        ensures ok { IfOk result (λ seen. KeepsLegal (constants self.entry.now) self.entry.now.state event × Tells self.entry.now event seen
+            × (self.exit.now ≡ record self.entry.now { state = after_event (constants self.entry.now) self.entry.now.state event })) }
+        ensures err { IfErr result (λ e. FirstBroken (constants self.entry.now) self.entry.now.state event e.rule × (self.exit.now ≡ self.entry.now)) }
     {
         match event {
             Event::Tick => self.tick(),

@@ -33,7 +33,10 @@ pub enum Seen {
         cell: CellNo,
     },
     /// A job ended.
-    Ended { task: TaskNo, job: u64 },
+    Ended {
+        task: TaskNo,
+        job: u64,
+    },
 }
 
 /// An event that breaks a rule.

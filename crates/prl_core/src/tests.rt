@@ -28,28 +28,44 @@ fn play(core: &mut Core<'_>, events: &[u8]) -> Result<Option<Seen>, (usize, Rule
     Ok(last)
 }
 
+/// What a list of events came to.
+#[derive(Debug, Drop)]
+struct Outcome {
+    seen: Result<Option<Seen>, (usize, Rule)>,
+    finished: Result<(), Unfinished>,
+    output: Vec<Value>,
+}
+
 /// Plays a list on a sensor with the rows 1 and 2 and its actuator, both of WCET 1 on period 10, until 20.
-fn outcome(rt: &HostRuntime, events: &[u8]) -> Result<Result<Option<Seen>, (usize, Rule)>, Fail> {
+fn outcome_of(rt: &HostRuntime, events: &[u8]) -> Result<Outcome, Fail> {
     let plan = Plan::two(rt.alloc(), 10, 1, 1)?;
     let rows = Seq::new(vec![in rt.alloc(); Value::Int(1), Value::Int(2)]?);
     let sensors = Sensors::new(vec![in rt.alloc(); rows]?);
     let horizon = Horizon::new(&plan, 20).ok().ok_or("a small horizon")?;
     let mut core = Core::new(rt.alloc(), &plan, &sensors, horizon)?;
-    Ok(play(&mut core, events))
+    let seen = play(&mut core, events);
+    Ok(Outcome {
+        seen,
+        finished: core.finished(),
+        output: core.output(0).to_vec(rt.alloc())?,
+    })
 }
 
 #[test]
 fn illegal_events(rt: HostRuntime) -> Result<(), Fail> {
-    assert_eq!(rt; outcome(&rt, b"o")?, Err((1, Rule::L1)));
-    assert_eq!(rt; outcome(&rt, b"to")?, Err((2, Rule::L3)));
-    assert_eq!(rt; outcome(&rt, b"ttttttttt")?, Err((9, Rule::L4)));
-    assert_eq!(rt; outcome(&rt, b"iitootttttttttiitooo")?, Err((20, Rule::L2)));
+    assert_eq!(rt; outcome_of(&rt, b"o")?.seen, Err((1, Rule::L1)));
+    assert_eq!(rt; outcome_of(&rt, b"to")?.seen, Err((2, Rule::L3)));
+    assert_eq!(rt; outcome_of(&rt, b"ttttttttt")?.seen, Err((9, Rule::L4)));
+    assert_eq!(rt;
+        outcome_of(&rt, b"iitootttttttttiitooo")?.seen,
+        Err((20, Rule::L2))
+    );
     Ok(())
 }
 
 #[test]
 fn reads_of_a_run(rt: HostRuntime) -> Result<(), Fail> {
-    let first = Seen::Read {
+    let read = Seen::Read {
         task: TaskNo(1),
         job: 0,
         port: 0,
@@ -58,24 +74,17 @@ fn reads_of_a_run(rt: HostRuntime) -> Result<(), Fail> {
         cell: CellNo(0),
         value: Value::Int(1),
     };
-    assert_eq!(rt; outcome(&rt, b"iito")?, Ok(Some(first)));
-    let plan = Plan::two(rt.alloc(), 10, 1, 1)?;
-    let rows = Seq::new(vec![in rt.alloc(); Value::Int(1), Value::Int(2)]?);
-    let sensors = Sensors::new(vec![in rt.alloc(); rows]?);
-    let horizon = Horizon::new(&plan, 20).ok().ok_or("a small horizon")?;
-    let mut core = Core::new(rt.alloc(), &plan, &sensors, horizon)?;
+    assert_eq!(rt; outcome_of(&rt, b"iito")?.seen, Ok(Some(read)));
     let left = Unfinished {
         task: TaskNo(0),
         job: 0,
     };
-    assert_eq!(rt; core.finished(), Err(left));
-    let end = play(&mut core, b"iitootttttttttiitoo").ok().ok_or("a legal list")?;
-    let ended = Seen::Ended {
-        task: TaskNo(1),
-        job: 1,
-    };
-    assert_eq!(rt; end, Some(ended));
-    assert_eq!(rt; core.finished(), Ok(()));
-    assert_eq!(rt; core.output(0), [Value::Int(1), Value::Int(2)].as_slice());
+    assert_eq!(rt; outcome_of(&rt, b"")?.finished, Err(left));
+    let whole = outcome_of(&rt, b"iitootttttttttiitoo")?;
+    assert_eq!(rt; whole.finished, Ok(()));
+    assert_eq!(rt;
+        whole.output.as_slice(),
+        [Value::Int(1), Value::Int(2)].as_slice()
+    );
     Ok(())
 }

@@ -7,3 +7,5 @@ pub mod Counts
 pub mod TwoFacts
 pub mod TwoHorizon
 pub mod Actions
+pub mod RoundSteps
+pub mod RoundLaws

@@ -62,10 +62,11 @@ pub record AreLeastCells (graph : TaskGraph) (windows : List (List Window)) (bas
       HasCells edge edge.from (encoded_release graph windows) (encoded_deadline graph windows)
       (sum (take e counts)) (slice_index bases e) (slice_index counts e) (slice_index_or used e no_used)
 
--- The place of instance m among the used ones, if it is one: it is at most m, since they rise.
+-- the place of instance m among the first ones that are used, if it is one of them
 abbrev pub place_up_to : Used → ℕ → ℕ → Option ℕ
 place_up_to used m zero = None
 place_up_to used m (suc k) = if used_at used k == m then Some k else place_up_to used m k
 
+-- the place of instance m among the used ones, if it is one: at most m, since they rise; where there are none, there is none
 abbrev pub place_of : Used → ℕ → Option ℕ
-place_of used m = place_up_to used m (m + 1)
+place_of used m = if length used.gaps == 0 then None else place_up_to used m (m + 1)

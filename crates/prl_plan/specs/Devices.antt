@@ -1,5 +1,5 @@
 -- Plans whose tasks are sensors and actuators alone.
-use Rattle.std.specs.Prelude.{◌≡◌, ◌<◌, ℕ, List, [], ◌∷◌, length}
+use Rattle.std.specs.Prelude.{◌≡◌, ◌<◌, ℕ, [], ◌∷◌, length}
 use Rattle.prl_plan.specs.declared.events.Action.TheVariants as actions
 use Rattle.prl_plan.specs.declared.graphs.Kind.TheVariants as kinds
 use Rattle.prl_plan.specs.Jobs.{task_at}

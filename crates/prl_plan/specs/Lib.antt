@@ -12,3 +12,4 @@ pub mod States
 pub mod Horizons
 pub mod TwoTasks
 pub mod Devices
+pub mod Rounds

@@ -9,6 +9,7 @@ mod graphs;
 mod horizons;
 mod laws;
 mod plans;
+mod rounds;
 mod tables;
 #[cfg(test)]
 mod tests;
@@ -24,5 +25,6 @@ pub use laws::{
     gated_list_keeps_cells, legal_list_is_gated, run_of_two_lists, write_finds_cell_free,
 };
 pub use plans::Plan;
+pub use rounds::{AnyJob, preceding_job, release_after, rounds_reach_the_least_releases};
 pub use tables::{Used, Window};
 pub use walks::{Operand, operand_by_walk, walk_back};

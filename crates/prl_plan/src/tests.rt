@@ -1,5 +1,9 @@
-use crate::{Action, Horizon, Operand, Plan, walk_back};
-use prl_base::{CellNo, EdgeNo, Limit, Op, TaskNo, Value, What};
+use crate::{
+    Action, AnyJob, Edge, Horizon, Kind, Operand, Plan, Producer, Task, TaskGraph, release_after,
+    walk_back,
+};
+use prl_base::{CellNo, Clock, EdgeNo, Label, Limit, Op, Seq, TaskNo, Ty, Value, What};
+use std::alloc::AllocError;
 use std::test::Fail;
 
 // A sensor task and an actuator task on period 10, both with WCET 1.
@@ -56,5 +60,72 @@ fn operands_by_walk(rt: HostRuntime) -> Result<(), Fail> {
     assert_eq!(rt; walk_back(&[Op::Up(3), Op::Down(3)], 5), Operand::From(3));
     let never = [Op::Tail, Op::Cons(Value::Int(9))];
     assert_eq!(rt; walk_back(&never, 0), Operand::From(0));
+    Ok(())
+}
+
+fn task(
+    rt: &HostRuntime,
+    name: &[u8],
+    kind: Kind,
+    period: u64,
+    wcet: u32,
+) -> Result<Task, AllocError> {
+    Ok(Task {
+        name: Label::new(rt.alloc(), name)?,
+        kind,
+        clock: Clock { period, start: 0 },
+        wcet,
+        due: period,
+    })
+}
+
+fn edge(from: u32, to: u32, port: u32, period: u64, ops: Vec<Op>) -> Edge {
+    Edge {
+        from: Producer::Port {
+            task: TaskNo(from),
+            out: 0,
+        },
+        to: TaskNo(to),
+        port,
+        ops: Seq::new(ops),
+        period,
+        ty: Ty::Int,
+    }
+}
+
+/// A fast task F between a sensor and an actuator, which reads a slow task S that reads it.
+fn fast_and_slow(rt: &HostRuntime) -> Result<TaskGraph, AllocError> {
+    let tasks = vec![in rt.alloc();
+        task(rt, b"i", Kind::Sensor(0), 10, 1)?,
+        task(rt, b"F@0", Kind::Node(0), 10, 2)?,
+        task(rt, b"S@1", Kind::Node(1), 30, 10)?,
+        task(rt, b"o", Kind::Actuator(0), 10, 1)?,
+    ]?;
+    let late = vec![in rt.alloc(); Op::Up(3), Op::Fby(Value::Int(0))]?;
+    let seldom = vec![in rt.alloc(); Op::Down(3)]?;
+    let edges = vec![in rt.alloc();
+        edge(0, 1, 0, 10, Vec::new(rt.alloc())),
+        edge(2, 1, 1, 30, late),
+        edge(1, 2, 0, 10, seldom),
+        edge(1, 3, 0, 10, Vec::new(rt.alloc())),
+    ]?;
+    Ok(TaskGraph {
+        tasks: Seq::new(tasks),
+        edges: Seq::new(edges),
+        hyper: 30,
+    })
+}
+
+#[test]
+fn releases_by_rounds(rt: HostRuntime) -> Result<(), Fail> {
+    let graph = fast_and_slow(&rt)?;
+    for (i, number, release) in [(0, 2, 20), (1, 1, 11), (2, 0, 3), (3, 0, 3), (3, 2, 23)] {
+        let job = AnyJob {
+            task: TaskNo(i),
+            number,
+        };
+        assert_eq!(rt; release_after(&graph, 3, job), Some(release));
+        assert_eq!(rt; release_after(&graph, 4, job), Some(release));
+    }
     Ok(())
 }

@@ -1,8 +1,7 @@
-use Rattle.std.proofs.Common.{◌≡◌, ◌+◌, ◌<◌, ◌++◌, ℕ, List, [], ◌∷◌, length, map, get_or, Vec, Global, arith, sym, ◌∙◌, ap, subst}
-use Rattle.std.proofs.lemmas.List.{length-map, map-append, length-append}
+use Rattle.std.proofs.Common.{◌≡◌, ℕ, List, [], ◌∷◌, length, Vec, Global, arith, ◌∙◌, ap}
+use Rattle.std.proofs.lemmas.List.{length-map, length-append}
 use Rattle.prl_base.specs.declared.values.Value.{Value}
 use Rattle.prl_plan.specs.Jobs.{task_at, job_count}
-use Rattle.prl_core.specs.Columns.{column}
 use Rattle.prl_core.proofs.ColumnLists.{room-more}
 use Rattle.prl_core.proofs.cores.room_for_reads.Goals as goal
 
@@ -13,7 +12,7 @@ loop-i-preserved c =
     record {
       tasks = (let e = ap length c.in_ok-push.ensures.items in let l = length-append c.loop-i.columns.items (c.in_ok-vec.field-0 ∷ []) in omega (arith, e, l, c.loop-i.invariant.tasks));
       room = room-more c.loop-i.columns.items c.push.new.self.items c.in_ok-vec.field-0 c.loop-i.i count c.in_ok-push.ensures.items
-        c.loop-i.invariant.tasks c.loop-i.invariant.room (filled ∙ c.jobs_of-jobs.ensures)
+          c.loop-i.invariant.tasks c.loop-i.invariant.room (filled ∙ c.jobs_of-jobs.ensures);
     }
 
 pub returns : goal.returns
@@ -22,5 +21,5 @@ returns c =
     let tasks : c.len-i-end.result ≡ length c.args.plan.now.graph.tasks = c.len-i-end.ensures ∙ ap (λ g. length g.tasks) c.graph.ensures.graph in
     record {
       tasks = (let l = length-map c.loop-i.columns.items items in omega (arith, l, c.loop-i.invariant.tasks, tasks, c.loop-i-test.false, c.loop-i.auto.i-end));
-      room = λ j h. c.loop-i.invariant.room j (omega (arith, h, tasks, c.loop-i-test.false))
+      room = λ j h. c.loop-i.invariant.room j (omega (arith, h, tasks, c.loop-i-test.false));
     }

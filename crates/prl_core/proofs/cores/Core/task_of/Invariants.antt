@@ -1,4 +1,4 @@
-use Rattle.std.proofs.Common.{◌≡◌, ◌<◌, ℕ, List, []}
+use Rattle.std.proofs.Common.{◌<◌, ℕ}
 use Rattle.prl_core.specs.Machine.{Drives}
 use Rattle.prl_core.proofs.cores.Core.task_of.Given as goal
 

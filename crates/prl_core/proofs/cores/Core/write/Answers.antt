@@ -1,12 +1,10 @@
-use Rattle.std.proofs.Common.{◌≡◌, ◌+◌, ◌<◌, ◌≤◌, ℕ, List, length, map, get_or, set, Some, Vec, Global, arith, sym, ◌∙◌, ap, subst}
+use Rattle.std.proofs.Common.{◌≡◌, ◌+◌, ◌<◌, ℕ, List, map, get_or, set, Some, Vec, Global, arith, sym, ◌∙◌, subst}
 use Rattle.prl_base.specs.declared.values.Value.{Value}
 use Rattle.prl_plan.specs.declared.events.Event.TheVariants as events
 use Rattle.prl_plan.specs.declared.events.Action.TheVariants as actions
-use Rattle.prl_plan.specs.Rules.{MayTick, KeepsLegal, first_unfinished}
-use Rattle.prl_plan.specs.Runs.{next_action, moved}
-use Rattle.prl_core.specs.Columns.{column}
+use Rattle.prl_plan.specs.Rules.{KeepsLegal, first_unfinished}
+use Rattle.prl_plan.specs.Runs.{next_action}
 use Rattle.prl_core.specs.Machine.{CoreView, constants}
-use Rattle.prl_core.specs.Tests.{IsInTime, ReadsValue}
 use Rattle.prl_core.specs.Inside.{IsWhole}
 use Rattle.std.proofs.lemmas.Grind.{get_or_default_zero}
 use Rattle.prl_plan.specs.Jobs.{task_at}
@@ -19,30 +17,36 @@ use Rattle.prl_core.proofs.cores.Core.write.Goals as goal
 pub sensed-value-requires-clause-sensor : goal.sensed-value-requires-clause-sensor
 sensed-value-requires-clause-sensor c =
     let core : CoreView = record {
-      plan = c.self.inside.plan.now; rows = c.self.inside.sensors.now; horizon = c.self.inside.horizon;
-      state = record { now = c.self.inside.now; ended = c.self.inside.ended.items; places = c.self.inside.places.items; tags = c.self.inside.tags.items } } in
+      plan = c.self.inside.plan.now;
+      rows = c.self.inside.sensors.now;
+      horizon = c.self.inside.horizon;
+      state = record { now = c.self.inside.now; ended = c.self.inside.ended.items; places = c.self.inside.places.items; tags = c.self.inside.tags.items };
+    } in
     let seen : core ≡ c.args.self.now = c.self.view_is in
     let keeps : KeepsLegal (constants core) core.state (events.Act c.args.task) =
-        subst (λ (v : CoreView). KeepsLegal (constants v) v.state (events.Act c.args.task)) (sym seen) c.requires.allowed in
+    subst (λ (v : CoreView). KeepsLegal (constants v) v.state (events.Act c.args.task)) (sym seen) c.requires.allowed in
     let now : c.args.job ≡ first_unfinished core.state c.args.task.0 =
-        subst (λ (v : CoreView). c.args.job ≡ first_unfinished v.state c.args.task.0) (sym seen) c.requires.job in
+    subst (λ (v : CoreView). c.args.job ≡ first_unfinished v.state c.args.task.0) (sym seen) c.requires.job in
     let is : next_action (constants core) core.state c.args.task.0 ≡ actions.Write c.requires.writes.0 c.args.job c.args.cell =
-        subst (λ (v : CoreView). next_action (constants v) v.state c.args.task.0 ≡ actions.Write c.requires.writes.0 c.args.job c.args.cell) (sym seen) c.requires.writes.1 in
+    subst (λ (v : CoreView). next_action (constants v) v.state c.args.task.0 ≡ actions.Write c.requires.writes.0 c.args.job c.args.cell) (sym seen) c.requires.writes.1 in
     subst (λ (v : CoreView). (k : ℕ) × ((task_at v.plan.graph c.args.task.0).kind ≡ kinds.Sensor k)) seen
-      (writer-is-sensor core c.plan_links_devices.ensures c.args.task.0 c.requires.writes.0 c.args.job c.args.cell is)
+    (writer-is-sensor core c.plan_links_devices.ensures c.args.task.0 c.requires.writes.0 c.args.job c.args.cell is)
 
 pub index_mut-requires-2 : goal.index_mut-requires-2
 index_mut-requires-2 c =
     let core : CoreView = record {
-      plan = c.self.inside.plan.now; rows = c.self.inside.sensors.now; horizon = c.self.inside.horizon;
-      state = record { now = c.self.inside.now; ended = c.self.inside.ended.items; places = c.self.inside.places.items; tags = c.self.inside.tags.items } } in
+      plan = c.self.inside.plan.now;
+      rows = c.self.inside.sensors.now;
+      horizon = c.self.inside.horizon;
+      state = record { now = c.self.inside.now; ended = c.self.inside.ended.items; places = c.self.inside.places.items; tags = c.self.inside.tags.items };
+    } in
     let seen : core ≡ c.args.self.now = c.self.view_is in
     let keeps : KeepsLegal (constants core) core.state (events.Act c.args.task) =
-        subst (λ (v : CoreView). KeepsLegal (constants v) v.state (events.Act c.args.task)) (sym seen) c.requires.allowed in
+    subst (λ (v : CoreView). KeepsLegal (constants v) v.state (events.Act c.args.task)) (sym seen) c.requires.allowed in
     let now : c.args.job ≡ first_unfinished core.state c.args.task.0 =
-        subst (λ (v : CoreView). c.args.job ≡ first_unfinished v.state c.args.task.0) (sym seen) c.requires.job in
+    subst (λ (v : CoreView). c.args.job ≡ first_unfinished v.state c.args.task.0) (sym seen) c.requires.job in
     let is : next_action (constants core) core.state c.args.task.0 ≡ actions.Write c.requires.writes.0 c.args.job c.args.cell =
-        subst (λ (v : CoreView). next_action (constants v) v.state c.args.task.0 ≡ actions.Write c.requires.writes.0 c.args.job c.args.cell) (sym seen) c.requires.writes.1 in
+    subst (λ (v : CoreView). next_action (constants v) v.state c.args.task.0 ≡ actions.Write c.requires.writes.0 c.args.job c.args.cell) (sym seen) c.requires.writes.1 in
     let inside : c.args.cell.0 < (constants core).cells = written-in-range core c.plan_facts.ensures c.args.task keeps c.requires.writes.0 c.args.job c.args.cell is in
     let l = c.self.invariant.sound.tags in
     let v = c.self.inside.tags.ok.0 in
@@ -51,15 +55,18 @@ index_mut-requires-2 c =
 pub index_mut-requires-3 : goal.index_mut-requires-3
 index_mut-requires-3 c =
     let core : CoreView = record {
-      plan = c.self.inside.plan.now; rows = c.self.inside.sensors.now; horizon = c.self.inside.horizon;
-      state = record { now = c.self.inside.now; ended = c.self.inside.ended.items; places = c.self.inside.places.items; tags = c.self.inside.tags.items } } in
+      plan = c.self.inside.plan.now;
+      rows = c.self.inside.sensors.now;
+      horizon = c.self.inside.horizon;
+      state = record { now = c.self.inside.now; ended = c.self.inside.ended.items; places = c.self.inside.places.items; tags = c.self.inside.tags.items };
+    } in
     let seen : core ≡ c.args.self.now = c.self.view_is in
     let keeps : KeepsLegal (constants core) core.state (events.Act c.args.task) =
-        subst (λ (v : CoreView). KeepsLegal (constants v) v.state (events.Act c.args.task)) (sym seen) c.requires.allowed in
+    subst (λ (v : CoreView). KeepsLegal (constants v) v.state (events.Act c.args.task)) (sym seen) c.requires.allowed in
     let now : c.args.job ≡ first_unfinished core.state c.args.task.0 =
-        subst (λ (v : CoreView). c.args.job ≡ first_unfinished v.state c.args.task.0) (sym seen) c.requires.job in
+    subst (λ (v : CoreView). c.args.job ≡ first_unfinished v.state c.args.task.0) (sym seen) c.requires.job in
     let is : next_action (constants core) core.state c.args.task.0 ≡ actions.Write c.requires.writes.0 c.args.job c.args.cell =
-        subst (λ (v : CoreView). next_action (constants v) v.state c.args.task.0 ≡ actions.Write c.requires.writes.0 c.args.job c.args.cell) (sym seen) c.requires.writes.1 in
+    subst (λ (v : CoreView). next_action (constants v) v.state c.args.task.0 ≡ actions.Write c.requires.writes.0 c.args.job c.args.cell) (sym seen) c.requires.writes.1 in
     let inside : c.args.cell.0 < (constants core).cells = written-in-range core c.plan_facts.ensures c.args.task keeps c.requires.writes.0 c.args.job c.args.cell is in
     let l = c.self.invariant.cells in
     let v = c.self.inside.values.ok.0 in
@@ -68,23 +75,26 @@ index_mut-requires-3 c =
 pub invariant_of-self : goal.invariant_of-self
 invariant_of-self c =
     let core : CoreView = record {
-      plan = c.self.inside.plan.now; rows = c.self.inside.sensors.now; horizon = c.self.inside.horizon;
-      state = record { now = c.self.inside.now; ended = c.self.inside.ended.items; places = c.self.inside.places.items; tags = c.self.inside.tags.items } } in
+      plan = c.self.inside.plan.now;
+      rows = c.self.inside.sensors.now;
+      horizon = c.self.inside.horizon;
+      state = record { now = c.self.inside.now; ended = c.self.inside.ended.items; places = c.self.inside.places.items; tags = c.self.inside.tags.items };
+    } in
     let seen : core ≡ c.args.self.now = c.self.view_is in
     let items : Vec Value Global → List Value = λ v. v.items in
     let columns : List (List Value) = map items c.self.inside.columns.items in
     let keeps : KeepsLegal (constants core) core.state (events.Act c.args.task) =
-        subst (λ (v : CoreView). KeepsLegal (constants v) v.state (events.Act c.args.task)) (sym seen) c.requires.allowed in
+    subst (λ (v : CoreView). KeepsLegal (constants v) v.state (events.Act c.args.task)) (sym seen) c.requires.allowed in
     let now : c.args.job ≡ first_unfinished core.state c.args.task.0 =
-        subst (λ (v : CoreView). c.args.job ≡ first_unfinished v.state c.args.task.0) (sym seen) c.requires.job in
+    subst (λ (v : CoreView). c.args.job ≡ first_unfinished v.state c.args.task.0) (sym seen) c.requires.job in
     let is : next_action (constants core) core.state c.args.task.0 ≡ actions.Write c.requires.writes.0 c.args.job c.args.cell =
-        subst (λ (v : CoreView). next_action (constants v) v.state c.args.task.0 ≡ actions.Write c.requires.writes.0 c.args.job c.args.cell) (sym seen) c.requires.writes.1 in
+    subst (λ (v : CoreView). next_action (constants v) v.state c.args.task.0 ≡ actions.Write c.requires.writes.0 c.args.job c.args.cell) (sym seen) c.requires.writes.1 in
     let place : c.index_mut.result.now ≡ get_or core.state.places c.args.task.0 0 =
-        c.index_mut.ensures.value ∙ get_or_default_zero core.state.places c.args.task.0 c.index_mut.result.now (let l = c.self.invariant.sound.places in let t = keeps.0.task in omega (arith, l, t)) in
+    c.index_mut.ensures.value ∙ get_or_default_zero core.state.places c.args.task.0 c.index_mut.result.now (let l = c.self.invariant.sound.places in let t = keeps.0.task in omega (arith, l, t)) in
     let sensor = writer-is-sensor core c.plan_links_devices.ensures c.args.task.0 c.requires.writes.0 c.args.job c.args.cell is in
     let has : value_of_job core.rows (task_at core.plan.graph c.args.task.0).kind c.args.job ≡ Some c.sensed-value.result =
-        subst (λ (v : CoreView). value_of_job v.rows (task_at v.plan.graph c.args.task.0).kind c.args.job ≡ Some c.sensed-value.result) (sym seen) c.sensed-value.ensures in
+    subst (λ (v : CoreView). value_of_job v.rows (task_at v.plan.graph c.args.task.0).kind c.args.job ≡ Some c.sensed-value.result) (sym seen) c.sensed-value.ensures in
     subst (λ (p : ℕ). IsWhole (record core { state = record core.state { places = set core.state.places c.args.task.0 (p + 1); tags = set core.state.tags c.args.cell.0 (c.args.job + 1) } })
-        (set c.self.inside.values.items c.args.cell.0 c.sensed-value.result) columns) (sym place)
-      (kept-write core c.plan_facts.ensures c.plan_links_devices.ensures c.self.inside.values.items columns c.self.invariant c.args.task keeps c.requires.writes.0 c.args.job c.args.cell
-        now is c.sensed-value.result has sensor.0 sensor.1)
+    (set c.self.inside.values.items c.args.cell.0 c.sensed-value.result) columns) (sym place)
+    (kept-write core c.plan_facts.ensures c.plan_links_devices.ensures c.self.inside.values.items columns c.self.invariant c.args.task keeps c.requires.writes.0 c.args.job c.args.cell
+    now is c.sensed-value.result has sensor.0 sensor.1)

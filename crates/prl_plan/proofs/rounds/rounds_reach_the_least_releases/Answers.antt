@@ -1,0 +1,8 @@
+use Rattle.prl_plan.proofs.RoundLaws.{rounds-below, still-least}
+use Rattle.prl_plan.proofs.rounds.rounds_reach_the_least_releases.Goals as goal
+
+pub returns : goal.returns
+returns c = record {
+  below = λ graph good other are rounds i m inside. rounds-below graph good other are rounds i m inside;
+  least = λ graph good rounds still. still-least graph good rounds still;
+}
