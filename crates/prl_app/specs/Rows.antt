@@ -1,8 +1,8 @@
 -- Sensor rows of the form that is built so far.
 use Rattle.std.specs.Prelude.{◌≡◌, ◌==◌, ◌+◌, ℕ, List, [], ◌∷◌, length, take, drop, Bool, Option, Some, None, nat_lt, if◌then◌else◌, codes}
 use Rattle.std.specs.Fmt.{decimal}
-use Rattle.std.specs.List.{slice_split, position_or_len, before_first, after_first}
 use Rattle.std.specs.Str.{bytes_eq}
+use Rattle.prl_base.specs.Lines.{lines_of}
 use Rattle.prl_base.specs.Decimals.{integer_of}
 use Rattle.prl_base.specs.declared.values.Value.{Value}
 use Rattle.prl_base.specs.declared.values.Value.TheVariants as values
@@ -22,15 +22,22 @@ row_value name instance line = do
   number ← integer_of rest
   Some (values.Int number)
 
+-- what stands behind the front, where the text begins with it
+abbrev pub after_front : List ℕ → List ℕ → Option (List ℕ)
+after_front front text = if bytes_eq (take (length front) text) front then Some (drop (length front) text) else None
+
+-- NAME,INSTANCE,VALUE
+unfoldable pub row_value : List ℕ → ℕ → List ℕ → Option Value
+row_value name instance line = do
+  rest ← after_front name line
+  rest ← after_front (codes ",") rest
+  rest ← after_front (decimal instance) rest
+  rest ← after_front (codes ",") rest
+  number ← integer_of rest
+  Some (values.Int number)
+
 abbrev pub is_line_feed : ℕ → Bool
 is_line_feed b = b == 10
-
--- the first line of a text that has a line feed, and what stands behind it
-abbrev pub cut_line : List ℕ → Option (List ℕ × List ℕ)
-cut_line text =
-    if nat_lt (position_or_len is_line_feed text) (length text) then
-    Some (before_first is_line_feed text, after_first is_line_feed text)
-    else None
 
 -- The values of lines that are the rows of a sensor from this instance on. The last of the list is what stands behind
 -- the last line's end: nothing.
@@ -45,4 +52,4 @@ values_from name instance (line ∷ next ∷ lines) = do
 
 -- the values of a sensor's rows, each row being a line that is ended
 abbrev pub rows_of : List ℕ → List ℕ → Option (List Value)
-rows_of name text = values_from name 0 (slice_split is_line_feed text)
+rows_of name text = values_from name 0 (lines_of text)

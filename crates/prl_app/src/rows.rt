@@ -1,14 +1,13 @@
 //! Sensor rows of the form that is built so far: lines `NAME,INSTANCE,VALUE` of one sensor, each ended by a
 //! line feed. The instances count from 0 and have no leading zeros, and the values are integers.
 
-ghost use Rattle.std.specs.Prelude.{◌≡◌, ◌≤◌, IfOk, length};
+ghost use Rattle.std.specs.Prelude.{◌≡◌, IfOk};
 ghost use Rattle.std.specs.Option.{option_map};
-ghost use Rattle.std.specs.List.{position_or_len};
-ghost use Rattle.prl_app.specs.Rows.{is_line_feed, cut_line, after_front, row_value, rows_of};
+ghost use Rattle.prl_app.specs.Rows.{after_front, row_value, rows_of};
 ghost use Rattle.std.specs.Vec.{vec_items};
 
 use itoa::Buffer;
-use prl_base::{Value, integer_of};
+use prl_base::{Value, cut_line, integer_of};
 use std::alloc::{AllocError, Global};
 
 /// What stands behind the front, where the text begins with it.
@@ -30,31 +29,6 @@ fn row_value(name: &[u8], instance: u64, line: &[u8]) -> Option<Value>
     let rest = after_front(b",", rest)?;
     let number = integer_of(rest)?;
     Some(Value::Int(number))
-}
-
-/// How many bytes there are up to a line feed or the end.
-fn line_len(text: &[u8]) -> usize
-    ensures exact { result ≡ position_or_len is_line_feed text.now }
-    ensures within { result ≤ length text.now }
-{
-    for (i, byte) in text.iter().enumerate() {
-        if *byte == b'\n' {
-            return i;
-        }
-    }
-    text.len()
-}
-
-/// The first line of the text, and what stands behind its line feed.
-fn cut_line(text: &[u8]) -> Option<(&[u8], &[u8])>
-    ensures { option_map (λ cut. (cut.0.now, cut.1.now)) result ≡ cut_line text.now }
-{
-    let at = line_len(text);
-    if at < text.len() {
-        Some((&text[..at], &text[at + 1..]))
-    } else {
-        None
-    }
 }
 
 /// The values of the sensor's rows, in order of their instance; None where the text is not of the form.
