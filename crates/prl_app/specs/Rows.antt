@@ -1,5 +1,5 @@
 -- Sensor rows of the form that is built so far.
-use Rattle.std.specs.Prelude.{◌≡◌, ◌==◌, ◌+◌, ℕ, List, [], ◌∷◌, length, take, drop, Bool, Option, Some, None, nat_lt, if◌then◌else◌, codes}
+use Rattle.std.specs.Prelude.{◌≡◌, ◌+◌, ℕ, List, [], ◌∷◌, length, take, drop, Option, Some, None, if◌then◌else◌, codes}
 use Rattle.std.specs.Fmt.{decimal}
 use Rattle.std.specs.Str.{bytes_eq}
 use Rattle.prl_base.specs.Lines.{lines_of}
@@ -21,23 +21,6 @@ row_value name instance line = do
   rest ← after_front (codes ",") rest
   number ← integer_of rest
   Some (values.Int number)
-
--- what stands behind the front, where the text begins with it
-abbrev pub after_front : List ℕ → List ℕ → Option (List ℕ)
-after_front front text = if bytes_eq (take (length front) text) front then Some (drop (length front) text) else None
-
--- NAME,INSTANCE,VALUE
-unfoldable pub row_value : List ℕ → ℕ → List ℕ → Option Value
-row_value name instance line = do
-  rest ← after_front name line
-  rest ← after_front (codes ",") rest
-  rest ← after_front (decimal instance) rest
-  rest ← after_front (codes ",") rest
-  number ← integer_of rest
-  Some (values.Int number)
-
-abbrev pub is_line_feed : ℕ → Bool
-is_line_feed b = b == 10
 
 -- The values of lines that are the rows of a sensor from this instance on. The last of the list is what stands behind
 -- the last line's end: nothing.
