@@ -1,0 +1,128 @@
+//! Worked schedules of a sensor `i` and its actuator `o`, both of WCET 1 on period 10, with the rows 1 and 2, until 20.
+
+ghost use Rattle.std.specs.Prelude.{◌≡◌, All, IfOk, length};
+ghost use Rattle.prl_plan.specs.TwoTasks.{two_plan};
+ghost use Rattle.prl_replay.specs.Schedules.{IsOfTasks};
+
+use crate::{ReplayFault, ScheduleFault, read_schedule, replay};
+use prl_base::{CellNo, EdgeNo, Label, Seq, TaskNo, Value};
+use prl_core::{Core, Seen};
+use prl_flow::Sensors;
+use prl_plan::{Event, Horizon, Plan, Rule};
+use std::alloc::Global;
+use std::test::Fail;
+
+fn names(alloc: Global) -> Result<Vec<Label>, Fail>
+    ensures { IfOk result (λ names. length names.items ≡ 2) }
+{
+    let mut names = Vec::new(alloc);
+    names.push(Label::new(alloc, b"i")?)?;
+    names.push(Label::new(alloc, b"o")?)?;
+    Ok(names)
+}
+
+/// The events of a text, or the fault of its lines.
+fn events_of(alloc: Global, text: &str) -> Result<Result<Vec<Event>, ScheduleFault>, Fail>
+    ensures { IfOk result (λ read. IfOk read (λ events. All (IsOfTasks 2) events.items)) }
+{
+    let names = names(alloc)?;
+    Ok(read_schedule(alloc, text.as_bytes(), &names))
+}
+
+/// The replay of events on the machine of the plan.
+fn replayed(alloc: Global, core: &mut Core<'_>, events: &[Event]) -> Result<Vec<Seen>, ReplayFault>
+    requires plan { core.old.plan ≡ two_plan 10 1 1 }
+    requires events { All (IsOfTasks 2) events.now }
+{
+    replay(alloc, core, events)
+}
+
+/// What the replay of a text comes to.
+fn outcome_of(alloc: Global, text: &str) -> Result<Result<Vec<Seen>, ReplayFault>, Fail> {
+    let plan = Plan::two(alloc, 10, 1, 1)?;
+    let rows = Seq::new(vec![in alloc; Value::Int(1), Value::Int(2)]?);
+    let sensors = Sensors::new(vec![in alloc; rows]?);
+    let horizon = Horizon::new(&plan, 20).ok().ok_or("a small horizon")?;
+    let mut core = Core::new(alloc, &plan, &sensors, horizon)?;
+    let events = events_of(alloc, text)?.ok().ok_or("a schedule")?;
+    Ok(replayed(alloc, &mut core, &events))
+}
+
+const WHOLE: &str =
+    "act i\nact i\ntick\nact o\nact o\ntick\ntick\ntick\ntick\ntick\ntick\ntick\ntick\ntick\nact i\nact i\ntick\nact o\nact o";
+
+fn read(job: u64, value: i32) -> Seen {
+    Seen::Read {
+        task: TaskNo(1),
+        job,
+        port: 0,
+        edge: EdgeNo(0),
+        instance: job,
+        cell: CellNo(0),
+        value: Value::Int(value),
+    }
+}
+
+#[test]
+fn replays(rt: HostRuntime) -> Result<(), Fail> {
+    let alloc = rt.alloc();
+    let whole = outcome_of(alloc, WHOLE)?.ok().ok_or("a whole run")?;
+    assert_eq!(rt; whole.as_slice(), [read(0, 1), read(1, 2)].as_slice());
+    let faults = [
+        (
+            "act o",
+            ReplayFault::Illegal {
+                line: 1,
+                rule: Rule::L1,
+            },
+        ),
+        (
+            "tick\nact o\n",
+            ReplayFault::Illegal {
+                line: 2,
+                rule: Rule::L3,
+            },
+        ),
+        (
+            "tick\ntick\ntick\ntick\ntick\ntick\ntick\ntick\ntick\n",
+            ReplayFault::Illegal {
+                line: 9,
+                rule: Rule::L4,
+            },
+        ),
+        (
+            "",
+            ReplayFault::Unfinished {
+                task: TaskNo(0),
+                job: 0,
+            },
+        ),
+    ];
+    for (text, fault) in faults {
+        let found = outcome_of(alloc, text)?.err().ok_or("a fault")?;
+        assert_eq!(rt; found, fault, "{text}");
+    }
+    Ok(())
+}
+
+#[test]
+fn lines_of_schedules(rt: HostRuntime) -> Result<(), Fail> {
+    let alloc = rt.alloc();
+    let read = events_of(alloc, "tick\r\nact o\nact i")?
+        .ok()
+        .ok_or("a schedule")?;
+    let wanted = [Event::Tick, Event::Act(TaskNo(1)), Event::Act(TaskNo(0))];
+    assert_eq!(rt; read.as_slice(), wanted.as_slice());
+    let faults = [
+        ("act x\n", 1),
+        ("tick\n\ntick\n", 2),
+        ("tick\ntick\r", 2),
+        ("act  i\n", 1),
+        ("tick \n", 1),
+    ];
+    for (text, line) in faults {
+        let found = events_of(alloc, text)?.err().ok_or("a fault")?;
+        assert_eq!(rt; found, ScheduleFault::Syntax(line), "{text}");
+    }
+    Ok(())
+}
