@@ -3,19 +3,23 @@
 #![tactic(auto)]
 
 mod answers;
+mod chains;
+#[cfg(test)]
+mod chains_tests;
 mod endings;
 mod flows;
 mod lines;
+mod links;
 mod refusals;
 mod rows;
 mod runs;
-mod thin;
 mod top;
 mod words;
 
+pub use chains::{Equation, Head, Parts, Right};
 pub use endings::Ending;
+pub use links::{Chain, Link};
 pub use refusals::{Part, Refusal};
 pub use runs::Run;
-pub use thin::{Right, Thin};
 pub use top::{Status, prelude, prelude_alone};
 pub use words::{Command, Mode, WordsFault, read_words};
