@@ -23,3 +23,6 @@ pub use refusals::{Part, Refusal};
 pub use runs::Run;
 pub use top::{Status, prelude, prelude_alone};
 pub use words::{Command, Mode, WordsFault, read_words};
+
+#[cfg(test)]
+mod tests;
