@@ -1,16 +1,13 @@
 -- Flows that stand one behind the other.
-use Rattle.std.proofs.Common.{◌≡◌, ℕ, ◌+◌, ◌*◌, ◌<◌, ◌≤◌, zero, suc, Bool, true, false, List, [], ◌∷◌, ◌++◌, length, map, Option, Some, None, slice_get, refl, sym, ap, ◌∙◌, subst, arith, length-append, below_more, drop, get_or, drop-cons}
+use Rattle.std.proofs.Common.{◌≡◌, ℕ, ◌+◌, ◌<◌, ◌≤◌, zero, suc, List, [], ◌∷◌, ◌++◌, length, map, Some, None, slice_get, refl, sym, ap, ◌∙◌, subst, arith, length-append, below_more, drop, get_or, drop-cons}
 use Rattle.std.specs.Option.{option_map}
 use Rattle.std.proofs.lemmas.List.{get_or_append_left, map-append, length-map}
 use Rattle.std.proofs.lemmas.Option.{slice_get-map, slice_get_within, get_or_from_slice_get}
-use Rattle.prl_base.specs.declared.numbers.FlowNo.{FlowNo}
 use Rattle.prl_base.specs.declared.operators.Clock.{Clock}
-use Rattle.prl_base.specs.declared.values.Ty.TheVariants as types
-use Rattle.prl_base.specs.declared.values.Value.TheVariants as values
 use Rattle.prl_flow.specs.declared.programs.Def.{Def}
 use Rattle.prl_flow.specs.declared.programs.Def.TheVariants as definitions
 use Rattle.prl_flow.specs.Flows.{IsResultClock}
-use Rattle.prl_flow.specs.Programs.{IsFactor, FitsType}
+use Rattle.prl_flow.specs.Programs.{IsFactor}
 use Rattle.prl_flow.specs.Solutions.{clock_of}
 use Rattle.prl_flow.proofs.Lists.{slice_get-append_left, slice_get-push}
 use Rattle.prl_lex.specs.declared.tokens.Token.{Token}

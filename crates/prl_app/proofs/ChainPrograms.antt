@@ -1,5 +1,5 @@
 -- The flat programs of chains are well formed, and their clocks and order are right.
-use Rattle.std.proofs.Common.{◌≡◌, ℕ, ◌+◌, ◌<◌, ◌≤◌, zero, suc, ◌^◌, Bool, false, List, [], ◌∷◌, ◌++◌, length, map, Option, Some, None, refl, sym, ap, ◌∙◌, subst, arith}
+use Rattle.std.proofs.Common.{◌≡◌, ℕ, ◌<◌, zero, suc, ◌^◌, false, List, [], ◌∷◌, length, map, Some, refl, sym, ap, ◌∙◌, subst, arith}
 use Rattle.std.specs.Prelude.{slice_get}
 use Rattle.std.specs.Str.{bytes_eq}
 use Rattle.std.proofs.lemmas.Slice.Eq.{bytes_eq-Decides}
@@ -11,8 +11,8 @@ use Rattle.prl_base.specs.declared.operators.Clock.{Clock}
 use Rattle.prl_base.specs.declared.numbers.FlowNo.{FlowNo}
 use Rattle.prl_base.specs.declared.values.Value.{Value}
 use Rattle.prl_lex.specs.Lexing.{token_text}
-use Rattle.prl_flow.specs.Programs.{FlatProgram, Device, IsFlat, AreDevices, HasType, IsWellDefined, IsInput, IsFactor}
-use Rattle.prl_flow.specs.Solutions.{AreClocks, AgreesClock, IsOrdered, UsesBelow, HasRows, clock_of}
+use Rattle.prl_flow.specs.Programs.{Device, IsFlat, HasType, IsWellDefined, IsInput, IsFactor}
+use Rattle.prl_flow.specs.Solutions.{AgreesClock, UsesBelow, clock_of}
 use Rattle.prl_flow.specs.Rows.{rows_of}
 use Rattle.prl_base.specs.declared.values.Ty.TheVariants as types
 use Rattle.prl_flow.specs.declared.programs.Flow.{Flow}
@@ -21,7 +21,7 @@ use Rattle.prl_flow.specs.declared.programs.Def.{Def}
 use Rattle.prl_flow.proofs.Lists.{element_at}
 use Rattle.prl_app.specs.declared.links.Chain.{Chain}
 use Rattle.prl_app.specs.declared.links.Link.{Link}
-use Rattle.prl_app.specs.Links.{link_clock, IsLinked, IsLink, IsChain}
+use Rattle.prl_app.specs.Links.{link_clock, IsLinked, IsChain}
 use Rattle.prl_app.specs.Runs.{chain_program, chain_clock, chain_run, link_flow, IsReady}
 use Rattle.prl_app.proofs.ChainLinks.{clock_of-link}
 

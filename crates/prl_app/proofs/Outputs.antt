@@ -1,6 +1,6 @@
 -- The flows of main's outputs.
-use Rattle.std.proofs.Common.{◌≡◌, ℕ, ◌+◌, ◌<◌, ◌≤◌, zero, suc, cond, nat_lt, List, [], ◌∷◌, length, Option, Some, None, Result, Ok, Err, refl, sym, ap, ◌∙◌, subst, arith}
-use Rattle.std.specs.Prelude.{slice_get, All}
+use Rattle.std.proofs.Common.{◌≡◌, ℕ, ◌+◌, ◌<◌, ◌≤◌, suc, List, [], ◌∷◌, length, Some, Ok, refl, sym, ap, ◌∙◌, arith}
+use Rattle.std.specs.Prelude.{slice_get}
 use Rattle.std.specs.List.{AllByRecursion}
 use Rattle.std.proofs.lemmas.List.Elements.{All-from_recursion}
 use borrow.Author.Tests.{le-ltb}
@@ -11,11 +11,10 @@ use Rattle.prl_flow.specs.declared.programs.OutFlow.{OutFlow}
 use Rattle.prl_flow.specs.Programs.{IsFlat}
 use Rattle.prl_flow.specs.Flows.{IsUpTo}
 use Rattle.prl_flow.specs.Solutions.{AreClocks, Solves, clock_of, values_of}
-use Rattle.prl_flow.specs.Actuators.{AreUpTo, actuator_text}
+use Rattle.prl_flow.specs.Actuators.{AreUpTo}
 use Rattle.prl_flow.specs.Counts.{values_before}
 use Rattle.prl_app.specs.declared.runs.Run.{Run}
-use Rattle.prl_app.specs.declared.refusals.Refusal.{Refusal}
-use Rattle.prl_app.specs.Runs.{out_flows, chain_run, IsReady, IsTextOf}
+use Rattle.prl_app.specs.Runs.{out_flows, chain_run}
 use Rattle.prl_base.specs.Reading.{◌>>=◌}
 use Rattle.prl_lex.specs.Lexing.{token_text}
 use Rattle.prl_app.specs.declared.links.Chain.{Chain}
@@ -23,7 +22,7 @@ use Rattle.prl_app.specs.declared.refusals.Part.TheVariants as parts
 use Rattle.prl_app.specs.declared.refusals.Refusal.TheVariants as refusals
 use Rattle.prl_app.specs.Links.{chain_of}
 use Rattle.prl_app.specs.Rows.{rows_of}
-use Rattle.prl_app.specs.Outcomes.{flows_outcome, enough_rows, or_refuse, within_limit, IsTextFor}
+use Rattle.prl_app.specs.Outcomes.{flows_outcome, enough_rows, or_refuse, within_limit}
 
 some_inner : {A : Type 0} (x y : A) → Some x ≡ Some y → x ≡ y
 some_inner x y e = cc

@@ -1,5 +1,5 @@
 -- Rows line by line.
-use Rattle.std.proofs.Common.{◌≡◌, ℕ, ◌+◌, ◌<◌, ◌≤◌, Bool, true, false, not, cond, nat_lt, List, [], ◌∷◌, ◌++◌, length, take, drop, Option, Some, None, refl, sym, ap, ◌≢◌, append-nil, ◌∙◌, arith, append_assoc}
+use Rattle.std.proofs.Common.{◌≡◌, ℕ, ◌+◌, ◌<◌, ◌≤◌, Bool, true, false, not, cond, nat_lt, List, [], ◌∷◌, ◌++◌, length, Option, Some, None, refl, sym, ap, ◌≢◌, append-nil, ◌∙◌, arith, append_assoc}
 use borrow.Author.Tests.{ltb-true, ltb-false}
 use Rattle.std.specs.Option.{option_map}
 use Rattle.std.specs.List.{position_or_len, slice_split, before_first, after_first, onto_first}

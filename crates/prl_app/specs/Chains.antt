@@ -1,5 +1,5 @@
 -- The form of programs that is built so far, read from its tokens.
-use Rattle.std.specs.Prelude.{◌≡◌, ◌==◌, ◌&&◌, ◌||◌, ◌<◌, ◌≤◌, ◌^◌, ℕ, ℤ, Bool, true, false, not, List, [], ◌∷◌, length, ◌++◌, zero, suc, Option, Some, None, nat_le, nat_lt, if◌then◌else◌, codes}
+use Rattle.std.specs.Prelude.{◌&&◌, ◌||◌, ◌≤◌, ◌^◌, ℕ, ℤ, Bool, true, false, not, List, [], ◌∷◌, length, ◌++◌, zero, suc, Option, Some, None, nat_le, nat_lt, if◌then◌else◌, codes}
 use Rattle.std.specs.List.{All}
 use Rattle.std.specs.Str.{bytes_eq}
 use Rattle.prl_base.specs.Decimals.{positive, negative}

@@ -8,7 +8,6 @@ use Rattle.prl_lex.specs.Lexing.{token_text}
 use Rattle.prl_flow.specs.declared.programs.Flow.{Flow}
 use Rattle.prl_flow.specs.declared.programs.OutFlow.{OutFlow}
 use Rattle.prl_flow.specs.Programs.{FlatProgram, name_of}
-use Rattle.prl_flow.specs.Rows.{Rows}
 use Rattle.prl_flow.specs.Solutions.{Solves, AreClocks, IsOrdered, HasRows, clock_of, values_of}
 use Rattle.prl_flow.specs.Actuators.{actuator_text}
 use Rattle.prl_app.specs.declared.links.Chain.{Chain}

@@ -4,8 +4,6 @@
 
 mod answers;
 mod chains;
-#[cfg(test)]
-mod chains_tests;
 mod endings;
 mod flows;
 mod lines;
@@ -24,5 +22,7 @@ pub use runs::Run;
 pub use top::{Status, prelude, prelude_alone};
 pub use words::{Command, Mode, WordsFault, read_words};
 
+#[cfg(test)]
+mod chains_tests;
 #[cfg(test)]
 mod tests;

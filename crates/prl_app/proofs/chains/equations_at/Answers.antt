@@ -1,4 +1,4 @@
-use Rattle.std.proofs.Common.{◌≡◌, ◌<◌, ◌≤◌, ◌+◌, ◌-◌, List, [], ◌∷◌, ◌++◌, Some, None, refl, sym, ap, ◌∙◌, subst, arith, vec_items, codes}
+use Rattle.std.proofs.Common.{◌+◌, ◌-◌, List, Some, sym, ap, ◌∙◌, subst, arith, vec_items, codes}
 use Rattle.std.specs.List.{All}
 use Rattle.prl_app.specs.declared.chains.Equation.{Equation}
 use Rattle.prl_app.specs.Chains.{with_front, items_at, equation_at, end_at, IsRight}

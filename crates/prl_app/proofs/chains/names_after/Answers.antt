@@ -1,4 +1,4 @@
-use Rattle.std.proofs.Common.{◌≡◌, ◌<◌, ◌≤◌, ◌+◌, ◌-◌, List, [], ◌∷◌, ◌++◌, Some, None, refl, sym, ap, ◌∙◌, arith, vec_items, codes}
+use Rattle.std.proofs.Common.{◌+◌, ◌-◌, List, Some, sym, ap, ◌∙◌, arith, vec_items, codes}
 use Rattle.prl_lex.specs.declared.tokens.Token.{Token}
 use Rattle.prl_app.specs.Chains.{with_front, items_at, next_name_at, end_at}
 use Rattle.prl_app.proofs.Items.{items_at-none, with_front-end, with_front-no_item, with_front-item}

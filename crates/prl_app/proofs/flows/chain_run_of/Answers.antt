@@ -1,6 +1,6 @@
-use Rattle.std.proofs.Common.{◌≡◌, ℕ, ◌<◌, length, refl, sym, ap, ◌∙◌, subst, rules, arith}
+use Rattle.std.proofs.Common.{ℕ, ◌<◌, length, sym, subst, rules, arith}
 use Rattle.prl_base.specs.Clocks.{date_at}
-use Rattle.prl_app.specs.Runs.{IsReady, chain_run, chain_clock}
+use Rattle.prl_app.specs.Runs.{IsReady, chain_clock}
 use Rattle.prl_app.proofs.ChainPrograms.{IsReady-chain}
 use Rattle.prl_app.proofs.flows.chain_run_of.Goals as goal
 

@@ -1,4 +1,4 @@
-use Rattle.std.proofs.Common.{◌≡◌, ◌+◌, ◌&&◌, Bool, true, false, refl, sym, ap, ◌∙◌, arith, drop, length}
+use Rattle.std.proofs.Common.{◌+◌, ◌&&◌, sym, ap, ◌∙◌, drop}
 use Rattle.std.specs.List.{list_all}
 use Rattle.prl_app.specs.Links.{is_linked}
 use Rattle.prl_app.proofs.Items.{list_all-drop}

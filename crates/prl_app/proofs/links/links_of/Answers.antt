@@ -1,4 +1,4 @@
-use Rattle.std.proofs.Common.{◌≡◌, None, refl, sym, ap, ◌∙◌, arith, vec_items}
+use Rattle.std.proofs.Common.{◌≡◌, None, sym, ◌∙◌, arith, vec_items}
 use Rattle.prl_app.specs.Links.{input_link}
 use Rattle.prl_app.proofs.ChainLinks.{links_from-none, links_from-next, AreLinks-next}
 use Rattle.prl_app.proofs.links.links_of.Goals as goal

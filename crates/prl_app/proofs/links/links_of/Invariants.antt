@@ -1,4 +1,4 @@
-use Rattle.std.proofs.Common.{◌≡◌, ◌+◌, drop, length, vec_items, vec_len}
+use Rattle.std.proofs.Common.{◌≡◌, ◌+◌, drop, vec_items, vec_len}
 use Rattle.prl_app.specs.Links.{links_from, links_of, input_link, AreLinks}
 use Rattle.prl_app.proofs.links.links_of.Given as goal
 
