@@ -1,5 +1,7 @@
 pub mod RowLines
-pub mod ThinPrograms
+pub mod Items
+pub mod ChainLinks
+pub mod ChainPrograms
 pub mod Outputs
 pub mod Contents
 pub mod Statuses

@@ -1,6 +1,6 @@
 -- The flows of main's outputs.
-use Rattle.std.proofs.Common.{◌≡◌, ℕ, ◌+◌, ◌<◌, ◌≤◌, zero, suc, cond, nat_lt, List, [], ◌∷◌, length, Option, Some, None, Result, Ok, Err, refl, sym, ap, ◌∙◌, subst, arith}
-use Rattle.std.specs.Prelude.{slice_get, All}
+use Rattle.std.proofs.Common.{◌≡◌, ℕ, ◌+◌, ◌<◌, ◌≤◌, suc, List, [], ◌∷◌, length, Some, Ok, refl, sym, ap, ◌∙◌, arith}
+use Rattle.std.specs.Prelude.{slice_get}
 use Rattle.std.specs.List.{AllByRecursion}
 use Rattle.std.proofs.lemmas.List.Elements.{All-from_recursion}
 use borrow.Author.Tests.{le-ltb}
@@ -11,12 +11,18 @@ use Rattle.prl_flow.specs.declared.programs.OutFlow.{OutFlow}
 use Rattle.prl_flow.specs.Programs.{IsFlat}
 use Rattle.prl_flow.specs.Flows.{IsUpTo}
 use Rattle.prl_flow.specs.Solutions.{AreClocks, Solves, clock_of, values_of}
-use Rattle.prl_flow.specs.Actuators.{AreUpTo, actuator_text}
+use Rattle.prl_flow.specs.Actuators.{AreUpTo}
 use Rattle.prl_flow.specs.Counts.{values_before}
 use Rattle.prl_app.specs.declared.runs.Run.{Run}
-use Rattle.prl_app.specs.declared.refusals.Refusal.{Refusal}
-use Rattle.prl_app.specs.Runs.{out_flows, IsReady, IsTextOf}
-use Rattle.prl_app.specs.Outcomes.{within_limit, IsTextFor}
+use Rattle.prl_app.specs.Runs.{out_flows, chain_run}
+use Rattle.prl_base.specs.Reading.{◌>>=◌}
+use Rattle.prl_lex.specs.Lexing.{token_text}
+use Rattle.prl_app.specs.declared.links.Chain.{Chain}
+use Rattle.prl_app.specs.declared.refusals.Part.TheVariants as parts
+use Rattle.prl_app.specs.declared.refusals.Refusal.TheVariants as refusals
+use Rattle.prl_app.specs.Links.{chain_of}
+use Rattle.prl_app.specs.Rows.{rows_of}
+use Rattle.prl_app.specs.Outcomes.{flows_outcome, enough_rows, or_refuse, within_limit}
 
 some_inner : {A : Type 0} (x y : A) → Some x ≡ Some y → x ≡ y
 some_inner x y e = cc
@@ -51,3 +57,16 @@ AreUpTo-out_flows run flows flat clocks solution =
 -- what has few enough values is computed as it is
 pub within_limit-few : (run : Run) → values_before run.until run.clocks.of ≤ 4000000 → within_limit run ≡ Ok run
 within_limit-few run few = rw (le-ltb 4000000 (values_before run.until run.clocks.of) few) refl
+
+-- the outcome where each stage before the last one goes well
+pub flows_outcome-run : (program sensors : List ℕ) (until : ℕ) (chain : Chain) (values : List Value) (run : Run)
+    → or_refuse (refusals.NotBuilt parts.Program) (chain_of program) ≡ Ok chain
+    → or_refuse (refusals.NotBuilt parts.Sensors) (rows_of (token_text program chain.input) sensors) ≡ Ok values
+    → enough_rows program chain values until ≡ Ok values → run ≡ chain_run program chain values until
+    → flows_outcome program sensors until ≡ within_limit run
+unfolding flows_outcome
+flows_outcome-run program sensors until chain values run read rows enough is =
+    ap (λ r. r >>= λ c. or_refuse (refusals.NotBuilt parts.Sensors) (rows_of (token_text program c.input) sensors) >>= λ read. enough_rows program c read until >>= λ values. within_limit (chain_run program c values until)) read
+    ∙ ap (λ r. r >>= λ read. enough_rows program chain read until >>= λ values. within_limit (chain_run program chain values until)) rows
+    ∙ ap (λ r. r >>= λ values. within_limit (chain_run program chain values until)) enough
+    ∙ ap within_limit (sym is)

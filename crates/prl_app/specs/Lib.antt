@@ -1,6 +1,7 @@
 pub mod Words
 pub mod OptionViews
-pub mod Thin
+pub mod Chains
+pub mod Links
 pub mod Rows
 pub mod Runs
 pub mod Outcomes

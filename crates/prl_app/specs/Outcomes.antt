@@ -9,10 +9,10 @@ use Rattle.prl_app.specs.declared.refusals.Part.TheVariants as parts
 use Rattle.prl_app.specs.declared.refusals.Refusal.{Refusal}
 use Rattle.prl_app.specs.declared.refusals.Refusal.TheVariants as refusals
 use Rattle.prl_app.specs.declared.runs.Run.{Run}
-use Rattle.prl_app.specs.declared.thin.Thin.{Thin}
-use Rattle.prl_app.specs.Thin.{thin_of}
+use Rattle.prl_app.specs.declared.links.Chain.{Chain}
+use Rattle.prl_app.specs.Links.{chain_of}
 use Rattle.prl_app.specs.Rows.{rows_of}
-use Rattle.prl_app.specs.Runs.{thin_clock, thin_run, IsTextOf}
+use Rattle.prl_app.specs.Runs.{chain_clock, chain_run, IsTextOf}
 
 -- want of memory is free
 abbrev pub refusal_of : Refusal → Option Refusal
@@ -28,10 +28,10 @@ or_refuse refusal None = Err refusal
 or_refuse refusal (Some x) = Ok x
 
 -- a row for each date of the input
-abbrev pub enough_rows : List ℕ → Thin → List Value → ℕ → Result (List Value) Refusal
-enough_rows text p values until =
-    if nat_lt (length values) (dates_before until (thin_clock p)) then
-    Err (refusals.Short (token_text text p.input) (length values) (dates_before until (thin_clock p)))
+abbrev pub enough_rows : List ℕ → Chain → List Value → ℕ → Result (List Value) Refusal
+enough_rows text c values until =
+    if nat_lt (length values) (dates_before until (chain_clock c)) then
+    Err (refusals.Short (token_text text c.input) (length values) (dates_before until (chain_clock c)))
     else Ok values
 
 -- at most 4,000,000 values of all flows
@@ -44,10 +44,10 @@ within_limit run =
 -- the stages on the bytes of a program and of its rows
 unfoldable pub flows_outcome : List ℕ → List ℕ → ℕ → Result Run Refusal
 flows_outcome program sensors until = do
-  thin ← or_refuse (refusals.NotBuilt parts.Program) (thin_of program)
-  read ← or_refuse (refusals.NotBuilt parts.Sensors) (rows_of (token_text program thin.input) sensors)
-  values ← enough_rows program thin read until
-  within_limit (thin_run program thin values until)
+  chain ← or_refuse (refusals.NotBuilt parts.Program) (chain_of program)
+  read ← or_refuse (refusals.NotBuilt parts.Sensors) (rows_of (token_text program chain.input) sensors)
+  values ← enough_rows program chain read until
+  within_limit (chain_run program chain values until)
 
 -- the text of what is to be computed
 abbrev pub IsTextFor : Result Run Refusal → List ℕ → Type 0

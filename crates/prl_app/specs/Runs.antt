@@ -1,54 +1,42 @@
 -- What a program and its rows ask to be computed, and the text that they mean.
-use Rattle.std.specs.Prelude.{◌≡◌, ◌+◌, ◌<◌, ◌^◌, ℕ, List, [], ◌∷◌}
+use Rattle.std.specs.Prelude.{◌≡◌, ◌+◌, ◌<◌, ◌^◌, ℕ, List, [], ◌∷◌, map}
 use Rattle.prl_base.specs.declared.operators.Clock.{Clock}
-use Rattle.prl_base.specs.declared.operators.Op.TheVariants as operators
 use Rattle.prl_base.specs.declared.numbers.FlowNo.{FlowNo}
-use Rattle.prl_base.specs.declared.places.Span.{Span}
 use Rattle.prl_base.specs.declared.values.Ty.TheVariants as types
 use Rattle.prl_base.specs.declared.values.Value.{Value}
-use Rattle.prl_base.specs.declared.values.Value.TheVariants as values
-use Rattle.prl_lex.specs.declared.tokens.Token.{Token}
 use Rattle.prl_lex.specs.Lexing.{token_text}
-use Rattle.prl_flow.specs.declared.programs.Def.{Def}
-use Rattle.prl_flow.specs.declared.programs.Def.TheVariants as definitions
 use Rattle.prl_flow.specs.declared.programs.Flow.{Flow}
 use Rattle.prl_flow.specs.declared.programs.OutFlow.{OutFlow}
 use Rattle.prl_flow.specs.Programs.{FlatProgram, name_of}
-use Rattle.prl_flow.specs.Rows.{Rows}
 use Rattle.prl_flow.specs.Solutions.{Solves, AreClocks, IsOrdered, HasRows, clock_of, values_of}
 use Rattle.prl_flow.specs.Actuators.{actuator_text}
-use Rattle.prl_app.specs.declared.thin.Right.{Right}
-use Rattle.prl_app.specs.declared.thin.Right.TheVariants.{Input, Delayed}
-use Rattle.prl_app.specs.declared.thin.Thin.{Thin}
+use Rattle.prl_app.specs.declared.links.Chain.{Chain}
+use Rattle.prl_app.specs.declared.links.Link.{Link}
 use Rattle.prl_app.specs.declared.runs.Run.{Run}
+use Rattle.prl_app.specs.Links.{link_clock}
 
--- how the output is defined: the input is flow 0
-abbrev pub thin_def : Right → Def
-thin_def Input = definitions.Copy (record { 0 = 0 })
-thin_def (Delayed number) = definitions.Op (operators.Fby (values.Int number)) (record { 0 = 0 })
+-- the flow of a link
+abbrev pub link_flow : List ℕ → Link → Flow
+link_flow text l = record { label = token_text text l.name; ty = types.Int; def = l.def; at = l.name.span }
 
--- a flow of the name that the token is
-abbrev pub thin_flow : List ℕ → Token → Def → Flow
-thin_flow text token def = record { label = token_text text token; ty = types.Int; def = def; at = token.span }
-
--- the flat program: the input, and the output
-abbrev pub thin_program : List ℕ → Thin → FlatProgram
-thin_program text p = record {
-  flows = thin_flow text p.input (definitions.Sensor 0) ∷ thin_flow text p.output (thin_def p.right) ∷ [];
+-- the flat program: the flows of input and equations
+abbrev pub chain_program : List ℕ → Chain → FlatProgram
+chain_program text c = record {
+  flows = map (link_flow text) c.links;
   ins = record { 0 = 0 } ∷ [];
-  outs = record { 0 = 1 } ∷ [];
-  in_devices = (token_text text p.input, p.wcet_in) ∷ [];
-  out_devices = (token_text text p.output, p.wcet_out) ∷ [];
+  outs = c.out ∷ [];
+  in_devices = (token_text text c.input, c.wcet_in) ∷ [];
+  out_devices = (token_text text c.output, c.wcet_out) ∷ [];
 }
 
--- both flows are on the clock of the input
-abbrev pub thin_clock : Thin → Clock
-thin_clock p = record { period = p.period; start = 0 }
+-- the clock of the input
+abbrev pub chain_clock : Chain → Clock
+chain_clock c = record { period = c.period; start = 0 }
 
-abbrev pub thin_run : List ℕ → Thin → List Value → ℕ → Run
-thin_run text p values until = record {
-  flat = thin_program text p;
-  clocks = record { of = thin_clock p ∷ thin_clock p ∷ [] };
+abbrev pub chain_run : List ℕ → Chain → List Value → ℕ → Run
+chain_run text c values until = record {
+  flat = chain_program text c;
+  clocks = record { of = map link_clock c.links };
   sensors = values ∷ [];
   until = until;
 }

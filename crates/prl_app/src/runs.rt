@@ -1,20 +1,22 @@
 //! What a program and its rows ask to be computed, and the text of its actuators.
 
-ghost use Rattle.std.specs.Prelude.{◌≡◌, ◌<◌, ◌^◌, IfOk, MatchResult, [], ◌∷◌, length, slice_index_or};
+ghost use Rattle.std.specs.Prelude.{◌≡◌, ◌<◌, ◌^◌, IfOk, MatchResult, [], ◌∷◌, length, map, slice_index_or};
 ghost use Rattle.std.specs.Vec.{vec_items};
 ghost use Rattle.prl_base.specs.Names.{IsName};
 ghost use Rattle.prl_base.specs.Clocks.{IsClock};
 ghost use Rattle.prl_lex.specs.Lexing.{token_text};
 ghost use Rattle.prl_flow.specs.Programs.{IsFlat};
 ghost use Rattle.prl_flow.specs.Solutions.{AreClocks};
-ghost use Rattle.prl_app.specs.Thin.{IsThin, NamesAt};
-ghost use Rattle.prl_app.specs.Runs.{thin_run, thin_program, thin_flow, thin_def, IsReady, IsTextOf, out_flow, out_flows};
+ghost use Rattle.prl_app.specs.Chains.{NamesAt};
+ghost use Rattle.prl_app.specs.Links.{link_clock, IsChain};
+ghost use Rattle.prl_app.specs.Runs.{chain_run, chain_program, link_flow, IsReady, IsTextOf, out_flow, out_flows};
 ghost use Rattle.prl_app.specs.Outcomes.{within_limit, IsTextFor, IsRefusalOf};
 
+use crate::chains::bytes_of;
+use crate::links::{Chain, Link};
 use crate::refusals::Refusal;
-use crate::thin::{Right, Thin, bytes_of};
-use prl_base::{Clock, FlowNo, Label, Name, NameFault, Op, Seq, Span, Ty, Value};
-use prl_flow::{Clocks, Def, Flat, Flow, FlowFault, FlowTable, OutFlow, Sensors, evaluate};
+use prl_base::{Clock, FlowNo, Label, Name, NameFault, Seq, Ty, Value};
+use prl_flow::{Clocks, Flat, Flow, FlowFault, FlowTable, OutFlow, Sensors, evaluate};
 use prl_lex::Token;
 use prl_sensors::actuator_text;
 use std::alloc::{AllocError, Global};
@@ -50,45 +52,41 @@ fn one<T: Drop>(alloc: Global, item: T) -> Result<Vec<T>, AllocError>
     Ok(items)
 }
 
-fn two<T: Drop>(alloc: Global, first: T, second: T) -> Result<Vec<T>, AllocError>
-    ensures { IfOk result (λ items. vec_items items ≡ first ∷ second ∷ []) }
-{
-    let mut items = Vec::with_capacity(alloc, 2)?;
-    items.push(first)?;
-    items.push(second)?;
-    Ok(items)
-}
-
-/// How the output is defined. The input is flow 0.
-fn thin_def(right: Right) -> Def
-    ensures { result ≡ thin_def right }
-{
-    match right {
-        Right::Input => Def::Copy(FlowNo(0)),
-        Right::Delayed(number) => Def::Op {
-            op: Op::Fby(Value::Int(number)),
-            of: FlowNo(0),
-        },
-    }
-}
-
-fn thin_flow(alloc: Global, text: &[u8], token: Token, def: Def) -> Result<Flow, AllocError>
-    ensures { IfOk result (λ flow. flow ≡ thin_flow text.now token def) }
+/// The flow of a link.
+fn link_flow(alloc: Global, text: &[u8], link: Link) -> Result<Flow, AllocError>
+    ensures { IfOk result (λ flow. flow ≡ link_flow text.now link) }
 {
     Ok(Flow {
-        label: Label::new(alloc, bytes_of(text, token))?,
+        label: Label::new(alloc, bytes_of(text, link.name))?,
         ty: Ty::Int,
-        def,
-        at: token.span,
+        def: link.def,
+        at: link.name.span,
     })
 }
 
-fn thin_flows(alloc: Global, text: &[u8], program: Thin) -> Result<Seq<Flow>, AllocError>
-    ensures { IfOk result (λ flows. flows ≡ (thin_program text.now program).flows) }
+/// The flows of links, in order.
+fn link_flows(alloc: Global, text: &[u8], links: &[Link]) -> Result<Vec<Flow>, AllocError>
+    ensures { IfOk result (λ flows. vec_items flows ≡ map (link_flow text.now) links.now) }
 {
-    let input = thin_flow(alloc, text, program.input, Def::Sensor(0))?;
-    let output = thin_flow(alloc, text, program.output, thin_def(program.right))?;
-    Ok(Seq::new(two(alloc, input, output)?))
+    let mut flows = Vec::with_capacity(alloc, links.len())?;
+    for link in links {
+        flows.push(link_flow(alloc, text, *link)?)?;
+    }
+    Ok(flows)
+}
+
+/// The clocks of links, in order.
+fn link_clocks(alloc: Global, links: &[Link]) -> Result<Vec<Clock>, AllocError>
+    ensures { IfOk result (λ clocks. vec_items clocks ≡ map link_clock links.now) }
+{
+    let mut clocks = Vec::with_capacity(alloc, links.len())?;
+    for link in links {
+        clocks.push(Clock {
+            period: u64::from(link.period),
+            start: 0,
+        })?;
+    }
+    Ok(clocks)
 }
 
 /// The list of one device: the name is a token of the text.
@@ -111,37 +109,34 @@ fn one_flow(alloc: Global, flow: FlowNo) -> Result<Seq<FlowNo>, AllocError>
     Ok(Seq::new(one(alloc, flow)?))
 }
 
-fn thin_flat(alloc: Global, text: &[u8], program: Thin) -> Result<Flat, AllocError>
-    requires { IsThin text.now program }
-    ensures { IfOk result (λ flat. flat ≡ thin_program text.now program) }
+/// The flat program of a chain.
+fn chain_flat(alloc: Global, text: &[u8], chain: &Chain) -> Result<Flat, AllocError>
+    requires { IsChain text.now chain.now }
+    ensures { IfOk result (λ flat. flat ≡ chain_program text.now chain.now) }
 {
-    let flows = thin_flows(alloc, text, program)?;
+    let flows = Seq::new(link_flows(alloc, text, chain.links.as_slice())?);
     let ins = one_flow(alloc, FlowNo(0))?;
-    let outs = one_flow(alloc, FlowNo(1))?;
-    let sensors = device(alloc, text, program.input, program.wcet_in)?;
-    let actuators = device(alloc, text, program.output, program.wcet_out)?;
+    let outs = one_flow(alloc, chain.out)?;
+    let sensors = device(alloc, text, chain.input, chain.wcet_in)?;
+    let actuators = device(alloc, text, chain.output, chain.wcet_out)?;
     Ok(Flat::new(flows, ins, outs, sensors, actuators))
 }
 
-/// What a program of the small form and the values of its input ask to be computed.
-pub fn thin_run(
+/// What a program and the values of its input ask to be computed.
+pub fn chain_run(
     alloc: Global,
     text: &[u8],
-    program: Thin,
+    chain: &Chain,
     values: Vec<Value>,
     until: u32,
 ) -> Result<Run, AllocError>
-    requires { IsThin text.now program }
-    ensures { IfOk result (λ run. run ≡ thin_run text.now program values.items until) }
+    requires { IsChain text.now chain.now }
+    ensures { IfOk result (λ run. run ≡ chain_run text.now chain.now values.items until) }
 {
-    let clock = Clock {
-        period: u64::from(program.period),
-        start: 0,
-    };
     Ok(Run {
-        flat: thin_flat(alloc, text, program)?,
+        flat: chain_flat(alloc, text, chain)?,
         clocks: Clocks {
-            of: Seq::new(two(alloc, clock, clock)?),
+            of: Seq::new(link_clocks(alloc, chain.links.as_slice())?),
         },
         sensors: Sensors::new(one(alloc, Seq::new(values))?),
         until,

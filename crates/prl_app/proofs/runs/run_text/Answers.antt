@@ -1,4 +1,4 @@
-use Rattle.std.proofs.Common.{◌≡◌, ℕ, sym, ap, ◌∙◌, subst, arith}
+use Rattle.std.proofs.Common.{sym, ap, ◌∙◌, subst, arith}
 use Rattle.prl_flow.specs.Actuators.{AreUpTo, actuator_text}
 use Rattle.prl_app.proofs.Outputs.{AreUpTo-out_flows, within_limit-few}
 use Rattle.prl_app.proofs.runs.run_text.Goals as goal

@@ -1,5 +1,6 @@
 -- The form of programs that is built so far, read from its tokens.
-use Rattle.std.specs.Prelude.{◌≡◌, ◌==◌, ◌&&◌, ◌||◌, ◌<◌, ◌≤◌, ◌^◌, ℕ, ℤ, Bool, true, false, not, List, [], ◌∷◌, length, Option, Some, None, Result, Ok, Err, nat_le, nat_lt, if◌then◌else◌, codes}
+use Rattle.std.specs.Prelude.{◌&&◌, ◌||◌, ◌≤◌, ◌^◌, ℕ, ℤ, Bool, true, false, not, List, [], ◌∷◌, length, ◌++◌, zero, suc, Option, Some, None, nat_le, nat_lt, if◌then◌else◌, codes}
+use Rattle.std.specs.List.{All}
 use Rattle.std.specs.Str.{bytes_eq}
 use Rattle.prl_base.specs.Decimals.{positive, negative}
 use Rattle.prl_base.specs.Names.{is_word, IsName}
@@ -7,12 +8,12 @@ use Rattle.prl_flow.specs.Programs.{IsFactor}
 use Rattle.prl_lex.specs.declared.tokens.Kind.{Kind}
 use Rattle.prl_lex.specs.declared.tokens.Kind.TheVariants as kinds
 use Rattle.prl_lex.specs.declared.tokens.Token.{Token}
-use Rattle.prl_lex.specs.declared.tokens.LexFault.{LexFault}
-use Rattle.prl_lex.specs.Lexing.{token_text, tokens_of}
-use Rattle.prl_app.specs.declared.thin.Right.{Right}
-use Rattle.prl_app.specs.declared.thin.Right.TheVariants.{Input, Delayed}
-use Rattle.prl_app.specs.declared.thin.Thin.{Thin}
-use Rattle.prl_app.specs.declared.thin.Pieces.{Pieces}
+use Rattle.prl_lex.specs.Lexing.{token_text}
+use Rattle.prl_app.specs.declared.chains.Right.{Right}
+use Rattle.prl_app.specs.declared.chains.Right.TheVariants.{Copy, Delayed, Faster, Slower}
+use Rattle.prl_app.specs.declared.chains.Equation.{Equation}
+use Rattle.prl_app.specs.declared.chains.Head.{Head}
+use Rattle.prl_app.specs.declared.chains.Parts.{Parts}
 use Rattle.prl_app.specs.Words.{◌>>=◌}
 
 -- what tokens at the front spell, and the tokens behind them
@@ -117,74 +118,113 @@ node_at text tokens = do
   rest ← expect text output.1 (codes ")")
   Some ((input.0, output.0), rest)
 
--- NAME, or an integer, fby and NAME; the first is what reading an integer gave
+-- what stands behind a NAME: nothing, or *^ NUMBER, or /^ NUMBER; the options are what stands behind the symbol
+abbrev pub slower_or_same : List Token → Option (List Token) → Reading Right
+slower_or_same tokens None = Some (Copy, tokens)
+slower_or_same tokens (Some rest) = do
+  factor ← factor_at rest
+  Some (Slower factor.0, factor.1)
+
+abbrev pub faster_or : Reading Right → Option (List Token) → Reading Right
+faster_or other None = other
+faster_or other (Some rest) = do
+  factor ← factor_at rest
+  Some (Faster factor.0, factor.1)
+
+abbrev pub rate_at : List ℕ → List Token → Reading Right
+rate_at text tokens = faster_or (slower_or_same tokens (expect text tokens (codes "/^"))) (expect text tokens (codes "*^"))
+
+-- NAME and a rate, or an integer, fby and NAME; the first is what reading an integer gave
 unfoldable pub right_after : List ℕ → List Token → Reading ℤ → Reading (Right × Token)
 right_after text tokens None = do
   name ← name_at text tokens
-  Some ((Input, name.0), name.1)
+  rate ← rate_at text name.1
+  Some ((rate.0, name.0), rate.1)
 right_after text tokens (Some number) = do
   rest ← expect text number.1 (codes "fby")
   name ← name_at text rest
   Some ((Delayed number.0, name.0), name.1)
 
--- let NAME = RIGHT ; tel
-unfoldable pub equation_at : List ℕ → List Token → Reading (Token × (Right × Token))
+-- NAME = RIGHT ;
+unfoldable pub equation_at : List ℕ → List Token → Reading Equation
 equation_at text tokens = do
-  rest ← expect text tokens (codes "let")
-  left ← name_at text rest
+  left ← name_at text tokens
   rest ← expect text left.1 (codes "=")
   right ← right_after text rest (const_at text rest)
   rest ← expect text right.1 (codes ";")
-  rest ← expect text rest (codes "tel")
-  Some ((left.0, right.0), rest)
+  Some (record { left = left.0; right = right.0.0; used = right.0.1 }, rest)
 
-unfoldable pub parts_at : List ℕ → List Token → Reading Pieces
-parts_at text tokens = do
+-- , NAME
+unfoldable pub next_name_at : List ℕ → List Token → Reading Token
+next_name_at text tokens = do
+  rest ← expect text tokens (codes ",")
+  name_at text rest
+
+-- items in front of others
+abbrev pub with_front : {X : Type 0} → List X → Reading (List X) → Reading (List X)
+with_front front None = None
+with_front front (Some read) = Some (front ++ read.0, read.1)
+
+-- no item, where the token that ends a list was found; else what follows the next item
+abbrev pub then_items : {X : Type 0} → Option (List Token) → Reading X → (List Token → Reading (List X)) → Reading (List X)
+then_items (Some rest) item more = Some ([], rest)
+then_items None None more = None
+then_items None (Some item) more = with_front (item.0 ∷ []) (more item.1)
+
+-- fewer than so many items, and a token that ends them
+unfoldable pub items_at : {X : Type 0} → ℕ → (List Token → Reading X) → (List Token → Option (List Token)) → List Token → Reading (List X)
+items_at zero item end tokens = None
+items_at (suc most) item end tokens = then_items (end tokens) (item tokens) (items_at most item end)
+
+-- a token with this text
+abbrev pub end_at : List ℕ → List ℕ → List Token → Option (List Token)
+end_at text wanted tokens = expect text tokens wanted
+
+-- {, NAME} ; behind a first name
+abbrev pub names_after : List ℕ → Token → List Token → Reading (List Token)
+names_after text first tokens = with_front (first ∷ []) (items_at 64 (next_name_at text) (end_at text (codes ";")) tokens)
+
+-- nothing, or var NAME {, NAME} ; : the option is what stands behind `var`
+abbrev pub locals_after : List ℕ → List Token → Option (List Token) → Reading (List Token)
+locals_after text tokens None = Some ([], tokens)
+locals_after text tokens (Some rest) = do
+  first ← name_at text rest
+  names_after text first.0 first.1
+
+abbrev pub locals_at : List ℕ → List Token → Reading (List Token)
+locals_at text tokens = locals_after text tokens (expect text tokens (codes "var"))
+
+-- {NAME = RIGHT ;} tel, with at most 64 equations
+abbrev pub equations_at : List ℕ → List Token → Reading (List Equation)
+equations_at text tokens = items_at 65 (equation_at text) (end_at text (codes "tel")) tokens
+
+abbrev pub body_after : List ℕ → Option (List Token) → Reading (List Equation)
+body_after text None = None
+body_after text (Some rest) = equations_at text rest
+
+-- let and the equations
+abbrev pub body_at : List ℕ → List Token → Reading (List Equation)
+body_at text tokens = body_after text (expect text tokens (codes "let"))
+
+-- the devices, the node's input with its period, and its output
+unfoldable pub head_at : List ℕ → List Token → Reading Head
+head_at text tokens = do
   sensor ← device_at text (codes "sensor") tokens
   actuator ← device_at text (codes "actuator") sensor.1
   node ← node_at text actuator.1
-  equation ← equation_at text node.1
-  Some (
-    record {
-      sensor = sensor.0;
-      actuator = actuator.0;
-      input = node.0.0;
-      output = node.0.1;
-      left = equation.0.0;
-      right = equation.0.1.0;
-      used = equation.0.1.1;
-    },
-    equation.1,
-  )
+  Some (record { sensor = sensor.0; actuator = actuator.0; input = node.0.0; output = node.0.1 }, node.1)
+
+-- all parts of a program
+unfoldable pub parts_at : List ℕ → List Token → Reading Parts
+parts_at text tokens = do
+  head ← head_at text tokens
+  locals ← locals_at text head.1
+  equations ← body_at text locals.1
+  Some (record { head = head.0; locals = locals.0; equations = equations.0 }, equations.1)
 
 -- two tokens have one text
 abbrev pub same : List ℕ → Token → Token → Bool
 same text a b = bytes_eq (token_text text a) (token_text text b)
-
--- the input is the sensor's and is used, and the output is the actuator's and is defined
-abbrev pub are_named : List ℕ → Pieces → Bool
-are_named text p =
-    (same text p.input.0 p.sensor.0 && same text p.used p.input.0)
-    && (same text p.output p.actuator.0 && same text p.left p.output)
-
-abbrev pub thin_with : List ℕ → Pieces → List Token → Option Thin
-thin_with text p [] =
-    if same text p.input.0 p.output then None
-    else if are_named text p then
-    Some (record { input = p.input.0; output = p.output; wcet_in = p.sensor.1; wcet_out = p.actuator.1; period = p.input.1; right = p.right })
-    else None
-thin_with text p (token ∷ tokens) = None
-
--- the program that the tokens of the text spell
-abbrev pub thin_from : List ℕ → Result (List Token) LexFault → Option Thin
-thin_from text (Err fault) = None
-thin_from text (Ok tokens) = do
-  parts ← parts_at text tokens
-  thin_with text parts.0 parts.1
-
--- the program that the text spells, if it is of the form
-abbrev pub thin_of : List ℕ → Option Thin
-thin_of text = thin_from text (tokens_of text)
 
 -- the token is a name
 abbrev pub NamesAt : List ℕ → Token → Type 0
@@ -194,18 +234,21 @@ NamesAt text token = IsName (token_text text token)
 abbrev pub IsDevice : List ℕ → Token × ℕ → Type 0
 IsDevice text d = NamesAt text d.0 × IsFactor d.1
 
--- what is known of the parts of a program
-pub record ArePieces (text : List ℕ) (p : Pieces) : Type 0 where
-  pub sensor : IsDevice text p.sensor
-  pub actuator : IsDevice text p.actuator
-  pub input : IsDevice text p.input
-  pub output : NamesAt text p.output
+-- the factor of a right side is 1 to 2^31 - 1
+abbrev pub IsRight : Right → Type 0
+IsRight Copy = Unit {0}
+IsRight (Delayed number) = Unit {0}
+IsRight (Faster factor) = IsFactor factor
+IsRight (Slower factor) = IsFactor factor
 
--- what is known of a program: its names are two, and its numbers are 1 to 2^31 - 1
-pub record IsThin (text : List ℕ) (p : Thin) : Type 0 where
-  pub input : NamesAt text p.input
-  pub output : NamesAt text p.output
-  pub apart : same text p.input p.output ≡ false
-  pub wcet_in : IsFactor p.wcet_in
-  pub wcet_out : IsFactor p.wcet_out
-  pub period : IsFactor p.period
+-- what is known of the head of a program
+pub record IsHead (text : List ℕ) (h : Head) : Type 0 where
+  pub sensor : IsDevice text h.sensor
+  pub actuator : IsDevice text h.actuator
+  pub input : IsDevice text h.input
+  pub output : NamesAt text h.output
+
+-- what is known of equations
+pub record AreEquations (equations : List Equation) : Type 0 where
+  pub few : length equations ≤ 64
+  pub rights : All (λ (e : Equation). IsRight e.right) equations
