@@ -6,7 +6,7 @@ use prl_base::{Name, Op, Seq, Span, Value};
 #[derive(Clone, Copy, Debug, PartialEq, Eq)]
 pub struct PlacedOp {
     pub op: Op,
-    /// The operator's first token: of `c fby` and `c ::` the constant's.
+    /// The operator's own token: `fby`, `::`, `tail`, `*^`, `/^` or `~>`.
     pub at: Span,
 }
 
