@@ -1,0 +1,4 @@
+pub mod Basics
+pub mod Steps
+pub mod Sequences
+pub mod Repeats

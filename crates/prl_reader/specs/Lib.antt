@@ -1,0 +1,4 @@
+pub mod Lexemes
+pub mod Grammars
+pub mod Readers
+pub mod Reads

@@ -1,0 +1,2 @@
+//! Readers of tokens, with which programs and bodies are read.
+#![tactic(auto)]
