@@ -2,3 +2,5 @@ pub mod Basics
 pub mod Steps
 pub mod Sequences
 pub mod Repeats
+pub mod Tokens
+pub mod Whole

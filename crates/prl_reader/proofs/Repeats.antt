@@ -60,13 +60,13 @@ at_length {A} {W} {s} r family agree n = record {
   sound = λ ts. (family (length ts)).sound ts;
   stuck = λ ts. (family (length ts)).stuck ts;
   local = λ w rest other a c e.
-    let d : ℕ = length (w ++ rest) + length (w ++ other) in
-    agree (length (w ++ other)) d (w ++ other) (omega arith) (omega arith)
-    ∙ (family d).local w rest other a c (agree d (length (w ++ rest)) (w ++ rest) (omega arith) (omega arith) ∙ e);
+      let d : ℕ = length (w ++ rest) + length (w ++ other) in
+      agree (length (w ++ other)) d (w ++ other) (omega arith) (omega arith)
+      ∙ (family d).local w rest other a c (agree d (length (w ++ rest)) (w ++ rest) (omega arith) (omega arith) ∙ e);
   local_stuck = λ w rest other c e.
-    let d : ℕ = length (w ++ rest) + length (w ++ other) in
-    agree (length (w ++ other)) d (w ++ other) (omega arith) (omega arith)
-    ∙ (family d).local_stuck w rest other c (agree d (length (w ++ rest)) (w ++ rest) (omega arith) (omega arith) ∙ e);
+      let d : ℕ = length (w ++ rest) + length (w ++ other) in
+      agree (length (w ++ other)) d (w ++ other) (omega arith) (omega arith)
+      ∙ (family d).local_stuck w rest other c (agree d (length (w ++ rest)) (w ++ rest) (omega arith) (omega arith) ∙ e);
   complete = λ a w rest le h stops. (family (length (w ++ rest))).complete a w rest (omega (arith, length-append w rest)) h stops;
   begins = (family 0).begins;
   example = (family 0).example;
@@ -105,7 +105,11 @@ module _ {A : Type 0} {W : A → List Lexeme → Type 0} {s : Shape} {p : List L
   unfolding Item
   from_many [] w h = inr (record { is = refl; whole = h })
   from_many (a ∷ rest) w h = inl (record {
-    first = a; left = h.0; right = h.1; whole = h.2; head = h.3;
+    first = a;
+    left = h.0;
+    right = h.1;
+    whole = h.2;
+    head = h.3;
     tail = record { first = rest; left = h.1; right = []; whole = sym (append-nil h.1); head = h.4; tail = record { is = refl; whole = refl } };
   })
 
@@ -131,11 +135,18 @@ module _ {A : Type 0} {W : A → List Lexeme → Type 0} {s : Shape} {p : List L
   item_example : (xs : List A) × (w : List Lexeme) × Item xs w
   unfolding Item
   item_example =
-      let x = (reads 0).example in
-      (x.0 ∷ [], x.1 ++ [], record {
-        first = x.0; left = x.1; right = []; whole = refl; head = x.2;
-        tail = record { first = []; left = []; right = []; whole = refl; head = refl; tail = record { is = refl; whole = refl } };
-      })
+      let x = (reads 0).example in (
+        x.0 ∷ [],
+        x.1 ++ [],
+        record {
+          first = x.0;
+          left = x.1;
+          right = [];
+          whole = refl;
+          head = x.2;
+          tail = record { first = []; left = []; right = []; whole = refl; head = refl; tail = record { is = refl; whole = refl } };
+        },
+      )
 
   item_widens : Widens (then_shape s (then_shape (many_shape s) give_shape)) item_shape
   unfolding item_shape
@@ -167,9 +178,9 @@ module _ {A : Type 0} {W : A → List Lexeme → Type 0} {s : Shape} {p : List L
   family zero = restate 0 (choice_reads 0 (deep_reads {W = Item} {s = item_shape} refl item_begins item_example) (give_reads 0 []) refl (apart_nil s.first)) to_many from_many many_widens
   family (suc n) =
       let behind : (a : A) → Reads n (Then (Many W) (λ rest. Give (a ∷ rest))) (then_shape (many_shape s) give_shape) (then_read (many_up_to s.first p n) (λ rest. give (a ∷ rest))) =
-          λ a. bind_reads n n n (family n) (λ rest. give_reads n (a ∷ rest)) (apart_nil (s.first ++ s.more)) (λ u v b le. (omega (arith, length-append u v), omega (arith, length-append u v))) in
+      λ a. bind_reads n n n (family n) (λ rest. give_reads n (a ∷ rest)) (apart_nil (s.first ++ s.more)) (λ u v b le. (omega (arith, length-append u v), omega (arith, length-append u v))) in
       let one : Reads (suc n) Item (then_shape s (then_shape (many_shape s) give_shape)) (then_read p (λ a. then_read (many_up_to s.first p n) (λ rest. give (a ∷ rest)))) =
-          bind_reads (suc n) (suc n) n (reads (suc n)) behind (λ c h. ap (is_in c) (append-nil s.first) ∙ apart c h) (room n) in
+      bind_reads (suc n) (suc n) n (reads (suc n)) behind (λ c h. ap (is_in c) (append-nil s.first) ∙ apart c h) (room n) in
       restate (suc n) (choice_reads (suc n) (restate {r = item_shape} (suc n) one (λ xs w h. h) (λ xs w h. h) item_widens) (give_reads (suc n) []) refl (apart_nil s.first)) to_many from_many many_widens
     where
       room : (n : ℕ) (u v : List Lexeme) → Begins s u → length (u ++ v) ≤ suc n → (length u ≤ suc n) × (length v ≤ n)
@@ -185,8 +196,8 @@ module _ {A : Type 0} {W : A → List Lexeme → Type 0} {s : Shape} {p : List L
   agree (suc n) zero (t ∷ ts) a b = absurd (omega arith)
   agree (suc n) (suc m) ts a b =
       ap (λ x. cond (next_in s.first ts) x (Ok ([], ts))) (same_bind (p ts) _ _ (λ x rest e.
-          let fewer = leaves_fewer 0 (reads 0) solid ts x rest e in
-          ap (λ y. y >>= λ y. Ok (x ∷ y.0, y.1)) (agree n m rest (omega arith) (omega arith))))
+      let fewer = leaves_fewer 0 (reads 0) solid ts x rest e in
+      ap (λ y. y >>= λ y. Ok (x ∷ y.0, y.1)) (agree n m rest (omega arith) (omega arith))))
 
   -- many in a row are read, each with one token of look-ahead
   pub many_reads : (n : ℕ) → Reads n (Many W) (many_shape s) (many_at s.first p)
@@ -198,5 +209,5 @@ module _ {A : Type 0} {W : A → List Lexeme → Type 0} {s : Shape} {p : List L
   many_step [] = refl
   many_step (t ∷ ts) =
       ap (λ x. cond (next_in s.first (t ∷ ts)) x (Ok ([], t ∷ ts))) (same_bind (p (t ∷ ts)) _ _ (λ x rest e.
-          let fewer = leaves_fewer 0 (reads 0) solid (t ∷ ts) x rest e in
-          ap (λ y. y >>= λ y. Ok (x ∷ y.0, y.1)) (agree (length ts) (length rest) rest (omega arith) (omega arith))))
+      let fewer = leaves_fewer 0 (reads 0) solid (t ∷ ts) x rest e in
+      ap (λ y. y >>= λ y. Ok (x ∷ y.0, y.1)) (agree (length ts) (length rest) rest (omega arith) (omega arith))))

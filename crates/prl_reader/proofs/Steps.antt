@@ -21,9 +21,9 @@ one_sound : (class : ℕ) (ts : List Lexeme) (a : Lexeme) (rest : List Lexeme) �
 one_sound class [] a rest e = cc
 one_sound class (t ∷ ts) a rest e = ⊎_elim
     (λ p.
-        let is : t ≡ a = same_tree t a ts rest _ refl p.1 in
-        let left : ts ≡ rest = same_rest t a ts rest _ refl p.1 in
-        record { text = a ∷ []; whole = ap (λ u. u ∷ ts) is ∙ ap (λ r. a ∷ r) left; written = record { is = ap (λ u. u.class) (sym is) ∙ eqb-true t.class class p.0; whole = refl } })
+    let is : t ≡ a = same_tree t a ts rest _ refl p.1 in
+    let left : ts ≡ rest = same_rest t a ts rest _ refl p.1 in
+    record { text = a ∷ []; whole = ap (λ u. u ∷ ts) is ∙ ap (λ r. a ∷ r) left; written = record { is = ap (λ u. u.class) (sym is) ∙ eqb-true t.class class p.0; whole = refl } })
     (λ p. cc)
     (chosen (t.class == class) _ _ _ e)
 
@@ -42,9 +42,9 @@ one_local class [] (t ∷ ts) other a n e = ⊎_elim
     (chosen (t.class == class) _ _ _ e)
 one_local class (t ∷ w) rest other a n e = ⊎_elim
     (λ p.
-        let is : t ≡ a = same_tree t a (w ++ rest) rest _ refl p.1 in
-        let left : w ≡ [] = own_tokens w rest (same_rest t a (w ++ rest) rest _ refl p.1) in
-        cond-true (t.class == class) _ _ p.0 ∙ ap (λ u. Ok (u, w ++ other)) is ∙ ap (λ v. Ok (a, v ++ other)) left)
+    let is : t ≡ a = same_tree t a (w ++ rest) rest _ refl p.1 in
+    let left : w ≡ [] = own_tokens w rest (same_rest t a (w ++ rest) rest _ refl p.1) in
+    cond-true (t.class == class) _ _ p.0 ∙ ap (λ u. Ok (u, w ++ other)) is ∙ ap (λ v. Ok (a, v ++ other)) left)
     (λ p. cc)
     (chosen (t.class == class) _ _ _ e)
 
@@ -93,9 +93,9 @@ give_reads n x = record {
   sound = λ ts a rest e. record { text = []; whole = same_rest x a ts rest _ refl e; written = record { is = sym (same_tree x a ts rest _ refl e); whole = refl } };
   stuck = λ ts left e. cc;
   local = λ w rest other a n e.
-    let is = same_tree x a (w ++ rest) rest _ refl e in
-    let none = own_tokens w rest (same_rest x a (w ++ rest) rest _ refl e) in
-    ap (λ y. Ok (y, w ++ other)) is ∙ ap (λ v. Ok (a, v ++ other)) none;
+      let is = same_tree x a (w ++ rest) rest _ refl e in
+      let none = own_tokens w rest (same_rest x a (w ++ rest) rest _ refl e) in
+      ap (λ y. Ok (y, w ++ other)) is ∙ ap (λ v. Ok (a, v ++ other)) none;
   local_stuck = λ w rest other n e. cc;
   complete = λ a w rest le h stops. ap (λ v. Ok (x, v ++ rest)) h.whole ∙ ap (λ y. Ok (y, rest)) (sym h.is);
   begins = λ a w h. (let P : List Lexeme → Type 0 = Begins give_shape in subst P (sym h.whole) refl);

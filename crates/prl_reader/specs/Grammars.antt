@@ -31,3 +31,15 @@ Either W V a w = W a w ⊎ V a w
 abbrev pub Many : {A : Type 0} → (A → List Lexeme → Type 0) → List A → List Lexeme → Type 0
 Many W [] w = w ≡ []
 Many W (a ∷ rest) w = (u : List Lexeme) × (v : List Lexeme) × (w ≡ u ++ v) × W a u × Many W rest v
+
+-- a token of a class, of which the place counts
+abbrev pub Place : ℕ → Span → List Lexeme → Type 0
+Place class = Then (One class) (λ t. Give t.at)
+
+-- a name and its place
+abbrev pub Named : List ℕ × Span → List Lexeme → Type 0
+Named = Then (One 0) (λ t. Give (t.name, t.at))
+
+-- a number and its place
+abbrev pub Numbered : ℕ × Span → List Lexeme → Type 0
+Numbered = Then (One 1) (λ t. Give (t.number, t.at))

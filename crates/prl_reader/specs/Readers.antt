@@ -2,6 +2,7 @@
 use Rattle.std.specs.Prelude.{ℕ, zero, suc, Bool, true, false, ◌==◌, List, [], ◌∷◌, length, Result, Ok, Err, Option, Some, None, if◌then◌else◌}
 use Rattle.std.specs.List.{list_any}
 use Rattle.prl_base.specs.Reading.{◌>>=◌}
+use Rattle.prl_base.specs.declared.places.Span.{Span}
 use Rattle.prl_reader.specs.Lexemes.{Lexeme}
 
 pub data Stop : Type 0 where
@@ -41,3 +42,26 @@ many_up_to classes read (suc n) ts =
 
 abbrev pub many_at : {A : Type 0} → List ℕ → (List Lexeme → Read A) → List Lexeme → Read (List A)
 many_at classes read ts = many_up_to classes read (length ts) ts
+
+-- the place of a token of the class
+abbrev pub place_at : ℕ → List Lexeme → Read Span
+place_at class ts = do
+  t ← one_at class ts
+  Ok (t.0.at, t.1)
+
+-- a name and its place
+abbrev pub name_at : List Lexeme → Read (List ℕ × Span)
+name_at ts = do
+  t ← one_at 0 ts
+  Ok ((t.0.name, t.0.at), t.1)
+
+-- a number and its place
+abbrev pub number_at : List Lexeme → Read (ℕ × Span)
+number_at ts = do
+  t ← one_at 1 ts
+  Ok ((t.0.number, t.0.at), t.1)
+
+-- the place of the first token
+abbrev pub first_place : List Lexeme → Span
+first_place [] = record { at = 0; len = 0 }
+first_place (t ∷ ts) = t.at
