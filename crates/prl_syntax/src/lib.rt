@@ -1,0 +1,19 @@
+//! The grammar of programs and its parser. It stands on tokens, on readers of tokens and on the syntax tree.
+#![tactic(auto)]
+
+mod declarations;
+mod expressions;
+mod names;
+mod nodes;
+mod notes;
+mod parameters;
+mod parsing;
+mod ranges;
+mod terminals;
+mod values;
+mod words;
+
+pub use parsing::{ParseFault, parse};
+
+#[cfg(test)]
+mod tests;
