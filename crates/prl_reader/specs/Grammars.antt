@@ -1,8 +1,8 @@
 -- Grammars as relations: which trees stand for which lists of tokens. A grammar of trees A is
 -- `A → List Lexeme → Type 0`.
-use Rattle.std.specs.Prelude.{◌≡◌, ◌⊎◌, ℕ, List, [], ◌∷◌, ◌++◌}
+use Rattle.std.specs.Prelude.{◌≡◌, ◌⊎◌, ℕ, List, [], ◌∷◌, ◌++◌, Option, Some, None}
 use Rattle.prl_base.specs.declared.places.Span.{Span}
-use Rattle.prl_reader.specs.Lexemes.{Lexeme}
+use Rattle.prl_reader.specs.Lexemes.{Lexeme, first_place}
 
 -- one token of a class
 pub record One (class : ℕ) (t : Lexeme) (w : List Lexeme) : Type 0 where
@@ -43,3 +43,16 @@ Named = Then (One 0) (λ t. Give (t.name, t.at))
 -- a number and its place
 abbrev pub Numbered : ℕ × Span → List Lexeme → Type 0
 Numbered = Then (One 1) (λ t. Give (t.number, t.at))
+
+-- one text after another, as a block of steps
+infixl 10 ◌>>=◌
+abbrev pub ◌>>=◌ : {A B : Type 0} → (A → List Lexeme → Type 0) → (A → B → List Lexeme → Type 0) → B → List Lexeme → Type 0
+W >>= V = Then W V
+
+-- a text that may be left out
+abbrev pub Maybe : {A : Type 0} → (A → List Lexeme → Type 0) → Option A → List Lexeme → Type 0
+Maybe W = Either (Then W (λ a. Give (Some a))) (Give None)
+
+-- a text with the place of its first token
+abbrev pub FromFirst : {A : Type 0} → (A → List Lexeme → Type 0) → Span × A → List Lexeme → Type 0
+FromFirst W x w = (x.0 ≡ first_place w) × W x.1 w

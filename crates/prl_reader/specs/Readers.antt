@@ -3,7 +3,7 @@ use Rattle.std.specs.Prelude.{ℕ, zero, suc, Bool, true, false, ◌==◌, List,
 use Rattle.std.specs.List.{list_any}
 use Rattle.prl_base.specs.Reading.{◌>>=◌}
 use Rattle.prl_base.specs.declared.places.Span.{Span}
-use Rattle.prl_reader.specs.Lexemes.{Lexeme}
+use Rattle.prl_reader.specs.Lexemes.{Lexeme, first_place}
 
 pub data Stop : Type 0 where
   -- a token is unexpected, or the end, with so many tokens left
@@ -61,7 +61,10 @@ number_at ts = do
   t ← one_at 1 ts
   Ok ((t.0.number, t.0.at), t.1)
 
--- the place of the first token
-abbrev pub first_place : List Lexeme → Span
-first_place [] = record { at = 0; len = 0 }
-first_place (t ∷ ts) = t.at
+-- what may be left out, told by the next token
+abbrev pub maybe_at : {A : Type 0} → List ℕ → (List Lexeme → Read A) → List Lexeme → Read (Option A)
+maybe_at classes read ts = if next_in classes ts then (read ts >>= λ x. Ok (Some x.0, x.1)) else Ok (None, ts)
+
+-- with the place of the first token
+abbrev pub from_first : {A : Type 0} → (List Lexeme → Read A) → List Lexeme → Read (Span × A)
+from_first read ts = read ts >>= λ x. Ok ((first_place ts, x.0), x.1)

@@ -1,5 +1,11 @@
 //! The keywords and symbols of programs.
 
+ghost use Rattle.std.specs.Prelude.{◌≡◌, ◌∷◌, []};
+ghost use Rattle.prl_base.specs.Reading.{Gives};
+ghost use Rattle.prl_reader.specs.Readers.{next_in, place_at};
+ghost use Rattle.prl_reader.specs.Stops.{stop_of};
+ghost use Rattle.prl_syntax.specs.Words.{class_of, row_of, declaration_keywords, flow_keywords, punctuation, operators, keyword_of, symbol_of};
+
 use prl_base::Span;
 use prl_reader::{Stop, Terminal};
 
@@ -45,22 +51,42 @@ pub enum Fixed {
     Foreign,
 }
 
-fn keyword_of_declarations(word: &[u8]) -> Option<Fixed> {
-    match word {
-        b"imported" => Some(Fixed::Imported),
-        b"node" => Some(Fixed::Node),
-        b"returns" => Some(Fixed::Returns),
-        b"wcet" => Some(Fixed::Wcet),
-        b"sensor" => Some(Fixed::Sensor),
-        b"actuator" => Some(Fixed::Actuator),
-        b"var" => Some(Fixed::Var),
-        b"let" => Some(Fixed::Let),
-        b"tel" => Some(Fixed::Tel),
-        _ => None,
+fn keyword_of_declarations(word: &[u8]) -> Option<Fixed>
+    ensures { result ≡ row_of declaration_keywords word.now }
+{
+    if word == b"imported".as_slice() {
+        return Some(Fixed::Imported);
     }
+    if word == b"node".as_slice() {
+        return Some(Fixed::Node);
+    }
+    if word == b"returns".as_slice() {
+        return Some(Fixed::Returns);
+    }
+    if word == b"wcet".as_slice() {
+        return Some(Fixed::Wcet);
+    }
+    if word == b"sensor".as_slice() {
+        return Some(Fixed::Sensor);
+    }
+    if word == b"actuator".as_slice() {
+        return Some(Fixed::Actuator);
+    }
+    if word == b"var".as_slice() {
+        return Some(Fixed::Var);
+    }
+    if word == b"let".as_slice() {
+        return Some(Fixed::Let);
+    }
+    if word == b"tel".as_slice() {
+        return Some(Fixed::Tel);
+    }
+    None
 }
 
-fn keyword_of_flows(word: &[u8]) -> Option<Fixed> {
+fn keyword_of_flows(word: &[u8]) -> Option<Fixed>
+    ensures { result ≡ row_of flow_keywords word.now }
+{
     match word {
         b"int" => Some(Fixed::Int),
         b"bool" => Some(Fixed::Bool),
@@ -75,14 +101,18 @@ fn keyword_of_flows(word: &[u8]) -> Option<Fixed> {
 }
 
 /// The keyword that the word is.
-pub fn keyword_of(word: &[u8]) -> Option<Fixed> {
+pub fn keyword_of(word: &[u8]) -> Option<Fixed>
+    ensures { result ≡ keyword_of word.now }
+{
     match keyword_of_declarations(word) {
         Some(fixed) => Some(fixed),
         None => keyword_of_flows(word),
     }
 }
 
-fn punctuation_of(symbol: &[u8]) -> Option<Fixed> {
+fn punctuation_of(symbol: &[u8]) -> Option<Fixed>
+    ensures { result ≡ row_of punctuation symbol.now }
+{
     match symbol {
         b"(" => Some(Fixed::Open),
         b")" => Some(Fixed::Close),
@@ -94,7 +124,9 @@ fn punctuation_of(symbol: &[u8]) -> Option<Fixed> {
     }
 }
 
-fn operator_of(symbol: &[u8]) -> Option<Fixed> {
+fn operator_of(symbol: &[u8]) -> Option<Fixed>
+    ensures { result ≡ row_of operators symbol.now }
+{
     match symbol {
         b"::" => Some(Fixed::Cons),
         b"-" => Some(Fixed::Minus),
@@ -107,7 +139,9 @@ fn operator_of(symbol: &[u8]) -> Option<Fixed> {
 }
 
 /// The symbol that the bytes are.
-pub fn symbol_of(symbol: &[u8]) -> Fixed {
+pub fn symbol_of(symbol: &[u8]) -> Fixed
+    ensures { result ≡ symbol_of symbol.now }
+{
     match punctuation_of(symbol) {
         Some(fixed) => fixed,
         None => match operator_of(symbol) {
@@ -118,11 +152,15 @@ pub fn symbol_of(symbol: &[u8]) -> Fixed {
 }
 
 /// Whether the next token is this one.
-pub fn next_is(terminals: &[Terminal], fixed: Fixed) -> bool {
+pub fn next_is(terminals: &[Terminal], fixed: Fixed) -> bool
+    ensures { result ≡ next_in (class_of fixed ∷ []) terminals.now }
+{
     prl_reader::next_is(terminals, fixed as u8)
 }
 
 /// Takes this token, and answers its place and the tokens behind it.
-pub fn expect(terminals: &[Terminal], fixed: Fixed) -> Result<(Span, &[Terminal]), Stop> {
+pub fn expect(terminals: &[Terminal], fixed: Fixed) -> Result<(Span, &[Terminal]), Stop>
+    ensures { Gives (λ x. (x.0, x.1.now)) stop_of result (place_at (class_of fixed) terminals.now) }
+{
     prl_reader::expect(terminals, fixed as u8)
 }
