@@ -8,7 +8,7 @@ use Rattle.prl_reader.specs.Lexemes.{Lexeme, first_place}
 use Rattle.prl_reader.specs.Grammars.{One, Then, Give, Either, Maybe, FromFirst, Place, Named, Numbered}
 use Rattle.prl_reader.specs.Readers.{Stop, Stuck, Read, is_in, choice, maybe_at, from_first, one_at, place_at, name_at, number_at}
 use Rattle.prl_reader.specs.Reads.{Shape, then_shape, either_shape, StopsBefore, Begins, next_class, CanComplete, Taken, Reads}
-use Rattle.prl_reader.proofs.Basics.{Apart, bind_ok, bind_err, same_tree, same_rest}
+use Rattle.prl_reader.proofs.Basics.{Apart, apart, disjoint, bind_ok, bind_err, same_tree, same_rest}
 use Rattle.prl_reader.proofs.Steps.{one_shape, one_reads, give, give_shape, give_reads}
 use Rattle.prl_reader.proofs.Sequences.{then_read, bind_reads, choice_reads}
 use Rattle.prl_reader.proofs.Repeats.{restate}
@@ -103,3 +103,12 @@ first_reads {A} {W} {p} first more n reads = record {
         (λ h. ap (λ r. r >>= λ y. Ok ((first_place (w ++ other), y.0), y.1)) (reads.local_stuck w rest other n h))
         (λ h. let no_error = h.two in cc)
         (bind_err (p (w ++ rest)) (λ y. Ok ((first_place (w ++ rest), y.0), y.1)) (Stuck (length rest)) e)
+
+-- one text after another, and one of two, where the classes are written out: `refl` shows that they are apart
+pub followed : {A B : Type 0} {W : A → List Lexeme → Type 0} {V : A → B → List Lexeme → Type 0} {s r : Shape} {p : List Lexeme → Read A} {q : A → List Lexeme → Read B} (n : ℕ)
+    → Reads n W s p → ((a : A) → Reads n (V a) r (q a)) → disjoint s.more r.first ≡ true → Reads n (Then W V) (then_shape s r) (then_read p q)
+followed {s} {r} n one two d = then_reads n one two (apart s.more r.first d)
+
+pub either : {A : Type 0} {W V : A → List Lexeme → Type 0} {s r : Shape} {p q : List Lexeme → Read A} (n : ℕ)
+    → Reads n W s p → Reads n V r q → s.nullable ≡ false → disjoint s.first r.first ≡ true → Reads n (Either W V) (either_shape s r) (choice s.first p q)
+either {s} {r} n one two solid d = choice_reads n one two solid (apart s.first r.first d)

@@ -1,1 +1,6 @@
 pub mod Words
+pub mod Values
+pub mod Trees
+pub mod Grammar
+pub mod Readers
+pub mod Loops

@@ -1,6 +1,6 @@
 //! Equations, nodes and whole programs.
 
-use crate::declarations::{device, import};
+use crate::declarations::{read_device, read_import};
 use crate::expressions::{expr, first_place};
 use crate::names::{names, placed};
 use crate::parameters::{enclosed_params, maybe_locals, maybe_params};
@@ -105,15 +105,15 @@ fn read_declaration(
     terminals: &[Terminal],
 ) -> Result<(Declaration, &[Terminal]), Stop> {
     if next_is(terminals, Fixed::Imported) {
-        let (import, rest) = import(alloc, terminals)?;
+        let (import, rest) = read_import(alloc, terminals)?;
         return Ok((Declaration::Import(import), rest));
     }
     if next_is(terminals, Fixed::Sensor) {
-        let (sensor, rest) = device(alloc, Fixed::Sensor, terminals)?;
+        let (sensor, rest) = read_device(alloc, Fixed::Sensor, terminals)?;
         return Ok((Declaration::Sensor(sensor), rest));
     }
     if next_is(terminals, Fixed::Actuator) {
-        let (actuator, rest) = device(alloc, Fixed::Actuator, terminals)?;
+        let (actuator, rest) = read_device(alloc, Fixed::Actuator, terminals)?;
         return Ok((Declaration::Actuator(actuator), rest));
     }
     let (node, rest) = node(alloc, terminals)?;

@@ -1,5 +1,14 @@
 //! Parameters and local variables of nodes. A note belongs to every name of its group.
 
+ghost use Rattle.std.specs.Prelude.{◌≡◌, ◌∷◌, [], IfOk};
+ghost use Rattle.prl_base.specs.Reading.{Gives};
+ghost use Rattle.prl_reader.specs.Readers.{many_at, maybe_at};
+ghost use Rattle.prl_reader.specs.Stops.{stop_of};
+ghost use Rattle.prl_syntax.specs.Loops.{with_front, with_joined};
+ghost use Rattle.prl_syntax.specs.Readers.{only, colon_note_at, item_at, comma_item_at, items_at, run_at, semicolon_run_at, params_at, enclosed_params_at, closed_params_at, maybe_params_at, ended_run_at, maybe_locals_at};
+ghost use Rattle.prl_syntax.specs.Trees.{param_of, params_of};
+ghost use Rattle.prl_syntax.specs.declared.words.Fixed.TheVariants as kinds;
+
 use crate::names::placed;
 use crate::notes::{Note, read_note};
 use crate::words::{Fixed, expect, next_is};
@@ -14,50 +23,67 @@ pub struct Item {
     pub note: Option<Note>,
 }
 
-fn maybe_note(terminals: &[Terminal]) -> Result<(Option<Note>, &[Terminal]), Stop> {
+#[tactic(auto, unfolding(crate::specs::Readers::colon_note_at))]
+fn maybe_note(terminals: &[Terminal]) -> Result<(Option<Note>, &[Terminal]), Stop>
+    ensures { Gives (λ x. (x.0, x.1.now)) stop_of result (maybe_at (only kinds.Colon) colon_note_at terminals.now) }
+{
     if next_is(terminals, Fixed::Colon) {
         let (_, rest) = expect(terminals, Fixed::Colon)?;
-        let (note, rest) = read_note(rest)?;
+        let (note, rest) = attempt!(read_note(rest));
         return Ok((Some(note), rest));
     }
     Ok((None, terminals))
 }
 
-fn read_item(alloc: Global, terminals: &[Terminal]) -> Result<(Item, &[Terminal]), Stop> {
+#[tactic(auto, unfolding(crate::specs::Readers::item_at))]
+fn read_item(alloc: Global, terminals: &[Terminal]) -> Result<(Item, &[Terminal]), Stop>
+    ensures { Gives (λ x. (x.0, x.1.now)) stop_of result (item_at terminals.now) }
+{
     let (name, rest) = placed(alloc, terminals)?;
-    let (note, rest) = maybe_note(rest)?;
+    let (note, rest) = attempt!(maybe_note(rest));
     Ok((Item { name, note }, rest))
 }
 
-fn comma_item(alloc: Global, terminals: &[Terminal]) -> Result<(Item, &[Terminal]), Stop> {
+#[tactic(auto, unfolding(crate::specs::Readers::comma_item_at))]
+fn comma_item(alloc: Global, terminals: &[Terminal]) -> Result<(Item, &[Terminal]), Stop>
+    ensures { Gives (λ x. (x.0, x.1.now)) stop_of result (comma_item_at terminals.now) }
+{
     let (_, rest) = expect(terminals, Fixed::Comma)?;
     read_item(alloc, rest)
 }
 
+/// Takes items behind the first ones, each with a comma before it.
 fn more_items(
     alloc: Global,
     front: Vec<Item>,
     terminals: &[Terminal],
-) -> Result<(Vec<Item>, &[Terminal]), Stop> {
+) -> Result<(Vec<Item>, &[Terminal]), Stop>
+    ensures { Gives (λ x. (x.0.items, x.1.now)) stop_of result (with_front front.items (many_at (only kinds.Comma) comma_item_at terminals.now)) }
+{
     let mut items = front;
     let mut rest = terminals;
-    while next_is(rest, Fixed::Comma) {
-        let (item, after) = comma_item(alloc, rest)?;
-        items.push(item)?;
+    'more: while next_is(rest, Fixed::Comma) {
+        let (next, after) = attempt!(comma_item(alloc, rest));
+        items.push(next)?;
         rest = after;
     }
     Ok((items, rest))
 }
 
 /// Takes names with their notes, with commas between.
-fn items(alloc: Global, terminals: &[Terminal]) -> Result<(Vec<Item>, &[Terminal]), Stop> {
-    let (first, rest) = read_item(alloc, terminals)?;
+#[tactic(auto, unfolding(crate::specs::Readers::items_at))]
+fn items(alloc: Global, terminals: &[Terminal]) -> Result<(Vec<Item>, &[Terminal]), Stop>
+    ensures { Gives (λ x. (x.0.items, x.1.now)) stop_of result (items_at terminals.now) }
+{
+    let (first, rest) = attempt!(read_item(alloc, terminals));
     let mut front = Vec::new(alloc);
     front.push(first)?;
     more_items(alloc, front, rest)
 }
 
-fn param(name: Placed, note: Option<Note>) -> Param {
+fn param(name: Placed, note: Option<Note>) -> Param
+    ensures { result ≡ param_of name note }
+{
     let Placed { name, at } = name;
     match note {
         Some(note) => Param {
@@ -77,125 +103,141 @@ fn param(name: Placed, note: Option<Note>) -> Param {
     }
 }
 
-/// The items from the last to the first as parameters: one without a note has the note of the one behind it.
-fn backward(alloc: Global, items: Vec<Item>) -> Result<Vec<Param>, AllocError> {
+/// The items as parameters: one without a note has the note of the next one that has one.
+fn params_of(alloc: Global, items: Vec<Item>) -> Result<Vec<Param>, AllocError>
+    ensures { IfOk result (λ params. params.items ≡ params_of items.items) }
+{
     let mut items = items;
-    let mut params = Vec::new(alloc);
-    let mut note = None;
-    while let Some(Item { name, note: own }) = items.pop() {
-        if own.is_some() {
-            note = own;
-        }
-        params.push(param(name, note))?;
+    let mut backward = Vec::new(alloc);
+    let mut note: Option<Note> = None;
+    'each: while let Some(Item { name, note: own }) = items.pop() {
+        note = own.or(note);
+        backward.push(param(name, note))?;
     }
-    Ok(params)
+    backward.reverse();
+    Ok(backward)
 }
 
-/// Takes a run of names with notes behind the parameters that were read before.
-fn run(
-    alloc: Global,
-    front: Vec<Param>,
-    terminals: &[Terminal],
-) -> Result<(Vec<Param>, &[Terminal]), Stop> {
-    let (items, rest) = items(alloc, terminals)?;
-    let mut run = backward(alloc, items)?;
-    let mut params = front;
-    while let Some(param) = run.pop() {
-        params.push(param)?;
-    }
-    Ok((params, rest))
+/// Takes names with notes, with commas between.
+#[tactic(auto, unfolding(crate::specs::Readers::run_at, crate::specs::Readers::items_at))]
+fn run(alloc: Global, terminals: &[Terminal]) -> Result<(Vec<Param>, &[Terminal]), Stop>
+    ensures { Gives (λ x. (x.0.items, x.1.now)) stop_of result (run_at terminals.now) }
+{
+    let (items, rest) = attempt!(items(alloc, terminals));
+    Ok((params_of(alloc, items)?, rest))
 }
 
-fn semicolon_run(
-    alloc: Global,
-    front: Vec<Param>,
-    terminals: &[Terminal],
-) -> Result<(Vec<Param>, &[Terminal]), Stop> {
+#[tactic(auto, unfolding(crate::specs::Readers::semicolon_run_at))]
+fn semicolon_run(alloc: Global, terminals: &[Terminal]) -> Result<(Vec<Param>, &[Terminal]), Stop>
+    ensures { Gives (λ x. (x.0.items, x.1.now)) stop_of result (semicolon_run_at terminals.now) }
+{
     let (_, rest) = expect(terminals, Fixed::Semicolon)?;
-    run(alloc, front, rest)
+    run(alloc, rest)
 }
 
+/// Takes runs behind the first ones, each with a semicolon before it.
 fn more_runs(
     alloc: Global,
     front: Vec<Param>,
     terminals: &[Terminal],
-) -> Result<(Vec<Param>, &[Terminal]), Stop> {
+) -> Result<(Vec<Param>, &[Terminal]), Stop>
+    ensures { Gives (λ x. (x.0.items, x.1.now)) stop_of result (with_joined front.items (many_at (only kinds.Semicolon) semicolon_run_at terminals.now)) }
+{
     let mut params = front;
     let mut rest = terminals;
-    while next_is(rest, Fixed::Semicolon) {
-        let (more, after) = semicolon_run(alloc, params, rest)?;
-        params = more;
+    'more: while next_is(rest, Fixed::Semicolon) {
+        let (mut next, after) = attempt!(semicolon_run(alloc, rest));
+        params.append(&mut next)?;
         rest = after;
     }
     Ok((params, rest))
 }
 
 /// Takes parameters: runs with semicolons between.
-fn params(alloc: Global, terminals: &[Terminal]) -> Result<(Vec<Param>, &[Terminal]), Stop> {
-    let (first, rest) = run(alloc, Vec::new(alloc), terminals)?;
+#[tactic(auto, unfolding(crate::specs::Readers::params_at))]
+fn params(alloc: Global, terminals: &[Terminal]) -> Result<(Vec<Param>, &[Terminal]), Stop>
+    ensures { Gives (λ x. (x.0.items, x.1.now)) stop_of result (params_at terminals.now) }
+{
+    let (first, rest) = attempt!(run(alloc, terminals));
     more_runs(alloc, first, rest)
 }
 
-/// Takes parameters in parentheses.
-pub fn enclosed_params(
-    alloc: Global,
-    terminals: &[Terminal],
-) -> Result<(Vec<Param>, &[Terminal]), Stop> {
-    let (_, rest) = expect(terminals, Fixed::Open)?;
-    let (params, rest) = params(alloc, rest)?;
+#[tactic(auto, unfolding(crate::specs::Readers::closed_params_at))]
+fn closed_params(alloc: Global, terminals: &[Terminal]) -> Result<(Vec<Param>, &[Terminal]), Stop>
+    ensures { Gives (λ x. (x.0.items, x.1.now)) stop_of result (closed_params_at terminals.now) }
+{
+    let (params, rest) = attempt!(params(alloc, terminals));
     let (_, rest) = expect(rest, Fixed::Close)?;
     Ok((params, rest))
 }
 
+/// Takes parameters in parentheses.
+#[tactic(auto, unfolding(crate::specs::Readers::enclosed_params_at, crate::specs::Readers::closed_params_at))]
+pub fn enclosed_params(
+    alloc: Global,
+    terminals: &[Terminal],
+) -> Result<(Vec<Param>, &[Terminal]), Stop>
+    ensures { Gives (λ x. (x.0.items, x.1.now)) stop_of result (enclosed_params_at terminals.now) }
+{
+    let (_, rest) = expect(terminals, Fixed::Open)?;
+    closed_params(alloc, rest)
+}
+
 /// Takes parameters in parentheses, or parentheses alone.
+#[tactic(auto, unfolding(crate::specs::Readers::maybe_params_at))]
 pub fn maybe_params(
     alloc: Global,
     terminals: &[Terminal],
-) -> Result<(Vec<Param>, &[Terminal]), Stop> {
+) -> Result<(Vec<Param>, &[Terminal]), Stop>
+    ensures { Gives (λ x. (x.0.items, x.1.now)) stop_of result (maybe_params_at terminals.now) }
+{
     let (_, rest) = expect(terminals, Fixed::Open)?;
     if next_is(rest, Fixed::Close) {
         let (_, rest) = expect(rest, Fixed::Close)?;
         return Ok((Vec::new(alloc), rest));
     }
-    let (params, rest) = params(alloc, rest)?;
-    let (_, rest) = expect(rest, Fixed::Close)?;
-    Ok((params, rest))
+    closed_params(alloc, rest)
 }
 
 /// Takes a run and its semicolon.
-fn ended_run(
-    alloc: Global,
-    front: Vec<Param>,
-    terminals: &[Terminal],
-) -> Result<(Vec<Param>, &[Terminal]), Stop> {
-    let (params, rest) = run(alloc, front, terminals)?;
+#[tactic(auto, unfolding(crate::specs::Readers::ended_run_at))]
+fn ended_run(alloc: Global, terminals: &[Terminal]) -> Result<(Vec<Param>, &[Terminal]), Stop>
+    ensures { Gives (λ x. (x.0.items, x.1.now)) stop_of result (ended_run_at terminals.now) }
+{
+    let (params, rest) = attempt!(run(alloc, terminals));
     let (_, rest) = expect(rest, Fixed::Semicolon)?;
     Ok((params, rest))
 }
 
+/// Takes runs behind the first ones, each with a semicolon behind it.
 fn more_ended_runs(
     alloc: Global,
     front: Vec<Param>,
     terminals: &[Terminal],
-) -> Result<(Vec<Param>, &[Terminal]), Stop> {
+) -> Result<(Vec<Param>, &[Terminal]), Stop>
+    ensures { Gives (λ x. (x.0.items, x.1.now)) stop_of result (with_joined front.items (many_at (0 ∷ []) ended_run_at terminals.now)) }
+{
     let mut params = front;
     let mut rest = terminals;
-    while prl_reader::next_is(rest, 0) {
-        let (more, after) = ended_run(alloc, params, rest)?;
-        params = more;
+    'more: while prl_reader::next_is(rest, 0) {
+        let (mut next, after) = attempt!(ended_run(alloc, rest));
+        params.append(&mut next)?;
         rest = after;
     }
     Ok((params, rest))
 }
 
 /// Takes the local variables, if there are any.
+#[tactic(auto, unfolding(crate::specs::Readers::maybe_locals_at, crate::specs::Readers::locals_at))]
 pub fn maybe_locals(
     alloc: Global,
     terminals: &[Terminal],
-) -> Result<(Vec<Param>, &[Terminal]), Stop> {
+) -> Result<(Vec<Param>, &[Terminal]), Stop>
+    ensures { Gives (λ x. (x.0.items, x.1.now)) stop_of result (maybe_locals_at terminals.now) }
+{
     if next_is(terminals, Fixed::Var) {
         let (_, rest) = expect(terminals, Fixed::Var)?;
-        let (first, rest) = ended_run(alloc, Vec::new(alloc), rest)?;
+        let (first, rest) = attempt!(ended_run(alloc, rest));
         return more_ended_runs(alloc, first, rest);
     }
     Ok((Vec::new(alloc), terminals))

@@ -1,0 +1,3 @@
+pub mod Simple
+pub mod Loops
+pub mod Ratios

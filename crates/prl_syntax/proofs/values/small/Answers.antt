@@ -1,0 +1,6 @@
+use Rattle.std.proofs.Common.{rules}
+use Rattle.prl_syntax.proofs.Simple.{placed_reads}
+use Rattle.prl_syntax.proofs.values.small.Goals as goal
+
+pub returns : goal.returns
+returns c = search rules
