@@ -1,3 +1,4 @@
 pub mod Simple
 pub mod Loops
 pub mod Ratios
+pub mod Lists

@@ -18,7 +18,7 @@ use Rattle.prl_syntax.specs.Grammar.{The, ConstantText, RatioText, DenominatorTe
 use Rattle.prl_syntax.specs.Readers.{the_at, only, constant_at, ratio_at, denominator_at, placed_at, comma_name_at, names_at, type_at, rate_at, due_at, due_note_at, rate_note_at, typed_note_at, note_at, constant_first}
 
 -- the reader of many reads one after another
-steps : {A : Type 0} {W : A → List Lexeme → Type 0} {s : Shape} {p : List Lexeme → Read A} → ((n : ℕ) → Reads n W s p) → s.nullable ≡ false → Apart s.more s.first → Steps s.first p
+pub steps : {A : Type 0} {W : A → List Lexeme → Type 0} {s : Shape} {p : List Lexeme → Read A} → ((n : ℕ) → Reads n W s p) → s.nullable ≡ false → Apart s.more s.first → Steps s.first p
 steps reads solid apart = record { step = many_step reads solid apart; fewer = leaves_fewer 0 (reads 0) solid }
 
 pub the_reads : (n : ℕ) (f : Fixed) → Reads n (The f) (solid (only f) []) (the_at f)
@@ -68,8 +68,27 @@ due_reads n = followed n (the_reads n fixed.Due) (λ k. followed n (number_reads
 maybe_due_reads : (n : ℕ) → Reads n (Maybe DueText) (loose (only fixed.Due) (only fixed.Due)) (maybe_at (only fixed.Due) due_at)
 maybe_due_reads n = maybe_reads (only fixed.Due) [] n (due_reads n)
 
-note_first : List ℕ
+abbrev pub note_first : List ℕ
 note_first = class_of fixed.Due ∷ class_of fixed.Rate ∷ class_of fixed.Int ∷ class_of fixed.Bool ∷ []
 
 pub comma_name_steps : Steps (only fixed.Comma) comma_name_at
 comma_name_steps = steps comma_name_reads refl (λ c h. cc)
+
+due_note_reads : (n : ℕ) → Reads n DueNote (solid (only fixed.Due) []) due_note_at
+unfolding due_note_at
+due_note_reads n = followed n (due_reads n) (λ d. give_reads n _) refl
+
+rate_note_reads : (n : ℕ) → Reads n RateNote (solid (only fixed.Rate) (only fixed.Due)) rate_note_at
+unfolding rate_note_at
+rate_note_reads n = followed n (rate_reads n) (λ r. followed n (maybe_due_reads n) (λ d. give_reads n _) refl) refl
+
+typed_note_reads : (n : ℕ) → Reads n TypedNote (solid (class_of fixed.Int ∷ class_of fixed.Bool ∷ []) (class_of fixed.Due ∷ class_of fixed.Rate ∷ [])) typed_note_at
+unfolding typed_note_at
+typed_note_reads n = followed n (type_reads n) (λ t. followed n (maybe_reads (only fixed.Rate) [] n (rate_reads n)) (λ r. followed n (maybe_due_reads n) (λ d. give_reads n _) refl) refl) refl
+
+abbrev pub note_more : List ℕ
+note_more = class_of fixed.Due ∷ class_of fixed.Due ∷ class_of fixed.Rate ∷ []
+
+pub note_reads : (n : ℕ) → Reads n NoteText (solid note_first note_more) note_at
+unfolding note_at
+note_reads n = either n (due_note_reads n) (either n (rate_note_reads n) (typed_note_reads n) refl refl) refl refl

@@ -21,11 +21,10 @@ use std::alloc::{AllocError, Global};
 fn ports_of(alloc: Global, names: Vec<Placed>, ty: Ty) -> Result<Vec<Port>, AllocError>
     ensures { IfOk result (λ ports. ports.items ≡ map (port_of ty) names.items) }
 {
-    let mut ports = Vec::new(alloc);
-    'each: for Placed { name, at } in names {
-        ports.push(Port { name, ty, at })?;
-    }
-    Ok(ports)
+    names
+        .into_iter()
+        .map(|Placed { name, at }| Port { name, ty, at })
+        .collect(alloc)
 }
 
 /// Takes names and their type.

@@ -6,7 +6,7 @@ ghost use Rattle.prl_reader.specs.Readers.{many_at, maybe_at};
 ghost use Rattle.prl_reader.specs.Stops.{stop_of};
 ghost use Rattle.prl_syntax.specs.Loops.{with_front, with_joined};
 ghost use Rattle.prl_syntax.specs.Readers.{only, colon_note_at, item_at, comma_item_at, items_at, run_at, semicolon_run_at, params_at, enclosed_params_at, closed_params_at, maybe_params_at, ended_run_at, maybe_locals_at};
-ghost use Rattle.prl_syntax.specs.Trees.{param_of, params_of};
+ghost use Rattle.prl_syntax.specs.Trees.{param_of, note_or, params_of};
 ghost use Rattle.prl_syntax.specs.declared.words.Fixed.TheVariants as kinds;
 
 use crate::names::placed;
@@ -103,15 +103,30 @@ fn param(name: Placed, note: Option<Note>) -> Param
     }
 }
 
+fn no_note() -> Option<Note>
+    ensures { result ≡ None }
+{
+    None
+}
+
+fn note_or(own: Option<Note>, behind: Option<Note>) -> Option<Note>
+    ensures { result ≡ note_or own behind }
+{
+    match own {
+        Some(note) => Some(note),
+        None => behind,
+    }
+}
+
 /// The items as parameters: one without a note has the note of the next one that has one.
 fn params_of(alloc: Global, items: Vec<Item>) -> Result<Vec<Param>, AllocError>
     ensures { IfOk result (λ params. params.items ≡ params_of items.items) }
 {
     let mut items = items;
     let mut backward = Vec::new(alloc);
-    let mut note: Option<Note> = None;
+    let mut note = no_note();
     'each: while let Some(Item { name, note: own }) = items.pop() {
-        note = own.or(note);
+        note = note_or(own, note);
         backward.push(param(name, note))?;
     }
     backward.reverse();
