@@ -2,3 +2,5 @@ pub mod Simple
 pub mod Loops
 pub mod Ratios
 pub mod Lists
+pub mod Groups
+pub mod Chains

@@ -338,6 +338,9 @@ pub record Beside (P Q : List Lexeme → Type 0) (w : List Lexeme) : Type 0 wher
   pub first : P left
   pub second : Q right
 
+abbrev pub CommaText : List Lexeme → Type 0
+CommaText w = (p : Span) × The fixed.Comma p w
+
 -- no token
 abbrev pub Nothing : List Lexeme → Type 0
 Nothing w = w ≡ []
@@ -345,24 +348,21 @@ Nothing w = w ≡ []
 abbrev mutual
   -- prefixes, then what they are applied to, then postfixes
   pub TreeText : Tree → List Lexeme → Type 0
-  TreeText (tree pre root post at) w = (at ≡ first_place w) × Beside (Many PrefixText pre) (Beside (RootText root) (Many PostfixText post)) w
+  TreeText (tree pre root post at) w = (at ≡ first_place w) × Beside (Beside (Many PrefixText pre) (RootText root)) (Many PostfixText post) w
 
   -- a constant, a name, an application of a name, or a group in parentheses
   pub RootText : Root → List Lexeme → Type 0
   RootText (const value) w = ConstantText value w
   RootText (var name) w = NameText name w
-  RootText (apply name args) w = Beside (NameText name) (Enclosed (ArgumentsText args)) w
+  RootText (apply name none) w = Beside (NameText name) (Enclosed Nothing) w
+  RootText (apply name (more t ts)) w = Beside (NameText name) (Enclosed (Beside (TreeText t) (OthersText ts))) w
   RootText (group none) w = ⊥
   RootText (group (more t ts)) w = Enclosed (Beside (TreeText t) (OthersText ts)) w
-
-  pub ArgumentsText : Trees → List Lexeme → Type 0
-  ArgumentsText none w = Nothing w
-  ArgumentsText (more t ts) w = Beside (TreeText t) (OthersText ts) w
 
   -- expressions, each with a comma before it
   pub OthersText : Trees → List Lexeme → Type 0
   OthersText none w = Nothing w
-  OthersText (more t ts) w = (p : Span) × Beside (The fixed.Comma p) (Beside (TreeText t) (OthersText ts)) w
+  OthersText (more t ts) w = Beside (Beside CommaText (TreeText t)) (OthersText ts) w
 
 -- equations, nodes and programs
 

@@ -4,3 +4,5 @@ pub mod Trees
 pub mod Grammar
 pub mod Readers
 pub mod Loops
+pub mod Groups
+pub mod Links

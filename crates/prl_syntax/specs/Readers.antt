@@ -335,12 +335,20 @@ Chain = List PlacedOp × Root
 abbrev pub prefixed : PlacedOp → Chain → Chain
 prefixed op c = (op ∷ c.0, c.1)
 
+abbrev pub parts_by : (List Lexeme → Read Chain) → List Lexeme → Read (Chain × List PlacedOp)
+parts_by chain ts = do
+  c ← chain ts
+  post ← many_at postfix_first postfix_at c.1
+  Ok ((c.0, post.0), post.1)
+
+abbrev pub tree_of_parts : Span → Chain × List PlacedOp → Tree
+tree_of_parts at parts = tree parts.0.0 parts.0.1 parts.1 at
+
 -- an expression, whose chain of prefixes is read so
 abbrev pub tree_by : (List Lexeme → Read Chain) → List Lexeme → Read Tree
 tree_by chain ts = do
-  c ← chain ts
-  post ← many_at postfix_first postfix_at c.1
-  Ok (tree c.0.0 c.0.1 post.0 (first_place ts), post.1)
+  x ← from_first (parts_by chain) ts
+  Ok (tree_of_parts x.0.0 x.0.1, x.1)
 
 abbrev pub comma_tree_by : (List Lexeme → Read Chain) → List Lexeme → Read Tree
 comma_tree_by chain ts = do
@@ -432,7 +440,7 @@ chain_up_to (suc n) ts = chain_by (chain_up_to n) ts
 
 -- as deep as there are tokens
 unfoldable pub chain_at : List Lexeme → Read Chain
-chain_at ts = chain_up_to (length ts) ts
+chain_at ts = chain_up_to (suc (length ts)) ts
 
 unfoldable pub tree_at : List Lexeme → Read Tree
 tree_at = tree_by chain_at

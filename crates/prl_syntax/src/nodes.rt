@@ -1,7 +1,7 @@
 //! Equations, nodes and whole programs.
 
 use crate::declarations::{read_device, read_import};
-use crate::expressions::{expr, first_place};
+use crate::expressions::{expr, place_of_first};
 use crate::names::{names, placed};
 use crate::parameters::{enclosed_params, maybe_locals, maybe_params};
 use crate::words::{Fixed, expect, next_is};
@@ -26,7 +26,7 @@ fn lefts(alloc: Global, terminals: &[Terminal]) -> Result<(Vec<Placed>, &[Termin
 
 /// Takes an equation.
 fn equation(alloc: Global, terminals: &[Terminal]) -> Result<(Equation, &[Terminal]), Stop> {
-    let at = first_place(terminals);
+    let at = place_of_first(terminals);
     let (lefts, rest) = lefts(alloc, terminals)?;
     let (_, rest) = expect(rest, Fixed::Equals)?;
     let (right, rest) = expr(alloc, rest)?;

@@ -1,12 +1,13 @@
 //! Parameters and local variables of nodes. A note belongs to every name of its group.
 
-ghost use Rattle.std.specs.Prelude.{◌≡◌, ◌∷◌, [], IfOk};
+ghost use Rattle.std.specs.Prelude.{◌≡◌, ◌∷◌, [], ◌++◌, reverse, None, IfOk};
 ghost use Rattle.prl_base.specs.Reading.{Gives};
 ghost use Rattle.prl_reader.specs.Readers.{many_at, maybe_at};
 ghost use Rattle.prl_reader.specs.Stops.{stop_of};
 ghost use Rattle.prl_syntax.specs.Loops.{with_front, with_joined};
 ghost use Rattle.prl_syntax.specs.Readers.{only, colon_note_at, item_at, comma_item_at, items_at, run_at, semicolon_run_at, params_at, enclosed_params_at, closed_params_at, maybe_params_at, ended_run_at, maybe_locals_at};
-ghost use Rattle.prl_syntax.specs.Trees.{param_of, note_or, params_of};
+ghost use Rattle.prl_syntax.specs.Trees.{param_of, params_of};
+ghost use Rattle.prl_syntax.specs.Groups.{noted, params_after, waiting_after};
 ghost use Rattle.prl_syntax.specs.declared.words.Fixed.TheVariants as kinds;
 
 use crate::names::placed;
@@ -103,19 +104,58 @@ fn param(name: Placed, note: Option<Note>) -> Param
     }
 }
 
-fn no_note() -> Option<Note>
-    ensures { result ≡ None }
-{
-    None
+/// Parameters, and names that wait for their note.
+#[derive(Debug, Drop)]
+struct Groups {
+    params: Vec<Param>,
+    waiting: Vec<Placed>,
 }
 
-fn note_or(own: Option<Note>, behind: Option<Note>) -> Option<Note>
-    ensures { result ≡ note_or own behind }
+/// The names with one note.
+fn noted(alloc: Global, names: Vec<Placed>, note: Option<Note>) -> Result<Vec<Param>, AllocError>
+    ensures { IfOk result (λ params. params.items ≡ noted note names.items) }
 {
-    match own {
-        Some(note) => Some(note),
-        None => behind,
+    names
+        .into_iter()
+        .map(|name| param(name, note))
+        .collect(alloc)
+}
+
+/// A note is that of all the names that wait, its own name among them.
+fn with_item(alloc: Global, groups: Groups, item: Item) -> Result<Groups, AllocError>
+    ensures params { IfOk result (λ g. g.params.items ≡ params_after groups.params.items groups.waiting.items item.name item.note) }
+    ensures waiting { IfOk result (λ g. g.waiting.items ≡ waiting_after groups.waiting.items item.name item.note) }
+{
+    let Groups {
+        mut params,
+        mut waiting,
+    } = groups;
+    let Item { name, note } = item;
+    waiting.push(name)?;
+    match note {
+        None => Ok(Groups { params, waiting }),
+        Some(note) => {
+            let mut more = noted(alloc, waiting, Some(note))?;
+            params.append(&mut more)?;
+            let waiting = Vec::new(alloc);
+            Ok(Groups { params, waiting })
+        }
     }
+}
+
+/// The items, the last one first, as parameters.
+fn groups_of(alloc: Global, backward: Vec<Item>) -> Result<Groups, AllocError>
+    ensures { IfOk result (λ g. g.params.items ++ noted None g.waiting.items ≡ params_of (reverse backward.items)) }
+{
+    let mut items = backward;
+    let mut groups = Groups {
+        params: Vec::new(alloc),
+        waiting: Vec::new(alloc),
+    };
+    'each: while let Some(item) = items.pop() {
+        groups = with_item(alloc, groups, item)?;
+    }
+    Ok(groups)
 }
 
 /// The items as parameters: one without a note has the note of the next one that has one.
@@ -123,14 +163,15 @@ fn params_of(alloc: Global, items: Vec<Item>) -> Result<Vec<Param>, AllocError>
     ensures { IfOk result (λ params. params.items ≡ params_of items.items) }
 {
     let mut items = items;
-    let mut backward = Vec::new(alloc);
-    let mut note = no_note();
-    'each: while let Some(Item { name, note: own }) = items.pop() {
-        note = note_or(own, note);
-        backward.push(param(name, note))?;
-    }
-    backward.reverse();
-    Ok(backward)
+    items.reverse();
+    let groups = groups_of(alloc, items)?;
+    let Groups {
+        mut params,
+        waiting,
+    } = groups;
+    let mut more = noted(alloc, waiting, None)?;
+    params.append(&mut more)?;
+    Ok(params)
 }
 
 /// Takes names with notes, with commas between.
