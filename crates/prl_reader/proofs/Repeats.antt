@@ -53,23 +53,35 @@ deep_reads {A} {W} {s} solid begins example = record {
     none [] le b = absurd (false≢true (sym solid ∙ b))
     none (t ∷ w) le b = absurd (omega arith)
 
+-- what reads long texts reads shorter ones
+pub lower : {A : Type 0} {W : A → List Lexeme → Type 0} {s : Shape} {p : List Lexeme → Read A} (n m : ℕ) → n ≤ m → Reads m W s p → Reads n W s p
+lower n m le reads = record {
+  sound = reads.sound;
+  stuck = reads.stuck;
+  local = reads.local;
+  local_stuck = reads.local_stuck;
+  complete = λ a w rest short h stops. reads.complete a w rest (omega arith) h stops;
+  begins = reads.begins;
+  example = reads.example;
+}
+
 -- a reader that is read with as much depth as there are tokens
-pub at_length : {A : Type 0} {W : A → List Lexeme → Type 0} {s : Shape} (r : ℕ → List Lexeme → Read A) → ((n : ℕ) → Reads n W s (r n))
-    → ((n m : ℕ) (ts : List Lexeme) → length ts ≤ n → length ts ≤ m → r n ts ≡ r m ts) → (n : ℕ) → Reads n W s (λ ts. r (length ts) ts)
-at_length {A} {W} {s} r family agree n = record {
-  sound = λ ts. (family (length ts)).sound ts;
-  stuck = λ ts. (family (length ts)).stuck ts;
+pub at_length : {A : Type 0} {W : A → List Lexeme → Type 0} {s : Shape} (r : ℕ → List Lexeme → Read A) (bound : ℕ) → ((n k : ℕ) → k ≤ n → k ≤ bound → Reads k W s (r n))
+    → ((n m : ℕ) (ts : List Lexeme) → length ts ≤ n → length ts ≤ m → r n ts ≡ r m ts) → Reads bound W s (λ ts. r (length ts) ts)
+at_length {A} {W} {s} r bound family agree = record {
+  sound = λ ts. (family (length ts) 0 (omega arith) (omega arith)).sound ts;
+  stuck = λ ts. (family (length ts) 0 (omega arith) (omega arith)).stuck ts;
   local = λ w rest other a c e.
-      let d : ℕ = length (w ++ rest) + length (w ++ other) in
-      agree (length (w ++ other)) d (w ++ other) (omega arith) (omega arith)
-      ∙ (family d).local w rest other a c (agree d (length (w ++ rest)) (w ++ rest) (omega arith) (omega arith) ∙ e);
+    let d : ℕ = length (w ++ rest) + length (w ++ other) in
+    agree (length (w ++ other)) d (w ++ other) (omega arith) (omega arith)
+    ∙ (family d 0 (omega arith) (omega arith)).local w rest other a c (agree d (length (w ++ rest)) (w ++ rest) (omega arith) (omega arith) ∙ e);
   local_stuck = λ w rest other c e.
-      let d : ℕ = length (w ++ rest) + length (w ++ other) in
-      agree (length (w ++ other)) d (w ++ other) (omega arith) (omega arith)
-      ∙ (family d).local_stuck w rest other c (agree d (length (w ++ rest)) (w ++ rest) (omega arith) (omega arith) ∙ e);
-  complete = λ a w rest le h stops. (family (length (w ++ rest))).complete a w rest (omega (arith, length-append w rest)) h stops;
-  begins = (family 0).begins;
-  example = (family 0).example;
+    let d : ℕ = length (w ++ rest) + length (w ++ other) in
+    agree (length (w ++ other)) d (w ++ other) (omega arith) (omega arith)
+    ∙ (family d 0 (omega arith) (omega arith)).local_stuck w rest other c (agree d (length (w ++ rest)) (w ++ rest) (omega arith) (omega arith) ∙ e);
+  complete = λ a w rest le h stops. (family (length (w ++ rest)) (length w) (omega (arith, length-append w rest)) le).complete a w rest (omega arith) h stops;
+  begins = (family 0 0 (omega arith) (omega arith)).begins;
+  example = (family 0 0 (omega arith) (omega arith)).example;
 }
 
 -- the readings go on alike
@@ -87,7 +99,7 @@ leaves_fewer {A} {W} {s} {p} n reads solid ts a rest e =
     some [] b = absurd (false≢true (sym solid ∙ b))
     some (t ∷ w) b = omega arith
 
-module _ {A : Type 0} {W : A → List Lexeme → Type 0} {s : Shape} {p : List Lexeme → Read A} (reads : (n : ℕ) → Reads n W s p) (solid : s.nullable ≡ false) (apart : Apart s.more s.first) where
+module _ {A : Type 0} {W : A → List Lexeme → Type 0} {s : Shape} {p : List Lexeme → Read A} (bound : ℕ) (reads : Reads bound W s p) (solid : s.nullable ≡ false) (apart : Apart s.more s.first) where
   Item : List A → List Lexeme → Type 0
   Item = Then W (λ a. Then (Many W) (λ rest. Give (a ∷ rest)))
 
@@ -118,7 +130,7 @@ module _ {A : Type 0} {W : A → List Lexeme → Type 0} {s : Shape} {p : List L
 
   many_begins : (xs : List A) (w : List Lexeme) → Many W xs w → Begins (many_shape s) w
   many_begins [] w h = let P : List Lexeme → Type 0 = Begins (many_shape s) in subst P (sym h) refl
-  many_begins (a ∷ rest) w h = let P : List Lexeme → Type 0 = Begins (many_shape s) in subst P (sym h.2) (front h.0 h.1 ((reads 0).begins a h.0 h.3))
+  many_begins (a ∷ rest) w h = let P : List Lexeme → Type 0 = Begins (many_shape s) in subst P (sym h.2) (front h.0 h.1 (reads.begins a h.0 h.3))
     where
       front : (u v : List Lexeme) → Begins s u → Begins (many_shape s) (u ++ v)
       front [] v b = absurd (false≢true (sym solid ∙ b))
@@ -126,7 +138,7 @@ module _ {A : Type 0} {W : A → List Lexeme → Type 0} {s : Shape} {p : List L
 
   item_begins : (xs : List A) (w : List Lexeme) → Item xs w → Begins item_shape w
   unfolding item_shape Item
-  item_begins xs w h = let P : List Lexeme → Type 0 = Begins item_shape in subst P (sym h.whole) (front h.left h.right ((reads 0).begins h.first h.left h.head))
+  item_begins xs w h = let P : List Lexeme → Type 0 = Begins item_shape in subst P (sym h.whole) (front h.left h.right (reads.begins h.first h.left h.head))
     where
       front : (u v : List Lexeme) → Begins s u → Begins (record { first = s.first; nullable = false; more = s.first ++ s.more }) (u ++ v)
       front [] v b = absurd (false≢true (sym solid ∙ b))
@@ -135,7 +147,7 @@ module _ {A : Type 0} {W : A → List Lexeme → Type 0} {s : Shape} {p : List L
   item_example : (xs : List A) × (w : List Lexeme) × Item xs w
   unfolding Item
   item_example =
-      let x = (reads 0).example in (
+      let x = reads.example in (
         x.0 ∷ [],
         x.1 ++ [],
         record {
@@ -173,19 +185,29 @@ module _ {A : Type 0} {W : A → List Lexeme → Type 0} {s : Shape} {p : List L
       again : (c : ℕ) → is_in c (s.first ++ s.more) ≡ false → is_in c ((s.first ++ s.more) ++ [] ++ s.first) ≡ false
       again c h = ap (is_in c) (ap (λ ks. ks ++ s.first) (append-nil (s.first ++ s.more))) ∙ is_in-append c (s.first ++ s.more) s.first ∙ or_from (is_in c (s.first ++ s.more)) (is_in c s.first) h (not_left s.first s.more c h)
 
-  family : (n : ℕ) → Reads n (Many W) (many_shape s) (many_up_to s.first p n)
+  step : (n k m : ℕ) → k ≤ bound → m ≤ k → ((u v : List Lexeme) → Begins s u → length (u ++ v) ≤ k → (length u ≤ k) × (length v ≤ m))
+      → Reads m (Many W) (many_shape s) (many_up_to s.first p n) → Reads k (Many W) (many_shape s) (many_up_to s.first p (suc n))
   unfolding many_up_to item_shape Item
-  family zero = restate 0 (choice_reads 0 (deep_reads {W = Item} {s = item_shape} refl item_begins item_example) (give_reads 0 []) refl (apart_nil s.first)) to_many from_many many_widens
-  family (suc n) =
-      let behind : (a : A) → Reads n (Then (Many W) (λ rest. Give (a ∷ rest))) (then_shape (many_shape s) give_shape) (then_read (many_up_to s.first p n) (λ rest. give (a ∷ rest))) =
-      λ a. bind_reads n n n (family n) (λ rest. give_reads n (a ∷ rest)) (apart_nil (s.first ++ s.more)) (λ u v b le. (omega (arith, length-append u v), omega (arith, length-append u v))) in
-      let one : Reads (suc n) Item (then_shape s (then_shape (many_shape s) give_shape)) (then_read p (λ a. then_read (many_up_to s.first p n) (λ rest. give (a ∷ rest)))) =
-      bind_reads (suc n) (suc n) n (reads (suc n)) behind (λ c h. ap (is_in c) (append-nil s.first) ∙ apart c h) (room n) in
-      restate (suc n) (choice_reads (suc n) (restate {r = item_shape} (suc n) one (λ xs w h. h) (λ xs w h. h) item_widens) (give_reads (suc n) []) refl (apart_nil s.first)) to_many from_many many_widens
+  step n k m within small room others =
+      let behind : (a : A) → Reads m (Then (Many W) (λ rest. Give (a ∷ rest))) (then_shape (many_shape s) give_shape) (then_read (many_up_to s.first p n) (λ rest. give (a ∷ rest))) =
+          λ a. bind_reads m m m others (λ rest. give_reads m (a ∷ rest)) (apart_nil (s.first ++ s.more)) (λ u v b le. (omega (arith, length-append u v), omega (arith, length-append u v))) in
+      let one : Reads k Item (then_shape s (then_shape (many_shape s) give_shape)) (then_read p (λ a. then_read (many_up_to s.first p n) (λ rest. give (a ∷ rest)))) =
+          bind_reads k k m (lower k bound within reads) behind (λ c h. ap (is_in c) (append-nil s.first) ∙ apart c h) room in
+      restate k (choice_reads k (restate {r = item_shape} k one (λ xs w h. h) (λ xs w h. h) item_widens) (give_reads k []) refl (apart_nil s.first)) to_many from_many many_widens
+
+  family : (n k : ℕ) → k ≤ n → k ≤ bound → Reads k (Many W) (many_shape s) (many_up_to s.first p n)
+  unfolding many_up_to item_shape Item
+  family zero k le within =
+      lower k 0 le (restate 0 (choice_reads 0 (deep_reads {W = Item} {s = item_shape} refl item_begins item_example) (give_reads 0 []) refl (apart_nil s.first)) to_many from_many many_widens)
+  family (suc n) zero le within = step n zero zero (omega arith) (omega arith) (room0) (family n zero (omega arith) (omega arith))
     where
-      room : (n : ℕ) (u v : List Lexeme) → Begins s u → length (u ++ v) ≤ suc n → (length u ≤ suc n) × (length v ≤ n)
-      room n [] v b le = absurd (false≢true (sym solid ∙ b))
-      room n (t ∷ u) v b le = (omega (arith, length-append u v), omega (arith, length-append u v))
+      room0 : (u v : List Lexeme) → Begins s u → length (u ++ v) ≤ 0 → (length u ≤ 0) × (length v ≤ 0)
+      room0 u v b le = (omega (arith, length-append u v), omega (arith, length-append u v))
+  family (suc n) (suc k) le within = step n (suc k) k within (omega arith) room (family n k (omega arith) (omega arith))
+    where
+      room : (u v : List Lexeme) → Begins s u → length (u ++ v) ≤ suc k → (length u ≤ suc k) × (length v ≤ k)
+      room [] v b le = absurd (false≢true (sym solid ∙ b))
+      room (t ∷ u) v b le = (omega (arith, length-append u v), omega (arith, length-append u v))
 
   agree : (n m : ℕ) (ts : List Lexeme) → length ts ≤ n → length ts ≤ m → many_up_to s.first p n ts ≡ many_up_to s.first p m ts
   unfolding many_up_to
@@ -196,12 +218,12 @@ module _ {A : Type 0} {W : A → List Lexeme → Type 0} {s : Shape} {p : List L
   agree (suc n) zero (t ∷ ts) a b = absurd (omega arith)
   agree (suc n) (suc m) ts a b =
       ap (λ x. cond (next_in s.first ts) x (Ok ([], ts))) (same_bind (p ts) _ _ (λ x rest e.
-      let fewer = leaves_fewer 0 (reads 0) solid ts x rest e in
+      let fewer = leaves_fewer bound reads solid ts x rest e in
       ap (λ y. y >>= λ y. Ok (x ∷ y.0, y.1)) (agree n m rest (omega arith) (omega arith))))
 
   -- many in a row are read, each with one token of look-ahead
-  pub many_reads : (n : ℕ) → Reads n (Many W) (many_shape s) (many_at s.first p)
-  many_reads = at_length (many_up_to s.first p) family agree
+  pub many_reads : Reads bound (Many W) (many_shape s) (many_at s.first p)
+  many_reads = at_length (many_up_to s.first p) bound (λ n k. family n k) agree
 
   -- one, and the others
   pub many_step : (ts : List Lexeme) → many_at s.first p ts ≡ choice s.first (then_read p (λ a. then_read (many_at s.first p) (λ rest. give (a ∷ rest)))) (give []) ts
@@ -209,5 +231,5 @@ module _ {A : Type 0} {W : A → List Lexeme → Type 0} {s : Shape} {p : List L
   many_step [] = refl
   many_step (t ∷ ts) =
       ap (λ x. cond (next_in s.first (t ∷ ts)) x (Ok ([], t ∷ ts))) (same_bind (p (t ∷ ts)) _ _ (λ x rest e.
-      let fewer = leaves_fewer 0 (reads 0) solid (t ∷ ts) x rest e in
+      let fewer = leaves_fewer bound reads solid (t ∷ ts) x rest e in
       ap (λ y. y >>= λ y. Ok (x ∷ y.0, y.1)) (agree (length ts) (length rest) rest (omega arith) (omega arith))))

@@ -1,6 +1,7 @@
 -- The readers of expressions read their grammar.
-use Rattle.std.proofs.Common.{◌≡◌, ℕ, zero, suc, ◌≤◌, true, false, List, [], ◌∷◌, ◌++◌, length, Option, Some, None, refl, sym, ap, ◌∙◌, subst, inl, inr, arith, append_assoc, length-append}
+use Rattle.std.proofs.Common.{◌≡◌, ◌==◌, ◌&&◌, ⊎_elim, Bool, ℕ, zero, suc, ◌≤◌, true, false, List, [], ◌∷◌, ◌++◌, length, Option, Some, None, refl, sym, ap, ◌∙◌, subst, inl, inr, arith, append_assoc, length-append}
 use Rattle.std.proofs.lemmas.List.{append-nil}
+use Rattle.std.proofs.lemmas.Bool.{false≢true, and_parts, or_cases, eqb-true, cases_Bool}
 use Rattle.prl_ast.specs.declared.expressions.PlacedOp.{PlacedOp}
 use Rattle.prl_base.specs.declared.values.Value.{Value}
 use Rattle.prl_ast.specs.Trees.{Tree, tree, Root, const, var, apply, group, Trees, none, more, tree_list}
@@ -9,11 +10,11 @@ use Rattle.prl_base.specs.declared.operators.Op.TheVariants as ops
 use Rattle.prl_base.specs.declared.places.Span.{Span}
 use Rattle.prl_reader.specs.Lexemes.{Lexeme, first_place}
 use Rattle.prl_reader.specs.Grammars.{Then, Give, Either, Many, Maybe, FromFirst, Place, Named, Numbered}
-use Rattle.prl_reader.specs.Readers.{Read, choice, many_at, maybe_at, place_at, name_at, number_at}
-use Rattle.prl_reader.specs.Reads.{Shape, then_shape, either_shape, many_shape, Reads}
-use Rattle.prl_reader.proofs.Basics.{Apart, apart, disjoint}
+use Rattle.prl_reader.specs.Readers.{Read, is_in, choice, many_at, maybe_at, place_at, name_at, number_at}
+use Rattle.prl_reader.specs.Reads.{Shape, then_shape, either_shape, many_shape, Begins, Reads}
+use Rattle.prl_reader.proofs.Basics.{Apart, apart, disjoint, is_in-append}
 use Rattle.prl_reader.proofs.Steps.{one_shape, give, give_shape, give_reads}
-use Rattle.prl_reader.proofs.Sequences.{then_read, choice_reads}
+use Rattle.prl_reader.proofs.Sequences.{then_read, bind_reads, choice_reads}
 use Rattle.prl_reader.proofs.Repeats.{Widens, restate, deep_reads, too_deep, at_length, same_bind, many_reads, many_step, leaves_fewer}
 use Rattle.prl_reader.proofs.Tokens.{followed, either, place_reads, name_reads, number_reads, solid, loose, maybe_reads, first_reads}
 use Rattle.prl_syntax.specs.declared.words.Fixed.{Fixed}
@@ -90,8 +91,164 @@ from_tree (tree pre root post at) w h = record {
 
 parts_reads : (n : ℕ) (f : List Lexeme → Read Chain) → Reads n ChainText (solid chain_first chain_more) f → Reads n PartsText (solid chain_first tree_more) (parts_by f)
 unfolding PartsText
-parts_reads n f chain = followed n chain (λ c. followed n (many_reads postfix_reads refl (apart (only fixed.Slash) postfix_first refl) n) (λ post. give_reads n _) refl) refl
+parts_reads n f chain = followed n chain (λ c. followed n (many_reads n (postfix_reads n) refl (apart (only fixed.Slash) postfix_first refl)) (λ post. give_reads n _) refl) refl
 
 pub tree_reads : (n : ℕ) (f : List Lexeme → Read Chain) → Reads n ChainText (solid chain_first chain_more) f → Reads n TreeText (solid chain_first tree_more) (tree_by f)
 unfolding TreeParts
 tree_reads n f chain = restate n (followed n (first_reads chain_first tree_more n (parts_reads n f chain)) (λ x. give_reads n _) refl) to_tree from_tree same_shape
+
+-- expressions in parentheses
+
+CommaTree : Tree → List Lexeme → Type 0
+CommaTree = Then (The fixed.Comma) (λ p. TreeText)
+
+TreesText : Trees → List Lexeme → Type 0
+TreesText none w = ⊥
+TreesText (more t ts) w = Beside (TreeText t) (OthersText ts) w
+
+TreesParts : Trees → List Lexeme → Type 0
+TreesParts = Then TreeText (λ t. Then (Many CommaTree) (λ others. Give (more t (trees_from others))))
+
+to_others : (ts : List Tree) (w : List Lexeme) → Many CommaTree ts w → OthersText (trees_from ts) w
+unfolding CommaTree
+to_others [] w h = h
+to_others (t ∷ ts) w h = record {
+  left = h.0; right = h.1; whole = h.2;
+  first = record { left = h.3.left; right = h.3.right; whole = h.3.whole; first = (h.3.first, h.3.head); second = h.3.tail };
+  second = to_others ts h.1 h.4;
+}
+
+from_others : (ts : Trees) (w : List Lexeme) → OthersText ts w → Many CommaTree (tree_list ts) w
+unfolding CommaTree
+from_others none w h = h
+from_others (more t ts) w h = (h.left, h.right, h.whole, record { first = h.first.first.0; left = h.first.left; right = h.first.right; whole = h.first.whole; head = h.first.first.1; tail = h.first.second }, from_others ts h.right h.second)
+
+listed : (ts : Trees) → trees_from (tree_list ts) ≡ ts
+listed none = refl
+listed (more t ts) = ap (more t) (listed ts)
+
+to_trees : (ts : Trees) (w : List Lexeme) → TreesParts ts w → TreesText ts w
+unfolding TreesParts TreesText
+to_trees ts w h =
+    let o = h.tail in
+    let right : h.right ≡ o.left = alone h.right o.left o.right o.whole o.tail.whole in
+    let P : Trees → Type 0 = λ ts. TreesText ts w in
+    subst P (sym o.tail.is) (record { left = h.left; right = o.left; whole = h.whole ∙ ap (λ v. h.left ++ v) right; first = h.head; second = to_others o.first o.left o.head })
+
+from_trees : (ts : Trees) (w : List Lexeme) → TreesText ts w → TreesParts ts w
+unfolding TreesParts TreesText
+from_trees none w h = absurd h
+from_trees (more t ts) w h = record {
+  first = t; left = h.left; right = h.right; whole = h.whole; head = h.first;
+  tail = record { first = tree_list ts; left = h.right; right = []; whole = sym (append-nil h.right); head = from_others ts h.right h.second; tail = record { is = ap (more t) (sym (listed ts)); whole = refl } };
+}
+
+comma_tree_reads : (f : List Lexeme → Read Chain) (n : ℕ) → Reads n ChainText (solid chain_first chain_more) f → Reads n CommaTree (solid (only fixed.Comma) tree_more) (comma_tree_by f)
+unfolding CommaTree
+comma_tree_reads f n chain = followed n (the_reads n fixed.Comma) (λ p. tree_reads n f chain) refl
+
+trees_reads : (n : ℕ) (f : List Lexeme → Read Chain) → Reads n ChainText (solid chain_first chain_more) f → Reads n TreesText (solid chain_first (class_of fixed.Comma ∷ (tree_more ++ tree_more))) (trees_by f)
+unfolding TreesParts
+trees_reads n f chain = restate n (followed n (tree_reads n f chain) (λ t. followed n (many_reads n (comma_tree_reads f n chain) refl (apart tree_more (only fixed.Comma) refl)) (λ others. give_reads n _) refl) refl) to_trees from_trees same_shape
+
+-- what stands behind a text that is not empty is shorter
+pub behind : {A B : Type 0} {W : A → List Lexeme → Type 0} {V : A → B → List Lexeme → Type 0} {r : Shape} {p : List Lexeme → Read A} {q : A → List Lexeme → Read B} (first on : List ℕ) (n : ℕ)
+    → Reads (suc n) W (solid first on) p → ((a : A) → Reads n (V a) r (q a)) → disjoint on r.first ≡ true → Reads (suc n) (Then W V) (then_shape (solid first on) r) (then_read p q)
+behind {r} first on n one two d = bind_reads (suc n) (suc n) n one two (apart on r.first d) room
+  where
+    room : (u v : List Lexeme) → Begins (solid first on) u → length (u ++ v) ≤ suc n → (length u ≤ suc n) × (length v ≤ n)
+    room [] v b le = absurd (false≢true b)
+    room (t ∷ u) v b le = (omega (arith, length-append u v), omega (arith, length-append u v))
+
+ClosedTrees : Trees → List Lexeme → Type 0
+ClosedTrees = Then TreesText (λ es. Then (The fixed.Close) (λ c. Give es))
+
+closed_trees_reads : (n : ℕ) (f : List Lexeme → Read Chain) → Reads n ChainText (solid chain_first chain_more) f → Reads n ClosedTrees (solid chain_first []) (closed_trees_by f)
+unfolding ClosedTrees
+closed_trees_reads n f chain = followed n (trees_reads n f chain) (λ es. followed n (the_reads n fixed.Close) (λ c. give_reads n _) refl) refl
+
+GroupText : Root → List Lexeme → Type 0
+GroupText = Then (The fixed.Open) (λ o. Then ClosedTrees (λ es. Give (group es)))
+
+group_reads : (n : ℕ) (f : List Lexeme → Read Chain) → Reads n ChainText (solid chain_first chain_more) f → Reads (suc n) GroupText (solid (only fixed.Open) []) (group_by f)
+unfolding GroupText
+group_reads n f chain = behind (only fixed.Open) [] n (the_reads (suc n) fixed.Open) (λ o. followed n (closed_trees_reads n f chain) (λ es. give_reads n _) refl) refl
+
+NoTrees : Trees → List Lexeme → Type 0
+NoTrees = Then (The fixed.Close) (λ c. Give none)
+
+ArgumentsText : Trees → List Lexeme → Type 0
+ArgumentsText = Then (The fixed.Open) (λ o. Either NoTrees ClosedTrees)
+
+arguments_reads : (n : ℕ) (f : List Lexeme → Read Chain) → Reads n ChainText (solid chain_first chain_more) f → Reads n ArgumentsText (solid (only fixed.Open) []) (arguments_by f)
+unfolding ArgumentsText NoTrees
+arguments_reads n f chain = followed n (the_reads n fixed.Open) (λ o. either n (followed n (the_reads n fixed.Close) (λ c. give_reads n _) refl) (closed_trees_reads n f chain) refl refl) refl
+
+NamedText : Root → List Lexeme → Type 0
+NamedText = Then Named (λ x. Then (Maybe ArgumentsText) (λ args. Give (root_of_name x.0 args)))
+
+named_reads : (n : ℕ) (f : List Lexeme → Read Chain) → Reads n ChainText (solid chain_first chain_more) f → Reads (suc n) NamedText (solid (0 ∷ []) (only fixed.Open)) (named_by f)
+unfolding NamedText
+named_reads n f chain = behind (0 ∷ []) [] n (name_reads (suc n)) (λ x. followed n (maybe_reads (only fixed.Open) [] n (arguments_reads n f chain)) (λ args. give_reads n _) refl) refl
+
+AppliedText : Root → List Lexeme → Type 0
+AppliedText = Either GroupText NamedText
+
+applied_reads : (n : ℕ) (f : List Lexeme → Read Chain) → Reads n ChainText (solid chain_first chain_more) f → Reads (suc n) AppliedText (solid (only fixed.Open ++ 0 ∷ []) (only fixed.Open)) (applied_by f)
+unfolding AppliedText
+applied_reads n f chain = either (suc n) (group_reads n f chain) (named_reads n f chain) refl refl
+
+LastText : Chain → List Lexeme → Type 0
+LastText = Then AppliedText (λ r. Give ([], r))
+
+TailChain : Chain → List Lexeme → Type 0
+TailChain = Then (The fixed.Tail) (λ p. Then ChainText (λ c. Give (prefixed (record { op = ops.Tail; at = p }) c)))
+
+FbyChain : Value → Chain → List Lexeme → Type 0
+FbyChain value = Then (The fixed.Fby) (λ p. Then ChainText (λ c. Give (prefixed (record { op = ops.Fby value; at = p }) c)))
+
+ConsChain : Value → Chain → List Lexeme → Type 0
+ConsChain value = Then (The fixed.Cons) (λ p. Then ChainText (λ c. Give (prefixed (record { op = ops.Cons value; at = p }) c)))
+
+ConstantChain : Chain → List Lexeme → Type 0
+ConstantChain = Then ConstantText (λ v. Either (FbyChain v) (Either (ConsChain v) (Give ([], const v))))
+
+ChainParts : Chain → List Lexeme → Type 0
+ChainParts = Either TailChain (Either ConstantChain LastText)
+
+constant_chain_reads : (n : ℕ) (f : List Lexeme → Read Chain) → Reads n ChainText (solid chain_first chain_more) f → Reads (suc n) ConstantChain (solid constant_first ((chain_more ++ (chain_more ++ only fixed.Cons)) ++ only fixed.Fby)) (constant_by f)
+unfolding ConstantChain FbyChain ConsChain
+constant_chain_reads n f chain =
+    behind constant_first [] n (constant_reads (suc n)) (λ v.
+        either n (followed n (the_reads n fixed.Fby) (λ p. followed n chain (λ c. give_reads n _) refl) refl)
+        (either n (followed n (the_reads n fixed.Cons) (λ p. followed n chain (λ c. give_reads n _) refl) refl) (give_reads n _) refl refl) refl refl) refl
+
+-- each class of the one list is in the other
+abbrev within : List ℕ → List ℕ → Bool
+within [] ls = true
+within (k ∷ ks) ls = is_in k ls && within ks ls
+
+in_within : (ks ls : List ℕ) → within ks ls ≡ true → (c : ℕ) → is_in c ks ≡ true → is_in c ls ≡ true
+in_within [] ls d c h = cc
+in_within (k ∷ ks) ls d c h =
+    let parts = and_parts (is_in k ls) (within ks ls) d in
+    ⊎_elim (λ same. ap (λ i. is_in i ls) (sym (eqb-true k c same)) ∙ parts.0) (λ later. in_within ks ls parts.1 c later) (or_cases (k == c) (is_in c ks) h)
+
+out_within : (ks ls : List ℕ) → within ks ls ≡ true → (c : ℕ) → is_in c ls ≡ false → is_in c ks ≡ false
+out_within ks ls d c h = ⊎_elim (λ e. absurd (false≢true (sym h ∙ in_within ks ls d c e))) (λ e. e) (cases_Bool (is_in c ks))
+
+parts_more : List ℕ
+parts_more = chain_more ++ (((chain_more ++ (chain_more ++ only fixed.Cons)) ++ only fixed.Fby) ++ only fixed.Open)
+
+-- one prefix more, in front
+first_prefix : (op : PlacedOp) (c : Chain) (w u v : List Lexeme) → w ≡ u ++ v → PrefixText op u → ChainText c v → ChainText (prefixed op c) w
+first_prefix op c w u v e p h = record {
+  left = u ++ h.left; right = h.right;
+  whole = e ∙ ap (λ x. u ++ x) h.whole ∙ sym (append_assoc u h.left h.right);
+  first = (u, h.left, refl, p, h.first);
+  second = h.second;
+}
+
+-- a chain of no prefix
+last_root : (r : Root) (w : List Lexeme) → RootText r w → ChainText ([], r) w
+last_root r w h = record { left = []; right = w; whole = refl; first = refl; second = h }

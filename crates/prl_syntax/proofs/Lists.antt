@@ -41,7 +41,7 @@ run_more = (class_of fixed.Comma ∷ item_more) ++ item_more
 
 run_reads : (n : ℕ) → Reads n RunText (solid (0 ∷ []) run_more) run_at
 unfolding run_at
-run_reads n = followed n (item_reads n) (λ i. followed n (many_reads comma_item_reads refl (apart item_more (only fixed.Comma) refl) n) (λ others. give_reads n _) refl) refl
+run_reads n = followed n (item_reads n) (λ i. followed n (many_reads n (comma_item_reads n) refl (apart item_more (only fixed.Comma) refl)) (λ others. give_reads n _) refl) refl
 
 semicolon_run_reads : (n : ℕ) → Reads n SemicolonRun (solid (only fixed.Semicolon) run_more) semicolon_run_at
 unfolding semicolon_run_at
@@ -55,7 +55,7 @@ params_more = (class_of fixed.Semicolon ∷ run_more) ++ run_more
 
 params_reads : (n : ℕ) → Reads n ParamsText (solid (0 ∷ []) params_more) params_at
 unfolding params_at
-params_reads n = followed n (run_reads n) (λ r. followed n (many_reads semicolon_run_reads refl (apart run_more (only fixed.Semicolon) refl) n) (λ others. give_reads n _) refl) refl
+params_reads n = followed n (run_reads n) (λ r. followed n (many_reads n (semicolon_run_reads n) refl (apart run_more (only fixed.Semicolon) refl)) (λ others. give_reads n _) refl) refl
 
 closed_params_reads : (n : ℕ) → Reads n ClosedParams (solid (0 ∷ []) []) closed_params_at
 unfolding closed_params_at
@@ -78,7 +78,7 @@ ended_run_steps = steps ended_run_reads refl (λ c h. cc)
 
 locals_reads : (n : ℕ) → Reads n LocalsText (solid (only fixed.Var) (0 ∷ [])) locals_at
 unfolding locals_at
-locals_reads n = followed n (the_reads n fixed.Var) (λ k. followed n (ended_run_reads n) (λ r. followed n (many_reads ended_run_reads refl (λ c h. cc) n) (λ others. give_reads n _) refl) refl) refl
+locals_reads n = followed n (the_reads n fixed.Var) (λ k. followed n (ended_run_reads n) (λ r. followed n (many_reads n (ended_run_reads n) refl (λ c h. cc)) (λ others. give_reads n _) refl) refl) refl
 
 pub maybe_locals_reads : (n : ℕ) → Reads n MaybeLocals (loose (only fixed.Var) (0 ∷ class_of fixed.Var ∷ [])) maybe_locals_at
 unfolding maybe_locals_at
@@ -97,7 +97,7 @@ next_group_steps = steps next_group_reads refl (λ c h. cc)
 
 ports_reads : (n : ℕ) → Reads n PortsText (solid (0 ∷ []) comma_semicolon) ports_at
 unfolding ports_at
-ports_reads n = followed n (port_group_reads n) (λ g. followed n (many_reads next_group_reads refl (λ c h. cc) n) (λ others. give_reads n _) refl) refl
+ports_reads n = followed n (port_group_reads n) (λ g. followed n (many_reads n (next_group_reads n) refl (λ c h. cc)) (λ others. give_reads n _) refl) refl
 
 closed_ports_reads : (n : ℕ) → Reads n ClosedPorts (solid (0 ∷ []) []) closed_ports_at
 unfolding closed_ports_at

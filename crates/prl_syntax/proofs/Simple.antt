@@ -19,7 +19,7 @@ use Rattle.prl_syntax.specs.Readers.{the_at, only, constant_at, ratio_at, denomi
 
 -- the reader of many reads one after another
 pub steps : {A : Type 0} {W : A → List Lexeme → Type 0} {s : Shape} {p : List Lexeme → Read A} → ((n : ℕ) → Reads n W s p) → s.nullable ≡ false → Apart s.more s.first → Steps s.first p
-steps reads solid apart = record { step = many_step reads solid apart; fewer = leaves_fewer 0 (reads 0) solid }
+steps reads solid apart = record { step = many_step 0 (reads 0) solid apart; fewer = leaves_fewer 0 (reads 0) solid }
 
 pub the_reads : (n : ℕ) (f : Fixed) → Reads n (The f) (solid (only f) []) (the_at f)
 the_reads n f = place_reads n (class_of f)
@@ -49,7 +49,7 @@ comma_name_reads n = followed n (the_reads n fixed.Comma) (λ p. placed_reads n)
 
 pub names_reads : (n : ℕ) → Reads n NamesText (solid (0 ∷ []) (only fixed.Comma)) names_at
 unfolding names_at
-names_reads n = followed n (placed_reads n) (λ x. followed n (many_reads comma_name_reads refl (λ c h. cc) n) (λ others. give_reads n _) refl) refl
+names_reads n = followed n (placed_reads n) (λ x. followed n (many_reads n (comma_name_reads n) refl (λ c h. cc)) (λ others. give_reads n _) refl) refl
 
 pub type_reads : (n : ℕ) → Reads n TypeText (solid (class_of fixed.Int ∷ class_of fixed.Bool ∷ []) []) type_at
 unfolding type_at
