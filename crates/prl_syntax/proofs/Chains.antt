@@ -252,3 +252,201 @@ first_prefix op c w u v e p h = record {
 -- a chain of no prefix
 last_root : (r : Root) (w : List Lexeme) → RootText r w → ChainText ([], r) w
 last_root r w h = record { left = []; right = w; whole = refl; first = refl; second = h }
+
+-- parentheses round expressions
+closed_parts : (es : Trees) (w inner right : List Lexeme) (p : Span) → w ≡ inner ++ right → TreesText es inner → The fixed.Close p right → ClosedTrees es w
+unfolding ClosedTrees
+closed_parts es w inner right p e h k = record {
+  first = es; left = inner; right = right; whole = e; head = h;
+  tail = record { first = p; left = right; right = []; whole = sym (append-nil right); head = k; tail = record { is = refl; whole = refl } };
+}
+
+enclosed : (es : Trees) (w u v : List Lexeme) (o : Span) → w ≡ u ++ v → The fixed.Open o u → ClosedTrees es v → Enclosed (TreesText es) w
+unfolding ClosedTrees
+enclosed es w u v o e h q =
+    let k = q.tail in
+    let P : Trees → Type 0 = λ x. TreesText x q.left in
+    record {
+      open_at = o; close_at = k.first; left = u; inner = q.left; right = k.left;
+      whole = e ∙ ap (λ x. u ++ x) (q.whole ∙ ap (λ x. q.left ++ x) (alone q.right k.left k.right k.whole k.tail.whole));
+      opened = h; inside = subst P (sym k.tail.is) q.head; closed = k.head;
+    }
+
+group_root : (es : Trees) (w : List Lexeme) → Enclosed (TreesText es) w → RootText (group es) w
+unfolding TreesText
+group_root none w h = absurd h.inside
+group_root (more t ts) w h = h
+
+apply_root : (name : List ℕ) (es : Trees) (w u v : List Lexeme) → w ≡ u ++ v → NameText name u → Enclosed (TreesText es) v → RootText (apply name es) w
+unfolding TreesText
+apply_root name none w u v e n h = absurd h.inside
+apply_root name (more t ts) w u v e n h = record { left = u; right = v; whole = e; first = n; second = h }
+
+name_text : (x : List ℕ × Span) (w : List Lexeme) → Named x w → NameText x.0 w
+name_text x w h = record { first = x; left = w; right = []; whole = sym (append-nil w); head = h; tail = record { is = refl; whole = refl } }
+
+to_group : (r : Root) (w : List Lexeme) → GroupText r w → RootText r w
+unfolding GroupText
+to_group r w g =
+    let k = g.tail in
+    let P : Root → Type 0 = λ r. RootText r w in
+    subst P (sym k.tail.is) (group_root k.first w (enclosed k.first w g.left k.left g.first (g.whole ∙ ap (λ x. g.left ++ x) (alone g.right k.left k.right k.whole k.tail.whole)) g.head k.head))
+
+to_applied : (name : List ℕ) (es : Trees) (w u v : List Lexeme) → w ≡ u ++ v → NameText name u → ArgumentsText es v → RootText (apply name es) w
+unfolding ArgumentsText NoTrees
+to_applied name es w u v e n a = go a.tail
+  where
+    go : Either NoTrees ClosedTrees es a.right → RootText (apply name es) w
+    go (inl k) =
+        let P : Trees → Type 0 = λ es. RootText (apply name es) w in
+        subst P (sym k.tail.is) (record {
+          left = u; right = v; whole = e; first = n;
+          second = record {
+            open_at = a.first; close_at = k.first; left = a.left; inner = []; right = k.left;
+            whole = a.whole ∙ ap (λ x. a.left ++ x) (alone a.right k.left k.right k.whole k.tail.whole);
+            opened = a.head; inside = refl; closed = k.head;
+          };
+        })
+    go (inr q) = apply_root name es w u v e n (enclosed es v a.left a.right a.first a.whole a.head q)
+
+to_named : (r : Root) (w : List Lexeme) → NamedText r w → RootText r w
+unfolding NamedText
+to_named r w h = go k.first refl k.head
+  where
+    k : Then (Maybe ArgumentsText) (λ args. Give (root_of_name h.first.0 args)) r h.right
+    k = h.tail
+    whole : w ≡ h.left ++ k.left
+    whole = h.whole ∙ ap (λ x. h.left ++ x) (alone h.right k.left k.right k.whole k.tail.whole)
+    go : (args : Option Trees) → args ≡ k.first → Maybe ArgumentsText args k.left → RootText r w
+    go args e (inl m) =
+        let P : Root → Type 0 = λ r. RootText r w in
+        let same : k.left ≡ m.left = alone k.left m.left m.right m.whole m.tail.whole in
+        let root : r ≡ apply h.first.0 m.first = k.tail.is ∙ ap (root_of_name h.first.0) (sym e ∙ m.tail.is) in
+        subst P (sym root) (to_applied h.first.0 m.first w h.left m.left (whole ∙ ap (λ x. h.left ++ x) same) (name_text h.first h.left h.head) m.head)
+    go args e (inr g) =
+        let P : Root → Type 0 = λ r. RootText r w in
+        let root : r ≡ var h.first.0 = k.tail.is ∙ ap (root_of_name h.first.0) (sym e ∙ g.is) in
+        let same : w ≡ h.left = alone w h.left k.left whole g.whole in
+        let Q : List Lexeme → Type 0 = NameText h.first.0 in
+        subst P (sym root) (subst Q (sym same) (name_text h.first h.left h.head))
+
+to_root : (r : Root) (w : List Lexeme) → AppliedText r w → RootText r w
+unfolding AppliedText
+to_root r w (inl g) = to_group r w g
+to_root r w (inr h) = to_named r w h
+
+-- a prefix that has read its operator
+tail_prefix : (p : Span) (u : List Lexeme) → The fixed.Tail p u → PrefixText (record { op = ops.Tail; at = p }) u
+tail_prefix p u h = inl (record { first = p; left = u; right = []; whole = sym (append-nil u); head = h; tail = record { is = refl; whole = refl } })
+
+fby_prefix : (v : Value) (p : Span) (u x : List Lexeme) → ConstantText v u → The fixed.Fby p x → PrefixText (record { op = ops.Fby v; at = p }) (u ++ x)
+fby_prefix v p u x c h = inr (inl (record {
+  first = v; left = u; right = x; whole = refl; head = c;
+  tail = record { first = p; left = x; right = []; whole = sym (append-nil x); head = h; tail = record { is = refl; whole = refl } };
+}))
+
+cons_prefix : (v : Value) (p : Span) (u x : List Lexeme) → ConstantText v u → The fixed.Cons p x → PrefixText (record { op = ops.Cons v; at = p }) (u ++ x)
+cons_prefix v p u x c h = inr (inr (record {
+  first = v; left = u; right = x; whole = refl; head = c;
+  tail = record { first = p; left = x; right = []; whole = sym (append-nil x); head = h; tail = record { is = refl; whole = refl } };
+}))
+
+to_constant : (c : Chain) (w u v : List Lexeme) (value : Value) → w ≡ u ++ v → ConstantText value u → Either (FbyChain value) (Either (ConsChain value) (Give ([], const value))) c v → ChainText c w
+unfolding FbyChain ConsChain
+to_constant c w u v value e h (inl g) =
+    let k = g.tail in
+    let P : Chain → Type 0 = λ c. ChainText c w in
+    subst P (sym k.tail.is) (first_prefix (record { op = ops.Fby value; at = g.first }) k.first w (u ++ g.left) k.left
+        (e ∙ ap (λ x. u ++ x) (g.whole ∙ ap (λ x. g.left ++ x) (alone g.right k.left k.right k.whole k.tail.whole)) ∙ sym (append_assoc u g.left k.left))
+        (fby_prefix value g.first u g.left h g.head) k.head)
+to_constant c w u v value e h (inr (inl g)) =
+    let k = g.tail in
+    let P : Chain → Type 0 = λ c. ChainText c w in
+    subst P (sym k.tail.is) (first_prefix (record { op = ops.Cons value; at = g.first }) k.first w (u ++ g.left) k.left
+        (e ∙ ap (λ x. u ++ x) (g.whole ∙ ap (λ x. g.left ++ x) (alone g.right k.left k.right k.whole k.tail.whole)) ∙ sym (append_assoc u g.left k.left))
+        (cons_prefix value g.first u g.left h g.head) k.head)
+to_constant c w u v value e h (inr (inr g)) =
+    let P : Chain → Type 0 = λ c. ChainText c w in
+    let Q : List Lexeme → Type 0 = ConstantText value in
+    subst P (sym g.is) (last_root (const value) w (subst Q (sym (alone w u v e g.whole)) h))
+
+to_chain : (c : Chain) (w : List Lexeme) → ChainParts c w → ChainText c w
+unfolding ChainParts TailChain ConstantChain LastText
+to_chain c w (inl g) =
+    let k = g.tail in
+    let P : Chain → Type 0 = λ c. ChainText c w in
+    subst P (sym k.tail.is) (first_prefix (record { op = ops.Tail; at = g.first }) k.first w g.left k.left
+        (g.whole ∙ ap (λ x. g.left ++ x) (alone g.right k.left k.right k.whole k.tail.whole)) (tail_prefix g.first g.left g.head) k.head)
+to_chain c w (inr (inl g)) = to_constant c w g.left g.right g.first g.whole g.head g.tail
+to_chain c w (inr (inr g)) =
+    let P : Chain → Type 0 = λ c. ChainText c w in
+    let Q : List Lexeme → Type 0 = RootText g.first in
+    subst P (sym g.tail.is) (last_root g.first w (subst Q (sym (alone w g.left g.right g.whole g.tail.whole)) (to_root g.first g.left g.head)))
+
+-- and back
+
+given : {A : Type 0} (x : A) → Give x x []
+given x = record { is = refl; whole = refl }
+
+from_enclosed : (es : Trees) (w : List Lexeme) → Enclosed (TreesText es) w → Then (The fixed.Open) (λ o. ClosedTrees) es w
+from_enclosed es w h = record {
+  first = h.open_at; left = h.left; right = h.inner ++ h.right; whole = h.whole; head = h.opened;
+  tail = closed_parts es (h.inner ++ h.right) h.inner h.right h.close_at refl h.inside h.closed;
+}
+
+with_root : (r : Root) (w : List Lexeme) → AppliedText r w → ChainParts ([], r) w
+unfolding ChainParts LastText
+with_root r w h = inr (inr (record { first = r; left = w; right = []; whole = sym (append-nil w); head = h; tail = given ([], r) }))
+
+group_parts : (t : Tree) (ts : Trees) (w : List Lexeme) → Enclosed (Beside (TreeText t) (OthersText ts)) w → GroupText (group (more t ts)) w
+unfolding GroupText TreesText
+group_parts t ts w h =
+    let x = from_enclosed (more t ts) w h in
+    record {
+      first = x.first; left = x.left; right = x.right; whole = x.whole; head = x.head;
+      tail = record { first = more t ts; left = x.right; right = []; whole = sym (append-nil x.right); head = x.tail; tail = given (group (more t ts)) };
+    }
+
+var_parts : (name : List ℕ) (w : List Lexeme) → NameText name w → NamedText (var name) w
+unfolding NamedText
+var_parts name w h = record {
+  first = h.first; left = w; right = []; whole = sym (append-nil w);
+  head = (let P : List Lexeme → Type 0 = Named h.first in subst P (sym (alone w h.left h.right h.whole h.tail.whole)) h.head);
+  tail = record { first = None; left = []; right = []; whole = refl; head = inr (given None); tail = record { is = ap var h.tail.is; whole = refl } };
+}
+
+apply_parts : (name : List ℕ) (es : Trees) (w u v : List Lexeme) → w ≡ u ++ v → NameText name u → ArgumentsText es v → NamedText (apply name es) w
+unfolding NamedText
+apply_parts name es w u v e h a = record {
+  first = h.first; left = u; right = v; whole = e;
+  head = (let P : List Lexeme → Type 0 = Named h.first in subst P (sym (alone u h.left h.right h.whole h.tail.whole)) h.head);
+  tail = record {
+    first = Some es; left = v; right = []; whole = sym (append-nil v);
+    head = inl (record { first = es; left = v; right = []; whole = sym (append-nil v); head = a; tail = given (Some es) });
+    tail = record { is = ap (λ n. apply n es) h.tail.is; whole = refl };
+  };
+}
+
+no_arguments : (w : List Lexeme) → Enclosed Nothing w → ArgumentsText none w
+unfolding ArgumentsText NoTrees
+no_arguments w h = record {
+  first = h.open_at; left = h.left; right = h.right;
+  whole = h.whole ∙ ap (λ x. h.left ++ (x ++ h.right)) h.inside;
+  head = h.opened;
+  tail = inl (record { first = h.close_at; left = h.right; right = []; whole = sym (append-nil h.right); head = h.closed; tail = given none });
+}
+
+some_arguments : (t : Tree) (ts : Trees) (w : List Lexeme) → Enclosed (Beside (TreeText t) (OthersText ts)) w → ArgumentsText (more t ts) w
+unfolding ArgumentsText TreesText
+some_arguments t ts w h =
+    let x = from_enclosed (more t ts) w h in
+    record { first = x.first; left = x.left; right = x.right; whole = x.whole; head = x.head; tail = inr x.tail }
+
+root_parts : (r : Root) (w : List Lexeme) → RootText r w → ChainParts ([], r) w
+unfolding ChainParts ConstantChain AppliedText
+root_parts (const value) w h = inr (inl (record { first = value; left = w; right = []; whole = sym (append-nil w); head = h; tail = inr (inr (given ([], const value))) }))
+root_parts (var name) w h = with_root (var name) w (inr (var_parts name w h))
+root_parts (apply name none) w h = with_root (apply name none) w (inr (apply_parts name none w h.left h.right h.whole h.first (no_arguments h.right h.second)))
+root_parts (apply name (more t ts)) w h = with_root (apply name (more t ts)) w (inr (apply_parts name (more t ts) w h.left h.right h.whole h.first (some_arguments t ts h.right h.second)))
+root_parts (group none) w h = absurd h
+root_parts (group (more t ts)) w h = with_root (group (more t ts)) w (inl (group_parts t ts w h))
