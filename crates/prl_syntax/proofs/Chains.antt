@@ -26,7 +26,7 @@ use Rattle.prl_syntax.specs.Readers.{the_at, only, constant_at, ratio_at, consta
 use Rattle.prl_syntax.proofs.Simple.{steps, the_reads, constant_reads, ratio_reads}
 
 
-postfix_reads : (n : ℕ) → Reads n PostfixText (solid postfix_first (only fixed.Slash)) postfix_at
+pub postfix_reads : (n : ℕ) → Reads n PostfixText (solid postfix_first (only fixed.Slash)) postfix_at
 unfolding postfix_at
 postfix_reads n =
     either n (followed n (the_reads n fixed.Up) (λ p. followed n (number_reads n) (λ x. give_reads n _) refl) refl)
@@ -49,20 +49,20 @@ chain_more = class_of fixed.Fby ∷ class_of fixed.Cons ∷ class_of fixed.Open 
 abbrev pub tree_more : List ℕ
 tree_more = (postfix_first ++ only fixed.Slash) ++ chain_more
 
-PartsText : Chain × List PlacedOp → List Lexeme → Type 0
+pub PartsText : Chain × List PlacedOp → List Lexeme → Type 0
 PartsText = Then ChainText (λ c. Then (Many PostfixText) (λ post. Give (c, post)))
 
-TreeParts : Tree → List Lexeme → Type 0
+pub TreeParts : Tree → List Lexeme → Type 0
 TreeParts = Then (FromFirst PartsText) (λ x. Give (tree_of_parts x.0 x.1))
 
 -- a text and nothing behind it
-alone : (w u v : List Lexeme) → w ≡ u ++ v → v ≡ [] → w ≡ u
+pub alone : (w u v : List Lexeme) → w ≡ u ++ v → v ≡ [] → w ≡ u
 alone w u v e none_behind = e ∙ ap (λ x. u ++ x) none_behind ∙ append-nil u
 
-same_shape : {s : Shape} → Widens s s
+pub same_shape : {s : Shape} → Widens s s
 same_shape = record { first = λ c h. h; nullable = λ h. h; more = λ c h. h }
 
-to_tree : (t : Tree) (w : List Lexeme) → TreeParts t w → TreeText t w
+pub to_tree : (t : Tree) (w : List Lexeme) → TreeParts t w → TreeText t w
 unfolding TreeParts PartsText
 to_tree t w h =
     let x = h.first in
@@ -75,7 +75,7 @@ to_tree t w h =
     let Q : List Lexeme → Type 0 = TreeText t in
     subst Q (sym same) (subst P parts (h.head.0, record { left = c.left; right = post.left; whole = whole; first = c.head; second = post.head }))
 
-from_tree : (t : Tree) (w : List Lexeme) → TreeText t w → TreeParts t w
+pub from_tree : (t : Tree) (w : List Lexeme) → TreeText t w → TreeParts t w
 unfolding TreeParts PartsText
 from_tree (tree pre root post at) w h = record {
   first = (at, ((pre, root), post));
@@ -89,7 +89,7 @@ from_tree (tree pre root post at) w h = record {
   tail = record { is = refl; whole = refl };
 }
 
-parts_reads : (n : ℕ) (f : List Lexeme → Read Chain) → Reads n ChainText (solid chain_first chain_more) f → Reads n PartsText (solid chain_first tree_more) (parts_by f)
+pub parts_reads : (n : ℕ) (f : List Lexeme → Read Chain) → Reads n ChainText (solid chain_first chain_more) f → Reads n PartsText (solid chain_first tree_more) (parts_by f)
 unfolding PartsText
 parts_reads n f chain = followed n chain (λ c. followed n (many_reads n (postfix_reads n) refl (apart (only fixed.Slash) postfix_first refl)) (λ post. give_reads n _) refl) refl
 
@@ -99,17 +99,17 @@ tree_reads n f chain = restate n (followed n (first_reads chain_first tree_more 
 
 -- expressions in parentheses
 
-CommaTree : Tree → List Lexeme → Type 0
+pub CommaTree : Tree → List Lexeme → Type 0
 CommaTree = Then (The fixed.Comma) (λ p. TreeText)
 
-TreesText : Trees → List Lexeme → Type 0
+pub TreesText : Trees → List Lexeme → Type 0
 TreesText none w = ⊥
 TreesText (more t ts) w = Beside (TreeText t) (OthersText ts) w
 
-TreesParts : Trees → List Lexeme → Type 0
+pub TreesParts : Trees → List Lexeme → Type 0
 TreesParts = Then TreeText (λ t. Then (Many CommaTree) (λ others. Give (more t (trees_from others))))
 
-to_others : (ts : List Tree) (w : List Lexeme) → Many CommaTree ts w → OthersText (trees_from ts) w
+pub to_others : (ts : List Tree) (w : List Lexeme) → Many CommaTree ts w → OthersText (trees_from ts) w
 unfolding CommaTree
 to_others [] w h = h
 to_others (t ∷ ts) w h = record {
@@ -118,16 +118,16 @@ to_others (t ∷ ts) w h = record {
   second = to_others ts h.1 h.4;
 }
 
-from_others : (ts : Trees) (w : List Lexeme) → OthersText ts w → Many CommaTree (tree_list ts) w
+pub from_others : (ts : Trees) (w : List Lexeme) → OthersText ts w → Many CommaTree (tree_list ts) w
 unfolding CommaTree
 from_others none w h = h
 from_others (more t ts) w h = (h.left, h.right, h.whole, record { first = h.first.first.0; left = h.first.left; right = h.first.right; whole = h.first.whole; head = h.first.first.1; tail = h.first.second }, from_others ts h.right h.second)
 
-listed : (ts : Trees) → trees_from (tree_list ts) ≡ ts
+pub listed : (ts : Trees) → trees_from (tree_list ts) ≡ ts
 listed none = refl
 listed (more t ts) = ap (more t) (listed ts)
 
-to_trees : (ts : Trees) (w : List Lexeme) → TreesParts ts w → TreesText ts w
+pub to_trees : (ts : Trees) (w : List Lexeme) → TreesParts ts w → TreesText ts w
 unfolding TreesParts TreesText
 to_trees ts w h =
     let o = h.tail in
@@ -135,7 +135,7 @@ to_trees ts w h =
     let P : Trees → Type 0 = λ ts. TreesText ts w in
     subst P (sym o.tail.is) (record { left = h.left; right = o.left; whole = h.whole ∙ ap (λ v. h.left ++ v) right; first = h.head; second = to_others o.first o.left o.head })
 
-from_trees : (ts : Trees) (w : List Lexeme) → TreesText ts w → TreesParts ts w
+pub from_trees : (ts : Trees) (w : List Lexeme) → TreesText ts w → TreesParts ts w
 unfolding TreesParts TreesText
 from_trees none w h = absurd h
 from_trees (more t ts) w h = record {
@@ -143,11 +143,11 @@ from_trees (more t ts) w h = record {
   tail = record { first = tree_list ts; left = h.right; right = []; whole = sym (append-nil h.right); head = from_others ts h.right h.second; tail = record { is = ap (more t) (sym (listed ts)); whole = refl } };
 }
 
-comma_tree_reads : (f : List Lexeme → Read Chain) (n : ℕ) → Reads n ChainText (solid chain_first chain_more) f → Reads n CommaTree (solid (only fixed.Comma) tree_more) (comma_tree_by f)
+pub comma_tree_reads : (f : List Lexeme → Read Chain) (n : ℕ) → Reads n ChainText (solid chain_first chain_more) f → Reads n CommaTree (solid (only fixed.Comma) tree_more) (comma_tree_by f)
 unfolding CommaTree
 comma_tree_reads f n chain = followed n (the_reads n fixed.Comma) (λ p. tree_reads n f chain) refl
 
-trees_reads : (n : ℕ) (f : List Lexeme → Read Chain) → Reads n ChainText (solid chain_first chain_more) f → Reads n TreesText (solid chain_first (class_of fixed.Comma ∷ (tree_more ++ tree_more))) (trees_by f)
+pub trees_reads : (n : ℕ) (f : List Lexeme → Read Chain) → Reads n ChainText (solid chain_first chain_more) f → Reads n TreesText (solid chain_first (class_of fixed.Comma ∷ (tree_more ++ tree_more))) (trees_by f)
 unfolding TreesParts
 trees_reads n f chain = restate n (followed n (tree_reads n f chain) (λ t. followed n (many_reads n (comma_tree_reads f n chain) refl (apart tree_more (only fixed.Comma) refl)) (λ others. give_reads n _) refl) refl) to_trees from_trees same_shape
 
@@ -160,63 +160,63 @@ behind {r} first on n one two d = bind_reads (suc n) (suc n) n one two (apart on
     room [] v b le = absurd (false≢true b)
     room (t ∷ u) v b le = (omega (arith, length-append u v), omega (arith, length-append u v))
 
-ClosedTrees : Trees → List Lexeme → Type 0
+pub ClosedTrees : Trees → List Lexeme → Type 0
 ClosedTrees = Then TreesText (λ es. Then (The fixed.Close) (λ c. Give es))
 
-closed_trees_reads : (n : ℕ) (f : List Lexeme → Read Chain) → Reads n ChainText (solid chain_first chain_more) f → Reads n ClosedTrees (solid chain_first []) (closed_trees_by f)
+pub closed_trees_reads : (n : ℕ) (f : List Lexeme → Read Chain) → Reads n ChainText (solid chain_first chain_more) f → Reads n ClosedTrees (solid chain_first []) (closed_trees_by f)
 unfolding ClosedTrees
 closed_trees_reads n f chain = followed n (trees_reads n f chain) (λ es. followed n (the_reads n fixed.Close) (λ c. give_reads n _) refl) refl
 
-GroupText : Root → List Lexeme → Type 0
+pub GroupText : Root → List Lexeme → Type 0
 GroupText = Then (The fixed.Open) (λ o. Then ClosedTrees (λ es. Give (group es)))
 
-group_reads : (n : ℕ) (f : List Lexeme → Read Chain) → Reads n ChainText (solid chain_first chain_more) f → Reads (suc n) GroupText (solid (only fixed.Open) []) (group_by f)
+pub group_reads : (n : ℕ) (f : List Lexeme → Read Chain) → Reads n ChainText (solid chain_first chain_more) f → Reads (suc n) GroupText (solid (only fixed.Open) []) (group_by f)
 unfolding GroupText
 group_reads n f chain = behind (only fixed.Open) [] n (the_reads (suc n) fixed.Open) (λ o. followed n (closed_trees_reads n f chain) (λ es. give_reads n _) refl) refl
 
-NoTrees : Trees → List Lexeme → Type 0
+pub NoTrees : Trees → List Lexeme → Type 0
 NoTrees = Then (The fixed.Close) (λ c. Give none)
 
-ArgumentsText : Trees → List Lexeme → Type 0
+pub ArgumentsText : Trees → List Lexeme → Type 0
 ArgumentsText = Then (The fixed.Open) (λ o. Either NoTrees ClosedTrees)
 
-arguments_reads : (n : ℕ) (f : List Lexeme → Read Chain) → Reads n ChainText (solid chain_first chain_more) f → Reads n ArgumentsText (solid (only fixed.Open) []) (arguments_by f)
+pub arguments_reads : (n : ℕ) (f : List Lexeme → Read Chain) → Reads n ChainText (solid chain_first chain_more) f → Reads n ArgumentsText (solid (only fixed.Open) []) (arguments_by f)
 unfolding ArgumentsText NoTrees
 arguments_reads n f chain = followed n (the_reads n fixed.Open) (λ o. either n (followed n (the_reads n fixed.Close) (λ c. give_reads n _) refl) (closed_trees_reads n f chain) refl refl) refl
 
-NamedText : Root → List Lexeme → Type 0
+pub NamedText : Root → List Lexeme → Type 0
 NamedText = Then Named (λ x. Then (Maybe ArgumentsText) (λ args. Give (root_of_name x.0 args)))
 
-named_reads : (n : ℕ) (f : List Lexeme → Read Chain) → Reads n ChainText (solid chain_first chain_more) f → Reads (suc n) NamedText (solid (0 ∷ []) (only fixed.Open)) (named_by f)
+pub named_reads : (n : ℕ) (f : List Lexeme → Read Chain) → Reads n ChainText (solid chain_first chain_more) f → Reads (suc n) NamedText (solid (0 ∷ []) (only fixed.Open)) (named_by f)
 unfolding NamedText
 named_reads n f chain = behind (0 ∷ []) [] n (name_reads (suc n)) (λ x. followed n (maybe_reads (only fixed.Open) [] n (arguments_reads n f chain)) (λ args. give_reads n _) refl) refl
 
-AppliedText : Root → List Lexeme → Type 0
+unfoldable pub AppliedText : Root → List Lexeme → Type 0
 AppliedText = Either GroupText NamedText
 
-applied_reads : (n : ℕ) (f : List Lexeme → Read Chain) → Reads n ChainText (solid chain_first chain_more) f → Reads (suc n) AppliedText (solid (only fixed.Open ++ 0 ∷ []) (only fixed.Open)) (applied_by f)
+pub applied_reads : (n : ℕ) (f : List Lexeme → Read Chain) → Reads n ChainText (solid chain_first chain_more) f → Reads (suc n) AppliedText (solid (only fixed.Open ++ 0 ∷ []) (only fixed.Open)) (applied_by f)
 unfolding AppliedText
 applied_reads n f chain = either (suc n) (group_reads n f chain) (named_reads n f chain) refl refl
 
-LastText : Chain → List Lexeme → Type 0
+unfoldable pub LastText : Chain → List Lexeme → Type 0
 LastText = Then AppliedText (λ r. Give ([], r))
 
-TailChain : Chain → List Lexeme → Type 0
+unfoldable pub TailChain : Chain → List Lexeme → Type 0
 TailChain = Then (The fixed.Tail) (λ p. Then ChainText (λ c. Give (prefixed (record { op = ops.Tail; at = p }) c)))
 
-FbyChain : Value → Chain → List Lexeme → Type 0
+unfoldable pub FbyChain : Value → Chain → List Lexeme → Type 0
 FbyChain value = Then (The fixed.Fby) (λ p. Then ChainText (λ c. Give (prefixed (record { op = ops.Fby value; at = p }) c)))
 
-ConsChain : Value → Chain → List Lexeme → Type 0
+unfoldable pub ConsChain : Value → Chain → List Lexeme → Type 0
 ConsChain value = Then (The fixed.Cons) (λ p. Then ChainText (λ c. Give (prefixed (record { op = ops.Cons value; at = p }) c)))
 
-ConstantChain : Chain → List Lexeme → Type 0
+unfoldable pub ConstantChain : Chain → List Lexeme → Type 0
 ConstantChain = Then ConstantText (λ v. Either (FbyChain v) (Either (ConsChain v) (Give ([], const v))))
 
-ChainParts : Chain → List Lexeme → Type 0
+unfoldable pub ChainParts : Chain → List Lexeme → Type 0
 ChainParts = Either TailChain (Either ConstantChain LastText)
 
-constant_chain_reads : (n : ℕ) (f : List Lexeme → Read Chain) → Reads n ChainText (solid chain_first chain_more) f → Reads (suc n) ConstantChain (solid constant_first ((chain_more ++ (chain_more ++ only fixed.Cons)) ++ only fixed.Fby)) (constant_by f)
+pub constant_chain_reads : (n : ℕ) (f : List Lexeme → Read Chain) → Reads n ChainText (solid chain_first chain_more) f → Reads (suc n) ConstantChain (solid constant_first ((chain_more ++ (chain_more ++ only fixed.Cons)) ++ only fixed.Fby)) (constant_by f)
 unfolding ConstantChain FbyChain ConsChain
 constant_chain_reads n f chain =
     behind constant_first [] n (constant_reads (suc n)) (λ v.
@@ -224,24 +224,24 @@ constant_chain_reads n f chain =
         (either n (followed n (the_reads n fixed.Cons) (λ p. followed n chain (λ c. give_reads n _) refl) refl) (give_reads n _) refl refl) refl refl) refl
 
 -- each class of the one list is in the other
-abbrev within : List ℕ → List ℕ → Bool
+abbrev pub within : List ℕ → List ℕ → Bool
 within [] ls = true
 within (k ∷ ks) ls = is_in k ls && within ks ls
 
-in_within : (ks ls : List ℕ) → within ks ls ≡ true → (c : ℕ) → is_in c ks ≡ true → is_in c ls ≡ true
+pub in_within : (ks ls : List ℕ) → within ks ls ≡ true → (c : ℕ) → is_in c ks ≡ true → is_in c ls ≡ true
 in_within [] ls d c h = cc
 in_within (k ∷ ks) ls d c h =
     let parts = and_parts (is_in k ls) (within ks ls) d in
     ⊎_elim (λ same. ap (λ i. is_in i ls) (sym (eqb-true k c same)) ∙ parts.0) (λ later. in_within ks ls parts.1 c later) (or_cases (k == c) (is_in c ks) h)
 
-out_within : (ks ls : List ℕ) → within ks ls ≡ true → (c : ℕ) → is_in c ls ≡ false → is_in c ks ≡ false
+pub out_within : (ks ls : List ℕ) → within ks ls ≡ true → (c : ℕ) → is_in c ls ≡ false → is_in c ks ≡ false
 out_within ks ls d c h = ⊎_elim (λ e. absurd (false≢true (sym h ∙ in_within ks ls d c e))) (λ e. e) (cases_Bool (is_in c ks))
 
-parts_more : List ℕ
+abbrev pub parts_more : List ℕ
 parts_more = chain_more ++ (((chain_more ++ (chain_more ++ only fixed.Cons)) ++ only fixed.Fby) ++ only fixed.Open)
 
 -- one prefix more, in front
-first_prefix : (op : PlacedOp) (c : Chain) (w u v : List Lexeme) → w ≡ u ++ v → PrefixText op u → ChainText c v → ChainText (prefixed op c) w
+pub first_prefix : (op : PlacedOp) (c : Chain) (w u v : List Lexeme) → w ≡ u ++ v → PrefixText op u → ChainText c v → ChainText (prefixed op c) w
 first_prefix op c w u v e p h = record {
   left = u ++ h.left; right = h.right;
   whole = e ∙ ap (λ x. u ++ x) h.whole ∙ sym (append_assoc u h.left h.right);
@@ -250,18 +250,18 @@ first_prefix op c w u v e p h = record {
 }
 
 -- a chain of no prefix
-last_root : (r : Root) (w : List Lexeme) → RootText r w → ChainText ([], r) w
+pub last_root : (r : Root) (w : List Lexeme) → RootText r w → ChainText ([], r) w
 last_root r w h = record { left = []; right = w; whole = refl; first = refl; second = h }
 
 -- parentheses round expressions
-closed_parts : (es : Trees) (w inner right : List Lexeme) (p : Span) → w ≡ inner ++ right → TreesText es inner → The fixed.Close p right → ClosedTrees es w
+pub closed_parts : (es : Trees) (w inner right : List Lexeme) (p : Span) → w ≡ inner ++ right → TreesText es inner → The fixed.Close p right → ClosedTrees es w
 unfolding ClosedTrees
 closed_parts es w inner right p e h k = record {
   first = es; left = inner; right = right; whole = e; head = h;
   tail = record { first = p; left = right; right = []; whole = sym (append-nil right); head = k; tail = record { is = refl; whole = refl } };
 }
 
-enclosed : (es : Trees) (w u v : List Lexeme) (o : Span) → w ≡ u ++ v → The fixed.Open o u → ClosedTrees es v → Enclosed (TreesText es) w
+pub enclosed : (es : Trees) (w u v : List Lexeme) (o : Span) → w ≡ u ++ v → The fixed.Open o u → ClosedTrees es v → Enclosed (TreesText es) w
 unfolding ClosedTrees
 enclosed es w u v o e h q =
     let k = q.tail in
@@ -272,27 +272,27 @@ enclosed es w u v o e h q =
       opened = h; inside = subst P (sym k.tail.is) q.head; closed = k.head;
     }
 
-group_root : (es : Trees) (w : List Lexeme) → Enclosed (TreesText es) w → RootText (group es) w
+pub group_root : (es : Trees) (w : List Lexeme) → Enclosed (TreesText es) w → RootText (group es) w
 unfolding TreesText
 group_root none w h = absurd h.inside
 group_root (more t ts) w h = h
 
-apply_root : (name : List ℕ) (es : Trees) (w u v : List Lexeme) → w ≡ u ++ v → NameText name u → Enclosed (TreesText es) v → RootText (apply name es) w
+pub apply_root : (name : List ℕ) (es : Trees) (w u v : List Lexeme) → w ≡ u ++ v → NameText name u → Enclosed (TreesText es) v → RootText (apply name es) w
 unfolding TreesText
 apply_root name none w u v e n h = absurd h.inside
 apply_root name (more t ts) w u v e n h = record { left = u; right = v; whole = e; first = n; second = h }
 
-name_text : (x : List ℕ × Span) (w : List Lexeme) → Named x w → NameText x.0 w
+pub name_text : (x : List ℕ × Span) (w : List Lexeme) → Named x w → NameText x.0 w
 name_text x w h = record { first = x; left = w; right = []; whole = sym (append-nil w); head = h; tail = record { is = refl; whole = refl } }
 
-to_group : (r : Root) (w : List Lexeme) → GroupText r w → RootText r w
+pub to_group : (r : Root) (w : List Lexeme) → GroupText r w → RootText r w
 unfolding GroupText
 to_group r w g =
     let k = g.tail in
     let P : Root → Type 0 = λ r. RootText r w in
     subst P (sym k.tail.is) (group_root k.first w (enclosed k.first w g.left k.left g.first (g.whole ∙ ap (λ x. g.left ++ x) (alone g.right k.left k.right k.whole k.tail.whole)) g.head k.head))
 
-to_applied : (name : List ℕ) (es : Trees) (w u v : List Lexeme) → w ≡ u ++ v → NameText name u → ArgumentsText es v → RootText (apply name es) w
+pub to_applied : (name : List ℕ) (es : Trees) (w u v : List Lexeme) → w ≡ u ++ v → NameText name u → ArgumentsText es v → RootText (apply name es) w
 unfolding ArgumentsText NoTrees
 to_applied name es w u v e n a = go a.tail
   where
@@ -309,7 +309,7 @@ to_applied name es w u v e n a = go a.tail
         })
     go (inr q) = apply_root name es w u v e n (enclosed es v a.left a.right a.first a.whole a.head q)
 
-to_named : (r : Root) (w : List Lexeme) → NamedText r w → RootText r w
+pub to_named : (r : Root) (w : List Lexeme) → NamedText r w → RootText r w
 unfolding NamedText
 to_named r w h = go k.first refl k.head
   where
@@ -330,28 +330,28 @@ to_named r w h = go k.first refl k.head
         let Q : List Lexeme → Type 0 = NameText h.first.0 in
         subst P (sym root) (subst Q (sym same) (name_text h.first h.left h.head))
 
-to_root : (r : Root) (w : List Lexeme) → AppliedText r w → RootText r w
+pub to_root : (r : Root) (w : List Lexeme) → AppliedText r w → RootText r w
 unfolding AppliedText
 to_root r w (inl g) = to_group r w g
 to_root r w (inr h) = to_named r w h
 
 -- a prefix that has read its operator
-tail_prefix : (p : Span) (u : List Lexeme) → The fixed.Tail p u → PrefixText (record { op = ops.Tail; at = p }) u
+pub tail_prefix : (p : Span) (u : List Lexeme) → The fixed.Tail p u → PrefixText (record { op = ops.Tail; at = p }) u
 tail_prefix p u h = inl (record { first = p; left = u; right = []; whole = sym (append-nil u); head = h; tail = record { is = refl; whole = refl } })
 
-fby_prefix : (v : Value) (p : Span) (u x : List Lexeme) → ConstantText v u → The fixed.Fby p x → PrefixText (record { op = ops.Fby v; at = p }) (u ++ x)
+pub fby_prefix : (v : Value) (p : Span) (u x : List Lexeme) → ConstantText v u → The fixed.Fby p x → PrefixText (record { op = ops.Fby v; at = p }) (u ++ x)
 fby_prefix v p u x c h = inr (inl (record {
   first = v; left = u; right = x; whole = refl; head = c;
   tail = record { first = p; left = x; right = []; whole = sym (append-nil x); head = h; tail = record { is = refl; whole = refl } };
 }))
 
-cons_prefix : (v : Value) (p : Span) (u x : List Lexeme) → ConstantText v u → The fixed.Cons p x → PrefixText (record { op = ops.Cons v; at = p }) (u ++ x)
+pub cons_prefix : (v : Value) (p : Span) (u x : List Lexeme) → ConstantText v u → The fixed.Cons p x → PrefixText (record { op = ops.Cons v; at = p }) (u ++ x)
 cons_prefix v p u x c h = inr (inr (record {
   first = v; left = u; right = x; whole = refl; head = c;
   tail = record { first = p; left = x; right = []; whole = sym (append-nil x); head = h; tail = record { is = refl; whole = refl } };
 }))
 
-to_constant : (c : Chain) (w u v : List Lexeme) (value : Value) → w ≡ u ++ v → ConstantText value u → Either (FbyChain value) (Either (ConsChain value) (Give ([], const value))) c v → ChainText c w
+pub to_constant : (c : Chain) (w u v : List Lexeme) (value : Value) → w ≡ u ++ v → ConstantText value u → Either (FbyChain value) (Either (ConsChain value) (Give ([], const value))) c v → ChainText c w
 unfolding FbyChain ConsChain
 to_constant c w u v value e h (inl g) =
     let k = g.tail in
@@ -370,7 +370,7 @@ to_constant c w u v value e h (inr (inr g)) =
     let Q : List Lexeme → Type 0 = ConstantText value in
     subst P (sym g.is) (last_root (const value) w (subst Q (sym (alone w u v e g.whole)) h))
 
-to_chain : (c : Chain) (w : List Lexeme) → ChainParts c w → ChainText c w
+pub to_chain : (c : Chain) (w : List Lexeme) → ChainParts c w → ChainText c w
 unfolding ChainParts TailChain ConstantChain LastText
 to_chain c w (inl g) =
     let k = g.tail in
@@ -385,20 +385,20 @@ to_chain c w (inr (inr g)) =
 
 -- and back
 
-given : {A : Type 0} (x : A) → Give x x []
+pub given : {A : Type 0} (x : A) → Give x x []
 given x = record { is = refl; whole = refl }
 
-from_enclosed : (es : Trees) (w : List Lexeme) → Enclosed (TreesText es) w → Then (The fixed.Open) (λ o. ClosedTrees) es w
+pub from_enclosed : (es : Trees) (w : List Lexeme) → Enclosed (TreesText es) w → Then (The fixed.Open) (λ o. ClosedTrees) es w
 from_enclosed es w h = record {
   first = h.open_at; left = h.left; right = h.inner ++ h.right; whole = h.whole; head = h.opened;
   tail = closed_parts es (h.inner ++ h.right) h.inner h.right h.close_at refl h.inside h.closed;
 }
 
-with_root : (r : Root) (w : List Lexeme) → AppliedText r w → ChainParts ([], r) w
+pub with_root : (r : Root) (w : List Lexeme) → AppliedText r w → ChainParts ([], r) w
 unfolding ChainParts LastText
 with_root r w h = inr (inr (record { first = r; left = w; right = []; whole = sym (append-nil w); head = h; tail = given ([], r) }))
 
-group_parts : (t : Tree) (ts : Trees) (w : List Lexeme) → Enclosed (Beside (TreeText t) (OthersText ts)) w → GroupText (group (more t ts)) w
+pub group_parts : (t : Tree) (ts : Trees) (w : List Lexeme) → Enclosed (Beside (TreeText t) (OthersText ts)) w → GroupText (group (more t ts)) w
 unfolding GroupText TreesText
 group_parts t ts w h =
     let x = from_enclosed (more t ts) w h in
@@ -407,7 +407,7 @@ group_parts t ts w h =
       tail = record { first = more t ts; left = x.right; right = []; whole = sym (append-nil x.right); head = x.tail; tail = given (group (more t ts)) };
     }
 
-var_parts : (name : List ℕ) (w : List Lexeme) → NameText name w → NamedText (var name) w
+pub var_parts : (name : List ℕ) (w : List Lexeme) → NameText name w → NamedText (var name) w
 unfolding NamedText
 var_parts name w h = record {
   first = h.first; left = w; right = []; whole = sym (append-nil w);
@@ -415,7 +415,7 @@ var_parts name w h = record {
   tail = record { first = None; left = []; right = []; whole = refl; head = inr (given None); tail = record { is = ap var h.tail.is; whole = refl } };
 }
 
-apply_parts : (name : List ℕ) (es : Trees) (w u v : List Lexeme) → w ≡ u ++ v → NameText name u → ArgumentsText es v → NamedText (apply name es) w
+pub apply_parts : (name : List ℕ) (es : Trees) (w u v : List Lexeme) → w ≡ u ++ v → NameText name u → ArgumentsText es v → NamedText (apply name es) w
 unfolding NamedText
 apply_parts name es w u v e h a = record {
   first = h.first; left = u; right = v; whole = e;
@@ -427,7 +427,7 @@ apply_parts name es w u v e h a = record {
   };
 }
 
-no_arguments : (w : List Lexeme) → Enclosed Nothing w → ArgumentsText none w
+pub no_arguments : (w : List Lexeme) → Enclosed Nothing w → ArgumentsText none w
 unfolding ArgumentsText NoTrees
 no_arguments w h = record {
   first = h.open_at; left = h.left; right = h.right;
@@ -436,13 +436,13 @@ no_arguments w h = record {
   tail = inl (record { first = h.close_at; left = h.right; right = []; whole = sym (append-nil h.right); head = h.closed; tail = given none });
 }
 
-some_arguments : (t : Tree) (ts : Trees) (w : List Lexeme) → Enclosed (Beside (TreeText t) (OthersText ts)) w → ArgumentsText (more t ts) w
+pub some_arguments : (t : Tree) (ts : Trees) (w : List Lexeme) → Enclosed (Beside (TreeText t) (OthersText ts)) w → ArgumentsText (more t ts) w
 unfolding ArgumentsText TreesText
 some_arguments t ts w h =
     let x = from_enclosed (more t ts) w h in
     record { first = x.first; left = x.left; right = x.right; whole = x.whole; head = x.head; tail = inr x.tail }
 
-root_parts : (r : Root) (w : List Lexeme) → RootText r w → ChainParts ([], r) w
+pub root_parts : (r : Root) (w : List Lexeme) → RootText r w → ChainParts ([], r) w
 unfolding ChainParts ConstantChain AppliedText
 root_parts (const value) w h = inr (inl (record { first = value; left = w; right = []; whole = sym (append-nil w); head = h; tail = inr (inr (given ([], const value))) }))
 root_parts (var name) w h = with_root (var name) w (inr (var_parts name w h))

@@ -4,3 +4,4 @@ pub mod Ratios
 pub mod Lists
 pub mod Groups
 pub mod Chains
+pub mod Trees
