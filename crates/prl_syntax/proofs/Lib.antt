@@ -5,3 +5,4 @@ pub mod Lists
 pub mod Groups
 pub mod Chains
 pub mod Trees
+pub mod Program

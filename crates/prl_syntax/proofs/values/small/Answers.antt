@@ -1,5 +1,5 @@
 use Rattle.std.proofs.Common.{rules}
-use Rattle.prl_syntax.proofs.Trees.{expression_reads}
+use Rattle.prl_syntax.proofs.Program.{program_reads}
 use Rattle.prl_syntax.proofs.values.small.Goals as goal
 
 pub returns : goal.returns
