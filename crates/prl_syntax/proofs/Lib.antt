@@ -6,3 +6,5 @@ pub mod Groups
 pub mod Chains
 pub mod Trees
 pub mod Program
+pub mod Links
+pub mod Rows
