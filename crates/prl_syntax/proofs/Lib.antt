@@ -8,3 +8,4 @@ pub mod Trees
 pub mod Program
 pub mod Links
 pub mod Rows
+pub mod Applied
