@@ -28,13 +28,9 @@ use Rattle.prl_syntax.proofs.Loops.{Steps}
 use Rattle.prl_syntax.specs.Grammar.{The, ConstantText, RatioText, TailText, FbyText, ConsText, PrefixText, UpText, DownText, ShiftText, PostfixText, NameText, Enclosed, Beside, CommaText, Nothing, TreeText, RootText, OthersText}
 use Rattle.prl_syntax.specs.Readers.{the_at, only, constant_at, ratio_at, constant_first, postfix_at, postfix_first, up_at, down_at, shift_at, Chain, prefixed, parts_by, tree_of_parts, tree_by, comma_tree_by, trees_by, closed_trees_by, no_trees_at, group_by, arguments_by, root_of_name, named_by, applied_by, last_by, tail_by, fby_by, cons_by, constant_end, constant_by, chain_by, chain_up_to, chain_at, tree_at}
 use Rattle.prl_syntax.proofs.Simple.{steps, the_reads, constant_reads, ratio_reads}
-
-
 use Rattle.prl_syntax.specs.Links.{Step, prefix, last, fby_step, cons_step, constant_step, constant_link_at, tail_step, last_step, link_at, with_prefixes, after_step}
 use Rattle.prl_syntax.proofs.Trees.{chain_reads, chain_step, expression_reads}
 use Rattle.prl_syntax.proofs.Chains.{postfix_reads, postfix_steps, ChainText, chain_first, chain_more, tree_more, alone, same_shape, tree_reads, comma_tree_reads, behind, TailChain, FbyChain, ConsChain, ConstantChain, LastText, ChainParts, AppliedText, applied_reads, constant_chain_reads, within, in_within, out_within, parts_more, last_root, to_chain, root_parts}
-
-
 use Rattle.std.proofs.lemmas.Bool.{cond-true, cond-false}
 use Rattle.prl_syntax.specs.Loops.{with_front}
 

@@ -25,7 +25,6 @@ use Rattle.prl_syntax.specs.Grammar.{The, ConstantText, RatioText, TailText, Fby
 use Rattle.prl_syntax.specs.Readers.{the_at, only, constant_at, ratio_at, constant_first, postfix_at, postfix_first, up_at, down_at, shift_at, Chain, prefixed, parts_by, tree_of_parts, tree_by, comma_tree_by, trees_by, closed_trees_by, no_trees_at, group_by, arguments_by, root_of_name, named_by, applied_by, last_by, tail_by, fby_by, cons_by, constant_end, constant_by, chain_by, chain_up_to, chain_at, tree_at}
 use Rattle.prl_syntax.proofs.Simple.{steps, the_reads, constant_reads, ratio_reads}
 
-
 pub postfix_reads : (n : ℕ) → Reads n PostfixText (solid postfix_first (only fixed.Slash)) postfix_at
 unfolding postfix_at
 postfix_reads n =
@@ -82,10 +81,17 @@ from_tree (tree pre root post at) w h = record {
   left = w;
   right = [];
   whole = sym (append-nil w);
-  head = (h.0, record {
-    first = (pre, root); left = h.1.left; right = h.1.right; whole = h.1.whole; head = h.1.first;
-    tail = record { first = post; left = h.1.right; right = []; whole = sym (append-nil h.1.right); head = h.1.second; tail = record { is = refl; whole = refl } };
-  });
+  head = (
+    h.0,
+    record {
+      first = (pre, root);
+      left = h.1.left;
+      right = h.1.right;
+      whole = h.1.whole;
+      head = h.1.first;
+      tail = record { first = post; left = h.1.right; right = []; whole = sym (append-nil h.1.right); head = h.1.second; tail = record { is = refl; whole = refl } };
+    },
+  );
   tail = record { is = refl; whole = refl };
 }
 
@@ -113,7 +119,9 @@ pub to_others : (ts : List Tree) (w : List Lexeme) → Many CommaTree ts w → O
 unfolding CommaTree
 to_others [] w h = h
 to_others (t ∷ ts) w h = record {
-  left = h.0; right = h.1; whole = h.2;
+  left = h.0;
+  right = h.1;
+  whole = h.2;
   first = record { left = h.3.left; right = h.3.right; whole = h.3.whole; first = (h.3.first, h.3.head); second = h.3.tail };
   second = to_others ts h.1 h.4;
 }
@@ -139,7 +147,11 @@ pub from_trees : (ts : Trees) (w : List Lexeme) → TreesText ts w → TreesPart
 unfolding TreesParts TreesText
 from_trees none w h = absurd h
 from_trees (more t ts) w h = record {
-  first = t; left = h.left; right = h.right; whole = h.whole; head = h.first;
+  first = t;
+  left = h.left;
+  right = h.right;
+  whole = h.whole;
+  head = h.first;
   tail = record { first = tree_list ts; left = h.right; right = []; whole = sym (append-nil h.right); head = from_others ts h.right h.second; tail = record { is = ap (more t) (sym (listed ts)); whole = refl } };
 }
 
@@ -220,8 +232,8 @@ pub constant_chain_reads : (n : ℕ) (f : List Lexeme → Read Chain) → Reads 
 unfolding ConstantChain FbyChain ConsChain
 constant_chain_reads n f chain =
     behind constant_first [] n (constant_reads (suc n)) (λ v.
-        either n (followed n (the_reads n fixed.Fby) (λ p. followed n chain (λ c. give_reads n _) refl) refl)
-        (either n (followed n (the_reads n fixed.Cons) (λ p. followed n chain (λ c. give_reads n _) refl) refl) (give_reads n _) refl refl) refl refl) refl
+    either n (followed n (the_reads n fixed.Fby) (λ p. followed n chain (λ c. give_reads n _) refl) refl)
+    (either n (followed n (the_reads n fixed.Cons) (λ p. followed n chain (λ c. give_reads n _) refl) refl) (give_reads n _) refl refl) refl refl) refl
 
 -- each class of the one list is in the other
 abbrev pub within : List ℕ → List ℕ → Bool
@@ -243,7 +255,8 @@ parts_more = chain_more ++ (((chain_more ++ (chain_more ++ only fixed.Cons)) ++ 
 -- one prefix more, in front
 pub first_prefix : (op : PlacedOp) (c : Chain) (w u v : List Lexeme) → w ≡ u ++ v → PrefixText op u → ChainText c v → ChainText (prefixed op c) w
 first_prefix op c w u v e p h = record {
-  left = u ++ h.left; right = h.right;
+  left = u ++ h.left;
+  right = h.right;
   whole = e ∙ ap (λ x. u ++ x) h.whole ∙ sym (append_assoc u h.left h.right);
   first = (u, h.left, refl, p, h.first);
   second = h.second;
@@ -257,7 +270,11 @@ last_root r w h = record { left = []; right = w; whole = refl; first = refl; sec
 pub closed_parts : (es : Trees) (w inner right : List Lexeme) (p : Span) → w ≡ inner ++ right → TreesText es inner → The fixed.Close p right → ClosedTrees es w
 unfolding ClosedTrees
 closed_parts es w inner right p e h k = record {
-  first = es; left = inner; right = right; whole = e; head = h;
+  first = es;
+  left = inner;
+  right = right;
+  whole = e;
+  head = h;
   tail = record { first = p; left = right; right = []; whole = sym (append-nil right); head = k; tail = record { is = refl; whole = refl } };
 }
 
@@ -267,9 +284,15 @@ enclosed es w u v o e h q =
     let k = q.tail in
     let P : Trees → Type 0 = λ x. TreesText x q.left in
     record {
-      open_at = o; close_at = k.first; left = u; inner = q.left; right = k.left;
+      open_at = o;
+      close_at = k.first;
+      left = u;
+      inner = q.left;
+      right = k.left;
       whole = e ∙ ap (λ x. u ++ x) (q.whole ∙ ap (λ x. q.left ++ x) (alone q.right k.left k.right k.whole k.tail.whole));
-      opened = h; inside = subst P (sym k.tail.is) q.head; closed = k.head;
+      opened = h;
+      inside = subst P (sym k.tail.is) q.head;
+      closed = k.head;
     }
 
 pub group_root : (es : Trees) (w : List Lexeme) → Enclosed (TreesText es) w → RootText (group es) w
@@ -300,11 +323,20 @@ to_applied name es w u v e n a = go a.tail
     go (inl k) =
         let P : Trees → Type 0 = λ es. RootText (apply name es) w in
         subst P (sym k.tail.is) (record {
-          left = u; right = v; whole = e; first = n;
+          left = u;
+          right = v;
+          whole = e;
+          first = n;
           second = record {
-            open_at = a.first; close_at = k.first; left = a.left; inner = []; right = k.left;
+            open_at = a.first;
+            close_at = k.first;
+            left = a.left;
+            inner = [];
+            right = k.left;
             whole = a.whole ∙ ap (λ x. a.left ++ x) (alone a.right k.left k.right k.whole k.tail.whole);
-            opened = a.head; inside = refl; closed = k.head;
+            opened = a.head;
+            inside = refl;
+            closed = k.head;
           };
         })
     go (inr q) = apply_root name es w u v e n (enclosed es v a.left a.right a.first a.whole a.head q)
@@ -315,8 +347,10 @@ to_named r w h = go k.first refl k.head
   where
     k : Then (Maybe ArgumentsText) (λ args. Give (root_of_name h.first.0 args)) r h.right
     k = h.tail
+
     whole : w ≡ h.left ++ k.left
     whole = h.whole ∙ ap (λ x. h.left ++ x) (alone h.right k.left k.right k.whole k.tail.whole)
+
     go : (args : Option Trees) → args ≡ k.first → Maybe ArgumentsText args k.left → RootText r w
     go args e (inl m) =
         let P : Root → Type 0 = λ r. RootText r w in
@@ -341,13 +375,21 @@ tail_prefix p u h = inl (record { first = p; left = u; right = []; whole = sym (
 
 pub fby_prefix : (v : Value) (p : Span) (u x : List Lexeme) → ConstantText v u → The fixed.Fby p x → PrefixText (record { op = ops.Fby v; at = p }) (u ++ x)
 fby_prefix v p u x c h = inr (inl (record {
-  first = v; left = u; right = x; whole = refl; head = c;
+  first = v;
+  left = u;
+  right = x;
+  whole = refl;
+  head = c;
   tail = record { first = p; left = x; right = []; whole = sym (append-nil x); head = h; tail = record { is = refl; whole = refl } };
 }))
 
 pub cons_prefix : (v : Value) (p : Span) (u x : List Lexeme) → ConstantText v u → The fixed.Cons p x → PrefixText (record { op = ops.Cons v; at = p }) (u ++ x)
 cons_prefix v p u x c h = inr (inr (record {
-  first = v; left = u; right = x; whole = refl; head = c;
+  first = v;
+  left = u;
+  right = x;
+  whole = refl;
+  head = c;
   tail = record { first = p; left = x; right = []; whole = sym (append-nil x); head = h; tail = record { is = refl; whole = refl } };
 }))
 
@@ -357,14 +399,14 @@ to_constant c w u v value e h (inl g) =
     let k = g.tail in
     let P : Chain → Type 0 = λ c. ChainText c w in
     subst P (sym k.tail.is) (first_prefix (record { op = ops.Fby value; at = g.first }) k.first w (u ++ g.left) k.left
-        (e ∙ ap (λ x. u ++ x) (g.whole ∙ ap (λ x. g.left ++ x) (alone g.right k.left k.right k.whole k.tail.whole)) ∙ sym (append_assoc u g.left k.left))
-        (fby_prefix value g.first u g.left h g.head) k.head)
+    (e ∙ ap (λ x. u ++ x) (g.whole ∙ ap (λ x. g.left ++ x) (alone g.right k.left k.right k.whole k.tail.whole)) ∙ sym (append_assoc u g.left k.left))
+    (fby_prefix value g.first u g.left h g.head) k.head)
 to_constant c w u v value e h (inr (inl g)) =
     let k = g.tail in
     let P : Chain → Type 0 = λ c. ChainText c w in
     subst P (sym k.tail.is) (first_prefix (record { op = ops.Cons value; at = g.first }) k.first w (u ++ g.left) k.left
-        (e ∙ ap (λ x. u ++ x) (g.whole ∙ ap (λ x. g.left ++ x) (alone g.right k.left k.right k.whole k.tail.whole)) ∙ sym (append_assoc u g.left k.left))
-        (cons_prefix value g.first u g.left h g.head) k.head)
+    (e ∙ ap (λ x. u ++ x) (g.whole ∙ ap (λ x. g.left ++ x) (alone g.right k.left k.right k.whole k.tail.whole)) ∙ sym (append_assoc u g.left k.left))
+    (cons_prefix value g.first u g.left h g.head) k.head)
 to_constant c w u v value e h (inr (inr g)) =
     let P : Chain → Type 0 = λ c. ChainText c w in
     let Q : List Lexeme → Type 0 = ConstantText value in
@@ -376,7 +418,7 @@ to_chain c w (inl g) =
     let k = g.tail in
     let P : Chain → Type 0 = λ c. ChainText c w in
     subst P (sym k.tail.is) (first_prefix (record { op = ops.Tail; at = g.first }) k.first w g.left k.left
-        (g.whole ∙ ap (λ x. g.left ++ x) (alone g.right k.left k.right k.whole k.tail.whole)) (tail_prefix g.first g.left g.head) k.head)
+    (g.whole ∙ ap (λ x. g.left ++ x) (alone g.right k.left k.right k.whole k.tail.whole)) (tail_prefix g.first g.left g.head) k.head)
 to_chain c w (inr (inl g)) = to_constant c w g.left g.right g.first g.whole g.head g.tail
 to_chain c w (inr (inr g)) =
     let P : Chain → Type 0 = λ c. ChainText c w in
@@ -390,7 +432,11 @@ given x = record { is = refl; whole = refl }
 
 pub from_enclosed : (es : Trees) (w : List Lexeme) → Enclosed (TreesText es) w → Then (The fixed.Open) (λ o. ClosedTrees) es w
 from_enclosed es w h = record {
-  first = h.open_at; left = h.left; right = h.inner ++ h.right; whole = h.whole; head = h.opened;
+  first = h.open_at;
+  left = h.left;
+  right = h.inner ++ h.right;
+  whole = h.whole;
+  head = h.opened;
   tail = closed_parts es (h.inner ++ h.right) h.inner h.right h.close_at refl h.inside h.closed;
 }
 
@@ -403,14 +449,21 @@ unfolding GroupText TreesText
 group_parts t ts w h =
     let x = from_enclosed (more t ts) w h in
     record {
-      first = x.first; left = x.left; right = x.right; whole = x.whole; head = x.head;
+      first = x.first;
+      left = x.left;
+      right = x.right;
+      whole = x.whole;
+      head = x.head;
       tail = record { first = more t ts; left = x.right; right = []; whole = sym (append-nil x.right); head = x.tail; tail = given (group (more t ts)) };
     }
 
 pub var_parts : (name : List ℕ) (w : List Lexeme) → NameText name w → NamedText (var name) w
 unfolding NamedText
 var_parts name w h = record {
-  first = h.first; left = w; right = []; whole = sym (append-nil w);
+  first = h.first;
+  left = w;
+  right = [];
+  whole = sym (append-nil w);
   head = (let P : List Lexeme → Type 0 = Named h.first in subst P (sym (alone w h.left h.right h.whole h.tail.whole)) h.head);
   tail = record { first = None; left = []; right = []; whole = refl; head = inr (given None); tail = record { is = ap var h.tail.is; whole = refl } };
 }
@@ -418,10 +471,16 @@ var_parts name w h = record {
 pub apply_parts : (name : List ℕ) (es : Trees) (w u v : List Lexeme) → w ≡ u ++ v → NameText name u → ArgumentsText es v → NamedText (apply name es) w
 unfolding NamedText
 apply_parts name es w u v e h a = record {
-  first = h.first; left = u; right = v; whole = e;
+  first = h.first;
+  left = u;
+  right = v;
+  whole = e;
   head = (let P : List Lexeme → Type 0 = Named h.first in subst P (sym (alone u h.left h.right h.whole h.tail.whole)) h.head);
   tail = record {
-    first = Some es; left = v; right = []; whole = sym (append-nil v);
+    first = Some es;
+    left = v;
+    right = [];
+    whole = sym (append-nil v);
     head = inl (record { first = es; left = v; right = []; whole = sym (append-nil v); head = a; tail = given (Some es) });
     tail = record { is = ap (λ n. apply n es) h.tail.is; whole = refl };
   };
@@ -430,7 +489,9 @@ apply_parts name es w u v e h a = record {
 pub no_arguments : (w : List Lexeme) → Enclosed Nothing w → ArgumentsText none w
 unfolding ArgumentsText NoTrees
 no_arguments w h = record {
-  first = h.open_at; left = h.left; right = h.right;
+  first = h.open_at;
+  left = h.left;
+  right = h.right;
   whole = h.whole ∙ ap (λ x. h.left ++ (x ++ h.right)) h.inside;
   head = h.opened;
   tail = inl (record { first = h.close_at; left = h.right; right = []; whole = sym (append-nil h.right); head = h.closed; tail = given none });

@@ -28,12 +28,9 @@ use Rattle.prl_syntax.proofs.Loops.{Steps}
 use Rattle.prl_syntax.specs.Grammar.{The, ConstantText, RatioText, TailText, FbyText, ConsText, PrefixText, UpText, DownText, ShiftText, PostfixText, NameText, Enclosed, Beside, CommaText, Nothing, TreeText, RootText, OthersText}
 use Rattle.prl_syntax.specs.Readers.{the_at, only, constant_at, ratio_at, constant_first, postfix_at, postfix_first, up_at, down_at, shift_at, Chain, prefixed, parts_by, tree_of_parts, tree_by, comma_tree_by, trees_by, closed_trees_by, no_trees_at, group_by, arguments_by, root_of_name, named_by, applied_by, last_by, tail_by, fby_by, cons_by, constant_end, constant_by, chain_by, chain_up_to, chain_at, tree_at}
 use Rattle.prl_syntax.proofs.Simple.{steps, the_reads, constant_reads, ratio_reads}
-
-
 use Rattle.prl_syntax.specs.Links.{Step, prefix, last, fby_step, cons_step, constant_step, constant_link_at, tail_step, last_step, link_at, with_prefixes, after_step}
 use Rattle.prl_syntax.proofs.Trees.{chain_reads, chain_step, expression_reads}
 use Rattle.prl_syntax.proofs.Chains.{postfix_reads, postfix_steps, ChainText, chain_first, chain_more, tree_more, alone, same_shape, tree_reads, comma_tree_reads, behind, TailChain, FbyChain, ConsChain, ConstantChain, LastText, ChainParts, AppliedText, applied_reads, constant_chain_reads, within, in_within, out_within, parts_more, last_root, to_chain, root_parts}
-
 
 bind_assoc : {A B C : Type 0} (r : Read A) (g : A × List Lexeme → Read B) (k : B × List Lexeme → Read C) → ((r >>= g) >>= k) ≡ (r >>= λ x. (g x >>= k))
 bind_assoc (Ok x) g k = refl
@@ -50,20 +47,20 @@ constant_is : (f : List Lexeme → Read Chain) (ts : List Lexeme) → (constant_
 constant_is f ts =
     bind_assoc (constant_at ts) _ (next f)
     ∙ same_bind (constant_at ts) _ _ (λ v rest e.
-        cond_bind (next_in (only fixed.Fby) rest) (fby_step v rest) (choice (only fixed.Cons) (cons_step v) (constant_step v) rest) (next f)
-        ∙ ap (λ r. cond (next_in (only fixed.Fby) rest) r (choice (only fixed.Cons) (cons_step v) (constant_step v) rest >>= next f)) (bind_assoc (the_at fixed.Fby rest) _ (next f))
-        ∙ ap (λ r. cond (next_in (only fixed.Fby) rest) (fby_by f v rest) r)
-            (cond_bind (next_in (only fixed.Cons) rest) (cons_step v rest) (constant_step v rest) (next f)
-            ∙ ap (λ r. cond (next_in (only fixed.Cons) rest) r (constant_end v rest)) (bind_assoc (the_at fixed.Cons rest) _ (next f))))
+    cond_bind (next_in (only fixed.Fby) rest) (fby_step v rest) (choice (only fixed.Cons) (cons_step v) (constant_step v) rest) (next f)
+    ∙ ap (λ r. cond (next_in (only fixed.Fby) rest) r (choice (only fixed.Cons) (cons_step v) (constant_step v) rest >>= next f)) (bind_assoc (the_at fixed.Fby rest) _ (next f))
+    ∙ ap (λ r. cond (next_in (only fixed.Fby) rest) (fby_by f v rest) r)
+    (cond_bind (next_in (only fixed.Cons) rest) (cons_step v rest) (constant_step v rest) (next f)
+    ∙ ap (λ r. cond (next_in (only fixed.Cons) rest) r (constant_end v rest)) (bind_assoc (the_at fixed.Cons rest) _ (next f))))
 
 link_is : (f : List Lexeme → Read Chain) (ts : List Lexeme) → (link_at f ts >>= next f) ≡ chain_by f ts
 link_is f ts =
     cond_bind (next_in (only fixed.Tail) ts) (tail_step ts) (choice constant_first constant_link_at (last_step f) ts) (next f)
     ∙ ap (λ r. cond (next_in (only fixed.Tail) ts) r (choice constant_first constant_link_at (last_step f) ts >>= next f)) (bind_assoc (the_at fixed.Tail ts) _ (next f))
     ∙ ap (λ r. cond (next_in (only fixed.Tail) ts) (tail_by f ts) r)
-        (cond_bind (next_in constant_first ts) (constant_link_at ts) (last_step f ts) (next f)
-        ∙ ap (λ r. cond (next_in constant_first ts) r (last_step f ts >>= next f)) (constant_is f ts)
-        ∙ ap (λ r. cond (next_in constant_first ts) (constant_by f ts) r) (bind_assoc (applied_by f ts) _ (next f)))
+    (cond_bind (next_in constant_first ts) (constant_link_at ts) (last_step f ts) (next f)
+    ∙ ap (λ r. cond (next_in constant_first ts) r (last_step f ts >>= next f)) (constant_is f ts)
+    ∙ ap (λ r. cond (next_in constant_first ts) (constant_by f ts) r) (bind_assoc (applied_by f ts) _ (next f)))
 
 by_links : (ts : List Lexeme) → chain_at ts ≡ (link_at chain_at ts >>= next chain_at)
 by_links ts = chain_step ts ∙ sym (link_is chain_at ts)
@@ -95,18 +92,18 @@ constant_rest : (v : Value) (ts : List Lexeme) (l : Step) (rest : List Lexeme) �
 constant_rest v ts l rest e = ⊎_elim
     (λ p. let b = bind_ok (the_at fixed.Fby ts) _ l rest p.1 in omega (arith, token_fewer fixed.Fby ts b.a b.between b.one, ap length (same_rest _ l b.between rest _ refl b.two)))
     (λ p. ⊎_elim
-        (λ q. let b = bind_ok (the_at fixed.Cons ts) _ l rest q.1 in omega (arith, token_fewer fixed.Cons ts b.a b.between b.one, ap length (same_rest _ l b.between rest _ refl b.two)))
-        (λ q. omega (arith, ap length (same_rest _ l ts rest _ refl q.1)))
-        (chosen (next_in (only fixed.Cons) ts) _ _ _ p.1))
+    (λ q. let b = bind_ok (the_at fixed.Cons ts) _ l rest q.1 in omega (arith, token_fewer fixed.Cons ts b.a b.between b.one, ap length (same_rest _ l b.between rest _ refl b.two)))
+    (λ q. omega (arith, ap length (same_rest _ l ts rest _ refl q.1)))
+    (chosen (next_in (only fixed.Cons) ts) _ _ _ p.1))
     (chosen (next_in (only fixed.Fby) ts) _ _ _ e)
 
 pub link_fewer : (ts : List Lexeme) (l : Step) (rest : List Lexeme) → link_at chain_at ts ≡ Ok (l, rest) → length rest < length ts
 link_fewer ts l rest e = ⊎_elim
     (λ p. let b = bind_ok (the_at fixed.Tail ts) _ l rest p.1 in omega (arith, token_fewer fixed.Tail ts b.a b.between b.one, ap length (same_rest _ l b.between rest _ refl b.two)))
     (λ p. ⊎_elim
-        (λ q. let b = bind_ok (constant_at ts) _ l rest q.1 in omega (arith, leaves_fewer 0 (constant_reads 0) refl ts b.a b.between b.one, constant_rest b.a b.between l rest b.two))
-        (λ q. let b = bind_ok (applied_by chain_at ts) _ l rest q.1 in omega (arith, leaves_fewer 1 (applied_reads 0 chain_at (chain_reads 0)) refl ts b.a b.between b.one, ap length (same_rest _ l b.between rest _ refl b.two)))
-        (chosen (next_in constant_first ts) _ _ _ p.1))
+    (λ q. let b = bind_ok (constant_at ts) _ l rest q.1 in omega (arith, leaves_fewer 0 (constant_reads 0) refl ts b.a b.between b.one, constant_rest b.a b.between l rest b.two))
+    (λ q. let b = bind_ok (applied_by chain_at ts) _ l rest q.1 in omega (arith, leaves_fewer 1 (applied_reads 0 chain_at (chain_reads 0)) refl ts b.a b.between b.one, ap length (same_rest _ l b.between rest _ refl b.two)))
+    (chosen (next_in constant_first ts) _ _ _ p.1))
     (chosen (next_in (only fixed.Tail) ts) _ _ _ e)
 
 pub comma_tree_steps : Steps (only fixed.Comma) (comma_tree_by chain_at)

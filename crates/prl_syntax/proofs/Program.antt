@@ -20,7 +20,6 @@ use Rattle.prl_syntax.proofs.Simple.{steps, the_reads, placed_reads, names_reads
 use Rattle.prl_syntax.proofs.Lists.{maybe_params_reads, enclosed_params_reads, maybe_locals_reads, import_reads, device_reads}
 use Rattle.prl_syntax.proofs.Trees.{expression_reads}
 
-
 lefts_reads : (n : ℕ) → Reads n LeftsText (solid equation_first []) lefts_at
 unfolding lefts_at
 lefts_reads n = either n (followed n (the_reads n fixed.Open) (λ o. followed n (names_reads n) (λ ns. followed n (the_reads n fixed.Close) (λ c. give_reads n _) refl) refl) refl) (followed n (placed_reads n) (λ x. give_reads n _) refl) refl refl

@@ -25,36 +25,50 @@ use Rattle.prl_syntax.proofs.Loops.{Steps}
 use Rattle.prl_syntax.specs.Grammar.{The, ConstantText, RatioText, TailText, FbyText, ConsText, PrefixText, UpText, DownText, ShiftText, PostfixText, NameText, Enclosed, Beside, CommaText, Nothing, TreeText, RootText, OthersText}
 use Rattle.prl_syntax.specs.Readers.{the_at, only, constant_at, ratio_at, constant_first, postfix_at, postfix_first, up_at, down_at, shift_at, Chain, prefixed, parts_by, tree_of_parts, tree_by, comma_tree_by, trees_by, closed_trees_by, no_trees_at, group_by, arguments_by, root_of_name, named_by, applied_by, last_by, tail_by, fby_by, cons_by, constant_end, constant_by, chain_by, chain_up_to, chain_at, tree_at}
 use Rattle.prl_syntax.proofs.Simple.{steps, the_reads, constant_reads, ratio_reads}
-
-
 use Rattle.prl_syntax.proofs.Chains.{postfix_reads, postfix_steps, ChainText, chain_first, chain_more, tree_more, alone, same_shape, tree_reads, comma_tree_reads, behind, TailChain, FbyChain, ConsChain, ConstantChain, LastText, ChainParts, AppliedText, applied_reads, constant_chain_reads, within, in_within, out_within, parts_more, last_root, to_chain, root_parts}
 
 -- what is read so far is a chain with a prefix more
 prefix_parts : (op : PlacedOp) (pre : List PlacedOp) (root : Root) (w u v : List Lexeme) → w ≡ u ++ v → PrefixText op u → ChainText (pre, root) v → ChainParts (op ∷ pre, root) w
 unfolding ChainParts TailChain ConstantChain FbyChain ConsChain
 prefix_parts op pre root w u v e (inl t) h = inl (record {
-  first = t.first; left = t.left; right = v; whole = e ∙ ap (λ x. x ++ v) (alone u t.left t.right t.whole t.tail.whole); head = t.head;
+  first = t.first;
+  left = t.left;
+  right = v;
+  whole = e ∙ ap (λ x. x ++ v) (alone u t.left t.right t.whole t.tail.whole);
+  head = t.head;
   tail = record { first = (pre, root); left = v; right = []; whole = sym (append-nil v); head = h; tail = record { is = ap (λ o. (o ∷ pre, root)) t.tail.is; whole = refl } };
 })
 prefix_parts op pre root w u v e (inr (inl t)) h =
     let g = t.tail in
     inr (inl (record {
-      first = t.first; left = t.left; right = g.left ++ v;
+      first = t.first;
+      left = t.left;
+      right = g.left ++ v;
       whole = e ∙ ap (λ x. x ++ v) (t.whole ∙ ap (λ x. t.left ++ x) (alone t.right g.left g.right g.whole g.tail.whole)) ∙ append_assoc t.left g.left v;
       head = t.head;
       tail = inl (record {
-        first = g.first; left = g.left; right = v; whole = refl; head = g.head;
+        first = g.first;
+        left = g.left;
+        right = v;
+        whole = refl;
+        head = g.head;
         tail = record { first = (pre, root); left = v; right = []; whole = sym (append-nil v); head = h; tail = record { is = ap (λ o. (o ∷ pre, root)) g.tail.is; whole = refl } };
       });
     }))
 prefix_parts op pre root w u v e (inr (inr t)) h =
     let g = t.tail in
     inr (inl (record {
-      first = t.first; left = t.left; right = g.left ++ v;
+      first = t.first;
+      left = t.left;
+      right = g.left ++ v;
       whole = e ∙ ap (λ x. x ++ v) (t.whole ∙ ap (λ x. t.left ++ x) (alone t.right g.left g.right g.whole g.tail.whole)) ∙ append_assoc t.left g.left v;
       head = t.head;
       tail = inr (inl (record {
-        first = g.first; left = g.left; right = v; whole = refl; head = g.head;
+        first = g.first;
+        left = g.left;
+        right = v;
+        whole = refl;
+        head = g.head;
         tail = record { first = (pre, root); left = v; right = []; whole = sym (append-nil v); head = h; tail = record { is = ap (λ o. (o ∷ pre, root)) g.tail.is; whole = refl } };
       }));
     }))
@@ -66,7 +80,7 @@ from_parts [] root w h =
 from_parts (op ∷ pre) root w h =
     let m = h.first in
     prefix_parts op pre root w m.0 (m.1 ++ h.right) (h.whole ∙ ap (λ x. x ++ h.right) m.2 ∙ append_assoc m.0 m.1 h.right) m.3
-        (record { left = m.1; right = h.right; whole = refl; first = m.4; second = h.second })
+    (record { left = m.1; right = h.right; whole = refl; first = m.4; second = h.second })
 
 from_chain : (c : Chain) (w : List Lexeme) → ChainText c w → ChainParts c w
 from_chain c w h = from_parts c.0 c.1 w h
@@ -108,10 +122,10 @@ chain_parts_reads : (n : ℕ) (f : List Lexeme → Read Chain) → Reads n Chain
 unfolding ChainParts TailChain LastText
 chain_parts_reads n f chain =
     restate (suc n)
-        (either (suc n) (behind (only fixed.Tail) [] n (the_reads (suc n) fixed.Tail) (λ p. followed n chain (λ c. give_reads n _) refl) refl)
-        (either (suc n) (constant_chain_reads n f chain) (followed (suc n) (applied_reads n f chain) (λ r. give_reads (suc n) _) refl) refl refl) refl refl)
-        to_chain from_chain
-        (record { first = λ c h. h; nullable = λ h. h; more = λ c h. out_within parts_more chain_more refl c h })
+    (either (suc n) (behind (only fixed.Tail) [] n (the_reads (suc n) fixed.Tail) (λ p. followed n chain (λ c. give_reads n _) refl) refl)
+    (either (suc n) (constant_chain_reads n f chain) (followed (suc n) (applied_reads n f chain) (λ r. give_reads (suc n) _) refl) refl refl) refl refl)
+    to_chain from_chain
+    (record { first = λ c h. h; nullable = λ h. h; more = λ c h. out_within parts_more chain_more refl c h })
 
 pub chain_family : (n : ℕ) → Reads n ChainText (solid chain_first chain_more) (chain_up_to n)
 unfolding chain_up_to
@@ -133,10 +147,10 @@ unfolding many_up_to
 many_agree ks p q n same fewer zero ts lt = refl
 many_agree ks p q n same fewer (suc k) ts lt =
     ap (λ r. cond (next_in ks ts) r (Ok ([], ts)))
-        (same_bind (p ts) _ _ (λ a rest e.
-            let less = fewer ts a rest e in
-            ap (λ r. r >>= λ y. Ok (a ∷ y.0, y.1)) (many_agree ks p q n same fewer k rest (omega arith)))
-        ∙ ap (λ r. r >>= λ x. (many_up_to ks q k x.1 >>= λ y. Ok (x.0 ∷ y.0, y.1))) (same ts lt))
+    (same_bind (p ts) _ _ (λ a rest e.
+    let less = fewer ts a rest e in
+    ap (λ r. r >>= λ y. Ok (a ∷ y.0, y.1)) (many_agree ks p q n same fewer k rest (omega arith)))
+    ∙ ap (λ r. r >>= λ x. (many_up_to ks q k x.1 >>= λ y. Ok (x.0 ∷ y.0, y.1))) (same ts lt))
 
 token_fewer : (f : Fixed) → Consumes (the_at f)
 token_fewer f = leaves_fewer 0 (the_reads 0 f) refl
@@ -168,11 +182,11 @@ comma_agree f g n same ts lt = same_bind (the_at fixed.Comma ts) _ _ (λ p rest 
 closed_agree : (f g : List Lexeme → Read Chain) (n m : ℕ) → AgreeBelow n f g → Reads m ChainText (solid chain_first chain_more) f → AgreeBelow n (closed_trees_by f) (closed_trees_by g)
 closed_agree f g n m same reads ts lt =
     ap (λ r. r >>= λ es. (the_at fixed.Close es.1 >>= λ c. Ok (es.0, c.1)))
-        (same_bind (tree_by f ts) _ _ (λ t rest e.
-            let less = leaves_fewer m (tree_reads m f reads) refl ts t rest e in
-            ap (λ r. r >>= λ others. Ok (more t (trees_from others.0), others.1))
-                (many_agree (only fixed.Comma) (comma_tree_by f) (comma_tree_by g) n (comma_agree f g n same) (leaves_fewer m (comma_tree_reads f m reads) refl) (length rest) rest (omega arith)))
-        ∙ ap (λ r. r >>= λ t. (many_at (only fixed.Comma) (comma_tree_by g) t.1 >>= λ others. Ok (more t.0 (trees_from others.0), others.1))) (tree_agree f g n same ts lt))
+    (same_bind (tree_by f ts) _ _ (λ t rest e.
+    let less = leaves_fewer m (tree_reads m f reads) refl ts t rest e in
+    ap (λ r. r >>= λ others. Ok (more t (trees_from others.0), others.1))
+    (many_agree (only fixed.Comma) (comma_tree_by f) (comma_tree_by g) n (comma_agree f g n same) (leaves_fewer m (comma_tree_reads f m reads) refl) (length rest) rest (omega arith)))
+    ∙ ap (λ r. r >>= λ t. (many_at (only fixed.Comma) (comma_tree_by g) t.1 >>= λ others. Ok (more t.0 (trees_from others.0), others.1))) (tree_agree f g n same ts lt))
 
 chain_agree : (f g : List Lexeme → Read Chain) (ts : List Lexeme) (m : ℕ) → AgreeBelow (length ts) f g → Reads m ChainText (solid chain_first chain_more) f → chain_by f ts ≡ chain_by g ts
 chain_agree f g ts m same reads =
@@ -184,31 +198,38 @@ chain_agree f g ts m same reads =
     tail = same_bind (the_at fixed.Tail ts) _ _ (λ p rest e.
         let less = token_fewer fixed.Tail ts p rest e in
         ap (λ r. r >>= λ c. Ok (prefixed (record { op = ops.Tail; at = p }) c.0, c.1)) (same rest (omega arith)))
+
     fby : (value : Value) (rest : List Lexeme) → length rest < length ts → fby_by f value rest ≡ fby_by g value rest
     fby value rest lt = same_bind (the_at fixed.Fby rest) _ _ (λ p after e.
         let less = token_fewer fixed.Fby rest p after e in
         ap (λ r. r >>= λ c. Ok (prefixed (record { op = ops.Fby value; at = p }) c.0, c.1)) (same after (omega arith)))
+
     cons : (value : Value) (rest : List Lexeme) → length rest < length ts → cons_by f value rest ≡ cons_by g value rest
     cons value rest lt = same_bind (the_at fixed.Cons rest) _ _ (λ p after e.
         let less = token_fewer fixed.Cons rest p after e in
         ap (λ r. r >>= λ c. Ok (prefixed (record { op = ops.Cons value; at = p }) c.0, c.1)) (same after (omega arith)))
+
     constant : constant_by f ts ≡ constant_by g ts
     constant = same_bind (constant_at ts) _ _ (λ value rest e.
         let less = leaves_fewer 0 (constant_reads 0) refl ts value rest e in
         ap (λ r. cond (next_in (only fixed.Fby) rest) r (choice (only fixed.Cons) (cons_by f value) (constant_end value) rest)) (fby value rest less)
         ∙ ap (λ r. cond (next_in (only fixed.Fby) rest) (fby_by g value rest) (cond (next_in (only fixed.Cons) rest) r (constant_end value rest))) (cons value rest less))
+
     group_same : group_by f ts ≡ group_by g ts
     group_same = same_bind (the_at fixed.Open ts) _ _ (λ o rest e.
         let less = token_fewer fixed.Open ts o rest e in
         ap (λ r. r >>= λ es. Ok (group es.0, es.1)) (closed_agree f g (length ts) m same reads rest (omega arith)))
+
     arguments : (rest : List Lexeme) → length rest < length ts → arguments_by f rest ≡ arguments_by g rest
     arguments rest lt = same_bind (the_at fixed.Open rest) _ _ (λ o after e.
         let less = token_fewer fixed.Open rest o after e in
         ap (λ r. cond (next_in (only fixed.Close) after) (no_trees_at after) r) (closed_agree f g (length ts) m same reads after (omega arith)))
+
     named : named_by f ts ≡ named_by g ts
     named = same_bind (name_at ts) _ _ (λ x rest e.
         let less = leaves_fewer 0 (name_reads 0) refl ts x rest e in
         ap (λ r. named_behind x.0 (cond (next_in (only fixed.Open) rest) (some_behind r) (Ok (None, rest)))) (arguments rest less))
+
     applied : applied_by f ts ≡ applied_by g ts
     applied = ap (λ r. cond (next_in (only fixed.Open) ts) r (named_by f ts)) group_same ∙ ap (λ r. cond (next_in (only fixed.Open) ts) (group_by g ts) r) named
 

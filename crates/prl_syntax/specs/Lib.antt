@@ -6,3 +6,4 @@ pub mod Readers
 pub mod Loops
 pub mod Groups
 pub mod Links
+pub mod Nodes

@@ -227,5 +227,13 @@ pub fn expr(alloc: Global, terminals: &[Terminal]) -> Result<(Expr, &[Terminal])
     let (post, rest) = attempt!(more_postfixes(alloc, Vec::new(alloc), rest));
     let pre = Seq::new(pre);
     let post = Seq::new(post);
-    Ok((Expr { pre, base, post, at }, rest))
+    Ok((
+        Expr {
+            pre,
+            base,
+            post,
+            at,
+        },
+        rest,
+    ))
 }

@@ -30,18 +30,18 @@ decreases-read_link l = 8 * length l.terminals.now + 2
 
 abbrev pub invariant-chain-each : goal.invariant-chain-each
 invariant-chain-each l = record {
-    exact : with_prefixes l.prefixes.items (chain_at l.rest) ≡ with_prefixes l.fn.front.items (chain_at l.fn.terminals);
-    shorter : length l.rest ≤ length l.fn.terminals;
-  }
+  exact : with_prefixes l.prefixes.items (chain_at l.rest) ≡ with_prefixes l.fn.front.items (chain_at l.fn.terminals);
+  shorter : length l.rest ≤ length l.fn.terminals;
+}
 
 abbrev pub decreases-chain-each : goal.decreases-chain-each
 decreases-chain-each l = length l.rest
 
 abbrev pub invariant-more_exprs-more : goal.invariant-more_exprs-more
 invariant-more_exprs-more l = record {
-    exact : with_front (map tree_of l.exprs.items) (many_at (only fixed.Comma) (comma_tree_by chain_at) l.rest) ≡ with_front (map tree_of l.fn.front.items) (many_at (only fixed.Comma) (comma_tree_by chain_at) l.fn.terminals);
-    shorter : length l.rest ≤ length l.fn.terminals;
-  }
+  exact : with_front (map tree_of l.exprs.items) (many_at (only fixed.Comma) (comma_tree_by chain_at) l.rest) ≡ with_front (map tree_of l.fn.front.items) (many_at (only fixed.Comma) (comma_tree_by chain_at) l.fn.terminals);
+  shorter : length l.rest ≤ length l.fn.terminals;
+}
 
 abbrev pub decreases-more_exprs-more : goal.decreases-more_exprs-more
 decreases-more_exprs-more l = length l.rest
