@@ -74,6 +74,17 @@ impl Terminal {
         self.at
     }
 
+    /// Its class: 0 a name, 1 a number, and from 2 on a keyword or a symbol.
+    pub fn class(&self) -> u8
+        ensures { result ≡ self.now.class }
+    {
+        match &self.word {
+            Word::Name(_) => 0,
+            Word::Number(_) => 1,
+            Word::Fixed(own) => *own,
+        }
+    }
+
     /// Whether it is of the class: 0 a name, 1 a number, and from 2 on a keyword or a symbol.
     pub fn is(&self, class: u8) -> bool
         ensures { result ≡ (self.now.class == class) }

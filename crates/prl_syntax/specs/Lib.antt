@@ -7,3 +7,6 @@ pub mod Loops
 pub mod Groups
 pub mod Links
 pub mod Nodes
+pub mod Lexing
+pub mod Ranges
+pub mod Parsing

@@ -1,5 +1,10 @@
 //! From a text to its program, or to its first fault.
 
+ghost use Rattle.std.specs.Prelude.{◌≡◌, ◌<◌, ◌^◌, length};
+ghost use Rattle.prl_base.specs.Reading.{Gives};
+ghost use Rattle.prl_ast.specs.Trees.{program_tree};
+ghost use Rattle.prl_syntax.specs.Parsing.{fault_of, of_lexical, place_or, FaultOfStop, limited, program_of_tokens, parse_of};
+
 use crate::nodes::program;
 use crate::ranges::out_of_range;
 use crate::terminals::terminals;
@@ -7,7 +12,7 @@ use prl_ast::Program;
 use prl_base::{Limit, What};
 use prl_lex::{LexFault, lex};
 use prl_reader::{Stop, Terminal};
-use std::alloc::Global;
+use std::alloc::{AllocError, Global};
 
 /// The most nodes of a program.
 const MAX_NODES: usize = 256;
@@ -26,48 +31,54 @@ pub enum ParseFault {
     Memory,
 }
 
-impl From<LexFault> for ParseFault {
-    fn from(fault: LexFault) -> ParseFault {
-        match fault {
-            LexFault::BadToken(at) => ParseFault::BadToken(at),
-            LexFault::NumberRange(at) => ParseFault::NumberRange(at),
-            LexFault::Limit(limit) => ParseFault::Limit(limit),
-            LexFault::Memory => ParseFault::Memory,
-        }
+impl From<AllocError> for ParseFault {
+    ghost use Rattle.std.specs.Prelude.{◌≡◌};
+    ghost use Rattle.prl_syntax.specs.declared.parsing.ParseFault.TheVariants.{Memory};
+
+    ghost from_gives = { λ _ e. e ≡ Memory };
+
+    fn from(_error: AllocError) -> ParseFault {
+        ParseFault::Memory
     }
 }
 
-/// The place of the token before which so many are left to the end, or of the end.
-fn place(terminals: &[Terminal], left: usize, end: usize) -> u32 {
-    if left == 0 || left > terminals.len() {
-        return end as u32;
+fn of_lexical(fault: LexFault) -> ParseFault
+    ensures { result ≡ of_lexical fault }
+{
+    match fault {
+        LexFault::BadToken(at) => ParseFault::BadToken(at),
+        LexFault::NumberRange(at) => ParseFault::NumberRange(at),
+        LexFault::Limit(limit) => ParseFault::Limit(limit),
+        LexFault::Memory => ParseFault::Memory,
     }
-    terminals[terminals.len() - left].at().at
 }
 
-fn placed_stop(stop: Stop, terminals: &[Terminal], end: usize) -> ParseFault {
+/// The place of the first of the tokens, or the end of the text.
+fn place_or(end: u32, terminals: &[Terminal]) -> u32
+    ensures { result ≡ place_or end terminals.now }
+{
+    match terminals {
+        [] => end,
+        [first, ..] => first.at().at,
+    }
+}
+
+fn of_stop(terminals: &[Terminal], end: u32, stop: Stop) -> ParseFault
+    ensures { FaultOfStop terminals.now end stop result }
+{
     match stop {
-        Stop::Unexpected(left) => ParseFault::Unexpected(place(terminals, left, end)),
+        Stop::Unexpected(left) => {
+            let (_, rest) = terminals.split_at(terminals.len().saturating_sub(left));
+            ParseFault::Unexpected(place_or(end, rest))
+        }
         Stop::Memory => ParseFault::Memory,
     }
 }
 
-/// The program that the text is. Else, in this order: the fault of its tokens; the first token such that no
-/// program begins with the tokens up to it; the first number out of its range; more than 256 nodes; or want of
-/// memory.
-pub fn parse(alloc: Global, text: &[u8]) -> Result<Program, ParseFault> {
-    let tokens = lex(alloc, text)?;
-    let terminals = match terminals(alloc, text, &tokens) {
-        Ok(terminals) => terminals,
-        Err(_) => return Err(ParseFault::Memory),
-    };
-    let program = match program(alloc, &terminals) {
-        Ok(program) => program,
-        Err(stop) => return Err(placed_stop(stop, &terminals, text.len())),
-    };
-    if let Some(at) = out_of_range(&terminals) {
-        return Err(ParseFault::NumberRange(at));
-    }
+/// The program, if it has at most 256 nodes.
+fn limited(program: Program) -> Result<Program, ParseFault>
+    ensures { Gives program_tree fault_of result (limited (program_tree program)) }
+{
     if program.nodes.len() > MAX_NODES {
         return Err(ParseFault::Limit(Limit {
             what: What::Nodes,
@@ -75,4 +86,36 @@ pub fn parse(alloc: Global, text: &[u8]) -> Result<Program, ParseFault> {
         }));
     }
     Ok(program)
+}
+
+/// The program that the tokens are.
+#[tactic(auto, unfolding(crate::specs::Parsing::program_of_tokens))]
+fn program_of_tokens(alloc: Global, terminals: &[Terminal], end: u32) -> Result<Program, ParseFault>
+    ensures { Gives program_tree fault_of result (program_of_tokens terminals.now end) }
+{
+    let program = match program(alloc, terminals) {
+        Ok(program) => program,
+        Err(stop) => return Err(of_stop(terminals, end, stop)),
+    };
+    match out_of_range(terminals) {
+        Some(at) => Err(ParseFault::NumberRange(at)),
+        None => limited(program),
+    }
+}
+
+/// The program that the text is. Else, in this order: the fault of its tokens; the first token such that no
+/// program begins with the tokens up to it; the first number out of its range; more than 256 nodes; or want of
+/// memory.
+#[tactic(auto, unfolding(crate::specs::Parsing::parse_of))]
+pub fn parse(alloc: Global, text: &[u8]) -> Result<Program, ParseFault>
+    requires { length text.now < 2 ^ 32 }
+    // The program, or the first fault in this order.
+    ensures exact { Gives program_tree fault_of result (parse_of text.now) }
+{
+    let tokens = match lex(alloc, text) {
+        Ok(tokens) => tokens,
+        Err(fault) => return Err(of_lexical(fault)),
+    };
+    let terminals = terminals(alloc, text, tokens.as_slice())?;
+    program_of_tokens(alloc, terminals.as_slice(), text.len() as u32)
 }

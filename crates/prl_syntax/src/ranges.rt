@@ -1,41 +1,47 @@
 //! Ranges of numbers. What stands before a number tells its range.
 
-use crate::words::Fixed;
+ghost use Rattle.std.specs.Prelude.{◌≡◌};
+ghost use Rattle.prl_syntax.specs.Ranges.{is_count, in_range, out_of_range};
+
+use crate::words::{Fixed, class_of};
 use prl_reader::Terminal;
 
-/// Whether the number is in its range, behind these two tokens (0 where there is none).
-fn is_in_range(before: Option<&Terminal>, last: Option<&Terminal>, number: u64) -> bool {
-    let Some(last) = last else {
-        return number <= 2_147_483_647;
-    };
-    if last.is(Fixed::Minus as u8) {
+/// Whether a count is next, behind two tokens of these classes.
+fn is_count(before: u8, last: u8) -> bool
+    ensures { result ≡ is_count before last }
+{
+    (last == class_of(Fixed::Open) && before == class_of(Fixed::Rate))
+        || last == class_of(Fixed::Wcet)
+        || last == class_of(Fixed::Up)
+        || last == class_of(Fixed::Down)
+        || last == class_of(Fixed::Slash)
+}
+
+/// Whether the number is in its range, behind two tokens of these classes.
+fn is_in_range(before: u8, last: u8, number: u64) -> bool
+    ensures { result ≡ in_range before last number }
+{
+    if last == class_of(Fixed::Minus) {
         return number <= 2_147_483_648;
     }
-    let is_period = last.is(Fixed::Open as u8)
-        && match before {
-            Some(before) => before.is(Fixed::Rate as u8),
-            None => false,
-        };
-    let is_count = last.is(Fixed::Wcet as u8)
-        || last.is(Fixed::Up as u8)
-        || last.is(Fixed::Down as u8)
-        || last.is(Fixed::Slash as u8);
-    if is_period || is_count {
+    if is_count(before, last) {
         return 1 <= number && number <= 2_147_483_647;
     }
     number <= 2_147_483_647
 }
 
 /// The place of the first number out of its range.
-pub fn out_of_range(terminals: &[Terminal]) -> Option<u32> {
-    let mut before = None;
-    let mut last = None;
-    for terminal in terminals {
-        if terminal.is(1) && !is_in_range(before, last, terminal.value()) {
+pub fn out_of_range(terminals: &[Terminal]) -> Option<u32>
+    ensures { result ≡ out_of_range 0 0 terminals.now }
+{
+    let mut before = 0;
+    let mut last = 0;
+    'each: for terminal in terminals {
+        if terminal.class() == 1 && !is_in_range(before, last, terminal.value()) {
             return Some(terminal.at().at);
         }
         before = last;
-        last = Some(terminal);
+        last = terminal.class();
     }
     None
 }

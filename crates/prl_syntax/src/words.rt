@@ -1,6 +1,6 @@
 //! The keywords and symbols of programs.
 
-ghost use Rattle.std.specs.Prelude.{◌≡◌, ◌∷◌, []};
+ghost use Rattle.std.specs.Prelude.{◌≡◌, ◌≤◌, ◌∷◌, []};
 ghost use Rattle.prl_base.specs.Reading.{Gives};
 ghost use Rattle.prl_reader.specs.Readers.{next_in, place_at};
 ghost use Rattle.prl_reader.specs.Stops.{stop_of};
@@ -149,6 +149,14 @@ pub fn symbol_of(symbol: &[u8]) -> Fixed
             None => Fixed::Foreign,
         },
     }
+}
+
+/// The class of the keyword or symbol in the grammar.
+pub fn class_of(fixed: Fixed) -> u8
+    ensures exact { result ≡ class_of fixed }
+    ensures from_two { 2 ≤ result }
+{
+    fixed as u8
 }
 
 /// Whether the next token is this one.
