@@ -9,3 +9,5 @@ pub mod Program
 pub mod Links
 pub mod Rows
 pub mod Applied
+pub mod RangeFaults
+pub mod WholeTexts

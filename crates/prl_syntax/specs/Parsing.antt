@@ -1,7 +1,7 @@
 -- The program that a text is, or its first fault.
 use Rattle.prl_reader.specs.declared.reading.Stop.{Stop as Stopped}
 use Rattle.prl_reader.specs.declared.reading.Stop.TheVariants as stops
-use Rattle.std.specs.Prelude.{◌≡◌, ℕ, ◌-◌, nat_le, List, [], ◌∷◌, length, drop, Option, Some, None, Result, Ok, Err, if◌then◌else◌}
+use Rattle.std.specs.Prelude.{◌≡◌, ◌≤◌, ◌⊎◌, ℕ, ◌-◌, nat_le, List, [], ◌∷◌, length, drop, Option, Some, None, Result, Ok, Err, if◌then◌else◌}
 use Rattle.prl_base.specs.Reading.{◌>>=◌}
 use Rattle.prl_base.specs.declared.limits.Limit.{Limit}
 use Rattle.prl_base.specs.declared.limits.What.TheVariants as limits
@@ -12,9 +12,10 @@ use Rattle.prl_lex.specs.declared.tokens.Token.{Token}
 use Rattle.prl_lex.specs.Lexing.{tokens_of}
 use Rattle.prl_reader.specs.Lexemes.{Lexeme}
 use Rattle.prl_reader.specs.Readers.{Stop, Stuck, Deep}
-use Rattle.prl_reader.specs.Whole.{all_at}
+use Rattle.prl_reader.specs.Whole.{all_at, IsFirstUnexpected}
 use Rattle.prl_syntax.specs.declared.parsing.ParseFault.{ParseFault}
 use Rattle.prl_syntax.specs.declared.parsing.ParseFault.TheVariants as faults
+use Rattle.prl_syntax.specs.Grammar.{ProgramText}
 use Rattle.prl_syntax.specs.Lexing.{lexemes_of}
 use Rattle.prl_syntax.specs.Ranges.{out_of_range}
 use Rattle.prl_syntax.specs.Readers.{program_at}
@@ -76,3 +77,36 @@ unfoldable pub parse_of : List ℕ → Result ProgramTree ParseFault
 parse_of text = do
   tokens ← lexed (tokens_of text)
   program_of_tokens (lexemes_of text tokens) (length text)
+
+-- The text is the program: its tokens are a text of the grammar, with this tree, and it is within ranges and limits.
+pub record IsProgramOf (text : List ℕ) (tree : ProgramTree) : Type 0 where
+  pub tokens : List Token
+  pub lexical : tokens_of text ≡ Ok tokens
+  pub written : ProgramText tree (lexemes_of text tokens)
+  pub ranges : out_of_range 0 0 (lexemes_of text tokens) ≡ None
+  pub nodes : length tree.nodes ≤ 256
+
+-- The first unexpected token of the text is at the place: no text of the grammar begins with the tokens up to it.
+pub record IsUnexpectedAt (text : List ℕ) (at : ℕ) : Type 0 where
+  pub tokens : List Token
+  pub left : ℕ
+  pub lexical : tokens_of text ≡ Ok tokens
+  pub first : IsFirstUnexpected ProgramText (lexemes_of text tokens) left
+  pub place : at ≡ place_of (lexemes_of text tokens) left (length text)
+
+-- The number at the place is the first out of its range, in a text of the grammar.
+pub record IsOutOfRangeAt (text : List ℕ) (at : ℕ) : Type 0 where
+  pub tokens : List Token
+  pub tree : ProgramTree
+  pub lexical : tokens_of text ≡ Ok tokens
+  pub written : ProgramText tree (lexemes_of text tokens)
+  pub first : out_of_range 0 0 (lexemes_of text tokens) ≡ Some at
+
+-- what an unexpected token and a number out of its range mean for the text; the other faults are those of its tokens
+-- and limits
+abbrev pub Explains : List ℕ → ParseFault → Type 0
+Explains text (faults.BadToken at) = tokens_of text ≡ Err (lexical.BadToken at)
+Explains text (faults.Unexpected at) = IsUnexpectedAt text at
+Explains text (faults.NumberRange at) = (tokens_of text ≡ Err (lexical.NumberRange at)) ⊎ IsOutOfRangeAt text at
+Explains text (faults.Limit limit) = Unit {0}
+Explains text faults.Memory = Unit {0}

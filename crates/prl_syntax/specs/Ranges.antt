@@ -16,7 +16,10 @@ in_range before last n =
     if last == class_of fixed.Minus then nat_le n 2147483648
     else (if is_count before last then nat_le 1 n && nat_le n 2147483647 else nat_le n 2147483647)
 
+abbrev pub is_fault : ℕ → ℕ → Lexeme → Bool
+is_fault before last t = (t.class == 1) && not (in_range before last t.number)
+
 -- the place of the first number out of its range, behind two tokens of these classes
 unfoldable pub out_of_range : ℕ → ℕ → List Lexeme → Option ℕ
 out_of_range before last [] = None
-out_of_range before last (t ∷ ts) = if (t.class == 1) && not (in_range before last t.number) then Some t.at.at else out_of_range last t.class ts
+out_of_range before last (t ∷ ts) = if is_fault before last t then Some t.at.at else out_of_range last t.class ts

@@ -1,7 +1,7 @@
 //! Ranges of numbers. What stands before a number tells its range.
 
 ghost use Rattle.std.specs.Prelude.{◌≡◌};
-ghost use Rattle.prl_syntax.specs.Ranges.{is_count, in_range, out_of_range};
+ghost use Rattle.prl_syntax.specs.Ranges.{is_count, in_range, is_fault, out_of_range};
 
 use crate::words::{Fixed, class_of};
 use prl_reader::Terminal;
@@ -30,6 +30,13 @@ fn is_in_range(before: u8, last: u8, number: u64) -> bool
     number <= 2_147_483_647
 }
 
+/// Whether the token is a number out of its range, behind two tokens of these classes.
+fn is_fault(before: u8, last: u8, terminal: &Terminal) -> bool
+    ensures { result ≡ is_fault before last terminal.now }
+{
+    terminal.class() == 1 && !is_in_range(before, last, terminal.value())
+}
+
 /// The place of the first number out of its range.
 pub fn out_of_range(terminals: &[Terminal]) -> Option<u32>
     ensures { result ≡ out_of_range 0 0 terminals.now }
@@ -37,7 +44,7 @@ pub fn out_of_range(terminals: &[Terminal]) -> Option<u32>
     let mut before = 0;
     let mut last = 0;
     'each: for terminal in terminals {
-        if terminal.class() == 1 && !is_in_range(before, last, terminal.value()) {
+        if is_fault(before, last, terminal) {
             return Some(terminal.at().at);
         }
         before = last;
