@@ -1,7 +1,7 @@
 -- The program that a text is, or its first fault.
 use Rattle.prl_reader.specs.declared.reading.Stop.{Stop as Stopped}
 use Rattle.prl_reader.specs.declared.reading.Stop.TheVariants as stops
-use Rattle.std.specs.Prelude.{◌≡◌, ◌≤◌, ◌⊎◌, ℕ, ◌-◌, nat_le, List, [], ◌∷◌, length, drop, Option, Some, None, Result, Ok, Err, if◌then◌else◌}
+use Rattle.std.specs.Prelude.{◌≡◌, ◌<◌, ◌≤◌, ◌⊎◌, ℕ, ◌-◌, nat_le, List, [], ◌∷◌, length, drop, Option, Some, None, Result, Ok, Err, if◌then◌else◌}
 use Rattle.prl_base.specs.Reading.{◌>>=◌}
 use Rattle.prl_base.specs.declared.limits.Limit.{Limit}
 use Rattle.prl_base.specs.declared.limits.What.TheVariants as limits
@@ -102,11 +102,20 @@ pub record IsOutOfRangeAt (text : List ℕ) (at : ℕ) : Type 0 where
   pub written : ProgramText tree (lexemes_of text tokens)
   pub first : out_of_range 0 0 (lexemes_of text tokens) ≡ Some at
 
--- what an unexpected token and a number out of its range mean for the text; the other faults are those of its tokens
--- and limits
+-- The text is of the grammar and in range, and has more than 256 nodes.
+pub record HasTooManyNodes (text : List ℕ) (limit : Limit) : Type 0 where
+  pub tokens : List Token
+  pub tree : ProgramTree
+  pub lexical : tokens_of text ≡ Ok tokens
+  pub written : ProgramText tree (lexemes_of text tokens)
+  pub ranges : out_of_range 0 0 (lexemes_of text tokens) ≡ None
+  pub many : 256 < length tree.nodes
+  pub is : limit ≡ record { what = limits.Nodes; found = 257 }
+
+-- what each fault means for the text: it is one of its tokens, or one of the grammar, a range or the limit of nodes
 abbrev pub Explains : List ℕ → ParseFault → Type 0
 Explains text (faults.BadToken at) = tokens_of text ≡ Err (lexical.BadToken at)
 Explains text (faults.Unexpected at) = IsUnexpectedAt text at
 Explains text (faults.NumberRange at) = (tokens_of text ≡ Err (lexical.NumberRange at)) ⊎ IsOutOfRangeAt text at
-Explains text (faults.Limit limit) = Unit {0}
+Explains text (faults.Limit limit) = (tokens_of text ≡ Err (lexical.Limit limit)) ⊎ HasTooManyNodes text limit
 Explains text faults.Memory = Unit {0}

@@ -1,9 +1,9 @@
 //! From a text to its program, or to its first fault.
 
-ghost use Rattle.std.specs.Prelude.{◌≡◌, ◌<◌, ◌^◌, length};
+ghost use Rattle.std.specs.Prelude.{◌≡◌, ◌<◌, ◌^◌, length, IfOk, IfErr, Ok};
 ghost use Rattle.prl_base.specs.Reading.{Gives};
-ghost use Rattle.prl_ast.specs.Trees.{program_tree};
-ghost use Rattle.prl_syntax.specs.Parsing.{fault_of, of_lexical, place_or, FaultOfStop, limited, program_of_tokens, parse_of};
+ghost use Rattle.prl_ast.specs.Trees.{ProgramTree, program_tree};
+ghost use Rattle.prl_syntax.specs.Parsing.{fault_of, of_lexical, place_or, FaultOfStop, limited, program_of_tokens, parse_of, IsProgramOf, Explains};
 
 use crate::nodes::program;
 use crate::ranges::out_of_range;
@@ -103,14 +103,10 @@ fn program_of_tokens(alloc: Global, terminals: &[Terminal], end: u32) -> Result<
     }
 }
 
-/// The program that the text is. Else, in this order: the fault of its tokens; the first token such that no
-/// program begins with the tokens up to it; the first number out of its range; more than 256 nodes; or want of
-/// memory.
 #[tactic(auto, unfolding(crate::specs::Parsing::parse_of))]
-pub fn parse(alloc: Global, text: &[u8]) -> Result<Program, ParseFault>
+fn parsed(alloc: Global, text: &[u8]) -> Result<Program, ParseFault>
     requires { length text.now < 2 ^ 32 }
-    // The program, or the first fault in this order.
-    ensures exact { Gives program_tree fault_of result (parse_of text.now) }
+    ensures { Gives program_tree fault_of result (parse_of text.now) }
 {
     let tokens = match lex(alloc, text) {
         Ok(tokens) => tokens,
@@ -118,4 +114,21 @@ pub fn parse(alloc: Global, text: &[u8]) -> Result<Program, ParseFault>
     };
     let terminals = terminals(alloc, text, tokens.as_slice())?;
     program_of_tokens(alloc, terminals.as_slice(), text.len() as u32)
+}
+
+/// The program that the text is. Else, in this order: the fault of its tokens; the first token such that no
+/// program begins with the tokens up to it; the first number out of its range; more than 256 nodes; or want of
+/// memory.
+pub fn parse(alloc: Global, text: &[u8]) -> Result<Program, ParseFault>
+    requires { length text.now < 2 ^ 32 }
+    // What is read is a program of the grammar, in range and within the limits.
+    ensures found { IfOk result (λ p. IsProgramOf text.now (program_tree p)) }
+    // Each program of the grammar is read, with its tree, unless memory runs out.
+    ensures only { (tree : ProgramTree) → IsProgramOf text.now tree → Gives program_tree fault_of result (Ok tree) }
+    // What each fault means for the text.
+    ensures fault { IfErr result (Explains text.now) }
+    // The program, or the first fault in this order.
+    ensures exact { Gives program_tree fault_of result (parse_of text.now) }
+{
+    parsed(alloc, text)
 }
