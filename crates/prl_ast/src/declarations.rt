@@ -1,0 +1,93 @@
+//! Declarations: imports, sensors, actuators and nodes.
+
+use crate::expressions::Expr;
+use prl_base::{Name, Ratio, Seq, Span, Ty};
+
+/// A program: its declarations, each kind in the order of the text.
+#[derive(Debug, Drop)]
+pub struct Program {
+    pub imports: Seq<Import>,
+    pub sensors: Seq<Device>,
+    pub actuators: Seq<Device>,
+    pub nodes: Seq<Node>,
+}
+
+/// An imported node.
+#[derive(Debug, Drop)]
+pub struct Import {
+    pub name: Name,
+    pub ins: Seq<Port>,
+    pub outs: Seq<Port>,
+    /// Its worst-case execution time in ticks, 1 to 2^31 - 1.
+    pub wcet: u32,
+    /// The name.
+    pub at: Span,
+}
+
+/// An input or an output of an import.
+#[derive(Debug, Drop)]
+pub struct Port {
+    pub name: Name,
+    pub ty: Ty,
+    /// The name.
+    pub at: Span,
+}
+
+/// A sensor or an actuator.
+#[derive(Debug, Drop)]
+pub struct Device {
+    pub name: Name,
+    /// Its worst-case execution time in ticks, 1 to 2^31 - 1.
+    pub wcet: u32,
+    /// The name.
+    pub at: Span,
+}
+
+/// A node of the program.
+#[derive(Debug, Drop)]
+pub struct Node {
+    pub name: Name,
+    pub ins: Seq<Param>,
+    pub outs: Seq<Param>,
+    pub locals: Seq<Param>,
+    pub eqs: Seq<Equation>,
+    /// The name.
+    pub at: Span,
+}
+
+/// An input, an output or a local variable of a node, with what its note says.
+#[derive(Debug, Drop)]
+pub struct Param {
+    pub name: Name,
+    pub ty: Option<Ty>,
+    pub rate: Option<Rate>,
+    /// A relative deadline in ticks, 0 to 2^31 - 1.
+    pub due: Option<u32>,
+    /// The name.
+    pub at: Span,
+}
+
+/// The clock `rate (period, phase)`: its first date is `period * phase`.
+#[derive(Clone, Copy, Debug, PartialEq, Eq)]
+pub struct Rate {
+    /// In ticks, 1 to 2^31 - 1.
+    pub period: u32,
+    /// In periods.
+    pub phase: Ratio,
+}
+
+/// The flows on the left are those of the expression.
+#[derive(Debug, Drop)]
+pub struct Equation {
+    pub lefts: Seq<Placed>,
+    pub right: Expr,
+    /// The first token.
+    pub at: Span,
+}
+
+/// A name where it stands in the text.
+#[derive(Debug, Drop)]
+pub struct Placed {
+    pub name: Name,
+    pub at: Span,
+}

@@ -1,0 +1,26 @@
+-- Whole texts, and the first token that is unexpected.
+use Rattle.std.specs.Prelude.{◌≡◌, ◌==◌, ℕ, List, [], ◌∷◌, ◌++◌, length, Result, Ok, Err, if◌then◌else◌}
+use Rattle.prl_base.specs.Reading.{◌>>=◌}
+use Rattle.prl_reader.specs.Lexemes.{Lexeme}
+use Rattle.prl_reader.specs.Readers.{Stop, Stuck, Read}
+use Rattle.prl_reader.specs.Reads.{next_class}
+
+-- all tokens are read
+abbrev pub ended : {A : Type 0} → A → List Lexeme → Result A Stop
+ended a [] = Ok a
+ended a (t ∷ ts) = Err (Stuck (length (t ∷ ts)))
+
+abbrev pub all_at : {A : Type 0} → (List Lexeme → Read A) → List Lexeme → Result A Stop
+all_at read ts = do
+  x ← read ts
+  ended x.0 x.1
+
+-- The first unexpected token, or the end, with so many tokens left: the tokens before it begin a text of the grammar,
+-- and no text of the grammar goes on from them with a token of its class (where the end is unexpected: ends there).
+pub record IsFirstUnexpected {A : Type 0} (W : A → List Lexeme → Type 0) (ts : List Lexeme) (left : ℕ) : Type 0 where
+  pub taken : List Lexeme
+  pub rest : List Lexeme
+  pub whole : ts ≡ taken ++ rest
+  pub count : left ≡ length rest
+  pub begun : (a : A) × (more : List Lexeme) × W a (taken ++ more)
+  pub no_text : (a : A) (other : List Lexeme) → next_class rest ≡ next_class other → W a (taken ++ other) → ⊥

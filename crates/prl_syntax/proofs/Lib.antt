@@ -1,0 +1,13 @@
+pub mod Simple
+pub mod Loops
+pub mod Ratios
+pub mod Lists
+pub mod Groups
+pub mod Chains
+pub mod Trees
+pub mod Program
+pub mod Links
+pub mod Rows
+pub mod Applied
+pub mod RangeFaults
+pub mod WholeTexts

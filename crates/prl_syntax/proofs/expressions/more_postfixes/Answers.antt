@@ -1,0 +1,17 @@
+use Rattle.std.proofs.Common.{sym, ◌∙◌}
+use Rattle.std.proofs.lemmas.Result.{err_from_is_err_and}
+use Rattle.prl_syntax.proofs.Loops.{Steps, goes_on, halts, fails}
+use Rattle.prl_syntax.proofs.Chains.{postfix_steps}
+use Rattle.prl_syntax.proofs.expressions.more_postfixes.Goals as goal
+
+pub returns : goal.returns
+returns c = halts postfix_steps _ _ _ (sym c.begins_postfix.ensures ∙ c.more-test.false) c.more.invariant
+
+pub returns-in-Err : goal.returns-in-Err
+returns-in-Err c = fails postfix_steps c.in-Err.stop _ c.more.rest.now _ (sym c.begins_postfix.ensures ∙ c.more-test.true) c.in-Err.ensures c.more.invariant
+
+pub more-smaller : goal.more-smaller
+more-smaller c = postfix_steps.fewer c.more.rest.now _ _ c.in-Ok.ensures
+
+pub more-preserved : goal.more-preserved
+more-preserved c = rw c.in_ok-push.ensures.items (goes_on postfix_steps _ _ _ _ _ (sym c.begins_postfix.ensures ∙ c.more-test.true) c.in-Ok.ensures c.more.invariant)

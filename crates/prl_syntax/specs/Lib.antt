@@ -1,0 +1,12 @@
+pub mod Words
+pub mod Values
+pub mod Trees
+pub mod Grammar
+pub mod Readers
+pub mod Loops
+pub mod Groups
+pub mod Links
+pub mod Nodes
+pub mod Lexing
+pub mod Ranges
+pub mod Parsing

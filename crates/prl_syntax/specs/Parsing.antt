@@ -1,0 +1,121 @@
+-- The program that a text is, or its first fault.
+use Rattle.prl_reader.specs.declared.reading.Stop.{Stop as Stopped}
+use Rattle.prl_reader.specs.declared.reading.Stop.TheVariants as stops
+use Rattle.std.specs.Prelude.{◌≡◌, ◌<◌, ◌≤◌, ◌⊎◌, ℕ, ◌-◌, nat_le, List, [], ◌∷◌, length, drop, Option, Some, None, Result, Ok, Err, if◌then◌else◌}
+use Rattle.prl_base.specs.Reading.{◌>>=◌}
+use Rattle.prl_base.specs.declared.limits.Limit.{Limit}
+use Rattle.prl_base.specs.declared.limits.What.TheVariants as limits
+use Rattle.prl_ast.specs.Trees.{ProgramTree}
+use Rattle.prl_lex.specs.declared.tokens.LexFault.{LexFault}
+use Rattle.prl_lex.specs.declared.tokens.LexFault.TheVariants as lexical
+use Rattle.prl_lex.specs.declared.tokens.Token.{Token}
+use Rattle.prl_lex.specs.Lexing.{tokens_of}
+use Rattle.prl_reader.specs.Lexemes.{Lexeme}
+use Rattle.prl_reader.specs.Readers.{Stop, Stuck, Deep}
+use Rattle.prl_reader.specs.Whole.{all_at, IsFirstUnexpected}
+use Rattle.prl_syntax.specs.declared.parsing.ParseFault.{ParseFault}
+use Rattle.prl_syntax.specs.declared.parsing.ParseFault.TheVariants as faults
+use Rattle.prl_syntax.specs.Grammar.{ProgramText}
+use Rattle.prl_syntax.specs.Lexing.{lexemes_of}
+use Rattle.prl_syntax.specs.Ranges.{out_of_range}
+use Rattle.prl_syntax.specs.Readers.{program_at}
+
+-- want of memory is no fault of the text
+abbrev pub fault_of : ParseFault → Option ParseFault
+fault_of (faults.BadToken at) = Some (faults.BadToken at)
+fault_of (faults.Unexpected at) = Some (faults.Unexpected at)
+fault_of (faults.NumberRange at) = Some (faults.NumberRange at)
+fault_of (faults.Limit limit) = Some (faults.Limit limit)
+fault_of faults.Memory = None
+
+abbrev pub of_lexical : LexFault → ParseFault
+of_lexical (lexical.BadToken at) = faults.BadToken at
+of_lexical (lexical.NumberRange at) = faults.NumberRange at
+of_lexical (lexical.Limit limit) = faults.Limit limit
+of_lexical lexical.Memory = faults.Memory
+
+abbrev pub lexed : Result (List Token) LexFault → Result (List Token) ParseFault
+lexed (Ok tokens) = Ok tokens
+lexed (Err fault) = Err (of_lexical fault)
+
+-- the place of the first of the tokens, or the end of the text
+abbrev pub place_or : ℕ → List Lexeme → ℕ
+place_or end [] = end
+place_or end (t ∷ ts) = t.at.at
+
+-- the place behind which so many tokens are left, its own among them
+abbrev pub place_of : List Lexeme → ℕ → ℕ → ℕ
+place_of ts left end = place_or end (drop (length ts - left) ts)
+
+abbrev pub of_stop : List Lexeme → ℕ → Stop → ParseFault
+of_stop ts end (Stuck left) = faults.Unexpected (place_of ts left end)
+of_stop ts end Deep = faults.Memory
+
+abbrev pub placed : List Lexeme → ℕ → Result ProgramTree Stop → Result ProgramTree ParseFault
+placed ts end (Ok tree) = Ok tree
+placed ts end (Err stop) = Err (of_stop ts end stop)
+
+-- what the code answers where its reader stopped
+abbrev pub FaultOfStop : List Lexeme → ℕ → Stopped → ParseFault → Type 0
+FaultOfStop ts end (stops.Unexpected left) fault = fault ≡ faults.Unexpected (place_of ts left end)
+FaultOfStop ts end stops.Memory fault = fault ≡ faults.Memory
+
+-- at most 256 nodes
+abbrev pub limited : ProgramTree → Result ProgramTree ParseFault
+limited tree = if nat_le (length tree.nodes) 256 then Ok tree else Err (faults.Limit (record { what = limits.Nodes; found = 257 }))
+
+abbrev pub ranged : Option ℕ → ProgramTree → Result ProgramTree ParseFault
+ranged None tree = limited tree
+ranged (Some at) tree = Err (faults.NumberRange at)
+
+unfoldable pub program_of_tokens : List Lexeme → ℕ → Result ProgramTree ParseFault
+program_of_tokens ts end = do
+  tree ← placed ts end (all_at program_at ts)
+  ranged (out_of_range 0 0 ts) tree
+
+unfoldable pub parse_of : List ℕ → Result ProgramTree ParseFault
+parse_of text = do
+  tokens ← lexed (tokens_of text)
+  program_of_tokens (lexemes_of text tokens) (length text)
+
+-- The text is the program: its tokens are a text of the grammar, with this tree, and it is within ranges and limits.
+pub record IsProgramOf (text : List ℕ) (tree : ProgramTree) : Type 0 where
+  pub tokens : List Token
+  pub lexical : tokens_of text ≡ Ok tokens
+  pub written : ProgramText tree (lexemes_of text tokens)
+  pub ranges : out_of_range 0 0 (lexemes_of text tokens) ≡ None
+  pub nodes : length tree.nodes ≤ 256
+
+-- The first unexpected token of the text is at the place: no text of the grammar begins with the tokens up to it.
+pub record IsUnexpectedAt (text : List ℕ) (at : ℕ) : Type 0 where
+  pub tokens : List Token
+  pub left : ℕ
+  pub lexical : tokens_of text ≡ Ok tokens
+  pub first : IsFirstUnexpected ProgramText (lexemes_of text tokens) left
+  pub place : at ≡ place_of (lexemes_of text tokens) left (length text)
+
+-- The number at the place is the first out of its range, in a text of the grammar.
+pub record IsOutOfRangeAt (text : List ℕ) (at : ℕ) : Type 0 where
+  pub tokens : List Token
+  pub tree : ProgramTree
+  pub lexical : tokens_of text ≡ Ok tokens
+  pub written : ProgramText tree (lexemes_of text tokens)
+  pub first : out_of_range 0 0 (lexemes_of text tokens) ≡ Some at
+
+-- The text is of the grammar and in range, and has more than 256 nodes.
+pub record HasTooManyNodes (text : List ℕ) (limit : Limit) : Type 0 where
+  pub tokens : List Token
+  pub tree : ProgramTree
+  pub lexical : tokens_of text ≡ Ok tokens
+  pub written : ProgramText tree (lexemes_of text tokens)
+  pub ranges : out_of_range 0 0 (lexemes_of text tokens) ≡ None
+  pub many : 256 < length tree.nodes
+  pub is : limit ≡ record { what = limits.Nodes; found = 257 }
+
+-- what each fault means for the text: it is one of its tokens, or one of the grammar, a range or the limit of nodes
+abbrev pub Explains : List ℕ → ParseFault → Type 0
+Explains text (faults.BadToken at) = tokens_of text ≡ Err (lexical.BadToken at)
+Explains text (faults.Unexpected at) = IsUnexpectedAt text at
+Explains text (faults.NumberRange at) = (tokens_of text ≡ Err (lexical.NumberRange at)) ⊎ IsOutOfRangeAt text at
+Explains text (faults.Limit limit) = (tokens_of text ≡ Err (lexical.Limit limit)) ⊎ HasTooManyNodes text limit
+Explains text faults.Memory = Unit {0}

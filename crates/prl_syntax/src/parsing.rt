@@ -1,0 +1,134 @@
+//! From a text to its program, or to its first fault.
+
+ghost use Rattle.std.specs.Prelude.{◌≡◌, ◌<◌, ◌^◌, length, IfOk, IfErr, Ok};
+ghost use Rattle.prl_base.specs.Reading.{Gives};
+ghost use Rattle.prl_ast.specs.Trees.{ProgramTree, program_tree};
+ghost use Rattle.prl_syntax.specs.Parsing.{fault_of, of_lexical, place_or, FaultOfStop, limited, program_of_tokens, parse_of, IsProgramOf, Explains};
+
+use crate::nodes::program;
+use crate::ranges::out_of_range;
+use crate::terminals::terminals;
+use prl_ast::Program;
+use prl_base::{Limit, What};
+use prl_lex::{LexFault, lex};
+use prl_reader::{Stop, Terminal};
+use std::alloc::{AllocError, Global};
+
+/// The most nodes of a program.
+const MAX_NODES: usize = 256;
+
+/// Why a text is no program.
+#[derive(Clone, Copy, Debug, PartialEq, Eq)]
+pub enum ParseFault {
+    /// No token begins at this byte.
+    BadToken(u32),
+    /// No program begins with the tokens up to the one at this byte, or up to the end of the text.
+    Unexpected(u32),
+    /// The number at this byte is out of its range.
+    NumberRange(u32),
+    /// A name of more than 64 bytes, more than 64 open parentheses, or more than 256 nodes.
+    Limit(Limit),
+    Memory,
+}
+
+impl From<AllocError> for ParseFault {
+    ghost use Rattle.std.specs.Prelude.{◌≡◌};
+    ghost use Rattle.prl_syntax.specs.declared.parsing.ParseFault.TheVariants.{Memory};
+
+    ghost from_gives = { λ _ e. e ≡ Memory };
+
+    fn from(_error: AllocError) -> ParseFault {
+        ParseFault::Memory
+    }
+}
+
+fn of_lexical(fault: LexFault) -> ParseFault
+    ensures { result ≡ of_lexical fault }
+{
+    match fault {
+        LexFault::BadToken(at) => ParseFault::BadToken(at),
+        LexFault::NumberRange(at) => ParseFault::NumberRange(at),
+        LexFault::Limit(limit) => ParseFault::Limit(limit),
+        LexFault::Memory => ParseFault::Memory,
+    }
+}
+
+/// The place of the first of the tokens, or the end of the text.
+fn place_or(end: u32, terminals: &[Terminal]) -> u32
+    ensures { result ≡ place_or end terminals.now }
+{
+    match terminals {
+        [] => end,
+        [first, ..] => first.at().at,
+    }
+}
+
+fn of_stop(terminals: &[Terminal], end: u32, stop: Stop) -> ParseFault
+    ensures { FaultOfStop terminals.now end stop result }
+{
+    match stop {
+        Stop::Unexpected(left) => {
+            let (_, rest) = terminals.split_at(terminals.len().saturating_sub(left));
+            ParseFault::Unexpected(place_or(end, rest))
+        }
+        Stop::Memory => ParseFault::Memory,
+    }
+}
+
+/// The program, if it has at most 256 nodes.
+fn limited(program: Program) -> Result<Program, ParseFault>
+    ensures { Gives program_tree fault_of result (limited (program_tree program)) }
+{
+    if program.nodes.len() > MAX_NODES {
+        return Err(ParseFault::Limit(Limit {
+            what: What::Nodes,
+            found: 257,
+        }));
+    }
+    Ok(program)
+}
+
+/// The program that the tokens are.
+#[tactic(auto, unfolding(crate::specs::Parsing::program_of_tokens))]
+fn program_of_tokens(alloc: Global, terminals: &[Terminal], end: u32) -> Result<Program, ParseFault>
+    ensures { Gives program_tree fault_of result (program_of_tokens terminals.now end) }
+{
+    let program = match program(alloc, terminals) {
+        Ok(program) => program,
+        Err(stop) => return Err(of_stop(terminals, end, stop)),
+    };
+    match out_of_range(terminals) {
+        Some(at) => Err(ParseFault::NumberRange(at)),
+        None => limited(program),
+    }
+}
+
+#[tactic(auto, unfolding(crate::specs::Parsing::parse_of))]
+fn parsed(alloc: Global, text: &[u8]) -> Result<Program, ParseFault>
+    requires { length text.now < 2 ^ 32 }
+    ensures { Gives program_tree fault_of result (parse_of text.now) }
+{
+    let tokens = match lex(alloc, text) {
+        Ok(tokens) => tokens,
+        Err(fault) => return Err(of_lexical(fault)),
+    };
+    let terminals = terminals(alloc, text, tokens.as_slice())?;
+    program_of_tokens(alloc, terminals.as_slice(), text.len() as u32)
+}
+
+/// The program that the text is. Else, in this order: the fault of its tokens; the first token such that no
+/// program begins with the tokens up to it; the first number out of its range; more than 256 nodes; or want of
+/// memory.
+pub fn parse(alloc: Global, text: &[u8]) -> Result<Program, ParseFault>
+    requires { length text.now < 2 ^ 32 }
+    // What is read is a program of the grammar, in range and within the limits.
+    ensures found { IfOk result (λ p. IsProgramOf text.now (program_tree p)) }
+    // Each program of the grammar is read, with its tree, unless memory runs out.
+    ensures only { (tree : ProgramTree) → IsProgramOf text.now tree → Gives program_tree fault_of result (Ok tree) }
+    // What each fault means for the text.
+    ensures fault { IfErr result (Explains text.now) }
+    // The program, or the first fault in this order.
+    ensures exact { Gives program_tree fault_of result (parse_of text.now) }
+{
+    parsed(alloc, text)
+}
