@@ -52,12 +52,13 @@ def_of (Slower factor) of = definitions.Op (operators.Down factor) of
 abbrev pub is_among : List ℕ → List Token → Token → Bool
 is_among text names name = list_any (same text name) names
 
--- the output and the locals are defined, each by one equation
+-- an equation may define the output or a local that has no flow so far
 abbrev pub may_define : List ℕ → Parts → List Link → Token → Bool
 may_define text p links name =
     (same text name p.head.output || is_among text p.locals name) && not (is_linked text links name)
 
--- the flow of an equation, behind the flows of the input and of the equations before it
+-- the flow of an equation behind the flows of the input and of the equations before it: the flow that it uses is one
+-- of those
 abbrev pub link_with : List ℕ → Parts → List Link → Equation → Option ℕ → Option Link
 link_with text p links e None = None
 link_with text p links e (Some period) =

@@ -231,7 +231,7 @@ fn node_at<'a>(text: &[u8], tokens: &'a [Token]) -> Read<'a, ((Token, u32), Toke
     Some(((input, output), rest))
 }
 
-/// `/^ NUMBER` or nothing; the option is what stands behind `/^`.
+/// /^ NUMBER or nothing; the option is what stands behind `/^`
 fn slower_or_same<'a>(tokens: &'a [Token], behind: Option<&'a [Token]>) -> Read<'a, Right>
     ensures exact { option_map (λ r. (r.0, r.1.now)) result ≡ slower_or_same tokens.now (option_map (λ rest. rest.now) behind.entry) }
     ensures right { IfSome result (λ r. IsRight r.0) }
@@ -375,7 +375,7 @@ fn locals_at<'a>(
     }
 }
 
-/// The declarations.
+/// The devices, the node's input with its period, and its output.
 #[tactic(auto, unfolding(crate::specs::Chains::head_at))]
 fn head_at<'a>(text: &[u8], tokens: &'a [Token]) -> Read<'a, Head>
     ensures exact { option_map (λ r. (r.0, r.1.now)) result ≡ head_at text.now tokens.now }
