@@ -72,13 +72,13 @@ at_length {A} {W} {s} r bound family agree = record {
   sound = λ ts. (family (length ts) 0 (omega arith) (omega arith)).sound ts;
   stuck = λ ts. (family (length ts) 0 (omega arith) (omega arith)).stuck ts;
   local = λ w rest other a c e.
-    let d : ℕ = length (w ++ rest) + length (w ++ other) in
-    agree (length (w ++ other)) d (w ++ other) (omega arith) (omega arith)
-    ∙ (family d 0 (omega arith) (omega arith)).local w rest other a c (agree d (length (w ++ rest)) (w ++ rest) (omega arith) (omega arith) ∙ e);
+      let d : ℕ = length (w ++ rest) + length (w ++ other) in
+      agree (length (w ++ other)) d (w ++ other) (omega arith) (omega arith)
+      ∙ (family d 0 (omega arith) (omega arith)).local w rest other a c (agree d (length (w ++ rest)) (w ++ rest) (omega arith) (omega arith) ∙ e);
   local_stuck = λ w rest other c e.
-    let d : ℕ = length (w ++ rest) + length (w ++ other) in
-    agree (length (w ++ other)) d (w ++ other) (omega arith) (omega arith)
-    ∙ (family d 0 (omega arith) (omega arith)).local_stuck w rest other c (agree d (length (w ++ rest)) (w ++ rest) (omega arith) (omega arith) ∙ e);
+      let d : ℕ = length (w ++ rest) + length (w ++ other) in
+      agree (length (w ++ other)) d (w ++ other) (omega arith) (omega arith)
+      ∙ (family d 0 (omega arith) (omega arith)).local_stuck w rest other c (agree d (length (w ++ rest)) (w ++ rest) (omega arith) (omega arith) ∙ e);
   complete = λ a w rest le h stops. (family (length (w ++ rest)) (length w) (omega (arith, length-append w rest)) le).complete a w rest (omega arith) h stops;
   begins = (family 0 0 (omega arith) (omega arith)).begins;
   example = (family 0 0 (omega arith) (omega arith)).example;
@@ -190,9 +190,9 @@ module _ {A : Type 0} {W : A → List Lexeme → Type 0} {s : Shape} {p : List L
   unfolding many_up_to item_shape Item
   step n k m within small room others =
       let behind : (a : A) → Reads m (Then (Many W) (λ rest. Give (a ∷ rest))) (then_shape (many_shape s) give_shape) (then_read (many_up_to s.first p n) (λ rest. give (a ∷ rest))) =
-          λ a. bind_reads m m m others (λ rest. give_reads m (a ∷ rest)) (apart_nil (s.first ++ s.more)) (λ u v b le. (omega (arith, length-append u v), omega (arith, length-append u v))) in
+      λ a. bind_reads m m m others (λ rest. give_reads m (a ∷ rest)) (apart_nil (s.first ++ s.more)) (λ u v b le. (omega (arith, length-append u v), omega (arith, length-append u v))) in
       let one : Reads k Item (then_shape s (then_shape (many_shape s) give_shape)) (then_read p (λ a. then_read (many_up_to s.first p n) (λ rest. give (a ∷ rest)))) =
-          bind_reads k k m (lower k bound within reads) behind (λ c h. ap (is_in c) (append-nil s.first) ∙ apart c h) room in
+      bind_reads k k m (lower k bound within reads) behind (λ c h. ap (is_in c) (append-nil s.first) ∙ apart c h) room in
       restate k (choice_reads k (restate {r = item_shape} k one (λ xs w h. h) (λ xs w h. h) item_widens) (give_reads k []) refl (apart_nil s.first)) to_many from_many many_widens
 
   family : (n k : ℕ) → k ≤ n → k ≤ bound → Reads k (Many W) (many_shape s) (many_up_to s.first p n)

@@ -19,7 +19,10 @@ tel
 fn sampling(rt: HostRuntime) -> Result<(), Fail> {
     let program = parse(rt.alloc(), SAMPLING)?;
     assert_eq!(rt; program.imports.len(), 2);
-    assert_eq!(rt; program.imports.as_slice()[0].outs.as_slice()[1].ty, Ty::Int);
+    assert_eq!(rt;
+        program.imports.as_slice()[0].outs.as_slice()[1].ty,
+        Ty::Int
+    );
     assert_eq!(rt; program.imports.as_slice()[1].wcet, 10);
     assert_eq!(rt; program.sensors.len(), 1);
     assert_eq!(rt; program.actuators.len(), 1);
@@ -32,7 +35,10 @@ fn sampling(rt: HostRuntime) -> Result<(), Fail> {
     assert!(rt; node.ins.as_slice()[0].rate == Some(rate));
     assert_eq!(rt; node.locals.len(), 2);
     assert_eq!(rt; node.eqs.len(), 2);
-    assert_eq!(rt; node.eqs.as_slice()[0].lefts.as_slice()[1].name.bytes(), b"vf".as_slice());
+    assert_eq!(rt;
+        node.eqs.as_slice()[0].lefts.as_slice()[1].name.bytes(),
+        b"vf".as_slice()
+    );
     Ok(())
 }
 
@@ -110,19 +116,10 @@ fn ranges(rt: HostRuntime) -> Result<(), Fail> {
         )
     );
     assert!(rt; parse(alloc, b"sensor i wcet 2147483647;").is_ok());
-    assert!(rt;
-        parse(
-            alloc,
-            b"node n () returns (o) let o = -2147483648; tel",
-        )
-        .is_ok()
-    );
+    assert!(rt; parse(alloc, b"node n () returns (o) let o = -2147483648; tel",).is_ok());
     assert!(rt;
         matches!(
-            parse(
-                alloc,
-                b"node n () returns (o) let o = 2147483648; tel",
-            ),
+            parse(alloc, b"node n () returns (o) let o = 2147483648; tel",),
             Err(ParseFault::NumberRange(30))
         )
     );
