@@ -9,3 +9,7 @@ pub mod TwoHorizon
 pub mod Actions
 pub mod RoundSteps
 pub mod RoundLaws
+pub mod Floors
+pub mod StretchLaws
+pub mod DeadlineLaws
+pub mod DeadlineSteps

@@ -37,7 +37,7 @@ le-self : (a : ℤ) → a ≤ℤ a
 le-self a = omega (arith, ints)
 
 -- a task that an edge comes from is one of the graph
-source-inside : (graph : TaskGraph) (edge : Edge) → IsEdge graph edge → (from : Producer) → edge.from ≡ from → (i : ℕ) → ComesFrom from i → i < length graph.tasks
+pub source-inside : (graph : TaskGraph) (edge : Edge) → IsEdge graph edge → (from : Producer) → edge.from ≡ from → (i : ℕ) → ComesFrom from i → i < length graph.tasks
 source-inside graph edge is (producers.Constant value) from i comes = absurd comes
 source-inside graph edge is (producers.Port task out) from i comes =
     let source : IsSource graph edge is.clocks.0 (producers.Port task out) = subst (λ (p : Producer). IsSource graph edge is.clocks.0 p) from is.clocks.2 in

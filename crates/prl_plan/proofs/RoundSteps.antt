@@ -14,7 +14,7 @@ use Rattle.prl_plan.specs.Precedence.{preceding}
 use Rattle.prl_plan.specs.Rounds.{asked, asked_of, latest, releases_after}
 
 -- behind the last edge nothing is asked
-drop-all : {A : Type 0} (xs : List A) (k : ℕ) → length xs ≤ k → drop k xs ≡ []
+pub drop-all : {A : Type 0} (xs : List A) (k : ℕ) → length xs ≤ k → drop k xs ≡ []
 drop-all [] zero h = refl
 drop-all [] (suc k) h = refl
 drop-all (x ∷ xs) zero h = absurd (omega arith)

@@ -13,3 +13,5 @@ pub mod Horizons
 pub mod TwoTasks
 pub mod Devices
 pub mod Rounds
+pub mod Stretches
+pub mod Deadlines

@@ -3,6 +3,7 @@
 //! `prl_base` alone.
 #![tactic(auto)]
 
+mod deadlines;
 mod events;
 mod facts;
 mod graphs;
@@ -15,6 +16,7 @@ mod tables;
 mod tests;
 mod walks;
 
+pub use deadlines::{Stretch, deadline_after, following_jobs, rounds_reach_the_greatest_deadlines};
 pub use events::{Action, Event, Rule};
 pub use facts::{
     actions_are_as_defined, horizon_jobs_are_counted, plan_facts, plan_is_one, plan_links_devices,

@@ -20,7 +20,7 @@ pub struct AnyJob {
 }
 
 /// The whole number just below or at `n / k`.
-fn floor_div(n: i64, k: u32) -> i64
+pub(crate) fn floor_div(n: i64, k: u32) -> i64
     requires { 0 < k }
     ensures { result ≡ floor_div n k }
 {
@@ -50,14 +50,14 @@ pub fn preceding_job(ops: &[Op], n: i64) -> Option<i64>
 }
 
 /// The task of this number, if there is one.
-fn task_in(graph: &TaskGraph, i: TaskNo) -> Option<&Task>
+pub(crate) fn task_in(graph: &TaskGraph, i: TaskNo) -> Option<&Task>
     ensures { IfSome result (λ task. task.now ≡ task_at graph.now i.0) }
 {
     graph.tasks.as_slice().get(i.0 as usize)
 }
 
 /// When job `m` of a task is released, in ticks, or `None` where that does not fit.
-fn release_of_job(task: &Task, m: i64) -> Option<i64>
+pub(crate) fn release_of_job(task: &Task, m: i64) -> Option<i64>
     ensures { IfSome result (λ r. r ≡ release_of task.now m) }
 {
     let start = i64::try_from(task.clock.start).ok()?;

@@ -1,6 +1,6 @@
 use crate::{
-    Action, AnyJob, Edge, Horizon, Kind, Operand, Plan, Producer, Task, TaskGraph, release_after,
-    walk_back,
+    Action, AnyJob, Edge, Horizon, Kind, Operand, Plan, Producer, Task, TaskGraph, deadline_after,
+    release_after, walk_back,
 };
 use prl_base::{CellNo, Clock, EdgeNo, Label, Limit, Op, Seq, TaskNo, Ty, Value, What};
 use std::alloc::AllocError;
@@ -114,6 +114,20 @@ fn fast_and_slow(rt: &HostRuntime) -> Result<TaskGraph, AllocError> {
         edges: Seq::new(edges),
         hyper: 30,
     })
+}
+
+#[test]
+fn deadlines_by_rounds(rt: HostRuntime) -> Result<(), Fail> {
+    let graph = fast_and_slow(&rt)?;
+    for (i, number, deadline) in [(0, 2, 27), (1, 1, 19), (2, 0, 30), (3, 0, 10), (3, 2, 30)] {
+        let job = AnyJob {
+            task: TaskNo(i),
+            number,
+        };
+        assert_eq!(rt; deadline_after(&graph, 3, job), Some(deadline));
+        assert_eq!(rt; deadline_after(&graph, 4, job), Some(deadline));
+    }
+    Ok(())
 }
 
 #[test]
