@@ -1,15 +1,15 @@
 -- Readers of many texts in a row, and of grammars that contain themselves.
-use Rattle.std.proofs.Common.{◌≡◌, ◌==◌, ◌⊎◌, ℕ, zero, suc, ◌+◌, ◌≤◌, ◌<◌, Bool, true, false, cond, ◌||◌, ◌&&◌, List, [], ◌∷◌, ◌++◌, length, Result, Ok, Err, Option, Some, None, refl, sym, ap, ◌∙◌, subst, inl, inr, ⊎_elim, arith, length-append, append_assoc}
-use Rattle.std.proofs.lemmas.Bool.{cond-true, cond-false, cases_Bool, false≢true, and_left, or_from}
+use Rattle.std.proofs.Common.{◌≡◌, ℕ, zero, suc, ◌+◌, ◌≤◌, ◌<◌, true, false, cond, List, [], ◌∷◌, ◌++◌, length, Ok, Err, refl, sym, ap, ◌∙◌, subst, inl, inr, arith, length-append}
+use Rattle.std.proofs.lemmas.Bool.{cond-false, false≢true, and_left, or_from}
 use Rattle.std.proofs.lemmas.List.{append-nil}
 use Rattle.prl_base.specs.Reading.{◌>>=◌}
 use Rattle.prl_reader.specs.Lexemes.{Lexeme}
-use Rattle.prl_reader.specs.Grammars.{One, Then, Give, Either, Many}
-use Rattle.prl_reader.specs.Readers.{Stop, Stuck, Deep, Read, is_in, next_in, one_at, choice, many_up_to, many_at}
-use Rattle.prl_reader.specs.Reads.{Shape, then_shape, either_shape, many_shape, StopsBefore, Begins, next_class, CanComplete, Taken, Reads}
-use Rattle.prl_reader.proofs.Basics.{Both, bind_ok, Apart, is_in-append}
+use Rattle.prl_reader.specs.Grammars.{Then, Give, Either, Many}
+use Rattle.prl_reader.specs.Readers.{Deep, Read, is_in, next_in, choice, many_up_to, many_at}
+use Rattle.prl_reader.specs.Reads.{Shape, then_shape, either_shape, many_shape, Begins, Reads}
+use Rattle.prl_reader.proofs.Basics.{Apart, is_in-append}
 use Rattle.prl_reader.proofs.Steps.{give, give_shape, give_reads}
-use Rattle.prl_reader.proofs.Sequences.{stops_in, not_left, not_right, in_left, in_right, then_begins, then_read, bind_reads, choice_reads}
+use Rattle.prl_reader.proofs.Sequences.{stops_in, not_left, not_right, then_read, bind_reads, choice_reads}
 
 -- the other shape allows what this one does
 pub record Widens (s r : Shape) : Type 0 where
@@ -72,13 +72,13 @@ at_length {A} {W} {s} r bound family agree = record {
   sound = λ ts. (family (length ts) 0 (omega arith) (omega arith)).sound ts;
   stuck = λ ts. (family (length ts) 0 (omega arith) (omega arith)).stuck ts;
   local = λ w rest other a c e.
-    let d : ℕ = length (w ++ rest) + length (w ++ other) in
-    agree (length (w ++ other)) d (w ++ other) (omega arith) (omega arith)
-    ∙ (family d 0 (omega arith) (omega arith)).local w rest other a c (agree d (length (w ++ rest)) (w ++ rest) (omega arith) (omega arith) ∙ e);
+      let d : ℕ = length (w ++ rest) + length (w ++ other) in
+      agree (length (w ++ other)) d (w ++ other) (omega arith) (omega arith)
+      ∙ (family d 0 (omega arith) (omega arith)).local w rest other a c (agree d (length (w ++ rest)) (w ++ rest) (omega arith) (omega arith) ∙ e);
   local_stuck = λ w rest other c e.
-    let d : ℕ = length (w ++ rest) + length (w ++ other) in
-    agree (length (w ++ other)) d (w ++ other) (omega arith) (omega arith)
-    ∙ (family d 0 (omega arith) (omega arith)).local_stuck w rest other c (agree d (length (w ++ rest)) (w ++ rest) (omega arith) (omega arith) ∙ e);
+      let d : ℕ = length (w ++ rest) + length (w ++ other) in
+      agree (length (w ++ other)) d (w ++ other) (omega arith) (omega arith)
+      ∙ (family d 0 (omega arith) (omega arith)).local_stuck w rest other c (agree d (length (w ++ rest)) (w ++ rest) (omega arith) (omega arith) ∙ e);
   complete = λ a w rest le h stops. (family (length (w ++ rest)) (length w) (omega (arith, length-append w rest)) le).complete a w rest (omega arith) h stops;
   begins = (family 0 0 (omega arith) (omega arith)).begins;
   example = (family 0 0 (omega arith) (omega arith)).example;
@@ -190,9 +190,9 @@ module _ {A : Type 0} {W : A → List Lexeme → Type 0} {s : Shape} {p : List L
   unfolding many_up_to item_shape Item
   step n k m within small room others =
       let behind : (a : A) → Reads m (Then (Many W) (λ rest. Give (a ∷ rest))) (then_shape (many_shape s) give_shape) (then_read (many_up_to s.first p n) (λ rest. give (a ∷ rest))) =
-          λ a. bind_reads m m m others (λ rest. give_reads m (a ∷ rest)) (apart_nil (s.first ++ s.more)) (λ u v b le. (omega (arith, length-append u v), omega (arith, length-append u v))) in
+      λ a. bind_reads m m m others (λ rest. give_reads m (a ∷ rest)) (apart_nil (s.first ++ s.more)) (λ u v b le. (omega (arith, length-append u v), omega (arith, length-append u v))) in
       let one : Reads k Item (then_shape s (then_shape (many_shape s) give_shape)) (then_read p (λ a. then_read (many_up_to s.first p n) (λ rest. give (a ∷ rest)))) =
-          bind_reads k k m (lower k bound within reads) behind (λ c h. ap (is_in c) (append-nil s.first) ∙ apart c h) room in
+      bind_reads k k m (lower k bound within reads) behind (λ c h. ap (is_in c) (append-nil s.first) ∙ apart c h) room in
       restate k (choice_reads k (restate {r = item_shape} k one (λ xs w h. h) (λ xs w h. h) item_widens) (give_reads k []) refl (apart_nil s.first)) to_many from_many many_widens
 
   family : (n k : ℕ) → k ≤ n → k ≤ bound → Reads k (Many W) (many_shape s) (many_up_to s.first p n)

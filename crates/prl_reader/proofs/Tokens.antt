@@ -1,15 +1,15 @@
 -- Readers of one token read their grammars.
-use Rattle.std.proofs.Common.{◌≡◌, ◌≤◌, ℕ, true, false, List, [], ◌∷◌, ◌++◌, length, Result, Ok, Err, Option, Some, None, refl, sym, ap, ◌∙◌, subst, ⊎_elim, arith, length-append}
+use Rattle.std.proofs.Common.{◌≡◌, ◌≤◌, ℕ, true, false, List, [], ◌∷◌, ◌++◌, length, Ok, Err, Some, None, refl, sym, ap, ◌∙◌, subst, ⊎_elim, arith, length-append}
 use Rattle.std.proofs.lemmas.Bool.{false≢true}
 use Rattle.std.proofs.lemmas.List.{append-nil, append_cancel_right}
 use Rattle.prl_base.specs.Reading.{◌>>=◌}
 use Rattle.prl_base.specs.declared.places.Span.{Span}
 use Rattle.prl_reader.specs.Lexemes.{Lexeme, first_place}
 use Rattle.prl_reader.specs.Grammars.{One, Then, Give, Either, Maybe, FromFirst, Place, Named, Numbered}
-use Rattle.prl_reader.specs.Readers.{Stop, Stuck, Read, is_in, choice, maybe_at, from_first, one_at, place_at, name_at, number_at}
-use Rattle.prl_reader.specs.Reads.{Shape, then_shape, either_shape, StopsBefore, Begins, next_class, CanComplete, Taken, Reads}
+use Rattle.prl_reader.specs.Readers.{Stuck, Read, is_in, choice, maybe_at, from_first, one_at, place_at, name_at, number_at}
+use Rattle.prl_reader.specs.Reads.{Shape, then_shape, either_shape, Begins, next_class, CanComplete, Taken, Reads}
 use Rattle.prl_reader.proofs.Basics.{Apart, apart, disjoint, bind_ok, bind_err, same_tree, same_rest}
-use Rattle.prl_reader.proofs.Steps.{one_shape, one_reads, give, give_shape, give_reads}
+use Rattle.prl_reader.proofs.Steps.{one_shape, one_reads, give, give_reads}
 use Rattle.prl_reader.proofs.Sequences.{then_read, bind_reads, choice_reads}
 use Rattle.prl_reader.proofs.Repeats.{restate}
 
@@ -61,8 +61,8 @@ first_reads {A} {W} {p} first more n reads = record {
   local = local;
   local_stuck = local_stuck;
   complete = λ x w rest le h stops.
-    ap (λ r. r >>= λ y. Ok ((first_place (w ++ rest), y.0), y.1)) (reads.complete x.1 w rest le h.1 stops)
-    ∙ ap (λ at. Ok ((at, x.1), rest)) (behind w rest (reads.begins x.1 w h.1) ∙ sym h.0);
+      ap (λ r. r >>= λ y. Ok ((first_place (w ++ rest), y.0), y.1)) (reads.complete x.1 w rest le h.1 stops)
+      ∙ ap (λ at. Ok ((at, x.1), rest)) (behind w rest (reads.begins x.1 w h.1) ∙ sym h.0);
   begins = λ x w h. reads.begins x.1 w h.1;
   example = (let e = reads.example in ((first_place e.1, e.0), e.1, (refl, e.2)));
 }
@@ -70,6 +70,7 @@ first_reads {A} {W} {p} first more n reads = record {
     behind : (w rest : List Lexeme) → Begins (solid first more) w → first_place (w ++ rest) ≡ first_place w
     behind [] rest b = absurd (false≢true b)
     behind (t ∷ w) rest b = refl
+
     sound : (ts : List Lexeme) (x : Span × A) (rest : List Lexeme) → from_first p ts ≡ Ok (x, rest) → Taken (FromFirst W) ts x rest
     sound ts x rest e =
         let parts = bind_ok (p ts) (λ y. Ok ((first_place ts, y.0), y.1)) x rest e in
@@ -79,12 +80,21 @@ first_reads {A} {W} {p} first more n reads = record {
         let P : Span × A → Type 0 = λ y. FromFirst W y t.text in
         let there : first_place ts ≡ first_place t.text = ap first_place t.whole ∙ behind t.text parts.between (reads.begins parts.a t.text t.written) in
         record { text = t.text; whole = t.whole ∙ ap (λ r. t.text ++ r) left; written = subst P tree (there, t.written) }
+
     stuck : (ts : List Lexeme) (left : ℕ) → from_first p ts ≡ Err (Stuck left) → CanComplete (FromFirst W) ts left
     stuck ts left e = ⊎_elim
         (λ h. let c = reads.stuck ts left h in record {
-            taken = c.taken; rest = c.rest; more = c.more; tree = (first_place (c.taken ++ c.more), c.tree); whole = c.whole; count = c.count; completed = (refl, c.completed) })
+          taken = c.taken;
+          rest = c.rest;
+          more = c.more;
+          tree = (first_place (c.taken ++ c.more), c.tree);
+          whole = c.whole;
+          count = c.count;
+          completed = (refl, c.completed);
+        })
         (λ h. let no_error = h.two in cc)
         (bind_err (p ts) (λ y. Ok ((first_place ts, y.0), y.1)) (Stuck left) e)
+
     local : (w rest other : List Lexeme) (x : Span × A) → next_class rest ≡ next_class other → from_first p (w ++ rest) ≡ Ok (x, rest) → from_first p (w ++ other) ≡ Ok (x, other)
     local w rest other x n e =
         let parts = bind_ok (p (w ++ rest)) (λ y. Ok ((first_place (w ++ rest), y.0), y.1)) x rest e in
@@ -98,6 +108,7 @@ first_reads {A} {W} {p} first more n reads = record {
         ap (λ r. r >>= λ y. Ok ((first_place (w ++ other), y.0), y.1)) (reads.local w rest other parts.a n read)
         ∙ ap (λ at. Ok ((at, parts.a), other)) (behind w other b ∙ sym (behind w rest b))
         ∙ ap (λ y. Ok (y, other)) tree
+
     local_stuck : (w rest other : List Lexeme) → next_class rest ≡ next_class other → from_first p (w ++ rest) ≡ Err (Stuck (length rest)) → from_first p (w ++ other) ≡ Err (Stuck (length other))
     local_stuck w rest other n e = ⊎_elim
         (λ h. ap (λ r. r >>= λ y. Ok ((first_place (w ++ other), y.0), y.1)) (reads.local_stuck w rest other n h))

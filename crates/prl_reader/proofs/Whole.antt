@@ -1,9 +1,9 @@
 -- Whole texts: they are read exactly where they are texts of the grammar, and else the first unexpected token is found.
-use Rattle.std.proofs.Common.{◌≡◌, ℕ, List, [], ◌∷◌, ◌++◌, length, Result, Ok, Err, Option, Some, None, refl, sym, ap, ◌∙◌, subst, arith}
+use Rattle.std.proofs.Common.{◌≡◌, ℕ, List, [], ◌∷◌, ◌++◌, length, Ok, Err, Some, None, refl, sym, ap, ◌∙◌, subst, arith}
 use Rattle.std.proofs.lemmas.List.{append-nil}
 use Rattle.prl_base.specs.Reading.{◌>>=◌}
 use Rattle.prl_reader.specs.Lexemes.{Lexeme}
-use Rattle.prl_reader.specs.Readers.{Stop, Stuck, Deep, Read}
+use Rattle.prl_reader.specs.Readers.{Stuck, Read}
 use Rattle.prl_reader.specs.Reads.{Shape, next_class, Reads}
 use Rattle.prl_reader.specs.Whole.{ended, all_at, IsFirstUnexpected}
 use Rattle.prl_reader.proofs.Basics.{same_rest}
@@ -37,13 +37,16 @@ module _ {A : Type 0} {W : A → List Lexeme → Type 0} {s : Shape} {p : List L
       let stop : p ts ≡ Err (Stuck left) = h ∙ cc in
       let c = (reads 0).stuck ts left stop in
       record {
-        taken = c.taken; rest = c.rest; whole = c.whole; count = c.count;
+        taken = c.taken;
+        rest = c.rest;
+        whole = c.whole;
+        count = c.count;
         begun = (c.tree, c.more, c.completed);
         no_text = λ a other n w.
-          let there : p (c.taken ++ c.rest) ≡ Err (Stuck (length c.rest)) = sym (ap p c.whole) ∙ stop ∙ ap (λ k. Err (Stuck k)) c.count in
-          let here = (reads 0).local_stuck c.taken c.rest other n there in
-          let whole = read_whole a (c.taken ++ other) w in
-          cc;
+            let there : p (c.taken ++ c.rest) ≡ Err (Stuck (length c.rest)) = sym (ap p c.whole) ∙ stop ∙ ap (λ k. Err (Stuck k)) c.count in
+            let here = (reads 0).local_stuck c.taken c.rest other n there in
+            let whole = read_whole a (c.taken ++ other) w in
+            cc;
       }
   stuck_text (Ok x) ts left h k = go x.0 x.1 h k
     where
@@ -52,13 +55,16 @@ module _ {A : Type 0} {W : A → List Lexeme → Type 0} {s : Shape} {p : List L
       go b (t ∷ rest) h k =
           let x = (reads 0).sound ts b (t ∷ rest) h in
           record {
-            taken = x.text; rest = t ∷ rest; whole = x.whole; count = cc;
+            taken = x.text;
+            rest = t ∷ rest;
+            whole = x.whole;
+            count = cc;
             begun = (b, [], (let P : List Lexeme → Type 0 = W b in subst P (sym (append-nil x.text)) x.written));
             no_text = λ a other n w.
-              let here = (reads 0).local x.text (t ∷ rest) other b n (sym (ap p x.whole) ∙ h) in
-              let none : other ≡ [] = same_rest b a other [] _ here (read_whole a (x.text ++ other) w) in
-              let nothing : Some t.class ≡ None = n ∙ ap next_class none in
-              cc;
+                let here = (reads 0).local x.text (t ∷ rest) other b n (sym (ap p x.whole) ∙ h) in
+                let none : other ≡ [] = same_rest b a other [] _ here (read_whole a (x.text ++ other) w) in
+                let nothing : Some t.class ≡ None = n ∙ ap next_class none in
+                cc;
           }
 
   pub all_stuck : (ts : List Lexeme) (left : ℕ) → all_at p ts ≡ Err (Stuck left) → IsFirstUnexpected W ts left
