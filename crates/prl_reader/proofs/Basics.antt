@@ -1,10 +1,10 @@
 -- Facts on lists of tokens and on answers.
-use Rattle.std.proofs.Common.{◌≡◌, ◌==◌, not, ◌&&◌, ℕ, ◌+◌, ◌≤◌, Bool, true, false, cond, ◌||◌, List, [], ◌∷◌, ◌++◌, length, Result, Ok, Err, Option, Some, None, refl, sym, ap, ◌∙◌, subst, ◌⊎◌, inl, inr, ⊎_elim, arith, length-append}
+use Rattle.std.proofs.Common.{◌≡◌, ◌==◌, not, ◌&&◌, ℕ, Bool, true, false, cond, ◌||◌, List, [], ◌∷◌, ◌++◌, length, Ok, Err, refl, sym, ap, ◌∙◌, ◌⊎◌, inl, inr, ⊎_elim, arith, length-append}
 use Rattle.std.proofs.lemmas.Bool.{and_parts, or_cases, eqb-true, not-true}
 use Rattle.prl_base.specs.Reading.{◌>>=◌}
 use Rattle.prl_reader.specs.Lexemes.{Lexeme}
-use Rattle.prl_reader.specs.Readers.{Stop, Stuck, Deep, Read, is_in, next_in}
-use Rattle.prl_reader.specs.Reads.{next_class, Shape, StopsBefore}
+use Rattle.prl_reader.specs.Readers.{Stop, Read, is_in, next_in}
+use Rattle.prl_reader.specs.Reads.{next_class}
 
 -- the parts of a reading after another
 pub record Both {A B : Type 0} (first : Read A) (then : A × List Lexeme → Read B) (b : B) (rest : List Lexeme) : Type 0 where

@@ -1,15 +1,15 @@
 -- Readers of many texts in a row, and of grammars that contain themselves.
-use Rattle.std.proofs.Common.{◌≡◌, ◌==◌, ◌⊎◌, ℕ, zero, suc, ◌+◌, ◌≤◌, ◌<◌, Bool, true, false, cond, ◌||◌, ◌&&◌, List, [], ◌∷◌, ◌++◌, length, Result, Ok, Err, Option, Some, None, refl, sym, ap, ◌∙◌, subst, inl, inr, ⊎_elim, arith, length-append, append_assoc}
-use Rattle.std.proofs.lemmas.Bool.{cond-true, cond-false, cases_Bool, false≢true, and_left, or_from}
+use Rattle.std.proofs.Common.{◌≡◌, ℕ, zero, suc, ◌+◌, ◌≤◌, ◌<◌, true, false, cond, List, [], ◌∷◌, ◌++◌, length, Ok, Err, refl, sym, ap, ◌∙◌, subst, inl, inr, arith, length-append}
+use Rattle.std.proofs.lemmas.Bool.{cond-false, false≢true, and_left, or_from}
 use Rattle.std.proofs.lemmas.List.{append-nil}
 use Rattle.prl_base.specs.Reading.{◌>>=◌}
 use Rattle.prl_reader.specs.Lexemes.{Lexeme}
-use Rattle.prl_reader.specs.Grammars.{One, Then, Give, Either, Many}
-use Rattle.prl_reader.specs.Readers.{Stop, Stuck, Deep, Read, is_in, next_in, one_at, choice, many_up_to, many_at}
-use Rattle.prl_reader.specs.Reads.{Shape, then_shape, either_shape, many_shape, StopsBefore, Begins, next_class, CanComplete, Taken, Reads}
-use Rattle.prl_reader.proofs.Basics.{Both, bind_ok, Apart, is_in-append}
+use Rattle.prl_reader.specs.Grammars.{Then, Give, Either, Many}
+use Rattle.prl_reader.specs.Readers.{Deep, Read, is_in, next_in, choice, many_up_to, many_at}
+use Rattle.prl_reader.specs.Reads.{Shape, then_shape, either_shape, many_shape, Begins, Reads}
+use Rattle.prl_reader.proofs.Basics.{Apart, is_in-append}
 use Rattle.prl_reader.proofs.Steps.{give, give_shape, give_reads}
-use Rattle.prl_reader.proofs.Sequences.{stops_in, not_left, not_right, in_left, in_right, then_begins, then_read, bind_reads, choice_reads}
+use Rattle.prl_reader.proofs.Sequences.{stops_in, not_left, not_right, then_read, bind_reads, choice_reads}
 
 -- the other shape allows what this one does
 pub record Widens (s r : Shape) : Type 0 where

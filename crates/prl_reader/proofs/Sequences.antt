@@ -1,14 +1,13 @@
 -- Readers of one text after another, and of one of two.
-use Rattle.std.proofs.Common.{◌≡◌, ◌==◌, ◌⊎◌, ℕ, zero, suc, ◌+◌, ◌≤◌, ◌<◌, Bool, true, false, cond, ◌||◌, ◌&&◌, List, [], ◌∷◌, ◌++◌, length, Result, Ok, Err, Option, Some, None, refl, sym, ap, ◌∙◌, subst, inl, inr, ⊎_elim, arith, length-append, append_assoc}
-use Rattle.std.proofs.lemmas.Bool.{cond-true, cond-false, eqb-true, eq-eqb, cases_Bool, false≢true, or_parts, or_left, or_right, or_cases, and_from}
-use Rattle.std.proofs.lemmas.List.{append-nil, append_cancel_right}
+use Rattle.std.proofs.Common.{◌≡◌, ℕ, ◌≤◌, true, false, cond, List, [], ◌∷◌, ◌++◌, length, Ok, Err, refl, sym, ap, ◌∙◌, subst, inl, inr, ⊎_elim, arith, append_assoc}
+use Rattle.std.proofs.lemmas.Bool.{cond-true, cond-false, cases_Bool, false≢true, or_parts, or_left, or_right, and_from}
+use Rattle.std.proofs.lemmas.List.{append_cancel_right}
 use Rattle.prl_base.specs.Reading.{◌>>=◌}
-use Rattle.prl_base.specs.declared.places.Span.{Span}
 use Rattle.prl_reader.specs.Lexemes.{Lexeme}
-use Rattle.prl_reader.specs.Grammars.{One, Then, Give, Either}
-use Rattle.prl_reader.specs.Readers.{Stop, Stuck, Deep, Read, is_in, next_in, one_at, choice}
+use Rattle.prl_reader.specs.Grammars.{Then, Either}
+use Rattle.prl_reader.specs.Readers.{Stuck, Read, is_in, next_in, choice}
 use Rattle.prl_reader.specs.Reads.{Shape, then_shape, either_shape, StopsBefore, Begins, next_class, CanComplete, Taken, Reads}
-use Rattle.prl_reader.proofs.Basics.{Both, bind_ok, Later, bind_err, next_class-append, next_in-class, is_in-append, Apart, same_cut, own_tokens, chosen, same_tree, same_rest}
+use Rattle.prl_reader.proofs.Basics.{bind_ok, bind_err, next_class-append, next_in-class, is_in-append, Apart, same_cut, chosen}
 
 pub stops_in : (ks ls : List ℕ) (rest : List Lexeme) → ((c : ℕ) → is_in c ls ≡ false → is_in c ks ≡ false) → StopsBefore ls rest → StopsBefore ks rest
 stops_in ks ls [] h stops = tt

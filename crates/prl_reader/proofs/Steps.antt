@@ -1,14 +1,11 @@
 -- Readers of one token, of nothing, of one text after another, and of one of two.
-use Rattle.std.proofs.Common.{◌≡◌, ◌==◌, ◌⊎◌, ℕ, zero, suc, ◌+◌, ◌≤◌, ◌<◌, Bool, true, false, cond, ◌||◌, ◌&&◌, List, [], ◌∷◌, ◌++◌, length, Result, Ok, Err, Option, Some, None, refl, sym, ap, ◌∙◌, subst, inl, inr, ⊎_elim, arith, length-append, append_assoc}
-use Rattle.std.proofs.lemmas.Bool.{cond-true, cond-false, eqb-true, eq-eqb, cases_Bool, false≢true, or_parts, or_left, or_right, or_cases}
-use Rattle.std.proofs.lemmas.List.{append-nil, append_cancel_right}
-use Rattle.prl_base.specs.Reading.{◌>>=◌}
-use Rattle.prl_base.specs.declared.places.Span.{Span}
+use Rattle.std.proofs.Common.{◌≡◌, ◌==◌, ℕ, true, false, List, [], ◌∷◌, ◌++◌, length, Ok, Err, refl, sym, ap, ◌∙◌, subst, ⊎_elim, arith, length-append}
+use Rattle.std.proofs.lemmas.Bool.{cond-true, cond-false, eqb-true, eq-eqb, or_left}
 use Rattle.prl_reader.specs.Lexemes.{Lexeme}
-use Rattle.prl_reader.specs.Grammars.{One, Then, Give, Either}
-use Rattle.prl_reader.specs.Readers.{Stop, Stuck, Deep, Read, is_in, next_in, one_at, choice}
-use Rattle.prl_reader.specs.Reads.{Shape, StopsBefore, Begins, next_class, CanComplete, Taken, Reads}
-use Rattle.prl_reader.proofs.Basics.{Both, bind_ok, Later, bind_err, next_class-append, next_in-class, is_in-append, Apart, own_tokens, chosen, same_tree, same_rest}
+use Rattle.prl_reader.specs.Grammars.{One, Give}
+use Rattle.prl_reader.specs.Readers.{Stuck, Read, one_at}
+use Rattle.prl_reader.specs.Reads.{Shape, Begins, next_class, CanComplete, Taken, Reads}
+use Rattle.prl_reader.proofs.Basics.{own_tokens, chosen, same_tree, same_rest}
 
 -- a token of the class
 abbrev pub sample : ℕ → Lexeme

@@ -1,15 +1,15 @@
 -- Readers of one token read their grammars.
-use Rattle.std.proofs.Common.{◌≡◌, ◌≤◌, ℕ, true, false, List, [], ◌∷◌, ◌++◌, length, Result, Ok, Err, Option, Some, None, refl, sym, ap, ◌∙◌, subst, ⊎_elim, arith, length-append}
+use Rattle.std.proofs.Common.{◌≡◌, ◌≤◌, ℕ, true, false, List, [], ◌∷◌, ◌++◌, length, Ok, Err, Some, None, refl, sym, ap, ◌∙◌, subst, ⊎_elim, arith, length-append}
 use Rattle.std.proofs.lemmas.Bool.{false≢true}
 use Rattle.std.proofs.lemmas.List.{append-nil, append_cancel_right}
 use Rattle.prl_base.specs.Reading.{◌>>=◌}
 use Rattle.prl_base.specs.declared.places.Span.{Span}
 use Rattle.prl_reader.specs.Lexemes.{Lexeme, first_place}
 use Rattle.prl_reader.specs.Grammars.{One, Then, Give, Either, Maybe, FromFirst, Place, Named, Numbered}
-use Rattle.prl_reader.specs.Readers.{Stop, Stuck, Read, is_in, choice, maybe_at, from_first, one_at, place_at, name_at, number_at}
-use Rattle.prl_reader.specs.Reads.{Shape, then_shape, either_shape, StopsBefore, Begins, next_class, CanComplete, Taken, Reads}
+use Rattle.prl_reader.specs.Readers.{Stuck, Read, is_in, choice, maybe_at, from_first, one_at, place_at, name_at, number_at}
+use Rattle.prl_reader.specs.Reads.{Shape, then_shape, either_shape, Begins, next_class, CanComplete, Taken, Reads}
 use Rattle.prl_reader.proofs.Basics.{Apart, apart, disjoint, bind_ok, bind_err, same_tree, same_rest}
-use Rattle.prl_reader.proofs.Steps.{one_shape, one_reads, give, give_shape, give_reads}
+use Rattle.prl_reader.proofs.Steps.{one_shape, one_reads, give, give_reads}
 use Rattle.prl_reader.proofs.Sequences.{then_read, bind_reads, choice_reads}
 use Rattle.prl_reader.proofs.Repeats.{restate}
 

@@ -1,9 +1,9 @@
 -- Whole texts: they are read exactly where they are texts of the grammar, and else the first unexpected token is found.
-use Rattle.std.proofs.Common.{◌≡◌, ℕ, List, [], ◌∷◌, ◌++◌, length, Result, Ok, Err, Option, Some, None, refl, sym, ap, ◌∙◌, subst, arith}
+use Rattle.std.proofs.Common.{◌≡◌, ℕ, List, [], ◌∷◌, ◌++◌, length, Ok, Err, Some, None, refl, sym, ap, ◌∙◌, subst, arith}
 use Rattle.std.proofs.lemmas.List.{append-nil}
 use Rattle.prl_base.specs.Reading.{◌>>=◌}
 use Rattle.prl_reader.specs.Lexemes.{Lexeme}
-use Rattle.prl_reader.specs.Readers.{Stop, Stuck, Deep, Read}
+use Rattle.prl_reader.specs.Readers.{Stuck, Read}
 use Rattle.prl_reader.specs.Reads.{Shape, next_class, Reads}
 use Rattle.prl_reader.specs.Whole.{ended, all_at, IsFirstUnexpected}
 use Rattle.prl_reader.proofs.Basics.{same_rest}

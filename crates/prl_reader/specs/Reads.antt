@@ -1,7 +1,7 @@
 -- When a reader reads a grammar.
-use Rattle.std.specs.Prelude.{◌≡◌, ◌≤◌, ℕ, Bool, true, false, ◌||◌, ◌&&◌, not, List, [], ◌∷◌, ◌++◌, length, Result, Ok, Err, Option, Some, None, if◌then◌else◌}
+use Rattle.std.specs.Prelude.{◌≡◌, ◌≤◌, ℕ, Bool, true, false, ◌&&◌, List, [], ◌∷◌, ◌++◌, length, Ok, Err, Option, Some, None, if◌then◌else◌}
 use Rattle.prl_reader.specs.Lexemes.{Lexeme}
-use Rattle.prl_reader.specs.Readers.{Stop, Stuck, Deep, Read, is_in}
+use Rattle.prl_reader.specs.Readers.{Stuck, Read, is_in}
 
 -- what decides by one token of look-ahead: the classes that a text begins with, whether it may be empty, and the
 -- classes with which a whole text would go on

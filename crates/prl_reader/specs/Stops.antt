@@ -1,6 +1,6 @@
 -- Why a reader stopped, as definitions see it.
 use Rattle.std.specs.Prelude.{Option, Some, None}
-use Rattle.prl_reader.specs.Readers.{Stop as Stopped, Stuck, Deep}
+use Rattle.prl_reader.specs.Readers.{Stop as Stopped, Stuck}
 use Rattle.prl_reader.specs.declared.reading.Stop.{Stop}
 use Rattle.prl_reader.specs.declared.reading.Stop.TheVariants as stops
 

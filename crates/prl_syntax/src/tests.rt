@@ -1,6 +1,6 @@
 use super::*;
-use prl_ast::{Base, PlacedOp, Rate};
-use prl_base::{Limit, Op, Ratio, Span, Ty, Value, What};
+use prl_ast::Base;
+use prl_base::{Limit, Op, Span, Ty, Value, What};
 use std::test::*;
 
 const SAMPLING: &[u8] = b"imported node F(i, j: int) returns (o, p: int) wcet 2;
@@ -18,6 +18,7 @@ tel
 #[test]
 fn sampling(rt: HostRuntime) -> Result<(), Fail> {
     let program = parse(rt.alloc(), SAMPLING)?;
+<<<<<<< HEAD
     assert_eq!(rt; program.imports.len(), 2);
     assert_eq!(rt;
         program.imports.as_slice()[0].outs.as_slice()[1].ty,
@@ -38,6 +39,15 @@ fn sampling(rt: HostRuntime) -> Result<(), Fail> {
     assert_eq!(rt;
         node.eqs.as_slice()[0].lefts.as_slice()[1].name.bytes(),
         b"vf".as_slice()
+=======
+    assert!(rt;
+        matches!(program.imports.as_slice(), [f, s] if f.outs.len() == 2 && f.wcet == 2 && s.wcet == 10)
+    );
+    assert_eq!(rt; program.sensors.len(), 1);
+    assert_eq!(rt; program.actuators.len(), 1);
+    assert!(rt;
+        matches!(program.nodes.as_slice(), [node] if node.locals.len() == 2 && node.eqs.len() == 2)
+>>>>>>> 98d079527b69f3fe402af27b1a648c15077279e8
     );
     Ok(())
 }
@@ -48,12 +58,18 @@ fn notes(rt: HostRuntime) -> Result<(), Fail> {
         rt.alloc(),
         b"node n (a, b: bool due 3; c) returns (d) let d = c; tel",
     )?;
-    let ins = program.nodes.as_slice()[0].ins.as_slice();
-    assert_eq!(rt; ins.len(), 3);
-    assert_eq!(rt; ins[0].ty, Some(Ty::Bool));
-    assert_eq!(rt; ins[0].due, Some(3));
-    assert_eq!(rt; ins[1].due, Some(3));
-    assert_eq!(rt; ins[2].ty, None);
+    match program.nodes.as_slice() {
+        [node] => match node.ins.as_slice() {
+            [a, b, c] => {
+                assert_eq!(rt; a.ty, Some(Ty::Bool));
+                assert_eq!(rt; a.due, Some(3));
+                assert_eq!(rt; b.due, Some(3));
+                assert_eq!(rt; c.ty, None);
+            }
+            _ => assert!(rt; false),
+        },
+        _ => assert!(rt; false),
+    }
     Ok(())
 }
 
@@ -63,26 +79,32 @@ fn operators(rt: HostRuntime) -> Result<(), Fail> {
         rt.alloc(),
         b"node n () returns (o) let o = -1 fby tail x *^ 3 ~> 2/4; tel",
     )?;
-    let right = &program.nodes.as_slice()[0].eqs.as_slice()[0].right;
-    let pre = [
-        placed(Op::Fby(Value::Int(-1)), 33, 3),
-        placed(Op::Tail, 37, 4),
-    ];
-    let post = [
-        placed(Op::Up(3), 44, 2),
-        placed(Op::Shift(Ratio { num: 1, den: 2 }), 49, 2),
-    ];
-    assert!(rt; right.pre.as_slice() == pre.as_slice());
-    assert!(rt; right.post.as_slice() == post.as_slice());
-    assert!(rt; matches!(right.base, Base::Var(_)));
-    Ok(())
-}
-
-fn placed(op: Op, at: u32, len: u32) -> PlacedOp {
-    PlacedOp {
-        op,
-        at: Span { at, len },
+    match program.nodes.as_slice() {
+        [node] => match node.eqs.as_slice() {
+            [equation] => {
+                assert!(rt; matches!(equation.right.base, Base::Var(_)));
+                match equation.right.pre.as_slice() {
+                    [fby, tail] => {
+                        assert!(rt; matches!(fby.op, Op::Fby(Value::Int(c)) if c == -1));
+                        assert_eq!(rt; fby.at, Span { at: 33, len: 3 });
+                        assert!(rt; matches!(tail.op, Op::Tail));
+                    }
+                    _ => assert!(rt; false),
+                }
+                match equation.right.post.as_slice() {
+                    [up, shift] => {
+                        assert!(rt; matches!(up.op, Op::Up(3)));
+                        assert!(rt; matches!(shift.op, Op::Shift(q) if q.num == 1 && q.den == 2));
+                        assert_eq!(rt; shift.at, Span { at: 49, len: 2 });
+                    }
+                    _ => assert!(rt; false),
+                }
+            }
+            _ => assert!(rt; false),
+        },
+        _ => assert!(rt; false),
     }
+    Ok(())
 }
 
 #[test]
