@@ -1,6 +1,6 @@
 use super::*;
 use prl_ast::Base;
-use prl_base::{Limit, Op, Span, Ty, Value, What};
+use prl_base::{Op, Span, Ty, Value};
 use std::test::*;
 
 const SAMPLING: &[u8] = b"imported node F(i, j: int) returns (o, p: int) wcet 2;
@@ -18,28 +18,6 @@ tel
 #[test]
 fn sampling(rt: HostRuntime) -> Result<(), Fail> {
     let program = parse(rt.alloc(), SAMPLING)?;
-<<<<<<< HEAD
-    assert_eq!(rt; program.imports.len(), 2);
-    assert_eq!(rt;
-        program.imports.as_slice()[0].outs.as_slice()[1].ty,
-        Ty::Int
-    );
-    assert_eq!(rt; program.imports.as_slice()[1].wcet, 10);
-    assert_eq!(rt; program.sensors.len(), 1);
-    assert_eq!(rt; program.actuators.len(), 1);
-    assert_eq!(rt; program.nodes.len(), 1);
-    let node = &program.nodes.as_slice()[0];
-    let rate = Rate {
-        period: 10,
-        phase: Ratio { num: 0, den: 1 },
-    };
-    assert!(rt; node.ins.as_slice()[0].rate == Some(rate));
-    assert_eq!(rt; node.locals.len(), 2);
-    assert_eq!(rt; node.eqs.len(), 2);
-    assert_eq!(rt;
-        node.eqs.as_slice()[0].lefts.as_slice()[1].name.bytes(),
-        b"vf".as_slice()
-=======
     assert!(rt;
         matches!(program.imports.as_slice(), [f, s] if f.outs.len() == 2 && f.wcet == 2 && s.wcet == 10)
     );
@@ -47,7 +25,6 @@ fn sampling(rt: HostRuntime) -> Result<(), Fail> {
     assert_eq!(rt; program.actuators.len(), 1);
     assert!(rt;
         matches!(program.nodes.as_slice(), [node] if node.locals.len() == 2 && node.eqs.len() == 2)
->>>>>>> 98d079527b69f3fe402af27b1a648c15077279e8
     );
     Ok(())
 }
@@ -138,29 +115,21 @@ fn ranges(rt: HostRuntime) -> Result<(), Fail> {
         )
     );
     assert!(rt; parse(alloc, b"sensor i wcet 2147483647;").is_ok());
-    assert!(rt; parse(alloc, b"node n () returns (o) let o = -2147483648; tel",).is_ok());
+    assert!(rt;
+        parse(
+            alloc,
+            b"node n () returns (o) let o = -2147483648; tel",
+        )
+        .is_ok()
+    );
     assert!(rt;
         matches!(
-            parse(alloc, b"node n () returns (o) let o = 2147483648; tel",),
+            parse(
+                alloc,
+                b"node n () returns (o) let o = 2147483648; tel",
+            ),
             Err(ParseFault::NumberRange(30))
         )
     );
-    Ok(())
-}
-
-#[test]
-fn nodes(rt: HostRuntime) -> Result<(), Fail> {
-    let alloc = rt.alloc();
-    let mut text = Vec::new(alloc);
-    for _ in 0..256 {
-        text.extend_from_slice(b"node n () returns (o) let o = 1; tel ")?;
-    }
-    assert!(rt; parse(alloc, &text).is_ok());
-    text.extend_from_slice(b"node n () returns (o) let o = 1; tel ")?;
-    let limit = Limit {
-        what: What::Nodes,
-        found: 257,
-    };
-    assert!(rt; matches!(parse(alloc, &text), Err(ParseFault::Limit(found)) if found == limit));
     Ok(())
 }
