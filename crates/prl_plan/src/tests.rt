@@ -143,3 +143,34 @@ fn releases_by_rounds(rt: HostRuntime) -> Result<(), Fail> {
     }
     Ok(())
 }
+
+// An actuator of a sensor's flow that is slowed down and sped up again by 3.
+#[test]
+fn dates_of_a_held_flow(rt: HostRuntime) -> Result<(), Fail> {
+    let tasks = vec![in rt.alloc();
+        task(&rt, b"i", Kind::Sensor(0), 10, 1)?,
+        task(&rt, b"o", Kind::Actuator(0), 10, 1)?,
+    ]?;
+    let held = vec![in rt.alloc(); Op::Up(3), Op::Down(3)]?;
+    let graph = TaskGraph {
+        tasks: Seq::new(tasks),
+        edges: Seq::new(vec![in rt.alloc(); edge(0, 1, 0, 10, held)]?),
+        hyper: 30,
+    };
+    for (i, number, release, deadline) in [
+        (0, 0, 0, 9),
+        (0, 1, 10, 20),
+        (0, 2, 20, 30),
+        (1, 0, 1, 10),
+        (1, 1, 10, 20),
+        (1, -3, -29, -20),
+    ] {
+        let job = AnyJob {
+            task: TaskNo(i),
+            number,
+        };
+        assert_eq!(rt; release_after(&graph, 2, job), Some(release));
+        assert_eq!(rt; deadline_after(&graph, 2, job), Some(deadline));
+    }
+    Ok(())
+}
