@@ -115,19 +115,10 @@ fn ranges(rt: HostRuntime) -> Result<(), Fail> {
         )
     );
     assert!(rt; parse(alloc, b"sensor i wcet 2147483647;").is_ok());
-    assert!(rt;
-        parse(
-            alloc,
-            b"node n () returns (o) let o = -2147483648; tel",
-        )
-        .is_ok()
-    );
+    assert!(rt; parse(alloc, b"node n () returns (o) let o = -2147483648; tel",).is_ok());
     assert!(rt;
         matches!(
-            parse(
-                alloc,
-                b"node n () returns (o) let o = 2147483648; tel",
-            ),
+            parse(alloc, b"node n () returns (o) let o = 2147483648; tel",),
             Err(ParseFault::NumberRange(30))
         )
     );
