@@ -1,0 +1,11 @@
+pub mod Quotients
+pub mod Chains
+pub mod Steps
+pub mod Sound
+pub mod TextChains
+pub mod Typing
+pub mod Lists
+pub mod Inversion
+pub mod TypedSound
+pub mod BodySound
+pub mod BodyList

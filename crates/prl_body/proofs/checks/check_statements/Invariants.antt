@@ -1,0 +1,9 @@
+use Rattle.std.proofs.Common.{◌≡◌, drop, map}
+use Rattle.prl_body.specs.Checks.{typed_statements}
+use Rattle.prl_body.specs.Texts.{statement_tree}
+use Rattle.prl_body.proofs.checks.check_statements.Given as goal
+
+abbrev pub invariant-loop-statement : goal.invariant-loop-statement
+invariant-loop-statement l =
+    typed_statements l.ins l.outs l.registers (map statement_tree (drop l.statement-index l.statements))
+    ≡ typed_statements l.ins l.outs l.registers (map statement_tree l.statements)

@@ -1,0 +1,7 @@
+use Rattle.std.proofs.Common.{◌≡◌, take, map}
+use Rattle.prl_body.specs.Bodies.{next_expressions}
+use Rattle.prl_body.specs.Values.{value}
+use Rattle.prl_body.proofs.machines.write_registers.Given as goal
+
+abbrev pub invariant-loop-k : goal.invariant-loop-k
+invariant-loop-k l = take l.k l.next ≡ take l.k (map (value l.inputs l.registers) (next_expressions l.body))

@@ -1,0 +1,9 @@
+use Rattle.std.proofs.Common.{◌≡◌, take, drop, [], map}
+use Rattle.prl_body.specs.NameChecks.{statement_fault}
+use Rattle.prl_body.specs.Texts.{statement_tree}
+use Rattle.prl_body.proofs.names.statement_fault.Given as goal
+
+abbrev pub invariant-loop-k : goal.invariant-loop-k
+invariant-loop-k l =
+    statement_fault l.ins l.outs l.registers (map statement_tree (take l.k l.statements)) (map statement_tree (drop l.k l.statements))
+    ≡ statement_fault l.ins l.outs l.registers [] (map statement_tree l.statements)

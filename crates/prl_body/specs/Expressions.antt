@@ -1,0 +1,21 @@
+-- Expressions of bodies, with their names resolved.
+use Rattle.std.specs.Prelude.{ℕ}
+use Rattle.prl_base.specs.declared.values.Value.{Value}
+use Rattle.prl_body.specs.declared.codes.Place.{Place}
+use Rattle.prl_body.specs.declared.operators.Operator.{Operator}
+use Rattle.prl_body.specs.declared.operators.Prefix.{Prefix}
+
+mutual
+  pub data Expression : Type 0 where
+    constant : Value → Expression
+    name : Place → Expression
+    -- the same operator before the operand so many times
+    run : Prefix → ℕ → Expression → Expression
+    -- the first operand, and the others with the operator before each
+    chain : Expression → Links → Expression
+    -- if(c, a, b)
+    choice : Expression → Expression → Expression → Expression
+
+  pub data Links : Type 0 where
+    none : Links
+    more : Operator → Expression → Links → Links

@@ -1,0 +1,12 @@
+pub mod Operators
+pub mod Expressions
+pub mod Codes
+pub mod Values
+pub mod Types
+pub mod Bodies
+pub mod Machines
+pub mod Texts
+pub mod NameChecks
+pub mod Faults
+pub mod TypeChecks
+pub mod Checks

@@ -1,0 +1,56 @@
+-- The first name of a body that it may not have there, in the order of the text.
+use Rattle.std.specs.Prelude.{ℕ, Bool, not, ◌&&◌, ◌||◌, List, [], ◌∷◌, ◌++◌, Option, Some, None, if◌then◌else◌}
+use Rattle.std.specs.List.{list_any}
+use Rattle.std.specs.Str.{bytes_eq}
+use Rattle.prl_ast.specs.declared.declarations.Port.{Port}
+use Rattle.prl_body.specs.declared.texts.RegisterText.{RegisterText}
+use Rattle.prl_body.specs.Texts.{Tree, constant, name, run, chain, choice, TreeLinks, none, more, StatementTree, TextTree}
+
+abbrev pub has_port : List Port → List ℕ → Bool
+has_port ports n = list_any (λ (p : Port). bytes_eq p.name n) ports
+
+abbrev pub has_register : List RegisterText → List ℕ → Bool
+has_register registers n = list_any (λ (r : RegisterText). bytes_eq r.name n) registers
+
+abbrev pub has_statement : List StatementTree → List ℕ → Bool
+has_statement statements n = list_any (λ (s : StatementTree). bytes_eq s.left n) statements
+
+-- the first fault of two
+abbrev pub either_fault : Option ℕ → Option ℕ → Option ℕ
+either_fault None other = other
+either_fault (Some at) other = Some at
+
+-- a register with the name of an input, an output or an earlier register
+abbrev pub register_fault : List Port → List Port → List RegisterText → List RegisterText → Option ℕ
+register_fault ins outs earlier [] = None
+register_fault ins outs earlier (r ∷ rs) =
+    if has_port ins r.name || has_port outs r.name || has_register earlier r.name then Some r.at.at
+    else register_fault ins outs (earlier ++ r ∷ []) rs
+
+abbrev mutual
+  -- a name that is no input or register
+  pub unknown_name : List Port → List RegisterText → Tree → Option ℕ
+  unknown_name ins registers (constant v) = None
+  unknown_name ins registers (name n at) = if has_port ins n || has_register registers n then None else Some at.at
+  unknown_name ins registers (run prefix ats of) = unknown_name ins registers of
+  unknown_name ins registers (chain first links) = either_fault (unknown_name ins registers first) (unknown_name_in ins registers links)
+  unknown_name ins registers (choice at test chosen other) =
+      either_fault (unknown_name ins registers test) (either_fault (unknown_name ins registers chosen) (unknown_name ins registers other))
+
+  pub unknown_name_in : List Port → List RegisterText → TreeLinks → Option ℕ
+  unknown_name_in ins registers none = None
+  unknown_name_in ins registers (more operator at right links) =
+      either_fault (unknown_name ins registers right) (unknown_name_in ins registers links)
+
+-- a left name that is no output or register or has an earlier statement, or an unknown name on the right
+abbrev pub statement_fault : List Port → List Port → List RegisterText → List StatementTree → List StatementTree → Option ℕ
+statement_fault ins outs registers earlier [] = None
+statement_fault ins outs registers earlier (s ∷ ss) =
+    if (has_port outs s.left || has_register registers s.left) && not (has_statement earlier s.left)
+    then either_fault (unknown_name ins registers s.right) (statement_fault ins outs registers (earlier ++ s ∷ []) ss)
+    else Some s.at.at
+
+-- the place of the first name that a body may not have there, for an import with these inputs and outputs
+abbrev pub name_fault : List Port → List Port → TextTree → Option ℕ
+name_fault ins outs body =
+    either_fault (register_fault ins outs [] body.registers) (statement_fault ins outs body.registers [] body.statements)

@@ -1,0 +1,74 @@
+//! Checked bodies: what a step of an imported node computes.
+
+use crate::codes::Code;
+use prl_ast::Port;
+use prl_base::{Name, Seq, Value};
+use std::marker::Model;
+
+/// A register of a checked body.
+#[derive(Debug, Drop)]
+pub struct Register {
+    pub name: Name,
+    /// Its value before the first step.
+    pub first: Value,
+    /// What a step puts into it; where the body has no statement for it, the register itself.
+    pub next: Code,
+}
+
+/// The parts of a checked body.
+#[derive(Debug, Drop)]
+pub struct Parts {
+    /// The import's name.
+    pub name: Name,
+    /// The import's inputs, in order.
+    pub ins: Seq<Port>,
+    /// The import's outputs, in order.
+    pub outs: Seq<Port>,
+    /// In the order of the text.
+    pub registers: Seq<Register>,
+    /// The value of each output, in the order of the import.
+    pub values: Seq<Code>,
+}
+
+/// A body that fits its import, with its names resolved. Contracts see its tree, with the names and types
+/// of the import's ports.
+#[derive(Debug, Drop)]
+pub struct Body {
+    parts: Parts,
+}
+
+impl Model for Body {
+    ghost use Rattle.prl_body.specs.Bodies.{IsWellTyped};
+    ghost use Rattle.prl_body.specs.declared.bodies.Parts.{Parts};
+    ghost use Rattle.prl_body.specs.contracts.codes.Code as code;
+    ghost use Rattle.std.specs.Coded.{codes};
+
+    ghost Value = { Parts };
+
+    ghost coded = { Prim.hlevel (codes, code.the_row.coded) };
+
+    ghost view = { λ b. b.parts };
+
+    ghost invariant = { λ b. IsWellTyped b.parts };
+}
+
+impl Body {
+    ghost use Rattle.std.specs.Prelude.{◌≡◌};
+    ghost use Rattle.prl_body.specs.Bodies.{IsWellTyped};
+
+    /// The body that these parts are.
+    pub fn new(parts: Parts) -> Self
+        requires { IsWellTyped parts }
+        ensures { result ≡ parts }
+    {
+        Body { parts }
+    }
+
+    /// Its parts.
+    pub fn parts(&self) -> &Parts
+        ensures parts { result.now ≡ self.now }
+        ensures well_typed { IsWellTyped self.now }
+    {
+        &self.parts
+    }
+}

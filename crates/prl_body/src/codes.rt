@@ -1,0 +1,45 @@
+//! Expressions whose names are resolved to places.
+
+use crate::operators::{Operator, Prefix};
+use prl_base::{Seq, Value};
+
+/// What a name of an expression stands for.
+#[derive(Clone, Copy, Debug, PartialEq, Eq)]
+pub enum Place {
+    /// The input of this number, from 0.
+    Input(usize),
+    /// The register of this number, from 0.
+    Register(usize),
+}
+
+/// An expression. A chain and a run are one level, however long they are, so that only parentheses nest.
+#[derive(Debug, Drop)]
+#[cycle(tree)]
+pub enum Code {
+    Const(Value),
+    Name(Place),
+    /// The operator so many times before the operand.
+    Run {
+        prefix: Prefix,
+        times: usize,
+        of: Box<Code>,
+    },
+    /// From left to right.
+    Chain {
+        first: Box<Code>,
+        links: Vec<Link>,
+    },
+    If {
+        test: Box<Code>,
+        chosen: Box<Code>,
+        other: Box<Code>,
+    },
+}
+
+/// An operator and its right operand.
+#[derive(Debug, Drop)]
+#[cycle(tree)]
+pub struct Link {
+    pub operator: Operator,
+    pub right: Code,
+}

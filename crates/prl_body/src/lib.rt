@@ -1,0 +1,26 @@
+//! The language of bodies: what an imported node computes at each of its jobs, from its inputs and its
+//! registers. It stands on the names and values of `prl_base` and the imports of `prl_ast`.
+#![tactic(auto)]
+
+mod bodies;
+mod checks;
+mod codes;
+mod faults;
+mod machines;
+mod names;
+mod operators;
+mod program_bodies;
+mod texts;
+mod types;
+mod values;
+
+pub use bodies::{Body, Parts, Register};
+pub use codes::{Code, Link, Place};
+pub use faults::BodyFault;
+pub use machines::Machine;
+pub use operators::{Operator, Prefix};
+pub use program_bodies::{Bodies, check_bodies};
+pub use texts::{BodyText, BodyTexts, Expr, ExprLink, RegisterText, Statement};
+
+#[cfg(test)]
+mod tests;

@@ -1,0 +1,76 @@
+//! The trees of bodies as the text has them.
+
+use crate::operators::{Operator, Prefix};
+use prl_base::{Name, Seq, Span, Value};
+
+/// The bodies of a text, in order.
+#[derive(Debug, Drop)]
+pub struct BodyTexts {
+    pub bodies: Seq<BodyText>,
+}
+
+/// One body.
+#[derive(Debug, Drop)]
+pub struct BodyText {
+    pub name: Name,
+    /// The name.
+    pub at: Span,
+    pub registers: Seq<RegisterText>,
+    pub statements: Seq<Statement>,
+}
+
+/// `reg NAME = const;`
+#[derive(Debug, Drop)]
+pub struct RegisterText {
+    pub name: Name,
+    pub first: Value,
+    /// The name.
+    pub at: Span,
+}
+
+/// `NAME = e;`
+#[derive(Debug, Drop)]
+pub struct Statement {
+    pub left: Name,
+    pub right: Expr,
+    /// The left name.
+    pub at: Span,
+}
+
+/// An expression. A chain and a run are one level, however long they are, so that only parentheses nest.
+#[derive(Debug, Drop)]
+#[cycle(text)]
+pub enum Expr {
+    Const(Value),
+    Name {
+        name: Name,
+        at: Span,
+    },
+    /// The same operator so many times before the operand, the outermost first; each where it stands.
+    Run {
+        prefix: Prefix,
+        ats: Seq<Span>,
+        of: Box<Expr>,
+    },
+    /// From left to right.
+    Chain {
+        first: Box<Expr>,
+        links: Vec<ExprLink>,
+    },
+    /// `if(test, chosen, other)`; the place is that of the word `if`.
+    If {
+        at: Span,
+        test: Box<Expr>,
+        chosen: Box<Expr>,
+        other: Box<Expr>,
+    },
+}
+
+/// An operator, where it stands, and its right operand.
+#[derive(Debug, Drop)]
+#[cycle(text)]
+pub struct ExprLink {
+    pub operator: Operator,
+    pub at: Span,
+    pub right: Expr,
+}

@@ -1,0 +1,218 @@
+//! The types of expressions, and the places of their names.
+
+ghost use Rattle.std.specs.Prelude.{◌≡◌};
+ghost use Rattle.prl_base.specs.Reading.{Gives};
+ghost use Rattle.prl_body.specs.Codes.{expression_of, link_expressions};
+ghost use Rattle.prl_body.specs.Faults.{fault_of};
+ghost use Rattle.prl_body.specs.Texts.{tree_of, link_trees};
+ghost use Rattle.prl_body.specs.TypeChecks.{input_named, register_named, named, last_place, typed, typed_links};
+ghost use Rattle.prl_body.specs.Types.{is_same_type, are_allowed, operand_type, result_type, prefix_type};
+
+use crate::codes::{Code, Link, Place};
+use crate::faults::BodyFault;
+use crate::operators::{Operator, Prefix};
+use crate::texts::{Expr, ExprLink, RegisterText};
+use prl_ast::Port;
+use prl_base::{Name, Span, Ty};
+use std::alloc::Global;
+
+impl Operator {
+    /// The type of its operands; none where it takes two of any one type.
+    fn operand_type(self) -> Option<Ty>
+        ensures { result ≡ operand_type self }
+    {
+        match self {
+            Operator::Or | Operator::Xor | Operator::And => Some(Ty::Bool),
+            Operator::Equal | Operator::Unequal => None,
+            Operator::Less | Operator::AtMost | Operator::Greater | Operator::AtLeast => {
+                Some(Ty::Int)
+            }
+            Operator::Plus
+            | Operator::Minus
+            | Operator::Times
+            | Operator::Over
+            | Operator::Modulo => Some(Ty::Int),
+        }
+    }
+
+    /// The type of its result.
+    fn result_type(self) -> Ty
+        ensures { result ≡ result_type self }
+    {
+        match self {
+            Operator::Plus
+            | Operator::Minus
+            | Operator::Times
+            | Operator::Over
+            | Operator::Modulo => Ty::Int,
+            Operator::Or | Operator::Xor | Operator::And => Ty::Bool,
+            Operator::Equal | Operator::Unequal => Ty::Bool,
+            Operator::Less | Operator::AtMost | Operator::Greater | Operator::AtLeast => Ty::Bool,
+        }
+    }
+
+    /// Whether operands of these types fit the operator.
+    fn allows(self, left: Ty, right: Ty) -> bool
+        ensures { result ≡ are_allowed (operand_type self) left right }
+    {
+        match self.operand_type() {
+            None => is_same_type(left, right),
+            Some(ty) => is_same_type(left, ty) && is_same_type(right, ty),
+        }
+    }
+}
+
+impl Prefix {
+    /// The type of its operand and of its result.
+    fn ty(self) -> Ty
+        ensures { result ≡ prefix_type self }
+    {
+        match self {
+            Prefix::Not => Ty::Bool,
+            Prefix::Negated => Ty::Int,
+        }
+    }
+}
+
+pub fn is_same_type(a: Ty, b: Ty) -> bool
+    ensures { result ≡ is_same_type a b }
+{
+    a == b
+}
+
+/// The place and the type of the input of this name.
+fn input_named(ins: &[Port], name: &Name) -> Option<(Place, Ty)>
+    ensures { result ≡ input_named 0 ins.now name.now }
+{
+    for (k, port) in ins.iter().enumerate() {
+        if port.name.bytes() == name.bytes() {
+            return Some((Place::Input(k), port.ty));
+        }
+    }
+    None
+}
+
+/// The place and the type of the register of this name.
+fn register_named(registers: &[RegisterText], name: &Name) -> Option<(Place, Ty)>
+    ensures { result ≡ register_named 0 registers.now name.now }
+{
+    for (k, register) in registers.iter().enumerate() {
+        if register.name.bytes() == name.bytes() {
+            return Some((Place::Register(k), register.first.ty()));
+        }
+    }
+    None
+}
+
+/// What a name of an expression stands for.
+fn named(ins: &[Port], registers: &[RegisterText], name: &Name) -> Option<(Place, Ty)>
+    ensures { result ≡ named ins.now registers.now name.now }
+{
+    match input_named(ins, name) {
+        Some(place) => Some(place),
+        None => register_named(registers, name),
+    }
+}
+
+/// The place of the operator next to the operand.
+fn last_place(ats: &[Span]) -> u32
+    ensures { result ≡ last_place ats.now }
+{
+    match ats.last() {
+        Some(span) => span.at,
+        None => 0,
+    }
+}
+
+/// The links with their names resolved, behind a left operand of this type, and the type of the chain.
+#[cycle(typing)]
+fn typed_links(
+    alloc: Global,
+    ins: &[Port],
+    registers: &[RegisterText],
+    left: Ty,
+    links: &[ExprLink],
+) -> Result<(Vec<Link>, Ty), BodyFault>
+    ensures { Gives (λ x. (link_expressions x.0.items, x.1)) fault_of result (typed_links ins.now registers.now left (link_trees links.now)) }
+{
+    let mut ty = left;
+    let mut typed_ones = Vec::new(alloc);
+    for link in links {
+        let (right, right_ty) = typed(alloc, ins, registers, &link.right)?;
+        if !link.operator.allows(ty, right_ty) {
+            return Err(BodyFault::BodyType(link.at.at));
+        }
+        typed_ones.push(Link {
+            operator: link.operator,
+            right,
+        })?;
+        ty = link.operator.result_type();
+    }
+    Ok((typed_ones, ty))
+}
+
+/// The expression with its names resolved, and its type; or the place of its first fault, parts before the
+/// whole.
+#[cycle(typing)]
+pub fn typed(
+    alloc: Global,
+    ins: &[Port],
+    registers: &[RegisterText],
+    expr: &Expr,
+) -> Result<(Code, Ty), BodyFault>
+    ensures { Gives (λ x. (expression_of x.0, x.1)) fault_of result (typed ins.now registers.now (tree_of expr.now)) }
+{
+    match expr {
+        Expr::Const(value) => Ok((Code::Const(*value), value.ty())),
+        Expr::Name { name, at } => match named(ins, registers, name) {
+            Some((place, ty)) => Ok((Code::Name(place), ty)),
+            None => Err(BodyFault::BodyName(at.at)),
+        },
+        Expr::Run { prefix, ats, of } => {
+            let (code, ty) = typed(alloc, ins, registers, of)?;
+            if !is_same_type(ty, prefix.ty()) {
+                return Err(BodyFault::BodyType(last_place(ats.as_slice())));
+            }
+            let of = Box::new(alloc, code)?;
+            let times = ats.len();
+            Ok((
+                Code::Run {
+                    prefix: *prefix,
+                    times,
+                    of,
+                },
+                ty,
+            ))
+        }
+        Expr::Chain { first, links } => {
+            let (code, left) = typed(alloc, ins, registers, first)?;
+            let first = Box::new(alloc, code)?;
+            let (links, ty) = typed_links(alloc, ins, registers, left, links)?;
+            Ok((Code::Chain { first, links }, ty))
+        }
+        Expr::If {
+            at,
+            test,
+            chosen,
+            other,
+        } => {
+            let (test, test_ty) = typed(alloc, ins, registers, test)?;
+            let (chosen, ty) = typed(alloc, ins, registers, chosen)?;
+            let (other, other_ty) = typed(alloc, ins, registers, other)?;
+            if !is_same_type(test_ty, Ty::Bool) || !is_same_type(ty, other_ty) {
+                return Err(BodyFault::BodyType(at.at));
+            }
+            let test = Box::new(alloc, test)?;
+            let chosen = Box::new(alloc, chosen)?;
+            let other = Box::new(alloc, other)?;
+            Ok((
+                Code::If {
+                    test,
+                    chosen,
+                    other,
+                },
+                ty,
+            ))
+        }
+    }
+}

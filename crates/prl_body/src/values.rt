@@ -1,0 +1,68 @@
+//! The value of an expression.
+
+ghost use Rattle.std.specs.Prelude.{◌≡◌};
+ghost use Rattle.prl_body.specs.Codes.{expression_of};
+ghost use Rattle.prl_body.specs.Operators.{truth_of};
+ghost use Rattle.prl_body.specs.Values.{at_place, prefixed_times, value};
+
+use crate::codes::{Code, Place};
+use crate::operators::{Prefix, truth_of};
+use prl_base::Value;
+
+/// What stands at the place; 0 where nothing does.
+fn at_place(inputs: &[Value], registers: &[Value], place: Place) -> Value
+    ensures { result ≡ at_place inputs.now registers.now place }
+{
+    let (values, at) = match place {
+        Place::Input(at) => (inputs, at),
+        Place::Register(at) => (registers, at),
+    };
+    match values.get(at) {
+        Some(value) => *value,
+        None => Value::Int(0),
+    }
+}
+
+/// The value with the operator before it so many times.
+fn prefixed_times(prefix: Prefix, times: usize, value: Value) -> Value
+    ensures { result ≡ prefixed_times prefix times value }
+{
+    let mut value = value;
+    for _ in 0..times {
+        value = prefix.before(value);
+    }
+    value
+}
+
+/// The value of the expression for these inputs and registers.
+pub fn value_of(code: &Code, inputs: &[Value], registers: &[Value]) -> Value
+    ensures { result ≡ value inputs.now registers.now (expression_of code.now) }
+{
+    match code {
+        Code::Const(value) => *value,
+        Code::Name(place) => at_place(inputs, registers, *place),
+        Code::Run { prefix, times, of } => {
+            prefixed_times(*prefix, *times, value_of(of, inputs, registers))
+        }
+        Code::Chain { first, links } => {
+            let mut value = value_of(first, inputs, registers);
+            for link in links {
+                value = link
+                    .operator
+                    .between(value, value_of(&link.right, inputs, registers));
+            }
+            value
+        }
+        Code::If {
+            test,
+            chosen,
+            other,
+        } => {
+            if truth_of(value_of(test, inputs, registers)) {
+                value_of(chosen, inputs, registers)
+            } else {
+                value_of(other, inputs, registers)
+            }
+        }
+    }
+}
