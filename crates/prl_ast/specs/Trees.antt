@@ -22,7 +22,8 @@ mutual
   pub data Root : Type 0 where
     const : Value → Root
     var : List ℕ → Root
-    apply : List ℕ → Trees → Root
+    -- the name, where it stands, and the arguments
+    apply : List ℕ → Span → Trees → Root
     group : Trees → Root
 
   pub data Trees : Type 0 where
@@ -33,7 +34,7 @@ abbrev mutual
   pub root_of : Base → Root
   root_of (Const v) = const v
   root_of (Var name) = var name
-  root_of (Apply' name shape args) = apply name (trees_of args)
+  root_of (Apply' name at shape args) = apply name at (trees_of args)
   root_of (Group' shape parts) = group (trees_of parts)
 
   pub trees_of : {m : _} → Row_of-Expr m → Trees

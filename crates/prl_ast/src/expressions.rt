@@ -30,8 +30,12 @@ pub enum Base {
     Const(Value),
     /// A flow of the node.
     Var(Name),
-    /// The flows that a node or an import gives.
-    Apply { name: Name, args: Vec<Expr> },
+    /// The flows that a node or an import gives; `at` is its name.
+    Apply {
+        name: Name,
+        at: Span,
+        args: Vec<Expr>,
+    },
     /// The flows of the parts in order.
     Group(Vec<Expr>),
 }

@@ -37,7 +37,7 @@ use Rattle.prl_syntax.specs.Loops.{with_front}
 abbrev some_behind : Read Trees → Read (Option Trees)
 some_behind r = r >>= λ a. Ok (Some a.0, a.1)
 
-abbrev named_behind : List ℕ → Read (Option Trees) → Read Root
+abbrev named_behind : List ℕ × Span → Read (Option Trees) → Read Root
 named_behind name r = r >>= λ args. Ok (root_of_name name args.0, args.1)
 
 pub group_read : (f : List Lexeme → Read Chain) (ts rest after : List Lexeme) (o : Span) (es : Trees) → next_in (only fixed.Open) ts ≡ true → the_at fixed.Open ts ≡ Ok (o, rest) → closed_trees_by f rest ≡ Ok (es, after)
@@ -46,18 +46,18 @@ group_read f ts rest after o es n a b =
     cond-true (next_in (only fixed.Open) ts) _ _ n ∙ ap (λ r. r >>= λ o. (closed_trees_by f o.1 >>= λ es. Ok (group es.0, es.1))) a ∙ ap (λ r. r >>= λ es. Ok (group es.0, es.1)) b
 
 named_read : (f : List Lexeme → Read Chain) (ts rest after : List Lexeme) (x : List ℕ × Span) (es : Trees) → next_in (only fixed.Open) ts ≡ false → name_at ts ≡ Ok (x, rest) → next_in (only fixed.Open) rest ≡ true → arguments_by f rest ≡ Ok (es, after)
-    → applied_by f ts ≡ Ok (apply x.0 es, after)
+    → applied_by f ts ≡ Ok (apply x.0 x.1 es, after)
 named_read f ts rest after x es n a m b =
-    cond-false (next_in (only fixed.Open) ts) _ _ n ∙ ap (λ r. r >>= λ n. (maybe_at (only fixed.Open) (arguments_by f) n.1 >>= λ args. Ok (root_of_name n.0.0 args.0, args.1))) a
-    ∙ ap (named_behind x.0) (cond-true (next_in (only fixed.Open) rest) _ _ m ∙ ap some_behind b)
+    cond-false (next_in (only fixed.Open) ts) _ _ n ∙ ap (λ r. r >>= λ n. (maybe_at (only fixed.Open) (arguments_by f) n.1 >>= λ args. Ok (root_of_name n.0 args.0, args.1))) a
+    ∙ ap (named_behind x) (cond-true (next_in (only fixed.Open) rest) _ _ m ∙ ap some_behind b)
 
 pub no_args_read : (f : List Lexeme → Read Chain) (ts rest between after : List Lexeme) (x : List ℕ × Span) (o p : Span) → next_in (only fixed.Open) ts ≡ false → name_at ts ≡ Ok (x, rest) → next_in (only fixed.Open) rest ≡ true
-    → the_at fixed.Open rest ≡ Ok (o, between) → next_in (only fixed.Close) between ≡ true → the_at fixed.Close between ≡ Ok (p, after) → applied_by f ts ≡ Ok (apply x.0 none, after)
+    → the_at fixed.Open rest ≡ Ok (o, between) → next_in (only fixed.Close) between ≡ true → the_at fixed.Close between ≡ Ok (p, after) → applied_by f ts ≡ Ok (apply x.0 x.1 none, after)
 no_args_read f ts rest between after x o p n a m b k d =
     named_read f ts rest after x none n a m (ap (λ r. r >>= λ o. choice (only fixed.Close) no_trees_at (closed_trees_by f) o.1) b ∙ cond-true (next_in (only fixed.Close) between) _ _ k ∙ ap (λ r. r >>= λ c. Ok (none, c.1)) d)
 
 pub args_read : (f : List Lexeme → Read Chain) (ts rest between after : List Lexeme) (x : List ℕ × Span) (o : Span) (es : Trees) → next_in (only fixed.Open) ts ≡ false → name_at ts ≡ Ok (x, rest) → next_in (only fixed.Open) rest ≡ true
-    → the_at fixed.Open rest ≡ Ok (o, between) → next_in (only fixed.Close) between ≡ false → closed_trees_by f between ≡ Ok (es, after) → applied_by f ts ≡ Ok (apply x.0 es, after)
+    → the_at fixed.Open rest ≡ Ok (o, between) → next_in (only fixed.Close) between ≡ false → closed_trees_by f between ≡ Ok (es, after) → applied_by f ts ≡ Ok (apply x.0 x.1 es, after)
 args_read f ts rest between after x o es n a m b k d =
     named_read f ts rest after x es n a m (ap (λ r. r >>= λ o. choice (only fixed.Close) no_trees_at (closed_trees_by f) o.1) b ∙ cond-false (next_in (only fixed.Close) between) _ _ k ∙ d)
 

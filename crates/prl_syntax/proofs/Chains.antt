@@ -197,7 +197,7 @@ unfolding ArgumentsText NoTrees
 arguments_reads n f chain = followed n (the_reads n fixed.Open) (λ o. either n (followed n (the_reads n fixed.Close) (λ c. give_reads n _) refl) (closed_trees_reads n f chain) refl refl) refl
 
 pub NamedText : Root → List Lexeme → Type 0
-NamedText = Then Named (λ x. Then (Maybe ArgumentsText) (λ args. Give (root_of_name x.0 args)))
+NamedText = Then Named (λ x. Then (Maybe ArgumentsText) (λ args. Give (root_of_name x args)))
 
 pub named_reads : (n : ℕ) (f : List Lexeme → Read Chain) → Reads n ChainText (solid chain_first chain_more) f → Reads (suc n) NamedText (solid (0 ∷ []) (only fixed.Open)) (named_by f)
 unfolding NamedText
@@ -300,7 +300,7 @@ unfolding TreesText
 group_root none w h = absurd h.inside
 group_root (more t ts) w h = h
 
-pub apply_root : (name : List ℕ) (es : Trees) (w u v : List Lexeme) → w ≡ u ++ v → NameText name u → Enclosed (TreesText es) v → RootText (apply name es) w
+pub apply_root : (name : List ℕ × Span) (es : Trees) (w u v : List Lexeme) → w ≡ u ++ v → Named name u → Enclosed (TreesText es) v → RootText (apply name.0 name.1 es) w
 unfolding TreesText
 apply_root name none w u v e n h = absurd h.inside
 apply_root name (more t ts) w u v e n h = record { left = u; right = v; whole = e; first = n; second = h }
@@ -315,13 +315,13 @@ to_group r w g =
     let P : Root → Type 0 = λ r. RootText r w in
     subst P (sym k.tail.is) (group_root k.first w (enclosed k.first w g.left k.left g.first (g.whole ∙ ap (λ x. g.left ++ x) (alone g.right k.left k.right k.whole k.tail.whole)) g.head k.head))
 
-pub to_applied : (name : List ℕ) (es : Trees) (w u v : List Lexeme) → w ≡ u ++ v → NameText name u → ArgumentsText es v → RootText (apply name es) w
+pub to_applied : (name : List ℕ × Span) (es : Trees) (w u v : List Lexeme) → w ≡ u ++ v → Named name u → ArgumentsText es v → RootText (apply name.0 name.1 es) w
 unfolding ArgumentsText NoTrees
 to_applied name es w u v e n a = go a.tail
   where
-    go : Either NoTrees ClosedTrees es a.right → RootText (apply name es) w
+    go : Either NoTrees ClosedTrees es a.right → RootText (apply name.0 name.1 es) w
     go (inl k) =
-        let P : Trees → Type 0 = λ es. RootText (apply name es) w in
+        let P : Trees → Type 0 = λ es. RootText (apply name.0 name.1 es) w in
         subst P (sym k.tail.is) (record {
           left = u;
           right = v;
@@ -345,7 +345,7 @@ pub to_named : (r : Root) (w : List Lexeme) → NamedText r w → RootText r w
 unfolding NamedText
 to_named r w h = go k.first refl k.head
   where
-    k : Then (Maybe ArgumentsText) (λ args. Give (root_of_name h.first.0 args)) r h.right
+    k : Then (Maybe ArgumentsText) (λ args. Give (root_of_name h.first args)) r h.right
     k = h.tail
 
     whole : w ≡ h.left ++ k.left
@@ -355,11 +355,11 @@ to_named r w h = go k.first refl k.head
     go args e (inl m) =
         let P : Root → Type 0 = λ r. RootText r w in
         let same : k.left ≡ m.left = alone k.left m.left m.right m.whole m.tail.whole in
-        let root : r ≡ apply h.first.0 m.first = k.tail.is ∙ ap (root_of_name h.first.0) (sym e ∙ m.tail.is) in
-        subst P (sym root) (to_applied h.first.0 m.first w h.left m.left (whole ∙ ap (λ x. h.left ++ x) same) (name_text h.first h.left h.head) m.head)
+        let root : r ≡ apply h.first.0 h.first.1 m.first = k.tail.is ∙ ap (root_of_name h.first) (sym e ∙ m.tail.is) in
+        subst P (sym root) (to_applied h.first m.first w h.left m.left (whole ∙ ap (λ x. h.left ++ x) same) h.head m.head)
     go args e (inr g) =
         let P : Root → Type 0 = λ r. RootText r w in
-        let root : r ≡ var h.first.0 = k.tail.is ∙ ap (root_of_name h.first.0) (sym e ∙ g.is) in
+        let root : r ≡ var h.first.0 = k.tail.is ∙ ap (root_of_name h.first) (sym e ∙ g.is) in
         let same : w ≡ h.left = alone w h.left k.left whole g.whole in
         let Q : List Lexeme → Type 0 = NameText h.first.0 in
         subst P (sym root) (subst Q (sym same) (name_text h.first h.left h.head))
@@ -468,21 +468,21 @@ var_parts name w h = record {
   tail = record { first = None; left = []; right = []; whole = refl; head = inr (given None); tail = record { is = ap var h.tail.is; whole = refl } };
 }
 
-pub apply_parts : (name : List ℕ) (es : Trees) (w u v : List Lexeme) → w ≡ u ++ v → NameText name u → ArgumentsText es v → NamedText (apply name es) w
+pub apply_parts : (name : List ℕ × Span) (es : Trees) (w u v : List Lexeme) → w ≡ u ++ v → Named name u → ArgumentsText es v → NamedText (apply name.0 name.1 es) w
 unfolding NamedText
 apply_parts name es w u v e h a = record {
-  first = h.first;
+  first = name;
   left = u;
   right = v;
   whole = e;
-  head = (let P : List Lexeme → Type 0 = Named h.first in subst P (sym (alone u h.left h.right h.whole h.tail.whole)) h.head);
+  head = h;
   tail = record {
     first = Some es;
     left = v;
     right = [];
     whole = sym (append-nil v);
     head = inl (record { first = es; left = v; right = []; whole = sym (append-nil v); head = a; tail = given (Some es) });
-    tail = record { is = ap (λ n. apply n es) h.tail.is; whole = refl };
+    tail = given (apply name.0 name.1 es);
   };
 }
 
@@ -507,7 +507,7 @@ pub root_parts : (r : Root) (w : List Lexeme) → RootText r w → ChainParts ([
 unfolding ChainParts ConstantChain AppliedText
 root_parts (const value) w h = inr (inl (record { first = value; left = w; right = []; whole = sym (append-nil w); head = h; tail = inr (inr (given ([], const value))) }))
 root_parts (var name) w h = with_root (var name) w (inr (var_parts name w h))
-root_parts (apply name none) w h = with_root (apply name none) w (inr (apply_parts name none w h.left h.right h.whole h.first (no_arguments h.right h.second)))
-root_parts (apply name (more t ts)) w h = with_root (apply name (more t ts)) w (inr (apply_parts name (more t ts) w h.left h.right h.whole h.first (some_arguments t ts h.right h.second)))
+root_parts (apply name at none) w h = with_root (apply name at none) w (inr (apply_parts (name, at) none w h.left h.right h.whole h.first (no_arguments h.right h.second)))
+root_parts (apply name at (more t ts)) w h = with_root (apply name at (more t ts)) w (inr (apply_parts (name, at) (more t ts) w h.left h.right h.whole h.first (some_arguments t ts h.right h.second)))
 root_parts (group none) w h = absurd h
 root_parts (group (more t ts)) w h = with_root (group (more t ts)) w (inl (group_parts t ts w h))

@@ -96,8 +96,8 @@ front_begins ks ls ms ns w u v e d b = let P : List Lexeme → Type 0 = Begins (
 root_begins : (r : Root) (w : List Lexeme) → RootText r w → Begins (solid chain_first chain_more) w
 root_begins (const value) w h = front_begins constant_first chain_first [] chain_more w w [] (sym (append-nil w)) refl ((constant_reads 0).begins value w h)
 root_begins (var name) w h = front_begins (0 ∷ []) chain_first [] chain_more w h.left h.right h.whole refl ((name_reads 0).begins h.first h.left h.head)
-root_begins (apply name none) w h = front_begins (0 ∷ []) chain_first [] chain_more w h.first.left (h.first.right ++ h.right) (h.whole ∙ ap (λ x. x ++ h.right) h.first.whole ∙ append_assoc h.first.left h.first.right h.right) refl ((name_reads 0).begins h.first.first h.first.left h.first.head)
-root_begins (apply name (more t ts)) w h = front_begins (0 ∷ []) chain_first [] chain_more w h.first.left (h.first.right ++ h.right) (h.whole ∙ ap (λ x. x ++ h.right) h.first.whole ∙ append_assoc h.first.left h.first.right h.right) refl ((name_reads 0).begins h.first.first h.first.left h.first.head)
+root_begins (apply name at none) w h = front_begins (0 ∷ []) chain_first [] chain_more w h.left h.right h.whole refl ((name_reads 0).begins (name, at) h.left h.first)
+root_begins (apply name at (more t ts)) w h = front_begins (0 ∷ []) chain_first [] chain_more w h.left h.right h.whole refl ((name_reads 0).begins (name, at) h.left h.first)
 root_begins (group none) w h = absurd h
 root_begins (group (more t ts)) w h = front_begins (only fixed.Open) chain_first [] chain_more w h.left (h.inner ++ h.right) h.whole refl ((the_reads 0 fixed.Open).begins h.open_at h.left h.opened)
 
@@ -168,7 +168,7 @@ tree_behind r = r >>= λ x. Ok (tree_of_parts x.0.0 x.0.1, x.1)
 abbrev some_behind : Read Trees → Read (Option Trees)
 some_behind r = r >>= λ a. Ok (Some a.0, a.1)
 
-abbrev named_behind : List ℕ → Read (Option Trees) → Read Root
+abbrev named_behind : List ℕ × Span → Read (Option Trees) → Read Root
 named_behind name r = r >>= λ args. Ok (root_of_name name args.0, args.1)
 
 tree_agree : (f g : List Lexeme → Read Chain) (n : ℕ) → AgreeBelow n f g → AgreeBelow n (tree_by f) (tree_by g)
@@ -228,7 +228,7 @@ chain_agree f g ts m same reads =
     named : named_by f ts ≡ named_by g ts
     named = same_bind (name_at ts) _ _ (λ x rest e.
         let less = leaves_fewer 0 (name_reads 0) refl ts x rest e in
-        ap (λ r. named_behind x.0 (cond (next_in (only fixed.Open) rest) (some_behind r) (Ok (None, rest)))) (arguments rest less))
+        ap (λ r. named_behind x (cond (next_in (only fixed.Open) rest) (some_behind r) (Ok (None, rest)))) (arguments rest less))
 
     applied : applied_by f ts ≡ applied_by g ts
     applied = ap (λ r. cond (next_in (only fixed.Open) ts) r (named_by f ts)) group_same ∙ ap (λ r. cond (next_in (only fixed.Open) ts) (group_by g ts) r) named

@@ -354,8 +354,8 @@ abbrev mutual
   pub RootText : Root → List Lexeme → Type 0
   RootText (const value) w = ConstantText value w
   RootText (var name) w = NameText name w
-  RootText (apply name none) w = Beside (NameText name) (Enclosed Nothing) w
-  RootText (apply name (more t ts)) w = Beside (NameText name) (Enclosed (Beside (TreeText t) (OthersText ts))) w
+  RootText (apply name at none) w = Beside (Named (name, at)) (Enclosed Nothing) w
+  RootText (apply name at (more t ts)) w = Beside (Named (name, at)) (Enclosed (Beside (TreeText t) (OthersText ts))) w
   RootText (group none) w = ⊥
   RootText (group (more t ts)) w = Enclosed (Beside (TreeText t) (OthersText ts)) w
 

@@ -385,15 +385,15 @@ arguments_by chain ts = do
   choice (only fixed.Close) no_trees_at (closed_trees_by chain) o.1
 
 -- a name, with arguments in parentheses where they follow
-abbrev pub root_of_name : List ℕ → Option Trees → Root
-root_of_name name None = var name
-root_of_name name (Some args) = apply name args
+abbrev pub root_of_name : List ℕ × Span → Option Trees → Root
+root_of_name name None = var name.0
+root_of_name name (Some args) = apply name.0 name.1 args
 
 abbrev pub named_by : (List Lexeme → Read Chain) → List Lexeme → Read Root
 named_by chain ts = do
   n ← name_at ts
   args ← maybe_at (only fixed.Open) (arguments_by chain) n.1
-  Ok (root_of_name n.0.0 args.0, args.1)
+  Ok (root_of_name n.0 args.0, args.1)
 
 abbrev pub applied_by : (List Lexeme → Read Chain) → List Lexeme → Read Root
 applied_by chain = choice (only fixed.Open) (group_by chain) (named_by chain)

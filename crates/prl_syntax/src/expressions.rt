@@ -129,7 +129,7 @@ fn applied(alloc: Global, terminals: &[Terminal]) -> Result<(Base, &[Terminal]),
         let (parts, rest) = attempt!(closed_exprs(alloc, rest));
         return Ok((Base::Group(parts), rest));
     }
-    let (name, _, rest) = name(alloc, terminals)?;
+    let (name, at, rest) = name(alloc, terminals)?;
     if !next_is(rest, Fixed::Open) {
         return Ok((Base::Var(name), rest));
     }
@@ -137,10 +137,10 @@ fn applied(alloc: Global, terminals: &[Terminal]) -> Result<(Base, &[Terminal]),
     if next_is(rest, Fixed::Close) {
         let (_, rest) = expect(rest, Fixed::Close)?;
         let args = Vec::new(alloc);
-        return Ok((Base::Apply { name, args }, rest));
+        return Ok((Base::Apply { name, at, args }, rest));
     }
     let (args, rest) = attempt!(closed_exprs(alloc, rest));
-    Ok((Base::Apply { name, args }, rest))
+    Ok((Base::Apply { name, at, args }, rest))
 }
 
 /// Takes a comma and an expression.

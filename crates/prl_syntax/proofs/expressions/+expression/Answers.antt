@@ -119,9 +119,9 @@ applied-returns-then-next_is t c =
 pub applied-returns-then-next_is-2 : goal.applied-returns-then-next_is-2
 applied-returns-then-next_is-2 t c =
     no_args_read chain_at c.args.terminals.now _ _ _ _ _ _ (sym c.next_is.ensures ∙ c.if-next_is.false) c.in_ok-name.ensures (sym c.next_is-2.ensures ∙ c.if-not-next_is.false) c.in_ok-rest-2.ensures (sym c.next_is-3.ensures ∙ c.if-next_is-2.true) c.in_ok-rest-3.ensures
-    ∙ ap (λ r. rooted r c.in_ok-rest-3.rest.now) (sym (root_apply c.in_ok-name.name c.new-args.result ∙ ap (λ xs. apply c.in_ok-name.name (trees_from (map tree_of xs))) c.new-args.ensures.items))
+    ∙ ap (λ r. rooted r c.in_ok-rest-3.rest.now) (sym (root_apply c.in_ok-name.name c.in_ok-name.at c.new-args.result ∙ ap (λ xs. apply c.in_ok-name.name c.in_ok-name.at (trees_from (map tree_of xs))) c.new-args.ensures.items))
 
 pub applied-returns : goal.applied-returns
 applied-returns t c =
     args_read chain_at c.args.terminals.now _ _ _ _ _ _ (sym c.next_is.ensures ∙ c.if-next_is.false) c.in_ok-name.ensures (sym c.next_is-2.ensures ∙ c.if-not-next_is.false) c.in_ok-rest-2.ensures (sym c.next_is-3.ensures ∙ c.if-next_is-2.false) c.in-Ok-closed_exprs.ensures
-    ∙ ap (λ r. rooted r c.in-Ok-closed_exprs.read.1.now) (sym (root_apply c.in_ok-name.name c.in-Ok-closed_exprs.read.0))
+    ∙ ap (λ r. rooted r c.in-Ok-closed_exprs.read.1.now) (sym (root_apply c.in_ok-name.name c.in_ok-name.at c.in-Ok-closed_exprs.read.0))
