@@ -1,1 +1,4 @@
 pub mod Lists
+pub mod Scanning
+pub mod Pieces
+pub mod Fragments

@@ -9,3 +9,6 @@ mod numbers;
 mod printing;
 
 pub use printing::print;
+
+#[cfg(test)]
+mod tests;
