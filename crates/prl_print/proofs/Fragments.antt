@@ -1,6 +1,6 @@
 -- Parts of a printed text and their tokens, in any text that they stand in.
 use Rattle.std.proofs.Common.{◌≡◌, ◌==◌, ◌<◌, ◌≤◌, ◌+◌, ◌-◌, ◌^◌, ◌&&◌, ◌||◌, ℕ, zero, suc, Bool, true, false, cond, not, ltb, leb, codes, decimal, List, [], ◌∷◌, ◌++◌, length, Option, Some, None, refl, sym, ap, ◌∙◌, subst, arith, append_assoc}
-use Rattle.std.proofs.lemmas.Bool.{cond-true, cond-false, and_from, and_parts, le-leb, not-true}
+use Rattle.std.proofs.lemmas.Bool.{cond-true, cond-false, and_from, and_parts, or_parts, le-leb, not-true}
 use Rattle.std.proofs.lemmas.Bool.Decides.{nat_tests}
 use Rattle.std.specs.List.{flat_map, AllByRecursion}
 use Rattle.prl_base.specs.Names.{is_word_byte, IsName}
@@ -18,16 +18,24 @@ use Rattle.prl_print.proofs.Pieces.{a_name, a_number, a_fixed, Stops, NoPair, Is
 abbrev pub is_plain : ℕ → ℕ → Bool
 is_plain before last = not (is_count before last) && (not (last == 26) && not (last == 13))
 
--- what may follow a part: no byte of a word, no star, or anything
+-- what may follow a part: no byte of a word and no star, no star, or anything
 pub data End : Type 0 where
   word : End
   paren : End
   free : End
 
 abbrev pub Fits : End → List ℕ → Type 0
-Fits word rest = Stops is_word_byte rest
+Fits word rest = Stops (λ b. is_word_byte b || (b == 42)) rest
 Fits paren rest = Stops (λ b. b == 42) rest
 Fits free rest = Unit {0}
+
+pub no_word : (rest : List ℕ) → Fits word rest → Stops is_word_byte rest
+no_word [] h = tt
+no_word (b ∷ rest) h = (or_parts (is_word_byte b) (b == 42) h).0
+
+pub no_star : (rest : List ℕ) → Fits word rest → Fits paren rest
+no_star [] h = tt
+no_star (b ∷ rest) h = (or_parts (is_word_byte b) (b == 42) h).1
 
 pub record Plain (depth : ℕ) (text : List ℕ) (ks : List Lexeme) : Type 0 where
   pub scan : (before last : ℕ) → is_plain before last ≡ true → Scan before last depth text ks
@@ -79,12 +87,12 @@ pub f_feed : (d : ℕ) → Frag d (codes "\n") [] free d
 f_feed d = f_space d 10 (omega arith) refl
 
 pub f_name : (d : ℕ) (name : List ℕ) → IsName name → keyword_of name ≡ None → Frag d name (a_name name ∷ []) word d
-f_name d name is no_key = with_all d name (a_name name ∷ []) word d (λ before last rest more plain fits s. scan_word before last d name rest None more is no_key fits refl (s.scan last 0 refl))
+f_name d name is no_key = with_all d name (a_name name ∷ []) word d (λ before last rest more plain fits s. scan_word before last d name rest None more is no_key (no_word rest fits) refl (s.scan last 0 refl))
 
 -- a keyword behind which a number has no range of its own
 pub f_keyword : (d : ℕ) (f : Fixed) (text : List ℕ) → IsName text → keyword_of text ≡ Some f → (class_of f == 1) ≡ false → ((l : ℕ) → is_plain l (class_of f) ≡ true) → Frag d text (a_fixed f ∷ []) word d
 f_keyword d f text is key other after = with_all d text (a_fixed f ∷ []) word d (λ before last rest more plain fits s.
-    scan_word before last d text rest (Some f) more is key fits (ap (λ t. t && not (in_range before last 0)) other) (s.scan last (class_of f) (after last)))
+    scan_word before last d text rest (Some f) more is key (no_word rest fits) (ap (λ t. t && not (in_range before last 0)) other) (s.scan last (class_of f) (after last)))
 
 plain_range : (before last n : ℕ) → is_plain before last ≡ true → n ≤ 2147483647 → is_fault before last (a_number n) ≡ false
 plain_range before last n plain le =
@@ -97,7 +105,7 @@ count_range n low high = and_from (leb 1 n) (leb n 2147483647) (le-leb 1 n low) 
 
 pub f_number : (d n : ℕ) → n ≤ 2147483647 → Frag d (decimal n) (a_number n ∷ []) word d
 f_number d n le = with_all d (decimal n) (a_number n ∷ []) word d (λ before last rest more plain fits s.
-    scan_number before last d n rest more (omega arith) fits (plain_range before last n plain le) (s.scan last 1 refl))
+    scan_number before last d n rest more (omega arith) (no_word rest fits) (plain_range before last n plain le) (s.scan last 1 refl))
 
 pub f_close : (d : ℕ) → d ≤ 64 → Frag (d + 1) (codes ")") (a_fixed fixed.Close ∷ []) free d
 f_close d le = with_all (d + 1) (codes ")") (a_fixed fixed.Close ∷ []) free d (λ before last rest more plain fits s.
@@ -176,26 +184,26 @@ pub f_up : (d n : ℕ) → d ≤ 64 → 1 ≤ n → n ≤ 2147483647 → Frag d 
 f_up d n le low high = with_all d (codes "*^ " ++ decimal n) (a_fixed fixed.Up ∷ a_number n ∷ []) word d (λ before last rest more plain fits s.
     scan_two before last d 42 94 (32 ∷ (decimal n ++ rest)) fixed.Up (a_number n ∷ more) (record { blank = refl; word = refl; digit = refl; small = omega arith }) (omega arith) refl refl refl refl le refl
     (scan_blank last 28 d 32 (decimal n ++ rest) (a_number n ∷ more) (omega arith) refl
-    (scan_number last 28 d n rest more (omega arith) fits (ap not (count_range n low high)) (s.scan 28 1 refl))))
+    (scan_number last 28 d n rest more (omega arith) (no_word rest fits) (ap not (count_range n low high)) (s.scan 28 1 refl))))
 
 pub f_down : (d n : ℕ) → d ≤ 64 → 1 ≤ n → n ≤ 2147483647 → Frag d (codes "/^ " ++ decimal n) (a_fixed fixed.Down ∷ a_number n ∷ []) word d
 f_down d n le low high = with_all d (codes "/^ " ++ decimal n) (a_fixed fixed.Down ∷ a_number n ∷ []) word d (λ before last rest more plain fits s.
     scan_two before last d 47 94 (32 ∷ (decimal n ++ rest)) fixed.Down (a_number n ∷ more) (record { blank = refl; word = refl; digit = refl; small = omega arith }) (omega arith) refl refl refl refl le refl
     (scan_blank last 29 d 32 (decimal n ++ rest) (a_number n ∷ more) (omega arith) refl
-    (scan_number last 29 d n rest more (omega arith) fits (ap not (count_range n low high)) (s.scan 29 1 refl))))
+    (scan_number last 29 d n rest more (omega arith) (no_word rest fits) (ap not (count_range n low high)) (s.scan 29 1 refl))))
 
 pub f_wcet : (d n : ℕ) → 1 ≤ n → n ≤ 2147483647 → Frag d (codes "wcet " ++ decimal n) (a_fixed fixed.Wcet ∷ a_number n ∷ []) word d
 f_wcet d n low high = with_all d (codes "wcet " ++ decimal n) (a_fixed fixed.Wcet ∷ a_number n ∷ []) word d (λ before last rest more plain fits s.
     scan_word before last d (codes "wcet") (32 ∷ (decimal n ++ rest)) (Some fixed.Wcet) (a_number n ∷ more) (refl, omega arith) refl refl refl
     (scan_blank last 5 d 32 (decimal n ++ rest) (a_number n ∷ more) (omega arith) refl
-    (scan_number last 5 d n rest more (omega arith) fits (ap not (count_range n low high)) (s.scan 5 1 refl))))
+    (scan_number last 5 d n rest more (omega arith) (no_word rest fits) (ap not (count_range n low high)) (s.scan 5 1 refl))))
 
 pub f_rate : (d n : ℕ) → d + 1 ≤ 64 → 1 ≤ n → n ≤ 2147483647 → Frag d (codes "rate (" ++ decimal n) (a_fixed fixed.Rate ∷ a_fixed fixed.Open ∷ a_number n ∷ []) word (d + 1)
 f_rate d n le low high = with_all d (codes "rate (" ++ decimal n) (a_fixed fixed.Rate ∷ a_fixed fixed.Open ∷ a_number n ∷ []) word (d + 1) (λ before last rest more plain fits s.
     scan_word before last d (codes "rate") (32 ∷ 40 ∷ (decimal n ++ rest)) (Some fixed.Rate) (a_fixed fixed.Open ∷ a_number n ∷ more) (refl, omega arith) refl refl refl
     (scan_blank last 13 d 32 (40 ∷ (decimal n ++ rest)) (a_fixed fixed.Open ∷ a_number n ∷ more) (omega arith) refl
     (scan_one last 13 d (d + 1) 40 (decimal n ++ rest) fixed.Open (a_number n ∷ more) (record { blank = refl; word = refl; digit = refl; small = omega arith }) (begins_other 45 45 40 (decimal n ++ rest) refl) (no_comment (decimal n ++ rest) (number_leads (λ b. b == 42) n rest (omega arith) star)) (no_pair (decimal n ++ rest)) refl refl refl le refl
-    (scan_number 13 19 (d + 1) n rest more (omega arith) fits (ap not (count_range n low high)) (s.scan 19 1 refl)))))
+    (scan_number 13 19 (d + 1) n rest more (omega arith) (no_word rest fits) (ap not (count_range n low high)) (s.scan 19 1 refl)))))
   where
     no_pair : (rest : List ℕ) → NoPair 40 rest
     no_pair [] = tt
@@ -212,7 +220,7 @@ f_rate d n le low high = with_all d (codes "rate (" ++ decimal n) (a_fixed fixed
 pub f_slash : (d n : ℕ) → d ≤ 64 → 1 ≤ n → n ≤ 2147483647 → Frag d (codes "/" ++ decimal n) (a_fixed fixed.Slash ∷ a_number n ∷ []) word d
 f_slash d n le low high = with_all d (codes "/" ++ decimal n) (a_fixed fixed.Slash ∷ a_number n ∷ []) word d (λ before last rest more plain fits s.
     scan_one before last d d 47 (decimal n ++ rest) fixed.Slash (a_number n ∷ more) (record { blank = refl; word = refl; digit = refl; small = omega arith }) (begins_other 45 45 47 (decimal n ++ rest) refl) (begins_other 40 42 47 (decimal n ++ rest) refl) (number_leads (is_two_byte_symbol 47) n rest (omega arith) caret) refl refl refl le refl
-    (scan_number last 27 d n rest more (omega arith) fits (ap not (count_range n low high)) (s.scan 27 1 refl)))
+    (scan_number last 27 d n rest more (omega arith) (no_word rest fits) (ap not (count_range n low high)) (s.scan 27 1 refl)))
   where
     caret : (b : ℕ) → 48 ≤ b → b ≤ 57 → is_two_byte_symbol 47 b ≡ false
     caret b low high = grind (arith, nat_tests)
@@ -221,7 +229,7 @@ f_slash d n le low high = with_all d (codes "/" ++ decimal n) (a_fixed fixed.Sla
 pub f_minus : (d n : ℕ) → d ≤ 64 → n ≤ 2147483648 → Frag d (codes "-" ++ decimal n) (a_fixed fixed.Minus ∷ a_number n ∷ []) word d
 f_minus d n le high = with_all d (codes "-" ++ decimal n) (a_fixed fixed.Minus ∷ a_number n ∷ []) word d (λ before last rest more plain fits s.
     scan_one before last d d 45 (decimal n ++ rest) fixed.Minus (a_number n ∷ more) (record { blank = refl; word = refl; digit = refl; small = omega arith }) (no_comment (decimal n ++ rest) (number_leads (λ b. b == 45) n rest (omega arith) dash)) (begins_other 40 42 45 (decimal n ++ rest) refl) (no_pair (decimal n ++ rest)) refl refl refl le refl
-    (scan_number last 26 d n rest more (omega arith) fits (ap not (le-leb n 2147483648 high)) (s.scan 26 1 refl)))
+    (scan_number last 26 d n rest more (omega arith) (no_word rest fits) (ap not (le-leb n 2147483648 high)) (s.scan 26 1 refl)))
   where
     no_pair : (rest : List ℕ) → NoPair 45 rest
     no_pair [] = tt

@@ -51,9 +51,10 @@ implies_not false u h e = absurd (false≢true e)
 
 -- what begins no word
 abbrev is_other : ℕ → Bool
-is_other b = is_blank b || (b == 45) || (b == 40) || (b == 41)
+is_other b = is_blank b || (b == 45) || (b == 40) || (b == 41) || (b == 42)
 
 record IsNoOther (b : ℕ) : Type 0 where
+  star : (b == 42) ≡ false
   blank : is_blank b ≡ false
   dash : (b == 45) ≡ false
   opening : (b == 40) ≡ false
@@ -61,10 +62,11 @@ record IsNoOther (b : ℕ) : Type 0 where
 
 no_other : (b : ℕ) → is_other b ≡ false → IsNoOther b
 no_other b h =
-    let one = or_parts (is_blank b || (b == 45) || (b == 40)) (b == 41) h in
+    let zero = or_parts (is_blank b || (b == 45) || (b == 40) || (b == 41)) (b == 42) h in
+    let one = or_parts (is_blank b || (b == 45) || (b == 40)) (b == 41) zero.0 in
     let two = or_parts (is_blank b || (b == 45)) (b == 40) one.0 in
     let three = or_parts (is_blank b) (b == 45) two.0 in
-    record { blank = three.0; dash = three.1; opening = two.1; closing = one.1 }
+    record { star = zero.1; blank = three.0; dash = three.1; opening = two.1; closing = one.1 }
 
 word_no_other : (b : ℕ) → b < 256 → is_word_start b ≡ true → IsNoOther b
 word_no_other b lt h = no_other b (implies_not (is_word_start b) (is_other b) (agree_below_at (λ b. is_word_start b && is_other b) (λ _. false) 256 b refl lt) h)
@@ -218,3 +220,31 @@ number_leads p n rest fits other = leads (decimal n) (decimal_is_IsNumeral n fit
     leads : (ds : List ℕ) → AllDigits 10 ds → 0 < length ds → Stops p (ds ++ rest)
     leads [] h some = absurd (omega arith)
     leads (d ∷ ds) h some = let range = digit_range d h.0 in other d range.0 range.1
+
+-- a text that begins with a byte other than a star
+abbrev pub Leads : List ℕ → Type 0
+Leads [] = ⊥
+Leads (b ∷ bs) = (b == 42) ≡ false
+
+pub leads_more : (a b : List ℕ) → Leads a → Leads (a ++ b)
+leads_more [] b h = absurd h
+leads_more (x ∷ a) b h = h
+
+pub leads_fit : (a rest : List ℕ) → Leads a → Stops (λ b. b == 42) (a ++ rest)
+leads_fit [] rest h = absurd h
+leads_fit (x ∷ a) rest h = h
+
+pub name_leads : (name : List ℕ) → IsName name → Leads name
+name_leads [] h = absurd (false≢true h.0)
+name_leads (c ∷ cs) h =
+    let parts = and_parts (is_word_start c) (list_all is_word_byte cs) h.0 in
+    (word_no_other c (word_start_small c parts.0) parts.0).star
+
+pub number_no_star : (n : ℕ) → n < 2 ^ 64 → Leads (decimal n)
+number_no_star n fits = leads (decimal n) (decimal_is_IsNumeral n fits).0.1 (decimal_is_IsNumeral n fits).0.0
+  where
+    leads : (ds : List ℕ) → AllDigits 10 ds → 0 < length ds → Leads ds
+    leads [] h some = absurd (omega arith)
+    leads (d ∷ ds) h some =
+        let pass = and_parts (is_ascii_digit d) (list_all is_ascii_digit ds) (digits_pass (d ∷ ds) h) in
+        (digit_no_other d (digits_small (d ∷ ds) h).0 pass.0).star
