@@ -1,0 +1,6 @@
+pub mod Lists
+pub mod Scanning
+pub mod Pieces
+pub mod Fragments
+pub mod Words
+pub mod Spelled
