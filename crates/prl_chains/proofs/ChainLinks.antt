@@ -1,5 +1,5 @@
 -- Flows that stand one behind the other.
-use Rattle.std.proofs.Common.{◌≡◌, ℕ, ◌+◌, ◌<◌, ◌≤◌, zero, suc, List, [], ◌∷◌, ◌++◌, length, map, Option, Some, None, slice_get, refl, sym, ap, ◌∙◌, subst, arith, length-append, below_more, drop, get_or, drop-cons}
+use Rattle.std.proofs.Common.{◌≡◌, ℕ, ◌+◌, ◌<◌, ◌≤◌, zero, suc, List, [], ◌∷◌, ◌++◌, length, map, Option, Some, None, slice_get, refl, sym, ap, ◌∙◌, subst, arith, length-append, below_more, drop, get_or, drop-cons, add-one}
 use Rattle.std.specs.Option.{option_map}
 use Rattle.std.proofs.lemmas.List.{get_or_append_left, map-append, length-map}
 use Rattle.std.proofs.lemmas.Option.{slice_get-map, slice_get_within, get_or_from_slice_get}
@@ -16,15 +16,9 @@ use Rattle.prl_flow.proofs.Lists.{slice_get-append_left, slice_get-push}
 use Rattle.prl_chains.specs.declared.rights.Right.{Right}
 use Rattle.prl_chains.specs.declared.rights.Right.TheVariants.{Copy, Delayed, Faster, Slower}
 use Rattle.prl_chains.specs.declared.links.Link.{Link}
-use Rattle.prl_chains.specs.Options.{◌>>=◌, the_one}
+use Rattle.prl_chains.specs.Options.{◌>>=◌}
 use Rattle.prl_chains.specs.Rights.{def_of, IsRight, IsPeriod}
 use Rattle.prl_chains.specs.Links.{link_clock, made_link, link_of, links_from, IsLinked, IsLink, AreLinks}
-
--- the item of a list of one, of which each item is seen by `f`
-pub the_one-map : {A B : Type 0} (f : A → B) (xs : List A) → the_one (map f xs) ≡ option_map f (the_one xs)
-the_one-map f [] = refl
-the_one-map f (x ∷ []) = refl
-the_one-map f (x ∷ y ∷ rest) = refl
 
 -- the clock of a flow
 pub clock_of-link : (links : List Link) (i : ℕ) (l : Link) → slice_get links i ≡ Some l → clock_of (map link_clock links) i ≡ link_clock l
@@ -102,31 +96,23 @@ pub AreLinks-input : (first : Link) → IsFactor first.period → first.def ≡ 
 AreLinks-input first factor sensor = record { some = omega arith; each = input_alone first factor sensor }
 
 -- the flow of the equation at a place stands in front of those behind it
-links_from-drop : (n : NodeTree) (links : List Link) (equations : List Equation) (i : ℕ) (d : Equation) → i < length equations
+links_from-drop : (n : NodeTree) (links : List Link) (equations : List Equation) (i : ℕ) (e : Equation) → i < length equations → e ≡ get_or equations i e
     → links_from n links (map equation_tree (drop i equations))
-    ≡ (link_of n links (equation_tree (get_or equations i d)) >>= λ link. links_from n (links ++ link ∷ []) (map equation_tree (drop (i + 1) equations)))
-links_from-drop n links equations i d below =
-    ap (λ es. links_from n links (map equation_tree es)) (drop-cons equations i d below)
-    ∙ ap (λ k. link_of n links (equation_tree (get_or equations i d)) >>= λ link. links_from n (links ++ link ∷ []) (map equation_tree (drop k equations)))
-    (let e : suc i ≡ i + 1 = omega arith in e)
+    ≡ (link_of n links (equation_tree e) >>= λ link. links_from n (links ++ link ∷ []) (map equation_tree (drop (i + 1) equations)))
+links_from-drop n links equations i e below item =
+    let next : drop i equations ≡ e ∷ drop (i + 1) equations =
+    rw add-one (drop-cons equations i e below ∙ ap (λ (x : Equation). x ∷ drop (suc i) equations) (sym item)) in
+    ap (λ (es : List Equation). links_from n links (map equation_tree es)) next
 
--- where the equation makes no flow, there are none
-pub links_from-none : (n : NodeTree) (links others : List Link) (equations : List Equation) (i : ℕ) (d : Equation) → i < length equations → others ≡ links
-    → None ≡ link_of n others (equation_tree (get_or equations i d)) → links_from n links (map equation_tree (drop i equations)) ≡ None
-links_from-none n links others equations i d below is none =
-    links_from-drop n links equations i d below
-    ∙ ap (λ (r : Option Link). r >>= λ link. links_from n (links ++ link ∷ []) (map equation_tree (drop (i + 1) equations)))
-    (ap (λ (ls : List Link). link_of n ls (equation_tree (get_or equations i d))) (sym is) ∙ sym none)
-
--- where it makes one, that is the next
-pub links_from-next : (n : NodeTree) (links others all : List Link) (equations : List Equation) (i : ℕ) (d : Equation) (link : Link) → i < length equations → others ≡ links
-    → Some link ≡ link_of n others (equation_tree (get_or equations i d)) → all ≡ links ++ link ∷ []
+-- where it makes a flow, that is the next
+pub links_from-next : (n : NodeTree) (links others all : List Link) (equations : List Equation) (i : ℕ) (e : Equation) (link : Link) → i < length equations → e ≡ get_or equations i e
+    → others ≡ links → Some link ≡ link_of n others (equation_tree e) → all ≡ links ++ link ∷ []
     → links_from n all (map equation_tree (drop (i + 1) equations)) ≡ links_from n links (map equation_tree (drop i equations))
-links_from-next n links others all equations i d link below is found more =
+links_from-next n links others all equations i e link below item is found more =
     ap (λ (ls : List Link). links_from n ls (map equation_tree (drop (i + 1) equations))) more
-    ∙ sym (links_from-drop n links equations i d below
+    ∙ sym (links_from-drop n links equations i e below item
     ∙ ap (λ (r : Option Link). r >>= λ l. links_from n (links ++ l ∷ []) (map equation_tree (drop (i + 1) equations)))
-    (ap (λ (ls : List Link). link_of n ls (equation_tree (get_or equations i d))) (sym is) ∙ sym found))
+    (ap (λ (ls : List Link). link_of n ls (equation_tree e)) (sym is) ∙ sym found))
 
 -- the same, as a longer list made by the code
 pub AreLinks-next : (links others all : List Link) (new : Link) → AreLinks links → others ≡ links → IsLink others (length others) new → all ≡ links ++ new ∷ [] → AreLinks all

@@ -1,3 +1,3 @@
 pub mod ChainLinks
 pub mod ChainFlats
-
+pub mod Relayed

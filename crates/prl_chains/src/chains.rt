@@ -1,6 +1,6 @@
 //! Chains: which programs are of the form, and their flat programs.
 
-ghost use Rattle.std.specs.Prelude.{◌≡◌, ◌<◌, ◌≤◌, [], ◌∷◌, IfOk, IfSome};
+ghost use Rattle.std.specs.Prelude.{◌≡◌, ◌<◌, ◌≤◌, [], ◌∷◌, map, IfOk, IfSome};
 ghost use Rattle.std.specs.List.{list_all};
 ghost use Rattle.std.specs.Option.{option_map};
 ghost use Rattle.std.specs.Vec.{vec_items};
@@ -8,6 +8,7 @@ ghost use Rattle.prl_ast.specs.Trees.{node_tree, program_tree};
 ghost use Rattle.prl_flow.specs.Programs.{IsFactor};
 ghost use Rattle.prl_flow.specs.Solutions.{clock_of};
 ghost use Rattle.prl_chains.specs.Chains.{is_bare, whole_period, noted_period, input_period, are_apart, is_device_of, are_variables, flat_chain, ends_of, node_links, parts_of, chain_of};
+ghost use Rattle.prl_chains.specs.Options.{the_one};
 ghost use Rattle.prl_chains.specs.Facts.{AreBetween, IsChain};
 ghost use Rattle.prl_chains.specs.Relays.{is_copy, are_copies, is_relay};
 
@@ -201,6 +202,17 @@ fn node_links(
     }
 }
 
+/// The node of a list of one.
+fn one_node(nodes: &[Node]) -> Option<&Node>
+    ensures { option_map (λ n. node_tree n.now) result ≡ the_one (map node_tree nodes.now) }
+{
+    match nodes {
+        [node] => Some(node),
+        [] => None,
+        [_, _, ..] => None,
+    }
+}
+
 /// The one sensor, the one actuator and the one node, where there is no import.
 #[tactic(auto, unfolding(crate::specs::Chains::parts_of))]
 fn parts_of(program: &Program) -> Option<(&Device, &Device, &Node)>
@@ -208,7 +220,7 @@ fn parts_of(program: &Program) -> Option<(&Device, &Device, &Node)>
 {
     let sensor = the_one(program.sensors.as_slice())?;
     let actuator = the_one(program.actuators.as_slice())?;
-    let node = the_one(program.nodes.as_slice())?;
+    let node = one_node(program.nodes.as_slice())?;
     if program.imports.is_empty() {
         Some((sensor, actuator, node))
     } else {
