@@ -1,8 +1,6 @@
 -- The flat programs of chains are well formed, and their clocks and order are right.
-use Rattle.std.proofs.Common.{◌≡◌, ℕ, ◌<◌, zero, suc, false, List, [], ◌∷◌, length, map, Some, refl, sym, ap, ◌∙◌, subst, arith}
+use Rattle.std.proofs.Common.{◌≡◌, ◌≢◌, ℕ, ◌<◌, zero, suc, List, [], ◌∷◌, length, map, Some, refl, sym, ap, ◌∙◌, subst, arith}
 use Rattle.std.specs.Prelude.{slice_get}
-use Rattle.std.specs.Str.{bytes_eq}
-use Rattle.std.proofs.lemmas.Slice.Eq.{bytes_eq-Decides}
 use Rattle.std.specs.Option.{option_map}
 use Rattle.std.proofs.lemmas.List.{length-map}
 use Rattle.std.proofs.lemmas.Option.{slice_get-map, slice_get_within}
@@ -39,19 +37,19 @@ at_two P a b pa pb zero x e = subst (P 0) (some_inner a x e) pa
 at_two P a b pa pb (suc zero) x e = subst (P 1) (some_inner b x e) pb
 at_two P a b pa pb (suc (suc i)) x e = cc
 
--- two texts that differ have no device in common
-apart_names : (a b : List ℕ) (m n : ℕ) → bytes_eq a b ≡ false → (j k : ℕ) (c d : programs.Device)
+-- two devices of different names
+apart_names : (a b : List ℕ) (m n : ℕ) → a ≢ b → (j k : ℕ) (c d : programs.Device)
     → slice_get ((a, m) ∷ (b, n) ∷ []) j ≡ Some c → slice_get ((a, m) ∷ (b, n) ∷ []) k ≡ Some d → c.0 ≡ d.0 → j ≡ k
 apart_names a b m n differ zero zero c d e f same = refl
 apart_names a b m n differ (suc zero) (suc zero) c d e f same = refl
 apart_names a b m n differ zero (suc zero) c d e f same =
     let x = ap (λ (p : programs.Device). p.0) (some_inner (a, m) c e) in
     let y = ap (λ (p : programs.Device). p.0) (some_inner (b, n) d f) in
-    let equal = (bytes_eq-Decides a b).1 (x ∙ same ∙ sym y) in cc
+    absurd (differ (x ∙ same ∙ sym y))
 apart_names a b m n differ (suc zero) zero c d e f same =
     let x = ap (λ (p : programs.Device). p.0) (some_inner (b, n) c e) in
     let y = ap (λ (p : programs.Device). p.0) (some_inner (a, m) d f) in
-    let equal = (bytes_eq-Decides a b).1 (y ∙ sym same ∙ sym x) in cc
+    absurd (differ (y ∙ sym same ∙ sym x))
 apart_names a b m n differ zero (suc (suc k)) c d e f same = cc
 apart_names a b m n differ (suc zero) (suc (suc k)) c d e f same = cc
 apart_names a b m n differ (suc (suc j)) k c d e f same = cc

@@ -12,12 +12,8 @@ use Rattle.prl_flow.specs.declared.programs.Def.{Def}
 use Rattle.prl_flow.proofs.Lists.{element_at}
 use Rattle.prl_chains.specs.declared.chains.Chain.{Chain}
 use Rattle.prl_chains.specs.Facts.{IsChain}
+use Rattle.prl_chains.proofs.Truths.{both_true}
 use Rattle.prl_chains.specs.Relays.{is_copy, are_copies, is_relay, HandsOn}
-
-both_true : (a b : Bool) → IsTrue (a && b) → IsTrue a × IsTrue b
-both_true true true h = (refl, refl)
-both_true true false h = cc
-both_true false b h = cc
 
 -- each of these flows is a copy
 each_copy : (flows : List Flow) → IsTrue (list_all (λ (f : Flow). is_copy f.def) flows) → (i : ℕ) (flow : Flow) → slice_get flows i ≡ Some flow → IsTrue (is_copy flow.def)

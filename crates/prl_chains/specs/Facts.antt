@@ -1,6 +1,5 @@
 -- What is known of a chain.
-use Rattle.std.specs.Prelude.{◌≡◌, false, ◌<◌, ◌≤◌, ℕ, List, [], ◌∷◌, length, Some, slice_get}
-use Rattle.std.specs.Str.{bytes_eq}
+use Rattle.std.specs.Prelude.{◌≡◌, ◌≢◌, ◌<◌, ◌≤◌, ℕ, List, [], ◌∷◌, length, Some, slice_get}
 use Rattle.prl_ast.specs.declared.declarations.Device.{Device}
 use Rattle.prl_base.specs.declared.values.Ty.TheVariants as types
 use Rattle.prl_flow.specs.declared.programs.Flow.{Flow}
@@ -15,7 +14,7 @@ pub record AreBetween (sensor actuator : Device) (links : List Link) : Type 0 wh
   pub linked : AreLinks links
   pub few : length links ≤ 65
   pub out : flow_named links actuator.name < length links
-  pub apart : bytes_eq sensor.name actuator.name ≡ false
+  pub apart : sensor.name ≢ actuator.name
   pub wcet_in : IsFactor sensor.wcet
   pub wcet_out : IsFactor actuator.wcet
 
