@@ -12,3 +12,5 @@ mod rights;
 pub use chains::{Chain, chain_of};
 pub use relays::{copies_hand_on, one_sensor_suffices};
 
+#[cfg(test)]
+mod tests;
