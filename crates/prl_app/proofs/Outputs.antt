@@ -14,6 +14,7 @@ use Rattle.prl_flow.specs.Solutions.{AreClocks, Solves, clock_of, values_of}
 use Rattle.prl_flow.specs.Actuators.{AreUpTo}
 use Rattle.prl_flow.specs.Counts.{values_before}
 use Rattle.prl_app.specs.declared.runs.Run.{Run}
+use Rattle.prl_app.specs.Asked.{ToCompute}
 use Rattle.prl_app.specs.Runs.{out_flows, chain_run}
 use Rattle.prl_base.specs.Reading.{◌>>=◌}
 use Rattle.prl_lex.specs.Lexing.{token_text}
@@ -55,7 +56,7 @@ AreUpTo-out_flows run flows flat clocks solution =
     0 run.flat.outs (all_by_places (λ (flow : FlowNo). flow.0 < length run.flat.flows) run.flat.outs flat.outs))
 
 -- what has few enough values is computed as it is
-pub within_limit-few : (run : Run) → values_before run.until run.clocks.of ≤ 4000000 → within_limit run ≡ Ok run
+pub within_limit-few : (run : Run) → values_before run.until run.clocks.of ≤ 4000000 → within_limit run ≡ Ok (ToCompute run)
 within_limit-few run few = rw (le-ltb 4000000 (values_before run.until run.clocks.of) few) refl
 
 -- the outcome where each stage before the last one goes well

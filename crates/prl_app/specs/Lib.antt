@@ -4,6 +4,7 @@ pub mod Chains
 pub mod Links
 pub mod Rows
 pub mod Runs
+pub mod Asked
 pub mod Outcomes
 pub mod Endings
 pub mod Statuses

@@ -59,7 +59,7 @@ out_flows run flows k [] = []
 out_flows run flows k (flow ∷ rest) = out_flow run flows k flow ∷ out_flows run flows (k + 1) rest
 
 -- The program has one solution for the rows, and the text is that of its actuators.
-pub record IsTextOf (run : Run) (text : List ℕ) : Type 0 where
+pub record IsFlowsText (run : Run) (text : List ℕ) : Type 0 where
   pub flows : List (List Value)
   pub solution : Solves run.flat run.clocks.of run.sensors run.until flows
   pub only : (others : List (List Value)) → Solves run.flat run.clocks.of run.sensors run.until others → others ≡ flows

@@ -9,7 +9,7 @@ ghost use Rattle.prl_flow.specs.Programs.{IsFlat};
 ghost use Rattle.prl_flow.specs.Solutions.{AreClocks};
 ghost use Rattle.prl_app.specs.Chains.{NamesAt};
 ghost use Rattle.prl_app.specs.Links.{link_clock, IsChain};
-ghost use Rattle.prl_app.specs.Runs.{chain_run, chain_program, link_flow, IsReady, IsTextOf, out_flow, out_flows};
+ghost use Rattle.prl_app.specs.Runs.{chain_run, chain_program, link_flow, IsReady, out_flow, out_flows};
 ghost use Rattle.prl_app.specs.Outcomes.{within_limit, IsTextFor, IsRefusalOf};
 
 use crate::chains::bytes_of;
