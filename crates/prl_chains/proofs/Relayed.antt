@@ -1,0 +1,87 @@
+-- Chains of copies hand the input on.
+use Rattle.std.proofs.Common.{◌≡◌, ℕ, ◌<◌, zero, suc, Bool, true, false, ◌&&◌, List, [], ◌∷◌, length, Some, IsTrue, refl, ap, ◌∙◌, subst, arith}
+use Rattle.std.specs.Prelude.{slice_get}
+use Rattle.std.specs.List.{list_all}
+use Rattle.prl_base.specs.declared.numbers.FlowNo.{FlowNo}
+use Rattle.prl_base.specs.declared.values.Value.{Value}
+use Rattle.prl_flow.specs.Rows.{Rows}
+use Rattle.prl_flow.specs.Solutions.{Solves, AgreesClock, UsesBelow, MeetsDefinition, clock_of, values_of}
+use Rattle.prl_flow.specs.declared.programs.Flow.{Flow}
+use Rattle.prl_flow.specs.declared.programs.Def.TheVariants as definitions
+use Rattle.prl_flow.specs.declared.programs.Def.{Def}
+use Rattle.prl_flow.proofs.Lists.{element_at}
+use Rattle.prl_chains.specs.declared.chains.Chain.{Chain}
+use Rattle.prl_chains.specs.Facts.{IsChain}
+use Rattle.prl_chains.proofs.Truths.{both_true}
+use Rattle.prl_chains.specs.Relays.{is_copy, are_copies, is_relay, HandsOn}
+
+-- each of these flows is a copy
+each_copy : (flows : List Flow) → IsTrue (list_all (λ (f : Flow). is_copy f.def) flows) → (i : ℕ) (flow : Flow) → slice_get flows i ≡ Some flow → IsTrue (is_copy flow.def)
+each_copy [] h i flow found = cc
+each_copy (f ∷ fs) h zero flow found =
+    let e : f ≡ flow = cc in
+    subst (λ (x : Flow). IsTrue (is_copy x.def)) e (both_true (is_copy f.def) (list_all (λ (x : Flow). is_copy x.def) fs) h).0
+each_copy (f ∷ fs) h (suc i) flow found =
+    each_copy fs (both_true (is_copy f.def) (list_all (λ (x : Flow). is_copy x.def) fs) h).1 i flow found
+
+copy_behind : (flows : List Flow) → IsTrue (are_copies flows) → (i : ℕ) (flow : Flow) → slice_get flows (suc i) ≡ Some flow → IsTrue (is_copy flow.def)
+copy_behind [] h i flow found = cc
+copy_behind (first ∷ flows) h i flow found = each_copy flows h i flow found
+
+copied : (def : Def) → IsTrue (is_copy def) → (of : FlowNo) × (def ≡ definitions.Copy of)
+copied (definitions.Copy of) h = (of, refl)
+copied (definitions.Sensor k) h = cc
+copied (definitions.Const v) h = cc
+copied (definitions.Op op of) h = cc
+
+-- the flow is a copy of one before it
+record IsCopied (c : Chain) (i : ℕ) : Type 0 where
+  flow : Flow
+  of : FlowNo
+  at : slice_get c.flat.flows i ≡ Some flow
+  def : flow.def ≡ definitions.Copy of
+  below : of.0 < i
+
+is_copied : (c : Chain) → IsChain c → IsTrue (is_relay c) → (i : ℕ) → suc i < length c.flat.flows → IsCopied c (suc i)
+is_copied c h relay i within =
+    let (flow, found) = element_at c.flat.flows (suc i) within in
+    let (of, is) = copied flow.def (copy_behind c.flat.flows relay i flow found) in
+    record { flow = flow; of = of; at = found; def = is; below = subst (UsesBelow (suc i)) is (h.ordered (suc i) flow found) }
+
+-- what holds of a number where it holds of all below it holds of each
+from_below : (P : ℕ → Type 0) → ((i : ℕ) → ((j : ℕ) → j < i → P j) → P i) → (n i : ℕ) → i < n → P i
+from_below P step zero i below = absurd (omega (arith, below))
+from_below P step (suc n) i below = step i (λ j less. from_below P step n j (omega (arith, below, less)))
+
+same_clock : (c : Chain) → IsChain c → IsTrue (is_relay c) → (i : ℕ)
+    → ((j : ℕ) → j < i → j < length c.clocks.of → clock_of c.clocks.of j ≡ clock_of c.clocks.of 0)
+    → i < length c.clocks.of → clock_of c.clocks.of i ≡ clock_of c.clocks.of 0
+same_clock c h relay zero before within = refl
+same_clock c h relay (suc i) before within =
+    let s = is_copied c h relay i (omega (arith, within, h.clocks.count)) in
+    let agrees : clock_of c.clocks.of (suc i) ≡ clock_of c.clocks.of s.of.0 =
+    subst (AgreesClock c.clocks.of (clock_of c.clocks.of (suc i))) s.def (h.clocks.agree (suc i) s.flow s.at) in
+    agrees ∙ before s.of.0 s.below (omega (arith, s.below, within))
+
+same_values : (c : Chain) → IsChain c → IsTrue (is_relay c) → (rows : Rows) (until : ℕ) (flows : List (List Value)) → Solves c.flat c.clocks.of rows until flows → (i : ℕ)
+    → ((j : ℕ) → j < i → j < length flows → values_of flows j ≡ values_of flows 0)
+    → i < length flows → values_of flows i ≡ values_of flows 0
+same_values c h relay rows until flows solved zero before within = refl
+same_values c h relay rows until flows solved (suc i) before within =
+    let s = is_copied c h relay i (omega (arith, within, solved.count)) in
+    let meets : values_of flows (suc i) ≡ values_of flows s.of.0 =
+    subst (MeetsDefinition c.clocks.of rows until flows (clock_of c.clocks.of (suc i)) (values_of flows (suc i))) s.def (solved.meets (suc i) s.flow s.at) in
+    meets ∙ before s.of.0 s.below (omega (arith, s.below, within))
+
+all_values : (c : Chain) → IsChain c → IsTrue (is_relay c) → (rows : Rows) (until : ℕ) (flows : List (List Value)) → Solves c.flat c.clocks.of rows until flows
+    → (i : ℕ) → i < length flows → values_of flows i ≡ values_of flows 0
+all_values c h relay rows until flows solved i within =
+    from_below (λ j. j < length flows → values_of flows j ≡ values_of flows 0) (same_values c h relay rows until flows solved) (length flows) i within within
+
+pub HandsOn-copies : (c : Chain) → IsChain c → IsTrue (is_relay c) → HandsOn c
+HandsOn-copies c h relay = record {
+  clocks = λ i within. from_below (λ j. j < length c.clocks.of → clock_of c.clocks.of j ≡ clock_of c.clocks.of 0) (same_clock c h relay) (length c.clocks.of) i within within;
+  values = all_values c h relay;
+  outputs = λ rows until flows solved k flow found.
+      all_values c h relay rows until flows solved flow.0 (omega (arith, h.flat.outs k flow found, solved.count));
+}

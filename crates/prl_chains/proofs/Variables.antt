@@ -1,0 +1,51 @@
+-- The variables of a node of the form stand for its devices.
+use Rattle.std.proofs.Common.{◌≡◌, ◌≢◌, ℕ, ◌<◌, ◌≤◌, ◌^◌, true, false, not, ◌&&◌, ◌||◌, List, ◌∷◌, length, refl, sym, ap, ◌∙◌, subst, nat_le, nat_lt}
+use Rattle.std.specs.List.{list_all}
+use Rattle.std.specs.Str.{bytes_eq}
+use Rattle.std.proofs.lemmas.Bool.{leb-true, ltb-true}
+use Rattle.std.proofs.lemmas.Slice.Eq.{bytes_eq-Decides}
+use Rattle.prl_ast.specs.declared.declarations.Device.{Device}
+use Rattle.prl_ast.specs.declared.declarations.Param.{Param}
+use Rattle.prl_flow.specs.Programs.{IsFactor}
+use Rattle.prl_chains.specs.declared.links.Link.{Link}
+use Rattle.prl_chains.specs.Rights.{is_factor}
+use Rattle.prl_chains.specs.Links.{flow_named, is_linked, has_param, AreLinks}
+use Rattle.prl_chains.specs.Chains.{is_bare, are_apart, is_device_of, are_variables}
+use Rattle.prl_chains.specs.Facts.{AreBetween}
+use Rattle.prl_chains.proofs.Truths.{both_true}
+
+factor_from : (k : ℕ) → is_factor k ≡ true → IsFactor k
+factor_from k h =
+    let both = both_true (nat_le 1 k) (nat_lt k (2 ^ 31)) h in
+    (leb-true 1 k both.0, ltb-true k (2 ^ 31) both.1)
+
+device_from : (d : Device) (p : Param) → is_device_of d p ≡ true → IsFactor d.wcet × (p.name ≡ d.name)
+device_from d p h =
+    let both = both_true (is_factor d.wcet) (bytes_eq p.name d.name) h in
+    (factor_from d.wcet both.0, (bytes_eq-Decides p.name d.name).0 both.1)
+
+apart_from : (input output : Param) (locals : List Param) → are_apart (input ∷ output ∷ locals) ≡ true → input.name ≢ output.name
+apart_from input output locals h same =
+    let both = both_true (not (has_param (output ∷ locals) input.name)) (are_apart (output ∷ locals)) h in
+    let equal : bytes_eq output.name input.name ≡ true = (bytes_eq-Decides output.name input.name).1 (sym same) in
+    let found : has_param (output ∷ locals) input.name ≡ true = rw equal refl in
+    let wrong : false ≡ true = sym (ap not found) ∙ both.0 in
+    cc
+
+pub AreBetween-made : (sensor actuator : Device) (input output : Param) (locals : List Param) (links : List Link) → are_variables sensor actuator input output locals ≡ true
+    → AreLinks links → length links ≤ 65 → is_linked links output.name ≡ true → AreBetween sensor actuator links
+AreBetween-made sensor actuator input output locals links h linked few out =
+    let first = both_true (is_device_of sensor input && is_device_of actuator output && list_all is_bare (output ∷ locals)) (are_apart (input ∷ output ∷ locals)) h in
+    let second = both_true (is_device_of sensor input && is_device_of actuator output) (list_all is_bare (output ∷ locals)) first.0 in
+    let third = both_true (is_device_of sensor input) (is_device_of actuator output) second.0 in
+    let from = device_from sensor input third.0 in
+    let to = device_from actuator output third.1 in
+    let last : flow_named links output.name < length links = ltb-true (flow_named links output.name) (length links) out in
+    record {
+      linked = linked;
+      few = few;
+      out = subst (λ (name : List ℕ). flow_named links name < length links) to.1 last;
+      apart = λ same. apart_from input output locals first.1 (from.1 ∙ same ∙ sym to.1);
+      wcet_in = from.0;
+      wcet_out = to.0;
+    }

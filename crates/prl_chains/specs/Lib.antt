@@ -1,0 +1,6 @@
+pub mod Options
+pub mod Rights
+pub mod Links
+pub mod Chains
+pub mod Facts
+pub mod Relays
