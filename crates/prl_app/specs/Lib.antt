@@ -1,7 +1,5 @@
 pub mod Words
 pub mod OptionViews
-pub mod Chains
-pub mod Links
 pub mod Rows
 pub mod Runs
 pub mod Asked

@@ -3,7 +3,6 @@ use Rattle.std.specs.Prelude.{◌≡◌, ℕ, List, length, Option, Some, None, 
 use Rattle.prl_base.specs.Reading.{◌>>=◌, FailsAs}
 use Rattle.prl_base.specs.declared.limits.What.TheVariants as whats
 use Rattle.prl_base.specs.declared.values.Value.{Value}
-use Rattle.prl_lex.specs.Lexing.{token_text}
 use Rattle.prl_flow.specs.Counts.{dates_before, values_before}
 use Rattle.prl_ast.specs.Trees.{ProgramTree}
 use Rattle.prl_syntax.specs.declared.parsing.ParseFault.{ParseFault}
@@ -14,13 +13,14 @@ use Rattle.prl_app.specs.declared.refusals.Part.TheVariants as parts
 use Rattle.prl_app.specs.declared.refusals.Refusal.{Refusal}
 use Rattle.prl_app.specs.declared.refusals.Refusal.TheVariants as refusals
 use Rattle.prl_app.specs.declared.runs.Run.{Run}
-use Rattle.prl_app.specs.declared.links.Chain.{Chain}
-use Rattle.prl_app.specs.Links.{chain_of}
+use Rattle.prl_chains.specs.declared.chains.Chain.{Chain}
+use Rattle.prl_chains.specs.Chains.{chain_of}
+use Rattle.prl_flow.specs.Programs.{name_of}
 use Rattle.prl_app.specs.Rows.{rows_of}
 use Rattle.prl_app.specs.declared.words.Mode.{Mode}
 use Rattle.prl_app.specs.declared.words.Mode.TheVariants as modes
 use Rattle.prl_app.specs.Asked.{Asked, ToCompute, ToPrint, IsTextOf}
-use Rattle.prl_app.specs.Runs.{chain_clock, chain_run}
+use Rattle.prl_app.specs.Runs.{input_clock, chain_run}
 
 -- want of memory is free
 abbrev pub refusal_of : Refusal → Option Refusal
@@ -37,10 +37,10 @@ or_refuse refusal None = Err refusal
 or_refuse refusal (Some x) = Ok x
 
 -- a row for each date of the input
-abbrev pub enough_rows : List ℕ → Chain → List Value → ℕ → Result (List Value) Refusal
-enough_rows text c values until =
-    if nat_lt (length values) (dates_before until (chain_clock c)) then
-    Err (refusals.Short (token_text text c.input) (length values) (dates_before until (chain_clock c)))
+abbrev pub enough_rows : Chain → List Value → ℕ → Result (List Value) Refusal
+enough_rows c values until =
+    if nat_lt (length values) (dates_before until (input_clock c)) then
+    Err (refusals.Short (name_of c.flat.in_devices 0) (length values) (dates_before until (input_clock c)))
     else Ok values
 
 -- at most 4,000,000 values of all flows
@@ -49,14 +49,6 @@ within_limit run =
     if nat_lt 4000000 (values_before run.until run.clocks.of) then
     Err (refusals.Limit (record { what = whats.Values; found = values_before run.until run.clocks.of }))
     else Ok (ToCompute run)
-
--- the stages of mode `flows` on the bytes of a program and of its rows
-unfoldable pub flows_outcome : List ℕ → List ℕ → ℕ → Result Asked Refusal
-flows_outcome program sensors until = do
-  chain ← or_refuse (refusals.NotBuilt parts.Program) (chain_of program)
-  read ← or_refuse (refusals.NotBuilt parts.Sensors) (rows_of (token_text program chain.input) sensors)
-  values ← enough_rows program chain read until
-  within_limit (chain_run program chain values until)
 
 abbrev pub of_parse : ParseFault → Refusal
 of_parse (parsing.BadToken at) = refusals.Grammar (grammar.BadToken at)
@@ -72,6 +64,15 @@ or_fault (Err fault) = Err (of_parse fault)
 -- the stage of the grammar on the bytes of a program
 abbrev pub program_outcome : List ℕ → Result ProgramTree Refusal
 program_outcome text = or_fault (parse_of text)
+
+-- the stages of mode `flows` on the bytes of a program and of its rows
+unfoldable pub flows_outcome : List ℕ → List ℕ → ℕ → Result Asked Refusal
+flows_outcome text sensors until = do
+  program ← program_outcome text
+  chain ← or_refuse (refusals.NotBuilt parts.Program) (chain_of program)
+  read ← or_refuse (refusals.NotBuilt parts.Sensors) (rows_of (name_of chain.flat.in_devices 0) sensors)
+  values ← enough_rows chain read until
+  within_limit (chain_run chain values until)
 
 -- the stages of mode `print` on the bytes of a program
 abbrev pub print_outcome : List ℕ → Result Asked Refusal
