@@ -1,5 +1,5 @@
 -- What files give, and stops.
-use Rattle.std.proofs.Common.{◌≡◌, ℕ, ◌<◌, ◌≤◌, List, [], length, Option, Some, None, Result, Ok, Err, refl, sym, ap, ◌∙◌, arith}
+use Rattle.std.proofs.Common.{ℕ, List, [], Option, Some, None, Result, Ok, Err, refl, arith}
 use Rattle.prl_io.specs.Folders.{reading_of}
 use Rattle.prl_app.specs.declared.answers.Stop.{Stop}
 use Rattle.prl_app.specs.declared.answers.Stop.TheVariants as stops
@@ -21,6 +21,7 @@ pub IsStop-map : (rose : Type 0) (P Q : Refusal → Type 0) → ((refusal : Refu
 IsStop-map rose P Q f (stops.Unread part) h = h
 IsStop-map rose P Q f (stops.Refused (refusals.Absent part)) h = f (refusals.Absent part) h
 IsStop-map rose P Q f (stops.Refused (refusals.TooLong part)) h = f (refusals.TooLong part) h
+IsStop-map rose P Q f (stops.Refused (refusals.Grammar fault)) h = f (refusals.Grammar fault) h
 IsStop-map rose P Q f (stops.Refused (refusals.NotBuilt part)) h = f (refusals.NotBuilt part) h
 IsStop-map rose P Q f (stops.Refused (refusals.Short name have need)) h = f (refusals.Short name have need) h
 IsStop-map rose P Q f (stops.Refused (refusals.Limit limit)) h = f (refusals.Limit limit) h

@@ -14,15 +14,17 @@ use Rattle.prl_flow.specs.Solutions.{AreClocks, Solves, clock_of, values_of}
 use Rattle.prl_flow.specs.Actuators.{AreUpTo}
 use Rattle.prl_flow.specs.Counts.{values_before}
 use Rattle.prl_app.specs.declared.runs.Run.{Run}
+use Rattle.prl_app.specs.Asked.{ToCompute}
 use Rattle.prl_app.specs.Runs.{out_flows, chain_run}
 use Rattle.prl_base.specs.Reading.{◌>>=◌}
-use Rattle.prl_lex.specs.Lexing.{token_text}
-use Rattle.prl_app.specs.declared.links.Chain.{Chain}
+use Rattle.prl_ast.specs.Trees.{ProgramTree}
+use Rattle.prl_flow.specs.Programs.{name_of}
+use Rattle.prl_chains.specs.declared.chains.Chain.{Chain}
+use Rattle.prl_chains.specs.Chains.{chain_of}
 use Rattle.prl_app.specs.declared.refusals.Part.TheVariants as parts
 use Rattle.prl_app.specs.declared.refusals.Refusal.TheVariants as refusals
-use Rattle.prl_app.specs.Links.{chain_of}
 use Rattle.prl_app.specs.Rows.{rows_of}
-use Rattle.prl_app.specs.Outcomes.{flows_outcome, enough_rows, or_refuse, within_limit}
+use Rattle.prl_app.specs.Outcomes.{flows_outcome, program_outcome, enough_rows, or_refuse, within_limit}
 
 some_inner : {A : Type 0} (x y : A) → Some x ≡ Some y → x ≡ y
 some_inner x y e = cc
@@ -55,18 +57,20 @@ AreUpTo-out_flows run flows flat clocks solution =
     0 run.flat.outs (all_by_places (λ (flow : FlowNo). flow.0 < length run.flat.flows) run.flat.outs flat.outs))
 
 -- what has few enough values is computed as it is
-pub within_limit-few : (run : Run) → values_before run.until run.clocks.of ≤ 4000000 → within_limit run ≡ Ok run
+pub within_limit-few : (run : Run) → values_before run.until run.clocks.of ≤ 4000000 → within_limit run ≡ Ok (ToCompute run)
 within_limit-few run few = rw (le-ltb 4000000 (values_before run.until run.clocks.of) few) refl
 
 -- the outcome where each stage before the last one goes well
-pub flows_outcome-run : (program sensors : List ℕ) (until : ℕ) (chain : Chain) (values : List Value) (run : Run)
+pub flows_outcome-run : (text sensors : List ℕ) (until : ℕ) (program : ProgramTree) (chain : Chain) (values : List Value) (run : Run)
+    → program_outcome text ≡ Ok program
     → or_refuse (refusals.NotBuilt parts.Program) (chain_of program) ≡ Ok chain
-    → or_refuse (refusals.NotBuilt parts.Sensors) (rows_of (token_text program chain.input) sensors) ≡ Ok values
-    → enough_rows program chain values until ≡ Ok values → run ≡ chain_run program chain values until
-    → flows_outcome program sensors until ≡ within_limit run
+    → or_refuse (refusals.NotBuilt parts.Sensors) (rows_of (name_of chain.flat.in_devices 0) sensors) ≡ Ok values
+    → enough_rows chain values until ≡ Ok values → run ≡ chain_run chain values until
+    → flows_outcome text sensors until ≡ within_limit run
 unfolding flows_outcome
-flows_outcome-run program sensors until chain values run read rows enough is =
-    ap (λ r. r >>= λ c. or_refuse (refusals.NotBuilt parts.Sensors) (rows_of (token_text program c.input) sensors) >>= λ read. enough_rows program c read until >>= λ values. within_limit (chain_run program c values until)) read
-    ∙ ap (λ r. r >>= λ read. enough_rows program chain read until >>= λ values. within_limit (chain_run program chain values until)) rows
-    ∙ ap (λ r. r >>= λ values. within_limit (chain_run program chain values until)) enough
+flows_outcome-run text sensors until program chain values run parsed read rows enough is =
+    ap (λ r. r >>= λ p. or_refuse (refusals.NotBuilt parts.Program) (chain_of p) >>= λ c. or_refuse (refusals.NotBuilt parts.Sensors) (rows_of (name_of c.flat.in_devices 0) sensors) >>= λ read. enough_rows c read until >>= λ values. within_limit (chain_run c values until)) parsed
+    ∙ ap (λ r. r >>= λ c. or_refuse (refusals.NotBuilt parts.Sensors) (rows_of (name_of c.flat.in_devices 0) sensors) >>= λ read. enough_rows c read until >>= λ values. within_limit (chain_run c values until)) read
+    ∙ ap (λ r. r >>= λ read. enough_rows chain read until >>= λ values. within_limit (chain_run chain values until)) rows
+    ∙ ap (λ r. r >>= λ values. within_limit (chain_run chain values until)) enough
     ∙ ap within_limit (sym is)

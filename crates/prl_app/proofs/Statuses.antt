@@ -1,23 +1,24 @@
 -- What each status says follows from how the call ended.
-use Rattle.std.proofs.Common.{◌≡◌, ◌≢◌, ◌⊎◌, ℕ, ◌+◌, ◌<◌, ◌≤◌, List, [], ◌∷◌, ◌++◌, Option, Some, None, Result, Ok, Err, length, length-append, refl, sym, ap, ◌∙◌, inl, inr, subst, arith}
+use Rattle.std.proofs.Common.{◌≡◌, ◌⊎◌, ℕ, List, [], Option, Some, None, Result, Ok, Err, length, length-append, refl, sym, ap, ◌∙◌, inl, inr, subst, arith}
 use Rattle.std.proofs.Common.{IsSome}
-use Rattle.prl_io.specs.Growth.{appended, AppendsFront}
+use Rattle.prl_io.specs.Growth.{AppendsFront}
 use Rattle.prl_app.specs.declared.endings.Ending.{Ending}
 use Rattle.prl_app.specs.declared.endings.Ending.TheVariants as endings
 use Rattle.prl_app.specs.declared.refusals.Part.{Part}
 use Rattle.prl_app.specs.declared.refusals.Part.TheVariants as parts
 use Rattle.prl_app.specs.declared.refusals.Refusal.{Refusal}
 use Rattle.prl_app.specs.declared.refusals.Refusal.TheVariants as refusals
-use Rattle.prl_app.specs.declared.runs.Run.{Run}
 use Rattle.prl_app.specs.declared.words.Command.{Command}
+use Rattle.prl_app.specs.Asked.{Asked}
 use Rattle.prl_app.specs.Words.{command_of}
-use Rattle.prl_app.specs.Endings.{Folder, IsContent, ComesTo, Outside, Means, IsRefused, HasCause, Ends, IsToldOn, IsAnswered, status_of, status_of_refusal, status_of_part, refusal_line, line_of, read_as, command_outcome}
-use Rattle.prl_app.specs.Statuses.{SaysDone, SaysWords, SaysUnread, SaysUnwritten, SaysRefused, IsSilent, IsExact, IsComplete, IsStatus, SaysAll}
+use Rattle.prl_app.specs.Endings.{Folder, IsContent, ComesTo, Outside, IsRefused, HasCause, Ends, IsToldOn, IsAnswered, status_of, status_of_refusal, line_of, command_outcome}
+use Rattle.prl_app.specs.Statuses.{SaysDone, SaysUnread, SaysUnwritten, SaysRefused, IsSilent, IsExact, IsComplete, IsStatus, SaysAll}
 
 -- the status of a refusal: 1, 6, 7 or 9
 refusal_status : (refusal : Refusal) → (status_of_refusal refusal ≡ 1) ⊎ ((status_of_refusal refusal ≡ 6) ⊎ ((status_of_refusal refusal ≡ 7) ⊎ (status_of_refusal refusal ≡ 9)))
 refusal_status (refusals.Absent part) = inr (inr (inl refl))
 refusal_status (refusals.TooLong part) = inr (inr (inl refl))
+refusal_status (refusals.Grammar fault) = inl refl
 refusal_status (refusals.NotBuilt parts.Program) = inl refl
 refusal_status (refusals.NotBuilt parts.Sensors) = inr (inr (inr refl))
 refusal_status (refusals.Short name have need) = inr (inr (inr refl))
@@ -40,11 +41,11 @@ one_content told folder e part None most a b ha hb = ha ∙ sym hb
 one_content None folder e part (Some name) most a b ha hb = cc
 one_content (Some told) folder e part (Some name) most a b ha hb = ha ∙ sym hb
 
-one_outcome : (told : Option Folder) (folder : Folder) → told ≡ Some folder → (command : Command) (a b : Result Run Refusal) → ComesTo told command a → ComesTo told command b → a ≡ b
+one_outcome : (told : Option Folder) (folder : Folder) → told ≡ Some folder → (command : Command) (a b : Result Asked Refusal) → ComesTo told command a → ComesTo told command b → a ≡ b
 one_outcome told folder e command a b ha hb =
     let program = one_content told folder e parts.Program command.program 1048576 ha.program hb.program ha.program_file hb.program_file in
     let sensors = one_content told folder e parts.Sensors command.sensors 33554432 ha.sensors hb.sensors ha.sensors_file hb.sensors_file in
-    sym ha.stages ∙ ap (λ p. command_outcome command.until p ha.sensors) program ∙ ap (command_outcome command.until hb.program) sensors ∙ hb.stages
+    sym ha.stages ∙ ap (λ p. command_outcome command p ha.sensors) program ∙ ap (command_outcome command hb.program) sensors ∙ hb.stages
 
 -- one list of words asks for one command
 one_command : (words : List (List ℕ)) (a b : Command) → command_of words ≡ Some a → command_of words ≡ Some b → a ≡ b
@@ -54,6 +55,7 @@ one_command words a b ha hb = let e : Some a ≡ Some b = sym ha ∙ hb in cc
 refused_by : (words : List (List ℕ)) (told : Option Folder) (refusal : Refusal) → HasCause words told refusal → (status_of_refusal refusal ≡ 6) ⊎ IsRefused words told refusal
 refused_by words told (refusals.Absent part) h = inr h
 refused_by words told (refusals.TooLong part) h = inr h
+refused_by words told (refusals.Grammar fault) h = inr h
 refused_by words told (refusals.NotBuilt part) h = inr h
 refused_by words told (refusals.Short name have need) h = inr h
 refused_by words told (refusals.Limit limit) h = inr h
@@ -66,13 +68,13 @@ one_refusal words told folder e a b ha hb =
     let comes : ComesTo told ha.command (Err b) = subst (λ c. ComesTo told c (Err b)) (sym command) hb.comes in
     let same = one_outcome told folder e ha.command (Err a) (Err b) ha.comes comes in cc
 
--- what is refused over a known folder comes to no run
-no_run : (words : List (List ℕ)) (told : Option Folder) (folder : Folder) → told ≡ Some folder → (a : Refusal) → IsRefused words told a
-    → (command : Command) (run : Run) → command_of words ≡ Some command → ComesTo told command (Ok run) → ⊥
-no_run words told folder e a ha command run asked comes =
-    let same_command = one_command words ha.command command ha.asked asked in
-    let here : ComesTo told ha.command (Ok run) = subst (λ c. ComesTo told c (Ok run)) (sym same_command) comes in
-    let same = one_outcome told folder e ha.command (Err a) (Ok run) ha.comes here in cc
+-- what is refused over a known folder asks for nothing
+not_asked : (words : List (List ℕ)) (told : Option Folder) (folder : Folder) → told ≡ Some folder → (a : Refusal) → IsRefused words told a
+    → (command : Command) (asked : Asked) → command_of words ≡ Some command → ComesTo told command (Ok asked) → ⊥
+not_asked words told folder e a ha command asked asks comes =
+    let same_command = one_command words ha.command command ha.asked asks in
+    let here : ComesTo told ha.command (Ok asked) = subst (λ c. ComesTo told c (Ok asked)) (sym same_command) comes in
+    let same = one_outcome told folder e ha.command (Err a) (Ok asked) ha.comes here in cc
 
 module _ (words : List (List ℕ)) (old new : Outside) where
   done_by : (ending : Ending) → Ends words old new ending → IsToldOn old new (line_of (command_of words) ending) → SaysDone words old new (status_of ending)
@@ -147,11 +149,11 @@ module _ (words : List (List ℕ)) (old new : Outside) where
 
   exact_by : (ending : Ending) → Ends words old new ending → IsExact words old new (status_of ending)
   exact_by endings.Done cause folder told refusal refused same =
-      absurd (no_run words old.folder folder told refusal refused cause.1.command cause.1.run cause.1.asked cause.1.comes)
+      absurd (not_asked words old.folder folder told refusal refused cause.1.command cause.1.asked_for cause.1.asked cause.1.comes)
   exact_by endings.Words cause folder told refusal refused same = absurd (asked_none refused.command refused.asked cause.0)
   exact_by (endings.Unread part) cause folder told refusal refused same = absurd (omega (arith, cause.0))
   exact_by endings.Unwritten cause folder told refusal refused same =
-      absurd (no_run words old.folder folder told refusal refused cause.1.command cause.1.run cause.1.asked cause.1.comes)
+      absurd (not_asked words old.folder folder told refusal refused cause.1.command cause.1.asked_for cause.1.asked cause.1.comes)
   exact_by (endings.Refused other) cause folder told refusal refused same =
       elim (refused_by words old.folder other cause.0) [
         | inl six ↦ inr six
@@ -159,14 +161,14 @@ module _ (words : List (List ℕ)) (old new : Outside) where
       ]
 
   complete_by : (ending : Ending) → Ends words old new ending → IsComplete words old new (status_of ending)
-  complete_by endings.Done cause folder told command run asked comes files out = inl refl
-  complete_by endings.Words cause folder told command run asked comes files out = absurd (asked_none command asked cause.0)
-  complete_by (endings.Unread part) cause folder told command run asked comes files out = absurd (omega (arith, cause.0))
-  complete_by endings.Unwritten cause folder told command run asked comes files out = absurd (omega (arith, cause.3))
-  complete_by (endings.Refused other) cause folder told command run asked comes files out =
+  complete_by endings.Done cause folder told command asked asks comes files out = inl refl
+  complete_by endings.Words cause folder told command asked asks comes files out = absurd (asked_none command asks cause.0)
+  complete_by (endings.Unread part) cause folder told command asked asks comes files out = absurd (omega (arith, cause.0))
+  complete_by endings.Unwritten cause folder told command asked asks comes files out = absurd (omega (arith, cause.3))
+  complete_by (endings.Refused other) cause folder told command asked asks comes files out =
       elim (refused_by words old.folder other cause.0) [
         | inl six ↦ inr six
-        | inr h ↦ absurd (no_run words old.folder folder told other h command run asked comes)
+        | inr h ↦ absurd (not_asked words old.folder folder told other h command asked asks comes)
       ]
 
   status_by : (ending : Ending) → IsStatus (status_of ending)

@@ -1,5 +1,5 @@
 -- How a call of the command ends: its status, its line on err, and what each ending says.
-use Rattle.std.specs.Prelude.{◌≡◌, ◌<◌, ◌≤◌, ◌++◌, ℕ, List, [], ◌∷◌, length, Option, Some, None, Result, Ok, Err, MatchOption, IsSome, unwrap_or, ◌⊎◌, codes}
+use Rattle.std.specs.Prelude.{◌≡◌, ◌<◌, ◌≤◌, ℕ, List, [], ◌∷◌, length, Option, Some, None, Result, Ok, Err, MatchOption, IsSome, unwrap_or, ◌⊎◌, codes}
 use Rattle.std.specs.List.{concat}
 use Rattle.std.specs.Fmt.{decimal}
 use Rattle.prl_base.specs.Reading.{◌>>=◌}
@@ -13,15 +13,16 @@ use Rattle.prl_app.specs.declared.endings.Ending.{Ending}
 use Rattle.prl_app.specs.declared.endings.Ending.TheVariants as endings
 use Rattle.prl_app.specs.declared.answers.Stop.{Stop}
 use Rattle.prl_app.specs.declared.answers.Stop.TheVariants as stops
+use Rattle.prl_app.specs.declared.refusals.GrammarFault.{GrammarFault}
+use Rattle.prl_app.specs.declared.refusals.GrammarFault.TheVariants as grammar
 use Rattle.prl_app.specs.declared.refusals.Part.{Part}
 use Rattle.prl_app.specs.declared.refusals.Part.TheVariants as parts
 use Rattle.prl_app.specs.declared.refusals.Refusal.{Refusal}
 use Rattle.prl_app.specs.declared.refusals.Refusal.TheVariants as refusals
-use Rattle.prl_app.specs.declared.runs.Run.{Run}
 use Rattle.prl_app.specs.declared.words.Command.{Command}
 use Rattle.prl_app.specs.Words.{command_of}
-use Rattle.prl_app.specs.Runs.{IsTextOf}
-use Rattle.prl_app.specs.Outcomes.{flows_outcome, refusal_of}
+use Rattle.prl_app.specs.Asked.{Asked, IsTextOf}
+use Rattle.prl_app.specs.Outcomes.{mode_outcome, refusal_of}
 
 -- what is known of a folder: the bytes of each file by its name
 abbrev pub Folder : Type 0
@@ -39,6 +40,7 @@ read_as part (Err faults.Memory) = Err refusals.Memory
 abbrev pub IsFileRefusal : Part → Refusal → Type 0
 IsFileRefusal part (refusals.Absent p) = p ≡ part
 IsFileRefusal part (refusals.TooLong p) = p ≡ part
+IsFileRefusal part (refusals.Grammar fault) = ⊥
 IsFileRefusal part (refusals.NotBuilt p) = ⊥
 IsFileRefusal part (refusals.Short name have need) = ⊥
 IsFileRefusal part (refusals.Limit limit) = ⊥
@@ -53,19 +55,19 @@ IsContent None part (Some name) most (Err refusal) = IsFileRefusal part refusal
 IsContent (Some folder) part (Some name) most content = content ≡ read_as part (reading_of (folder name) most)
 
 -- the stages on what the files give
-abbrev pub command_outcome : ℕ → Result (List ℕ) Refusal → Result (List ℕ) Refusal → Result Run Refusal
-command_outcome until program sensors = do
+abbrev pub command_outcome : Command → Result (List ℕ) Refusal → Result (List ℕ) Refusal → Result Asked Refusal
+command_outcome command program sensors = do
   text ← program
   rows ← sensors
-  flows_outcome text rows until
+  mode_outcome command.mode text rows command.until
 
 -- the command comes to this outcome, over a folder of which this is known
-pub record ComesTo (told : Option Folder) (command : Command) (outcome : Result Run Refusal) : Type 0 where
+pub record ComesTo (told : Option Folder) (command : Command) (outcome : Result Asked Refusal) : Type 0 where
   pub program : Result (List ℕ) Refusal
   pub sensors : Result (List ℕ) Refusal
   pub program_file : IsContent told parts.Program command.program 1048576 program
   pub sensors_file : IsContent told parts.Sensors command.sensors 33554432 sensors
-  pub stages : command_outcome command.until program sensors ≡ outcome
+  pub stages : command_outcome command program sensors ≡ outcome
 
 abbrev pub status_of_part : Part → ℕ
 status_of_part parts.Program = 1
@@ -74,6 +76,7 @@ status_of_part parts.Sensors = 9
 abbrev pub status_of_refusal : Refusal → ℕ
 status_of_refusal (refusals.Absent part) = 7
 status_of_refusal (refusals.TooLong part) = 7
+status_of_refusal (refusals.Grammar fault) = 1
 status_of_refusal (refusals.NotBuilt part) = status_of_part part
 status_of_refusal (refusals.Short name have need) = 9
 status_of_refusal (refusals.Limit limit) = 1
@@ -96,6 +99,14 @@ file_name (Some command) parts.Sensors = unwrap_or command.sensors []
 abbrev pub named_line : List ℕ → List ℕ → List ℕ
 named_line front name = concat (front ∷ name ∷ codes "\n" ∷ [])
 
+abbrev pub placed_line : List ℕ → ℕ → List ℕ
+placed_line front at = named_line front (decimal at)
+
+abbrev pub grammar_line : GrammarFault → List ℕ
+grammar_line (grammar.BadToken at) = placed_line (codes "1 bad token at ") at
+grammar_line (grammar.Unexpected at) = placed_line (codes "2 unexpected at ") at
+grammar_line (grammar.NumberRange at) = placed_line (codes "3 number range at ") at
+
 abbrev pub short_line : List ℕ → ℕ → ℕ → List ℕ
 short_line name have need =
     concat (codes "84 short " ∷ name ∷ codes " " ∷ decimal have ∷ codes " " ∷ decimal need ∷ codes "\n" ∷ [])
@@ -107,6 +118,7 @@ limit_line limit =
 abbrev pub refusal_line : Option Command → Refusal → List ℕ
 refusal_line command (refusals.Absent part) = named_line (codes "absent ") (file_name command part)
 refusal_line command (refusals.TooLong part) = named_line (codes "too long ") (file_name command part)
+refusal_line command (refusals.Grammar fault) = grammar_line fault
 refusal_line command (refusals.NotBuilt part) = named_line (codes "9 not built ") (file_name command part)
 refusal_line command (refusals.Short name have need) = short_line name have need
 refusal_line command (refusals.Limit limit) = limit_line limit
@@ -135,13 +147,13 @@ pub record Outside : Type 0 where
   pub err_bytes : Option (List ℕ)
   pub err_faults : ℕ
 
--- The command of these words comes to a run whose text is this.
+-- The command of these words comes to something whose text is this.
 pub record Means (words : List (List ℕ)) (told : Option Folder) (text : List ℕ) : Type 0 where
   pub command : Command
   pub asked : command_of words ≡ Some command
-  pub run : Run
-  pub comes : ComesTo told command (Ok run)
-  pub solved : IsTextOf run text
+  pub asked_for : Asked
+  pub comes : ComesTo told command (Ok asked_for)
+  pub meant : IsTextOf asked_for text
 
 -- The command of these words comes to this refusal.
 pub record IsRefused (words : List (List ℕ)) (told : Option Folder) (refusal : Refusal) : Type 0 where

@@ -1,9 +1,8 @@
 pub mod Words
 pub mod OptionViews
-pub mod Chains
-pub mod Links
 pub mod Rows
 pub mod Runs
+pub mod Asked
 pub mod Outcomes
 pub mod Endings
 pub mod Statuses

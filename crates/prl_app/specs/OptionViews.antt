@@ -1,6 +1,8 @@
--- The code's view of the words of mode `flows`.
-use Rattle.prl_app.specs.declared.words.FlowsOptions.{FlowsOptions}
-use Rattle.prl_app.specs.Words.{FlowsWords}
+-- The code's view of the words of a mode.
+use Rattle.std.specs.Prelude.{Some}
+use Rattle.std.specs.Option.{option_map}
+use Rattle.prl_app.specs.declared.words.Command.{Command}
+use Rattle.prl_app.specs.declared.words.Options.{Options}
 
-abbrev pub named : FlowsOptions → FlowsWords
-named o = record { program = o.program.now; sensors = o.sensors.now; until = o.until }
+abbrev pub named : Options → Command
+named o = record { mode = o.mode; program = Some o.program.now; sensors = option_map (λ bytes. bytes.now) o.sensors; until = o.until }

@@ -1,45 +1,22 @@
 -- What a program and its rows ask to be computed, and the text that they mean.
-use Rattle.std.specs.Prelude.{◌≡◌, ◌+◌, ◌<◌, ◌^◌, ℕ, List, [], ◌∷◌, map}
+use Rattle.std.specs.Prelude.{◌≡◌, ◌+◌, ◌<◌, ◌^◌, ℕ, List, [], ◌∷◌}
 use Rattle.prl_base.specs.declared.operators.Clock.{Clock}
 use Rattle.prl_base.specs.declared.numbers.FlowNo.{FlowNo}
-use Rattle.prl_base.specs.declared.values.Ty.TheVariants as types
 use Rattle.prl_base.specs.declared.values.Value.{Value}
-use Rattle.prl_lex.specs.Lexing.{token_text}
-use Rattle.prl_flow.specs.declared.programs.Flow.{Flow}
 use Rattle.prl_flow.specs.declared.programs.OutFlow.{OutFlow}
-use Rattle.prl_flow.specs.Programs.{FlatProgram, name_of}
+use Rattle.prl_flow.specs.Programs.{name_of}
 use Rattle.prl_flow.specs.Solutions.{Solves, AreClocks, IsOrdered, HasRows, clock_of, values_of}
 use Rattle.prl_flow.specs.Actuators.{actuator_text}
-use Rattle.prl_app.specs.declared.links.Chain.{Chain}
-use Rattle.prl_app.specs.declared.links.Link.{Link}
+use Rattle.prl_chains.specs.declared.chains.Chain.{Chain}
 use Rattle.prl_app.specs.declared.runs.Run.{Run}
-use Rattle.prl_app.specs.Links.{link_clock}
-
--- the flow of a link
-abbrev pub link_flow : List ℕ → Link → Flow
-link_flow text l = record { label = token_text text l.name; ty = types.Int; def = l.def; at = l.name.span }
-
--- the flat program: the flows of input and equations
-abbrev pub chain_program : List ℕ → Chain → FlatProgram
-chain_program text c = record {
-  flows = map (link_flow text) c.links;
-  ins = record { 0 = 0 } ∷ [];
-  outs = c.out ∷ [];
-  in_devices = (token_text text c.input, c.wcet_in) ∷ [];
-  out_devices = (token_text text c.output, c.wcet_out) ∷ [];
-}
 
 -- the clock of the input
-abbrev pub chain_clock : Chain → Clock
-chain_clock c = record { period = c.period; start = 0 }
+abbrev pub input_clock : Chain → Clock
+input_clock c = clock_of c.clocks.of 0
 
-abbrev pub chain_run : List ℕ → Chain → List Value → ℕ → Run
-chain_run text c values until = record {
-  flat = chain_program text c;
-  clocks = record { of = map link_clock c.links };
-  sensors = values ∷ [];
-  until = until;
-}
+-- what a chain and the values of its input ask to be computed
+abbrev pub chain_run : Chain → List Value → ℕ → Run
+chain_run c values until = record { flat = c.flat; clocks = c.clocks; sensors = values ∷ []; until = until }
 
 -- the clocks are the program's, the flows stand in order, and the rows suffice
 pub record IsReady (run : Run) : Type 0 where
@@ -59,7 +36,7 @@ out_flows run flows k [] = []
 out_flows run flows k (flow ∷ rest) = out_flow run flows k flow ∷ out_flows run flows (k + 1) rest
 
 -- The program has one solution for the rows, and the text is that of its actuators.
-pub record IsTextOf (run : Run) (text : List ℕ) : Type 0 where
+pub record IsFlowsText (run : Run) (text : List ℕ) : Type 0 where
   pub flows : List (List Value)
   pub solution : Solves run.flat run.clocks.of run.sensors run.until flows
   pub only : (others : List (List Value)) → Solves run.flat run.clocks.of run.sensors run.until others → others ≡ flows

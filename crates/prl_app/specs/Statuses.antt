@@ -1,9 +1,9 @@
 -- What each status says, of a call of the command with these words between two moments.
-use Rattle.std.specs.Prelude.{◌≡◌, ◌≢◌, ◌<◌, ◌↔◌, ◌⊎◌, ℕ, List, [], Option, Some, None, Ok}
+use Rattle.std.specs.Prelude.{◌≡◌, ◌≢◌, ◌<◌, ◌↔◌, ◌⊎◌, ℕ, List, [], Some, None, Ok}
 use Rattle.prl_io.specs.Growth.{appended, AppendsFront}
 use Rattle.prl_app.specs.declared.refusals.Refusal.{Refusal}
-use Rattle.prl_app.specs.declared.runs.Run.{Run}
 use Rattle.prl_app.specs.declared.words.Command.{Command}
+use Rattle.prl_app.specs.Asked.{Asked}
 use Rattle.prl_app.specs.Words.{command_of}
 use Rattle.prl_app.specs.Endings.{Folder, ComesTo, Outside, Means, IsRefused, IsToldOn, refusal_line, status_of_refusal}
 
@@ -41,10 +41,10 @@ IsExact words old new code =
     (folder : Folder) → old.folder ≡ Some folder → (refusal : Refusal) → IsRefused words old.folder refusal → new.file_faults ≡ old.file_faults →
     (code ≡ status_of_refusal refusal) ⊎ (code ≡ 6)
 
--- where the folder is known and no fault was counted, a command that comes to a run ends with 0, unless memory ran out
+-- where the folder is known and no fault was counted, a command that is not refused ends with 0, unless memory ran out
 abbrev pub IsComplete : List (List ℕ) → Outside → Outside → ℕ → Type 0
 IsComplete words old new code =
-    (folder : Folder) → old.folder ≡ Some folder → (command : Command) (run : Run) → command_of words ≡ Some command → ComesTo old.folder command (Ok run) →
+    (folder : Folder) → old.folder ≡ Some folder → (command : Command) (asked : Asked) → command_of words ≡ Some command → ComesTo old.folder command (Ok asked) →
     new.file_faults ≡ old.file_faults → new.out_faults ≡ old.out_faults → (code ≡ 0) ⊎ (code ≡ 6)
 
 -- no other status comes

@@ -1,9 +1,8 @@
 -- The words of the command line.
-use Rattle.std.specs.Prelude.{◌≡◌, ◌==◌, ◌&&◌, ℕ, Bool, false, not, List, [], ◌∷◌, length, Option, Some, None, Result, Ok, Err, nat_le, if◌then◌else◌, codes}
+use Rattle.std.specs.Prelude.{◌==◌, ◌&&◌, ℕ, Bool, false, not, List, [], ◌∷◌, length, Option, Some, None, Result, Ok, Err, nat_le, if◌then◌else◌, codes}
 use Rattle.std.specs.Str.{bytes_eq}
-use Rattle.std.specs.Str.Parse.{digits_value}
-use Rattle.prl_base.specs.Decimals.{are_digits, decimal_of}
-use Rattle.prl_app.specs.declared.words.Mode.TheVariants.{Flows}
+use Rattle.prl_base.specs.Decimals.{decimal_of}
+use Rattle.prl_app.specs.declared.words.Mode.TheVariants as modes
 use Rattle.prl_app.specs.declared.words.Command.{Command}
 use Rattle.prl_app.specs.declared.words.WordsFault.{WordsFault}
 use Rattle.prl_app.specs.declared.words.WordsFault.TheVariants as faults
@@ -30,38 +29,38 @@ option_at name (word ∷ value ∷ rest) = if bytes_eq word name && is_value val
 option_at name (word ∷ []) = None
 option_at name [] = None
 
--- what the words of mode `flows` name
-pub record FlowsWords : Type 0 where
-  pub program : List ℕ
-  pub sensors : List ℕ
-  pub until : ℕ
-
 abbrev pub at_end : {A : Type 0} → A → List (List ℕ) → Option A
 at_end x [] = Some x
 at_end x (word ∷ words) = None
 
 -- `--program NAME --sensors NAME --until N`, and no more
-unfoldable pub flows_at : List (List ℕ) → Option FlowsWords
+unfoldable pub flows_at : List (List ℕ) → Option Command
 flows_at words = do
   program ← option_at (codes "--program") words
   sensors ← option_at (codes "--sensors") program.1
   until ← option_at (codes "--until") sensors.1
   number ← number_up_to 2147483647 until.0
-  at_end (record { program = program.0; sensors = sensors.0; until = number }) until.1
+  at_end (record { mode = modes.Flows; program = Some program.0; sensors = Some sensors.0; until = number }) until.1
 
--- the program's own name, the mode, and what the mode asks for
-abbrev pub flows_words : List (List ℕ) → Option FlowsWords
-flows_words (own ∷ mode ∷ rest) = if bytes_eq mode (codes "flows") then flows_at rest else None
-flows_words (own ∷ []) = None
-flows_words [] = None
+-- `--program NAME`, and no more
+unfoldable pub print_at : List (List ℕ) → Option Command
+print_at words = do
+  program ← option_at (codes "--program") words
+  at_end (record { mode = modes.Print; program = Some program.0; sensors = None; until = 0 }) program.1
 
-abbrev pub flows_command : Option FlowsWords → Option Command
-flows_command None = None
-flows_command (Some w) = Some (record { mode = Flows; program = Some w.program; sensors = Some w.sensors; until = w.until })
+-- what stands behind the name of a mode
+abbrev pub mode_at : List ℕ → List (List ℕ) → Option Command
+mode_at mode words =
+    if bytes_eq mode (codes "flows") then flows_at words
+    else if bytes_eq mode (codes "print") then print_at words
+    else None
 
--- the command that the words ask for, if they are of the form of one
+-- the command that the words ask for, if they are of the form of one: the program's own name, the mode, and what the
+-- mode asks for
 abbrev pub command_of : List (List ℕ) → Option Command
-command_of words = flows_command (flows_words words)
+command_of (own ∷ mode ∷ rest) = mode_at mode rest
+command_of (own ∷ []) = None
+command_of [] = None
 
 -- words that are no command are refused; want of memory is free
 abbrev pub meaning_of : Option Command → Result Command WordsFault

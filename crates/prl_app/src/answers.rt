@@ -2,13 +2,13 @@
 
 ghost use Rattle.std.specs.Prelude.{◌≡◌, ◌<◌, ◌≤◌, ◌^◌, ℕ, Ok, Err, MatchResult, IfOk, length};
 ghost use Rattle.prl_app.specs.Endings.{IsContent, IsStop, ComesTo};
-ghost use Rattle.prl_app.specs.Outcomes.{IsTextFor};
-ghost use Rattle.prl_app.specs.Runs.{IsTextOf};
-ghost use Rattle.prl_app.specs.declared.runs.Run.{Run as AnyRun};
+ghost use Rattle.prl_app.specs.Asked.{Asked, IsTextOf};
+ghost use Rattle.prl_app.specs.Outcomes.{mode_outcome, IsTextFor, IsRefusalOf};
 
 use crate::flows::flows;
+use crate::printing::printed;
 use crate::refusals::{Part, Refusal};
-use crate::words::Command;
+use crate::words::{Command, Mode};
 use prl_base::Label;
 use prl_io::{FileFault, Files};
 use std::alloc::Global;
@@ -54,11 +54,30 @@ fn read_part<F: Files>(
     }
 }
 
+/// The text that the stages of a mode make of the bytes of a program and of its rows.
+fn stages(
+    alloc: Global,
+    mode: Mode,
+    program: &[u8],
+    sensors: &[u8],
+    until: u32,
+) -> Result<Vec<u8>, Refusal>
+    requires program { length program.now < 2 ^ 32 }
+    requires until { until < 2 ^ 31 }
+    ensures { MatchResult result (λ text. IsTextFor (mode_outcome mode program.now sensors.now until) text.items)
+        (IsRefusalOf (mode_outcome mode program.now sensors.now until)) }
+{
+    match mode {
+        Mode::Flows => flows(alloc, program, sensors, until),
+        Mode::Print => printed(alloc, program),
+    }
+}
+
 /// The text that the command asks for.
 pub fn answer<F: Files>(alloc: Global, files: &mut F, command: &Command) -> Result<Vec<u8>, Stop>
     requires until { command.now.until < 2 ^ 31 }
     ensures answered { MatchResult result
-        (λ text. (run : AnyRun) × ComesTo (F.folder files.old) command.now (Ok run) × IsTextOf run text.items)
+        (λ text. (asked : Asked) × ComesTo (F.folder files.old) command.now (Ok asked) × IsTextOf asked text.items)
         (IsStop (F.faults files.old < F.faults files.new) (λ refusal. ComesTo (F.folder files.old) command.now (Err refusal))) }
     ensures kept { F.folder files.new ≡ F.folder files.old }
     ensures counted { F.faults files.old ≤ F.faults files.new }
@@ -71,7 +90,7 @@ pub fn answer<F: Files>(alloc: Global, files: &mut F, command: &Command) -> Resu
         Ok(sensors) => sensors,
         Err(stop) => return Err(stop),
     };
-    match flows(alloc, &program, &sensors, command.until) {
+    match stages(alloc, command.mode, &program, &sensors, command.until) {
         Ok(text) => Ok(text),
         Err(refusal) => Err(Stop::Refused(refusal)),
     }

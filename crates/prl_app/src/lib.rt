@@ -3,26 +3,24 @@
 #![tactic(auto)]
 
 mod answers;
-mod chains;
 mod endings;
 mod flows;
 mod lines;
-mod links;
+mod printing;
+mod programs;
 mod refusals;
 mod rows;
 mod runs;
 mod top;
 mod words;
 
-pub use chains::{Equation, Head, Parts, Right};
 pub use endings::Ending;
-pub use links::{Chain, Link};
-pub use refusals::{Part, Refusal};
+pub use refusals::{GrammarFault, Part, Refusal};
 pub use runs::Run;
 pub use top::{Status, prelude, prelude_alone};
 pub use words::{Command, Mode, WordsFault, read_words};
 
 #[cfg(test)]
-mod chains_tests;
+mod flows_tests;
 #[cfg(test)]
 mod tests;

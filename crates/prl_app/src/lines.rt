@@ -2,10 +2,10 @@
 
 ghost use Rattle.std.specs.Prelude.{◌≡◌, ◌<◌, ◌≤◌, [], unwrap_or, OnErr};
 ghost use Rattle.prl_io.specs.Growth.{IsWritten};
-ghost use Rattle.prl_app.specs.Endings.{file_name, named_line, short_line, limit_line, refusal_line, line_of};
+ghost use Rattle.prl_app.specs.Endings.{file_name, named_line, placed_line, grammar_line, short_line, limit_line, refusal_line, line_of};
 
 use crate::endings::Ending;
-use crate::refusals::{Part, Refusal};
+use crate::refusals::{GrammarFault, Part, Refusal};
 use crate::words::Command;
 use itoa::Buffer;
 use prl_base::{Label, Limit};
@@ -40,6 +40,29 @@ fn write_two<E: Sink>(err: &mut E, front: &[u8], name: &[u8]) -> Result<(), Fail
     ensures failed { OnErr result (E.faults err.old < E.faults err.new) }
 {
     write_pieces(err, &[front, name, b"\n".as_slice()])
+}
+
+/// Writes a line that ends in a place of the text.
+fn write_placed<E: Sink>(err: &mut E, front: &[u8], at: u32) -> Result<(), Failed>
+    ensures grown { IsWritten (E.written err.old) (E.written err.new) (placed_line front.now at) result }
+    ensures counted { E.faults err.old ≤ E.faults err.new }
+    ensures failed { OnErr result (E.faults err.old < E.faults err.new) }
+{
+    let mut buffer = Buffer::new();
+    write_two(err, front, buffer.format(at).as_bytes())
+}
+
+/// Writes the line of a fault of the grammar.
+fn write_grammar<E: Sink>(err: &mut E, fault: GrammarFault) -> Result<(), Failed>
+    ensures grown { IsWritten (E.written err.old) (E.written err.new) (grammar_line fault) result }
+    ensures counted { E.faults err.old ≤ E.faults err.new }
+    ensures failed { OnErr result (E.faults err.old < E.faults err.new) }
+{
+    match fault {
+        GrammarFault::BadToken(at) => write_placed(err, b"1 bad token at ", at),
+        GrammarFault::Unexpected(at) => write_placed(err, b"2 unexpected at ", at),
+        GrammarFault::NumberRange(at) => write_placed(err, b"3 number range at ", at),
+    }
 }
 
 /// Writes the line of a sensor that has too few rows.
@@ -88,6 +111,7 @@ fn write_refusal<E: Sink>(
     match refusal {
         Refusal::Absent(part) => write_two(err, b"absent ", file_name(command, *part)),
         Refusal::TooLong(part) => write_two(err, b"too long ", file_name(command, *part)),
+        Refusal::Grammar(fault) => write_grammar(err, *fault),
         Refusal::NotBuilt(part) => write_two(err, b"9 not built ", file_name(command, *part)),
         Refusal::Short { name, have, need } => write_short(err, name.bytes(), *have, *need),
         Refusal::Limit(limit) => write_limit(err, *limit),

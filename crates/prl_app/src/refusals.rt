@@ -10,6 +10,17 @@ pub enum Part {
     Sensors,
 }
 
+/// Why a text is not of the grammar, with the place in its bytes.
+#[derive(Clone, Copy, Debug, PartialEq, Eq)]
+pub enum GrammarFault {
+    /// No token begins here.
+    BadToken(u32),
+    /// No program begins with the tokens up to the one here, or up to the end of the text.
+    Unexpected(u32),
+    /// The number here is out of its range.
+    NumberRange(u32),
+}
+
 /// Why a stage of a command refuses.
 #[derive(Debug, Drop)]
 pub enum Refusal {
@@ -17,6 +28,8 @@ pub enum Refusal {
     Absent(Part),
     /// The file has more bytes than it may have.
     TooLong(Part),
+    /// The program is not of the grammar.
+    Grammar(GrammarFault),
     /// The file is not of the form that is built so far.
     NotBuilt(Part),
     /// The sensor has fewer rows than its flow has dates.

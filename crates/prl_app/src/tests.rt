@@ -128,6 +128,22 @@ fn programs_rows_and_dates(rt: HostRuntime) -> Result<(), Fail> {
             err: "9 not built p.prl\n",
         },
         Case {
+            right: "9999999999",
+            rows: None,
+            until: "60",
+            code: 7,
+            out: "",
+            err: "absent i.csv\n",
+        },
+        Case {
+            right: "9999999999",
+            rows: Some(SIX),
+            until: "60",
+            code: 1,
+            out: "",
+            err: "3 number range at 90\n",
+        },
+        Case {
             right: "i",
             rows: Some(""),
             until: "0",
@@ -174,12 +190,52 @@ fn programs_rows_and_dates(rt: HostRuntime) -> Result<(), Fail> {
     Ok(())
 }
 
+/// Mode `print` on a text: the status, and what is on `out` and `err`.
+fn check_print(
+    rt: &impl Abort,
+    alloc: Global,
+    text: Vec<u8>,
+    told: (u8, &str, &str),
+) -> Result<(), Fail> {
+    let words = strings(alloc, &["prelude", "print", "--program", "p.prl"])?;
+    let mut files = files(alloc, text, None, &[])?;
+    let mut out = MemSink::new(alloc, 1000, 1000, Vec::new(alloc))?;
+    let mut err = MemSink::new(alloc, 1000, 1000, Vec::new(alloc))?;
+    let status = prelude_alone(alloc, &words, &mut files, &mut out, &mut err).ok_or("no status")?;
+    assert_eq!(rt; status.code, told.0);
+    assert_eq!(rt; out.bytes(), told.1.as_bytes());
+    assert_eq!(rt; err.bytes(), told.2.as_bytes());
+    Ok(())
+}
+
+#[test]
+fn printed_programs(rt: HostRuntime) -> Result<(), Fail> {
+    let cases = [
+        (
+            "(tail i)*^3",
+            (
+                0,
+                "sensor i wcet 1;\nactuator o wcet 1;\nnode main(i: int rate (10, 0)) returns (o)\nlet\n  o = (tail i) *^ 3;\ntel\n",
+                "",
+            ),
+        ),
+        ("?", (1, "", "1 bad token at 90\n")),
+        ("i i", (1, "", "2 unexpected at 92\n")),
+        ("9999999999", (1, "", "3 number range at 90\n")),
+    ];
+    for (right, told) in cases {
+        check_print(&rt, rt.alloc(), program(rt.alloc(), right)?, told)?;
+    }
+    let node = Vec::from_slice(rt.alloc(), b"node")?;
+    check_print(&rt, rt.alloc(), node, (1, "", "2 unexpected at 4\n"))
+}
+
 #[test]
 fn words_that_are_refused(rt: HostRuntime) -> Result<(), Fail> {
     let alloc = rt.alloc();
     let lines: [&[&str]; 5] = [
         &["prelude"],
-        &["prelude", "print", "--program", "p.prl"],
+        &["prelude", "print", "--program", "p.prl", "--until", "10"],
         &[
             "prelude",
             "flows",

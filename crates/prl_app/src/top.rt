@@ -6,7 +6,6 @@ ghost use Rattle.prl_app.specs.Words.{command_of};
 ghost use Rattle.prl_app.specs.Endings.{status_of, status_of_part, status_of_refusal, line_of, Ends, IsToldOn, IsAnswered, IsLater};
 ghost use Rattle.prl_app.specs.Statuses.{SaysAll};
 ghost use Rattle.prl_app.specs.declared.refusals.Refusal.{Refusal as AnyRefusal};
-ghost use Rattle.prl_app.specs.declared.runs.Run.{Run as AnyRun};
 
 use crate::answers::{Stop, answer};
 use crate::endings::Ending;
@@ -53,6 +52,7 @@ fn status_of_refusal(refusal: &Refusal) -> u8
 {
     match refusal {
         Refusal::Absent(_) | Refusal::TooLong(_) => 7,
+        Refusal::Grammar(_) => 1,
         Refusal::NotBuilt(part) => status_of_part(*part),
         Refusal::Short { .. } => 9,
         Refusal::Limit(_) => 1,

@@ -4,7 +4,7 @@ ghost use Rattle.std.specs.Prelude.{◌≡◌, ◌<◌, ◌≤◌, ◌^◌, map,
 ghost use Rattle.std.specs.Option.{option_map};
 ghost use Rattle.std.specs.String.{string_bytes};
 ghost use Rattle.prl_base.specs.Reading.{Gives};
-ghost use Rattle.prl_app.specs.Words.{is_value, number_up_to, option_at, at_end, flows_at, flows_words, command_of, meaning_of, words_fault};
+ghost use Rattle.prl_app.specs.Words.{is_value, number_up_to, option_at, at_end, flows_at, print_at, mode_at, command_of, meaning_of, words_fault};
 ghost use Rattle.prl_app.specs.OptionViews.{named};
 
 use prl_base::{Label, decimal_of};
@@ -18,6 +18,8 @@ pub const MAX_UNTIL: u32 = 2_147_483_647;
 pub enum Mode {
     /// Writes the flows of the actuators.
     Flows,
+    /// Writes the program in its printed form.
+    Print,
 }
 
 /// What the words of a command line ask for. An option that is not given is None, and a number that is
@@ -97,16 +99,17 @@ fn option_at<'a>(name: &[u8], words: &'a [String]) -> Option<Taken<'a>>
     }
 }
 
-/// What the words of mode `flows` name.
+/// A mode and what its options name.
 #[derive(Clone, Copy)]
-struct FlowsOptions<'a> {
+struct Options<'a> {
+    mode: Mode,
     program: &'a [u8],
-    sensors: &'a [u8],
+    sensors: Option<&'a [u8]>,
     until: u32,
 }
 
 /// The options, where no word is left behind them.
-fn at_end<'a>(options: FlowsOptions<'a>, rest: &[String]) -> Option<FlowsOptions<'a>>
+fn at_end<'a>(options: Options<'a>, rest: &[String]) -> Option<Options<'a>>
     ensures exact { option_map named result ≡ at_end (named options.entry) (map string_bytes rest.now) }
     ensures until { IfSome result (λ o. o.until ≡ options.entry.until) }
 {
@@ -117,7 +120,7 @@ fn at_end<'a>(options: FlowsOptions<'a>, rest: &[String]) -> Option<FlowsOptions
 }
 
 #[tactic(auto, unfolding(crate::specs::Words::flows_at))]
-fn flows_at<'a>(words: &'a [String]) -> Option<FlowsOptions<'a>>
+fn flows_at<'a>(words: &'a [String]) -> Option<Options<'a>>
     ensures exact { option_map named result ≡ flows_at (map string_bytes words.now) }
     ensures until { IfSome result (λ o. o.until < 2 ^ 31) }
 {
@@ -126,47 +129,82 @@ fn flows_at<'a>(words: &'a [String]) -> Option<FlowsOptions<'a>>
     let (until, rest) = option_at(b"--until", rest)?;
     let until = number_up_to(MAX_UNTIL, until)?;
     at_end(
-        FlowsOptions {
+        Options {
+            mode: Mode::Flows,
             program,
-            sensors,
+            sensors: Some(sensors),
             until,
         },
         rest,
     )
 }
 
-fn flows_words<'a>(words: &'a [String]) -> Option<FlowsOptions<'a>>
-    ensures exact { option_map named result ≡ flows_words (map string_bytes words.now) }
+#[tactic(auto, unfolding(crate::specs::Words::print_at))]
+fn print_at<'a>(words: &'a [String]) -> Option<Options<'a>>
+    ensures exact { option_map named result ≡ print_at (map string_bytes words.now) }
+    ensures until { IfSome result (λ o. o.until < 2 ^ 31) }
+{
+    let (program, rest) = option_at(b"--program", words)?;
+    at_end(
+        Options {
+            mode: Mode::Print,
+            program,
+            sensors: None,
+            until: 0,
+        },
+        rest,
+    )
+}
+
+/// The options of the mode of this name.
+fn mode_at<'a>(mode: &[u8], words: &'a [String]) -> Option<Options<'a>>
+    ensures exact { option_map named result ≡ mode_at mode.now (map string_bytes words.now) }
+    ensures until { IfSome result (λ o. o.until < 2 ^ 31) }
+{
+    if mode == b"flows".as_slice() {
+        flows_at(words)
+    } else if mode == b"print".as_slice() {
+        print_at(words)
+    } else {
+        None
+    }
+}
+
+fn options_of<'a>(words: &'a [String]) -> Option<Options<'a>>
+    ensures exact { option_map named result ≡ command_of (map string_bytes words.now) }
     ensures until { IfSome result (λ o. o.until < 2 ^ 31) }
 {
     match words {
-        [_, mode, rest @ ..] => {
-            if mode.as_str() == "flows" {
-                flows_at(rest)
-            } else {
-                None
-            }
-        }
+        [_, mode, rest @ ..] => mode_at(mode.as_bytes(), rest),
         [_] => None,
         [] => None,
     }
 }
 
+fn label_of(alloc: Global, name: Option<&[u8]>) -> Result<Option<Label>, AllocError>
+    ensures { IfOk result (λ label. label ≡ option_map (λ bytes. bytes.now) name.entry) }
+{
+    match name {
+        None => Ok(None),
+        Some(bytes) => Ok(Some(Label::new(alloc, bytes)?)),
+    }
+}
+
 /// The command that the words ask for. The first word is the program's own name and is not read. The
-/// others are `flows --program NAME --sensors NAME --until N`, in this order: a NAME is not empty and does
-/// not begin with `-`, and N has 1 to 20 digits and is at most 2147483647.
+/// others are `flows --program NAME --sensors NAME --until N` or `print --program NAME`, in this order: a NAME
+/// is not empty and does not begin with `-`, and N has 1 to 20 digits and is at most 2147483647.
 pub fn read_words(alloc: Global, words: &[String]) -> Result<Command, WordsFault>
     ensures exact { Gives (λ c. c) words_fault result (meaning_of (command_of (map string_bytes words.now))) }
     ensures until { IfOk result (λ c. c.until < 2 ^ 31) }
     ensures memory { result ≡ Err WordsFault.Memory → IsSome (command_of (map string_bytes words.now)) }
 {
-    let Some(options) = flows_words(words) else {
+    let Some(options) = options_of(words) else {
         return Err(WordsFault::Refused);
     };
     Ok(Command {
-        mode: Mode::Flows,
+        mode: options.mode,
         program: Some(Label::new(alloc, options.program)?),
-        sensors: Some(Label::new(alloc, options.sensors)?),
+        sensors: label_of(alloc, options.sensors)?,
         until: options.until,
     })
 }

@@ -1,4 +1,4 @@
-use Rattle.std.proofs.Common.{◌≡◌, ap, sym, ◌∙◌, vec_items, vec_len, ◌++◌, [], ◌∷◌, length, refl, List, ℕ}
+use Rattle.std.proofs.Common.{◌≡◌, ap, sym, ◌∙◌, vec_items, vec_len, ◌++◌, [], ◌∷◌, length, ℕ}
 use Rattle.prl_app.proofs.RowLines.{with_front, left_in, with_front-row, with_front-no_row, with_front-end, with_front-open}
 use Rattle.prl_base.proofs.LineCuts.{option_map-none}
 use borrow.Author.Tests.{eqb-true, eqb-false}

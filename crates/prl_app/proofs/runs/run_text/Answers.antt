@@ -1,5 +1,6 @@
 use Rattle.std.proofs.Common.{sym, ap, ◌∙◌, subst, arith}
 use Rattle.prl_flow.specs.Actuators.{AreUpTo, actuator_text}
+use Rattle.prl_app.specs.Asked.{ToCompute}
 use Rattle.prl_app.proofs.Outputs.{AreUpTo-out_flows, within_limit-few}
 use Rattle.prl_app.proofs.runs.run_text.Goals as goal
 
@@ -13,7 +14,7 @@ pub returns-in-Ok-actuator_text : goal.returns-in-Ok-actuator_text
 returns-in-Ok-actuator_text c =
     let outs = c.deref.ensures.value ∙ c.in-Ok-out_flows.ensures.exact in
     let up_to = AreUpTo-out_flows c.args.run.now c.in-Ok.table c.out_flows.ensures.well_formed c.requires.ready.clocks c.in-Ok.ensures.solution in (
-      c.args.run.now,
+      ToCompute c.args.run.now,
       within_limit-few c.args.run.now c.in-Ok.ensures.few,
       record {
         flows = c.in-Ok.table;

@@ -1,7 +1,6 @@
-//! Worked rows of mode `flows` on chains of equations.
+//! A worked row of mode `flows` on a program with locals and comments.
 
 use crate::flows::flows;
-use crate::refusals::{Part, Refusal};
 use std::test::Fail;
 
 const ROWS: &[u8] = b"i,0,1\ni,1,2\ni,2,3\ni,3,4\ni,4,5\ni,5,6\n";
@@ -15,14 +14,5 @@ fn each_third_value_three_times(rt: HostRuntime) -> Result<(), Fail> {
         text.as_slice(),
         b"o,0,0,1\no,1,10,1\no,2,20,1\no,3,30,4\no,4,40,4\no,5,50,4\n".as_slice()
     );
-    Ok(())
-}
-
-#[test]
-fn a_third_of_ten_ticks_is_no_period(rt: HostRuntime) -> Result<(), Fail> {
-    let program =
-        b"sensor i wcet 1; actuator o wcet 1; node main (i: int rate (10, 0)) returns (o) let o = i *^ 3; tel";
-    let outcome = flows(rt.alloc(), program, ROWS, 60);
-    assert!(rt; matches!(&outcome, Err(Refusal::NotBuilt(Part::Program))));
     Ok(())
 }
