@@ -16,7 +16,6 @@ use Rattle.prl_flow.specs.declared.programs.Flow.{Flow}
 use Rattle.prl_flow.specs.declared.programs.Def.TheVariants as definitions
 use Rattle.prl_flow.specs.declared.programs.Def.{Def}
 use Rattle.prl_flow.proofs.Lists.{element_at}
-use Rattle.prl_chains.specs.declared.chains.Chain.{Chain}
 use Rattle.prl_chains.specs.declared.links.Link.{Link}
 use Rattle.prl_chains.specs.Links.{link_clock, flow_named, IsLinked}
 use Rattle.prl_chains.specs.Chains.{flat_chain, link_flow}
