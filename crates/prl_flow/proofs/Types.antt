@@ -38,7 +38,7 @@ type_of-operator (operators.Up k) x values first t v ty fits typed is = typed _ 
 type_of-operator (operators.Down k) x values first t v ty fits typed is = typed _ v is
 type_of-operator (operators.Shift q) x values first t v ty fits typed is = typed _ v is
 
-same_flow : (p : FlatProgram) (i : ℕ) (f g : Flow) → slice_get p.flows i ≡ Some f → slice_get p.flows i ≡ Some g → f ≡ g
+pub same_flow : (p : FlatProgram) (i : ℕ) (f g : Flow) → slice_get p.flows i ≡ Some f → slice_get p.flows i ≡ Some g → f ≡ g
 same_flow p i f g at_f at_g = let e : Some f ≡ Some g = sym at_f ∙ at_g in cc
 
 -- a definition that is no application's makes values of its flow's type of values of their flows' types

@@ -107,7 +107,8 @@ fn look_ahead(
     ensures ahead { OnOk result (AreAhead flat.now clocks.now bodies.now until flows.now ahead.new) }
     ensures next { OnOk result (HasOutput flat.now i ahead.new) }
 {
-    match flat.flows()[i].def {
+    let flow = &flat.flows()[i];
+    match flow.def {
         Def::Apply { app, .. } => {
             if ahead[i].is_some() {
                 return Ok(());
