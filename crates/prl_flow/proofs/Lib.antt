@@ -5,5 +5,6 @@ pub mod Placed
 pub mod Types
 pub mod Solved
 pub mod Ahead
+pub mod Progressed
 pub mod Callers
 pub mod Chains

@@ -33,7 +33,7 @@ ArePlaced-from_IsPlacing outs outputs old left places placing none = record {
   all = λ j flow found. placing.all j flow (omega arith) found;
 }
 
-slice_get-set_cases : {A : Type 0} (xs : List A) (f i : ℕ) (a y : A) → slice_get (set xs f a) i ≡ Some y → ((i ≡ f) × (a ≡ y)) ⊎ (slice_get xs i ≡ Some y)
+pub slice_get-set_cases : {A : Type 0} (xs : List A) (f i : ℕ) (a y : A) → slice_get (set xs f a) i ≡ Some y → ((i ≡ f) × (a ≡ y)) ⊎ (slice_get xs i ≡ Some y)
 slice_get-set_cases [] f i a y found = inr found
 slice_get-set_cases (x ∷ xs) zero zero a y found = let same : a ≡ y = cc in inl (refl, same)
 slice_get-set_cases (x ∷ xs) zero (suc i) a y found = inr found
