@@ -58,6 +58,7 @@ IsLinked-more clocks more i c (definitions.Sensor k) within linked = linked
 IsLinked-more clocks more i c (definitions.Copy of) within linked =
     (linked.0, linked.1 ∙ sym (get_or_append_left clocks more (record { period = 1; start = 0 }) of.0 (omega (arith, linked.0))))
 IsLinked-more clocks more i c (definitions.Const v) within linked = linked
+IsLinked-more clocks more i c (definitions.Apply app out) within linked = linked
 IsLinked-more clocks more i c (definitions.Op op of) within linked = (
   linked.0,
   linked.1,
