@@ -4,3 +4,4 @@ pub mod Pieces
 pub mod Fragments
 pub mod Words
 pub mod Spelled
+pub mod SpelledNodes
