@@ -5,3 +5,5 @@ pub mod Fragments
 pub mod Words
 pub mod Spelled
 pub mod SpelledNodes
+pub mod Prints
+pub mod Readable
