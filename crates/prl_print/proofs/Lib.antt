@@ -7,3 +7,5 @@ pub mod Spelled
 pub mod SpelledNodes
 pub mod Prints
 pub mod Readable
+pub mod ReadableNodes
+pub mod Printable

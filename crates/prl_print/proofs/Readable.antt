@@ -29,7 +29,7 @@ use Rattle.prl_print.proofs.Pieces.{a_name, a_number, a_fixed}
 use Rattle.prl_print.proofs.Words.{one, words_separated, value_words, denominator_words, ratio_words, type_words, rate_words, due_words, maybe_words, note_words, param_words, params_words, locals_words, port_words, ports_words, wcet_words, import_words, device_words, IsOwnName, IsConstant, IsOwnRatio, IsCount, IsOwnRate, IsOwnMaybe, IsOwnParam, IsOwnPort, IsOwnImport, IsOwnDevice, IsSome}
 use Rattle.prl_print.proofs.Prints.{Prints, p_then, p_tokens, p_give, p_ends, p_weaken, p_left, p_right, p_the, p_name, p_number, p_many, p_none, p_maybe}
 
-small_is : (n : ℕ) → n ≤ 2147483647 → small n ≡ n
+pub small_is : (n : ℕ) → n ≤ 2147483647 → small n ≡ n
 small_is n h = omega arith
 
 pub value_reads : (v : Value) → IsConstant v → Prints ConstantText (λ x. x ≡ v) (value_words v)

@@ -1,0 +1,45 @@
+-- A printable program is printed as a text of itself, places aside.
+use Rattle.std.proofs.Common.{◌≡◌, ◌≤◌, ℕ, List, [], ◌++◌, map, length, Ok, None, refl, sym, ap, ◌∙◌, subst, arith}
+use Rattle.std.proofs.lemmas.List.{append-nil, length-map}
+use Rattle.prl_ast.specs.Trees.{ProgramTree, NodeTree}
+use Rattle.prl_reader.specs.Lexemes.{Lexeme}
+use Rattle.prl_lex.specs.Lexing.{tokens_of}
+use Rattle.prl_syntax.specs.Lexing.{lexemes_of}
+use Rattle.prl_syntax.specs.Parsing.{IsProgramOf}
+use Rattle.prl_syntax.specs.Ranges.{out_of_range}
+use Rattle.prl_print.specs.Printing.{printed}
+use Rattle.prl_print.specs.Places.{unplaced, unplaced_node, SamePlacesAside}
+use Rattle.prl_print.proofs.Scanning.{bare, Scanned, Scan, scan_end}
+use Rattle.prl_print.proofs.Fragments.{Plain, Frag}
+use Rattle.prl_print.proofs.Words.{program_words, IsPrintable}
+use Rattle.prl_print.proofs.SpelledNodes.{program_spelled}
+use Rattle.prl_print.proofs.ReadableNodes.{program_reads}
+
+pub record ReadsBack (p : ProgramTree) : Type 0 where
+  pub tree : ProgramTree
+  pub is : IsProgramOf (printed p) tree
+  pub same : SamePlacesAside tree p
+
+scanned : (p : ProgramTree) → IsPrintable p → Scanned 0 0 0 [] (printed p) (program_words p)
+scanned p h =
+    let f = program_spelled p h in
+    let all : Plain 0 (printed p ++ []) (program_words p ++ []) = f.go [] [] tt (record { scan = λ before last plain. scan_end before last 0 }) in
+    let P : List ℕ → Type 0 = λ text. Plain 0 text (program_words p ++ []) in
+    let Q : List Lexeme → Type 0 = λ ks. Plain 0 (printed p) ks in
+    let whole = subst Q (append-nil (program_words p)) (subst P (append-nil (printed p)) all) in
+    (whole.scan 0 0 refl).behind []
+
+few_nodes : (t p : ProgramTree) → SamePlacesAside t p → length p.nodes ≤ 256 → length t.nodes ≤ 256
+few_nodes t p e h =
+    let same : length (map unplaced_node t.nodes) ≡ length (map unplaced_node p.nodes) = ap (λ (q : ProgramTree). length q.nodes) e in
+    omega (arith, same, length-map t.nodes unplaced_node, length-map p.nodes unplaced_node)
+
+pub reads_back : (p : ProgramTree) → IsPrintable p → ReadsBack p
+reads_back p h =
+    let s = scanned p h in
+    let x = (program_reads p h).read (lexemes_of (printed p) s.tokens) s.seen in
+    record {
+      tree = x.tree;
+      is = record { tokens = s.tokens; lexical = s.are; written = x.text; ranges = s.ranges; nodes = few_nodes x.tree p x.same h.few };
+      same = x.same;
+    }
