@@ -9,3 +9,4 @@ pub mod Prints
 pub mod Readable
 pub mod ReadableNodes
 pub mod Printable
+pub mod Source
