@@ -10,3 +10,4 @@ pub mod Readable
 pub mod ReadableNodes
 pub mod Printable
 pub mod Source
+pub mod Meant
