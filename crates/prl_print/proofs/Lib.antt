@@ -11,3 +11,4 @@ pub mod ReadableNodes
 pub mod Printable
 pub mod Source
 pub mod Meant
+pub mod MeantTrees
