@@ -8,7 +8,8 @@ pub mod SpelledNodes
 pub mod Prints
 pub mod Readable
 pub mod ReadableNodes
-pub mod Printable
 pub mod Source
 pub mod Meant
 pub mod MeantTrees
+pub mod Limits
+pub mod Printable

@@ -12,6 +12,9 @@ use Rattle.prl_print.specs.Places.{unplaced, unplaced_node, SamePlacesAside}
 use Rattle.prl_print.proofs.Scanning.{bare, Scanned, Scan, scan_end}
 use Rattle.prl_print.proofs.Fragments.{Plain, Frag}
 use Rattle.prl_print.proofs.Words.{program_words, IsPrintable}
+use Rattle.prl_print.proofs.Source.{Fine}
+use Rattle.prl_print.proofs.Limits.{text_fine}
+use Rattle.prl_print.proofs.MeantTrees.{program_means}
 use Rattle.prl_print.proofs.SpelledNodes.{program_spelled}
 use Rattle.prl_print.proofs.ReadableNodes.{program_reads}
 
@@ -43,3 +46,13 @@ reads_back p h =
       is = record { tokens = s.tokens; lexical = s.are; written = x.text; ranges = s.ranges; nodes = few_nodes x.tree p x.same h.few };
       same = x.same;
     }
+
+printable : (text : List ℕ) (p : ProgramTree) → IsProgramOf text p → IsPrintable p
+printable text p h =
+    let fine : Fine (lexemes_of text h.tokens) = record { depth = 0; at = record { before = 0; last = 0; from = text_fine text h.tokens h.lexical h.ranges } } in
+    let own = program_means.means p (lexemes_of text h.tokens) fine h.written in
+    record { imports = own.imports; sensors = own.sensors; actuators = own.actuators; nodes = own.nodes; few = h.nodes }
+
+-- what is read from the printed text of a program is the program, places aside
+pub program_reads_back : (text : List ℕ) (p : ProgramTree) → IsProgramOf text p → ReadsBack p
+program_reads_back text p h = reads_back p (printable text p h)
