@@ -157,8 +157,7 @@ mutual
       let c = b.first in
       let left = front_at w b.left b.right b.whole fine in
       let flat : depth_along d c.left ≡ d = (fl_many prefix_flat).flat pre c.left c.first d in
-      let own = root_means root d c.right (at_depth (depth_along d c.left) d c.right flat (back_at b.left c.left c.right c.whole left)) c.second in
-      (
+      let own = root_means root d c.right (at_depth (depth_along d c.left) d c.right flat (back_at b.left c.left c.right c.whole left)) c.second in (
         (
           (m_many prefix_means).means pre c.left (any_fine d c.left (front_at b.left c.left c.right c.whole left)) c.first,
           own.0,
@@ -178,8 +177,7 @@ mutual
       let flat : depth_along d h.left ≡ d = name_flat.flat name h.left h.first d in
       let i = inside_of (Beside (TreeText t) (OthersText ts)) d h.right (at_depth (depth_along d h.left) d h.right flat (back_at w h.left h.right h.whole fine)) h.second in
       let x = tree_means t (d + 1) i.is.left (front_at i.inner i.is.left i.is.right i.is.whole i.fine) i.is.first in
-      let y = others_mean ts (d + 1) i.is.right (at_depth (depth_along (d + 1) i.is.left) (d + 1) i.is.right x.1 (back_at i.inner i.is.left i.is.right i.is.whole i.fine)) i.is.second in
-      (
+      let y = others_mean ts (d + 1) i.is.right (at_depth (depth_along (d + 1) i.is.left) (d + 1) i.is.right x.1 (back_at i.inner i.is.left i.is.right i.is.whole i.fine)) i.is.second in (
         (name_means.means name h.left (any_fine d h.left (front_at w h.left h.right h.whole fine)) h.first, i.within, (x.0, y.0)),
         both_flat w h.left h.right d d d h.whole flat (i.closes (both_flat i.inner i.is.left i.is.right (d + 1) (d + 1) (d + 1) i.is.whole x.1 y.1)),
       )

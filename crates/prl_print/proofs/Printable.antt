@@ -1,5 +1,5 @@
 -- A printable program is printed as a text of itself, places aside.
-use Rattle.std.proofs.Common.{◌≡◌, ◌≤◌, ℕ, List, [], ◌++◌, map, length, Ok, None, refl, sym, ap, ◌∙◌, subst, arith}
+use Rattle.std.proofs.Common.{◌≡◌, ◌≤◌, ℕ, List, [], ◌++◌, map, length, Vec, Global, Result, Ok, Err, IfOk, None, refl, sym, ap, ◌∙◌, subst, arith}
 use Rattle.std.proofs.lemmas.List.{append-nil, length-map}
 use Rattle.prl_ast.specs.Trees.{ProgramTree, NodeTree}
 use Rattle.prl_reader.specs.Lexemes.{Lexeme}
@@ -9,6 +9,7 @@ use Rattle.prl_syntax.specs.Parsing.{IsProgramOf}
 use Rattle.prl_syntax.specs.Ranges.{out_of_range}
 use Rattle.prl_print.specs.Printing.{printed}
 use Rattle.prl_print.specs.Places.{unplaced, unplaced_node, SamePlacesAside}
+use Rattle.prl_print.specs.RoundTrip.{IsTextOf}
 use Rattle.prl_print.proofs.Scanning.{bare, Scanned, Scan, scan_end}
 use Rattle.prl_print.proofs.Fragments.{Plain, Frag}
 use Rattle.prl_print.proofs.Words.{program_words, IsPrintable}
@@ -17,11 +18,6 @@ use Rattle.prl_print.proofs.Limits.{text_fine}
 use Rattle.prl_print.proofs.MeantTrees.{program_means}
 use Rattle.prl_print.proofs.SpelledNodes.{program_spelled}
 use Rattle.prl_print.proofs.ReadableNodes.{program_reads}
-
-pub record ReadsBack (p : ProgramTree) : Type 0 where
-  pub tree : ProgramTree
-  pub is : IsProgramOf (printed p) tree
-  pub same : SamePlacesAside tree p
 
 scanned : (p : ProgramTree) → IsPrintable p → Scanned 0 0 0 [] (printed p) (program_words p)
 scanned p h =
@@ -37,7 +33,7 @@ few_nodes t p e h =
     let same : length (map unplaced_node t.nodes) ≡ length (map unplaced_node p.nodes) = ap (λ (q : ProgramTree). length q.nodes) e in
     omega (arith, same, length-map t.nodes unplaced_node, length-map p.nodes unplaced_node)
 
-pub reads_back : (p : ProgramTree) → IsPrintable p → ReadsBack p
+reads_back : (p : ProgramTree) → IsPrintable p → IsTextOf (printed p) p
 reads_back p h =
     let s = scanned p h in
     let x = (program_reads p h).read (lexemes_of (printed p) s.tokens) s.seen in
@@ -54,5 +50,9 @@ printable text p h =
     record { imports = own.imports; sensors = own.sensors; actuators = own.actuators; nodes = own.nodes; few = h.nodes }
 
 -- what is read from the printed text of a program is the program, places aside
-pub program_reads_back : (text : List ℕ) (p : ProgramTree) → IsProgramOf text p → ReadsBack p
-program_reads_back text p h = reads_back p (printable text p h)
+program_reads_back : (p : ProgramTree) (text source : List ℕ) → text ≡ printed p → IsProgramOf source p → IsTextOf text p
+program_reads_back p text source e h = let P : List ℕ → Type 0 = λ t. IsTextOf t p in subst P (sym e) (reads_back p (printable source p h))
+
+pub result_reads_back : {E : Type 0} (p : ProgramTree) (r : Result (Vec ℕ Global) E) → IfOk r (λ text. text.items ≡ printed p) → (source : List ℕ) → IsProgramOf source p → IfOk r (λ text. IsTextOf text.items p)
+result_reads_back p (Ok text) e source h = program_reads_back p text.items source e h
+result_reads_back p (Err fault) e source h = tt

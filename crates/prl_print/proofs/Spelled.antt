@@ -133,7 +133,6 @@ pub returns_spelled : Frag 1 (codes ") returns (") (a_fixed fixed.Close ∷ a_fi
 returns_spelled =
     f_seq (f_close 0 (omega arith)) (f_seq (f_blank 0) (f_seq (f_keyword 0 fixed.Returns (codes "returns") (refl, omega arith) refl refl (λ l. refl)) (f_seq (f_blank 0) (f_open 0 (omega arith)) (λ rest fits. tt)) (λ rest fits. refl)) (λ rest fits. tt)) (λ rest fits. tt)
 
-
 -- what is in parentheses begins with no star
 ports_lead : (ps : List Port) → AllByRecursion IsOwnPort ps → (rest : List ℕ) → Fits word rest → Fits paren (printed_ports ps ++ rest)
 ports_lead [] h rest fits = no_star rest fits
