@@ -64,15 +64,13 @@ pub f_bytes : {d d2 : ℕ} {ks : List Lexeme} {e : End} (a b : List ℕ) → a �
 f_bytes {d} {d2} {ks} {e} a b same f = let P : List ℕ → Type 0 = λ xs. Frag d xs ks e d2 in subst P same f
 
 -- one part for each of a list
-pub f_each : {X : Type 0} (P : X → Type 0) (f : X → List ℕ) (g : X → List Lexeme) (e : End) (d : ℕ) → ((x : X) → P x → Frag d (f x) (g x) e d) → ((x : X) (rest : List ℕ) → Fits e (f x ++ rest)) → (xs : List X) → AllByRecursion P xs → Frag d (flat_map f xs) (flat_map g xs) e d
+pub each_leads : {X : Type 0} (P : X → Type 0) (f : X → List ℕ) (e : End) → ((x : X) → P x → (rest : List ℕ) → Fits e (f x ++ rest)) → (xs : List X) → AllByRecursion P xs → (rest : List ℕ) → Fits e rest → Fits e (flat_map f xs ++ rest)
+each_leads P f e leads [] all rest fits = fits
+each_leads P f e leads (x ∷ xs) all rest fits = let Q : List ℕ → Type 0 = Fits e in subst Q (sym (append_assoc (f x) (flat_map f xs) rest)) (leads x all.0 (flat_map f xs ++ rest))
+
+pub f_each : {X : Type 0} (P : X → Type 0) (f : X → List ℕ) (g : X → List Lexeme) (e : End) (d : ℕ) → ((x : X) → P x → Frag d (f x) (g x) e d) → ((x : X) → P x → (rest : List ℕ) → Fits e (f x ++ rest)) → (xs : List X) → AllByRecursion P xs → Frag d (flat_map f xs) (flat_map g xs) e d
 f_each P f g e d each leads [] all = f_nil d e
-f_each P f g e d each leads (x ∷ xs) all = f_seq (each x all.0) (f_each P f g e d each leads xs all.1) (next xs)
-  where
-    next : (ys : List _) (rest : List ℕ) → Fits e rest → Fits e (flat_map f ys ++ rest)
-    next [] rest fits = fits
-    next (y ∷ ys) rest fits =
-        let Q : List ℕ → Type 0 = Fits e in
-        subst Q (sym (append_assoc (f y) (flat_map f ys) rest)) (leads y (flat_map f ys ++ rest))
+f_each P f g e d each leads (x ∷ xs) all = f_seq (each x all.0) (f_each P f g e d each leads xs all.1) (each_leads P f e leads xs all.1)
 
 abbrev with_all : (d : ℕ) (part : List ℕ) (ks : List Lexeme) (e : End) (deep : ℕ) → ((before last : ℕ) (rest : List ℕ) (more : List Lexeme) → is_plain before last ≡ true → Fits e rest → Plain deep rest more → Scan before last d (part ++ rest) (ks ++ more)) → Frag d part ks e deep
 with_all d part ks e deep h = record { go = λ rest more fits s. record { scan = λ before last plain. h before last rest more plain fits s } }

@@ -120,7 +120,7 @@ scan_token before last depth deep kind p rest k ks small some piece w fits s = r
         let len : length (front ++ p) ≡ at + length p = length-append front p in
         let t : Token = token_at at kind p in
         let own : token_text (front ++ (p ++ rest)) t ≡ p =
-            ap (λ n. take t.span.len (drop n (front ++ (p ++ rest)))) (w.at_is at) ∙ ap (λ xs. take t.span.len xs) (drop-append_seam front (p ++ rest)) ∙ ap (λ n. take n (p ++ rest)) (w.len_is at) ∙ take-append_seam p rest in
+        ap (λ n. take t.span.len (drop n (front ++ (p ++ rest)))) (w.at_is at) ∙ ap (λ xs. take t.span.len xs) (drop-append_seam front (p ++ rest)) ∙ ap (λ n. take n (p ++ rest)) (w.len_is at) ∙ take-append_seam p rest in
         let first : bare (lexeme_of (front ++ (p ++ rest)) t) ≡ k = ap (λ b. bare (kind_lexeme t.kind b t)) own ∙ w.seen at in
         record {
           tokens = t ∷ there.tokens;

@@ -20,7 +20,7 @@ use Rattle.prl_syntax.specs.declared.words.Fixed.TheVariants as fixed
 use Rattle.prl_syntax.specs.Words.{keyword_of}
 use Rattle.prl_print.specs.Printing.{separated, printed_value, printed_ratio, printed_type, printed_rate, printed_due, part, printed_note, note_parts, printed_param, printed_params, printed_port, printed_ports, printed_wcet, printed_signature, printed_import, printed_device}
 use Rattle.prl_print.proofs.Pieces.{a_name, a_number, a_fixed, leads_more, leads_fit, name_leads}
-use Rattle.prl_print.proofs.Fragments.{End, word, paren, free, Fits, no_star, Frag, f_nil, f_seq, f_tokens, f_bytes, f_each, f_blank, f_feed, f_name, f_keyword, f_number, f_close, f_open, f_comma, f_semicolon, f_equals, f_colon, f_wcet, f_rate, f_slash, f_minus}
+use Rattle.prl_print.proofs.Fragments.{End, word, paren, free, Fits, no_star, Frag, f_nil, f_seq, f_tokens, f_bytes, each_leads, f_each, f_blank, f_feed, f_name, f_keyword, f_number, f_close, f_open, f_comma, f_semicolon, f_equals, f_colon, f_wcet, f_rate, f_slash, f_minus}
 use Rattle.prl_print.proofs.Words.{one, words_separated, value_words, denominator_words, ratio_words, type_words, rate_words, due_words, maybe_words, note_words, param_words, params_words, port_words, ports_words, wcet_words, import_words, device_words, IsOwnName, IsConstant, IsOwnRatio, IsCount, IsOwnRate, IsOwnMaybe, IsOwnParam, IsOwnPort, IsOwnImport, IsOwnDevice}
 
 -- what may stand before anything may stand before no byte of a word
@@ -33,16 +33,10 @@ pub f_separated : {X : Type 0} (P : X → Type 0) (f : X → List ℕ) (g : X �
 f_separated P f g between ls d each sep leads [] all = f_nil d word
 f_separated P f g between ls d each sep leads (x ∷ xs) all =
     f_bytes _ _ (ap (λ t. f x ++ t) (sym (flat_map-map (λ other. between ++ other) f xs)))
-    (f_seq (each x all.0) (f_each P (λ y. between ++ f y) (λ y. ls ++ g y) word d (λ y h. f_seq sep (each y h) (λ rest fits. tt)) (λ y. lead (f y)) xs all.1) (next xs))
+    (f_seq (each x all.0) (f_each P (λ y. between ++ f y) (λ y. ls ++ g y) word d (λ y h. f_seq sep (each y h) (λ rest fits. tt)) lead xs all.1) (each_leads P (λ y. between ++ f y) word lead xs all.1))
   where
-    lead : (t rest : List ℕ) → Fits word ((between ++ t) ++ rest)
-    lead t rest = let Q : List ℕ → Type 0 = Fits word in subst Q (sym (append_assoc between t rest)) (leads (t ++ rest))
-
-    next : (ys : List _) (rest : List ℕ) → Fits word rest → Fits word (flat_map (λ y. between ++ f y) ys ++ rest)
-    next [] rest fits = fits
-    next (y ∷ ys) rest fits =
-        let Q : List ℕ → Type 0 = Fits word in
-        subst Q (sym (append_assoc (between ++ f y) (flat_map (λ y. between ++ f y) ys) rest)) (lead (f y) (flat_map (λ y. between ++ f y) ys ++ rest))
+    lead : (y : _) → P y → (rest : List ℕ) → Fits word ((between ++ f y) ++ rest)
+    lead y h rest = let Q : List ℕ → Type 0 = Fits word in subst Q (sym (append_assoc between (f y) rest)) (leads (f y ++ rest))
 
 pub value_spelled : (d : ℕ) → d ≤ 64 → (v : Value) → IsConstant v → Frag d (printed_value v) (value_words v) word d
 value_spelled d le (values.Int (pos n)) h = f_number d n h
@@ -138,7 +132,6 @@ wcet_spelled n h = f_seq (f_seq (f_blank 0) (f_wcet 0 n h.0 h.1) (λ rest fits. 
 pub returns_spelled : Frag 1 (codes ") returns (") (a_fixed fixed.Close ∷ a_fixed fixed.Returns ∷ one fixed.Open) paren 1
 returns_spelled =
     f_seq (f_close 0 (omega arith)) (f_seq (f_blank 0) (f_seq (f_keyword 0 fixed.Returns (codes "returns") (refl, omega arith) refl refl (λ l. refl)) (f_seq (f_blank 0) (f_open 0 (omega arith)) (λ rest fits. tt)) (λ rest fits. refl)) (λ rest fits. tt)) (λ rest fits. tt)
-
 
 -- what is in parentheses begins with no star
 ports_lead : (ps : List Port) → AllByRecursion IsOwnPort ps → (rest : List ℕ) → Fits word rest → Fits paren (printed_ports ps ++ rest)
