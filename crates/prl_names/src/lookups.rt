@@ -5,7 +5,7 @@ ghost use Rattle.prl_ast.specs.Trees.{program_tree};
 ghost use Rattle.prl_names.specs.Lookups.{param_at, callee_of};
 
 use crate::mentions::{imports, nodes};
-use crate::tables::{Places, all_params, found, places};
+use crate::tables::{Places, all_params, found, param_in, places};
 use prl_ast::Program;
 use std::alloc::{AllocError, Global};
 use std::marker::Model;
@@ -70,10 +70,7 @@ impl<'a> Names<'a> {
     pub fn param(&self, node: usize, name: &[u8]) -> Option<usize>
         ensures { result ≡ param_at (program_tree self.now) node name.now }
     {
-        match self.params.get(node) {
-            Some(table) => found(table, name),
-            None => None,
-        }
+        param_in(self.params.as_slice(), node, name)
     }
 
     /// The node of this name, or where there is none the import; where several have the name, the first. Takes

@@ -1,6 +1,7 @@
 //! Tables of the places of names.
 
-ghost use Rattle.std.specs.Prelude.{◌≡◌, IfOk, map};
+ghost use Rattle.std.specs.Prelude.{◌≡◌, IfOk, map, slice_get};
+ghost use Rattle.std.specs.Option.{option_and_then};
 ghost use Rattle.prl_ast.specs.Trees.{node_tree};
 ghost use Rattle.prl_names.specs.Mentions.{names_in};
 ghost use Rattle.prl_names.specs.Tables.{found, ArePlaces, AreParams};
@@ -44,4 +45,16 @@ pub fn all_params(alloc: Global, nodes: &[Node]) -> Result<Vec<Places<'_>>, Allo
         tables.push(places(alloc, list.as_slice())?)?;
     }
     Ok(tables)
+}
+
+/// The place of the name in the table at this place.
+#[tactic(auto, using(std::proofs::lemmas::Option::slice_get_read, std::proofs::lemmas::Option::slice_get_past))]
+pub fn param_in(tables: &[Places<'_>], node: usize, name: &[u8]) -> Option<usize>
+    ensures { result ≡ option_and_then (λ table. found table name.now) (slice_get tables.now node) }
+{
+    if node < tables.len() {
+        found(&tables[node], name)
+    } else {
+        None
+    }
 }
