@@ -1,3 +1,4 @@
+pub mod Absent
 pub mod FirstPlaces
 pub mod Params
 pub mod Repeating

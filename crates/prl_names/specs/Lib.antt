@@ -2,6 +2,7 @@ pub mod Applications
 pub mod Checks
 pub mod ExprLists
 pub mod Lookups
+pub mod Marks
 pub mod Mentions
 pub mod Repeats
 pub mod Tables

@@ -2,6 +2,7 @@
 //! the syntax tree of `prl_ast`.
 #![tactic(auto)]
 
+mod absences;
 mod applications;
 mod checks;
 mod lookups;
