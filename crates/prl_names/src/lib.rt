@@ -5,6 +5,7 @@
 mod absences;
 mod applications;
 mod checks;
+mod laws;
 mod lookups;
 mod mentions;
 mod repeats;
@@ -12,4 +13,5 @@ mod tables;
 mod unknowns;
 
 pub use checks::{NameFault, check_names};
+pub use laws::place_has_the_name;
 pub use lookups::{Callee, Names};
