@@ -5,7 +5,7 @@ use Rattle.std.proofs.lemmas.List.{length-map}
 use Rattle.std.specs.List.{slice_get}
 use Rattle.prl_ast.specs.declared.declarations.Node.{Node}
 use Rattle.prl_ast.specs.Trees.{NodeTree, ProgramTree, node_tree}
-use Rattle.prl_names.specs.Applications.{applies, applied_by, applied_equations, reaches_by}
+use Rattle.prl_names.specs.Applications.{applies, applied_by, applied_equations, reaches_by, reaches, recursive_from}
 use Rattle.prl_names.specs.Marks.{mark_of, Adds, IsRow, AreRows, or_marks, led_through, row_of, all_led_through}
 
 unmarked : (n j : ℕ) → mark_of (replicate n false) j ≡ false
@@ -96,3 +96,42 @@ or_step marks row others k a b below within here there =
     let first : drop k row ≡ a ∷ drop (k + 1) row = rw (add-one, drop-cons row k a below, ← here) refl in
     let second : drop k others ≡ b ∷ drop (k + 1) others = rw (add-one, drop-cons others k b within, ← there) refl in
     rw (first, second) (append_assoc marks ((a || b) ∷ []) (or_marks (drop (k + 1) row) (drop (k + 1) others)))
+
+pub rows-square : (p : ProgramTree) (k by i : ℕ) (rows : List (List Bool)) (d : List Bool) → AreRows p k by rows → i < length rows → length (get_or rows i d) ≡ length p.nodes
+rows-square p k by i [] d are below = absurd (omega arith)
+rows-square p k by zero (r ∷ rows) d are below = are.0.all
+rows-square p k by (suc i) (r ∷ rows) d are below = rows-square p k (by + 1) i rows d are.1 (omega arith)
+
+row_is : (p : ProgramTree) (k by i : ℕ) (rows : List (List Bool)) (r : List Bool) → AreRows p k by rows → i < length rows → r ≡ get_or rows i r → IsRow p k (by + i) r
+row_is p k by i [] r are below is = absurd (omega arith)
+row_is p k by zero (x ∷ rows) r are below is =
+    (let same : by ≡ by + 0 = omega arith in subst (λ i. IsRow p k i r) same (rw is are.0))
+row_is p k by (suc i) (x ∷ rows) r are below is =
+    (let moved : (by + 1) + i ≡ by + suc i = omega arith in subst (λ m. IsRow p k m r) moved (row_is p k (by + 1) i rows r are.1 (omega arith) is))
+
+pub own_row : (p : ProgramTree) (k i : ℕ) (rows : List (List Bool)) (r : List Bool) → AreRows p k 0 rows → i < length rows → r ≡ get_or rows i r → IsRow p k i r
+own_row p k i rows r are below is =
+    let start : 0 + i ≡ i = omega arith in
+    subst (λ m. IsRow p k m r) start (row_is p k 0 i rows r are below is)
+
+pub recursive_here : (p : ProgramTree) (nodes : List Node) (k : ℕ) (x : Node) → k < length nodes → x ≡ get_or nodes k x → reaches p k k ≡ true →
+    Some x.name ≡ recursive_from p k (map node_tree (drop k nodes))
+recursive_here p nodes k x below item itself =
+    let later : drop k nodes ≡ x ∷ drop (k + 1) nodes = rw (add-one, drop-cons nodes k x below, ← item) refl in
+    rw (later, itself) refl
+
+pub recursive_later : (p : ProgramTree) (nodes : List Node) (k : ℕ) (x : Node) → k < length nodes → x ≡ get_or nodes k x → reaches p k k ≡ false →
+    recursive_from p (k + 1) (map node_tree (drop (k + 1) nodes)) ≡ recursive_from p k (map node_tree (drop k nodes))
+recursive_later p nodes k x below item not_itself =
+    let later : drop k nodes ≡ x ∷ drop (k + 1) nodes = rw (add-one, drop-cons nodes k x below, ← item) refl in
+    rw (later, not_itself) refl
+
+-- the row of a node, in a table of all that is reached
+pub closed_row : (p : ProgramTree) (nodes : List Node) (rows : List (List Bool)) (k : ℕ) (r : List Bool) → p.nodes ≡ map node_tree nodes → AreRows p (length nodes) 0 rows →
+    length rows ≡ length nodes → k < length nodes → r ≡ get_or rows k r → (length r ≡ length nodes) × (mark_of r k ≡ reaches p k k)
+closed_row p nodes rows k r tree are len below is =
+    let count : length p.nodes ≡ length nodes = ap length tree ∙ length-map nodes node_tree in
+    let within : k < length rows = rw len below in
+    let inside : k < length p.nodes = rw count below in
+    let row = own_row p (length p.nodes) k rows r (subst (λ n. AreRows p n 0 rows) (sym count) are) within is in
+    (row.all ∙ count, row.each k inside)
