@@ -4,6 +4,7 @@ pub mod ExprLists
 pub mod Lookups
 pub mod Marks
 pub mod Mentions
+pub mod Named
 pub mod Repeats
 pub mod Tables
 pub mod Unknowns

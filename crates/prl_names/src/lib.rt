@@ -13,5 +13,5 @@ mod tables;
 mod unknowns;
 
 pub use checks::{NameFault, check_names};
-pub use laws::place_has_the_name;
+pub use laws::{place_has_the_name, reaching_is_found};
 pub use lookups::{Callee, Names};
