@@ -5,5 +5,6 @@ pub mod Marking
 pub mod Params
 pub mod Reaching
 pub mod Repeating
+pub mod Right
 pub mod Rowing
 pub mod Rows

@@ -56,7 +56,7 @@ place-found ns q i h =
     let same : found.0 ≡ i = omega arith in
     subst (λ j. slice_get ns j ≡ Some q) same found.2
 
-place-below : {X : Type 0} (name : X → List ℕ) (xs : List X) (q : List ℕ) (i : ℕ) → place_of (map name xs) q ≡ Some i → i < length xs
+pub place-below : {X : Type 0} (name : X → List ℕ) (xs : List X) (q : List ℕ) (i : ℕ) → place_of (map name xs) q ≡ Some i → i < length xs
 place-below name xs q i h =
     let there = slice_get_within (map name xs) i q (place-found (map name xs) q i h) in
     rw length-map at there
