@@ -1,5 +1,6 @@
 pub mod Absent
 pub mod Apart
+pub mod Counts
 pub mod FirstPlaces
 pub mod Marking
 pub mod Params

@@ -13,11 +13,12 @@ use Rattle.prl_names.specs.declared.checks.NameFault.TheVariants as faults
 use Rattle.prl_names.specs.Applications.{recursive_of}
 use Rattle.prl_names.specs.Checks.{fault_of, refused, name_of, main_or, last_place, main_of, device_names, without_device, names_of}
 use Rattle.prl_names.specs.Lookups.{place_of, node_names, params_of, param_names, param_at, callee_of}
-use Rattle.prl_names.specs.Mentions.{placed_param, placed_device}
+use Rattle.prl_names.specs.Mentions.{placed_param, placed_device, placed_import, placed_node}
 use Rattle.prl_names.specs.Named.{AreApart, placed_names, IsKnown, IsKnownRoot, AreKnown, AreKnownLefts, AreKnownEquations, AllAreAmong, IsNamedNode, HasDevices, IsNamed}
 use Rattle.prl_names.specs.Repeats.{is_among, repeat_in, repeat_of, global_spaces, callee_space, port_space, flow_space, definition_space}
 use Rattle.prl_names.specs.Unknowns.{either_name, unless, unknown_in, unknown_root, unknown_trees, unknown_lefts, unknown_equations, unknown_from, unknown_of, absent_by, absent_from, left_names, undefined_in, undefined_among, undefined_of}
 use Rattle.prl_names.proofs.Apart.{NoRepeats, no_repeats, repeats_split, space_of, apart}
+use Rattle.prl_names.proofs.Counts.{apart_merged}
 use Rattle.prl_names.proofs.Marking.{place-below}
 use Rattle.prl_names.proofs.Reaching.{acyclic}
 
@@ -183,6 +184,7 @@ pub named : (p : ProgramTree) (main : Option (List ℕ)) (k : ℕ) → names_of 
 named p main k h =
     let r = rows p main k h in
     let s = spaces p r.once in
+    let callees = apart_merged (map placed_import p.imports) (map placed_node p.nodes) s.globals.0 in
     record {
       main_below = main_below p main k r.main_is;
       nodes = λ i n g. record {
@@ -193,7 +195,9 @@ named p main k h =
       };
       devices = λ n g. has_devices p k n r.linked g;
       acyclic = acyclic p r.acyclic;
-      callees_apart = apart (callee_space p) s.globals.0;
+      nodes_apart = subst AreApart (map-map (λ (q : Placed). q.name) placed_node p.nodes) callees.second;
+      imports_apart = subst AreApart (map-map (λ (q : Placed). q.name) placed_import p.imports) callees.first;
+      callees_apart = λ i j n g k. callees.both j i n (rw (map-map (λ (q : Placed). q.name) placed_import p.imports) k) (rw (map-map (λ (q : Placed). q.name) placed_node p.nodes) g);
       ports_apart = λ i x g. space_of port_space p.imports i x s.ports g;
       sensors_apart = subst AreApart (map-map (λ (q : Placed). q.name) placed_device p.sensors) (apart (map placed_device p.sensors) s.globals.1.0);
       actuators_apart = subst AreApart (map-map (λ (q : Placed). q.name) placed_device p.actuators) (apart (map placed_device p.actuators) s.globals.1.1.0);
