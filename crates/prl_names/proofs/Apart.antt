@@ -1,5 +1,5 @@
 -- Where a space has no repeat, its names are apart.
-use Rattle.std.proofs.Common.{◌≡◌, ◌<◌, ◌+◌, ℕ, zero, suc, Bool, true, false, cond, List, [], ◌∷◌, ◌++◌, length, map, refl, sym, ap, ◌∙◌, subst, Some, None, Option}
+use Rattle.std.proofs.Common.{◌≡◌, ◌+◌, ℕ, zero, suc, true, false, cond, List, [], ◌∷◌, ◌++◌, length, map, refl, sym, ap, ◌∙◌, subst, Some, None, Option}
 use Rattle.std.proofs.lemmas.Bool.{false≢true}
 use Rattle.std.specs.Bool.{nat_lt}
 use Rattle.std.specs.List.{slice_get}
@@ -7,7 +7,7 @@ use Rattle.std.specs.Option.{is_some}
 use Rattle.std.specs.Cmp.Lexicographic.{bytes_decides}
 use Rattle.std.specs.Str.{bytes_eq}
 use Rattle.prl_ast.specs.declared.declarations.Placed.{Placed}
-use Rattle.prl_names.specs.Lookups.{place_from, place_of}
+use Rattle.prl_names.specs.Lookups.{place_of}
 use Rattle.prl_names.specs.Named.{AreApart, placed_names}
 use Rattle.prl_names.specs.Repeats.{is_among, repeat_behind, repeat_in, first_of, earliest_repeat}
 use Rattle.prl_names.proofs.FirstPlaces.{either, place-push}
