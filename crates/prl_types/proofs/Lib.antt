@@ -1,3 +1,5 @@
 pub mod MarkLemmas
 pub mod Replacing
 pub mod Meeting
+pub mod Starting
+pub mod Ending

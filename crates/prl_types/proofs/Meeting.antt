@@ -28,16 +28,14 @@ type_of_resolved f (terms.Known ty) = refl
 type_of_resolved f (terms.Parameter k) = sym (f.at k)
 
 -- a choice that follows the marks, with this type for all that is open
-pub chosen : List Term → Ty → Choice
+abbrev pub chosen : List Term → Ty → Choice
 chosen marks ty k = type_in (λ _. ty) (mark_of marks k)
 
 same_chosen : (marks : List Term) (ty : Ty) → IsSettled marks → (k : ℕ) (t : Term) → mark_of marks k ≡ t → type_in (λ _. ty) t ≡ type_in (chosen marks ty) t
-unfolding chosen
 same_chosen marks ty settled k (terms.Known u) e = refl
 same_chosen marks ty settled k (terms.Parameter a) e = sym (ap (type_in (λ _. ty)) (settled.own k a e))
 
 pub chosen_follows : (marks : List Term) (ty : Ty) → IsSettled marks → Follows (chosen marks ty) marks
-unfolding chosen
 chosen_follows marks ty settled = record { at = λ k. same_chosen marks ty settled k (mark_of marks k) refl }
 
 -- the new marks are followed by the choices that follow the old ones and meet the rule

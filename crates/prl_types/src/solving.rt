@@ -162,3 +162,67 @@ impl Marks {
         }
     }
 }
+
+fn add_type(types: &mut Vec<Ty>, ty: Ty) -> Result<(), Unsolved>
+    ensures added { IfOk result (λ _. types.new.items ≡ types.old.items ++ ty ∷ []) }
+    ensures memory { IfErr result (λ e. e ≡ unsolved.Memory) }
+{
+    match types.push(ty) {
+        Ok(()) => Ok(()),
+        Err(_) => Err(Unsolved::Memory),
+    }
+}
+
+impl Marks {
+    /// The types of all parameters, if none is open.
+    fn types(&self, alloc: Global) -> Result<Vec<Ty>, Unsolved>
+        requires { IsKept self.now }
+        ensures { (rules : List RuleOf) → Solves rules self.now.marks.items
+            → MatchResult result (λ types. AreTypes rules (length self.now.marks.items) types.items) (Explains rules (length self.now.marks.items)) }
+    {
+        let mut types = Vec::new(alloc);
+        for (k, mark) in self.marks.iter().enumerate() {
+            match mark {
+                Term::Known(ty) => add_type(&mut types, *ty)?,
+                Term::Parameter(_) => return Err(Unsolved::Free(k)),
+            }
+        }
+        Ok(types)
+    }
+}
+
+/// The marks of so many parameters before any rule.
+fn unruled(alloc: Global, count: usize) -> Result<Marks, Unsolved>
+    ensures count { IfOk result (λ m. length m.marks.items ≡ count) }
+    ensures kept { IfOk result (λ m. IsKept m) }
+    ensures solves { IfOk result (λ m. Solves [] m.marks.items) }
+    ensures memory { IfErr result (λ e. e ≡ unsolved.Memory) }
+{
+    match Marks::new(alloc, count) {
+        Ok(marks) => Ok(marks),
+        Err(_) => Err(Unsolved::Memory),
+    }
+}
+
+/// What the rules, in their order, say of so many parameters.
+fn ruled(alloc: Global, rules: &[Rule], count: usize) -> Result<Marks, Unsolved>
+    requires { FitRules count rules.now }
+    ensures count { IfOk result (λ m. length m.marks.items ≡ count) }
+    ensures kept { IfOk result (λ m. IsKept m) }
+    ensures solves { IfOk result (λ m. Solves rules.now m.marks.items) }
+    ensures explains { IfErr result (Explains rules.now count) }
+{
+    let mut marks = unruled(alloc, count)?;
+    for rule in rules {
+        marks.meet(alloc, *rule)?;
+    }
+    Ok(marks)
+}
+
+/// The types of so many parameters that the rules leave.
+pub(crate) fn solve(alloc: Global, rules: &[Rule], count: usize) -> Result<Vec<Ty>, Unsolved>
+    requires { FitRules count rules.now }
+    ensures { MatchResult result (λ types. AreTypes rules.now count types.items) (Explains rules.now count) }
+{
+    ruled(alloc, rules, count)?.types(alloc)
+}
