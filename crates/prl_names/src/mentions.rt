@@ -3,9 +3,10 @@
 ghost use Rattle.std.specs.Prelude.{◌≡◌, ◌++◌, IfOk, OnOk, map};
 ghost use Rattle.prl_ast.specs.Trees.{node_tree};
 ghost use Rattle.prl_names.specs.Lookups.{params_of};
-ghost use Rattle.prl_names.specs.Mentions.{placed_param, placed_node, placed_import, all_placed};
+ghost use Rattle.prl_names.specs.Mentions.{placed_param, placed_port, placed_device, placed_import, placed_node, all_placed};
+ghost use Rattle.prl_names.specs.Repeats.{flow_space, port_space};
 
-use prl_ast::{Import, Node, Param};
+use prl_ast::{Device, Import, Node, Param, Placed, Port};
 use prl_base::{Name, Span};
 use std::alloc::{AllocError, Global};
 
@@ -28,20 +29,33 @@ fn push_params<'a>(list: &mut Vec<Mention<'a>>, params: &'a [Param]) -> Result<(
     Ok(())
 }
 
-/// The parameters of a node: inputs, then outputs, then locals.
-pub fn flows(alloc: Global, node: &Node) -> Result<Vec<Mention<'_>>, AllocError>
-    ensures { IfOk result (λ list. all_placed list.items ≡ map placed_param (params_of (node_tree node.now))) }
+fn push_ports<'a>(list: &mut Vec<Mention<'a>>, ports: &'a [Port]) -> Result<(), AllocError>
+    ensures { OnOk result (all_placed list.new.items ≡ all_placed list.old.items ++ map placed_port ports.now) }
 {
-    let mut list = Vec::new(alloc);
-    push_params(&mut list, node.ins.as_slice())?;
-    push_params(&mut list, node.outs.as_slice())?;
-    push_params(&mut list, node.locals.as_slice())?;
-    Ok(list)
+    for port in ports {
+        list.push(Mention {
+            name: &port.name,
+            at: port.at,
+        })?;
+    }
+    Ok(())
+}
+
+pub fn push_placed<'a>(list: &mut Vec<Mention<'a>>, all: &'a [Placed]) -> Result<(), AllocError>
+    ensures { OnOk result (all_placed list.new.items ≡ all_placed list.old.items ++ all.now) }
+{
+    for placed in all {
+        list.push(Mention {
+            name: &placed.name,
+            at: placed.at,
+        })?;
+    }
+    Ok(())
 }
 
 /// The nodes.
 pub fn nodes(alloc: Global, nodes: &[Node]) -> Result<Vec<Mention<'_>>, AllocError>
-    ensures { IfOk result (λ list. all_placed list.items ≡ map placed_node nodes.now) }
+    ensures { IfOk result (λ list. all_placed list.items ≡ map placed_node (map node_tree nodes.now)) }
 {
     let mut list = Vec::new(alloc);
     for node in nodes {
@@ -64,5 +78,49 @@ pub fn imports(alloc: Global, imports: &[Import]) -> Result<Vec<Mention<'_>>, Al
             at: import.at,
         })?;
     }
+    Ok(list)
+}
+
+/// Sensors or actuators.
+pub fn devices(alloc: Global, devices: &[Device]) -> Result<Vec<Mention<'_>>, AllocError>
+    ensures { IfOk result (λ list. all_placed list.items ≡ map placed_device devices.now) }
+{
+    let mut list = Vec::new(alloc);
+    for device in devices {
+        list.push(Mention {
+            name: &device.name,
+            at: device.at,
+        })?;
+    }
+    Ok(list)
+}
+
+/// The inputs of a node.
+pub fn inputs(alloc: Global, node: &Node) -> Result<Vec<Mention<'_>>, AllocError>
+    ensures { IfOk result (λ list. all_placed list.items ≡ map placed_param node.now.ins) }
+{
+    let mut list = Vec::new(alloc);
+    push_params(&mut list, node.ins.as_slice())?;
+    Ok(list)
+}
+
+/// The parameters of a node: inputs, then outputs, then locals.
+pub fn flows(alloc: Global, node: &Node) -> Result<Vec<Mention<'_>>, AllocError>
+    ensures { IfOk result (λ list. all_placed list.items ≡ flow_space (node_tree node.now)) }
+{
+    let mut list = Vec::new(alloc);
+    push_params(&mut list, node.ins.as_slice())?;
+    push_params(&mut list, node.outs.as_slice())?;
+    push_params(&mut list, node.locals.as_slice())?;
+    Ok(list)
+}
+
+/// The ports of an import: inputs, then outputs.
+pub fn ports(alloc: Global, import: &Import) -> Result<Vec<Mention<'_>>, AllocError>
+    ensures { IfOk result (λ list. all_placed list.items ≡ port_space import.now) }
+{
+    let mut list = Vec::new(alloc);
+    push_ports(&mut list, import.ins.as_slice())?;
+    push_ports(&mut list, import.outs.as_slice())?;
     Ok(list)
 }

@@ -1,0 +1,1 @@
+//! Which node applies which, and the first that applies itself in the end.

@@ -1,0 +1,1 @@
+//! The first name of a program that is declared or defined a second time.
