@@ -3,3 +3,4 @@ pub mod Replacing
 pub mod Meeting
 pub mod Starting
 pub mod Ending
+pub mod Declared

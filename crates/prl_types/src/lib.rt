@@ -1,7 +1,8 @@
 //! Arity and types of programs. It stands on the syntax tree of `prl_ast` and the names of `prl_names`.
 #![tactic(auto)]
 
+mod contexts;
 mod solving;
 mod terms;
 
-pub use terms::{Rule, Term};
+pub use terms::{Flow, Rule, Term};

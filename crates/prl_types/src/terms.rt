@@ -18,3 +18,10 @@ pub struct Rule {
     pub wanted: Term,
     pub found: Term,
 }
+
+/// The type of a flow, and the place in the text of the expression that gives it.
+#[derive(Clone, Copy, Debug, PartialEq, Eq)]
+pub struct Flow {
+    pub term: Term,
+    pub at: u32,
+}
