@@ -4,3 +4,4 @@ pub mod Meeting
 pub mod Starting
 pub mod Ending
 pub mod Declared
+pub mod Walking

@@ -88,3 +88,6 @@ placed at flows = map (λ (f : Term). record { term = f; at = at }) flows
 abbrev pub placed_flows : ProgramTree → ℕ → Trees → List Flow
 placed_flows p node none = []
 placed_flows p node (more t ts) = placed (place_of t) (flows_of p node t) ++ placed_flows p node ts
+
+abbrev pub terms_of : List Flow → List Term
+terms_of flows = map (λ (f : Flow). f.term) flows

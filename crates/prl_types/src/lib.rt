@@ -2,6 +2,7 @@
 #![tactic(auto)]
 
 mod contexts;
+mod rules;
 mod solving;
 mod terms;
 
