@@ -3,7 +3,7 @@ use Rattle.std.proofs.Common.{◌≡◌, ◌<◌, ◌≤◌, ◌+◌, ◌++◌, 
 use Rattle.std.proofs.lemmas.Option.{slice_get_cases, slice_get_past}
 use Rattle.std.proofs.lemmas.List.{length-map, take_more, take_all, get_or_default, append-nil, get_or-map}
 use Rattle.std.proofs.lemmas.List.Folds.{length-flat_map-take}
-use Rattle.std.proofs.lemmas.List.FromFn.{map-range_with_len_more}
+use Rattle.std.proofs.lemmas.List.FromFn.{map-range_with_len_more, length-map-range_with_len}
 use Rattle.std.proofs.lemmas.Grind.{flat_map-append}
 use Rattle.std.proofs.Math.ListN.{get_or-append}
 use Rattle.std.proofs.Math.Seq.{get_or-append_seam}
@@ -12,13 +12,14 @@ use Rattle.std.specs.List.{slice_get}
 use Rattle.std.specs.Option.{option_and_then}
 use Rattle.std.specs.Str.{bytes_eq}
 use Rattle.prl_ast.specs.declared.declarations.Node.{Node}
+use Rattle.prl_ast.specs.declared.declarations.Port.{Port}
 use Rattle.prl_ast.specs.Trees.{NodeTree, ProgramTree, node_tree}
 use Rattle.prl_names.specs.Lookups.{place_from, params_of, param_names, param_of, param_at}
 use Rattle.prl_types.specs.declared.terms.Term.{Term}
 use Rattle.prl_types.specs.declared.terms.Term.TheVariants as terms
 use Rattle.prl_types.specs.declared.contexts.Parameter.{Parameter}
 use Rattle.prl_types.specs.Contexts.{owned_of, AreListed, AreParameters}
-use Rattle.prl_types.specs.Flows.{parameters_from}
+use Rattle.prl_types.specs.Flows.{parameters_from, port_types}
 use Rattle.prl_types.specs.Parameters.{Owned, owned, owned_by, all_owned, parameters_of, count_of, first_of}
 
 place_within : (j : ℕ) (names : List (List ℕ)) (name : List ℕ) (k : ℕ) → place_from j names name ≡ Some k → k < j + length names
@@ -120,3 +121,9 @@ node_fits p parameters firsts h node first n lt is e =
     let first_is = listed.firsts_are node first lt in
     let total = listed.total in
     omega (arith, room, first_is, total, e)
+
+pub port_count : (ports : List Port) → length (port_types ports) ≡ length ports
+port_count ports = length-map ports _
+
+pub parameter_count : (first count : ℕ) → length (parameters_from first count) ≡ count
+parameter_count first count = length-map-range_with_len terms.Parameter first count

@@ -5,3 +5,4 @@ pub mod Starting
 pub mod Ending
 pub mod Declared
 pub mod Walking
+pub mod Counting

@@ -1,5 +1,5 @@
 -- The places where there is another number of flows than is needed, in the order of the text.
-use Rattle.std.specs.Prelude.{ℕ, ◌+◌, ◌==◌, List, [], ◌∷◌, ◌++◌, length, Option, Some, None, if◌then◌else◌}
+use Rattle.std.specs.Prelude.{ℕ, ◌+◌, ◌==◌, List, [], ◌∷◌, ◌++◌, length, nat_lt, Option, Some, None, if◌then◌else◌}
 use Rattle.prl_base.specs.declared.places.Span.{Span}
 use Rattle.prl_ast.specs.declared.expressions.PlacedOp.{PlacedOp}
 use Rattle.prl_ast.specs.Trees.{Tree, tree, Root, const, var, apply, group, Trees, none, more, EquationTree, NodeTree, ProgramTree}
@@ -58,3 +58,7 @@ arity_faults p = nodes_faults p 0 p.nodes
 abbrev pub first_place : List ℕ → Option ℕ
 first_place [] = None
 first_place (at ∷ ats) = Some at
+
+-- a number as the code counts: none past 64 bits
+abbrev pub counted : ℕ → Option ℕ
+counted n = if nat_lt n 18446744073709551616 then Some n else None

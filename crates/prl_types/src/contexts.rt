@@ -220,6 +220,42 @@ impl<'a> Context<'a> {
         Ok(terms)
     }
 
+    /// How many flows what is applied takes.
+    #[tactic(auto, using(crate::proofs::Declared::port_count, crate::proofs::Declared::parameter_count))]
+    pub fn input_count(&self, callee: Option<Callee>) -> usize
+        ensures { result ≡ length (inputs_of (program_tree self.now) callee) }
+    {
+        match callee {
+            Some(Callee::Import(k)) => match self.import(k) {
+                Some(import) => import.ins.len(),
+                None => 0,
+            },
+            Some(Callee::Node(k)) => match self.node(k) {
+                Some((node, _)) => node.ins.len(),
+                None => 0,
+            },
+            None => 0,
+        }
+    }
+
+    /// How many flows what is applied gives.
+    #[tactic(auto, using(crate::proofs::Declared::port_count, crate::proofs::Declared::parameter_count))]
+    pub fn output_count(&self, callee: Option<Callee>) -> usize
+        ensures { result ≡ length (outputs_of (program_tree self.now) callee) }
+    {
+        match callee {
+            Some(Callee::Import(k)) => match self.import(k) {
+                Some(import) => import.outs.len(),
+                None => 0,
+            },
+            Some(Callee::Node(k)) => match self.node(k) {
+                Some((node, _)) => node.outs.len(),
+                None => 0,
+            },
+            None => 0,
+        }
+    }
+
     /// What an application of the name applies.
     pub fn callee(&self, name: &[u8]) -> Option<Callee>
         ensures { result ≡ callee_of (program_tree self.now) name.now }

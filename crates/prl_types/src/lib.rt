@@ -1,6 +1,7 @@
 //! Arity and types of programs. It stands on the syntax tree of `prl_ast` and the names of `prl_names`.
 #![tactic(auto)]
 
+mod arities;
 mod contexts;
 mod rules;
 mod solving;
