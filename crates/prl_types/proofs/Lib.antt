@@ -6,3 +6,4 @@ pub mod Ending
 pub mod Declared
 pub mod Walking
 pub mod Counting
+pub mod Fitting

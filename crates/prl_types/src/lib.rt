@@ -6,5 +6,6 @@ mod contexts;
 mod rules;
 mod solving;
 mod terms;
+mod typing;
 
 pub use terms::{Flow, Rule, Term};
