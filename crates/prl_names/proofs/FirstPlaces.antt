@@ -52,7 +52,7 @@ new ns n q absent =
       | false ↦ λ e. elim (place_of ns q) as (λ o. either o None ≡ o) [ Some k ↦ refl | None ↦ refl ]
     ] refl)
 
-names_with : (ms : List Mention) (k : ℕ) (x : Mention) → k < length ms → x ≡ get_or ms k x →
+pub names_with : (ms : List Mention) (k : ℕ) (x : Mention) → k < length ms → x ≡ get_or ms k x →
     names_in (take (k + 1) ms) ≡ names_in (take k ms) ++ x.name.now ∷ []
 names_with ms k x below item =
     rw (take_more ms k x below, ← item) (map-append (λ (m : Mention). m.name.now) (take k ms) (x ∷ []))

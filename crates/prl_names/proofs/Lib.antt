@@ -1,3 +1,9 @@
+pub mod Absent
+pub mod Apart
 pub mod FirstPlaces
+pub mod Marking
 pub mod Params
+pub mod Reaching
+pub mod Repeating
+pub mod Rowing
 pub mod Rows

@@ -2,7 +2,9 @@ pub mod Applications
 pub mod Checks
 pub mod ExprLists
 pub mod Lookups
+pub mod Marks
 pub mod Mentions
+pub mod Named
 pub mod Repeats
 pub mod Tables
 pub mod Unknowns

@@ -55,10 +55,12 @@ is_flow node p = is_some (param_of node p.name)
 abbrev pub definition_space : NodeTree → List Placed
 definition_space node = map placed_param node.ins ++ filter (is_flow node) (lefts_of node)
 
+abbrev pub global_spaces : ProgramTree → List (List Placed)
+global_spaces p = callee_space p ∷ map placed_device p.sensors ∷ map placed_device p.actuators ∷ []
+
 -- Each name is to stand once in each of these spaces.
 abbrev pub name_spaces : ProgramTree → List (List Placed)
-name_spaces p = (callee_space p ∷ map placed_device p.sensors ∷ map placed_device p.actuators ∷ []) ++ map port_space p.imports ++ map flow_space p.nodes
-    ++ map definition_space p.nodes
+name_spaces p = ((global_spaces p ++ map port_space p.imports) ++ map flow_space p.nodes) ++ map definition_space p.nodes
 
 -- the one that stands before the other in the text
 abbrev pub first_of : Option Placed → Option Placed → Option Placed

@@ -55,10 +55,14 @@ unknown_from p node (n ∷ ns) = either_name (unknown_equations p node n.eqs) (u
 unfoldable pub unknown_of : ProgramTree → Option (List ℕ)
 unknown_of p = unknown_from p 0 p.nodes
 
+-- the first of the parameters whose name is not known
+abbrev pub absent_by : (List ℕ → Bool) → List Param → Option (List ℕ)
+absent_by known [] = None
+absent_by known (p ∷ ps) = either_name (unless (known p.name) p.name) (absent_by known ps)
+
 -- the first of the parameters whose name is not among the names
 abbrev pub absent_from : List (List ℕ) → List Param → Option (List ℕ)
-absent_from names [] = None
-absent_from names (p ∷ ps) = either_name (unless (is_among names p.name) p.name) (absent_from names ps)
+absent_from names params = absent_by (is_among names) params
 
 abbrev pub left_names : NodeTree → List (List ℕ)
 left_names node = map (λ (l : Placed). l.name) (lefts_of node)

@@ -1,14 +1,18 @@
 //! The checks of the names of a program.
 
-ghost use Rattle.std.specs.Prelude.{◌≡◌};
+ghost use Rattle.std.specs.Prelude.{◌≡◌, ◌<◌, IfSome, length};
 ghost use Rattle.std.specs.Option.{option_copied};
 ghost use Rattle.prl_base.specs.Reading.{Gives};
 ghost use Rattle.prl_ast.specs.Trees.{program_tree};
-ghost use Rattle.prl_names.specs.Checks.{fault_of, names_of};
+ghost use Rattle.prl_names.specs.Checks.{fault_of, main_of, names_of};
 
+use crate::absences::{undefined, without_device};
+use crate::applications::recursive;
 use crate::lookups::Names;
+use crate::repeats::repeat;
+use crate::unknowns::unknown;
 use prl_base::{Label, Name};
-use std::alloc::{AllocError, AllocFailed, Global};
+use std::alloc::{AllocError, Global};
 
 /// Why the names of a program are refused.
 #[derive(Debug, Drop)]
@@ -37,13 +41,73 @@ impl From<AllocError> for NameFault {
     }
 }
 
-/// The place of the main node in the list of nodes: the node of the name `main`, or the last one.
+/// The place of the main node: the one of the name, or where no name is given the last.
+fn main_of(names: &Names<'_>, main: Option<&Label>) -> Option<usize>
+    ensures place { result ≡ main_of (program_tree names.now) (option_copied main.entry) }
+    ensures within { IfSome result (λ node. node < length names.now.nodes) }
+{
+    let nodes = names.program().nodes.as_slice();
+    match main {
+        None => {
+            if nodes.is_empty() {
+                None
+            } else {
+                Some(nodes.len() - 1)
+            }
+        }
+        Some(label) => {
+            for (k, node) in nodes.iter().enumerate() {
+                if node.name.bytes() == label.bytes() {
+                    return Some(k);
+                }
+            }
+            None
+        }
+    }
+}
+
+/// The place of the main node in the list of nodes, counted from 0: of the node of the name `main`, or where no
+/// name is given of the last.
+///
+/// Else the first fault in this order, and within a row the first in the order of the text. All nodes are looked at,
+/// also such as main does not apply.
+///
+/// - `Twice`: a node or import, a sensor, an actuator, or a flow of one node or import is declared a second time;
+///   or a flow is defined a second time, where an input is defined by its declaration.
+/// - `Unknown`: an equation uses a name, on its left or in its expression, that is no flow of its node, or applies a
+///   name that is no node or import.
+/// - `Undefined`: an output or a local has no equation.
+/// - `Recursive`: a node applies itself, directly or through others.
+/// - `NoMain`: there is no node, or none of the name `main`.
+/// - `Unknown`: an input of main has no sensor of its name, or an output no actuator.
+/// - `Memory`: memory ran out; this may come in place of each of the others.
+#[tactic(auto, unfolding(crate::specs::Checks::names_of))]
 pub fn check_names(
     alloc: Global,
     names: &Names<'_>,
     main: Option<&Label>,
 ) -> Result<usize, NameFault>
-    ensures { Gives (λ k. k) fault_of result (names_of (program_tree names.now) (option_copied main.entry)) }
+    ensures { Gives (λ node. node) fault_of result (names_of (program_tree names.now) (option_copied main.entry)) }
 {
-    Err(NameFault::Memory)
+    let program = names.program();
+    if let Some(mention) = repeat(alloc, names)? {
+        return Err(NameFault::Twice(mention.name.copy(alloc)?));
+    }
+    if let Some(name) = unknown(names) {
+        return Err(NameFault::Unknown(name.copy(alloc)?));
+    }
+    if let Some(name) = undefined(alloc, program)? {
+        return Err(NameFault::Undefined(name.copy(alloc)?));
+    }
+    if let Some(name) = recursive(alloc, names)? {
+        return Err(NameFault::Recursive(name.copy(alloc)?));
+    }
+    let node = match main_of(names, main) {
+        Some(node) => node,
+        None => return Err(NameFault::NoMain),
+    };
+    if let Some(name) = without_device(alloc, program, node)? {
+        return Err(NameFault::Unknown(name.copy(alloc)?));
+    }
+    Ok(node)
 }

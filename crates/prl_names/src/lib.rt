@@ -2,8 +2,10 @@
 //! the syntax tree of `prl_ast`.
 #![tactic(auto)]
 
+mod absences;
 mod applications;
 mod checks;
+mod laws;
 mod lookups;
 mod mentions;
 mod repeats;
@@ -11,4 +13,5 @@ mod tables;
 mod unknowns;
 
 pub use checks::{NameFault, check_names};
+pub use laws::{place_has_the_name, reaching_is_found};
 pub use lookups::{Callee, Names};
