@@ -18,7 +18,8 @@ use Rattle.prl_names.specs.Lookups.{place_from, params_of, param_names, param_of
 use Rattle.prl_types.specs.declared.terms.Term.{Term}
 use Rattle.prl_types.specs.declared.terms.Term.TheVariants as terms
 use Rattle.prl_types.specs.declared.contexts.Parameter.{Parameter}
-use Rattle.prl_types.specs.Contexts.{owned_of, AreListed, AreParameters}
+use Rattle.prl_types.specs.Contexts.{owned_of, AreListed, AreParameters, AreFirsts}
+use Rattle.prl_types.specs.Typing.{HasParameter}
 use Rattle.prl_types.specs.Flows.{parameters_from, port_types}
 use Rattle.prl_types.specs.Parameters.{Owned, owned, owned_by, all_owned, parameters_of, count_of, first_of}
 
@@ -127,3 +128,23 @@ port_count ports = length-map ports _
 
 pub parameter_count : (first count : ℕ) → length (parameters_from first count) ≡ count
 parameter_count first count = length-map-range_with_len terms.Parameter first count
+
+pub of_parameter : (p : ProgramTree) (node k : ℕ) → HasParameter p node k → IsOfNode p node k
+of_parameter p node k h = let cases = (slice_get_cases p.nodes node).1 in elim cases [
+    inl here ↦ (let f : Some here.0 ≡ Some h.tree = sym here.2 ∙ h.is in let same : here.0 ≡ h.tree = cc in
+      record { tree = here.0; inside = here.1; is = here.3; below = subst (λ (n : NodeTree). k < length (params_of n)) (sym same) h.below })
+  | inr past ↦ absurd (let f = sym past.1 ∙ h.is in cc) ]
+
+-- the place of a parameter's type
+pub record IsPlaced (p : ProgramTree) (firsts : List ℕ) (count node k first : ℕ) : Type 0 where
+  pub first_is : first ≡ first_of p node
+  pub below : first + k < count
+
+pub placed_type : (p : ProgramTree) (firsts : List ℕ) (count node k first : ℕ) → AreFirsts firsts p → count ≡ count_of p → HasParameter p node k → first ≡ get_or firsts node first → IsPlaced p firsts count node k first
+placed_type p firsts count node k first h e has is =
+    let inside = of_parameter p node k has in
+    let node_inside : node < length p.nodes = inside.inside in
+    let number : length firsts ≡ length p.nodes = h.number in
+    let first_is = is ∙ get_or_default firsts node first 0 (omega arith) ∙ h.first node node_inside in
+    let below = number_fits p node k inside in
+    record { first_is = first_is; below = omega (arith, first_is, below, e) }

@@ -7,3 +7,4 @@ pub mod Declared
 pub mod Walking
 pub mod Counting
 pub mod Fitting
+pub mod Opening

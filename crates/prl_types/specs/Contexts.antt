@@ -2,7 +2,7 @@
 use Rattle.std.specs.Prelude.{◌≡◌, ◌<◌, ℕ, List, map, length, slice_index_or, take}
 use Rattle.prl_ast.specs.Trees.{NodeTree, ProgramTree}
 use Rattle.prl_types.specs.declared.contexts.Parameter.{Parameter}
-use Rattle.prl_types.specs.Parameters.{Owned, all_owned}
+use Rattle.prl_types.specs.Parameters.{Owned, all_owned, first_of}
 
 abbrev pub owned_of : Parameter → Owned
 owned_of q = record { node = q.node.now; param = q.param.now }
@@ -15,3 +15,8 @@ pub record AreListed (parameters : List Parameter) (firsts : List ℕ) (nodes : 
 
 abbrev pub AreParameters : List Parameter → List ℕ → ProgramTree → Type 0
 AreParameters parameters firsts p = AreListed parameters firsts p.nodes (length p.nodes)
+
+-- the number of the first parameter of each node
+pub record AreFirsts (firsts : List ℕ) (p : ProgramTree) : Type 0 where
+  pub number : length firsts ≡ length p.nodes
+  pub first : (k : ℕ) → k < length p.nodes → slice_index_or firsts k 0 ≡ first_of p k

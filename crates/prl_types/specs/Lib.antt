@@ -6,3 +6,5 @@ pub mod Flows
 pub mod Rules
 pub mod Arity
 pub mod Contexts
+pub mod Typing
+pub mod Typings

@@ -102,7 +102,7 @@ fn operated(found: Option<usize>, prefixes: &[PlacedOp], postfixes: &[PlacedOp])
 }
 
 #[cycle(arity)]
-fn expression(context: &Context<'_>, node: usize, expr: &Expr) -> Arity
+fn expression(context: &Context<'_, '_>, node: usize, expr: &Expr) -> Arity
     ensures flows { result.flows ≡ counted (length (flows_of (program_tree context.now) node (tree_of expr.now))) }
     ensures fault { result.fault ≡ first_place (faults_in (program_tree context.now) node (tree_of expr.now)) }
 {
@@ -117,7 +117,7 @@ fn expression(context: &Context<'_>, node: usize, expr: &Expr) -> Arity
 }
 
 #[cycle(arity)]
-fn base(context: &Context<'_>, node: usize, base: &Base) -> Arity
+fn base(context: &Context<'_, '_>, node: usize, base: &Base) -> Arity
     ensures flows { result.flows ≡ counted (length (root_flows (program_tree context.now) node (root_of base.now))) }
     ensures fault { result.fault ≡ first_place (root_faults (program_tree context.now) node (root_of base.now)) }
 {
@@ -140,7 +140,7 @@ fn base(context: &Context<'_>, node: usize, base: &Base) -> Arity
 }
 
 #[cycle(arity)]
-fn parts(context: &Context<'_>, node: usize, exprs: &[Expr]) -> Arity
+fn parts(context: &Context<'_, '_>, node: usize, exprs: &[Expr]) -> Arity
     ensures flows { result.flows ≡ counted (length (all_flows (program_tree context.now) node (all_trees exprs.now))) }
     ensures fault { result.fault ≡ first_place (all_faults (program_tree context.now) node (all_trees exprs.now)) }
 {
@@ -154,7 +154,7 @@ fn parts(context: &Context<'_>, node: usize, exprs: &[Expr]) -> Arity
     Arity { flows, fault }
 }
 
-fn equations_fault(context: &Context<'_>, node: usize, equations: &[Equation]) -> Option<u32>
+fn equations_fault(context: &Context<'_, '_>, node: usize, equations: &[Equation]) -> Option<u32>
     ensures { result ≡ first_place (equations_faults (program_tree context.now) node (map equation_tree equations.now)) }
 {
     for equation in equations {
@@ -170,7 +170,7 @@ fn equations_fault(context: &Context<'_>, node: usize, equations: &[Equation]) -
 
 /// The first place of the program where there is another number of flows than is needed.
 #[tactic(auto, unfolding(crate::specs::Arity::arity_faults))]
-pub fn arity_fault(context: &Context<'_>) -> Option<u32>
+pub fn arity_fault(context: &Context<'_, '_>) -> Option<u32>
     ensures { result ≡ first_place (arity_faults (program_tree context.now)) }
 {
     for (k, node) in context.program().nodes.as_slice().iter().enumerate() {

@@ -4,7 +4,7 @@ ghost use Rattle.std.specs.Prelude.{◌≡◌, ◌<◌, ◌+◌, ◌^◌, ◌++�
 ghost use Rattle.std.specs.Option.{option_copied};
 ghost use Rattle.prl_ast.specs.Trees.{program_tree, node_tree};
 ghost use Rattle.prl_names.specs.Lookups.{callee_of};
-ghost use Rattle.prl_types.specs.Contexts.{owned_of};
+ghost use Rattle.prl_types.specs.Contexts.{owned_of, AreFirsts};
 ghost use Rattle.prl_types.specs.Flows.{inputs_of, outputs_of, import_inputs, import_outputs, node_inputs, node_outputs, parameters_from, port_types};
 ghost use Rattle.prl_types.specs.Parameters.{owned, owned_by, parameters_of, first_of, named};
 
@@ -25,14 +25,14 @@ pub(crate) struct Parameter<'a> {
 /// The names of a program and the parameters of its nodes, counted in the order of their declaration. Contracts see the
 /// program.
 #[derive(Drop)]
-pub(crate) struct Context<'a> {
-    names: &'a Names<'a>,
+pub(crate) struct Context<'n, 'a> {
+    names: &'n Names<'a>,
     parameters: Vec<Parameter<'a>>,
     /// The number of the first parameter of each node.
     firsts: Vec<usize>,
 }
 
-impl<'a> Model for Context<'a> {
+impl<'n, 'a> Model for Context<'n, 'a> {
     ghost use Rattle.std.specs.Coded.{codes};
     ghost use Rattle.prl_ast.specs.Trees.{program_tree};
     ghost use Rattle.prl_ast.specs.contracts.expressions.Base as base;
@@ -86,9 +86,9 @@ fn add_parameters(terms: &mut Vec<Term>, first: usize, count: usize) -> Result<(
     Ok(())
 }
 
-impl<'a> Context<'a> {
+impl<'n, 'a> Context<'n, 'a> {
     /// The parameters of the program whose names these are.
-    pub fn new(alloc: Global, names: &'a Names<'a>) -> Result<Context<'a>, AllocError>
+    pub fn new(alloc: Global, names: &'n Names<'a>) -> Result<Context<'n, 'a>, AllocError>
         ensures { IfOk result (λ c. c ≡ names.now) }
     {
         let mut parameters = Vec::new(alloc);
@@ -116,6 +116,14 @@ impl<'a> Context<'a> {
         ensures { map owned_of result.now ≡ parameters_of (program_tree self.now) }
     {
         self.parameters.as_slice()
+    }
+
+    /// The number of the first parameter of each node. Takes no memory.
+    pub fn into_firsts(self) -> Vec<usize>
+        ensures { AreFirsts result.items (program_tree self.entry) }
+    {
+        let Context { firsts, .. } = self;
+        firsts
     }
 
     /// The type of the parameter of this name of the node.

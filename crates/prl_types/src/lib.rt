@@ -3,9 +3,11 @@
 
 mod arities;
 mod contexts;
+mod faults;
 mod rules;
 mod solving;
 mod terms;
 mod typing;
 
+pub use faults::TypeFault;
 pub use terms::{Flow, Rule, Term};

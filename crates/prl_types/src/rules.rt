@@ -123,7 +123,7 @@ fn terms(alloc: Global, flows: &[Flow]) -> Result<Vec<Term>, AllocError>
 #[cycle(rules)]
 fn expression(
     alloc: Global,
-    context: &Context<'_>,
+    context: &Context<'_, '_>,
     node: usize,
     expr: &Expr,
     rules: &mut Vec<Rule>,
@@ -140,7 +140,7 @@ fn expression(
 #[cycle(rules)]
 fn base(
     alloc: Global,
-    context: &Context<'_>,
+    context: &Context<'_, '_>,
     node: usize,
     base: &Base,
     rules: &mut Vec<Rule>,
@@ -171,7 +171,7 @@ fn base(
 #[cycle(rules)]
 fn parts(
     alloc: Global,
-    context: &Context<'_>,
+    context: &Context<'_, '_>,
     node: usize,
     exprs: &[Expr],
     rules: &mut Vec<Rule>,
@@ -190,7 +190,7 @@ fn parts(
 /// Adds the rules of the left names.
 fn add_lefts(
     rules: &mut Vec<Rule>,
-    context: &Context<'_>,
+    context: &Context<'_, '_>,
     node: usize,
     lefts: &[Placed],
     flows: &[Term],
@@ -212,7 +212,7 @@ fn add_lefts(
 fn add_equations(
     alloc: Global,
     rules: &mut Vec<Rule>,
-    context: &Context<'_>,
+    context: &Context<'_, '_>,
     node: usize,
     equations: &[Equation],
 ) -> Result<(), AllocError>
@@ -225,7 +225,7 @@ fn add_equations(
     Ok(())
 }
 
-fn add_nodes(alloc: Global, rules: &mut Vec<Rule>, context: &Context<'_>) -> Result<(), AllocError>
+fn add_nodes(alloc: Global, rules: &mut Vec<Rule>, context: &Context<'_, '_>) -> Result<(), AllocError>
     ensures { OnOk result (rules.new.items ≡ rules.old.items ++ nodes_rules (program_tree context.now) 0 (program_tree context.now).nodes) }
 {
     for (k, node) in context.program().nodes.as_slice().iter().enumerate() {
@@ -236,7 +236,7 @@ fn add_nodes(alloc: Global, rules: &mut Vec<Rule>, context: &Context<'_>) -> Res
 
 /// The rules of the program.
 #[tactic(auto, unfolding(crate::specs::Rules::rules_of))]
-pub fn rules(alloc: Global, context: &Context<'_>) -> Result<Vec<Rule>, AllocError>
+pub fn rules(alloc: Global, context: &Context<'_, '_>) -> Result<Vec<Rule>, AllocError>
     ensures { IfOk result (λ rules. rules.items ≡ rules_of (program_tree context.now)) }
 {
     let mut list = Vec::new(alloc);
