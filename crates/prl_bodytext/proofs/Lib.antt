@@ -1,0 +1,9 @@
+pub mod Loops
+pub mod Simple
+pub mod Levels
+pub mod Grows
+pub mod Alike
+pub mod Expressions
+pub mod Texts
+pub mod RangeFaults
+pub mod WholeTexts
