@@ -1,12 +1,14 @@
 -- Grammars that grow with the depth of parentheses.
 use Rattle.std.proofs.Common.{◌≡◌, ◌≤◌, ◌⊎◌, ◌+◌, ℕ, zero, suc, List, [], ◌∷◌, Option, Some, None, refl, inl, inr, arith}
 use Rattle.prl_body.specs.declared.operators.Prefix.{Prefix}
+use Rattle.prl_body.specs.declared.operators.Prefix.TheVariants as prefixes
 use Rattle.prl_body.specs.Texts.{Tree}
 use Rattle.prl_reader.specs.Lexemes.{Lexeme}
 use Rattle.prl_reader.specs.Grammars.{Then, Give, Either, Many, Maybe, Place, Named, Numbered}
 use Rattle.prl_bodytext.specs.declared.signs.Level.{Level}
 use Rattle.prl_bodytext.specs.declared.signs.Level.TheVariants as levels
 use Rattle.prl_bodytext.specs.declared.words.Fixed.{Fixed}
+use Rattle.prl_bodytext.specs.declared.words.Fixed.TheVariants as fixed
 use Rattle.prl_bodytext.specs.Grammar.{TreeText, LinkText, ChainText, PairText, RunText, EnclosedText, ChoiceText, PrimaryText, UnaryText, ProductText, SumText, ComparisonText, NegationText, ConjunctionText, DisjunctionText, ExpressionUpTo, ExpressionText}
 
 -- each text of the whole grammar is one of a depth, and of each greater one
@@ -95,7 +97,7 @@ module _ {En : ℕ → TreeText} {E : TreeText} (inner : Grows En E) where
 pub disjunction_grows : {En : ℕ → TreeText} {E : TreeText} → Grows En E → Grows (λ n. DisjunctionText (En n)) (DisjunctionText E)
 unfolding UnaryText ProductText SumText ComparisonText NegationText ConjunctionText DisjunctionText
 disjunction_grows inner =
-    chain_grows (chain_grows (run_grows (pair_grows (chain_grows (chain_grows (run_grows (primary_grows inner) _ _) levels.Product) levels.Sum) levels.Comparison) _ _) levels.Conjunction) levels.Disjunction
+    chain_grows (chain_grows (run_grows (pair_grows (chain_grows (chain_grows (run_grows (primary_grows inner) fixed.Minus prefixes.Negated) levels.Product) levels.Sum) levels.Comparison) fixed.Not prefixes.Not) levels.Conjunction) levels.Disjunction
 
 -- two grammars, the one within the other, as grammars of depths
 abbrev first_then : TreeText → TreeText → ℕ → TreeText
@@ -135,10 +137,9 @@ unfolding ExpressionText ExpressionUpTo
 to_expression t w h = let k = (disjunction_grows expression_grows).some t w h in (suc k.0, k.1)
 
 pub from_expression : (t : Tree) (w : List Lexeme) → ExpressionText t w → DisjunctionText ExpressionText t w
-unfolding ExpressionText
+unfolding ExpressionText ExpressionUpTo
 from_expression t w h = go h.0 h.1
   where
     go : (n : ℕ) → ExpressionUpTo n t w → DisjunctionText ExpressionText t w
-    unfolding ExpressionUpTo ExpressionText
     go zero h = absurd h
     go (suc n) h = (disjunction_grows expression_grows).each n t w h

@@ -1,9 +1,10 @@
+pub mod LinkTrees
 pub mod Loops
 pub mod Simple
 pub mod Levels
 pub mod Grows
 pub mod Alike
-pub mod Expressions
+pub mod Depths
 pub mod Texts
 pub mod RangeFaults
 pub mod WholeTexts
