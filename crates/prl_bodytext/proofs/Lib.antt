@@ -5,6 +5,8 @@ pub mod Levels
 pub mod Grows
 pub mod Alike
 pub mod Depths
+pub mod Calls
+pub mod Operands
 pub mod Texts
 pub mod RangeFaults
 pub mod WholeTexts

@@ -1,20 +1,11 @@
 use Rattle.std.proofs.Common.{◌≡◌, ◌≤◌, ◌+◌, ◌*◌, ℕ, length, map}
 use Rattle.prl_reader.specs.Readers.{many_at}
-use Rattle.prl_bodytext.specs.declared.signs.Level.{Level}
-use Rattle.prl_bodytext.specs.declared.signs.Level.TheVariants as levels
 use Rattle.prl_bodytext.specs.Signs.{sign_first}
 use Rattle.prl_bodytext.specs.Trees.{link_view}
 use Rattle.prl_bodytext.specs.Loops.{with_front}
 use Rattle.prl_bodytext.specs.Readers.{link_by, operand_at}
+use Rattle.prl_bodytext.proofs.Calls.{calls_of}
 use Rattle.prl_bodytext.proofs.expressions.+expression.Given as goal
-
--- how many calls on the same tokens an operand of the level makes at most
-abbrev pub steps_of : Level → ℕ
-steps_of levels.Product = 4
-steps_of levels.Sum = 6
-steps_of levels.Comparison = 8
-steps_of levels.Conjunction = 11
-steps_of levels.Disjunction = 13
 
 abbrev pub decreases-enclosed : goal.decreases-enclosed
 decreases-enclosed l = 16 * length l.terminals.now
@@ -35,10 +26,10 @@ abbrev pub decreases-unary : goal.decreases-unary
 decreases-unary l = 16 * length l.terminals.now + 3
 
 abbrev pub decreases-operand : goal.decreases-operand
-decreases-operand l = 16 * length l.terminals.now + steps_of l.level
+decreases-operand l = 16 * length l.terminals.now + calls_of l.level
 
 abbrev pub decreases-chain : goal.decreases-chain
-decreases-chain l = 16 * length l.terminals.now + (steps_of l.level + 1)
+decreases-chain l = 16 * length l.terminals.now + (calls_of l.level + 1)
 
 abbrev pub decreases-comparison : goal.decreases-comparison
 decreases-comparison l = 16 * length l.terminals.now + 9
