@@ -7,10 +7,10 @@ abbrev pub calls_of : Level → ℕ
 calls_of levels.Product = 4
 calls_of levels.Sum = 6
 calls_of levels.Comparison = 8
-calls_of levels.Conjunction = 11
-calls_of levels.Disjunction = 13
+calls_of levels.Conjunction = 12
+calls_of levels.Disjunction = 14
 
-pub few_calls : (level : Level) → calls_of level ≤ 13
+pub few_calls : (level : Level) → calls_of level ≤ 14
 few_calls levels.Product = omega arith
 few_calls levels.Sum = omega arith
 few_calls levels.Comparison = omega arith

@@ -27,15 +27,17 @@ then_grows one two = record {
   each = λ n b w t. record { first = t.first; left = t.left; right = t.right; whole = t.whole; head = one.each n t.first t.left t.head; tail = (two t.first).each n b t.right t.tail };
   some = λ b w t.
       let h = one.some t.first t.left t.head in
-      let k = (two t.first).some b t.right t.tail in
-      (h.0 + k.0, record {
-        first = t.first;
-        left = t.left;
-        right = t.right;
-        whole = t.whole;
-        head = one.rises h.0 (h.0 + k.0) (omega arith) t.first t.left h.1;
-        tail = (two t.first).rises k.0 (h.0 + k.0) (omega arith) b t.right k.1;
-      });
+      let k = (two t.first).some b t.right t.tail in (
+        h.0 + k.0,
+        record {
+          first = t.first;
+          left = t.left;
+          right = t.right;
+          whole = t.whole;
+          head = one.rises h.0 (h.0 + k.0) (omega arith) t.first t.left h.1;
+          tail = (two t.first).rises k.0 (h.0 + k.0) (omega arith) b t.right k.1;
+        },
+      );
 }
 
 either_grows : {A : Type 0} {Wn Vn : ℕ → A → List Lexeme → Type 0} {W V : A → List Lexeme → Type 0} → Grows Wn W → Grows Vn V → Grows (λ n. Either (Wn n) (Vn n)) (Either W V)

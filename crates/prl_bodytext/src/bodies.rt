@@ -59,10 +59,7 @@ fn statement(alloc: Global, terminals: &[Terminal]) -> Result<(Statement, &[Term
     Ok((Statement { left, right, at }, rest))
 }
 
-fn statements(
-    alloc: Global,
-    terminals: &[Terminal],
-) -> Result<(Vec<Statement>, &[Terminal]), Stop>
+fn statements(alloc: Global, terminals: &[Terminal]) -> Result<(Vec<Statement>, &[Terminal]), Stop>
     ensures { Gives (λ x. (map statement_tree x.0.items, x.1.now)) stop_of result (many_at (0 ∷ []) statement_at terminals.now) }
 {
     let mut statements = Vec::new(alloc);

@@ -108,14 +108,7 @@ fn unary(alloc: Global, terminals: &[Terminal]) -> Result<(Expr, &[Terminal]), S
 
 /// Takes a sum, or two with a comparison between.
 #[cycle(expression)]
-#[tactic(
-    auto,
-    unfolding(
-        crate::specs::Readers::comparison_by,
-        crate::specs::Readers::pair_by,
-        crate::specs::Readers::operand_at
-    )
-)]
+#[tactic(auto, unfolding(crate::specs::Readers::comparison_by, crate::specs::Readers::pair_by, crate::specs::Readers::operand_at))]
 fn comparison(alloc: Global, terminals: &[Terminal]) -> Result<(Expr, &[Terminal]), Stop>
     ensures { Gives (λ x. (tree_of x.0, x.1.now)) stop_of result (comparison_by expression_at terminals.now) }
 {
@@ -144,20 +137,8 @@ fn negation(alloc: Global, terminals: &[Terminal]) -> Result<(Expr, &[Terminal])
 
 /// Takes what operators of the level stand between.
 #[cycle(expression)]
-#[tactic(
-    auto,
-    unfolding(
-        crate::specs::Readers::operand_at,
-        crate::specs::Readers::product_by,
-        crate::specs::Readers::sum_by,
-        crate::specs::Readers::conjunction_by
-    )
-)]
-fn operand(
-    alloc: Global,
-    level: Level,
-    terminals: &[Terminal],
-) -> Result<(Expr, &[Terminal]), Stop>
+#[tactic(auto, unfolding(crate::specs::Readers::operand_at, crate::specs::Readers::product_by, crate::specs::Readers::sum_by, crate::specs::Readers::conjunction_by))]
+fn operand(alloc: Global, level: Level, terminals: &[Terminal]) -> Result<(Expr, &[Terminal]), Stop>
     ensures { Gives (λ x. (tree_of x.0, x.1.now)) stop_of result (operand_at level terminals.now) }
 {
     match level {

@@ -48,11 +48,7 @@ fn of_stop(terminals: &[Terminal], end: u32, stop: Stop) -> BodyFault
 
 /// The bodies that the tokens are.
 #[tactic(auto, unfolding(crate::specs::Parsing::bodies_of_tokens))]
-fn bodies_of_tokens(
-    alloc: Global,
-    terminals: &[Terminal],
-    end: u32,
-) -> Result<BodyTexts, BodyFault>
+fn bodies_of_tokens(alloc: Global, terminals: &[Terminal], end: u32) -> Result<BodyTexts, BodyFault>
     ensures { Gives text_trees fault_of result (bodies_of_tokens terminals.now end) }
 {
     let bodies = match bodies(alloc, terminals) {

@@ -8,37 +8,37 @@ use Rattle.prl_bodytext.proofs.Calls.{calls_of}
 use Rattle.prl_bodytext.proofs.expressions.+expression.Given as goal
 
 abbrev pub decreases-enclosed : goal.decreases-enclosed
-decreases-enclosed l = 16 * length l.terminals.now
+decreases-enclosed l = 32 * length l.terminals.now
 
 abbrev pub decreases-conditional : goal.decreases-conditional
-decreases-conditional l = 16 * length l.terminals.now
+decreases-conditional l = 32 * length l.terminals.now
 
 abbrev pub decreases-link : goal.decreases-link
-decreases-link l = 16 * length l.terminals.now
+decreases-link l = 32 * length l.terminals.now
 
 abbrev pub decreases-links : goal.decreases-links
-decreases-links l = 16 * length l.terminals.now + 1
+decreases-links l = 32 * length l.terminals.now + 1
 
 abbrev pub decreases-primary : goal.decreases-primary
-decreases-primary l = 16 * length l.terminals.now + 2
+decreases-primary l = 32 * length l.terminals.now + 2
 
 abbrev pub decreases-unary : goal.decreases-unary
-decreases-unary l = 16 * length l.terminals.now + 3
+decreases-unary l = 32 * length l.terminals.now + 3
 
 abbrev pub decreases-operand : goal.decreases-operand
-decreases-operand l = 16 * length l.terminals.now + calls_of l.level
+decreases-operand l = 32 * length l.terminals.now + calls_of l.level
 
 abbrev pub decreases-chain : goal.decreases-chain
-decreases-chain l = 16 * length l.terminals.now + (calls_of l.level + 1)
+decreases-chain l = 32 * length l.terminals.now + (calls_of l.level + 1)
 
 abbrev pub decreases-comparison : goal.decreases-comparison
-decreases-comparison l = 16 * length l.terminals.now + 9
+decreases-comparison l = 32 * length l.terminals.now + 10
 
 abbrev pub decreases-negation : goal.decreases-negation
-decreases-negation l = 16 * length l.terminals.now + 10
+decreases-negation l = 32 * length l.terminals.now + 11
 
 abbrev pub decreases-expression : goal.decreases-expression
-decreases-expression l = 16 * length l.terminals.now + 15
+decreases-expression l = 32 * length l.terminals.now + 16
 
 abbrev pub invariant-links-more : goal.invariant-links-more
 invariant-links-more l = record {
