@@ -13,3 +13,8 @@ pub mod Floors
 pub mod StretchLaws
 pub mod DeadlineLaws
 pub mod DeadlineSteps
+pub mod WalkLaws
+pub mod UsedLaws
+pub mod ActionPlaces
+pub mod PlanFacts
+pub mod ReadPlaces
