@@ -18,3 +18,5 @@ pub mod UsedLaws
 pub mod ActionPlaces
 pub mod PlanFacts
 pub mod ReadPlaces
+pub mod Periods
+pub mod RoundPeriods
