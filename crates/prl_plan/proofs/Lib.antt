@@ -10,7 +10,7 @@ pub mod Actions
 pub mod RoundSteps
 pub mod RoundLaws
 pub mod Floors
-pub mod StretchLaws
+pub mod IntervalLaws
 pub mod DeadlineLaws
 pub mod DeadlineSteps
 pub mod WalkLaws

@@ -6,7 +6,7 @@ use Rattle.std.proofs.Math.Nat.{mul-div_cancel}
 use Rattle.std.proofs.lemmas.Int.{ints, clamps}
 use Rattle.std.proofs.lemmas.Option.{slice_get-get_or}
 use Rattle.prl_base.specs.declared.operators.Clock.{Clock}
-use Rattle.prl_plan.specs.declared.deadlines.Stretch.{Stretch}
+use Rattle.prl_plan.specs.declared.deadlines.Interval.{Interval}
 use Rattle.prl_plan.specs.declared.graphs.Edge.{Edge}
 use Rattle.prl_plan.specs.declared.graphs.TaskGraph.{TaskGraph}
 use Rattle.prl_plan.specs.declared.graphs.Producer.{Producer}
@@ -15,9 +15,9 @@ use Rattle.prl_plan.specs.Jobs.{task_at, no_task, release_of, deadline_of}
 use Rattle.prl_plan.specs.Precedence.{preceding, ComesFrom}
 use Rattle.prl_plan.specs.Graphs.{IsWellFormed, IsTask, IsEdge, IsSource, TakeClock}
 use Rattle.prl_plan.specs.Dates.{Family}
-use Rattle.prl_plan.specs.Stretches.{natural, count_in, following}
-use Rattle.prl_plan.specs.Rounds.{asked, asked_of, latest, releases_after, IsStill}
-use Rattle.prl_plan.specs.Deadlines.{earliest_of, needed_by, earliest, deadlines_after, IsStillBack}
+use Rattle.prl_plan.specs.Intervals.{natural, count_in, successors}
+use Rattle.prl_plan.specs.Rounds.{asked, asked_of, latest, releases_after, AreFixedReleases}
+use Rattle.prl_plan.specs.Deadlines.{earliest_of, needed_by, earliest, deadlines_after, AreFixedDeadlines}
 use Rattle.prl_plan.proofs.Periods.{plus-mul, preceding-shift, following-shift, moved_up, everywhere}
 use Rattle.prl_plan.proofs.RoundLaws.{source-inside}
 use Rattle.prl_plan.proofs.UsedLaws.{test-equal}
@@ -73,7 +73,7 @@ module _ (graph : TaskGraph) (good : IsWellFormed graph) where
       (edge-takes graph edge is i comes) c d to from n
 
   edge-follows : (edge : Edge) → IsEdge graph edge → (i c d : ℕ) → ComesFrom edge.from i → Repeats edge.to.0 c → Repeats i d → (m : ℤ) →
-      following edge.ops (m +ℤ pos d) ≡ moved_up c (following edge.ops m)
+      successors edge.ops (m +ℤ pos d) ≡ moved_up c (successors edge.ops m)
   edge-follows edge is i c d comes to from m =
       following-shift edge.ty graph.hyper edge.ops is.operators (task_at graph i).clock (task_at graph edge.to.0).clock
       (edge-takes graph edge is i comes) c d to from m
@@ -134,7 +134,7 @@ module _ (graph : TaskGraph) (good : IsWellFormed graph) where
       (ap (λ (z : ℤ). int_min (best +ℤ H) z) e ∙ min-shift best (date j n -ℤ w) H)
       ∙ earliest_of-shift date j c shift (n +ℤ pos 1) count (int_min best (date j n -ℤ w))
 
-  count-moved : (c : ℕ) (s : Stretch) → count_in (moved_up c s) ≡ count_in s
+  count-moved : (c : ℕ) (s : Interval) → count_in (moved_up c s) ≡ count_in s
   count-moved c s = ap (λ (z : ℤ). natural z) (let e : ((s.highest +ℤ pos c) -ℤ (s.lowest +ℤ pos c)) +ℤ pos 1 ≡ (s.highest -ℤ s.lowest) +ℤ pos 1 = omega (arith, ints) in e)
 
   needed-shift : (date : Family) → Shifts date → (i d : ℕ) → Repeats i d → (m : ℤ) (edge : Edge) → IsEdge graph edge → (from : Producer) → edge.from ≡ from → (best : ℤ) →
@@ -143,20 +143,20 @@ module _ (graph : TaskGraph) (good : IsWellFormed graph) where
   needed-shift date shifts i d repeats m edge is (producers.Port task out) from best = go (eqb task.0 i) refl
     where
       go : (b : Bool) → eqb task.0 i ≡ b →
-          cond (eqb task.0 i) (earliest_of graph date edge.to.0 (following edge.ops (m +ℤ pos d)).lowest (count_in (following edge.ops (m +ℤ pos d))) (best +ℤ H)) (best +ℤ H)
-          ≡ cond (eqb task.0 i) (earliest_of graph date edge.to.0 (following edge.ops m).lowest (count_in (following edge.ops m)) best) best +ℤ H
+          cond (eqb task.0 i) (earliest_of graph date edge.to.0 (successors edge.ops (m +ℤ pos d)).lowest (count_in (successors edge.ops (m +ℤ pos d))) (best +ℤ H)) (best +ℤ H)
+          ≡ cond (eqb task.0 i) (earliest_of graph date edge.to.0 (successors edge.ops m).lowest (count_in (successors edge.ops m)) best) best +ℤ H
       go true test =
           let comes : ComesFrom edge.from i = subst (λ (f : Producer). ComesFrom f i) (sym from) (test-equal task.0 i test) in
           let div = (task-is edge.to.0 is.to).divides in
           let f = edge-follows edge is i div.0 d comes div.1 repeats m in
-          subst (λ (b : Bool). cond b (earliest_of graph date edge.to.0 (following edge.ops (m +ℤ pos d)).lowest (count_in (following edge.ops (m +ℤ pos d))) (best +ℤ H)) (best +ℤ H)
-          ≡ cond b (earliest_of graph date edge.to.0 (following edge.ops m).lowest (count_in (following edge.ops m)) best) best +ℤ H) (sym test)
-          (ap (λ (s : Stretch). earliest_of graph date edge.to.0 s.lowest (count_in s) (best +ℤ H)) f
-          ∙ ap (λ (n : ℕ). earliest_of graph date edge.to.0 ((following edge.ops m).lowest +ℤ pos div.0) n (best +ℤ H)) (count-moved div.0 (following edge.ops m))
-          ∙ earliest_of-shift date edge.to.0 div.0 (λ n. shifts edge.to.0 div.0 is.to div.1 n) (following edge.ops m).lowest (count_in (following edge.ops m)) best)
+          subst (λ (b : Bool). cond b (earliest_of graph date edge.to.0 (successors edge.ops (m +ℤ pos d)).lowest (count_in (successors edge.ops (m +ℤ pos d))) (best +ℤ H)) (best +ℤ H)
+          ≡ cond b (earliest_of graph date edge.to.0 (successors edge.ops m).lowest (count_in (successors edge.ops m)) best) best +ℤ H) (sym test)
+          (ap (λ (s : Interval). earliest_of graph date edge.to.0 s.lowest (count_in s) (best +ℤ H)) f
+          ∙ ap (λ (n : ℕ). earliest_of graph date edge.to.0 ((successors edge.ops m).lowest +ℤ pos div.0) n (best +ℤ H)) (count-moved div.0 (successors edge.ops m))
+          ∙ earliest_of-shift date edge.to.0 div.0 (λ n. shifts edge.to.0 div.0 is.to div.1 n) (successors edge.ops m).lowest (count_in (successors edge.ops m)) best)
       go false test =
-          subst (λ (b : Bool). cond b (earliest_of graph date edge.to.0 (following edge.ops (m +ℤ pos d)).lowest (count_in (following edge.ops (m +ℤ pos d))) (best +ℤ H)) (best +ℤ H)
-          ≡ cond b (earliest_of graph date edge.to.0 (following edge.ops m).lowest (count_in (following edge.ops m)) best) best +ℤ H) (sym test) refl
+          subst (λ (b : Bool). cond b (earliest_of graph date edge.to.0 (successors edge.ops (m +ℤ pos d)).lowest (count_in (successors edge.ops (m +ℤ pos d))) (best +ℤ H)) (best +ℤ H)
+          ≡ cond b (earliest_of graph date edge.to.0 (successors edge.ops m).lowest (count_in (successors edge.ops m)) best) best +ℤ H) (sym test) refl
 
   earliest-shift : (date : Family) → Shifts date → (i d : ℕ) → Repeats i d → (m : ℤ) (edges : List Edge) → AreEdges edges → (best : ℤ) →
       earliest graph date i (m +ℤ pos d) edges (best +ℤ H) ≡ earliest graph date i m edges best +ℤ H
@@ -192,16 +192,16 @@ module _ (graph : TaskGraph) (good : IsWellFormed graph) where
       positive (suc c) p some is = omega arith
 
   -- still over a hyperperiod is still
-  pub still-releases : (rounds : ℕ) →
+  pub fixed-releases : (rounds : ℕ) →
       ((i n : ℕ) → i < length graph.tasks → n < graph.hyper / (task_at graph i).clock.period →
-      releases_after graph (suc rounds) i (pos n) ≡ releases_after graph rounds i (pos n)) → IsStill graph rounds
-  still-releases rounds base i m inside =
+      releases_after graph (suc rounds) i (pos n) ≡ releases_after graph rounds i (pos n)) → AreFixedReleases graph rounds
+  fixed-releases rounds base i m inside =
       agree (releases_after graph (suc rounds)) (releases_after graph rounds) (releases-shift (suc rounds)) (releases-shift rounds) i inside
       (λ n below. base i n inside below) m
 
-  pub still-deadlines : (rounds : ℕ) →
+  pub fixed-deadlines : (rounds : ℕ) →
       ((i n : ℕ) → i < length graph.tasks → n < graph.hyper / (task_at graph i).clock.period →
-      deadlines_after graph (suc rounds) i (pos n) ≡ deadlines_after graph rounds i (pos n)) → IsStillBack graph rounds
-  still-deadlines rounds base i m inside =
+      deadlines_after graph (suc rounds) i (pos n) ≡ deadlines_after graph rounds i (pos n)) → AreFixedDeadlines graph rounds
+  fixed-deadlines rounds base i m inside =
       agree (deadlines_after graph (suc rounds)) (deadlines_after graph rounds) (deadlines-shift (suc rounds)) (deadlines-shift rounds) i inside
       (λ n below. base i n inside below) m

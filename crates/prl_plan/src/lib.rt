@@ -18,7 +18,7 @@ mod tables;
 mod tests;
 mod walks;
 
-pub use deadlines::{Stretch, deadline_after, following_jobs, rounds_reach_the_greatest_deadlines};
+pub use deadlines::{Interval, deadline_after, following_jobs, rounds_reach_the_greatest_deadlines};
 pub use events::{Action, Event, Rule};
 pub use facts::{
     actions_are_as_defined, horizon_jobs_are_counted, operands_are_of_horizon_jobs,

@@ -7,7 +7,8 @@ ghost use Rattle.prl_plan.specs.Dates.{Family, AreReleases, AreLeastReleases};
 ghost use Rattle.prl_plan.specs.Graphs.{IsWellFormed};
 ghost use Rattle.prl_plan.specs.Jobs.{task_at, release_of};
 ghost use Rattle.prl_plan.specs.Precedence.{preceding, floor_div};
-ghost use Rattle.prl_plan.specs.Rounds.{asked_of, latest, releases_after, IsStill};
+ghost use Rattle.prl_plan.specs.Ranges.{PrecedingFits};
+ghost use Rattle.prl_plan.specs.Rounds.{asked_of, latest, releases_after, AreFixedReleases};
 
 use crate::{Edge, Producer, Task, TaskGraph};
 use prl_base::{Op, TaskNo};
@@ -31,17 +32,17 @@ pub(crate) fn floor_div(n: i64, k: u32) -> i64
     }
 }
 
-/// The number of the producer's job that precedes job `n` of the consumer, or `None` where a number on the way does not
-/// fit.
+/// The number of the producer's job that precedes job `n` of the consumer. `None` exactly where a number on the way does
+/// not fit, or a factor is 0.
 pub fn preceding_job(ops: &[Op], n: i64) -> Option<i64>
-    ensures { IfSome result (λ m. m ≡ preceding ops.now n) }
+    ensures { MatchOption result (¬ (PrecedingFits ops.now n)) (λ m. m ≡ preceding ops.now n) }
 {
     match ops {
         [] => Some(n),
         [op, rest @ ..] => match *op {
             Op::Up(k) if k > 0 => preceding_job(rest, floor_div(n, k)),
-            Op::Up(_) => None,
-            Op::Down(k) => preceding_job(rest, i64::from(k).checked_mul(n)?),
+            Op::Down(k) if k > 0 => preceding_job(rest, i64::from(k).checked_mul(n)?),
+            Op::Up(_) | Op::Down(_) => None,
             Op::Shift(_) => preceding_job(rest, n),
             Op::Tail => preceding_job(rest, n.checked_add(1)?),
             Op::Cons(_) | Op::Fby(_) => preceding_job(rest, n.checked_sub(1)?),
@@ -132,5 +133,5 @@ fn later_of(best: i64, date: i64, wcet: u32) -> Option<i64>
 pub fn rounds_reach_the_least_releases()
     ensures below { (graph : TaskGraph) → IsWellFormed graph → (other : Family) → AreReleases graph other →
         (rounds i : ℕ) (m : ℤ) → i < length graph.tasks → releases_after graph rounds i m ≤ℤ other i m }
-    ensures least { (graph : TaskGraph) → IsWellFormed graph → (rounds : ℕ) → IsStill graph rounds → AreLeastReleases graph (releases_after graph rounds) }
+    ensures least { (graph : TaskGraph) → IsWellFormed graph → (rounds : ℕ) → AreFixedReleases graph rounds → AreLeastReleases graph (releases_after graph rounds) }
 {}

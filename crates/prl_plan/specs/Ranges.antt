@@ -1,0 +1,52 @@
+-- When the numbers fit 64 bits that the plain computations of dates meet.
+use Rattle.std.specs.Prelude.{◌≡◌, ◌+◌, ◌-◌, ◌<◌, ◌≤◌, ◌^◌, ℕ, zero, suc, ℤ, pos, ◌+ℤ◌, ◌-ℤ◌, ◌*ℤ◌, neg_ℤ, List, [], ◌∷◌, length, Some, slice_get, FitsSigned}
+use Rattle.std.specs.Int.{w64}
+use lib.IntN.{suc_ℤ, pred_ℤ}
+use Rattle.prl_base.specs.declared.operators.Op.{Op}
+use Rattle.prl_base.specs.declared.operators.Op.TheVariants as operators
+use Rattle.prl_plan.specs.declared.deadlines.Interval.{Interval}
+use Rattle.prl_plan.specs.declared.graphs.Edge.{Edge}
+use Rattle.prl_plan.specs.declared.graphs.Task.{Task}
+use Rattle.prl_plan.specs.declared.graphs.TaskGraph.{TaskGraph}
+use Rattle.prl_plan.specs.Jobs.{task_at, release_of, deadline_of}
+use Rattle.prl_plan.specs.Precedence.{floor_div, preceding, ComesFrom}
+use Rattle.prl_plan.specs.Intervals.{IsIn, preimage, successors, count_in}
+use Rattle.prl_plan.specs.Rounds.{releases_after}
+use Rattle.prl_plan.specs.Deadlines.{deadlines_after}
+
+abbrev pub Fits64 : ℤ → Type 0
+Fits64 z = FitsSigned w64 z
+
+-- a factor is at least 1
+abbrev pub HasFactor : Op → Type 0
+HasFactor (operators.Up k) = 1 ≤ k
+HasFactor (operators.Down k) = 1 ≤ k
+HasFactor (operators.Shift q) = Unit {0}
+HasFactor operators.Tail = Unit {0}
+HasFactor (operators.Cons c) = Unit {0}
+HasFactor (operators.Fby c) = Unit {0}
+
+-- the numbers on the way to the preceding job; a factor is at least 1
+abbrev pub PrecedingFits : List Op → ℤ → Type 0
+PrecedingFits [] n = Unit {0}
+PrecedingFits (operators.Up k ∷ ops) n = (1 ≤ k) × PrecedingFits ops (floor_div n k)
+PrecedingFits (operators.Down k ∷ ops) n = (1 ≤ k) × Fits64 (pos k *ℤ n) × PrecedingFits ops (pos k *ℤ n)
+PrecedingFits (operators.Shift q ∷ ops) n = PrecedingFits ops n
+PrecedingFits (operators.Tail ∷ ops) n = Fits64 (n +ℤ pos 1) × PrecedingFits ops (n +ℤ pos 1)
+PrecedingFits (operators.Cons c ∷ ops) n = Fits64 (n -ℤ pos 1) × PrecedingFits ops (n -ℤ pos 1)
+PrecedingFits (operators.Fby c ∷ ops) n = Fits64 (n -ℤ pos 1) × PrecedingFits ops (n -ℤ pos 1)
+
+-- the bounds of the numbers that an operator takes into an interval
+abbrev pub PreimageFits : Op → Interval → Type 0
+PreimageFits (operators.Up k) s =
+    (1 ≤ k) × Fits64 (pos k *ℤ s.lowest) × Fits64 (pos k *ℤ s.highest) × Fits64 ((pos k *ℤ s.highest) +ℤ pos (k - 1))
+PreimageFits (operators.Down k) s = (1 ≤ k) × Fits64 (neg_ℤ s.lowest) × Fits64 (neg_ℤ (floor_div (neg_ℤ s.lowest) k))
+PreimageFits (operators.Shift q) s = Unit {0}
+PreimageFits operators.Tail s = Fits64 (s.lowest -ℤ pos 1) × Fits64 (s.highest -ℤ pos 1)
+PreimageFits (operators.Cons c) s = Fits64 (s.lowest +ℤ pos 1) × Fits64 (s.highest +ℤ pos 1)
+PreimageFits (operators.Fby c) s = Fits64 (s.lowest +ℤ pos 1) × Fits64 (s.highest +ℤ pos 1)
+
+-- the bounds on the way to the jobs that a job precedes
+abbrev pub SuccessorsFit : List Op → ℤ → Type 0
+SuccessorsFit [] m = Unit {0}
+SuccessorsFit (op ∷ ops) m = SuccessorsFit ops m × PreimageFits op (successors ops m)
