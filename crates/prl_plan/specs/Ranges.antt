@@ -50,3 +50,23 @@ PreimageFits (operators.Fby c) s = Fits64 (s.lowest +ℤ pos 1) × Fits64 (s.hig
 abbrev pub SuccessorsFit : List Op → ℤ → Type 0
 SuccessorsFit [] m = Unit {0}
 SuccessorsFit (op ∷ ops) m = SuccessorsFit ops m × PreimageFits op (successors ops m)
+
+-- the parts of a job's release
+abbrev pub DateFits : Task → ℤ → Type 0
+DateFits task m =
+    (task.clock.start < 2 ^ 63) × (task.clock.period < 2 ^ 63) × Fits64 (m *ℤ pos task.clock.period) × Fits64 (release_of task m)
+
+-- the numbers that the release of job m of task i after so many rounds is made of
+abbrev pub ReleaseFits : TaskGraph → ℕ → ℕ → ℤ → Type 0
+ReleaseFits graph zero i m = (i < length graph.tasks) × DateFits (task_at graph i) m
+ReleaseFits graph (suc rounds) i m =
+    (i < length graph.tasks) × DateFits (task_at graph i) m
+    × ((e : ℕ) (edge : Edge) (j : ℕ) → slice_get graph.edges e ≡ Some edge → edge.to.0 ≡ i → ComesFrom edge.from j →
+    PrecedingFits edge.ops m × ReleaseFits graph rounds j (preceding edge.ops m)
+    × Fits64 (releases_after graph rounds j (preceding edge.ops m) +ℤ pos (task_at graph j).wcet))
+
+-- what an edge asks after so many rounds
+abbrev pub AskFits : TaskGraph → ℕ → ℕ → ℤ → Edge → Type 0
+AskFits graph rounds i m edge = (j : ℕ) → edge.to.0 ≡ i → ComesFrom edge.from j →
+    PrecedingFits edge.ops m × ReleaseFits graph rounds j (preceding edge.ops m)
+    × Fits64 (releases_after graph rounds j (preceding edge.ops m) +ℤ pos (task_at graph j).wcet)
