@@ -70,3 +70,35 @@ abbrev pub AskFits : TaskGraph → ℕ → ℕ → ℤ → Edge → Type 0
 AskFits graph rounds i m edge = (j : ℕ) → edge.to.0 ≡ i → ComesFrom edge.from j →
     PrecedingFits edge.ops m × ReleaseFits graph rounds j (preceding edge.ops m)
     × Fits64 (releases_after graph rounds j (preceding edge.ops m) +ℤ pos (task_at graph j).wcet)
+
+-- the parts of a job's deadline
+abbrev pub DueFits : Task → ℤ → Type 0
+DueFits task m = DateFits task m × (task.due < 2 ^ 63) × Fits64 (deadline_of task m)
+
+-- how many numbers are in the interval
+abbrev pub CountFits : Interval → Type 0
+CountFits s = Fits64 (s.highest -ℤ s.lowest) × Fits64 ((s.highest -ℤ s.lowest) +ℤ pos 1)
+
+-- the numbers that the deadline of job m of task i after so many rounds is made of
+abbrev pub DeadlineFits : TaskGraph → ℕ → ℕ → ℤ → Type 0
+DeadlineFits graph zero i m = (i < length graph.tasks) × DueFits (task_at graph i) m
+DeadlineFits graph (suc rounds) i m =
+    (i < length graph.tasks) × DueFits (task_at graph i) m
+    × ((e : ℕ) (edge : Edge) → slice_get graph.edges e ≡ Some edge → ComesFrom edge.from i →
+    SuccessorsFit edge.ops m × CountFits (successors edge.ops m)
+    × ((k : ℕ) → k < count_in (successors edge.ops m) →
+    DeadlineFits graph rounds edge.to.0 ((successors edge.ops m).lowest +ℤ pos k)
+    × Fits64 (deadlines_after graph rounds edge.to.0 ((successors edge.ops m).lowest +ℤ pos k) -ℤ pos (task_at graph edge.to.0).wcet)
+    × Fits64 (((successors edge.ops m).lowest +ℤ pos k) +ℤ pos 1)))
+
+-- what so many jobs of task j ask after so many rounds, from job n on
+abbrev pub NeedFits : TaskGraph → ℕ → ℕ → ℤ → ℕ → Type 0
+NeedFits graph rounds j n count =
+    (k : ℕ) → k < count → DeadlineFits graph rounds j (n +ℤ pos k)
+    × Fits64 (deadlines_after graph rounds j (n +ℤ pos k) -ℤ pos (task_at graph j).wcet) × Fits64 ((n +ℤ pos k) +ℤ pos 1)
+
+-- what the jobs ask that a job precedes along an edge
+abbrev pub NeedsFit : TaskGraph → ℕ → ℕ → ℤ → Edge → Type 0
+NeedsFit graph rounds i m edge =
+    ComesFrom edge.from i → SuccessorsFit edge.ops m × CountFits (successors edge.ops m)
+    × NeedFits graph rounds edge.to.0 (successors edge.ops m).lowest (count_in (successors edge.ops m))

@@ -8,8 +8,8 @@ ghost use Rattle.prl_plan.specs.Graphs.{IsWellFormed};
 ghost use Rattle.prl_plan.specs.Dates.{Family, AreDeadlines, AreGreatestDeadlines};
 ghost use Rattle.prl_plan.specs.Jobs.{task_at, deadline_of};
 ghost use Rattle.prl_plan.specs.Intervals.{IsIn, preimage, successors, count_in};
-ghost use Rattle.prl_plan.specs.Precedence.{preceding};
-ghost use Rattle.prl_plan.specs.Ranges.{HasFactor, PreimageFits, SuccessorsFit};
+ghost use Rattle.prl_plan.specs.Precedence.{preceding, ComesFrom};
+ghost use Rattle.prl_plan.specs.Ranges.{Fits64, HasFactor, PreimageFits, SuccessorsFit, DueFits, CountFits, DeadlineFits, NeedFits, NeedsFit};
 ghost use Rattle.prl_plan.specs.Deadlines.{earliest_of, needed_by, earliest, deadlines_after, AreFixedDeadlines};
 
 use crate::rounds::{floor_div, release_of_job, task_in};
@@ -72,9 +72,9 @@ pub fn following_jobs(ops: &[Op], m: i64) -> Option<Interval>
     }
 }
 
-/// How many numbers are in the interval.
+/// How many numbers are in the interval, or `None` where that does not fit.
 fn count_of(interval: Interval) -> Option<u64>
-    ensures { IfSome result (λ n. n ≡ count_in interval) }
+    ensures { MatchOption result (¬ (CountFits interval)) (λ n. n ≡ count_in interval) }
 {
     let count = interval.highest.checked_sub(interval.lowest)?.checked_add(1)?;
     if count >= 0 {
@@ -86,7 +86,7 @@ fn count_of(interval: Interval) -> Option<u64>
 
 /// When job `m` of a task is due, in ticks, or `None` where that does not fit.
 fn deadline_of_job(task: &Task, m: i64) -> Option<i64>
-    ensures { IfSome result (λ d. d ≡ deadline_of task.now m) }
+    ensures { MatchOption result (¬ (DueFits task.now m)) (λ d. d ≡ deadline_of task.now m) }
 {
     let due = i64::try_from(task.due).ok()?;
     release_of_job(task, m)?.checked_add(due)
@@ -94,7 +94,7 @@ fn deadline_of_job(task: &Task, m: i64) -> Option<i64>
 
 /// The earlier of a date and of another less a WCET.
 fn sooner_of(best: i64, date: i64, wcet: u32) -> Option<i64>
-    ensures { IfSome result (λ r. r ≡ int_min best (date -ℤ pos wcet)) }
+    ensures { MatchOption result (¬ (Fits64 (date -ℤ pos wcet))) (λ r. r ≡ int_min best (date -ℤ pos wcet)) }
 {
     let start = date.checked_sub(i64::from(wcet))?;
     Some(best.min(start))
@@ -102,6 +102,7 @@ fn sooner_of(best: i64, date: i64, wcet: u32) -> Option<i64>
 
 /// Whether the edge leads from task `i`.
 fn leads_from(edge: &Edge, i: TaskNo) -> bool
+    ensures from { OnTrue result (ComesFrom edge.now.from i.0) }
     ensures yes { OnTrue result ((graph : TaskGraph) (date : Family) (m b : ℤ) → needed_by graph date i.0 m edge.now edge.now.from b
         ≡ earliest_of graph date edge.now.to.0 (successors edge.now.ops m).lowest (count_in (successors edge.now.ops m)) b) }
     ensures no { OnFalse result ((graph : TaskGraph) (date : Family) (m b : ℤ) → needed_by graph date i.0 m edge.now edge.now.from b ≡ b) }
@@ -112,11 +113,12 @@ fn leads_from(edge: &Edge, i: TaskNo) -> bool
     }
 }
 
-/// The deadline of a job after so many rounds, in ticks, or `None` where a number on the way does not fit or a task is not
-/// there. It does the rounds again for each job that it asks for, so it serves small graphs alone.
+/// The deadline of a job after so many rounds, in ticks. `None` exactly where a number on the way does not fit or a task is
+/// not there. It does the rounds again for each job that it asks for, so it serves small graphs alone.
 #[cycle(back)]
 pub fn deadline_after(graph: &TaskGraph, rounds: u32, job: AnyJob) -> Option<i64>
-    ensures { IfSome result (λ d. d ≡ deadlines_after graph.now rounds job.task.0 job.number) }
+    ensures { MatchOption result (¬ (DeadlineFits graph.now rounds job.task.0 job.number))
+        (λ d. d ≡ deadlines_after graph.now rounds job.task.0 job.number) }
 {
     let first = deadline_of_job(task_in(graph, job.task)?, job.number);
     if rounds == 0 {
@@ -139,7 +141,7 @@ fn needed_along(
     best: Option<i64>,
 ) -> Option<i64>
     ensures date { IfSome result (λ r. IfSome best (λ b. r ≡ needed_by graph.now (deadlines_after graph.now rounds) job.task.0 job.number edge.now edge.now.from b)) }
-    ensures none { IfSome result (λ r. IsSome best) }
+    ensures none { MatchOption result (IsSome best → ¬ (NeedsFit graph.now rounds job.task.0 job.number edge.now)) (λ r. IsSome best) }
 {
     if !leads_from(edge, job.task) {
         return best;
@@ -155,7 +157,8 @@ fn needed_along(
 /// The earliest of a date and what so many jobs ask from the first on, after so many rounds.
 #[cycle(back)]
 fn needed_from(graph: &TaskGraph, rounds: u32, first: AnyJob, count: u64, best: i64) -> Option<i64>
-    ensures { IfSome result (λ r. r ≡ earliest_of graph.now (deadlines_after graph.now rounds) first.task.0 first.number count best) }
+    ensures { MatchOption result (¬ (NeedFits graph.now rounds first.task.0 first.number count))
+        (λ r. r ≡ earliest_of graph.now (deadlines_after graph.now rounds) first.task.0 first.number count best) }
 {
     if count == 0 {
         return Some(best);
