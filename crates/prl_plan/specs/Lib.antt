@@ -16,3 +16,4 @@ pub mod Rounds
 pub mod Intervals
 pub mod Deadlines
 pub mod Ranges
+pub mod FixedPoints

@@ -24,7 +24,7 @@ pub use facts::{
     actions_are_as_defined, horizon_jobs_are_counted, operands_are_of_horizon_jobs,
     operands_precede, plan_facts, plan_is_one, plan_links_devices, plans_keep_facts,
 };
-pub use fixed_points::hyperperiod_decides;
+pub use fixed_points::{hyperperiod_decides, rounds_reach_dates};
 pub use graphs::{Edge, Kind, Producer, Task, TaskGraph};
 pub use horizons::Horizon;
 pub use laws::{
