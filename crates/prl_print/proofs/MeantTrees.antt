@@ -16,6 +16,7 @@ use Rattle.prl_syntax.specs.declared.words.Fixed.TheVariants as fixed
 use Rattle.prl_syntax.specs.Values.{small, positive, negative, ratio_with}
 use Rattle.prl_syntax.specs.Words.{class_of}
 use Rattle.prl_syntax.specs.Trees.{Declared, imported, sensor, actuator, node, with_declared, program_of}
+use Rattle.prl_syntax.proofs.Chains.{name_text}
 use Rattle.prl_syntax.specs.Grammar.{The, ConstantText, DenominatorText, RatioText, PrefixText, PostfixText, NameText, Enclosed, Beside, CommaText, Nothing, TreeText, RootText, OthersText, LeftsText, SidesText, EquationText, NodeText, DeclarationText, ProgramText}
 use Rattle.prl_print.proofs.Words.{IsOwnName, IsConstant, IsCount, IsOwnParam, IsPrefix, IsPostfix, IsOwnTree, IsOwnRoot, AreOwnTrees, IsOwnEquation, IsOwnNode, IsOwnImport, IsOwnDevice, IsSome}
 use Rattle.prl_print.proofs.Source.{deeper, FineFrom, FineAt, Fine, depth_along, front_at, back_at, depth-append, token_of, Means, m_then, m_give, m_ends, m_any, m_weaken, m_either, m_many, m_maybe, m_named, m_counted, m_first}
@@ -169,16 +170,16 @@ mutual
   root_means : (r : Root) (d : ℕ) (w : List Lexeme) → FineAt d w → RootText r w → OwnRoot d r w
   root_means (const v) d w fine h = (constant_means.means v w (any_fine d w fine) h, constant_flat.flat v w h d)
   root_means (var name) d w fine h = (name_means.means name w (any_fine d w fine) h, name_flat.flat name w h d)
-  root_means (apply name none) d w fine h =
-      let flat : depth_along d h.left ≡ d = name_flat.flat name h.left h.first d in
+  root_means (apply name at none) d w fine h =
+      let flat : depth_along d h.left ≡ d = name_flat.flat name h.left (name_text (name, at) h.left h.first) d in
       let i = inside_of Nothing d h.right (at_depth (depth_along d h.left) d h.right flat (back_at w h.left h.right h.whole fine)) h.second in
-      ((name_means.means name h.left (any_fine d h.left (front_at w h.left h.right h.whole fine)) h.first, i.within, tt), both_flat w h.left h.right d d d h.whole flat (i.closes (ap (depth_along (d + 1)) i.is)))
-  root_means (apply name (more t ts)) d w fine h =
-      let flat : depth_along d h.left ≡ d = name_flat.flat name h.left h.first d in
+      ((name_means.means name h.left (any_fine d h.left (front_at w h.left h.right h.whole fine)) (name_text (name, at) h.left h.first), i.within, tt), both_flat w h.left h.right d d d h.whole flat (i.closes (ap (depth_along (d + 1)) i.is)))
+  root_means (apply name at (more t ts)) d w fine h =
+      let flat : depth_along d h.left ≡ d = name_flat.flat name h.left (name_text (name, at) h.left h.first) d in
       let i = inside_of (Beside (TreeText t) (OthersText ts)) d h.right (at_depth (depth_along d h.left) d h.right flat (back_at w h.left h.right h.whole fine)) h.second in
       let x = tree_means t (d + 1) i.is.left (front_at i.inner i.is.left i.is.right i.is.whole i.fine) i.is.first in
       let y = others_mean ts (d + 1) i.is.right (at_depth (depth_along (d + 1) i.is.left) (d + 1) i.is.right x.1 (back_at i.inner i.is.left i.is.right i.is.whole i.fine)) i.is.second in (
-        (name_means.means name h.left (any_fine d h.left (front_at w h.left h.right h.whole fine)) h.first, i.within, (x.0, y.0)),
+        (name_means.means name h.left (any_fine d h.left (front_at w h.left h.right h.whole fine)) (name_text (name, at) h.left h.first), i.within, (x.0, y.0)),
         both_flat w h.left h.right d d d h.whole flat (i.closes (both_flat i.inner i.is.left i.is.right (d + 1) (d + 1) (d + 1) i.is.whole x.1 y.1)),
       )
   root_means (group none) d w fine h = absurd h
@@ -207,7 +208,7 @@ mutual
   lower_root : (d e : ℕ) → e ≤ d → (r : Root) → IsOwnRoot d r → IsOwnRoot e r
   lower_root d e le (const v) h = h
   lower_root d e le (var name) h = h
-  lower_root d e le (apply name args) h = (h.0, omega (arith, h.1), lower_trees (d + 1) (e + 1) (omega arith) args h.2)
+  lower_root d e le (apply name at args) h = (h.0, omega (arith, h.1), lower_trees (d + 1) (e + 1) (omega arith) args h.2)
   lower_root d e le (group none) h = absurd h
   lower_root d e le (group (more t ts)) h = (omega (arith, h.0), lower_tree (d + 1) (e + 1) (omega arith) t h.1, lower_trees (d + 1) (e + 1) (omega arith) ts h.2)
 

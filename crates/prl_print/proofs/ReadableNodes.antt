@@ -14,7 +14,7 @@ use Rattle.prl_ast.specs.declared.declarations.Placed.{Placed}
 use Rattle.prl_ast.specs.declared.expressions.PlacedOp.{PlacedOp}
 use Rattle.prl_ast.specs.Trees.{Tree, tree, Root, const, var, apply, group, Trees, none, more, EquationTree, NodeTree, ProgramTree}
 use Rattle.prl_reader.specs.Lexemes.{Lexeme, first_place}
-use Rattle.prl_reader.specs.Grammars.{Then, Give, Either, Many, Maybe, FromFirst}
+use Rattle.prl_reader.specs.Grammars.{Then, Give, Either, Many, Maybe, FromFirst, Named}
 use Rattle.prl_syntax.specs.declared.words.Fixed.{Fixed}
 use Rattle.prl_syntax.specs.declared.words.Fixed.TheVariants as fixed
 use Rattle.prl_syntax.specs.Values.{small}
@@ -77,22 +77,22 @@ p_enclosed {W} {E} {ks} p = record { read = read }
         }
 
 -- an application, and a group that is not empty
-applied : (name : List ℕ) (args : Trees) (w : List Lexeme) → Beside (NameText name) (Enclosed (PartsText args)) w → RootText (apply name args) w
+applied : (name : List ℕ × Span) (args : Trees) (w : List Lexeme) → Beside (Named name) (Enclosed (PartsText args)) w → RootText (apply name.0 name.1 args) w
 applied name none w h = h
 applied name (more t ts) w h = h
 
 application_reads : (name : List ℕ) (args : Trees) → Prints PartsText (λ x. unplaced_trees x ≡ unplaced_trees args) (trees_words args)
-    → Prints RootText (λ r. unplaced_root r ≡ apply name (unplaced_trees args)) (a_name name ∷ a_fixed fixed.Open ∷ (trees_words args ++ one fixed.Close))
+    → Prints RootText (λ r. unplaced_root r ≡ apply name nowhere (unplaced_trees args)) (a_name name ∷ a_fixed fixed.Open ∷ (trees_words args ++ one fixed.Close))
 application_reads name args p = record { read = read }
   where
-    read : (w : List Lexeme) → map bare w ≡ a_name name ∷ a_fixed fixed.Open ∷ (trees_words args ++ one fixed.Close) → Found RootText (λ r. unplaced_root r ≡ apply name (unplaced_trees args)) w
+    read : (w : List Lexeme) → map bare w ≡ a_name name ∷ a_fixed fixed.Open ∷ (trees_words args ++ one fixed.Close) → Found RootText (λ r. unplaced_root r ≡ apply name nowhere (unplaced_trees args)) w
     read w e =
         let c = cut w (a_name name ∷ []) (a_fixed fixed.Open ∷ (trees_words args ++ one fixed.Close)) e in
-        let n = (name_reads name).read c.left c.first in
+        let n = (p_name name).read c.left c.first in
         let x = (p_enclosed p).read c.right c.second in
         record {
-          tree = apply n.tree x.tree;
-          same = ap (λ k. apply k (unplaced_trees x.tree)) n.same ∙ ap (apply name) x.same;
+          tree = apply n.tree.0 n.tree.1 x.tree;
+          same = ap (λ k. apply k nowhere (unplaced_trees x.tree)) n.same ∙ ap (apply name nowhere) x.same;
           text = applied n.tree x.tree w (record { left = c.left; right = c.right; whole = c.whole; first = n.text; second = x.text });
         }
 
@@ -181,8 +181,8 @@ mutual
   root_reads : (d : ℕ) (r : Root) → IsOwnRoot d r → Prints RootText (λ x. unplaced_root x ≡ unplaced_root r) (root_words r)
   root_reads d (const v) h = record { read = λ w e. (let x = (value_reads v h).read w e in record { tree = const x.tree; same = ap const x.same; text = x.text }) }
   root_reads d (var name) h = record { read = λ w e. (let x = (name_reads name).read w e in record { tree = var x.tree; same = ap var x.same; text = x.text }) }
-  root_reads d (apply name none) h = application_reads name none (record { read = λ w e. record { tree = none; same = refl; text = no_tokens w e } })
-  root_reads d (apply name (more t ts)) h = application_reads name (more t ts) (parts_read t ts (tree_reads (d + 1) t h.2.0) (others_read (d + 1) ts h.2.1))
+  root_reads d (apply name at none) h = application_reads name none (record { read = λ w e. record { tree = none; same = refl; text = no_tokens w e } })
+  root_reads d (apply name at (more t ts)) h = application_reads name (more t ts) (parts_read t ts (tree_reads (d + 1) t h.2.0) (others_read (d + 1) ts h.2.1))
   root_reads d (group none) h = absurd h
   root_reads d (group (more t ts)) h = group_reads t ts (tree_reads (d + 1) t h.1) (others_read (d + 1) ts h.2)
 

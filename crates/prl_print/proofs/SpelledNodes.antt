@@ -72,7 +72,7 @@ prefix_leads (ops.Shift q) h = absurd h
 root_leads : (d : ℕ) (r : Root) → IsOwnRoot d r → Leads (printed_root r)
 root_leads d (const v) h = value_leads v h
 root_leads d (var name) h = name_leads name h.0
-root_leads d (apply name args) h = leads_more name _ (name_leads name h.0.0)
+root_leads d (apply name at args) h = leads_more name _ (name_leads name h.0.0)
 root_leads d (group none) h = absurd h
 root_leads d (group (more t ts)) h = refl
 
@@ -98,7 +98,7 @@ mutual
   root_spelled : (d : ℕ) → d ≤ 64 → (r : Root) → IsOwnRoot d r → Frag d (printed_root r) (root_words r) word d
   root_spelled d le (const v) h = value_spelled d le v h
   root_spelled d le (var name) h = f_name d name h.0 h.1
-  root_spelled d le (apply name args) h =
+  root_spelled d le (apply name at args) h =
       f_weak (f_seq (f_name d name h.0.0 h.0.1) (f_seq (f_seq (f_open d h.1) (trees_spelled (d + 1) h.1 args h.2) (trees_lead (d + 1) args h.2)) (f_close d le) (λ rest fits. refl)) (λ rest fits. refl))
   root_spelled d le (group none) h = absurd h
   root_spelled d le (group (more t ts)) h =

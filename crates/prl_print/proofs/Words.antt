@@ -105,7 +105,7 @@ abbrev mutual
   pub root_words : Root → List Lexeme
   root_words (const value) = value_words value
   root_words (var name) = a_name name ∷ []
-  root_words (apply name args) = a_name name ∷ a_fixed fixed.Open ∷ (trees_words args ++ one fixed.Close)
+  root_words (apply name at args) = a_name name ∷ a_fixed fixed.Open ∷ (trees_words args ++ one fixed.Close)
   root_words (group parts) = a_fixed fixed.Open ∷ (trees_words parts ++ one fixed.Close)
 
   pub trees_words : Trees → List Lexeme
@@ -218,7 +218,7 @@ abbrev mutual
   pub IsOwnRoot : ℕ → Root → Type 0
   IsOwnRoot d (const value) = IsConstant value
   IsOwnRoot d (var name) = IsOwnName name
-  IsOwnRoot d (apply name args) = IsOwnName name × (d + 1 ≤ 64) × AreOwnTrees (d + 1) args
+  IsOwnRoot d (apply name at args) = IsOwnName name × (d + 1 ≤ 64) × AreOwnTrees (d + 1) args
   IsOwnRoot d (group none) = ⊥
   IsOwnRoot d (group (more t ts)) = (d + 1 ≤ 64) × IsOwnTree (d + 1) t × AreOwnTrees (d + 1) ts
 

@@ -38,7 +38,7 @@ abbrev mutual
   pub unplaced_root : Root → Root
   unplaced_root (const value) = const value
   unplaced_root (var name) = var name
-  unplaced_root (apply name args) = apply name (unplaced_trees args)
+  unplaced_root (apply name at args) = apply name nowhere (unplaced_trees args)
   unplaced_root (group parts) = group (unplaced_trees parts)
 
   pub unplaced_trees : Trees → Trees

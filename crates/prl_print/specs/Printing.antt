@@ -105,7 +105,7 @@ abbrev mutual
   pub printed_root : Root → List ℕ
   printed_root (const value) = printed_value value
   printed_root (var name) = name
-  printed_root (apply name args) = name ++ (codes "(" ++ printed_trees args ++ codes ")")
+  printed_root (apply name at args) = name ++ (codes "(" ++ printed_trees args ++ codes ")")
   printed_root (group parts) = codes "(" ++ printed_trees parts ++ codes ")"
 
   pub printed_trees : Trees → List ℕ

@@ -78,7 +78,7 @@ fn push_base(text: &mut Vec<u8>, base: &Base) -> Result<(), AllocError>
     match base {
         Base::Const(value) => push_value(text, *value),
         Base::Var(name) => text.extend_from_slice(name.bytes()),
-        Base::Apply { name, args } => {
+        Base::Apply { name, args, .. } => {
             text.extend_from_slice(name.bytes())?;
             push_enclosed(text, args.as_slice())
         }

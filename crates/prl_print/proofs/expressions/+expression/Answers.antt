@@ -8,7 +8,7 @@ use Rattle.prl_print.proofs.expressions.+expression.Goals as goal
 
 pub push_base-returns-in_ok-extend_from_slice-in-Apply : goal.push_base-returns-in_ok-extend_from_slice-in-Apply
 push_base-returns-in_ok-extend_from_slice-in-Apply t c =
-    let root = ap (λ b. printed_root (root_of b)) c.in-Apply.is ∙ ap printed_root (root_apply c.in-Apply.name c.in-Apply.args) in
+    let root = ap (λ b. printed_root (root_of b)) c.in-Apply.is ∙ ap printed_root (root_apply c.in-Apply.name c.in-Apply.at c.in-Apply.args) in
     let name = c.in_ok-extend_from_slice-in-Apply.ensures.items ∙ ap (λ (n : List ℕ). c.args.text.now.items ++ n) c.bytes-in-Apply.ensures.bytes in
     let parts = ap (λ xs. c.in-Apply.name ++ (codes "(" ++ printed_trees (trees_from (map tree_of xs)) ++ codes ")")) c.as_slice.ensures.value in
     ok_as _ _ _ _ _ (parts ∙ sym root) (ok_behind _ _ _ _ _ _ name c.push_enclosed.ensures)
