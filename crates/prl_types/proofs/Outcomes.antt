@@ -1,5 +1,5 @@
 -- A program has one outcome.
-use Rattle.std.proofs.Common.{◌≡◌, ◌≢◌, ◌<◌, ◌≤◌, ◌++◌, ◌∙◌, ◌⊎◌, ℕ, zero, suc, List, [], ◌∷◌, length, refl, sym, ap, subst, inl, inr, Option, Some, None, Result, Ok, Err, arith}
+use Rattle.std.proofs.Common.{◌≡◌, ◌≢◌, ◌<◌, ◌++◌, ◌∙◌, ◌⊎◌, ℕ, suc, List, [], ◌∷◌, length, refl, sym, ap, subst, inl, inr, Option, Some, None, Result, Ok, Err, arith}
 use Rattle.std.proofs.lemmas.Bool.{cases_lt}
 use Rattle.std.proofs.lemmas.Option.{slice_get_cases}
 use Rattle.std.specs.List.{slice_get}
@@ -16,7 +16,7 @@ use Rattle.prl_types.specs.Choices.{Choice, type_in, MeetsAll}
 use Rattle.prl_types.specs.Parameters.{Owned, parameters_of, count_of}
 use Rattle.prl_types.specs.Rules.{rules_of}
 use Rattle.prl_types.specs.Solutions.{IsMismatch, IsFree, AreTypes}
-use Rattle.prl_types.specs.Typing.{IsTyped, HasFreeType, IsFault, IsOutcome, of_names}
+use Rattle.prl_types.specs.Typing.{HasFreeType, IsOutcome, of_names}
 use Rattle.prl_types.proofs.Meeting.{meets-first, meets-second}
 
 -- no choice meets the rules up to a contradiction
