@@ -1,5 +1,5 @@
 -- Where a space has no repeat, its names are apart.
-use Rattle.std.proofs.Common.{◌≡◌, ◌<◌, ◌+◌, ℕ, zero, suc, Bool, true, false, cond, List, [], ◌∷◌, ◌++◌, length, map, refl, sym, ap, ◌∙◌, subst, Some, None, Option}
+use Rattle.std.proofs.Common.{◌≡◌, ◌+◌, ℕ, zero, suc, true, false, cond, List, [], ◌∷◌, ◌++◌, length, map, refl, sym, ap, ◌∙◌, subst, Some, None, Option}
 use Rattle.std.proofs.lemmas.Bool.{false≢true}
 use Rattle.std.specs.Bool.{nat_lt}
 use Rattle.std.specs.List.{slice_get}
@@ -7,13 +7,13 @@ use Rattle.std.specs.Option.{is_some}
 use Rattle.std.specs.Cmp.Lexicographic.{bytes_decides}
 use Rattle.std.specs.Str.{bytes_eq}
 use Rattle.prl_ast.specs.declared.declarations.Placed.{Placed}
-use Rattle.prl_names.specs.Lookups.{place_from, place_of}
+use Rattle.prl_names.specs.Lookups.{place_of}
 use Rattle.prl_names.specs.Named.{AreApart, placed_names}
 use Rattle.prl_names.specs.Repeats.{is_among, repeat_behind, repeat_in, first_of, earliest_repeat}
 use Rattle.prl_names.proofs.FirstPlaces.{either, place-push}
 
 -- a name stays among the names when one is added
-among_more : (ns : List (List ℕ)) (n q : List ℕ) → is_among (ns ++ n ∷ []) q ≡ false → is_among ns q ≡ false
+pub among_more : (ns : List (List ℕ)) (n q : List ℕ) → is_among (ns ++ n ∷ []) q ≡ false → is_among ns q ≡ false
 among_more ns n q h =
     elim (place_of ns q) as (λ o. is_some (either o (cond (bytes_eq n q) (Some (0 + length ns)) None)) ≡ false → is_some o ≡ false) [
       | Some k ↦ λ g. g
@@ -21,14 +21,14 @@ among_more ns n q h =
     ] (ap is_some (sym (place-push 0 ns n q)) ∙ h)
 
 -- a name is among the names to which it is added
-among_last : (ns : List (List ℕ)) (q : List ℕ) → is_among (ns ++ q ∷ []) q ≡ true
+pub among_last : (ns : List (List ℕ)) (q : List ℕ) → is_among (ns ++ q ∷ []) q ≡ true
 among_last ns q =
     let same : bytes_eq q q ≡ true = (bytes_decides q q).1 refl in
     ap is_some (place-push 0 ns q q) ∙ rw same
     (elim (place_of ns q) as (λ o. is_some (either o (Some (0 + length ns))) ≡ true) [ Some k ↦ refl | None ↦ refl ])
 
 -- what no repeat means for the first of a space
-no_repeat : (earlier : List (List ℕ)) (x : Placed) (xs : List Placed) → repeat_behind earlier (x ∷ xs) ≡ None →
+pub no_repeat : (earlier : List (List ℕ)) (x : Placed) (xs : List Placed) → repeat_behind earlier (x ∷ xs) ≡ None →
     (is_among earlier x.name ≡ false) × (repeat_behind (earlier ++ x.name ∷ []) xs ≡ None)
 no_repeat earlier x xs h =
     elim (is_among earlier x.name) as (λ b. cond b (Some x) (repeat_behind (earlier ++ x.name ∷ []) xs) ≡ None → (b ≡ false) × (repeat_behind (earlier ++ x.name ∷ []) xs ≡ None)) [

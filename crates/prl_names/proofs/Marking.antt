@@ -1,5 +1,5 @@
 -- Rows of marks, one mark after another.
-use Rattle.std.proofs.Common.{◌≡◌, ◌<◌, ◌≢◌, ◌==◌, ◌||◌, ℕ, ◌+◌, zero, suc, Bool, true, false, cond, List, [], ◌∷◌, ◌++◌, length, take, map, set, get_or, refl, sym, ap, ◌∙◌, subst, Some, None, Option, arith, eqb, ⊎_elim, get_or-set_same, get_or-set_other, length-set, eq-eqb}
+use Rattle.std.proofs.Common.{◌≡◌, ◌<◌, ◌≢◌, ◌||◌, ℕ, ◌+◌, zero, suc, Bool, true, false, cond, List, [], ◌∷◌, ◌++◌, length, take, map, set, get_or, refl, sym, ap, ◌∙◌, subst, Some, None, arith, eqb, ⊎_elim, get_or-set_same, get_or-set_other, length-set, eq-eqb}
 use Rattle.std.proofs.lemmas.List.{take_more, map-append, length-map}
 use Rattle.std.proofs.lemmas.Bool.{cases_Bool, false≢true, eqb-true}
 use Rattle.std.proofs.lemmas.Option.{slice_get_within}
@@ -10,7 +10,6 @@ use Rattle.std.specs.Cmp.Lexicographic.{bytes_decides}
 use Rattle.prl_ast.specs.declared.declarations.Equation.{Equation}
 use Rattle.prl_ast.specs.declared.expressions.Expr.{Expr}
 use Rattle.prl_ast.specs.Trees.{NodeTree, ProgramTree, EquationTree, equation_tree, tree_of}
-use Rattle.prl_names.specs.declared.lookups.Callee.{Callee}
 use Rattle.prl_names.specs.declared.lookups.Callee.TheVariants as callees
 use Rattle.prl_names.specs.Applications.{is_node, applied_in, applied_trees, applied_equations}
 use Rattle.prl_names.specs.ExprLists.{all_trees}
@@ -56,7 +55,7 @@ place-found ns q i h =
     let same : found.0 ≡ i = omega arith in
     subst (λ j. slice_get ns j ≡ Some q) same found.2
 
-place-below : {X : Type 0} (name : X → List ℕ) (xs : List X) (q : List ℕ) (i : ℕ) → place_of (map name xs) q ≡ Some i → i < length xs
+pub place-below : {X : Type 0} (name : X → List ℕ) (xs : List X) (q : List ℕ) (i : ℕ) → place_of (map name xs) q ≡ Some i → i < length xs
 place-below name xs q i h =
     let there = slice_get_within (map name xs) i q (place-found (map name xs) q i h) in
     rw length-map at there

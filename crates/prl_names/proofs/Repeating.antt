@@ -1,9 +1,8 @@
 -- The first repeat of a list, one name after another.
-use Rattle.std.proofs.Common.{◌≡◌, ◌<◌, ◌≤◌, ℕ, ◌+◌, zero, suc, Bool, true, false, cond, List, [], ◌∷◌, ◌++◌, length, take, drop, map, filter, get_or, refl, sym, ap, ◌∙◌, subst, Some, None, Option, arith, add-one, drop-cons, append_assoc}
+use Rattle.std.proofs.Common.{◌≡◌, ◌<◌, ℕ, ◌+◌, Bool, true, false, cond, List, [], ◌∷◌, ◌++◌, length, take, drop, map, filter, get_or, refl, sym, ap, ◌∙◌, Some, None, Option, add-one, drop-cons, append_assoc}
 use Rattle.std.specs.List.{flat_map, slice_get}
 use Rattle.std.specs.Option.{is_some, option_map, option_and_then}
 use Rattle.std.proofs.lemmas.Option.{slice_get-map, slice_get_read}
-use Rattle.std.proofs.lemmas.List.{map-append}
 use Rattle.prl_ast.specs.declared.declarations.Equation.{Equation}
 use Rattle.prl_ast.specs.declared.declarations.Node.{Node}
 use Rattle.prl_ast.specs.declared.declarations.Placed.{Placed}

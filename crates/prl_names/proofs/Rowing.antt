@@ -1,11 +1,11 @@
 -- The rows of the nodes, one after another.
-use Rattle.std.proofs.Common.{◌≡◌, ◌<◌, ◌≤◌, ◌||◌, ◌&&◌, ℕ, ◌+◌, zero, suc, Bool, true, false, cond, List, [], ◌∷◌, ◌++◌, length, take, drop, drop-cons, add-one, append_assoc, map, get_or, replicate, refl, sym, ap, ◌∙◌, subst, Some, None, Option, arith}
+use Rattle.std.proofs.Common.{◌≡◌, ◌<◌, ◌||◌, ◌&&◌, ℕ, ◌+◌, zero, suc, Bool, true, false, cond, List, [], ◌∷◌, ◌++◌, length, take, drop, drop-cons, add-one, append_assoc, map, get_or, replicate, refl, sym, ap, ◌∙◌, subst, Some, arith}
 use Rattle.std.proofs.Math.Seq.{take-append_seam}
 use Rattle.std.proofs.lemmas.List.{length-map}
 use Rattle.std.specs.List.{slice_get}
 use Rattle.prl_ast.specs.declared.declarations.Node.{Node}
 use Rattle.prl_ast.specs.Trees.{NodeTree, ProgramTree, node_tree}
-use Rattle.prl_names.specs.Applications.{applies, applied_by, applied_equations, reaches_by, reaches, recursive_from}
+use Rattle.prl_names.specs.Applications.{applied_by, applied_equations, reaches_by, reaches, recursive_from}
 use Rattle.prl_names.specs.Marks.{mark_of, Adds, IsRow, AreRows, or_marks, led_through, row_of, all_led_through}
 
 unmarked : (n j : ℕ) → mark_of (replicate n false) j ≡ false

@@ -1,10 +1,10 @@
 -- The arguments of an application and the parts of a group, as a list.
-use Rattle.std.proofs.Common.{◌≡◌, refl, sym, ap, ◌∙◌, subst, List, Vec, Global}
+use Rattle.std.proofs.Common.{◌≡◌, refl, ap, ◌∙◌, List, Vec, Global}
 use mathlib.Core.Former.{Count}
 use Rattle.prl_base.specs.declared.places.Span.{Span}
-use Rattle.prl_ast.specs.declared.expressions.Base.{Base, Const, Var, Apply, Group, Apply', Group', Row_of-Expr, end_of-Expr, more_of-Expr, items-the_row-Expr, items_hidden-the_row-Expr-0}
+use Rattle.prl_ast.specs.declared.expressions.Base.{Base, Apply, Group, Apply', Group', Row_of-Expr, end_of-Expr, more_of-Expr, items-the_row-Expr, items_hidden-the_row-Expr-0}
 use Rattle.prl_ast.specs.declared.expressions.Expr.{Expr}
-use Rattle.prl_ast.specs.Trees.{Root, apply, group, Trees, more, tree, root_of, trees_of}
+use Rattle.prl_ast.specs.Trees.{apply, group, more, tree, root_of, trees_of}
 use Rattle.prl_names.specs.ExprLists.{all_trees}
 
 trees-row : (n : _) (row : Row_of-Expr n) → trees_of row ≡ all_trees (items-the_row-Expr n row)

@@ -6,8 +6,8 @@ use Rattle.prl_ast.specs.declared.declarations.Placed.{Placed}
 use Rattle.prl_ast.specs.Trees.{Tree, tree, Root, const, var, apply, group, Trees, none, more, EquationTree, NodeTree, ProgramTree}
 use Rattle.prl_names.specs.Applications.{Reaches}
 use Rattle.prl_names.specs.Checks.{device_names}
-use Rattle.prl_names.specs.Lookups.{param_at, param_names, callee_of}
-use Rattle.prl_names.specs.Repeats.{is_among, callee_space, port_space, definition_space}
+use Rattle.prl_names.specs.Lookups.{param_at, param_names, node_names, import_names, callee_of}
+use Rattle.prl_names.specs.Repeats.{is_among, port_space, definition_space}
 use Rattle.prl_names.specs.Unknowns.{left_names}
 
 -- no name stands at two places
@@ -67,7 +67,10 @@ pub record IsNamed (p : ProgramTree) (main : ℕ) : Type 0 where
   pub devices : (n : NodeTree) → slice_get p.nodes main ≡ Some n → HasDevices p n
   -- no node applies itself, directly or through others
   pub acyclic : (node : ℕ) → ¬ Reaches p node node
-  pub callees_apart : AreApart (placed_names (callee_space p))
+  pub nodes_apart : AreApart (node_names p)
+  pub imports_apart : AreApart (import_names p)
+  -- no node has the name of an import
+  pub callees_apart : (node import : ℕ) (name : List ℕ) → slice_get (node_names p) node ≡ Some name → slice_get (import_names p) import ≡ Some name → ⊥
   pub ports_apart : (k : ℕ) (i : Import) → slice_get p.imports k ≡ Some i → AreApart (placed_names (port_space i))
   pub sensors_apart : AreApart (device_names p.sensors)
   pub actuators_apart : AreApart (device_names p.actuators)

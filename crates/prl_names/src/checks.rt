@@ -1,9 +1,10 @@
 //! The checks of the names of a program.
 
-ghost use Rattle.std.specs.Prelude.{◌≡◌, ◌<◌, IfSome, length};
+ghost use Rattle.std.specs.Prelude.{◌≡◌, ◌<◌, IfOk, IfSome, length};
 ghost use Rattle.std.specs.Option.{option_copied};
 ghost use Rattle.prl_base.specs.Reading.{Gives};
 ghost use Rattle.prl_ast.specs.Trees.{program_tree};
+ghost use Rattle.prl_names.specs.Named.{IsNamed};
 ghost use Rattle.prl_names.specs.Checks.{fault_of, main_of, names_of};
 
 use crate::absences::{undefined, without_device};
@@ -66,27 +67,9 @@ fn main_of(names: &Names<'_>, main: Option<&Label>) -> Option<usize>
     }
 }
 
-/// The place of the main node in the list of nodes, counted from 0: of the node of the name `main`, or where no
-/// name is given of the last.
-///
-/// Else the first fault in this order, and within a row the first in the order of the text. All nodes are looked at,
-/// also such as main does not apply.
-///
-/// - `Twice`: a node or import, a sensor, an actuator, or a flow of one node or import is declared a second time;
-///   or a flow is defined a second time, where an input is defined by its declaration.
-/// - `Unknown`: an equation uses a name, on its left or in its expression, that is no flow of its node, or applies a
-///   name that is no node or import.
-/// - `Undefined`: an output or a local has no equation.
-/// - `Recursive`: a node applies itself, directly or through others.
-/// - `NoMain`: there is no node, or none of the name `main`.
-/// - `Unknown`: an input of main has no sensor of its name, or an output no actuator.
-/// - `Memory`: memory ran out; this may come in place of each of the others.
+/// The place of the main node, or the first fault.
 #[tactic(auto, unfolding(crate::specs::Checks::names_of))]
-pub fn check_names(
-    alloc: Global,
-    names: &Names<'_>,
-    main: Option<&Label>,
-) -> Result<usize, NameFault>
+fn checked(alloc: Global, names: &Names<'_>, main: Option<&Label>) -> Result<usize, NameFault>
     ensures { Gives (λ node. node) fault_of result (names_of (program_tree names.now) (option_copied main.entry)) }
 {
     let program = names.program();
@@ -110,4 +93,32 @@ pub fn check_names(
         return Err(NameFault::Unknown(name.copy(alloc)?));
     }
     Ok(node)
+}
+
+/// The place of the main node in the list of nodes, counted from 0: of the node of the name `main`, or where no
+/// name is given of the last.
+///
+/// Else the first fault in this order, and within a row the first in the order of the text. All nodes are looked at,
+/// also such as main does not apply.
+///
+/// - `Twice`: a node or import, a sensor, an actuator, or a flow of one node or import is declared a second time;
+///   or a flow is defined a second time, where an input is defined by its declaration.
+/// - `Unknown`: an equation uses a name, on its left or in its expression, that is no flow of its node, or applies a
+///   name that is no node or import.
+/// - `Undefined`: an output or a local has no equation.
+/// - `Recursive`: a node applies itself, directly or through others.
+/// - `NoMain`: there is no node, or none of the name `main`.
+/// - `Unknown`: an input of main has no sensor of its name, or an output no actuator.
+/// - `Memory`: memory ran out; this may come in place of each of the others.
+pub fn check_names(
+    alloc: Global,
+    names: &Names<'_>,
+    main: Option<&Label>,
+) -> Result<usize, NameFault>
+    // The main node, or the first fault.
+    ensures exact { Gives (λ node. node) fault_of result (names_of (program_tree names.now) (option_copied main.entry)) }
+    // What is known of a program whose names are right.
+    ensures named { IfOk result (IsNamed (program_tree names.now)) }
+{
+    checked(alloc, names, main)
 }

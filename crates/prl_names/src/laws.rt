@@ -1,9 +1,6 @@
 //! Laws of names, as functions that do nothing: the contract of each is the law, over the definitions alone.
 
-ghost use Rattle.std.specs.Prelude.{◌≡◌, ◌↔◌, ℕ, true, List, None, Some, slice_get};
-ghost use Rattle.prl_ast.specs.declared.declarations.Placed.{Placed};
-ghost use Rattle.prl_names.specs.Named.{AreApart, placed_names};
-ghost use Rattle.prl_names.specs.Repeats.{repeat_in};
+ghost use Rattle.std.specs.Prelude.{◌≡◌, ◌↔◌, ℕ, true, List, Some, slice_get};
 ghost use Rattle.prl_ast.specs.Trees.{ProgramTree};
 ghost use Rattle.prl_names.specs.Applications.{reaches, Reaches};
 ghost use Rattle.prl_names.specs.Lookups.{place_of};
@@ -16,8 +13,4 @@ pub fn place_has_the_name()
 /// A node reaches another through applications exactly where this is found.
 pub fn reaching_is_found()
     ensures { (p : ProgramTree) (by node : ℕ) → (reaches p by node ≡ true) ↔ Reaches p by node }
-{}
-
-pub fn scratch()
-    ensures { (xs : List Placed) → repeat_in xs ≡ None → AreApart (placed_names xs) }
 {}

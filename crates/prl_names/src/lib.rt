@@ -15,3 +15,6 @@ mod unknowns;
 pub use checks::{NameFault, check_names};
 pub use laws::{place_has_the_name, reaching_is_found};
 pub use lookups::{Callee, Names};
+
+#[cfg(test)]
+mod tests;

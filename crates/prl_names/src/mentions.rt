@@ -17,6 +17,7 @@ pub struct Mention<'a> {
     pub at: Span,
 }
 
+/// Appends the parameters.
 fn push_params<'a>(list: &mut Vec<Mention<'a>>, params: &'a [Param]) -> Result<(), AllocError>
     ensures { OnOk result (all_placed list.new.items ≡ all_placed list.old.items ++ map placed_param params.now) }
 {
@@ -29,6 +30,7 @@ fn push_params<'a>(list: &mut Vec<Mention<'a>>, params: &'a [Param]) -> Result<(
     Ok(())
 }
 
+/// Appends the ports.
 fn push_ports<'a>(list: &mut Vec<Mention<'a>>, ports: &'a [Port]) -> Result<(), AllocError>
     ensures { OnOk result (all_placed list.new.items ≡ all_placed list.old.items ++ map placed_port ports.now) }
 {
@@ -41,6 +43,7 @@ fn push_ports<'a>(list: &mut Vec<Mention<'a>>, ports: &'a [Port]) -> Result<(), 
     Ok(())
 }
 
+/// Appends the names.
 pub fn push_placed<'a>(list: &mut Vec<Mention<'a>>, all: &'a [Placed]) -> Result<(), AllocError>
     ensures { OnOk result (all_placed list.new.items ≡ all_placed list.old.items ++ all.now) }
 {

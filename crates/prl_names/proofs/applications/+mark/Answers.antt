@@ -1,4 +1,4 @@
-use Rattle.std.proofs.Common.{◌≡◌, ◌||◌, ℕ, sym, ◌∙◌, ap}
+use Rattle.std.proofs.Common.{◌||◌, ℕ, sym, ◌∙◌, ap}
 use Rattle.prl_ast.specs.Trees.{program_tree, root_of}
 use Rattle.prl_names.specs.Applications.{is_node, applied_root, applied_trees}
 use Rattle.prl_names.specs.ExprLists.{all_trees}

@@ -1,4 +1,4 @@
-use Rattle.std.proofs.Common.{◌≡◌, ◌<◌, length, sym, ◌∙◌, ap, add-one, suc}
+use Rattle.std.proofs.Common.{◌<◌, length, sym, ◌∙◌, add-one}
 use Rattle.std.proofs.lemmas.List.{length-map}
 use Rattle.prl_ast.specs.Trees.{program_tree, node_tree}
 use Rattle.prl_names.specs.Marks.{led_through, row_of}

@@ -1,9 +1,7 @@
-use Rattle.std.proofs.Common.{◌≡◌, ◌<◌, ℕ, false, length, sym, refl, ◌∙◌, ap, Some, None}
+use Rattle.std.proofs.Common.{sym}
 use Rattle.std.proofs.lemmas.List.{length-map}
 use Rattle.prl_ast.specs.Trees.{program_tree}
-use Rattle.prl_names.specs.Applications.{is_node}
-use Rattle.prl_names.specs.Lookups.{callee_of}
-use Rattle.prl_names.proofs.Marking.{node-below, adds-node, adds-other}
+use Rattle.prl_names.proofs.Marking.{node-below}
 use Rattle.prl_names.proofs.applications.mark_callee.Goals as goal
 
 pub bounds-row-k : goal.bounds-row-k

@@ -1,6 +1,5 @@
-use Rattle.std.proofs.Common.{◌≡◌, ◌≤◌, ◌++◌, length, take, drop, map, List, ℕ}
-use Rattle.prl_ast.specs.Trees.{program_tree, node_tree}
-use Rattle.prl_names.specs.Marks.{AreRows, or_marks, led_through, row_of}
+use Rattle.std.proofs.Common.{◌≡◌, ◌++◌, drop}
+use Rattle.prl_names.specs.Marks.{or_marks}
 use Rattle.prl_names.proofs.applications.or_marks.Given as goal
 
 abbrev pub invariant-loop-k : goal.invariant-loop-k

@@ -1,4 +1,4 @@
-use Rattle.std.proofs.Common.{◌≡◌, ◌<◌, true, false, length, refl, sym, ◌∙◌, ap, get_or}
+use Rattle.std.proofs.Common.{◌≡◌, ◌<◌, true, false, length, refl, sym, ◌∙◌, ap}
 use Rattle.prl_ast.specs.Trees.{program_tree}
 use Rattle.prl_names.specs.Applications.{reaches, recursive_of}
 use Rattle.prl_names.specs.Marks.{mark_of}

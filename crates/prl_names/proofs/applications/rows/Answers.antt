@@ -1,4 +1,4 @@
-use Rattle.std.proofs.Common.{◌≡◌, ◌+◌, length, sym, ◌∙◌, ap, arith, length-append}
+use Rattle.std.proofs.Common.{◌+◌, ap, length-append}
 use Rattle.prl_ast.specs.Trees.{program_tree}
 use Rattle.prl_names.proofs.Rowing.{rows_step}
 use Rattle.prl_names.proofs.applications.rows.Goals as goal

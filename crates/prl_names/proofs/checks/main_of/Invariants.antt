@@ -1,5 +1,5 @@
 use Rattle.std.proofs.Common.{◌≡◌, drop, map}
-use Rattle.prl_ast.specs.Trees.{program_tree, node_tree, NodeTree}
+use Rattle.prl_ast.specs.Trees.{node_tree, NodeTree}
 use Rattle.prl_names.specs.Lookups.{place_from}
 use Rattle.prl_names.proofs.checks.main_of.Given as goal
 

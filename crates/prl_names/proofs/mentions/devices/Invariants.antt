@@ -1,4 +1,4 @@
-use Rattle.std.proofs.Common.{◌≡◌, ◌++◌, map, take}
+use Rattle.std.proofs.Common.{◌≡◌, map, take}
 use Rattle.prl_names.specs.Mentions.{all_placed, placed_device}
 use Rattle.prl_names.proofs.mentions.devices.Given as goal
 

@@ -1,4 +1,4 @@
-use Rattle.std.proofs.Common.{◌≡◌, ◌++◌, map, take}
+use Rattle.std.proofs.Common.{◌≡◌, map, take}
 use Rattle.prl_ast.specs.Trees.{node_tree}
 use Rattle.prl_names.specs.Mentions.{all_placed, placed_node}
 use Rattle.prl_names.proofs.mentions.nodes.Given as goal

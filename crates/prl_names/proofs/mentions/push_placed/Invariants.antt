@@ -1,4 +1,4 @@
-use Rattle.std.proofs.Common.{◌≡◌, ◌++◌, map, take}
+use Rattle.std.proofs.Common.{◌≡◌, ◌++◌, take}
 use Rattle.prl_names.specs.Mentions.{all_placed}
 use Rattle.prl_names.proofs.mentions.push_placed.Given as goal
 

@@ -1,6 +1,5 @@
 use Rattle.std.proofs.Common.{◌≡◌, sym, ap, ◌∙◌, true, false, take}
 use Rattle.std.specs.Option.{is_some}
-use Rattle.prl_names.specs.Lookups.{place_of}
 use Rattle.prl_names.specs.Mentions.{names_in}
 use Rattle.prl_names.specs.Repeats.{is_among}
 use Rattle.prl_names.proofs.FirstPlaces.{step_new}

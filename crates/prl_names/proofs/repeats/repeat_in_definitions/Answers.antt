@@ -1,4 +1,4 @@
-use Rattle.std.proofs.Common.{◌≡◌, ◌∙◌, sym, ap}
+use Rattle.std.proofs.Common.{◌≡◌, ◌∙◌, ap}
 use Rattle.std.specs.Option.{option_map}
 use Rattle.prl_ast.specs.Trees.{program_tree, node_tree}
 use Rattle.prl_names.specs.Mentions.{all_placed, placed_of}

@@ -1,4 +1,3 @@
-use Rattle.std.proofs.Common.{◌≡◌, sym, ◌∙◌, ap, subst}
 use Rattle.prl_names.proofs.FirstPlaces.{step_kept, step_new}
 use Rattle.prl_names.proofs.tables.places.Goals as goal
 use Rattle.prl_names.proofs.tables.places.Goals.{then-not-contains_key+in_ok-insert, else-not-contains_key}

@@ -1,6 +1,6 @@
-use Rattle.std.proofs.Common.{◌≡◌, sym, ◌∙◌, ap, refl, Some, Option, List, ℕ}
+use Rattle.std.proofs.Common.{◌≡◌, sym, ◌∙◌, ap, refl, Some, List, ℕ}
 use Rattle.prl_base.specs.declared.places.Span.{Span}
-use Rattle.prl_ast.specs.Trees.{Root, apply, Trees, ProgramTree, program_tree}
+use Rattle.prl_ast.specs.Trees.{apply, Trees, ProgramTree, program_tree}
 use Rattle.prl_names.specs.declared.lookups.Callee.{Callee}
 use Rattle.prl_names.specs.ExprLists.{all_trees}
 use Rattle.prl_names.specs.Lookups.{callee_of}

@@ -1,5 +1,5 @@
 use Rattle.std.proofs.Common.{◌≡◌, drop, map}
-use Rattle.prl_ast.specs.Trees.{program_tree, equation_tree, node_tree}
+use Rattle.prl_ast.specs.Trees.{program_tree, equation_tree}
 use Rattle.prl_names.specs.Unknowns.{unknown_equations}
 use Rattle.prl_names.proofs.unknowns.unknown_in_equations.Given as goal
 
