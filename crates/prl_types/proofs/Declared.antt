@@ -1,5 +1,5 @@
 -- Numbers of parameters.
-use Rattle.std.proofs.Common.{◌≡◌, ◌<◌, ◌≤◌, ◌+◌, ◌++◌, ◌∙◌, ℕ, suc, List, [], ◌∷◌, length, length-append, get_or, map, take, arith, refl, sym, ap, subst, Option, Some, None, Bool, true, false, inl, inr, ◌⊎◌, if◌then◌else◌, add-one}
+use Rattle.std.proofs.Common.{◌≡◌, ◌<◌, ◌≤◌, ◌+◌, ◌++◌, ◌∙◌, ℕ, suc, List, [], ◌∷◌, length, length-append, get_or, map, take, arith, refl, sym, ap, subst, Some, None, Bool, true, false, inl, inr, if◌then◌else◌}
 use Rattle.std.proofs.lemmas.Option.{slice_get_cases, slice_get_past}
 use Rattle.std.proofs.lemmas.List.{length-map, take_more, take_all, get_or_default, append-nil, get_or-map}
 use Rattle.std.proofs.lemmas.List.Folds.{length-flat_map-take}
@@ -9,19 +9,17 @@ use Rattle.std.proofs.Math.ListN.{get_or-append}
 use Rattle.std.proofs.Math.Seq.{get_or-append_seam}
 use Rattle.std.proofs.lemmas.Bool.{cases_lt}
 use Rattle.std.specs.List.{slice_get}
-use Rattle.std.specs.Option.{option_and_then}
 use Rattle.std.specs.Str.{bytes_eq}
 use Rattle.prl_ast.specs.declared.declarations.Node.{Node}
 use Rattle.prl_ast.specs.declared.declarations.Port.{Port}
 use Rattle.prl_ast.specs.Trees.{NodeTree, ProgramTree, node_tree}
 use Rattle.prl_names.specs.Lookups.{place_from, params_of, param_names, param_of, param_at}
-use Rattle.prl_types.specs.declared.terms.Term.{Term}
 use Rattle.prl_types.specs.declared.terms.Term.TheVariants as terms
 use Rattle.prl_types.specs.declared.contexts.Parameter.{Parameter}
 use Rattle.prl_types.specs.Contexts.{owned_of, AreListed, AreParameters, AreFirsts}
 use Rattle.prl_types.specs.Typing.{HasParameter}
 use Rattle.prl_types.specs.Flows.{parameters_from, port_types}
-use Rattle.prl_types.specs.Parameters.{Owned, owned, owned_by, all_owned, parameters_of, count_of, first_of}
+use Rattle.prl_types.specs.Parameters.{Owned, owned, owned_by, all_owned, count_of, first_of}
 
 place_within : (j : ℕ) (names : List (List ℕ)) (name : List ℕ) (k : ℕ) → place_from j names name ≡ Some k → k < j + length names
 place_within j [] name k e = absurd (cc)

@@ -1,8 +1,7 @@
 -- The types that the marks leave, and the first rule that contradicts the earlier ones.
-use Rattle.std.proofs.Common.{◌≡◌, ◌≢◌, ◌<◌, ◌+◌, ◌++◌, ◌∙◌, ℕ, zero, suc, List, [], ◌∷◌, length, get_or, take, drop, arith, refl, sym, ap, subst, Some, add-one, drop-cons}
+use Rattle.std.proofs.Common.{◌≡◌, ◌<◌, ◌++◌, ◌∙◌, ℕ, zero, suc, List, [], ◌∷◌, length, get_or, take, drop, arith, sym, ap, subst, Some, drop-cons}
 use Rattle.std.proofs.lemmas.Option.{slice_get-get_or}
 use Rattle.std.proofs.lemmas.List.{take-append-drop, get_or_default}
-use Rattle.std.specs.List.{slice_get}
 use Rattle.prl_base.specs.declared.values.Ty.{Ty}
 use Rattle.prl_base.specs.declared.values.Ty.TheVariants as ty
 use Rattle.prl_types.specs.declared.terms.Rule.{Rule}
@@ -10,9 +9,9 @@ use Rattle.prl_types.specs.declared.terms.Term.{Term}
 use Rattle.prl_types.specs.declared.terms.Term.TheVariants as terms
 use Rattle.prl_types.specs.declared.solving.Unsolved.{Unsolved}
 use Rattle.prl_types.specs.declared.solving.Unsolved.TheVariants as unsolved
-use Rattle.prl_types.specs.Choices.{Choice, type_in, MeetsAll, FitsRule, FitRules}
-use Rattle.prl_types.specs.Solutions.{IsMismatch, IsFree, AreTypes, Explains}
-use Rattle.prl_types.specs.Marks.{mark_of, Follows, Solves, IsSettled, Contradicts, Refuses}
+use Rattle.prl_types.specs.Choices.{Choice, type_in, FitsRule, FitRules}
+use Rattle.prl_types.specs.Solutions.{IsFree, AreTypes, Explains}
+use Rattle.prl_types.specs.Marks.{mark_of, Follows, Solves, IsSettled, Refuses}
 use Rattle.prl_types.proofs.Meeting.{chosen, chosen_follows}
 
 -- so many marks from the first on are the types

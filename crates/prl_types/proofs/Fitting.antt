@@ -1,8 +1,7 @@
 -- The rules of a program speak of its parameters alone.
-use Rattle.std.proofs.Common.{◌≡◌, ◌<◌, ◌≤◌, ◌+◌, ◌++◌, ◌∙◌, ℕ, zero, suc, List, [], ◌∷◌, length, map, refl, sym, ap, subst, Option, Some, None, inl, inr, ◌⊎◌, arith}
+use Rattle.std.proofs.Common.{◌≡◌, ◌<◌, ◌≤◌, ◌+◌, ◌++◌, ◌∙◌, ℕ, zero, suc, List, [], ◌∷◌, length, refl, sym, subst, Option, Some, None, inl, inr, arith}
 use Rattle.std.proofs.lemmas.Option.{slice_get_cases}
-use Rattle.std.specs.List.{slice_get, range_with_len}
-use Rattle.prl_base.specs.Values.{type_of}
+use Rattle.std.specs.List.{slice_get}
 use Rattle.prl_base.specs.declared.operators.Op.{Op}
 use Rattle.prl_base.specs.declared.operators.Op.TheVariants as ops
 use Rattle.prl_base.specs.declared.values.Ty.{Ty}
@@ -17,8 +16,7 @@ use Rattle.prl_names.specs.Lookups.{callee_of, param_at}
 use Rattle.prl_types.specs.declared.terms.Flow.{Flow}
 use Rattle.prl_types.specs.declared.terms.Rule.{Rule}
 use Rattle.prl_types.specs.declared.terms.Term.{Term}
-use Rattle.prl_types.specs.declared.terms.Term.TheVariants as terms
-use Rattle.prl_types.specs.Choices.{FitsTerm, FitsRule, FitRules}
+use Rattle.prl_types.specs.Choices.{FitsTerm, FitRules}
 use Rattle.prl_types.specs.Flows.{port_types, parameters_from, import_inputs, import_outputs, node_inputs, node_outputs, inputs_of, outputs_of, operand, operated, flows_of, root_flows, all_flows, placed_flows, terms_of}
 use Rattle.prl_types.specs.Parameters.{Owned, parameters_of, count_of, first_of, parameter_or, named}
 use Rattle.prl_types.specs.Rules.{declared_rule, declared_rules, constant_rule, constant_rules, argument_rules, rules_in, root_rules, all_rules, left_rules, equation_rules, equations_rules, nodes_rules, rules_of}

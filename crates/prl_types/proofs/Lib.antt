@@ -8,3 +8,4 @@ pub mod Walking
 pub mod Counting
 pub mod Fitting
 pub mod Opening
+pub mod Outcomes

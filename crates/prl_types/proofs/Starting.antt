@@ -1,15 +1,14 @@
 -- The marks before any rule.
-use Rattle.std.proofs.Common.{◌≡◌, ◌<◌, ◌≤◌, ◌+◌, ◌++◌, ◌∙◌, ◌⊎◌, ℕ, zero, suc, List, [], ◌∷◌, length, length-append, get_or, map, Vec, Global, arith, refl, sym, ap, subst, inl, inr, Contains}
+use Rattle.std.proofs.Common.{◌≡◌, ◌<◌, ◌+◌, ◌++◌, ◌∙◌, ℕ, zero, suc, List, [], ◌∷◌, length, length-append, get_or, map, Vec, Global, arith, refl, sym, ap, subst, inl, inr, Contains}
 use Rattle.std.proofs.Math.ListN.{get_or-append, get_or-eq_default}
 use Rattle.std.proofs.Math.Seq.{get_or-append_seam}
 use Rattle.std.proofs.lemmas.Bool.{cases_lt}
 use Rattle.std.proofs.lemmas.Bool.Decides.{eqb_tells}
 use Rattle.std.proofs.lemmas.List.{map-append}
-use Rattle.prl_types.specs.declared.terms.Rule.{Rule}
 use Rattle.prl_types.specs.declared.terms.Term.{Term}
 use Rattle.prl_types.specs.declared.terms.Term.TheVariants as terms
-use Rattle.prl_types.specs.Choices.{Choice, type_in, MeetsAll}
-use Rattle.prl_types.specs.Marks.{mark_of, members_at, Follows, Solves, IsSettled, AreMembers}
+use Rattle.prl_types.specs.Choices.{type_in}
+use Rattle.prl_types.specs.Marks.{mark_of, members_at, Solves, IsSettled, AreMembers}
 
 pub record AreSingle (marks : List Term) (lists : List (List ℕ)) (count : ℕ) : Type 0 where
   pub marks_count : length marks ≡ count

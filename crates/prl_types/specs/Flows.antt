@@ -1,7 +1,6 @@
 -- The flows of expressions, by their types.
 use Rattle.std.specs.Prelude.{ℕ, ◌+◌, List, [], ◌∷◌, ◌++◌, map, length, slice_get, Option, Some, None}
 use Rattle.std.specs.List.{range_with_len}
-use Rattle.prl_base.specs.declared.places.Span.{Span}
 use Rattle.prl_base.specs.declared.values.Ty.TheVariants as types
 use Rattle.prl_base.specs.Values.{type_of}
 use Rattle.prl_ast.specs.declared.declarations.Import.{Import}

@@ -1,5 +1,5 @@
 -- What rules leave of the types: a contradiction, a parameter that is free, or one type for each.
-use Rattle.std.specs.Prelude.{◌≡◌, ◌≢◌, ◌<◌, ℕ, List, [], ◌∷◌, ◌++◌, length, slice_get, Some}
+use Rattle.std.specs.Prelude.{◌≡◌, ◌≢◌, ◌<◌, ℕ, List, ◌∷◌, ◌++◌, length, slice_get, Some}
 use Rattle.prl_base.specs.declared.values.Ty.{Ty}
 use Rattle.prl_types.specs.declared.terms.Rule.{Rule}
 use Rattle.prl_types.specs.declared.solving.Unsolved.{Unsolved}

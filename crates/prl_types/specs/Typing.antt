@@ -87,3 +87,8 @@ IsOpen q (faults.Recursive name) = ⊥
 IsOpen q faults.NoMain = ⊥
 IsOpen q (faults.Arity at) = ⊥
 IsOpen q (faults.Mismatch at wanted found) = ⊥
+
+-- what the check answers for a program, but for want of memory: the main node and the types, or the fault
+abbrev pub IsOutcome : ProgramTree → Option (List ℕ) → Result (ℕ × List Ty) TypeFault → Type 0
+IsOutcome p main (Ok t) = IsTyped p main t.0 t.1
+IsOutcome p main (Err fault) = IsFault p main fault

@@ -1,4 +1,4 @@
-use Rattle.std.proofs.Common.{◌≡◌, ◌+◌, ◌++◌, ℕ, List, drop, length}
+use Rattle.std.proofs.Common.{drop}
 use Rattle.prl_ast.specs.Trees.{program_tree}
 use Rattle.prl_names.specs.ExprLists.{all_trees}
 use Rattle.prl_types.proofs.Counting.{ArePartsCounted}

@@ -1,4 +1,4 @@
-use Rattle.std.proofs.Common.{◌≡◌, ◌∙◌, ap, sym, length}
+use Rattle.std.proofs.Common.{◌∙◌, sym, length}
 use Rattle.prl_ast.specs.Trees.{program_tree, tree_of}
 use Rattle.prl_types.specs.Arity.{faults_in, unless_equal}
 use Rattle.prl_types.specs.Flows.{flows_of}

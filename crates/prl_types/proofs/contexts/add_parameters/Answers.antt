@@ -1,4 +1,4 @@
-use Rattle.std.proofs.Common.{◌∙◌, ap, sym, ◌++◌, append_assoc}
+use Rattle.std.proofs.Common.{append_assoc}
 use Rattle.prl_types.proofs.Declared.{parameters_more}
 use Rattle.prl_types.proofs.contexts.add_parameters.Goals as goal
 

@@ -1,5 +1,4 @@
-use Rattle.std.proofs.Common.{◌≡◌, ◌∙◌, ◌++◌, ap, sym, List}
-use Rattle.prl_ast.specs.declared.expressions.Expr.{Expr}
+use Rattle.std.proofs.Common.{◌∙◌, ◌++◌, ap, sym, List}
 use Rattle.prl_ast.specs.Trees.{program_tree}
 use Rattle.prl_names.specs.ExprLists.{all_trees}
 use Rattle.prl_names.specs.Lookups.{callee_of}

@@ -1,4 +1,4 @@
-use Rattle.std.proofs.Common.{◌≡◌, ◌≤◌, ◌++◌, drop, take, length}
+use Rattle.std.proofs.Common.{◌≡◌, ◌≤◌, ◌++◌, drop, length}
 use Rattle.prl_types.specs.Rules.{constant_rules}
 use Rattle.prl_types.proofs.rules.add_constants.Given as goal
 

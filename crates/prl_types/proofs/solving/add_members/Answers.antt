@@ -1,4 +1,3 @@
-use Rattle.std.proofs.Common.{arith}
 use Rattle.prl_types.proofs.Replacing.{added_is}
 use Rattle.prl_types.proofs.solving.add_members.Goals as goal
 

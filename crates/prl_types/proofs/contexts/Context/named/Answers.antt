@@ -1,4 +1,4 @@
-use Rattle.std.proofs.Common.{arith, ap, sym, ◌∙◌, ◌≡◌, ◌+◌}
+use Rattle.std.proofs.Common.{arith, ap, sym, ◌∙◌, ◌+◌}
 use Rattle.prl_ast.specs.Trees.{program_tree}
 use Rattle.prl_types.specs.declared.terms.Term.TheVariants as terms
 use Rattle.prl_types.specs.Parameters.{parameter_or}

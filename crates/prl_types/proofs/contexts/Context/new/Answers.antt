@@ -1,6 +1,5 @@
-use Rattle.std.proofs.Common.{arith, ap, sym, ◌∙◌, ◌++◌, [], ◌∷◌, List, ℕ, subst, map}
-use Rattle.prl_ast.specs.Trees.{program_tree, node_tree}
-use Rattle.prl_types.specs.Contexts.{AreListed}
+use Rattle.std.proofs.Common.{arith, ap, ◌∙◌, map}
+use Rattle.prl_ast.specs.Trees.{node_tree}
 use Rattle.prl_types.proofs.Declared.{one_more_listed, tree_read}
 use Rattle.prl_types.proofs.contexts.Context.new.Goals as goal
 

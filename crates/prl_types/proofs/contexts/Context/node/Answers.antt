@@ -1,4 +1,4 @@
-use Rattle.std.proofs.Common.{arith, ap, sym, ◌∙◌}
+use Rattle.std.proofs.Common.{arith, ap, ◌∙◌}
 use Rattle.prl_ast.specs.Trees.{program_tree, node_tree}
 use Rattle.prl_types.proofs.Declared.{node_fits, tree_read, no_tree}
 use Rattle.prl_types.proofs.contexts.Context.node.Goals as goal
