@@ -1,5 +1,5 @@
 -- Readers of expressions that agree on what stands in parentheses agree.
-use Rattle.std.proofs.Common.{◌≡◌, ◌≤◌, ◌<◌, cond, ℕ, zero, suc, List, [], ◌∷◌, ◌++◌, length, Option, Some, None, Ok, refl, ap, ◌∙◌, arith, length-append}
+use Rattle.std.proofs.Common.{◌≡◌, ◌≤◌, ◌<◌, cond, ℕ, zero, suc, List, [], ◌∷◌, length, Some, None, Ok, refl, ap, ◌∙◌, arith, length-append}
 use Rattle.prl_base.specs.Reading.{◌>>=◌}
 use Rattle.prl_base.specs.declared.places.Span.{Span}
 use Rattle.prl_body.specs.declared.operators.Prefix.{Prefix}
@@ -7,7 +7,7 @@ use Rattle.prl_body.specs.declared.operators.Prefix.TheVariants as prefixes
 use Rattle.prl_body.specs.Texts.{Tree}
 use Rattle.prl_reader.specs.Lexemes.{Lexeme}
 use Rattle.prl_reader.specs.Readers.{Read, next_in, many_up_to, choice, many_at, maybe_at}
-use Rattle.prl_reader.specs.Reads.{Shape, many_shape, Reads}
+use Rattle.prl_reader.specs.Reads.{Shape, Reads}
 use Rattle.prl_reader.proofs.Sequences.{then_read}
 use Rattle.prl_reader.proofs.Repeats.{same_bind, leaves_fewer, many_reads}
 use Rattle.prl_reader.proofs.Tokens.{solid}
@@ -15,12 +15,11 @@ use Rattle.prl_bodytext.specs.declared.signs.Level.{Level}
 use Rattle.prl_bodytext.specs.declared.signs.Level.TheVariants as levels
 use Rattle.prl_bodytext.specs.declared.words.Fixed.{Fixed}
 use Rattle.prl_bodytext.specs.declared.words.Fixed.TheVariants as fixed
-use Rattle.prl_bodytext.specs.Words.{class_of}
 use Rattle.prl_bodytext.specs.Signs.{only, sign_first}
 use Rattle.prl_bodytext.specs.Grammar.{TreeText}
-use Rattle.prl_bodytext.specs.Readers.{the_at, sign_at, link_by, chain_by, pair_by, run_by, enclosed_by, choice_by, primary_by, unary_by, product_by, sum_by, comparison_by, negation_by, conjunction_by, disjunction_by}
+use Rattle.prl_bodytext.specs.Readers.{the_at, link_by, chain_by, pair_by, run_by, enclosed_by, choice_by, primary_by, unary_by, product_by, sum_by, comparison_by, negation_by, conjunction_by, disjunction_by}
 use Rattle.prl_bodytext.proofs.Simple.{the_reads, sign_reads}
-use Rattle.prl_bodytext.proofs.Levels.{ReadsInner, link_reads, unary_first, expression_first, product_more, sum_more, comparison_more, conjunction_more, unary_reads, product_reads, sum_reads, comparison_reads, negation_reads, conjunction_reads}
+use Rattle.prl_bodytext.proofs.Levels.{ReadsInner, link_reads, unary_first, expression_first, product_more, sum_more, comparison_more, conjunction_more, unary_reads, product_reads, sum_reads, negation_reads, conjunction_reads}
 
 -- the readers agree on what is shorter
 pub record Alike {A : Type 0} (n : ℕ) (p q : List Lexeme → Read A) : Type 0 where

@@ -1,13 +1,13 @@
 -- Expressions are read as deep as their tokens reach.
-use Rattle.std.proofs.Common.{◌≡◌, ◌≤◌, ◌<◌, ◌==◌, ◌||◌, Bool, true, false, ℕ, zero, suc, List, [], ◌∷◌, ◌++◌, length, Ok, refl, sym, ap, subst, inl, inr, arith}
+use Rattle.std.proofs.Common.{◌≡◌, ◌<◌, ◌==◌, ◌||◌, Bool, true, false, ℕ, zero, suc, List, [], ◌∷◌, ◌++◌, length, Ok, refl, sym, ap, subst, inl, inr, arith}
 use Rattle.std.proofs.lemmas.Bool.{false≢true, eqb-true}
 use Rattle.std.proofs.lemmas.List.{append-nil}
 use Rattle.prl_body.specs.declared.operators.Prefix.{Prefix}
 use Rattle.prl_body.specs.declared.operators.Prefix.TheVariants as prefixes
 use Rattle.prl_body.specs.Texts.{Tree}
 use Rattle.prl_reader.specs.Lexemes.{Lexeme}
-use Rattle.prl_reader.specs.Grammars.{Then, Give, Either, Many, Maybe, Numbered}
-use Rattle.prl_reader.specs.Readers.{Read, is_in, number_at}
+use Rattle.prl_reader.specs.Grammars.{Either}
+use Rattle.prl_reader.specs.Readers.{is_in}
 use Rattle.prl_reader.specs.Reads.{Shape, Begins, Reads}
 use Rattle.prl_reader.proofs.Repeats.{Widens, lower, restate, deep_reads, too_deep, at_length, leaves_fewer}
 use Rattle.prl_reader.proofs.Tokens.{solid, number_reads}
@@ -19,7 +19,7 @@ use Rattle.prl_bodytext.specs.Grammar.{TreeText, NumberText, ChainText, PairText
 use Rattle.prl_bodytext.specs.Readers.{disjunction_by, expression_up_to, expression_at}
 use Rattle.prl_bodytext.proofs.Levels.{expression_first, expression_more, disjunction_reads}
 use Rattle.prl_bodytext.proofs.Grows.{disjunction_within, to_expression, from_expression}
-use Rattle.prl_bodytext.proofs.Alike.{Alike, disjunction_alike}
+use Rattle.prl_bodytext.proofs.Alike.{disjunction_alike}
 
 -- an operand alone
 

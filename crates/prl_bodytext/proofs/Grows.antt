@@ -1,10 +1,10 @@
 -- Grammars that grow with the depth of parentheses.
-use Rattle.std.proofs.Common.{◌≡◌, ◌≤◌, ◌⊎◌, ◌+◌, ℕ, zero, suc, List, [], ◌∷◌, Option, Some, None, refl, inl, inr, arith}
+use Rattle.std.proofs.Common.{◌≤◌, ◌+◌, ℕ, zero, suc, List, [], ◌∷◌, inl, inr, arith}
 use Rattle.prl_body.specs.declared.operators.Prefix.{Prefix}
 use Rattle.prl_body.specs.declared.operators.Prefix.TheVariants as prefixes
 use Rattle.prl_body.specs.Texts.{Tree}
 use Rattle.prl_reader.specs.Lexemes.{Lexeme}
-use Rattle.prl_reader.specs.Grammars.{Then, Give, Either, Many, Maybe, Place, Named, Numbered}
+use Rattle.prl_reader.specs.Grammars.{Then, Either, Many}
 use Rattle.prl_bodytext.specs.declared.signs.Level.{Level}
 use Rattle.prl_bodytext.specs.declared.signs.Level.TheVariants as levels
 use Rattle.prl_bodytext.specs.declared.words.Fixed.{Fixed}

@@ -1,26 +1,24 @@
 -- Chains and runs are read where their operands are.
-use Rattle.std.proofs.Common.{◌≡◌, ℕ, zero, suc, true, false, List, [], ◌∷◌, ◌++◌, refl, ap, ◌∙◌}
+use Rattle.std.proofs.Common.{◌≡◌, ℕ, suc, true, List, [], ◌∷◌, ◌++◌, refl, ap, ◌∙◌}
 use Rattle.std.proofs.lemmas.List.{append-nil}
 use Rattle.prl_body.specs.declared.operators.Prefix.{Prefix}
 use Rattle.prl_body.specs.declared.operators.Prefix.TheVariants as prefixes
 use Rattle.prl_body.specs.Texts.{Tree}
 use Rattle.prl_reader.specs.Lexemes.{Lexeme}
-use Rattle.prl_reader.specs.Grammars.{Then, Give, Either, Many, Maybe, Place, Named, Numbered}
-use Rattle.prl_reader.specs.Readers.{Read, is_in, choice, many_at, maybe_at}
-use Rattle.prl_reader.specs.Reads.{Shape, then_shape, either_shape, many_shape, Reads}
+use Rattle.prl_reader.specs.Readers.{Read, is_in}
+use Rattle.prl_reader.specs.Reads.{Reads}
 use Rattle.prl_reader.proofs.Basics.{Apart, apart, disjoint}
-use Rattle.prl_reader.proofs.Steps.{give, give_shape, give_reads}
-use Rattle.prl_reader.proofs.Sequences.{then_read, choice_reads}
+use Rattle.prl_reader.proofs.Steps.{give_reads}
 use Rattle.prl_reader.proofs.Repeats.{many_reads}
-use Rattle.prl_reader.proofs.Tokens.{then_reads, followed, either, name_reads, number_reads, solid, loose, maybe_reads}
+use Rattle.prl_reader.proofs.Tokens.{then_reads, followed, either, name_reads, number_reads, solid, maybe_reads}
 use Rattle.prl_bodytext.specs.declared.signs.Level.{Level}
 use Rattle.prl_bodytext.specs.declared.signs.Level.TheVariants as levels
 use Rattle.prl_bodytext.specs.declared.words.Fixed.{Fixed}
 use Rattle.prl_bodytext.specs.declared.words.Fixed.TheVariants as fixed
 use Rattle.prl_bodytext.specs.Words.{class_of}
 use Rattle.prl_bodytext.specs.Signs.{only, sign_first}
-use Rattle.prl_bodytext.specs.Grammar.{The, TreeText, SignText, LinkText, ChainText, PairText, RunText, EnclosedText, ChoiceText, PrimaryText, UnaryText, ProductText, SumText, ComparisonText, NegationText, ConjunctionText, DisjunctionText}
-use Rattle.prl_bodytext.specs.Readers.{the_at, sign_at, link_by, chain_by, pair_by, run_by, enclosed_by, choice_by, primary_by, unary_by, product_by, sum_by, comparison_by, negation_by, conjunction_by, disjunction_by}
+use Rattle.prl_bodytext.specs.Grammar.{TreeText, LinkText, ChainText, PairText, RunText, EnclosedText, ChoiceText, PrimaryText, UnaryText, ProductText, SumText, ComparisonText, NegationText, ConjunctionText, DisjunctionText}
+use Rattle.prl_bodytext.specs.Readers.{link_by, chain_by, pair_by, run_by, enclosed_by, choice_by, primary_by, unary_by, product_by, sum_by, comparison_by, negation_by, conjunction_by, disjunction_by}
 use Rattle.prl_bodytext.proofs.Simple.{the_reads, sign_reads, behind}
 
 -- no operator of the level goes on with what stands before it

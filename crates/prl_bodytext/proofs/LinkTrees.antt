@@ -1,5 +1,5 @@
 -- The links of a chain, as the tree has them.
-use Rattle.std.proofs.Common.{◌≡◌, ◌<◌, ℕ, List, [], ◌∷◌, map, length, refl, ap, arith}
+use Rattle.std.proofs.Common.{◌≡◌, ◌<◌, List, [], ◌∷◌, map, length, refl, ap, arith}
 use Rattle.prl_body.specs.declared.texts.ExprLink.{ExprLink}
 use Rattle.prl_body.specs.Texts.{Tree, chain, more, tree_of, link_trees}
 use Rattle.prl_bodytext.specs.Trees.{links_from, link_view, chained}

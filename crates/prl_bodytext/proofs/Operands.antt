@@ -1,10 +1,10 @@
 -- What operators stand between is read, and leaves fewer tokens.
-use Rattle.std.proofs.Common.{◌≡◌, ◌≤◌, ◌<◌, ℕ, suc, true, List, [], ◌∷◌, ◌++◌, length, Ok, refl, ap, arith, length-append}
+use Rattle.std.proofs.Common.{◌≡◌, ◌≤◌, ◌<◌, ℕ, suc, true, List, [], length, Ok, refl, ap, arith, length-append}
 use Rattle.prl_base.specs.declared.places.Span.{Span}
 use Rattle.prl_body.specs.Texts.{Tree}
 use Rattle.prl_reader.specs.Lexemes.{Lexeme}
 use Rattle.prl_reader.specs.Readers.{Read, many_at}
-use Rattle.prl_reader.specs.Reads.{Shape, Reads}
+use Rattle.prl_reader.specs.Reads.{Reads}
 use Rattle.prl_reader.proofs.Basics.{apart, disjoint}
 use Rattle.prl_reader.proofs.Repeats.{lower, leaves_fewer, many_reads}
 use Rattle.prl_reader.proofs.Tokens.{solid}
@@ -18,7 +18,7 @@ use Rattle.prl_bodytext.specs.Readers.{the_at, sign_at, link_by, expression_at, 
 use Rattle.prl_bodytext.proofs.Loops.{Steps}
 use Rattle.prl_bodytext.proofs.Simple.{steps, the_reads, sign_reads}
 use Rattle.prl_bodytext.proofs.Levels.{link_reads, unary_first, expression_first, product_more, sum_more, comparison_more, conjunction_more, unary_reads, product_reads, sum_reads, negation_reads, conjunction_reads}
-use Rattle.prl_bodytext.proofs.Depths.{expression_reads, expression_fewer}
+use Rattle.prl_bodytext.proofs.Depths.{expression_reads}
 
 steps_of : (level : Level) {W : TreeText} {p : List Lexeme → Read Tree} (first more : List ℕ) → ((n : ℕ) → Reads (suc n) W (solid first more) p) → disjoint more (sign_first level) ≡ true → Steps (sign_first level) (link_by level p)
 steps_of level first more reads d = steps (λ n. link_reads n level first more (lower n (suc n) (omega arith) (reads n))) refl (apart more (sign_first level) d)

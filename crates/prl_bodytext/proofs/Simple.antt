@@ -1,18 +1,17 @@
 -- The readers of tokens, operators, constants and registers read their grammars.
 use Rattle.std.proofs.Common.{◌≡◌, ◌≤◌, ℕ, suc, true, false, List, [], ◌∷◌, ◌++◌, length, refl, arith, length-append}
 use Rattle.std.proofs.lemmas.Bool.{false≢true}
-use Rattle.prl_base.specs.declared.places.Span.{Span}
 use Rattle.prl_body.specs.declared.operators.Operator.{Operator}
 use Rattle.prl_body.specs.declared.operators.Operator.TheVariants as operators
 use Rattle.prl_reader.specs.Lexemes.{Lexeme}
-use Rattle.prl_reader.specs.Grammars.{Then, Give, Either, Many, Maybe, Place, Named, Numbered}
-use Rattle.prl_reader.specs.Readers.{Read, choice, many_at, maybe_at, place_at, name_at, number_at}
-use Rattle.prl_reader.specs.Reads.{Shape, then_shape, either_shape, many_shape, Begins, Reads}
+use Rattle.prl_reader.specs.Grammars.{Then}
+use Rattle.prl_reader.specs.Readers.{Read}
+use Rattle.prl_reader.specs.Reads.{Shape, then_shape, Begins, Reads}
 use Rattle.prl_reader.proofs.Basics.{Apart, apart, disjoint}
-use Rattle.prl_reader.proofs.Steps.{one_shape, give, give_shape, give_reads}
-use Rattle.prl_reader.proofs.Sequences.{then_read, bind_reads, choice_reads}
-use Rattle.prl_reader.proofs.Repeats.{many_reads, many_step, leaves_fewer}
-use Rattle.prl_reader.proofs.Tokens.{followed, either, place_reads, name_reads, number_reads, solid, loose, maybe_reads}
+use Rattle.prl_reader.proofs.Steps.{give_reads}
+use Rattle.prl_reader.proofs.Sequences.{then_read, bind_reads}
+use Rattle.prl_reader.proofs.Repeats.{many_step, leaves_fewer}
+use Rattle.prl_reader.proofs.Tokens.{followed, either, place_reads, name_reads, number_reads, solid}
 use Rattle.prl_bodytext.specs.declared.signs.Level.{Level}
 use Rattle.prl_bodytext.specs.declared.signs.Level.TheVariants as levels
 use Rattle.prl_bodytext.specs.declared.words.Fixed.{Fixed}

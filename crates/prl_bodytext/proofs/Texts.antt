@@ -1,20 +1,13 @@
 -- The readers of statements, bodies and whole texts read their grammars.
-use Rattle.std.proofs.Common.{◌≡◌, ℕ, true, false, List, [], ◌∷◌, ◌++◌, refl}
-use Rattle.prl_reader.specs.Lexemes.{Lexeme}
-use Rattle.prl_reader.specs.Grammars.{Then, Give, Either, Many, Maybe, Place, Named, Numbered}
-use Rattle.prl_reader.specs.Readers.{Read, choice, many_at, maybe_at, place_at, name_at, number_at}
-use Rattle.prl_reader.specs.Reads.{Shape, then_shape, either_shape, many_shape, Reads}
-use Rattle.prl_reader.proofs.Basics.{Apart, apart, disjoint}
-use Rattle.prl_reader.proofs.Steps.{one_shape, give, give_shape, give_reads}
-use Rattle.prl_reader.proofs.Sequences.{then_read, choice_reads}
+use Rattle.std.proofs.Common.{ℕ, [], ◌∷◌, refl}
+use Rattle.prl_reader.specs.Reads.{Reads}
+use Rattle.prl_reader.proofs.Steps.{give_reads}
 use Rattle.prl_reader.proofs.Repeats.{many_reads}
-use Rattle.prl_reader.proofs.Tokens.{followed, either, place_reads, name_reads, number_reads, solid, loose}
-use Rattle.prl_bodytext.specs.declared.words.Fixed.{Fixed}
+use Rattle.prl_reader.proofs.Tokens.{followed, name_reads, solid, loose}
 use Rattle.prl_bodytext.specs.declared.words.Fixed.TheVariants as fixed
-use Rattle.prl_bodytext.specs.Words.{class_of}
 use Rattle.prl_bodytext.specs.Signs.{only}
-use Rattle.prl_bodytext.specs.Grammar.{The, RegisterLine, StatementLine, BodyText, BodiesText}
-use Rattle.prl_bodytext.specs.Readers.{the_at, register_at, statement_at, body_at, bodies_at}
+use Rattle.prl_bodytext.specs.Grammar.{StatementLine, BodyText, BodiesText}
+use Rattle.prl_bodytext.specs.Readers.{statement_at, body_at, bodies_at}
 use Rattle.prl_bodytext.proofs.Loops.{Steps}
 use Rattle.prl_bodytext.proofs.Simple.{steps, the_reads, register_reads}
 use Rattle.prl_bodytext.proofs.Depths.{expression_reads}

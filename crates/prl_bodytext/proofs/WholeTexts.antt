@@ -1,5 +1,5 @@
 -- What the parser answers, in terms of the grammar.
-use Rattle.std.proofs.Common.{◌≡◌, ◌⊎◌, ℕ, false, List, [], ◌∷◌, length, Option, Some, None, Result, Ok, Err, IfOk, IfErr, refl, sym, ap, ◌∙◌, subst, inl, inr}
+use Rattle.std.proofs.Common.{◌≡◌, ℕ, false, List, length, Option, Some, None, Result, Ok, Err, IfOk, IfErr, refl, ap, ◌∙◌, subst, inl, inr}
 use Rattle.prl_base.specs.Reading.{◌>>=◌, Gives}
 use Rattle.prl_body.specs.Faults.{fault_of}
 use Rattle.prl_body.specs.declared.faults.BodyFault.{BodyFault}
@@ -15,7 +15,7 @@ use Rattle.prl_reader.specs.Whole.{all_at}
 use Rattle.prl_reader.proofs.Whole.{all_ok, all_only, all_stuck}
 use Rattle.prl_bodytext.specs.Grammar.{BodiesText}
 use Rattle.prl_bodytext.specs.Lexing.{lexemes_of}
-use Rattle.prl_bodytext.specs.Parsing.{of_lexical, lexed, place_of, of_stop, placed, ranged, bodies_of_tokens, bodies_of, AreBodiesOf, IsUnexpectedAt, IsOutOfRangeAt, Explains}
+use Rattle.prl_bodytext.specs.Parsing.{of_lexical, lexed, place_of, placed, ranged, bodies_of_tokens, bodies_of, AreBodiesOf, Explains}
 use Rattle.prl_bodytext.specs.Ranges.{out_of_range}
 use Rattle.prl_bodytext.specs.Readers.{bodies_at}
 use Rattle.prl_bodytext.proofs.Texts.{bodies_reads}

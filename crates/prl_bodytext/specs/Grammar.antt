@@ -1,5 +1,5 @@
 -- The grammar of bodies: which trees the lists of tokens stand for.
-use Rattle.std.specs.Prelude.{ℕ, zero, suc, true, false, List, [], ◌∷◌}
+use Rattle.std.specs.Prelude.{ℕ, zero, suc, true, false, List}
 use Rattle.prl_base.specs.declared.places.Span.{Span}
 use Rattle.prl_base.specs.declared.values.Value.{Value}
 use Rattle.prl_base.specs.declared.values.Value.TheVariants as values
@@ -10,7 +10,7 @@ use Rattle.prl_body.specs.declared.operators.Prefix.TheVariants as prefixes
 use Rattle.prl_body.specs.declared.texts.RegisterText.{RegisterText}
 use Rattle.prl_body.specs.Texts.{Tree, constant, name, choice, StatementTree, TextTree}
 use Rattle.prl_reader.specs.Lexemes.{Lexeme}
-use Rattle.prl_reader.specs.Grammars.{Then, ◌>>=◌, Give, Either, Many, Maybe, Place, Named, Numbered}
+use Rattle.prl_reader.specs.Grammars.{◌>>=◌, Give, Either, Many, Maybe, Place, Named, Numbered}
 use Rattle.prl_bodytext.specs.declared.signs.Level.{Level}
 use Rattle.prl_bodytext.specs.declared.signs.Level.TheVariants as levels
 use Rattle.prl_bodytext.specs.declared.words.Fixed.{Fixed}

@@ -1,13 +1,5 @@
-use Rattle.std.proofs.Common.{◌≡◌, ◌∷◌, [], List, map, sym, ap, ◌∙◌, subst}
-use Rattle.std.proofs.lemmas.List.{map_push}
-use Rattle.prl_reader.specs.Readers.{many_at}
-use Rattle.prl_body.specs.declared.texts.RegisterText.{RegisterText}
-use Rattle.prl_body.specs.Texts.{StatementTree, statement_tree, TextTree, text_tree}
-use Rattle.prl_bodytext.specs.declared.words.Fixed.TheVariants as fixed
-use Rattle.prl_bodytext.specs.Signs.{only}
-use Rattle.prl_bodytext.specs.Loops.{with_front}
-use Rattle.prl_bodytext.specs.Readers.{register_at, statement_at, body_at, bodies_at}
-use Rattle.prl_bodytext.proofs.Loops.{Steps, goes_on, halts, fails, none_before}
+use Rattle.std.proofs.Common.{sym, ◌∙◌}
+use Rattle.prl_bodytext.proofs.Loops.{goes_on, halts, fails, none_before}
 use Rattle.prl_bodytext.proofs.Simple.{register_steps}
 use Rattle.prl_bodytext.proofs.bodies.registers.Goals as goal
 

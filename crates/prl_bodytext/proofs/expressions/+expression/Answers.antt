@@ -1,17 +1,13 @@
-use Rattle.std.proofs.Common.{◌≡◌, List, Result, map, length, sym, ap, ◌∙◌, subst, arith}
+use Rattle.std.proofs.Common.{◌≡◌, List, map, sym, ap, ◌∙◌, subst, arith}
 use Rattle.std.proofs.lemmas.List.{map_push}
-use Rattle.prl_base.specs.Reading.{Gives}
-use Rattle.prl_body.specs.Texts.{Tree, tree_of}
-use Rattle.prl_reader.specs.Lexemes.{Lexeme}
-use Rattle.prl_reader.specs.Readers.{Read, many_at}
-use Rattle.prl_reader.specs.Stops.{stop_of}
+use Rattle.prl_reader.specs.Readers.{many_at}
 use Rattle.prl_bodytext.specs.declared.signs.Level.TheVariants as levels
 use Rattle.prl_bodytext.specs.declared.words.Fixed.TheVariants as fixed
 use Rattle.prl_bodytext.specs.Signs.{sign_first}
 use Rattle.prl_bodytext.specs.Trees.{Link, link_view}
 use Rattle.prl_bodytext.specs.Loops.{with_front}
-use Rattle.prl_bodytext.specs.Readers.{link_by, disjunction_by, expression_at, operand_at}
-use Rattle.prl_bodytext.proofs.Loops.{Steps, goes_on, halts, fails}
+use Rattle.prl_bodytext.specs.Readers.{link_by, disjunction_by, operand_at}
+use Rattle.prl_bodytext.proofs.Loops.{goes_on, halts, fails}
 use Rattle.prl_bodytext.proofs.Calls.{few_calls}
 use Rattle.prl_bodytext.proofs.Depths.{expression_step, expression_fewer}
 use Rattle.prl_bodytext.proofs.Operands.{link_steps, operand_fewer, sign_fewer, token_fewer, run_left}

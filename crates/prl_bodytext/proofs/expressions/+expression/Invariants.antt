@@ -1,4 +1,4 @@
-use Rattle.std.proofs.Common.{◌≡◌, ◌≤◌, ◌+◌, ◌*◌, ℕ, length, map}
+use Rattle.std.proofs.Common.{◌≡◌, ◌≤◌, ◌+◌, ◌*◌, length, map}
 use Rattle.prl_reader.specs.Readers.{many_at}
 use Rattle.prl_bodytext.specs.Signs.{sign_first}
 use Rattle.prl_bodytext.specs.Trees.{link_view}

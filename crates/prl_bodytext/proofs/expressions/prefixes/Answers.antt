@@ -1,6 +1,6 @@
 use Rattle.std.proofs.Common.{sym, ◌∙◌}
 use Rattle.std.proofs.lemmas.Result.{err_from_is_err_and}
-use Rattle.prl_bodytext.proofs.Loops.{Steps, goes_on, halts, fails, none_before}
+use Rattle.prl_bodytext.proofs.Loops.{goes_on, halts, fails, none_before}
 use Rattle.prl_bodytext.proofs.Simple.{the_steps}
 use Rattle.prl_bodytext.proofs.expressions.prefixes.Goals as goal
 

@@ -1,9 +1,7 @@
-use Rattle.std.proofs.Common.{◌≡◌, ◌∷◌, [], length, map}
+use Rattle.std.proofs.Common.{◌≡◌, length}
 use Rattle.prl_reader.specs.Readers.{many_at}
-use Rattle.prl_body.specs.Texts.{statement_tree, text_tree}
-use Rattle.prl_bodytext.specs.declared.words.Fixed.TheVariants as fixed
 use Rattle.prl_bodytext.specs.Signs.{only}
-use Rattle.prl_bodytext.specs.Readers.{the_at, register_at, statement_at, body_at}
+use Rattle.prl_bodytext.specs.Readers.{the_at}
 use Rattle.prl_bodytext.specs.Loops.{with_front}
 use Rattle.prl_bodytext.proofs.expressions.prefixes.Given as goal
 

@@ -1,4 +1,4 @@
-use Rattle.std.proofs.Common.{List, sym, ap, subst, Result}
+use Rattle.std.proofs.Common.{List, subst, Result}
 use Rattle.prl_base.specs.Reading.{Gives}
 use Rattle.prl_body.specs.Faults.{fault_of}
 use Rattle.prl_body.specs.Texts.{TextTree, text_trees}
