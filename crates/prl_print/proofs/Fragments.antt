@@ -1,18 +1,17 @@
 -- Parts of a printed text and their tokens, in any text that they stand in.
-use Rattle.std.proofs.Common.{◌≡◌, ◌==◌, ◌<◌, ◌≤◌, ◌+◌, ◌-◌, ◌^◌, ◌&&◌, ◌||◌, ℕ, zero, suc, Bool, true, false, cond, not, ltb, leb, codes, decimal, List, [], ◌∷◌, ◌++◌, length, Option, Some, None, refl, sym, ap, ◌∙◌, subst, arith, append_assoc}
-use Rattle.std.proofs.lemmas.Bool.{cond-true, cond-false, and_from, and_parts, or_parts, le-leb, not-true}
+use Rattle.std.proofs.Common.{◌≡◌, ◌==◌, ◌<◌, ◌≤◌, ◌+◌, ◌&&◌, ◌||◌, ℕ, Bool, true, false, not, leb, codes, decimal, List, [], ◌∷◌, ◌++◌, Some, None, refl, sym, ap, ◌∙◌, subst, arith, append_assoc}
+use Rattle.std.proofs.lemmas.Bool.{cond-false, and_from, and_parts, or_parts, le-leb, not-true}
 use Rattle.std.proofs.lemmas.Bool.Decides.{nat_tests}
 use Rattle.std.specs.List.{flat_map, AllByRecursion}
 use Rattle.prl_base.specs.Names.{is_word_byte, IsName}
-use Rattle.prl_lex.specs.Tokens.{is_blank, begins, is_one_byte_symbol, is_two_byte_symbol}
-use Rattle.prl_lex.specs.Lexing.{depth_after}
+use Rattle.prl_lex.specs.Tokens.{is_blank, begins, is_two_byte_symbol}
 use Rattle.prl_reader.specs.Lexemes.{Lexeme}
 use Rattle.prl_syntax.specs.declared.words.Fixed.{Fixed}
 use Rattle.prl_syntax.specs.declared.words.Fixed.TheVariants as fixed
-use Rattle.prl_syntax.specs.Words.{class_of, keyword_of, symbol_of}
+use Rattle.prl_syntax.specs.Words.{class_of, keyword_of}
 use Rattle.prl_syntax.specs.Ranges.{is_count, in_range, is_fault}
-use Rattle.prl_print.proofs.Scanning.{Scan, scan_end, scan_blank, begins_other, begins_otherwise}
-use Rattle.prl_print.proofs.Pieces.{a_name, a_number, a_fixed, Stops, NoPair, IsPunctuation, scan_word, scan_number, scan_one, scan_two, number_leads}
+use Rattle.prl_print.proofs.Scanning.{Scan, scan_blank, begins_other}
+use Rattle.prl_print.proofs.Pieces.{a_name, a_number, a_fixed, Stops, NoPair, scan_word, scan_number, scan_one, scan_two, number_leads}
 
 -- behind two tokens of these classes a number has no range of its own, and a parenthesis opens no rate
 abbrev pub is_plain : ℕ → ℕ → Bool

@@ -1,6 +1,6 @@
 -- The tokens of a text are within the limits of names, depth and ranges.
-use Rattle.std.proofs.Common.{◌≡◌, ◌==◌, ◌≤◌, ◌<◌, ◌+◌, ◌-◌, ◌^◌, ◌&&◌, ◌||◌, ℕ, zero, suc, Bool, true, false, cond, not, leb, ltb, codes, List, [], ◌∷◌, ◌++◌, map, length, take, drop, Option, Some, None, Result, Ok, Err, refl, sym, ap, ◌∙◌, subst, inl, inr, ◌⊎◌, ⊎_elim, arith}
-use Rattle.std.proofs.lemmas.Bool.{cond-true, cond-false, cond_both, and_parts, leb-true, not-true, cases_Bool, false≢true, eqb-true}
+use Rattle.std.proofs.Common.{◌≡◌, ◌==◌, ◌≤◌, ◌+◌, ◌-◌, ◌&&◌, ℕ, zero, suc, Bool, true, false, cond, not, leb, codes, List, [], ◌∷◌, length, take, drop, Option, Some, None, Result, Ok, Err, refl, sym, ap, ◌∙◌, subst, inl, inr, ◌⊎◌, ⊎_elim, arith}
+use Rattle.std.proofs.lemmas.Bool.{cond-false, cond_both, and_parts, leb-true, not-true, cases_Bool, false≢true, eqb-true}
 use Rattle.std.proofs.lemmas.List.{drop-drop, length-take-le}
 use Rattle.std.specs.List.{list_all}
 use Rattle.std.specs.Str.{bytes_eq}
@@ -17,7 +17,6 @@ use Rattle.prl_lex.specs.Lexing.{token_text, token_at, depth_after, checked, wit
 use Rattle.prl_lex.proofs.Fits.{piece_of-fits}
 use Rattle.prl_reader.specs.Lexemes.{Lexeme}
 use Rattle.prl_syntax.specs.declared.words.Fixed.{Fixed}
-use Rattle.prl_syntax.specs.declared.words.Fixed.TheVariants as fixed
 use Rattle.prl_syntax.specs.Words.{class_of, row_of, declaration_keywords, flow_keywords, punctuation, operators, or_else, or_foreign, keyword_of, symbol_of}
 use Rattle.prl_syntax.specs.Lexing.{word_lexeme, kind_lexeme, lexeme_of, lexemes_of}
 use Rattle.prl_syntax.specs.Ranges.{is_fault, out_of_range}

@@ -1,29 +1,23 @@
 -- What holds of the trees of programs: values, notes and declarations.
-use Rattle.std.proofs.Common.{◌≡◌, ◌==◌, ◌≤◌, ◌<◌, ◌+◌, ◌*◌, ◌/◌, ◌%◌, ◌^◌, ℕ, zero, suc, pos, negsuc, neg_ℤ, nat_abs, min, Bool, true, false, cond, List, [], ◌∷◌, ◌++◌, map, length, Option, Some, None, refl, sym, ap, ◌∙◌, subst, inl, inr, ⊎_elim, arith}
-use Rattle.std.proofs.lemmas.Bool.{cond-true, cond-false, cond_both, eqb-true, cases_lt, ne_eqb}
+use Rattle.std.proofs.Common.{◌≡◌, ◌==◌, ◌≤◌, ◌<◌, ◌/◌, ◌%◌, ℕ, zero, suc, pos, neg_ℤ, min, true, false, List, [], ◌∷◌, ◌++◌, map, Option, Some, None, refl, sym, ap, ◌∙◌, subst, ⊎_elim, arith}
+use Rattle.std.proofs.lemmas.Bool.{cond-false, cond_both, cases_lt, ne_eqb}
 use Rattle.std.proofs.lemmas.Nat.Gcd.{IsGcd-from_zero, IsGcd-from_mod}
 use Rattle.std.proofs.Math.Nat.{div-one}
 use Rattle.std.specs.Int.{IsGcd}
 use Rattle.std.specs.List.{AllByRecursion}
-use Rattle.prl_base.specs.declared.places.Span.{Span}
 use Rattle.prl_base.specs.declared.values.Ty.{Ty}
-use Rattle.prl_base.specs.declared.values.Value.{Value}
 use Rattle.prl_base.specs.declared.values.Value.TheVariants as values
 use Rattle.prl_base.specs.Ratios.{Fraction, IsSmallFraction}
-use Rattle.prl_ast.specs.declared.declarations.Device.{Device}
-use Rattle.prl_ast.specs.declared.declarations.Import.{Import}
 use Rattle.prl_ast.specs.declared.declarations.Param.{Param}
 use Rattle.prl_ast.specs.declared.declarations.Placed.{Placed}
 use Rattle.prl_ast.specs.declared.declarations.Port.{Port}
-use Rattle.prl_ast.specs.declared.declarations.Rate.{Rate}
-use Rattle.prl_reader.specs.Lexemes.{Lexeme}
 use Rattle.prl_syntax.specs.declared.words.Fixed.{Fixed}
 use Rattle.prl_syntax.specs.declared.words.Fixed.TheVariants as fixed
 use Rattle.prl_syntax.specs.declared.notes.Note.{Note}
 use Rattle.prl_syntax.specs.declared.parameters.Item.{Item}
-use Rattle.prl_syntax.specs.Values.{small, positive, negative, common_divisor, divisor_up_to, reduced, ratio_of, ratio_with}
+use Rattle.prl_syntax.specs.Values.{small, positive, negative, common_divisor, reduced, ratio_of, ratio_with}
 use Rattle.prl_syntax.specs.Trees.{joined, param_of, note_or, first_note, params_before, params_of, port_of}
-use Rattle.prl_syntax.specs.Grammar.{ConstantText, RatioText, PlacedText, NamesText, TypeText, RateText, DueText, NoteText, ColonNote, ItemText, RunText, ParamsText, EnclosedParams, ClosedParams, MaybeParams, EndedRun, LocalsText, MaybeLocals, PortGroup, NextGroup, PortsText, ClosedPorts, EnclosedPorts, MaybePorts, WcetText, ImportText, DeviceText}
+use Rattle.prl_syntax.specs.Grammar.{ConstantText, RatioText, PlacedText, NamesText, RateText, DueText, NoteText, ItemText, RunText, ParamsText, EnclosedParams, MaybeParams, EndedRun, MaybeLocals, PortGroup, PortsText, ClosedPorts, WcetText, ImportText, DeviceText}
 use Rattle.prl_syntax.proofs.Ratios.{divisor_is, positive_divisor, reduced_fits}
 use Rattle.prl_print.proofs.Words.{IsOwnName, IsConstant, IsOwnRatio, IsCount, IsOwnRate, IsOwnMaybe, IsOwnParam, IsOwnPort, IsSome, IsOwnImport, IsOwnDevice}
 use Rattle.prl_print.proofs.Source.{Means, m_then, m_give, m_ends, m_any, m_weaken, m_either, m_many, m_maybe, m_named, m_counted, m_counted_later}

@@ -1,25 +1,22 @@
 -- What holds of the trees of programs: expressions, equations, nodes and the program.
-use Rattle.std.proofs.Common.{◌≡◌, ◌==◌, ◌≤◌, ◌<◌, ◌+◌, ◌-◌, ℕ, zero, suc, Bool, true, false, cond, List, [], ◌∷◌, ◌++◌, map, length, Option, Some, None, refl, sym, ap, ◌∙◌, subst, inl, inr, arith}
+use Rattle.std.proofs.Common.{◌≡◌, ◌==◌, ◌≤◌, ◌+◌, ℕ, true, false, List, [], ◌∷◌, ◌++◌, Some, None, refl, ap, ◌∙◌, subst, inl, inr, arith}
 use Rattle.std.proofs.lemmas.Bool.{cond-false}
 use Rattle.std.specs.List.{AllByRecursion}
 use Rattle.prl_base.specs.declared.operators.Op.TheVariants as ops
-use Rattle.prl_base.specs.declared.places.Span.{Span}
-use Rattle.prl_base.specs.declared.values.Value.{Value}
 use Rattle.prl_base.specs.declared.values.Value.TheVariants as values
 use Rattle.prl_ast.specs.declared.declarations.Placed.{Placed}
-use Rattle.prl_ast.specs.declared.expressions.PlacedOp.{PlacedOp}
-use Rattle.prl_ast.specs.Trees.{Tree, tree, Root, const, var, apply, group, Trees, none, more, EquationTree, NodeTree, ProgramTree}
+use Rattle.prl_ast.specs.Trees.{Tree, tree, Root, const, var, apply, group, Trees, none, more, ProgramTree}
 use Rattle.prl_reader.specs.Lexemes.{Lexeme}
-use Rattle.prl_reader.specs.Grammars.{One, Then, Give, Either, Many, Maybe, Named, Numbered, FromFirst}
+use Rattle.prl_reader.specs.Grammars.{One, Then, Give, Either, Many, Named, Numbered}
 use Rattle.prl_syntax.specs.declared.words.Fixed.{Fixed}
 use Rattle.prl_syntax.specs.declared.words.Fixed.TheVariants as fixed
 use Rattle.prl_syntax.specs.Values.{small, positive, negative, ratio_with}
 use Rattle.prl_syntax.specs.Words.{class_of}
 use Rattle.prl_syntax.specs.Trees.{Declared, imported, sensor, actuator, node, with_declared, program_of}
 use Rattle.prl_syntax.proofs.Chains.{name_text}
-use Rattle.prl_syntax.specs.Grammar.{The, ConstantText, DenominatorText, RatioText, PrefixText, PostfixText, NameText, Enclosed, Beside, CommaText, Nothing, TreeText, RootText, OthersText, LeftsText, SidesText, EquationText, NodeText, DeclarationText, ProgramText}
-use Rattle.prl_print.proofs.Words.{IsOwnName, IsConstant, IsCount, IsOwnParam, IsPrefix, IsPostfix, IsOwnTree, IsOwnRoot, AreOwnTrees, IsOwnEquation, IsOwnNode, IsOwnImport, IsOwnDevice, IsSome}
-use Rattle.prl_print.proofs.Source.{deeper, FineFrom, FineAt, Fine, depth_along, front_at, back_at, depth-append, token_of, Means, m_then, m_give, m_ends, m_any, m_weaken, m_either, m_many, m_maybe, m_named, m_counted, m_first}
+use Rattle.prl_syntax.specs.Grammar.{The, ConstantText, RatioText, PrefixText, PostfixText, NameText, Enclosed, Beside, CommaText, Nothing, TreeText, RootText, OthersText, LeftsText, SidesText, EquationText, NodeText, DeclarationText, ProgramText}
+use Rattle.prl_print.proofs.Words.{IsOwnName, IsPrefix, IsPostfix, IsOwnTree, IsOwnRoot, AreOwnTrees, IsOwnEquation, IsOwnNode, IsOwnImport, IsOwnDevice, IsSome}
+use Rattle.prl_print.proofs.Source.{deeper, FineAt, Fine, depth_along, front_at, back_at, depth-append, token_of, Means, m_then, m_give, m_ends, m_any, m_either, m_many, m_named, m_counted, m_first}
 use Rattle.prl_print.proofs.Meant.{constant_means, ratio_means, placed_means, names_mean, enclosed_params_mean, maybe_params_mean, locals_mean, import_means, device_means}
 
 -- texts without parentheses

@@ -1,27 +1,25 @@
 -- Words, numbers and symbols at the front of a text.
-use Rattle.std.proofs.Common.{◌≡◌, ◌==◌, ◌<◌, ◌≤◌, ◌+◌, ◌-◌, ◌^◌, ◌&&◌, ◌||◌, ℕ, zero, suc, Bool, true, false, cond, not, ltb, leb, decimal, List, [], ◌∷◌, ◌++◌, length, Option, Some, None, refl, sym, ap, ◌∙◌, subst, arith}
+use Rattle.std.proofs.Common.{◌≡◌, ◌==◌, ◌<◌, ◌≤◌, ◌+◌, ◌^◌, ◌&&◌, ◌||◌, ℕ, Bool, true, false, ltb, leb, decimal, List, [], ◌∷◌, ◌++◌, length, Option, Some, None, refl, ap, ◌∙◌, arith}
 use Rattle.std.proofs.lemmas.Bool.{cond-true, cond-false, and_from, and_parts, or_parts, le-leb, lt-ltb, agree_below_at, false≢true}
 use Rattle.std.proofs.lemmas.Bool.Decides.{nat_tests}
 use Rattle.std.proofs.lemmas.Fmt.{decimal_is_IsNumeral}
-use Rattle.std.specs.Char.{is_ascii_digit, is_ascii_alphanumeric, digit_value}
+use Rattle.std.specs.Char.{is_ascii_digit, digit_value}
 use Rattle.std.specs.List.{list_all, prefix_len}
 use Rattle.std.specs.Str.Parse.{AllDigits, digits_value}
 use Rattle.prl_base.specs.declared.places.Span.{Span}
-use Rattle.prl_base.specs.Names.{is_word_start, is_word_byte, is_word, IsName}
+use Rattle.prl_base.specs.Names.{is_word_start, is_word_byte, IsName}
 use Rattle.prl_lex.specs.declared.tokens.Kind.TheVariants.{Word, Number, Symbol}
-use Rattle.prl_lex.specs.declared.pieces.Piece.{Piece}
 use Rattle.prl_lex.specs.declared.pieces.Piece.TheVariants as pieces
-use Rattle.prl_lex.specs.Tokens.{is_blank, begins, piece_of, is_one_byte_symbol, is_two_byte_symbol}
-use Rattle.prl_lex.specs.FirstByte.{token_by_first, symbol_by_bytes, one_byte_symbol}
-use Rattle.prl_lex.specs.Lexing.{token_at, depth_after, checked}
+use Rattle.prl_lex.specs.Tokens.{is_blank, begins, is_one_byte_symbol, is_two_byte_symbol}
+use Rattle.prl_lex.specs.FirstByte.{symbol_by_bytes}
+use Rattle.prl_lex.specs.Lexing.{depth_after}
 use Rattle.prl_reader.specs.Lexemes.{Lexeme}
 use Rattle.prl_syntax.specs.declared.words.Fixed.{Fixed}
-use Rattle.prl_syntax.specs.declared.words.Fixed.TheVariants as fixed
 use Rattle.prl_syntax.specs.Words.{class_of, keyword_of, symbol_of}
 use Rattle.prl_syntax.specs.Lexing.{word_lexeme}
 use Rattle.prl_syntax.specs.Ranges.{is_fault}
 use Rattle.prl_print.specs.Places.{nowhere}
-use Rattle.prl_print.proofs.Scanning.{bare, AreBytes, bytes-append, Scan, IsWritten, scan_token, first_piece, begins_other}
+use Rattle.prl_print.proofs.Scanning.{bare, AreBytes, bytes-append, Scan, scan_token, first_piece, begins_other}
 
 -- tokens without their places
 abbrev pub a_name : List ℕ → Lexeme

@@ -1,17 +1,15 @@
 -- A printable program is printed as a text of itself, places aside.
-use Rattle.std.proofs.Common.{◌≡◌, ◌≤◌, ℕ, List, [], ◌++◌, map, length, Vec, Global, Result, Ok, Err, IfOk, None, refl, sym, ap, ◌∙◌, subst, arith}
+use Rattle.std.proofs.Common.{◌≡◌, ◌≤◌, ℕ, List, [], ◌++◌, map, length, Vec, Global, Result, Ok, Err, IfOk, refl, sym, ap, subst, arith}
 use Rattle.std.proofs.lemmas.List.{append-nil, length-map}
-use Rattle.prl_ast.specs.Trees.{ProgramTree, NodeTree}
+use Rattle.prl_ast.specs.Trees.{ProgramTree}
 use Rattle.prl_reader.specs.Lexemes.{Lexeme}
-use Rattle.prl_lex.specs.Lexing.{tokens_of}
 use Rattle.prl_syntax.specs.Lexing.{lexemes_of}
 use Rattle.prl_syntax.specs.Parsing.{IsProgramOf}
-use Rattle.prl_syntax.specs.Ranges.{out_of_range}
 use Rattle.prl_print.specs.Printing.{printed}
-use Rattle.prl_print.specs.Places.{unplaced, unplaced_node, SamePlacesAside}
+use Rattle.prl_print.specs.Places.{unplaced_node, SamePlacesAside}
 use Rattle.prl_print.specs.RoundTrip.{IsTextOf}
-use Rattle.prl_print.proofs.Scanning.{bare, Scanned, Scan, scan_end}
-use Rattle.prl_print.proofs.Fragments.{Plain, Frag}
+use Rattle.prl_print.proofs.Scanning.{Scanned, scan_end}
+use Rattle.prl_print.proofs.Fragments.{Plain}
 use Rattle.prl_print.proofs.Words.{program_words, IsPrintable}
 use Rattle.prl_print.proofs.Source.{Fine}
 use Rattle.prl_print.proofs.Limits.{text_fine}

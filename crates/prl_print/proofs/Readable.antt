@@ -1,9 +1,8 @@
 -- The tokens of each part of the printed text are a text of the grammar: values, notes and declarations.
-use Rattle.std.proofs.Common.{◌≡◌, ◌==◌, ◌≤◌, ◌+◌, ◌^◌, ℕ, zero, suc, ℤ, pos, negsuc, neg_ℤ, nat_abs, min, Bool, true, false, cond, List, [], ◌∷◌, ◌++◌, map, length, Option, Some, None, refl, sym, ap, ◌∙◌, subst, arith, append_assoc}
+use Rattle.std.proofs.Common.{◌≡◌, ◌==◌, ◌≤◌, ℕ, suc, pos, negsuc, neg_ℤ, nat_abs, min, Bool, true, false, List, [], ◌∷◌, ◌++◌, map, Option, Some, None, refl, sym, ap, ◌∙◌, arith, append_assoc}
 use Rattle.std.proofs.lemmas.Bool.{eqb-true}
 use Rattle.std.proofs.lemmas.List.{append-nil, map-append}
 use Rattle.std.specs.List.{flat_map, AllByRecursion}
-use Rattle.prl_base.specs.declared.places.Span.{Span}
 use Rattle.prl_base.specs.declared.values.Ty.{Ty}
 use Rattle.prl_base.specs.declared.values.Ty.TheVariants as types
 use Rattle.prl_base.specs.declared.values.Value.{Value}
@@ -16,18 +15,17 @@ use Rattle.prl_ast.specs.declared.declarations.Placed.{Placed}
 use Rattle.prl_ast.specs.declared.declarations.Port.{Port}
 use Rattle.prl_ast.specs.declared.declarations.Rate.{Rate}
 use Rattle.prl_reader.specs.Lexemes.{Lexeme}
-use Rattle.prl_reader.specs.Grammars.{Then, Give, Either, Many, Maybe}
+use Rattle.prl_reader.specs.Grammars.{Maybe}
 use Rattle.prl_syntax.specs.declared.words.Fixed.{Fixed}
 use Rattle.prl_syntax.specs.declared.words.Fixed.TheVariants as fixed
 use Rattle.prl_syntax.specs.declared.notes.Note.{Note}
-use Rattle.prl_syntax.specs.declared.parameters.Item.{Item}
 use Rattle.prl_syntax.specs.Values.{small, positive, negative, ratio_with, ratio_of}
 use Rattle.prl_syntax.specs.Trees.{joined, param_of, note_or, params_of, port_of}
-use Rattle.prl_syntax.specs.Grammar.{The, ConstantText, DenominatorText, RatioText, PlacedText, NamesText, TypeText, RateText, DueText, NoteText, ColonNote, ItemText, RunText, SemicolonRun, ParamsText, EnclosedParams, ClosedParams, NoParams, MaybeParams, EndedRun, LocalsText, MaybeLocals, PortGroup, NextGroup, PortsText, ClosedPorts, EnclosedPorts, MaybePorts, WcetText, ImportText, DeviceText}
-use Rattle.prl_print.specs.Places.{nowhere, unplaced_name, unplaced_port, unplaced_param, unplaced_device, unplaced_import}
-use Rattle.prl_print.proofs.Pieces.{a_name, a_number, a_fixed}
-use Rattle.prl_print.proofs.Words.{one, words_separated, value_words, denominator_words, ratio_words, type_words, rate_words, due_words, maybe_words, note_words, param_words, params_words, locals_words, port_words, ports_words, wcet_words, import_words, device_words, IsOwnName, IsConstant, IsOwnRatio, IsCount, IsOwnRate, IsOwnMaybe, IsOwnParam, IsOwnPort, IsOwnImport, IsOwnDevice, IsSome}
-use Rattle.prl_print.proofs.Prints.{Prints, p_then, p_tokens, p_give, p_ends, p_weaken, p_left, p_right, p_the, p_name, p_number, p_many, p_none, p_maybe}
+use Rattle.prl_syntax.specs.Grammar.{ConstantText, DenominatorText, RatioText, PlacedText, NamesText, TypeText, RateText, DueText, NoteText, ColonNote, ItemText, RunText, ParamsText, EnclosedParams, MaybeParams, EndedRun, MaybeLocals, PortGroup, PortsText, ClosedPorts, EnclosedPorts, MaybePorts, WcetText, ImportText, DeviceText}
+use Rattle.prl_print.specs.Places.{nowhere, unplaced_port, unplaced_param, unplaced_device, unplaced_import}
+use Rattle.prl_print.proofs.Pieces.{a_name, a_fixed}
+use Rattle.prl_print.proofs.Words.{one, value_words, denominator_words, ratio_words, type_words, rate_words, due_words, maybe_words, note_words, param_words, params_words, locals_words, port_words, ports_words, wcet_words, import_words, device_words, IsConstant, IsOwnRatio, IsCount, IsOwnRate, IsOwnMaybe, IsOwnParam, IsOwnPort, IsOwnImport, IsOwnDevice, IsSome}
+use Rattle.prl_print.proofs.Prints.{Prints, p_then, p_tokens, p_give, p_ends, p_left, p_right, p_the, p_name, p_number, p_many, p_none, p_maybe}
 
 pub small_is : (n : ℕ) → n ≤ 2147483647 → small n ≡ n
 small_is n h = omega arith

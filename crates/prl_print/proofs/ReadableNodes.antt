@@ -1,6 +1,6 @@
 -- The tokens of each part of the printed text are a text of the grammar: expressions, equations, nodes and the program.
-use Rattle.std.proofs.Common.{◌≡◌, ◌==◌, ◌≤◌, ◌+◌, ◌^◌, ℕ, zero, suc, Bool, true, false, cond, List, [], ◌∷◌, ◌++◌, map, length, Option, Some, None, refl, sym, ap, ◌∙◌, subst, arith, append_assoc}
-use Rattle.std.proofs.lemmas.List.{append-nil, map-append}
+use Rattle.std.proofs.Common.{◌≡◌, ◌+◌, ℕ, List, [], ◌∷◌, ◌++◌, map, None, refl, sym, ap, ◌∙◌, arith, append_assoc}
+use Rattle.std.proofs.lemmas.List.{append-nil}
 use Rattle.std.proofs.lemmas.List.Folds.{flat_map-map}
 use Rattle.std.proofs.lemmas.Grind.{flat_map-append}
 use Rattle.std.specs.List.{flat_map, AllByRecursion}
@@ -14,18 +14,17 @@ use Rattle.prl_ast.specs.declared.declarations.Placed.{Placed}
 use Rattle.prl_ast.specs.declared.expressions.PlacedOp.{PlacedOp}
 use Rattle.prl_ast.specs.Trees.{Tree, tree, Root, const, var, apply, group, Trees, none, more, EquationTree, NodeTree, ProgramTree}
 use Rattle.prl_reader.specs.Lexemes.{Lexeme, first_place}
-use Rattle.prl_reader.specs.Grammars.{Then, Give, Either, Many, Maybe, FromFirst, Named}
-use Rattle.prl_syntax.specs.declared.words.Fixed.{Fixed}
+use Rattle.prl_reader.specs.Grammars.{Many, Maybe, FromFirst, Named}
 use Rattle.prl_syntax.specs.declared.words.Fixed.TheVariants as fixed
 use Rattle.prl_syntax.specs.Values.{small}
 use Rattle.prl_syntax.specs.Trees.{Declared, imported, sensor, actuator, node, with_declared, program_of}
-use Rattle.prl_syntax.specs.Grammar.{The, PrefixText, PostfixText, NameText, NamesText, PlacedText, CommaName, Enclosed, Beside, Nothing, TreeText, RootText, OthersText, LeftsText, SidesText, EquationText, NodeText, DeclarationText, ProgramText}
+use Rattle.prl_syntax.specs.Grammar.{PrefixText, PostfixText, NameText, NamesText, PlacedText, Enclosed, Beside, Nothing, TreeText, RootText, OthersText, LeftsText, EquationText, NodeText, DeclarationText, ProgramText}
 use Rattle.prl_print.specs.Places.{nowhere, unplaced_name, unplaced_param, unplaced_device, unplaced_import, unplaced_operator, unplaced_tree, unplaced_root, unplaced_trees, unplaced_equation, unplaced_node, unplaced}
 use Rattle.prl_print.proofs.Scanning.{bare}
-use Rattle.prl_print.proofs.Pieces.{a_name, a_number, a_fixed}
-use Rattle.prl_print.proofs.Words.{one, operator_words, operators_words, tree_words, root_words, trees_words, others_words, name_words, names_words, lefts_words, equation_words, params_words, locals_words, node_words, import_words, device_words, program_words, IsOwnName, IsOwnParam, IsPrefix, IsPostfix, IsOwnTree, IsOwnRoot, AreOwnTrees, IsOwnEquation, IsOwnNode, IsOwnImport, IsOwnDevice, IsPrintable, IsSome}
+use Rattle.prl_print.proofs.Pieces.{a_name, a_fixed}
+use Rattle.prl_print.proofs.Words.{one, operator_words, operators_words, tree_words, root_words, trees_words, others_words, name_words, names_words, lefts_words, equation_words, params_words, locals_words, node_words, import_words, device_words, program_words, IsOwnName, IsPrefix, IsPostfix, IsOwnTree, IsOwnRoot, AreOwnTrees, IsOwnEquation, IsOwnNode, IsOwnImport, IsOwnDevice, IsPrintable, IsSome}
 use Rattle.prl_print.proofs.Prints.{Found, Prints, cut, no_tokens, p_then, p_tokens, p_give, p_ends, p_left, p_right, p_the, p_name, p_number, p_many}
-use Rattle.prl_print.proofs.Readable.{small_is, value_reads, ratio_reads, placed_reads, enclosed_params_read, maybe_params_read, locals_read, import_reads, device_reads}
+use Rattle.prl_print.proofs.Readable.{small_is, value_reads, ratio_reads, enclosed_params_read, maybe_params_read, locals_read, import_reads, device_reads}
 
 abbrev unplaced_op : Op → PlacedOp
 unplaced_op op = record { op = op; at = nowhere }

@@ -1,28 +1,19 @@
 -- The tokens of a text, one after another from its end on.
-use Rattle.std.proofs.Common.{◌≡◌, ◌==◌, ◌<◌, ◌≤◌, ◌+◌, ◌-◌, ◌^◌, ◌&&◌, ◌||◌, ℕ, zero, suc, Bool, true, false, cond, not, ltb, leb, codes, decimal, List, [], ◌∷◌, ◌++◌, map, length, take, drop, get_or, Option, Some, None, Result, Ok, Err, IsTrue, refl, sym, ap, ◌∙◌, subst, inl, inr, arith, append_assoc, length-append}
+use Rattle.std.proofs.Common.{◌≡◌, ◌==◌, ◌<◌, ◌+◌, ◌&&◌, ℕ, zero, suc, true, false, List, [], ◌∷◌, ◌++◌, map, length, take, drop, get_or, None, Ok, refl, sym, ap, ◌∙◌, subst, arith, append_assoc, length-append}
 use Rattle.std.proofs.Math.Seq.{take-append_seam, drop-append_seam}
-use Rattle.std.proofs.lemmas.Bool.{cond-true, cond-false, and_from, and_parts, le-leb, lt-ltb, leb-true, ne_eqb}
-use Rattle.std.proofs.lemmas.Fmt.{decimal_is_IsNumeral}
-use Rattle.std.specs.Char.{is_ascii_digit, digit_value}
-use Rattle.std.specs.List.{list_all, prefix_len}
-use Rattle.std.specs.Str.Parse.{AllDigits, digits_value}
-use Rattle.prl_base.specs.Names.{is_word_start, is_word_byte, is_word, IsName}
+use Rattle.std.proofs.lemmas.Bool.{cond-true, cond-false}
 use Rattle.prl_base.specs.Reading.{◌>>=◌}
 use Rattle.prl_lex.specs.declared.tokens.Kind.{Kind}
-use Rattle.prl_lex.specs.declared.tokens.Kind.TheVariants.{Word, Number, Symbol}
 use Rattle.prl_lex.specs.declared.tokens.Token.{Token}
-use Rattle.prl_lex.specs.declared.tokens.LexFault.{LexFault}
 use Rattle.prl_lex.specs.declared.pieces.Piece.{Piece}
 use Rattle.prl_lex.specs.declared.pieces.Piece.TheVariants as pieces
-use Rattle.prl_lex.specs.Tokens.{is_blank, begins, piece_of, is_token, token_of_len, longest, FitsPiece}
+use Rattle.prl_lex.specs.Tokens.{is_blank, begins, piece_of, FitsPiece}
 use Rattle.prl_lex.specs.FirstByte.{token_by_first}
 use Rattle.prl_lex.specs.Lexing.{token_text, token_at, depth_after, checked, tokens_from}
 use Rattle.prl_lex.proofs.Fits.{piece_of-fits}
 use Rattle.prl_lex.proofs.Longest.{token_by_first-longest}
-use Rattle.prl_lex.proofs.Steps.{after_piece, with_front, step}
+use Rattle.prl_lex.proofs.Steps.{with_front, step}
 use Rattle.prl_reader.specs.Lexemes.{Lexeme}
-use Rattle.prl_syntax.specs.declared.words.Fixed.{Fixed}
-use Rattle.prl_syntax.specs.Words.{class_of, keyword_of, symbol_of}
 use Rattle.prl_syntax.specs.Lexing.{kind_lexeme, lexeme_of, lexemes_of}
 use Rattle.prl_syntax.specs.Ranges.{is_fault, out_of_range}
 use Rattle.prl_print.specs.Places.{nowhere}

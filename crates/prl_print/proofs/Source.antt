@@ -1,6 +1,6 @@
 -- What holds of the tree of a text of the grammar, where its tokens are of a text.
-use Rattle.std.proofs.Common.{◌≡◌, ◌==◌, ◌≤◌, ◌<◌, ◌+◌, ◌-◌, ◌&&◌, ◌||◌, ℕ, zero, suc, Bool, true, false, cond, not, leb, List, [], ◌∷◌, ◌++◌, length, Option, Some, None, refl, sym, ap, ◌∙◌, subst, inl, inr, ⊎_elim, arith}
-use Rattle.std.proofs.lemmas.Bool.{cond-true, cond-false, and_parts, leb-true, not-true}
+use Rattle.std.proofs.Common.{◌≡◌, ◌==◌, ◌≤◌, ◌+◌, ◌-◌, ◌&&◌, ℕ, Bool, true, false, cond, not, leb, List, [], ◌∷◌, ◌++◌, Some, None, refl, sym, ap, ◌∙◌, subst, inl, inr, arith}
+use Rattle.std.proofs.lemmas.Bool.{cond-true, cond-false, and_parts, leb-true}
 use Rattle.std.specs.List.{AllByRecursion}
 use Rattle.prl_base.specs.declared.places.Span.{Span}
 use Rattle.prl_reader.specs.Lexemes.{Lexeme}

@@ -1,9 +1,9 @@
 -- The tokens of each part of the printed text: values, notes and declarations.
-use Rattle.std.proofs.Common.{◌≡◌, ◌==◌, ◌≤◌, ◌+◌, ◌^◌, ℕ, zero, suc, ℤ, pos, negsuc, nat_abs, Bool, true, false, cond, codes, decimal, List, [], ◌∷◌, ◌++◌, map, length, Option, Some, None, refl, sym, ap, ◌∙◌, subst, arith, append_assoc}
+use Rattle.std.proofs.Common.{◌≡◌, ◌==◌, ◌≤◌, ◌+◌, ℕ, suc, pos, negsuc, nat_abs, Bool, true, false, cond, codes, decimal, List, [], ◌∷◌, ◌++◌, map, Option, Some, None, refl, sym, ap, subst, arith, append_assoc}
 use Rattle.std.proofs.lemmas.List.{append-nil}
 use Rattle.std.proofs.lemmas.List.Folds.{flat_map-map}
 use Rattle.std.specs.Fmt.{signed_decimal}
-use Rattle.std.specs.List.{flat_map, AllByRecursion}
+use Rattle.std.specs.List.{AllByRecursion}
 use Rattle.prl_base.specs.declared.values.Ty.{Ty}
 use Rattle.prl_base.specs.declared.values.Ty.TheVariants as types
 use Rattle.prl_base.specs.declared.values.Value.{Value}
@@ -17,11 +17,10 @@ use Rattle.prl_ast.specs.declared.declarations.Rate.{Rate}
 use Rattle.prl_reader.specs.Lexemes.{Lexeme}
 use Rattle.prl_syntax.specs.declared.words.Fixed.{Fixed}
 use Rattle.prl_syntax.specs.declared.words.Fixed.TheVariants as fixed
-use Rattle.prl_syntax.specs.Words.{keyword_of}
-use Rattle.prl_print.specs.Printing.{separated, printed_value, printed_ratio, printed_type, printed_rate, printed_due, part, printed_note, note_parts, printed_param, printed_params, printed_port, printed_ports, printed_wcet, printed_signature, printed_import, printed_device}
-use Rattle.prl_print.proofs.Pieces.{a_name, a_number, a_fixed, leads_more, leads_fit, name_leads}
-use Rattle.prl_print.proofs.Fragments.{End, word, paren, free, Fits, no_star, Frag, f_nil, f_seq, f_tokens, f_bytes, each_leads, f_each, f_blank, f_feed, f_name, f_keyword, f_number, f_close, f_open, f_comma, f_semicolon, f_equals, f_colon, f_wcet, f_rate, f_slash, f_minus}
-use Rattle.prl_print.proofs.Words.{one, words_separated, value_words, denominator_words, ratio_words, type_words, rate_words, due_words, maybe_words, note_words, param_words, params_words, port_words, ports_words, wcet_words, import_words, device_words, IsOwnName, IsConstant, IsOwnRatio, IsCount, IsOwnRate, IsOwnMaybe, IsOwnParam, IsOwnPort, IsOwnImport, IsOwnDevice}
+use Rattle.prl_print.specs.Printing.{separated, printed_value, printed_ratio, printed_type, printed_rate, printed_due, part, printed_note, printed_param, printed_params, printed_port, printed_ports, printed_wcet, printed_signature, printed_import, printed_device}
+use Rattle.prl_print.proofs.Pieces.{a_name, a_fixed, leads_more, leads_fit, name_leads}
+use Rattle.prl_print.proofs.Fragments.{word, paren, free, Fits, no_star, Frag, f_nil, f_seq, f_tokens, f_bytes, each_leads, f_each, f_blank, f_feed, f_name, f_keyword, f_number, f_close, f_open, f_comma, f_semicolon, f_colon, f_wcet, f_rate, f_slash, f_minus}
+use Rattle.prl_print.proofs.Words.{one, words_separated, value_words, denominator_words, ratio_words, type_words, rate_words, due_words, note_words, param_words, params_words, port_words, ports_words, wcet_words, import_words, device_words, IsConstant, IsOwnRatio, IsCount, IsOwnRate, IsOwnMaybe, IsOwnParam, IsOwnPort, IsOwnImport, IsOwnDevice}
 
 -- what may stand before anything may stand before no byte of a word
 pub f_weak : {d d2 : ℕ} {a : List ℕ} {ks : List Lexeme} → Frag d a ks free d2 → Frag d a ks word d2

@@ -1,5 +1,5 @@
 -- The tokens of each part of the printed text: expressions, equations, nodes and the program.
-use Rattle.std.proofs.Common.{◌≡◌, ◌==◌, ◌≤◌, ◌+◌, ◌^◌, ℕ, zero, suc, ℤ, pos, negsuc, nat_abs, Bool, true, false, cond, codes, decimal, List, [], ◌∷◌, ◌++◌, map, length, Option, Some, None, refl, sym, ap, ◌∙◌, subst, arith, append_assoc}
+use Rattle.std.proofs.Common.{◌≡◌, ◌≤◌, ◌+◌, ℕ, pos, negsuc, true, false, codes, List, [], ◌∷◌, ◌++◌, map, length, refl, arith, append_assoc}
 use Rattle.std.specs.List.{flat_map, AllByRecursion}
 use Rattle.prl_base.specs.declared.operators.Op.{Op}
 use Rattle.prl_base.specs.declared.operators.Op.TheVariants as ops
@@ -12,10 +12,10 @@ use Rattle.prl_ast.specs.Trees.{Tree, tree, Root, const, var, apply, group, Tree
 use Rattle.prl_reader.specs.Lexemes.{Lexeme}
 use Rattle.prl_syntax.specs.declared.words.Fixed.{Fixed}
 use Rattle.prl_syntax.specs.declared.words.Fixed.TheVariants as fixed
-use Rattle.prl_print.specs.Printing.{separated, printed_value, printed_operator, printed_operators, printed_tree, printed_root, printed_trees, printed_others, name_of, printed_lefts, printed_equation, printed_params, printed_locals, printed_head, printed_node, printed_import, printed_device, printed}
-use Rattle.prl_print.proofs.Pieces.{a_name, a_number, a_fixed, Leads, leads_more, leads_fit, name_leads, number_no_star}
-use Rattle.prl_print.proofs.Fragments.{End, word, paren, free, Fits, no_star, Frag, f_nil, f_seq, f_tokens, f_bytes, each_leads, f_each, f_blank, f_feed, f_name, f_keyword, f_number, f_close, f_open, f_comma, f_semicolon, f_equals, f_cons, f_shift, f_up, f_down}
-use Rattle.prl_print.proofs.Words.{one, words_separated, value_words, operator_words, operators_words, tree_words, root_words, trees_words, others_words, name_words, names_words, lefts_words, equation_words, params_words, locals_words, node_words, import_words, device_words, program_words, IsOwnName, IsConstant, IsOwnParam, IsPrefix, IsPostfix, IsOwnTree, IsOwnRoot, AreOwnTrees, IsOwnEquation, IsOwnNode, IsOwnImport, IsOwnDevice, IsPrintable}
+use Rattle.prl_print.specs.Printing.{separated, printed_value, printed_operator, printed_operators, printed_tree, printed_root, printed_trees, printed_others, name_of, printed_lefts, printed_equation, printed_locals, printed_node, printed_import, printed_device, printed}
+use Rattle.prl_print.proofs.Pieces.{a_name, a_fixed, Leads, leads_more, leads_fit, name_leads, number_no_star}
+use Rattle.prl_print.proofs.Fragments.{word, paren, free, Fits, no_star, Frag, f_nil, f_seq, f_tokens, each_leads, f_each, f_blank, f_feed, f_name, f_keyword, f_close, f_open, f_equals, f_cons, f_shift, f_up, f_down}
+use Rattle.prl_print.proofs.Words.{one, operator_words, operators_words, tree_words, root_words, trees_words, others_words, name_words, lefts_words, equation_words, params_words, locals_words, node_words, import_words, device_words, program_words, IsOwnName, IsConstant, IsOwnParam, IsPrefix, IsPostfix, IsOwnTree, IsOwnRoot, AreOwnTrees, IsOwnEquation, IsOwnNode, IsOwnImport, IsOwnDevice, IsPrintable}
 use Rattle.prl_print.proofs.Spelled.{f_weak, f_separated, value_spelled, ratio_spelled, comma_spelled, end_spelled, returns_spelled, params_spelled, params_lead, import_spelled, device_spelled, sensor_spelled, actuator_spelled}
 
 prefix_spelled : (d : ℕ) → d ≤ 64 → (op : Op) → IsPrefix op → Frag d (printed_operator op) (operator_words op) free d

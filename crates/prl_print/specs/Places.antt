@@ -1,5 +1,5 @@
 -- Trees without their places: what a program means stays the same wherever its text stands.
-use Rattle.std.specs.Prelude.{◌≡◌, ℕ, List, [], ◌∷◌, map}
+use Rattle.std.specs.Prelude.{◌≡◌, map}
 use Rattle.prl_base.specs.declared.places.Span.{Span}
 use Rattle.prl_ast.specs.declared.declarations.Device.{Device}
 use Rattle.prl_ast.specs.declared.declarations.Import.{Import}

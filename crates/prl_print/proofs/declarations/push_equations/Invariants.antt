@@ -1,4 +1,4 @@
-use Rattle.std.proofs.Common.{◌≡◌, ◌++◌, take, map, codes}
+use Rattle.std.proofs.Common.{◌≡◌, ◌++◌, take, map}
 use Rattle.prl_ast.specs.Trees.{equation_tree}
 use Rattle.std.specs.List.{flat_map}
 use Rattle.prl_print.specs.Printing.{printed_equation}

@@ -1,4 +1,4 @@
-use Rattle.std.proofs.Common.{◌≡◌, ◌++◌, List, ℕ, codes, ap, ◌∙◌}
+use Rattle.std.proofs.Common.{◌++◌, List, ℕ, codes, ap, ◌∙◌}
 use Rattle.prl_print.specs.Printing.{printed_ports}
 use Rattle.prl_print.proofs.Lists.{joined_seven}
 use Rattle.prl_print.proofs.declarations.push_signature.Goals as goal

@@ -1,4 +1,4 @@
-use Rattle.std.proofs.Common.{◌≡◌, ◌++◌, List, ℕ, codes, map, sym, ap, ◌∙◌}
+use Rattle.std.proofs.Common.{◌++◌, List, ℕ, codes, map, sym, ap, ◌∙◌}
 use Rattle.prl_ast.specs.Trees.{root_of, tree_of}
 use Rattle.prl_syntax.specs.Trees.{trees_from}
 use Rattle.prl_syntax.proofs.Rows.{root_group, root_apply}

@@ -1,5 +1,4 @@
-use Rattle.std.proofs.Common.{◌≡◌, ◌++◌, take, map, codes}
-use Rattle.std.specs.List.{flat_map}
+use Rattle.std.proofs.Common.{◌≡◌, ◌++◌, take}
 use Rattle.prl_print.specs.Printing.{printed_operators}
 use Rattle.prl_print.proofs.expressions.push_operators.Given as goal
 
