@@ -1,5 +1,5 @@
 -- The flat program of one sensor, one application of an imported node, and one actuator.
-use Rattle.std.proofs.Common.{◌≡◌, ◌<◌, ◌++◌, ℕ, zero, suc, List, [], ◌∷◌, map, slice_get, Some, refl, sym, ◌∙◌, subst, arith}
+use Rattle.std.proofs.Common.{◌≡◌, ◌<◌, ℕ, zero, suc, List, [], ◌∷◌, map, slice_get, Some, refl, sym, ◌∙◌, subst, arith}
 use Rattle.prl_base.specs.Clocks.{IsClock}
 use Rattle.prl_base.specs.declared.operators.Clock.{Clock}
 use Rattle.prl_base.specs.declared.numbers.FlowNo.{FlowNo}
