@@ -1,5 +1,5 @@
 -- The outputs of an application that are computed before their flows are reached.
-use Rattle.std.proofs.Common.{◌≡◌, ◌<◌, ◌≤◌, ℕ, List, length, map, slice_get, slice_index_or, Option, None, Some, refl, sym, ◌∙◌, ap, subst, arith, inl, inr}
+use Rattle.std.proofs.Common.{◌≡◌, ◌<◌, ℕ, List, length, map, slice_get, slice_index_or, Option, None, Some, refl, sym, ◌∙◌, ap, subst, arith, inl, inr}
 use Rattle.std.proofs.lemmas.Option.{get_or_from_slice_get, slice_get_read, slice_get_within}
 use Rattle.prl_base.specs.Clocks.{IsClock}
 use Rattle.prl_base.specs.declared.operators.Clock.{Clock}
@@ -10,7 +10,6 @@ use Rattle.prl_body.specs.declared.bodies.Parts.{Parts}
 use Rattle.prl_body.specs.Bodies.{body_named, input_types, output_types}
 use Rattle.prl_flow.specs.declared.programs.App.{App}
 use Rattle.prl_flow.specs.declared.programs.Arg.{Arg}
-use Rattle.prl_flow.specs.declared.programs.Def.{Def}
 use Rattle.prl_flow.specs.declared.programs.Def.TheVariants as definitions
 use Rattle.prl_flow.specs.declared.programs.Flow.{Flow}
 use Rattle.prl_flow.specs.Applications.{HaveBodies, HaveTypes, IsFitting, nth_step, values_at}
@@ -20,7 +19,7 @@ use Rattle.prl_flow.specs.Programs.{FlatProgram, IsFlat, IsWellDefined}
 use Rattle.prl_flow.specs.Progress.{AreAhead, AreComputed, HasOutput, IsAhead}
 use Rattle.prl_flow.specs.Solutions.{AreClocks, IsOrdered, UsesBelow, argument_flows, clock_of, values_of}
 use Rattle.prl_flow.proofs.Applied.{length-HaveTypes, nth_step-same, type_of-element, types-arguments, values_at-instance}
-use Rattle.prl_flow.proofs.ClockDates.{IsUpTo-from_length, dates_before-le, dates_before-place, length-from_IsUpTo, value_at-date}
+use Rattle.prl_flow.proofs.ClockDates.{IsUpTo-from_length, dates_before-place, length-from_IsUpTo, value_at-date}
 use Rattle.prl_flow.proofs.Types.{same_flow}
 
 -- the flow i is an output of the application of number k, and all before it are computed

@@ -10,7 +10,7 @@ use Rattle.prl_base.specs.declared.values.Value.{Value}
 use Rattle.prl_base.specs.declared.values.Value.TheVariants as any_value
 use Rattle.prl_base.specs.Values.{type_of}
 use Rattle.prl_body.specs.declared.bodies.Parts.{Parts}
-use Rattle.prl_body.specs.Bodies.{Stepped, body_named, body_step, output_types}
+use Rattle.prl_body.specs.Bodies.{body_named, body_step, output_types}
 use Rattle.prl_flow.specs.declared.programs.App.{App}
 use Rattle.prl_flow.specs.declared.programs.Arg.{Arg}
 use Rattle.prl_flow.specs.Applications.{HaveTypes, nth_step, registers_before, values_at}

@@ -38,7 +38,7 @@ each_of_four P f0 f1 f2 f3 p0 p1 p2 p3 (suc (suc zero)) flow found = let e : f2 
 each_of_four P f0 f1 f2 f3 p0 p1 p2 p3 (suc (suc (suc zero))) flow found = let e : f3 ≡ flow = cc in subst (P 3) e p3
 each_of_four P f0 f1 f2 f3 p0 p1 p2 p3 (suc (suc (suc (suc i)))) flow found = cc
 
-wcets : (k : ℕ) (d : Device) → slice_get ((105 ∷ [], 1) ∷ (111 ∷ [], 1) ∷ []) k ≡ Some d → IsFactor d.1
+pub wcets : (k : ℕ) (d : Device) → slice_get ((105 ∷ [], 1) ∷ (111 ∷ [], 1) ∷ []) k ≡ Some d → IsFactor d.1
 wcets zero d found = let e : (105 ∷ [], 1) ≡ d = cc in subst (λ (x : Device). IsFactor x.1) e (omega arith, omega arith)
 wcets (suc zero) d found = let e : (111 ∷ [], 1) ≡ d = cc in subst (λ (x : Device). IsFactor x.1) e (omega arith, omega arith)
 wcets (suc (suc k)) d found = cc
@@ -49,7 +49,7 @@ other_names c d is_c is_d same =
     let bytes : ◌≡◌ {A = ℕ} 105 111 = ap (λ (x : List ℕ). get_or x 0 0) names in
     omega (arith, bytes)
 
-names_apart : (j k : ℕ) (c d : Device) → slice_get ((105 ∷ [], 1) ∷ (111 ∷ [], 1) ∷ []) j ≡ Some c → slice_get ((105 ∷ [], 1) ∷ (111 ∷ [], 1) ∷ []) k ≡ Some d
+pub names_apart : (j k : ℕ) (c d : Device) → slice_get ((105 ∷ [], 1) ∷ (111 ∷ [], 1) ∷ []) j ≡ Some c → slice_get ((105 ∷ [], 1) ∷ (111 ∷ [], 1) ∷ []) k ≡ Some d
     → c.0 ≡ d.0 → j ≡ k
 names_apart zero zero c d at_j at_k same = refl
 names_apart (suc zero) (suc zero) c d at_j at_k same = refl

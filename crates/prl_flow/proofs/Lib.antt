@@ -8,3 +8,4 @@ pub mod Ahead
 pub mod Progressed
 pub mod Callers
 pub mod Chains
+pub mod Sums

@@ -1,20 +1,18 @@
 -- One more flow is computed.
-use Rattle.std.proofs.Common.{◌≡◌, ◌+◌, ◌<◌, ◌≤◌, ℕ, zero, suc, List, [], ◌∷◌, ◌++◌, length, set, slice_get, slice_index_or, Option, None, Some, refl, sym, ◌∙◌, ap, subst, arith, inl, inr, length-append, length-set}
+use Rattle.std.proofs.Common.{◌≡◌, ◌+◌, ◌<◌, ℕ, zero, suc, List, [], ◌∷◌, ◌++◌, length, set, slice_get, slice_index_or, Option, None, Some, refl, sym, ◌∙◌, ap, subst, arith, inl, inr, length-append}
 use Rattle.std.proofs.lemmas.List.{get_or_append_left}
 use Rattle.std.proofs.lemmas.Option.{slice_get_read, slice_get_within}
 use Rattle.prl_base.specs.Clocks.{IsClock}
 use Rattle.prl_base.specs.declared.operators.Clock.{Clock}
-use Rattle.prl_base.specs.declared.numbers.FlowNo.{FlowNo}
 use Rattle.prl_base.specs.declared.values.Value.{Value}
 use Rattle.prl_body.specs.declared.bodies.Parts.{Parts}
-use Rattle.prl_flow.specs.declared.programs.Def.{Def}
 use Rattle.prl_flow.specs.declared.programs.Def.TheVariants as definitions
 use Rattle.prl_flow.specs.declared.programs.Flow.{Flow}
 use Rattle.prl_flow.specs.Flows.{IsUpTo}
 use Rattle.prl_flow.specs.Programs.{FlatProgram, IsFlat}
-use Rattle.prl_flow.specs.Progress.{AreAhead, AreComputed, HasOutput, HaveTypeOf, IsAhead}
+use Rattle.prl_flow.specs.Progress.{AreAhead, AreComputed, HasOutput, HaveTypeOf}
 use Rattle.prl_flow.specs.Rows.{Rows}
-use Rattle.prl_flow.specs.Solutions.{AreClocks, HasTypedRows, IsOrdered, MeetsDefinition, UsesBelow, clock_of, values_of}
+use Rattle.prl_flow.specs.Solutions.{AreClocks, HasTypedRows, IsOrdered, MeetsDefinition, clock_of, values_of}
 use Rattle.prl_flow.proofs.Applied.{IsOutputFlow-same}
 use Rattle.prl_flow.proofs.Placed.{slice_get-set_cases}
 use Rattle.prl_flow.proofs.Solved.{Solved, Solved-next}

@@ -1,5 +1,5 @@
 -- The values of a flow have the flow's type.
-use Rattle.std.proofs.Common.{◌≡◌, ◌<◌, ℕ, Bool, true, false, List, length, take, slice_get, Option, Some, refl, sym, ◌∙◌, ap, arith}
+use Rattle.std.proofs.Common.{◌≡◌, ◌<◌, ℕ, Bool, true, false, List, length, slice_get, Option, Some, refl, sym, ◌∙◌, ap}
 use Rattle.std.specs.Prelude.{if◌then◌else◌, ◌-◌, ◌==◌}
 use Rattle.std.proofs.lemmas.Option.{slice_get_within}
 use Rattle.prl_base.specs.Clocks.{IsClock, date_at}
@@ -14,7 +14,7 @@ use Rattle.prl_body.specs.declared.bodies.Parts.{Parts}
 use Rattle.prl_flow.specs.declared.programs.Def.{Def}
 use Rattle.prl_flow.specs.declared.programs.Def.TheVariants as definitions
 use Rattle.prl_flow.specs.declared.programs.Flow.{Flow}
-use Rattle.prl_flow.specs.Flows.{IsUpTo, delay, value_at, value_of_operator, OperatorByDate}
+use Rattle.prl_flow.specs.Flows.{IsUpTo, value_at, value_of_operator}
 use Rattle.prl_flow.specs.Programs.{FlatProgram, FitsType, HasType, IsWellDefined}
 use Rattle.prl_flow.specs.Progress.{HaveTypeOf}
 use Rattle.prl_flow.specs.Rows.{Rows, rows_of}

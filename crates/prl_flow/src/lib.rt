@@ -10,6 +10,8 @@ mod instances;
 mod programs;
 mod rows;
 #[cfg(test)]
+mod sums_tests;
+#[cfg(test)]
 mod tests;
 
 pub use dates::dates_before;

@@ -10,6 +10,7 @@ ghost use Rattle.prl_flow.specs.Solutions.{AreClocks, IsOrdered};
 
 use crate::{Clocks, Def, Flat, Flow, Sensors, evaluate};
 use prl_base::{Clock, FlowNo, Label, Name, Op, Ratio, Seq, Span, Ty, Value};
+use prl_body::Bodies;
 use std::alloc::Global;
 use std::test::Fail;
 
@@ -40,6 +41,7 @@ fn chain(alloc: Global, first: Op, second: Op) -> Result<Flat, Fail>
     requires second { FitsType types.Int second }
     ensures count { IfOk result (λ p. length p.flows ≡ 4) }
     ensures ins { IfOk result (λ p. p.ins ≡ record { 0 = 0 } ∷ []) }
+    ensures apps { IfOk result (λ p. p.apps ≡ []) }
     ensures ordered { IfOk result IsOrdered }
     ensures clocks { (a b c : AnyClock) → IsClock a → IsClock b → IsClock c → IsResultClock first a b → IsResultClock second b c → IfOk result (λ p. AreClocks p (a ∷ b ∷ c ∷ c ∷ [])) }
 {
@@ -62,7 +64,7 @@ fn chain(alloc: Global, first: Op, second: Op) -> Result<Flat, Fail>
     let out_devices = vec![in alloc; (Name::new(alloc, b"o")?, 1)]?;
     Ok(Flat::new(
         Seq::new(flows),
-        Seq::new(vec![in alloc;]?),
+        Seq::new(Vec::new(alloc)),
         Seq::new(ins),
         Seq::new(outs),
         in_devices,
@@ -94,7 +96,14 @@ fn last_values(
         of: Seq::new(vec![in alloc; a, b, c, c]?),
     };
     let sensors = Sensors::new(vec![in alloc; Seq::new(ints(alloc, rows)?)]?);
-    let table = evaluate(alloc, &flat, &clocks, &sensors, until)?;
+    let table = evaluate(
+        alloc,
+        &flat,
+        &clocks,
+        &Bodies::none(alloc),
+        &sensors,
+        until,
+    )?;
     Ok(table.values(FlowNo(3)).to_vec(alloc)?)
 }
 

@@ -1,4 +1,4 @@
-use Rattle.std.proofs.Common.{◌≡◌, ◌<◌, ◌+◌, ℕ, List, length, map, sym, ◌∙◌, ap, subst, arith, add-one}
+use Rattle.std.proofs.Common.{◌≡◌, ◌+◌, ℕ, List, length, map, sym, ◌∙◌, ap, subst, arith, add-one}
 use Rattle.std.proofs.Math.ListN.{length-map}
 use Rattle.std.proofs.lemmas.List.{with_items_is}
 use Rattle.prl_base.specs.declared.values.Value.{Value}
@@ -8,7 +8,7 @@ use Rattle.prl_body.specs.Machines.{MachineState}
 use Rattle.prl_flow.specs.Applications.{nth_step}
 use Rattle.prl_flow.specs.Instances.{AreOutputs, instance_values}
 use Rattle.prl_flow.specs.Solutions.{argument_flows}
-use Rattle.prl_flow.proofs.Applied.{AreOutputs-none, AreOutputs-push}
+use Rattle.prl_flow.proofs.Applied.{AreOutputs-push}
 use Rattle.prl_flow.proofs.applications.outputs_of.Goals as goal
 
 pub step-requires-clause-arguments : goal.step-requires-clause-arguments

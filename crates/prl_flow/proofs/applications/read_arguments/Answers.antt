@@ -1,4 +1,4 @@
-use Rattle.std.proofs.Common.{◌≡◌, ◌≤◌, ◌+◌, ◌<◌, List, length, slice_index_or, arith, add-one, ap, sym, ◌∙◌}
+use Rattle.std.proofs.Common.{◌+◌, List, length, slice_index_or, arith, add-one, ap, sym, ◌∙◌}
 use Rattle.std.specs.Prelude.{pos}
 use Rattle.std.proofs.lemmas.List.{get_or_default}
 use Rattle.prl_base.specs.declared.values.Value.TheVariants as any_value

@@ -1,10 +1,9 @@
-use Rattle.std.proofs.Common.{◌≡◌, ◌+◌, ◌<◌, ◌++◌, ℕ, List, [], ◌∷◌, length, set, slice_get, Option, None, Some, refl, sym, ◌∙◌, ap, subst, arith, length-set}
+use Rattle.std.proofs.Common.{◌≡◌, ◌<◌, ◌++◌, List, [], ◌∷◌, length, set, slice_get, Option, None, Some, refl, sym, ◌∙◌, ap, subst, arith, length-set}
 use Rattle.std.proofs.lemmas.List.{get_or_default, with_items_is}
 use Rattle.std.proofs.lemmas.Option.{slice_get_read}
 use Rattle.std.specs.Vec.{with_items}
 use Rattle.prl_base.specs.declared.values.Value.{Value}
 use Rattle.prl_flow.specs.Progress.{AreAhead}
-use Rattle.prl_flow.specs.Solutions.{MeetsDefinition, clock_of}
 use Rattle.prl_flow.proofs.Progressed.{IsNext, IsNext-step, IsNext-from_ahead, IsNext-from_definition, AreAhead-push, no_output, place_read}
 use Rattle.prl_flow.proofs.Solved.{HasSource-from_Solved, Solves-from_Solved}
 use Rattle.prl_flow.proofs.evaluation.solution.Goals as goal
