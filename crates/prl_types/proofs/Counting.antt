@@ -30,7 +30,7 @@ parts_more p node whole last rest t flows fault flows' fault' h e f g = record {
   flows_are = f;
   fault_is = g;
   flows_add = (let add : h.number + length (all_flows p node (more t rest)) ≡ length (all_flows p node whole) = subst (λ (ts : Trees). h.number + length (all_flows p node ts) ≡ length (all_flows p node whole)) e h.flows_add in
-    omega (arith, add, length-append (flows_of p node t) (all_flows p node rest)));
+      omega (arith, add, length-append (flows_of p node t) (all_flows p node rest)));
   faults_add = append_assoc h.faults (faults_in p node t) (all_faults p node rest) ∙ subst (λ (ts : Trees). h.faults ++ all_faults p node ts ≡ all_faults p node whole) e h.faults_add;
 }
 

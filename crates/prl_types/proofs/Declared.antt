@@ -26,8 +26,9 @@ place_within j [] name k e = absurd (cc)
 place_within j (n ∷ ns) name k e =
     let rest = place_within (j + 1) ns name k in
     (elim (bytes_eq n name) as (λ (b : Bool). (if b then Some j else place_from (j + 1) ns name) ≡ Some k → k < j + suc (length ns)) [
-        true ↦ λ f. let same : j ≡ k = cc in omega arith
-      | false ↦ λ f. let below : k < j + 1 + length ns = rest f in omega arith ]) e
+      | true ↦ λ f. let same : j ≡ k = cc in omega arith
+      | false ↦ λ f. let below : k < j + 1 + length ns = rest f in omega arith
+    ]) e
 
 pub record IsOfNode (p : ProgramTree) (node k : ℕ) : Type 0 where
   pub tree : NodeTree
@@ -37,15 +38,16 @@ pub record IsOfNode (p : ProgramTree) (node k : ℕ) : Type 0 where
 
 pub param_inside : (p : ProgramTree) (node : ℕ) (name : List ℕ) (k : ℕ) → param_at p node name ≡ Some k → IsOfNode p node k
 param_inside p node name k e = let cases = (slice_get_cases p.nodes node).1 in elim cases [
-    inl here ↦ record {
-      tree = here.0;
-      inside = here.1;
-      is = here.3;
-      below = (let f : param_of here.0 name ≡ Some k = rw here.2 at e in
+  | inl here ↦ record {
+    tree = here.0;
+    inside = here.1;
+    is = here.3;
+    below = (let f : param_of here.0 name ≡ Some k = rw here.2 at e in
         let below = place_within 0 (param_names here.0) name k f in
         let lengths : length (param_names here.0) ≡ length (params_of here.0) = length-map (params_of here.0) _ in omega arith);
-    }
-  | inr past ↦ absurd (let f = rw past.1 at e in cc) ]
+  }
+  | inr past ↦ absurd (let f = rw past.1 at e in cc)
+]
 
 pub number_fits : (p : ProgramTree) (node k : ℕ) → IsOfNode p node k → first_of p node + k < count_of p
 number_fits p node k h =
@@ -85,10 +87,11 @@ owned_more nodes i d lt = ap all_owned (take_more nodes i d lt) ∙ flat_map-app
 first_more : (firsts : List ℕ) (number i : ℕ) (nodes : List NodeTree) → length firsts ≡ i → number ≡ length (all_owned (take i nodes)) → ((k : ℕ) → k < i → get_or firsts k 0 ≡ length (all_owned (take k nodes)))
     → (k : ℕ) → k < i + 1 → get_or (firsts ++ number ∷ []) k 0 ≡ length (all_owned (take k nodes))
 first_more firsts number i nodes count is h k lt = elim (cases_lt k i) [
-    inl below ↦ get_or-append firsts (number ∷ []) 0 k (omega arith) ∙ h k below
+  | inl below ↦ get_or-append firsts (number ∷ []) 0 k (omega arith) ∙ h k below
   | inr past ↦ let e : k ≡ i = omega arith in
       let here : k ≡ length firsts = e ∙ sym count in
-      subst (λ (n : ℕ). get_or (firsts ++ number ∷ []) n 0 ≡ number) (sym here) (get_or-append_seam firsts number [] 0) ∙ is ∙ ap (λ (n : ℕ). length (all_owned (take n nodes))) (sym e) ]
+      subst (λ (n : ℕ). get_or (firsts ++ number ∷ []) n 0 ≡ number) (sym here) (get_or-append_seam firsts number [] 0) ∙ is ∙ ap (λ (n : ℕ). length (all_owned (take n nodes))) (sym e)
+]
 
 pub one_more_listed : (parameters more : List Parameter) (firsts : List ℕ) (nodes : List NodeTree) (i : ℕ) (n d : NodeTree) (number : ℕ) → AreListed parameters firsts nodes i → i < length nodes → get_or nodes i d ≡ n
     → map owned_of more ≡ map owned_of parameters ++ owned_by n → number ≡ length parameters → AreListed more (firsts ++ number ∷ []) nodes (i + 1)
@@ -129,9 +132,10 @@ parameter_count first count = length-map-range_with_len terms.Parameter first co
 
 pub of_parameter : (p : ProgramTree) (node k : ℕ) → HasParameter p node k → IsOfNode p node k
 of_parameter p node k h = let cases = (slice_get_cases p.nodes node).1 in elim cases [
-    inl here ↦ (let f : Some here.0 ≡ Some h.tree = sym here.2 ∙ h.is in let same : here.0 ≡ h.tree = cc in
+  | inl here ↦ (let f : Some here.0 ≡ Some h.tree = sym here.2 ∙ h.is in let same : here.0 ≡ h.tree = cc in
       record { tree = here.0; inside = here.1; is = here.3; below = subst (λ (n : NodeTree). k < length (params_of n)) (sym same) h.below })
-  | inr past ↦ absurd (let f = sym past.1 ∙ h.is in cc) ]
+  | inr past ↦ absurd (let f = sym past.1 ∙ h.is in cc)
+]
 
 -- the place of a parameter's type
 pub record IsPlaced (p : ProgramTree) (firsts : List ℕ) (count node k first : ℕ) : Type 0 where

@@ -28,7 +28,7 @@ types_are marks found settled known rules solves = record {
   choice = chosen marks ty.Int;
   meets = solves.meets (chosen marks ty.Int) (chosen_follows marks ty.Int settled);
   forced = λ c k m lt. let e : length found ≡ length marks = known.number in
-    slice_get-get_or found k ty.Int (omega arith) ∙ ap (λ t. Some t) (sym (type_known marks found (length marks) known c (solves.follows c m) k lt));
+      slice_get-get_or found k ty.Int (omega arith) ∙ ap (λ t. Some t) (sym (type_known marks found (length marks) known c (solves.follows c m) k lt));
 }
 
 int_or_bool : ty.Int ≡ ty.Bool → ⊥

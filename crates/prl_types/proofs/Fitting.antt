@@ -56,9 +56,10 @@ outputs_of_import n (Some i) = ports_fit n i.outs
 
 room_of : (p : ProgramTree) (k : ℕ) (n : NodeTree) → slice_get p.nodes k ≡ Some n → first_of p k + (length n.ins + length n.outs + length n.locals) ≤ count_of p
 room_of p k n e = let cases = (slice_get_cases p.nodes k).1 in elim cases [
-    inl here ↦ (let f : Some here.0 ≡ Some n = sym here.2 ∙ e in let same : here.0 ≡ n = cc in
+  | inl here ↦ (let f : Some here.0 ≡ Some n = sym here.2 ∙ e in let same : here.0 ≡ n = cc in
       subst (λ (m : NodeTree). first_of p k + (length m.ins + length m.outs + length m.locals) ≤ count_of p) same (node_room p k here.0 here.1 here.3))
-  | inr past ↦ absurd (let f = sym past.1 ∙ e in cc) ]
+  | inr past ↦ absurd (let f = sym past.1 ∙ e in cc)
+]
 
 inputs_of_node : (p : ProgramTree) (k : ℕ) (o : Option NodeTree) → slice_get p.nodes k ≡ o → FitTerms (count_of p) (node_inputs (first_of p k) o)
 inputs_of_node p k None e = tt
@@ -132,7 +133,7 @@ mutual
   root_rules_fit p node (var name) = tt
   root_rules_fit p node (apply name at args) = rules-append (count_of p) (all_rules p node args) (argument_rules (inputs_of p (callee_of p name)) (placed_flows p node args)) (all_rules_fit p node args)
       (arguments_fit (count_of p) (inputs_of p (callee_of p name)) (placed_flows p node args) (inputs_fit p (callee_of p name))
-        (subst (λ (ts : List Term). FitTerms (count_of p) ts) (sym (terms-placed_flows p node args)) (all_flows_fit p node args)))
+      (subst (λ (ts : List Term). FitTerms (count_of p) ts) (sym (terms-placed_flows p node args)) (all_flows_fit p node args)))
   root_rules_fit p node (group parts) = all_rules_fit p node parts
 
   all_rules_fit : (p : ProgramTree) (node : ℕ) (ts : Trees) → FitRules (count_of p) (all_rules p node ts)

@@ -22,10 +22,12 @@ mark_set_at new m k by lt e = rw e (mark_of-set_same new m by lt)
 member_marked : (members : List ℕ) (by : Term) (old new : List Term) (count m i : ℕ) → AreMarked members by old new count
     → get_or members count 0 ≡ m → m < length new → i < count + 1 → mark_of (set new m by) (get_or members i 0) ≡ by
 member_marked members by old new count m i h is lt below = elim (eqb_tells (get_or members i 0) m) [
-    inl e ↦ mark_set_at new m (get_or members i 0) by lt e.1
+  | inl e ↦ mark_set_at new m (get_or members i 0) by lt e.1
   | inr ne ↦ elim (eqb_tells i count) [
-      inl e ↦ absurd (ne.1 (ap (λ n. get_or members n 0) e.1 ∙ is))
-    | inr other ↦ let k = get_or members i 0 in mark_of-set_other new m k by ne.1 ∙ h.members_are i (let far : i ≢ count = other.1 in omega arith) ] ]
+    | inl e ↦ absurd (ne.1 (ap (λ n. get_or members n 0) e.1 ∙ is))
+    | inr other ↦ let k = get_or members i 0 in mark_of-set_other new m k by ne.1 ∙ h.members_are i (let far : i ≢ count = other.1 in omega arith)
+  ]
+]
 
 pub one_marked : (members : List ℕ) (by : Term) (old new : List Term) (count m : ℕ) → AreMarked members by old new count
     → get_or members count 0 ≡ m → m < length new → AreMarked members by old (set new m by) (count + 1)

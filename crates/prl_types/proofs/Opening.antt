@@ -44,4 +44,4 @@ owned_read p list k q e lt is =
     let lengths : length (map owned_of list) ≡ length list = length-map list owned_of in
     let same : length (map owned_of list) ≡ count_of p = ap length e in
     subst (λ (os : List Owned). slice_get os k ≡ Some (owned_of q)) e
-      (slice_get-map owned_of list k ∙ ap (λ (o : Option Parameter). option_map owned_of o) (slice_get_read list (length list) k q refl (omega arith) is))
+    (slice_get-map owned_of list k ∙ ap (λ (o : Option Parameter). option_map owned_of o) (slice_get_read list (length list) k q refl (omega arith) is))

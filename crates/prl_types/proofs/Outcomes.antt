@@ -40,10 +40,12 @@ splits (x ∷ e) (y ∷ f) r s l k h =
     let head : x ≡ y = cc in
     let rest : e ++ (r ∷ l) ≡ f ++ (s ∷ k) = cc in
     elim (splits e f r s l k rest) [
-      inl both ↦ inl ((let tail : e ≡ f = both.0 in cc), both.1)
-    | inr other ↦ elim other [
-        inl g ↦ inr (inl (g.0, (let tail : f ≡ e ++ (r ∷ g.0) = g.1 in let whole : y ∷ f ≡ x ∷ (e ++ (r ∷ g.0)) = cc in whole)))
-      | inr g ↦ inr (inr (g.0, (let tail : e ≡ f ++ (s ∷ g.0) = g.1 in let whole : x ∷ e ≡ y ∷ (f ++ (s ∷ g.0)) = cc in whole))) ] ]
+      | inl both ↦ inl ((let tail : e ≡ f = both.0 in cc), both.1)
+      | inr other ↦ elim other [
+        | inl g ↦ inr (inl (g.0, (let tail : f ≡ e ++ (r ∷ g.0) = g.1 in let whole : y ∷ f ≡ x ∷ (e ++ (r ∷ g.0)) = cc in whole)))
+        | inr g ↦ inr (inr (g.0, (let tail : e ≡ f ++ (s ∷ g.0) = g.1 in let whole : x ∷ e ≡ y ∷ (f ++ (s ∷ g.0)) = cc in whole)))
+      ]
+    ]
 
 not_later : (rules : List Rule) (at at' : ℕ) (w f w' f' : Ty) → (m : IsMismatch rules at w f) → (n : IsMismatch rules at' w' f') → (l : List Rule) → n.earlier ≡ m.earlier ++ (m.rule ∷ l) → ⊥
 not_later rules at at' w f w' f' m n l e =
@@ -64,17 +66,21 @@ same_mismatch rules at at' w f w' f' m n both =
 
 one_mismatch : (rules : List Rule) (at at' : ℕ) (w f w' f' : Ty) → IsMismatch rules at w f → IsMismatch rules at' w' f' → mismatch at w f ≡ mismatch at' w' f'
 one_mismatch rules at at' w f w' f' m n = elim (splits m.earlier n.earlier m.rule n.rule m.later n.later (sym m.whole ∙ n.whole)) [
-    inl both ↦ same_mismatch rules at at' w f w' f' m n both
+  | inl both ↦ same_mismatch rules at at' w f w' f' m n both
   | inr other ↦ elim other [
-      inl g ↦ absurd (not_later rules at at' w f w' f' m n g.0 g.1)
-    | inr g ↦ absurd (not_later rules at' at w' f' w f n m g.0 g.1) ] ]
+    | inl g ↦ absurd (not_later rules at at' w f w' f' m n g.0 g.1)
+    | inr g ↦ absurd (not_later rules at' at w' f' w f n m g.0 g.1)
+  ]
+]
 
 one_free : (rules : List Rule) (k j : ℕ) → IsFree rules k → IsFree rules j → k ≡ j
 one_free rules k j f g = elim (cases_lt k j) [
-    inl below ↦ absurd (f.differ (g.earlier k below f.one f.other f.one_meets f.other_meets))
+  | inl below ↦ absurd (f.differ (g.earlier k below f.one f.other f.one_meets f.other_meets))
   | inr past ↦ elim (cases_lt j k) [
-      inl below ↦ absurd (g.differ (f.earlier j below g.one g.other g.one_meets g.other_meets))
-    | inr over ↦ omega arith ] ]
+    | inl below ↦ absurd (g.differ (f.earlier j below g.one g.other g.one_meets g.other_meets))
+    | inr over ↦ omega arith
+  ]
+]
 
 same_lists : (xs ys : List Ty) → length xs ≡ length ys → ((k : ℕ) → k < length xs → slice_get xs k ≡ slice_get ys k) → xs ≡ ys
 same_lists [] [] e h = refl
@@ -98,8 +104,9 @@ types_or_free rules count xs k a lt f =
 
 number_inside : (p : ProgramTree) (k : ℕ) (o : Owned) → slice_get (parameters_of p) k ≡ Some o → k < count_of p
 number_inside p k o e = let cases = (slice_get_cases (parameters_of p) k).1 in elim cases [
-    inl here ↦ here.1
-  | inr past ↦ absurd (let f = sym past.1 ∙ e in cc) ]
+  | inl here ↦ here.1
+  | inr past ↦ absurd (let f = sym past.1 ∙ e in cc)
+]
 
 abbrev free_fault : List ℕ → List ℕ → Result (ℕ × List Ty) TypeFault
 free_fault node name = Err (faults.TypeFree node name)

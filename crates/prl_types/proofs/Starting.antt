@@ -21,17 +21,20 @@ get_push_here xs x d k e = rw e (get_or-append_seam xs x [] d)
 
 own_push : (marks : List Term) (n : ℕ) → length marks ≡ n → ((k : ℕ) → mark_of marks k ≡ terms.Parameter k) → (k : ℕ) → mark_of (marks ++ terms.Parameter n ∷ []) k ≡ terms.Parameter k
 own_push marks n count own k = elim (cases_lt k n) [
-    inl lt ↦ get_or-append marks (terms.Parameter n ∷ []) (terms.Parameter k) k (omega arith) ∙ own k
+  | inl lt ↦ get_or-append marks (terms.Parameter n ∷ []) (terms.Parameter k) k (omega arith) ∙ own k
   | inr past ↦ elim (eqb_tells k n) [
-      inl e ↦ get_push_here marks (terms.Parameter n) (terms.Parameter k) k (e.1 ∙ sym count) ∙ ap (λ j. terms.Parameter j) (sym e.1)
+    | inl e ↦ get_push_here marks (terms.Parameter n) (terms.Parameter k) k (e.1 ∙ sym count) ∙ ap (λ j. terms.Parameter j) (sym e.1)
     | inr ne ↦ let far : n < k = (let other : k ≡ n → ⊥ = ne.1 in omega arith) in
         let long : length (marks ++ terms.Parameter n ∷ []) ≡ length marks + 1 = length-append marks (terms.Parameter n ∷ []) in
-        get_or-eq_default (marks ++ terms.Parameter n ∷ []) (terms.Parameter k) (omega arith) ] ]
+        get_or-eq_default (marks ++ terms.Parameter n ∷ []) (terms.Parameter k) (omega arith)
+  ]
+]
 
 single_push : (lists : List (List ℕ)) (n : ℕ) → length lists ≡ n → ((k : ℕ) → k < n → members_at lists k ≡ k ∷ []) → (k : ℕ) → k < n + 1 → members_at (lists ++ (n ∷ []) ∷ []) k ≡ k ∷ []
 single_push lists n count single k lt = elim (cases_lt k n) [
-    inl below ↦ get_or-append lists ((n ∷ []) ∷ []) [] k (omega arith) ∙ single k below
-  | inr past ↦ let e : k ≡ n = omega arith in get_push_here lists (n ∷ []) [] k (e ∙ sym count) ∙ ap (λ j. j ∷ []) (sym e) ]
+  | inl below ↦ get_or-append lists ((n ∷ []) ∷ []) [] k (omega arith) ∙ single k below
+  | inr past ↦ let e : k ≡ n = omega arith in get_push_here lists (n ∷ []) [] k (e ∙ sym count) ∙ ap (λ j. j ∷ []) (sym e)
+]
 
 pub single_more : (marks : List Term) (members : List (Vec ℕ Global)) (v : Vec ℕ Global) (n : ℕ) → AreSingle marks (map (λ (c : Vec ℕ Global). c.items) members) n → v.items ≡ n ∷ []
     → AreSingle (marks ++ terms.Parameter n ∷ []) (map (λ (c : Vec ℕ Global). c.items) (members ++ v ∷ [])) (n + 1)
@@ -54,10 +57,11 @@ same_parameter marks own k a e = let f : terms.Parameter k ≡ terms.Parameter a
 
 only_single : {marks : List Term} {lists : List (List ℕ)} {count : ℕ} → AreSingle marks lists count → (m a : ℕ) → Contains (members_at lists a) m → (a < count) × (m ≡ a)
 only_single {marks} {lists} {count} h m a among = elim (cases_lt a count) [
-    inl lt ↦ (lt, (let g : Contains (a ∷ []) m = subst (λ (xs : List ℕ). Contains xs m) (h.single a lt) among in only_one a m g))
+  | inl lt ↦ (lt, (let g : Contains (a ∷ []) m = subst (λ (xs : List ℕ). Contains xs m) (h.single a lt) among in only_one a m g))
   | inr past ↦ let none : members_at lists a ≡ [] = get_or-eq_default lists [] (let e : length lists ≡ count = h.lists_count in omega arith) in
       let g : Contains [] m = subst (λ (xs : List ℕ). Contains xs m) none among in
-      absurd (let lt : g.0 < 0 = g.1 in omega arith) ]
+      absurd (let lt : g.0 < 0 = g.1 in omega arith)
+]
   where
     only_one : (a m : ℕ) → Contains (a ∷ []) m → m ≡ a
     only_one a m (zero, lt, e) = sym e

@@ -35,13 +35,7 @@ fn unequal(found: Option<usize>, needed: usize, at: u32) -> Option<u32>
     ensures { (n : ℕ) → found ≡ counted n → result ≡ first_place (unless_equal n needed at) }
 {
     match found {
-        Some(n) => {
-            if n == needed {
-                None
-            } else {
-                Some(at)
-            }
-        }
+        Some(n) => { if n == needed { None } else { Some(at) } }
         None => Some(at),
     }
 }

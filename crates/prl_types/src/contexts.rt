@@ -48,7 +48,11 @@ impl<'n, 'a> Model for Context<'n, 'a> {
     ghost invariant = { λ c. AreParameters c.parameters.items c.firsts.items (program_tree c.names.now) };
 }
 
-fn add_params<'a>(parameters: &mut Vec<Parameter<'a>>, node: &'a Name, params: &'a [Param]) -> Result<(), AllocError>
+fn add_params<'a>(
+    parameters: &mut Vec<Parameter<'a>>,
+    node: &'a Name,
+    params: &'a [Param],
+) -> Result<(), AllocError>
     ensures { OnOk result (map owned_of parameters.new.items ≡ map owned_of parameters.old.items ++ map (owned node.now) params.now) }
 {
     for param in params {

@@ -220,12 +220,22 @@ fn add_equations(
 {
     for equation in equations {
         let flows = expression(alloc, context, node, &equation.right, rules)?;
-        add_lefts(rules, context, node, equation.lefts.as_slice(), flows.as_slice())?;
+        add_lefts(
+            rules,
+            context,
+            node,
+            equation.lefts.as_slice(),
+            flows.as_slice(),
+        )?;
     }
     Ok(())
 }
 
-fn add_nodes(alloc: Global, rules: &mut Vec<Rule>, context: &Context<'_, '_>) -> Result<(), AllocError>
+fn add_nodes(
+    alloc: Global,
+    rules: &mut Vec<Rule>,
+    context: &Context<'_, '_>,
+) -> Result<(), AllocError>
     ensures { OnOk result (rules.new.items ≡ rules.old.items ++ nodes_rules (program_tree context.now) 0 (program_tree context.now).nodes) }
 {
     for (k, node) in context.program().nodes.as_slice().iter().enumerate() {

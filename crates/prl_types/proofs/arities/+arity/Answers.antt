@@ -43,5 +43,5 @@ parts-loop-expr-preserved t c =
     let h = c.loop-expr.invariant in
     let e = c.expr-item.result in
     parts_more p node _ _ _ (tree_of e) _ _ _ _ h (drop_trees c.args.exprs.now c.loop-expr.expr-index e c.loop-expr-test.true c.expr-item.is)
-      (c.sum-flows.ensures h.number (length (flows_of p node (tree_of e))) h.flows_are c.expression-arity.ensures.flows)
-      (c.first-fault.ensures h.faults (faults_in p node (tree_of e)) h.fault_is c.expression-arity.ensures.fault)
+    (c.sum-flows.ensures h.number (length (flows_of p node (tree_of e))) h.flows_are c.expression-arity.ensures.flows)
+    (c.first-fault.ensures h.faults (faults_in p node (tree_of e)) h.fault_is c.expression-arity.ensures.fault)

@@ -21,8 +21,8 @@ base-returns-in_ok-add_arguments-in-Apply-clause-rules t c =
     let flows = c.as_slice-in-Apply-2.ensures.value ∙ c.in_ok-flows-in-Apply.ensures.flows ∙ ap (placed_flows p node) trees in
     let middle = c.in_ok-flows-in-Apply.ensures.rules ∙ ap (λ ts. c.args.rules.now.items ++ all_rules p node ts) trees in
     rw c.in-Apply.is (application_rules c.args.rules.now.items c.parts.new.rules.items c.add_arguments.new.rules.items (all_rules p node args) _
-      (inputs_of p (callee_of p c.in-Apply.name)) c.as_slice-in-Apply.result.now (placed_flows p node args) c.as_slice-in-Apply-2.result.now
-      middle c.in_ok-add_arguments-in-Apply.ensures inputs flows whole)
+    (inputs_of p (callee_of p c.in-Apply.name)) c.as_slice-in-Apply.result.now (placed_flows p node args) c.as_slice-in-Apply-2.result.now
+    middle c.in_ok-add_arguments-in-Apply.ensures inputs flows whole)
 
 pub base-returns-in_ok-terms-in-Group-clause-flows : goal.base-returns-in_ok-terms-in-Group-clause-flows
 base-returns-in_ok-terms-in-Group-clause-flows t c =

@@ -17,4 +17,4 @@ unfolding unread
 returns-in_err-meet-clause-explains c =
     let p = err_from_is_err_and c.from_residual-in_err-meet.result c.from_residual-in_err-meet.ensures.1 in
     rw (p.1, p.2) (refused_is c.args.count c.args.rules.now c.loop-rule.rule-index unread c.in_err-meet.field-0.0 c.loop-rule-test.true
-      (c.in_err-meet.ensures.meets (take c.loop-rule.rule-index c.args.rules.now) c.loop-rule.invariant.2))
+    (c.in_err-meet.ensures.meets (take c.loop-rule.rule-index c.args.rules.now) c.loop-rule.invariant.2))

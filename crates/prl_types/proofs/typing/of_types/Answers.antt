@@ -8,4 +8,4 @@ returns-in-Free c = λ main node names.
     let free = rw c.in-Free.is at c.requires.fault in
     let q = c.index-parameters-k.result in
     open_fault p main node names c.requires.arity c.in-Free.k free.1 q
-      (owned_read p c.parameters.result.now c.in-Free.k q c.parameters.ensures free.0 c.index-parameters-k.is) c.type_free.result c.type_free.ensures
+    (owned_read p c.parameters.result.now c.in-Free.k q c.parameters.ensures free.0 c.index-parameters-k.is) c.type_free.result c.type_free.ensures

@@ -29,7 +29,7 @@ pub returns-clause-kept : goal.returns-clause-kept
 returns-clause-kept c = record {
   settled = settled_new (returns-clause-replaced c) c.requires.apart c.requires.kept.settled;
   members = members_after (returns-clause-replaced c) c.requires.apart c.requires.kept.members c.as_slice-2.result.now
-    (map (λ v. v.items) (set c.args.self.now.members.items c.args.a c.replace-members.new.dest)) _ (moved_again c)
-    (changed_is c.args.self.now.members.items c.args.a c.replace-members.new.dest [] (ap (λ v. v.items) c.replace-members.ensures.after ∙ c.new.ensures.items))
-    c.in_ok-add_members.ensures;
+      (map (λ v. v.items) (set c.args.self.now.members.items c.args.a c.replace-members.new.dest)) _ (moved_again c)
+      (changed_is c.args.self.now.members.items c.args.a c.replace-members.new.dest [] (ap (λ v. v.items) c.replace-members.ensures.after ∙ c.new.ensures.items))
+      c.in_ok-add_members.ensures;
 }
