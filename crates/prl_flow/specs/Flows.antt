@@ -43,7 +43,7 @@ value_of_operator (operators.Fby c) x values first t = if t == first then Some c
 value_of_operator (operators.Cons c) x values first t = if t == first then Some c else value_at x values t
 -- the value of x
 value_of_operator operators.Tail x values first t = value_at x values t
--- the value of x at its last date not after t
+-- what x has at the latest of its dates up to t
 value_of_operator (operators.Up k) x values first t = value_at x values t
 -- the value of x
 value_of_operator (operators.Down k) x values first t = value_at x values t

@@ -101,10 +101,10 @@ fn checked(alloc: Global, names: &Names<'_>, main: Option<&Label>) -> Result<usi
 /// Else the first fault in this order, and within a row the first in the order of the text. All nodes are looked at,
 /// also such as main does not apply.
 ///
-/// - `Twice`: a node or import, a sensor, an actuator, or a flow of one node or import is declared a second time;
-///   or a flow is defined a second time, where an input is defined by its declaration.
-/// - `Unknown`: an equation uses a name, on its left or in its expression, that is no flow of its node, or applies a
-///   name that is no node or import.
+/// - `Twice`: two declarations of one space share a name (nodes with imports, sensors, actuators, the flows of a node,
+///   the ports of an import), or a flow has two definitions, of which an input has one by its declaration.
+/// - `Unknown`: a name in an equation, on its left or in its expression, stands for no flow of the node, or what is
+///   applied is declared nowhere.
 /// - `Undefined`: an output or a local has no equation.
 /// - `Recursive`: a node applies itself, directly or through others.
 /// - `NoMain`: there is no node, or none of the name `main`.

@@ -2,7 +2,7 @@
 
 use prl_base::{Name, Ty};
 
-/// Why a program is refused, in the order in which the faults are looked for.
+/// Why a program is refused. `check_names_types` says in which order the faults are looked for.
 #[derive(Debug, Drop)]
 pub enum TypeFault {
     /// A name that is declared or defined a second time; number 11.

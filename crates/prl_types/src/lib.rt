@@ -1,8 +1,8 @@
 //! The check of a program's names, arity and types. Every node is looked at, also one that main does not apply.
 //!
-//! A program whose names are right (`prl_names`) has rules between the types of its parameters; they are listed in the
-//! order of the text and then met one by one, so that the first contradiction is found, or else the first parameter
-//! that they leave open. It stands on the syntax tree of `prl_ast`.
+//! A program whose names are right (`prl_names`) has rules between the types of its parameters; they are listed in
+//! their order (declared types first; then by the text, the parts of an expression before the whole) and met one by one,
+//! so that the first contradiction is found, or else the first parameter that they leave open. It stands on the syntax tree of `prl_ast`.
 #![tactic(auto)]
 
 mod arities;

@@ -173,10 +173,11 @@ fn check<'a>(
 ///   of argument flows than its callee has inputs (the name's place), or an equation has another number of flows on its
 ///   right than names on its left (the place of its first token): the first in the order of the text.
 /// - `Mismatch`: the first type rule that no choice of types meets together with all earlier ones, and the types that
-///   these give what is wanted and what is found. The rules are, in order: the declared types; then, node by node and
-///   equation by equation, that the constant of an operator has its operand's type (at the operator), that an argument
-///   has its parameter's type (at the first token of its expression; the parts before the whole), and that each flow on
-///   the right has the type of its left name (at that name).
+///   these give what is wanted and what is found. The declared types are the first rules. Then come the equations, node by
+///   node: in an expression the parts before the whole, the innermost operator first, all rules inside the arguments
+///   before the application's own. A constant has the type of its operator's operand (at the operator), an argument that
+///   of its parameter (at the first token of its expression), and last each flow on the right that of its left name (at
+///   that name).
 /// - `TypeFree`: the first flow, in the order of declaration, whose type the rules leave open.
 /// - `Memory`: memory ran out; this may come in place of each of the others.
 pub fn check_names_types<'a>(
