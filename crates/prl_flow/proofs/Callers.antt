@@ -1,16 +1,18 @@
 -- What callers of `evaluate` need: enough rows by their counts, and flows of a solution as actuators.
-use Rattle.std.proofs.Common.{◌≡◌, ◌<◌, ◌≤◌, ℕ, List, length, slice_get, Some, arith}
+use Rattle.std.proofs.Common.{◌≡◌, ◌<◌, ◌≤◌, ℕ, List, [], length, slice_get, Some, ap, subst, arith}
 use Rattle.prl_base.specs.Clocks.{IsClock}
 use Rattle.prl_base.specs.declared.operators.Clock.{Clock}
 use Rattle.prl_base.specs.declared.numbers.FlowNo.{FlowNo}
 use Rattle.prl_base.specs.declared.values.Value.{Value}
 use Rattle.prl_body.specs.declared.bodies.Parts.{Parts}
+use Rattle.prl_flow.specs.declared.programs.App.{App}
 use Rattle.prl_flow.specs.declared.programs.OutFlow.{OutFlow}
+use Rattle.prl_flow.specs.Applications.{HaveBodies}
 use Rattle.prl_flow.specs.Counts.{dates_before}
 use Rattle.prl_flow.specs.Flows.{IsUpTo}
 use Rattle.prl_flow.specs.Programs.{FlatProgram}
 use Rattle.prl_flow.specs.Rows.{Rows, rows_of}
-use Rattle.prl_flow.specs.Solutions.{values_of, clock_of, AreClocks, HasRows, Solves}
+use Rattle.prl_flow.specs.Solutions.{values_of, clock_of, AreClocks, HasRows, HasTypedRows, Solves}
 use Rattle.prl_flow.proofs.ClockDates.{dates_before-place, dates_before-within, length-from_IsUpTo}
 
 -- there are rows enough where no sensor has fewer than its clock has dates
@@ -45,3 +47,12 @@ up_to_from_Solves p clocks bodies rows until flows i out are_clocks solves withi
     let number : length clocks ≡ length p.flows = are_clocks.count in
     let count : length flows ≡ length p.flows = solves.count in
     rw (clock, values) (are_clocks.clock i (omega arith), solves.up_to i (omega arith))
+
+-- a program without applications needs no body
+pub HaveBodies-none : (p : FlatProgram) (bodies : List Parts) → p.apps ≡ [] → HaveBodies p bodies
+HaveBodies-none p bodies none k app found =
+    let e : slice_get [] k ≡ Some app = subst (λ (apps : List App). slice_get apps k ≡ Some app) none found in cc
+
+-- and asks for no types of rows
+pub HasTypedRows-none : (p : FlatProgram) (rows : Rows) → p.apps ≡ [] → HasTypedRows p rows
+HasTypedRows-none p rows none some = absurd (omega (arith, ap length none))

@@ -96,14 +96,7 @@ fn last_values(
         of: Seq::new(vec![in alloc; a, b, c, c]?),
     };
     let sensors = Sensors::new(vec![in alloc; Seq::new(ints(alloc, rows)?)]?);
-    let table = evaluate(
-        alloc,
-        &flat,
-        &clocks,
-        &Bodies::none(alloc),
-        &sensors,
-        until,
-    )?;
+    let table = evaluate(alloc, &flat, &clocks, &Bodies::none(alloc), &sensors, until)?;
     Ok(table.values(FlowNo(3)).to_vec(alloc)?)
 }
 
