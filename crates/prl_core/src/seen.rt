@@ -42,7 +42,7 @@ pub enum Seen {
 /// An event that breaks a rule.
 #[derive(Clone, Copy, Debug, PartialEq, Eq)]
 pub struct Illegal {
-    /// The first rule that it breaks. An act is tried against L2, then L1, then L3, and a tick against L4.
+    /// The rule that it breaks. Where an act breaks more than one, L2 goes before L1, and L1 before L3.
     pub rule: Rule,
 }
 

@@ -1,4 +1,4 @@
-ghost use Rattle.std.specs.Prelude.{◌≡◌};
+ghost use Rattle.std.specs.Prelude.{◌≡◌, codes};
 ghost use Rattle.prl_plan.specs.TwoTasks.{two_plan};
 
 use crate::{Core, Event, Illegal, Rule, Seen, Unfinished};
@@ -10,8 +10,8 @@ use std::test::Fail;
 /// Does the events of a list in which `t` is a tick, `i` an act of task 0 and `o` one of task 1, up to the first that is
 /// refused: its place, from 1, and the rule. Else the last thing that was seen.
 fn play(core: &mut Core<'_>, events: &[u8]) -> Result<Option<Seen>, (usize, Rule)>
-    requires { core.old.plan ≡ two_plan 10 1 1 }
-    ensures { core.exit.now.plan ≡ two_plan 10 1 1 }
+    requires { core.old.plan ≡ two_plan (codes "i") (codes "o") 10 1 1 }
+    ensures { core.exit.now.plan ≡ two_plan (codes "i") (codes "o") 10 1 1 }
 {
     let mut last = None;
     for (k, letter) in events.iter().enumerate() {
@@ -38,7 +38,7 @@ struct Outcome {
 
 /// Plays a list on a sensor with the rows 1 and 2 and its actuator, both of WCET 1 on period 10, until 20.
 fn outcome_of(rt: &HostRuntime, events: &[u8]) -> Result<Outcome, Fail> {
-    let plan = Plan::two(rt.alloc(), 10, 1, 1)?;
+    let plan = Plan::two(rt.alloc(), b"i", b"o", 10, 1, 1)?;
     let rows = Seq::new(vec![in rt.alloc(); Value::Int(1), Value::Int(2)]?);
     let sensors = Sensors::new(vec![in rt.alloc(); rows]?);
     let horizon = Horizon::new(&plan, 20).ok().ok_or("a small horizon")?;
@@ -86,5 +86,18 @@ fn reads_of_a_run(rt: HostRuntime) -> Result<(), Fail> {
         whole.output.as_slice(),
         [Value::Int(1), Value::Int(2)].as_slice()
     );
+    Ok(())
+}
+
+#[test]
+fn no_job_until_0(rt: HostRuntime) -> Result<(), Fail> {
+    let plan = Plan::two(rt.alloc(), b"i", b"o", 10, 1, 1)?;
+    let none = Seq::new(Vec::new(rt.alloc()));
+    let sensors = Sensors::new(vec![in rt.alloc(); none]?);
+    let horizon = Horizon::new(&plan, 0).ok().ok_or("a small horizon")?;
+    let mut core = Core::new(rt.alloc(), &plan, &sensors, horizon)?;
+    assert_eq!(rt; core.finished(), Ok(()));
+    assert_eq!(rt; play(&mut core, b"t"), Err((1, Rule::L4)));
+    assert!(rt; core.output(0).is_empty());
     Ok(())
 }

@@ -20,3 +20,4 @@ pub mod PlanFacts
 pub mod ReadPlaces
 pub mod Periods
 pub mod RoundPeriods
+pub mod JobTableLaws

@@ -104,7 +104,7 @@ module _ (plan : PlanView) (is : IsPlan plan) where
       ]
 
   -- both dates of what is read are earlier than those of its reader
-  along-at : (e i n m : ℕ) → e < length plan.graph.edges → ComesFrom (edge_at plan.graph e).from i → walk (edge_at plan.graph e).ops n ≡ operands.From m →
+  pub along-at : (e i n m : ℕ) → e < length plan.graph.edges → ComesFrom (edge_at plan.graph e).from i → walk (edge_at plan.graph e).ops n ≡ operands.From m →
       (release_at plan i m < release_at plan (edge_at plan.graph e).to.0 n) × (deadline_at plan i m < deadline_at plan (edge_at plan.graph e).to.0 n)
   along-at e i n m inside comes walks =
       let edge : Edge = edge_at plan.graph e in

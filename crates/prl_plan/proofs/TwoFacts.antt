@@ -18,7 +18,7 @@ use Rattle.prl_plan.specs.Devices.{LinksDevices}
 use Rattle.prl_plan.specs.Plans.{edge_at, reading, release_at, deadline_at, actions_of, cell_of}
 use Rattle.prl_plan.specs.Facts.{ReadsAt, WritesAt, Provides, HasPlanFacts}
 use Rattle.prl_plan.specs.Horizons.{constants_of, IsHorizon}
-use Rattle.prl_plan.specs.TwoTasks.{AreInPeriod, two_plan}
+use Rattle.prl_plan.specs.TwoTasks.{AreInPeriod, AreTwoNames, two_plan}
 use Rattle.prl_plan.proofs.Counts.{IsHorizonJob-count}
 use Rattle.prl_plan.proofs.TwoTasks.{used-all, window-one}
 
@@ -32,42 +32,42 @@ place-two m = subst (λ k. place_up_to (record { first = 0; gaps = 1 ∷ [] }) m
     found : (m : ℕ) → place_up_to (record { first = 0; gaps = 1 ∷ [] }) m (suc m) ≡ Some m
     found m = ap (λ x. cond x (Some m) (place_up_to (record { first = 0; gaps = 1 ∷ [] }) m m)) (test (used_at (record { first = 0; gaps = 1 ∷ [] }) m) m (used-all m))
 
-module _ (T a b : ℕ) (fits : AreInPeriod T a b) where
-  pub cell-two : (m : ℕ) → cell_of (two_plan T a b) 0 m ≡ 0
+module _ (p q : List ℕ) (named : AreTwoNames p q) (T a b : ℕ) (fits : AreInPeriod T a b) where
+  pub cell-two : (m : ℕ) → cell_of (two_plan p q T a b) 0 m ≡ 0
   cell-two m = omega arith
 
-  pub release-two-0 : (n : ℕ) → release_at (two_plan T a b) 0 n ≡ n * T
+  pub release-two-0 : (n : ℕ) → release_at (two_plan p q T a b) 0 n ≡ n * T
   release-two-0 n = (let w = ap (λ (w : Window). w.lead) (window-one (record { lead = 0; tail = T - b }) (pos n)) in omega (arith, w))
 
-  pub release-two-1 : (n : ℕ) → release_at (two_plan T a b) 1 n ≡ n * T + a
+  pub release-two-1 : (n : ℕ) → release_at (two_plan p q T a b) 1 n ≡ n * T + a
   release-two-1 n = (let w = ap (λ (w : Window). w.lead) (window-one (record { lead = a; tail = T }) (pos n)) in omega (arith, w))
 
-  pub deadline-two-0 : (n : ℕ) → deadline_at (two_plan T a b) 0 n ≡ n * T + (T - b)
+  pub deadline-two-0 : (n : ℕ) → deadline_at (two_plan p q T a b) 0 n ≡ n * T + (T - b)
   deadline-two-0 n = (let w = ap (λ (w : Window). w.tail) (window-one (record { lead = 0; tail = T - b }) (pos n)) in omega (arith, w))
 
-  pub deadline-two-1 : (n : ℕ) → deadline_at (two_plan T a b) 1 n ≡ n * T + T
+  pub deadline-two-1 : (n : ℕ) → deadline_at (two_plan p q T a b) 1 n ≡ n * T + T
   deadline-two-1 n = (let w = ap (λ (w : Window). w.tail) (window-one (record { lead = a; tail = T }) (pos n)) in omega (arith, w))
 
-  pub actions-two-0 : (n : ℕ) → actions_of (two_plan T a b) 0 n ≡ actions.Write (record { 0 = 0 }) n (record { 0 = 0 }) ∷ actions.End ∷ []
+  pub actions-two-0 : (n : ℕ) → actions_of (two_plan p q T a b) 0 n ≡ actions.Write (record { 0 = 0 }) n (record { 0 = 0 }) ∷ actions.End ∷ []
   actions-two-0 n =
       ap (λ (p : Option ℕ). (if is_some p then actions.Write (record { 0 = 0 }) n (record { 0 = 0 + unwrap_or p 0 % 1 }) ∷ [] else []) ++ [] ++ actions.End ∷ []) (place-two n)
       ∙ ap (λ (k : ℕ). actions.Write (record { 0 = 0 }) n (record { 0 = k }) ∷ actions.End ∷ []) (let z : 0 + n % 1 ≡ 0 = omega arith in z)
 
-  pub actions-two-1 : (n : ℕ) → actions_of (two_plan T a b) 1 n ≡ actions.Read 0 (record { 0 = 0 }) n (record { 0 = 0 }) ∷ actions.End ∷ []
+  pub actions-two-1 : (n : ℕ) → actions_of (two_plan p q T a b) 1 n ≡ actions.Read 0 (record { 0 = 0 }) n (record { 0 = 0 }) ∷ actions.End ∷ []
   actions-two-1 n = ap (λ (k : ℕ). actions.Read 0 (record { 0 = 0 }) n (record { 0 = k }) ∷ actions.End ∷ []) (cell-two n)
 
-  pub links-two : LinksDevices (two_plan T a b)
+  pub links-two : LinksDevices (two_plan p q T a b)
   links-two = record { sensor = sensor; actuator = actuator; port = port }
     where
-      sensor : (e i : ℕ) → e < 1 → ComesFrom (edge_at (two_plan T a b).graph e).from i → (k : ℕ) × ((task_at (two_plan T a b).graph i).kind ≡ kinds.Sensor k)
-      sensor zero i inside from = (0, ap (λ (x : ℕ). (task_at (two_plan T a b).graph x).kind) (sym from))
+      sensor : (e i : ℕ) → e < 1 → ComesFrom (edge_at (two_plan p q T a b).graph e).from i → (k : ℕ) × ((task_at (two_plan p q T a b).graph i).kind ≡ kinds.Sensor k)
+      sensor zero i inside from = (0, ap (λ (x : ℕ). (task_at (two_plan p q T a b).graph x).kind) (sym from))
       sensor (suc e) i inside from = absurd (omega arith)
 
-      actuator : (e : ℕ) → e < 1 → (k : ℕ) × ((task_at (two_plan T a b).graph (edge_at (two_plan T a b).graph e).to.0).kind ≡ kinds.Actuator k)
+      actuator : (e : ℕ) → e < 1 → (k : ℕ) × ((task_at (two_plan p q T a b).graph (edge_at (two_plan p q T a b).graph e).to.0).kind ≡ kinds.Actuator k)
       actuator zero inside = (0, refl)
       actuator (suc e) inside = absurd (omega arith)
 
-      port : (e n : ℕ) → e < 1 → actions_of (two_plan T a b) (edge_at (two_plan T a b).graph e).to.0 n
-          ≡ reading (two_plan T a b) e (edge_at (two_plan T a b).graph e) (operand_of (edge_at (two_plan T a b).graph e) n) ∷ actions.End ∷ []
+      port : (e n : ℕ) → e < 1 → actions_of (two_plan p q T a b) (edge_at (two_plan p q T a b).graph e).to.0 n
+          ≡ reading (two_plan p q T a b) e (edge_at (two_plan p q T a b).graph e) (operand_of (edge_at (two_plan p q T a b).graph e) n) ∷ actions.End ∷ []
       port zero n inside = refl
       port (suc e) n inside = absurd (omega arith)

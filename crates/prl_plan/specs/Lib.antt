@@ -5,6 +5,7 @@ pub mod Graphs
 pub mod Dates
 pub mod Cells
 pub mod Plans
+pub mod JobTables
 pub mod Runs
 pub mod Rules
 pub mod Facts

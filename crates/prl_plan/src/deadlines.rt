@@ -76,7 +76,10 @@ pub fn following_jobs(ops: &[Op], m: i64) -> Option<Interval>
 fn count_of(interval: Interval) -> Option<u64>
     ensures { MatchOption result (¬ (CountFits interval)) (λ n. n ≡ count_in interval) }
 {
-    let count = interval.highest.checked_sub(interval.lowest)?.checked_add(1)?;
+    let count = interval
+        .highest
+        .checked_sub(interval.lowest)?
+        .checked_add(1)?;
     if count >= 0 {
         Some(count as u64)
     } else {

@@ -12,6 +12,7 @@ ghost use Rattle.prl_plan.specs.Precedence.{preceding, ComesFrom};
 ghost use Rattle.prl_plan.specs.Jobs.{task_at, job_count, IsHorizonJob};
 ghost use Rattle.prl_plan.specs.Plans.{PlanView, IsPlan, edge_at, place_on, cell_of, reading, actions_of, IsActionOf};
 ghost use Rattle.prl_plan.specs.Facts.{HasPlanFacts};
+ghost use Rattle.prl_plan.specs.JobTables.{TableRow, IsJobTable};
 ghost use Rattle.prl_plan.specs.Devices.{LinksDevices};
 ghost use Rattle.prl_plan.specs.Horizons.{IsHorizon, constants_of};
 
@@ -52,6 +53,15 @@ pub fn operands_are_of_horizon_jobs()
     ensures { (graph : TaskGraph) → IsWellFormed graph → (until e i n m : ℕ) → e < length graph.edges →
         ComesFrom (edge_at graph e).from i → IsHorizonJob graph until (edge_at graph e).to.0 n →
         operand_of (edge_at graph e) n ≡ operands.From m → IsHorizonJob graph until i m }
+{}
+
+/// In a job table, the job that gives an instance stands before each job that reads it.
+pub fn operands_stand_earlier()
+    ensures { (plan : PlanView) → IsPlan plan → (until : ℕ) (table : List TableRow) → IsJobTable plan until table →
+        (k : ℕ) (row : TableRow) → slice_get table k ≡ Some row → (e i m : ℕ) → e < length plan.graph.edges →
+        (edge_at plan.graph e).to.0 ≡ row.task → ComesFrom (edge_at plan.graph e).from i →
+        operand_of (edge_at plan.graph e) row.job ≡ operands.From m →
+        (l : ℕ) × (earlier : TableRow) × (l < k) × (slice_get table l ≡ Some earlier) × (earlier.task ≡ i) × (earlier.job ≡ m) }
 {}
 
 /// What the jobs of every plan keep, in each of its horizons.

@@ -10,7 +10,10 @@ ghost use Rattle.prl_plan.specs.Deadlines.{deadlines_after, AreFixedDeadlines};
 ghost use Rattle.prl_plan.specs.Dates.{AreLeastReleases, AreGreatestDeadlines};
 ghost use Rattle.prl_plan.specs.FixedPoints.{period_jobs, IsFixed, DatesFit, AreFixed, AllFit};
 
-use crate::{AnyJob, TaskGraph, deadline_after, release_after, rounds_reach_the_greatest_deadlines, rounds_reach_the_least_releases};
+use crate::{
+    AnyJob, TaskGraph, deadline_after, release_after, rounds_reach_the_greatest_deadlines,
+    rounds_reach_the_least_releases,
+};
 use prl_base::TaskNo;
 
 /// Whether a further round changes neither date of the job. `None` exactly where a number does not fit.

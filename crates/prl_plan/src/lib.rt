@@ -18,11 +18,14 @@ mod tables;
 mod tests;
 mod walks;
 
-pub use deadlines::{Interval, deadline_after, following_jobs, rounds_reach_the_greatest_deadlines};
+pub use deadlines::{
+    Interval, deadline_after, following_jobs, rounds_reach_the_greatest_deadlines,
+};
 pub use events::{Action, Event, Rule};
 pub use facts::{
     actions_are_as_defined, horizon_jobs_are_counted, operands_are_of_horizon_jobs,
-    operands_precede, plan_facts, plan_is_one, plan_links_devices, plans_keep_facts,
+    operands_precede, operands_stand_earlier, plan_facts, plan_is_one, plan_links_devices,
+    plans_keep_facts,
 };
 pub use fixed_points::{hyperperiod_decides, rounds_reach_dates};
 pub use graphs::{Edge, Kind, Producer, Task, TaskGraph};

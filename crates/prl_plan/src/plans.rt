@@ -6,7 +6,7 @@ ghost use Rattle.prl_plan.specs.Operands.{operand_of};
 ghost use Rattle.prl_plan.specs.Dates.{encoded_release, encoded_deadline};
 ghost use Rattle.prl_plan.specs.Cells.{IsUsed};
 ghost use Rattle.prl_plan.specs.Plans.{IsPlan, edge_at, release_at, deadline_at, place_on, cell_of, actions_of, IsSmallOperand, ComesFromTask};
-ghost use Rattle.prl_plan.specs.TwoTasks.{AreInPeriod, two_plan, IsTwo};
+ghost use Rattle.prl_plan.specs.TwoTasks.{AreInPeriod, AreTwoNames, two_plan, IsTwo};
 ghost use Rattle.prl_plan.specs.Jobs.{task_at, job_count};
 
 use crate::{Action, Edge, Kind, Operand, Producer, Task, TaskGraph};
@@ -29,11 +29,13 @@ impl Model for Plan {
 
     ghost Value = { PlanView };
 
-    ghost use Rattle.prl_plan.specs.TwoTasks.{AreInPeriod, two_graph, two_plan};
+    ghost use Rattle.prl_plan.specs.Jobs.{task_at};
+    ghost use Rattle.prl_plan.specs.TwoTasks.{AreInPeriod, AreTwoNames, two_graph, two_plan};
 
-    ghost view = { λ p. two_plan p.period p.wcet_in p.wcet_out };
+    ghost view = { λ p. two_plan (task_at p.graph 0).name (task_at p.graph 1).name p.period p.wcet_in p.wcet_out };
 
-    ghost invariant = { λ p. (p.graph ≡ two_graph p.period p.wcet_in p.wcet_out) × AreInPeriod p.period p.wcet_in p.wcet_out };
+    ghost invariant = { λ p. (p.graph ≡ two_graph (task_at p.graph 0).name (task_at p.graph 1).name p.period p.wcet_in p.wcet_out)
+        × AreInPeriod p.period p.wcet_in p.wcet_out × AreTwoNames (task_at p.graph 0).name (task_at p.graph 1).name };
 }
 
 fn make_task(
@@ -55,15 +57,23 @@ fn make_task(
 }
 
 impl Plan {
-    /// The plan of a sensor task `i` and an actuator task `o` on the clock of this period, in ticks, from 0 on, with one
-    /// edge between them and one cell. The WCETs are in ticks.
-    pub fn two(alloc: Global, period: u64, wcet_in: u32, wcet_out: u32) -> Result<Plan, AllocError>
-        requires { AreInPeriod period wcet_in wcet_out }
-        ensures value { IfOk result (λ plan. plan ≡ two_plan period wcet_in wcet_out) }
+    /// The plan of a sensor task and an actuator task of these names on the clock of this period, in ticks, from 0 on, with
+    /// one edge between them and one cell. The WCETs are in ticks.
+    pub fn two(
+        alloc: Global,
+        name_in: &[u8],
+        name_out: &[u8],
+        period: u64,
+        wcet_in: u32,
+        wcet_out: u32,
+    ) -> Result<Plan, AllocError>
+        requires names { AreTwoNames name_in.now name_out.now }
+        requires period { AreInPeriod period wcet_in wcet_out }
+        ensures value { IfOk result (λ plan. plan ≡ two_plan name_in.now name_out.now period wcet_in wcet_out) }
         ensures plan { IfOk result IsPlan }
     {
-        let sensor = make_task(alloc, b"i", Kind::Sensor(0), period, wcet_in)?;
-        let actuator = make_task(alloc, b"o", Kind::Actuator(0), period, wcet_out)?;
+        let sensor = make_task(alloc, name_in, Kind::Sensor(0), period, wcet_in)?;
+        let actuator = make_task(alloc, name_out, Kind::Actuator(0), period, wcet_out)?;
         let edge = Edge {
             from: Producer::Port {
                 task: TaskNo(0),

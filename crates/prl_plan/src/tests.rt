@@ -9,7 +9,7 @@ use std::test::Fail;
 // A sensor task and an actuator task on period 10, both with WCET 1.
 #[test]
 fn dates_and_cells_of_two_tasks(rt: HostRuntime) -> Result<(), Fail> {
-    let plan = Plan::two(rt.alloc(), 10, 1, 1)?;
+    let plan = Plan::two(rt.alloc(), b"i", b"o", 10, 1, 1)?;
     assert_eq!(rt; plan.release(TaskNo(0), 2), 20);
     assert_eq!(rt; plan.release(TaskNo(1), 2), 21);
     assert_eq!(rt; plan.deadline(TaskNo(0), 0), 9);
@@ -27,7 +27,7 @@ fn dates_and_cells_of_two_tasks(rt: HostRuntime) -> Result<(), Fail> {
 
 #[test]
 fn horizons_of_two_tasks(rt: HostRuntime) -> Result<(), Fail> {
-    let plan = Plan::two(rt.alloc(), 10, 1, 1)?;
+    let plan = Plan::two(rt.alloc(), b"i", b"o", 10, 1, 1)?;
     let horizon = Horizon {
         until: 20,
         end: 20,

@@ -49,8 +49,8 @@ events_from names k (line ∷ next ∷ lines) = do
   events ← events_from names (k + 1) (next ∷ lines)
   Ok (event ∷ events)
 
--- The events of a schedule, a line each, of the tasks of these names; or the first line that is no event. A line ends
--- with a line feed, before which a carriage return may stand; the end of the last line may be missing.
+-- The events that the lines of a text name, where each line names one of these tasks or a tick; else the first line that does
+-- not. One carriage return before a line feed belongs to the end of its line, and the text may stop without a last line feed.
 abbrev pub schedule_of : List (List ℕ) → List ℕ → Result (List Event) ScheduleFault
 schedule_of names text = events_from names 1 (lines_of text)
 

@@ -1,6 +1,6 @@
 //! Worked schedules of a sensor `i` and its actuator `o`, both of WCET 1 on period 10, with the rows 1 and 2, until 20.
 
-ghost use Rattle.std.specs.Prelude.{◌≡◌, All, IfOk, length};
+ghost use Rattle.std.specs.Prelude.{◌≡◌, All, IfOk, codes, length};
 ghost use Rattle.prl_plan.specs.TwoTasks.{two_plan};
 ghost use Rattle.prl_replay.specs.Schedules.{IsOfTasks};
 
@@ -31,15 +31,15 @@ fn events_of(alloc: Global, text: &str) -> Result<Result<Vec<Event>, ScheduleFau
 
 /// The replay of events on the machine of the plan.
 fn replayed(alloc: Global, core: &mut Core<'_>, events: &[Event]) -> Result<Vec<Seen>, ReplayFault>
-    requires plan { core.old.plan ≡ two_plan 10 1 1 }
+    requires plan { core.old.plan ≡ two_plan (codes "i") (codes "o") 10 1 1 }
     requires events { All (IsOfTasks 2) events.now }
 {
     replay(alloc, core, events)
 }
 
-/// What the replay of a text comes to.
+/// What the replay of a text until 20 comes to.
 fn outcome_of(alloc: Global, text: &str) -> Result<Result<Vec<Seen>, ReplayFault>, Fail> {
-    let plan = Plan::two(alloc, 10, 1, 1)?;
+    let plan = Plan::two(alloc, b"i", b"o", 10, 1, 1)?;
     let rows = Seq::new(vec![in alloc; Value::Int(1), Value::Int(2)]?);
     let sensors = Sensors::new(vec![in alloc; rows]?);
     let horizon = Horizon::new(&plan, 20).ok().ok_or("a small horizon")?;
@@ -124,5 +124,20 @@ fn lines_of_schedules(rt: HostRuntime) -> Result<(), Fail> {
         let found = events_of(alloc, text)?.err().ok_or("a fault")?;
         assert_eq!(rt; found, ScheduleFault::Syntax(line), "{text}");
     }
+    Ok(())
+}
+
+#[test]
+fn nothing_until_0(rt: HostRuntime) -> Result<(), Fail> {
+    let alloc = rt.alloc();
+    let plan = Plan::two(alloc, b"i", b"o", 10, 1, 1)?;
+    let sensors = Sensors::new(vec![in alloc; Seq::new(Vec::new(alloc))]?);
+    let horizon = Horizon::new(&plan, 0).ok().ok_or("a small horizon")?;
+    let mut core = Core::new(alloc, &plan, &sensors, horizon)?;
+    let events = events_of(alloc, "")?.ok().ok_or("a schedule")?;
+    let reads = replayed(alloc, &mut core, &events)
+        .ok()
+        .ok_or("a whole run")?;
+    assert!(rt; reads.is_empty());
     Ok(())
 }

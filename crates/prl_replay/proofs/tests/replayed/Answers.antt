@@ -1,5 +1,5 @@
 use Rattle.std.proofs.Common.{sym, subst}
-use Rattle.std.specs.Prelude.{All}
+use Rattle.std.specs.Prelude.{All, codes}
 use Rattle.prl_core.specs.Machine.{IsOfPlan}
 use Rattle.prl_plan.specs.Plans.{PlanView}
 use Rattle.prl_plan.specs.TwoTasks.{two_plan}
@@ -9,7 +9,7 @@ use Rattle.prl_replay.specs.Schedules.{IsOfTasks}
 use Rattle.prl_replay.proofs.tests.replayed.Goals as goal
 
 -- an event of two tasks is one of the plan of two tasks
-of_plan : (event : Event) → IsOfTasks 2 event → IsOfPlan (two_plan 10 1 1) event
+of_plan : (event : Event) → IsOfTasks 2 event → IsOfPlan (two_plan (codes "i") (codes "o") 10 1 1) event
 of_plan events.Tick h = tt
 of_plan (events.Act task) h = h
 
