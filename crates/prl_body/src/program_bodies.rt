@@ -37,6 +37,15 @@ impl Model for Bodies {
 }
 
 impl Bodies {
+    /// No body at all. Takes no memory.
+    pub fn none(alloc: Global) -> Bodies
+        ensures { result ≡ [] }
+    {
+        Bodies {
+            bodies: Vec::new(alloc),
+        }
+    }
+
     /// The body of this name; none where there is no such body. Takes no memory.
     pub fn of(&self, name: &Name) -> Option<&Body>
         ensures { option_copied result ≡ body_named self.now name.now }

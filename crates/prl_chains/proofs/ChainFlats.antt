@@ -9,14 +9,14 @@ use Rattle.prl_base.specs.Clocks.{IsClock}
 use Rattle.prl_base.specs.declared.operators.Clock.{Clock}
 use Rattle.prl_base.specs.declared.numbers.FlowNo.{FlowNo}
 use Rattle.prl_base.specs.declared.values.Ty.TheVariants as types
-use Rattle.prl_flow.specs.Programs.{IsFlat, HasType, IsWellDefined, IsInput, IsFactor}
+use Rattle.prl_flow.specs.declared.programs.App.{App}
+use Rattle.prl_flow.specs.Programs.{FlatProgram, IsFlat, HasType, IsWellDefined, IsInput, IsFactor}
 use Rattle.prl_flow.specs.Programs as programs
 use Rattle.prl_flow.specs.Solutions.{AgreesClock, UsesBelow, clock_of}
 use Rattle.prl_flow.specs.declared.programs.Flow.{Flow}
 use Rattle.prl_flow.specs.declared.programs.Def.TheVariants as definitions
 use Rattle.prl_flow.specs.declared.programs.Def.{Def}
 use Rattle.prl_flow.proofs.Lists.{element_at}
-use Rattle.prl_chains.specs.declared.chains.Chain.{Chain}
 use Rattle.prl_chains.specs.declared.links.Link.{Link}
 use Rattle.prl_chains.specs.Links.{link_clock, flow_named, IsLinked}
 use Rattle.prl_chains.specs.Chains.{flat_chain, link_flow}
@@ -73,6 +73,7 @@ well_defined : (sensor actuator : Device) (links : List Link) (i : ℕ) (l : Lin
 well_defined sensor actuator links i l (definitions.Sensor k) found linked = rw (linked.0, linked.1) refl
 well_defined sensor actuator links i l (definitions.Copy of) found linked = int_before sensor actuator links i l of found linked.0
 well_defined sensor actuator links i l (definitions.Const v) found linked = absurd linked
+well_defined sensor actuator links i l (definitions.Apply app out) found linked = absurd linked
 well_defined sensor actuator links i l (definitions.Op op of) found linked = (int_before sensor actuator links i l of found linked.0, linked.1)
 
 -- the first flow is the sensor's
@@ -80,6 +81,7 @@ first_def : (clocks : List Clock) (c : Clock) (def : Def) → IsLinked clocks 0 
 first_def clocks c (definitions.Sensor k) linked = ap definitions.Sensor linked.1
 first_def clocks c (definitions.Copy of) linked = let none : ⊥ = omega (arith, linked.0) in absurd none
 first_def clocks c (definitions.Const v) linked = absurd linked
+first_def clocks c (definitions.Apply app out) linked = absurd linked
 first_def clocks c (definitions.Op op of) linked = let none : ⊥ = omega (arith, linked.0) in absurd none
 
 is_input : (sensor actuator : Device) (links : List Link) → AreBetween sensor actuator links → IsInput (flat_chain sensor actuator links).flat 0 (record { 0 = 0 })
@@ -97,6 +99,7 @@ IsFlat-chain sensor actuator links h = record {
   );
   flows = at_each link_flow (λ i (flow : Flow). IsWellDefined (flat_chain sensor actuator links).flat i flow.ty flow.def) links
       (λ i l found. well_defined sensor actuator links i l l.def found (h.linked.each i l found).linked);
+  apps = λ k app found. cc;
   ins = at_one (λ k (flow : FlowNo). IsInput (flat_chain sensor actuator links).flat k flow) (record { 0 = 0 }) (is_input sensor actuator links h);
   outs = at_one (λ k (flow : FlowNo). flow.0 < length (map link_flow links)) (record { 0 = flow_named links actuator.name }) (omega (arith, h.out, length-map links link_flow));
   few = omega (arith, h.few, length-map links link_flow);
@@ -104,23 +107,25 @@ IsFlat-chain sensor actuator links h = record {
 
 -- the same for lists that were made one by one
 pub IsFlat-made : (sensor actuator : Device) (links : List Link) → AreBetween sensor actuator links
-    → (flows : List Flow) (ins outs : List FlowNo) (sensors actuators : List programs.Device)
-    → flows ≡ (flat_chain sensor actuator links).flat.flows → ins ≡ (flat_chain sensor actuator links).flat.ins → outs ≡ (flat_chain sensor actuator links).flat.outs
+    → (flows : List Flow) (apps : List App) (ins outs : List FlowNo) (sensors actuators : List programs.Device)
+    → flows ≡ (flat_chain sensor actuator links).flat.flows → apps ≡ [] → ins ≡ (flat_chain sensor actuator links).flat.ins → outs ≡ (flat_chain sensor actuator links).flat.outs
     → sensors ≡ (flat_chain sensor actuator links).flat.in_devices → actuators ≡ (flat_chain sensor actuator links).flat.out_devices
-    → IsFlat (record { flows = flows; ins = ins; outs = outs; in_devices = sensors; out_devices = actuators })
-IsFlat-made sensor actuator links h flows ins outs sensors actuators e f g k l = rw (e, f, g, k, l) (IsFlat-chain sensor actuator links h)
+    → IsFlat (record { flows = flows; apps = apps; ins = ins; outs = outs; in_devices = sensors; out_devices = actuators })
+IsFlat-made sensor actuator links h flows apps ins outs sensors actuators e a f g k l = rw (e, a, f, g, k, l) (IsFlat-chain sensor actuator links h)
 
 clock_agrees : (clocks : List Clock) (i : ℕ) (c : Clock) (def : Def) → IsLinked clocks i c def → AgreesClock clocks c def
 clock_agrees clocks i c (definitions.Sensor k) linked = tt
 clock_agrees clocks i c (definitions.Copy of) linked = linked.1
 clock_agrees clocks i c (definitions.Const v) linked = tt
+clock_agrees clocks i c (definitions.Apply app out) linked = tt
 clock_agrees clocks i c (definitions.Op op of) linked = linked.2
 
-uses_below : (clocks : List Clock) (i : ℕ) (c : Clock) (def : Def) → IsLinked clocks i c def → UsesBelow i def
-uses_below clocks i c (definitions.Sensor k) linked = tt
-uses_below clocks i c (definitions.Copy of) linked = linked.0
-uses_below clocks i c (definitions.Const v) linked = tt
-uses_below clocks i c (definitions.Op op of) linked = linked.0
+uses_below : (p : FlatProgram) (clocks : List Clock) (i : ℕ) (c : Clock) (def : Def) → IsLinked clocks i c def → UsesBelow p i def
+uses_below p clocks i c (definitions.Sensor k) linked = tt
+uses_below p clocks i c (definitions.Copy of) linked = linked.0
+uses_below p clocks i c (definitions.Const v) linked = tt
+uses_below p clocks i c (definitions.Apply app out) linked = absurd linked
+uses_below p clocks i c (definitions.Op op of) linked = linked.0
 
 -- each clock is that of a flow
 each_clock : (sensor actuator : Device) (links : List Link) → AreBetween sensor actuator links → (P : Clock → Type 0)
@@ -142,9 +147,11 @@ IsChain-flat sensor actuator links h = record {
     count = length-map links link_clock ∙ sym (length-map links link_flow);
     clock = each_clock sensor actuator links h IsClock (λ l factor. factor.0);
     agree = at_each link_flow (λ i (flow : Flow). AgreesClock (map link_clock links) (clock_of (map link_clock links) i) flow.def) links (agrees sensor actuator links h);
+    apps = λ k app found. cc;
   };
-  ordered = at_each link_flow (λ i (flow : Flow). UsesBelow i flow.def) links
-      (λ i l found. uses_below (map link_clock links) i (link_clock l) l.def (h.linked.each i l found).linked);
+  no_application = refl;
+  ordered = at_each link_flow (λ i (flow : Flow). UsesBelow (flat_chain sensor actuator links).flat i flow.def) links
+      (λ i l found. uses_below (flat_chain sensor actuator links).flat (map link_clock links) i (link_clock l) l.def (h.linked.each i l found).linked);
   ins = refl;
   outs = refl;
   types_are = at_each link_flow (λ i (flow : Flow). flow.ty ≡ types.Int) links (λ i l found. refl);

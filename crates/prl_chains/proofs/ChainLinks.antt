@@ -1,5 +1,5 @@
 -- Flows that stand one behind the other.
-use Rattle.std.proofs.Common.{◌≡◌, ℕ, ◌+◌, ◌<◌, ◌≤◌, zero, suc, List, [], ◌∷◌, ◌++◌, length, map, Option, Some, None, slice_get, refl, sym, ap, ◌∙◌, subst, arith, length-append, below_more, drop, get_or, drop-cons, add-one}
+use Rattle.std.proofs.Common.{◌≡◌, ℕ, ◌+◌, ◌<◌, ◌≤◌, zero, suc, List, [], ◌∷◌, ◌++◌, length, map, Option, Some, slice_get, refl, sym, ap, ◌∙◌, subst, arith, length-append, below_more, drop, get_or, drop-cons, add-one}
 use Rattle.std.specs.Option.{option_map}
 use Rattle.std.proofs.lemmas.List.{get_or_append_left, map-append, length-map}
 use Rattle.std.proofs.lemmas.Option.{slice_get-map, slice_get_within, get_or_from_slice_get}
@@ -58,6 +58,7 @@ IsLinked-more clocks more i c (definitions.Sensor k) within linked = linked
 IsLinked-more clocks more i c (definitions.Copy of) within linked =
     (linked.0, linked.1 ∙ sym (get_or_append_left clocks more (record { period = 1; start = 0 }) of.0 (omega (arith, linked.0))))
 IsLinked-more clocks more i c (definitions.Const v) within linked = linked
+IsLinked-more clocks more i c (definitions.Apply app out) within linked = linked
 IsLinked-more clocks more i c (definitions.Op op of) within linked = (
   linked.0,
   linked.1,

@@ -1,11 +1,14 @@
 -- Chains of copies hand the input on.
-use Rattle.std.proofs.Common.{◌≡◌, ℕ, ◌<◌, zero, suc, Bool, true, false, ◌&&◌, List, [], ◌∷◌, length, Some, IsTrue, refl, ap, ◌∙◌, subst, arith}
-use Rattle.std.specs.Prelude.{slice_get}
+use Rattle.std.proofs.Common.{◌≡◌, ℕ, ◌<◌, zero, suc, List, [], ◌∷◌, length, Some, IsTrue, refl, ap, ◌∙◌, subst, arith}
+use Rattle.std.specs.Prelude.{None, slice_get}
 use Rattle.std.specs.List.{list_all}
 use Rattle.prl_base.specs.declared.numbers.FlowNo.{FlowNo}
 use Rattle.prl_base.specs.declared.values.Value.{Value}
 use Rattle.prl_flow.specs.Rows.{Rows}
-use Rattle.prl_flow.specs.Solutions.{Solves, AgreesClock, UsesBelow, MeetsDefinition, clock_of, values_of}
+use Rattle.prl_body.specs.declared.bodies.Parts.{Parts}
+use Rattle.prl_flow.specs.declared.programs.App.{App}
+use Rattle.prl_flow.specs.Applications.{HaveBodies}
+use Rattle.prl_flow.specs.Solutions.{HasTypedRows, Solves, AgreesClock, UsesBelow, MeetsDefinition, clock_of, values_of}
 use Rattle.prl_flow.specs.declared.programs.Flow.{Flow}
 use Rattle.prl_flow.specs.declared.programs.Def.TheVariants as definitions
 use Rattle.prl_flow.specs.declared.programs.Def.{Def}
@@ -32,6 +35,7 @@ copied : (def : Def) → IsTrue (is_copy def) → (of : FlowNo) × (def ≡ defi
 copied (definitions.Copy of) h = (of, refl)
 copied (definitions.Sensor k) h = cc
 copied (definitions.Const v) h = cc
+copied (definitions.Apply app out) h = cc
 copied (definitions.Op op of) h = cc
 
 -- the flow is a copy of one before it
@@ -46,7 +50,7 @@ is_copied : (c : Chain) → IsChain c → IsTrue (is_relay c) → (i : ℕ) → 
 is_copied c h relay i within =
     let (flow, found) = element_at c.flat.flows (suc i) within in
     let (of, is) = copied flow.def (copy_behind c.flat.flows relay i flow found) in
-    record { flow = flow; of = of; at = found; def = is; below = subst (UsesBelow (suc i)) is (h.ordered (suc i) flow found) }
+    record { flow = flow; of = of; at = found; def = is; below = subst (UsesBelow c.flat (suc i)) is (h.ordered (suc i) flow found) }
 
 -- what holds of a number where it holds of all below it holds of each
 from_below : (P : ℕ → Type 0) → ((i : ℕ) → ((j : ℕ) → j < i → P j) → P i) → (n i : ℕ) → i < n → P i
@@ -63,25 +67,36 @@ same_clock c h relay (suc i) before within =
     subst (AgreesClock c.clocks.of (clock_of c.clocks.of (suc i))) s.def (h.clocks.agree (suc i) s.flow s.at) in
     agrees ∙ before s.of.0 s.below (omega (arith, s.below, within))
 
-same_values : (c : Chain) → IsChain c → IsTrue (is_relay c) → (rows : Rows) (until : ℕ) (flows : List (List Value)) → Solves c.flat c.clocks.of rows until flows → (i : ℕ)
+same_values : (c : Chain) → IsChain c → IsTrue (is_relay c) → (bodies : List Parts) (rows : Rows) (until : ℕ) (flows : List (List Value)) → Solves c.flat c.clocks.of bodies rows until flows → (i : ℕ)
     → ((j : ℕ) → j < i → j < length flows → values_of flows j ≡ values_of flows 0)
     → i < length flows → values_of flows i ≡ values_of flows 0
-same_values c h relay rows until flows solved zero before within = refl
-same_values c h relay rows until flows solved (suc i) before within =
+same_values c h relay bodies rows until flows solved zero before within = refl
+same_values c h relay bodies rows until flows solved (suc i) before within =
     let s = is_copied c h relay i (omega (arith, within, solved.count)) in
     let meets : values_of flows (suc i) ≡ values_of flows s.of.0 =
-    subst (MeetsDefinition c.clocks.of rows until flows (clock_of c.clocks.of (suc i)) (values_of flows (suc i))) s.def (solved.meets (suc i) s.flow s.at) in
+    subst (MeetsDefinition c.flat c.clocks.of bodies rows until flows (clock_of c.clocks.of (suc i)) (values_of flows (suc i))) s.def (solved.meets (suc i) s.flow s.at) in
     meets ∙ before s.of.0 s.below (omega (arith, s.below, within))
 
-all_values : (c : Chain) → IsChain c → IsTrue (is_relay c) → (rows : Rows) (until : ℕ) (flows : List (List Value)) → Solves c.flat c.clocks.of rows until flows
+all_values : (c : Chain) → IsChain c → IsTrue (is_relay c) → (bodies : List Parts) (rows : Rows) (until : ℕ) (flows : List (List Value)) → Solves c.flat c.clocks.of bodies rows until flows
     → (i : ℕ) → i < length flows → values_of flows i ≡ values_of flows 0
-all_values c h relay rows until flows solved i within =
-    from_below (λ j. j < length flows → values_of flows j ≡ values_of flows 0) (same_values c h relay rows until flows solved) (length flows) i within within
+all_values c h relay bodies rows until flows solved i within =
+    from_below (λ j. j < length flows → values_of flows j ≡ values_of flows 0) (same_values c h relay bodies rows until flows solved) (length flows) i within within
 
 pub HandsOn-copies : (c : Chain) → IsChain c → IsTrue (is_relay c) → HandsOn c
 HandsOn-copies c h relay = record {
   clocks = λ i within. from_below (λ j. j < length c.clocks.of → clock_of c.clocks.of j ≡ clock_of c.clocks.of 0) (same_clock c h relay) (length c.clocks.of) i within within;
   values = all_values c h relay;
-  outputs = λ rows until flows solved k flow found.
-      all_values c h relay rows until flows solved flow.0 (omega (arith, h.flat.outs k flow found, solved.count));
+  outputs = λ bodies rows until flows solved k flow found.
+      all_values c h relay bodies rows until flows solved flow.0 (omega (arith, h.flat.outs k flow found, solved.count));
 }
+
+no_application : (c : Chain) → IsChain c → (k : ℕ) (app : App) → slice_get c.flat.apps k ≡ Some app → ⊥
+no_application c h k app found =
+    let none : slice_get c.flat.apps k ≡ None = ap (λ (apps : List App). slice_get apps k) h.no_application in
+    cc
+
+pub bodies-none : (c : Chain) → IsChain c → (bodies : List Parts) → HaveBodies c.flat bodies
+bodies-none c h bodies k app found = absurd (no_application c h k app found)
+
+pub rows-none : (c : Chain) → IsChain c → (rows : Rows) → HasTypedRows c.flat rows
+rows-none c h rows some = let none : ⊥ = omega (arith, some, ap (λ (apps : List App). length apps) h.no_application) in absurd none

@@ -69,6 +69,7 @@ abbrev pub flat_chain : Device → Device → List Link → Chain
 flat_chain sensor actuator links = record {
   flat = record {
     flows = map link_flow links;
+    apps = [];
     ins = record { 0 = 0 } ∷ [];
     outs = record { 0 = flow_named links actuator.name } ∷ [];
     in_devices = (sensor.name, sensor.wcet) ∷ [];

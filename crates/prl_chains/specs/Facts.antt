@@ -24,6 +24,7 @@ pub record IsChain (c : Chain) : Type 0 where
   pub flat : IsFlat c.flat
   pub clocks : AreClocks c.flat c.clocks.of
   pub ordered : IsOrdered c.flat
+  pub no_application : c.flat.apps ≡ []
   pub ins : c.flat.ins ≡ record { 0 = 0 } ∷ []
   pub outs : length c.flat.outs ≡ 1
   pub types_are : (i : ℕ) (flow : Flow) → slice_get c.flat.flows i ≡ Some flow → flow.ty ≡ types.Int

@@ -61,6 +61,7 @@ abbrev pub IsLinked : List Clock → ℕ → Clock → Def → Type 0
 IsLinked clocks i c (definitions.Sensor k) = (i ≡ 0) × (k ≡ 0)
 IsLinked clocks i c (definitions.Copy of) = (of.0 < i) × (c ≡ clock_of clocks of.0)
 IsLinked clocks i c (definitions.Const v) = ⊥
+IsLinked clocks i c (definitions.Apply app out) = ⊥
 IsLinked clocks i c (definitions.Op op of) =
     (of.0 < i) × FitsType types.Int op × IsResultClock op (clock_of clocks of.0) c
 

@@ -19,7 +19,7 @@ use crate::options::the_one;
 use crate::rights::is_factor;
 use prl_ast::{Device, Node, Param, Program, Rate};
 use prl_base::{Clock, FlowNo, Name, Seq, Ty};
-use prl_flow::{Clocks, Def, Flat, Flow};
+use prl_flow::{App, Clocks, Def, Flat, Flow};
 use std::alloc::{AllocError, Global};
 
 /// The flat program of a chain, with the clocks of its flows. The flow 0 is the input's, and each other one that
@@ -53,7 +53,7 @@ fn is_copy(def: Def) -> bool
     match def {
         Def::Copy(_) => true,
         Def::Sensor(_) => false,
-        Def::Const(_) => false,
+        Def::Const(_) | Def::Apply { .. } => false,
         Def::Op { .. } => false,
     }
 }
@@ -250,6 +250,13 @@ fn one_device(alloc: Global, device: &Device) -> Result<Vec<(Name, u32)>, AllocE
     one(alloc, (device.name.copy(alloc)?, device.wcet))
 }
 
+/// No application.
+fn no_apps(alloc: Global) -> Seq<App>
+    ensures { result ≡ [] }
+{
+    Seq::new(Vec::new(alloc))
+}
+
 /// The flat program of flows between these devices.
 fn flat_of(
     alloc: Global,
@@ -265,7 +272,7 @@ fn flat_of(
     let outs = one_flow(alloc, FlowNo(flow_named(links, &actuator.name) as u32))?;
     let sensors = one_device(alloc, sensor)?;
     let actuators = one_device(alloc, actuator)?;
-    Ok(Flat::new(flows, ins, outs, sensors, actuators))
+    Ok(Flat::new(flows, no_apps(alloc), ins, outs, sensors, actuators))
 }
 
 /// The chain of flows between these devices.

@@ -23,6 +23,7 @@ pub record AreChain (first second : Op) (f0 f1 f2 f3 : Flow) : Type 0 where
 abbrev pub program : Flow → Flow → Flow → Flow → FlatProgram
 program f0 f1 f2 f3 = record {
   flows = f0 ∷ f1 ∷ f2 ∷ f3 ∷ [];
+  apps = [];
   ins = record { 0 = 0 } ∷ [];
   outs = record { 0 = 3 } ∷ [];
   in_devices = (105 ∷ [], 1) ∷ [];
@@ -79,6 +80,7 @@ chain_is_flat first second f0 f1 f2 f3 fits_first fits_second chain =
           (rw (chain.one, chain.ints.1) ((f0, refl, chain.ints.0), fits_first))
           (rw (chain.two, chain.ints.2) ((f1, refl, chain.ints.1), fits_second))
           (rw (chain.actuator, chain.ints.3) (f2, refl, chain.ints.2));
+      apps = λ k app found. cc;
       ins = input_is_sensor f0 f1 f2 f3 chain.sensor;
       outs = output_is_flow f0 f1 f2 f3;
       few = omega arith;
@@ -86,7 +88,7 @@ chain_is_flat first second f0 f1 f2 f3 fits_first fits_second chain =
 
 pub chain_is_ordered : (first second : Op) (f0 f1 f2 f3 : Flow) → AreChain first second f0 f1 f2 f3 → IsOrdered (program f0 f1 f2 f3)
 chain_is_ordered first second f0 f1 f2 f3 chain =
-    each_of_four (λ i flow. UsesBelow i flow.def) f0 f1 f2 f3 (rw chain.sensor tt) (rw chain.one (omega arith)) (rw chain.two (omega arith)) (rw chain.actuator (omega arith))
+    each_of_four (λ i flow. UsesBelow (program f0 f1 f2 f3) i flow.def) f0 f1 f2 f3 (rw chain.sensor tt) (rw chain.one (omega arith)) (rw chain.two (omega arith)) (rw chain.actuator (omega arith))
 
 each_clock : (a b c : Clock) → IsClock a → IsClock b → IsClock c → (i : ℕ) → i < 4 → IsClock (clock_of (a ∷ b ∷ c ∷ c ∷ []) i)
 each_clock a b c ia ib ic zero below = ia
@@ -104,4 +106,5 @@ chain_has_clocks first second f0 f1 f2 f3 a b c chain ia ib ic one two =
       clock = λ i below. each_clock a b c ia ib ic i (omega arith);
       agree = each_of_four (λ i flow. AgreesClock clocks (clock_of clocks i) flow.def) f0 f1 f2 f3
           (rw chain.sensor tt) (rw chain.one one) (rw chain.two two) (rw chain.actuator refl);
+      apps = λ k app found. cc;
     }

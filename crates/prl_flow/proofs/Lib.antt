@@ -1,5 +1,10 @@
 pub mod Lists
 pub mod ClockDates
+pub mod Applied
+pub mod Placed
+pub mod Types
 pub mod Solved
+pub mod Ahead
+pub mod Progressed
 pub mod Callers
 pub mod Chains

@@ -1,8 +1,10 @@
 pub mod Programs
 pub mod Rows
 pub mod Flows
+pub mod Applications
 pub mod Solutions
 pub mod Actuators
 pub mod Counts
 pub mod Faults
 pub mod Instances
+pub mod Progress

@@ -5,6 +5,8 @@ use Rattle.prl_base.specs.declared.values.Ty.{Ty}
 use Rattle.prl_base.specs.declared.operators.Op.{Op}
 use Rattle.prl_base.specs.declared.operators.Op.TheVariants as operators
 use Rattle.prl_base.specs.declared.numbers.FlowNo.{FlowNo}
+use Rattle.prl_flow.specs.declared.programs.App.{App}
+use Rattle.prl_flow.specs.declared.programs.Arg.{Arg}
 use Rattle.prl_flow.specs.declared.programs.Def.{Def}
 use Rattle.prl_flow.specs.declared.programs.Def.TheVariants as definitions
 use Rattle.prl_flow.specs.declared.programs.Flow.{Flow}
@@ -13,9 +15,10 @@ use Rattle.prl_flow.specs.declared.programs.Flow.{Flow}
 abbrev pub Device : Type 0
 Device = List ℕ × ℕ
 
--- flows, which of them are main's inputs and outputs, and the devices of these
+-- flows, applications of imported nodes, which flows are main's inputs and outputs, and the devices of these
 pub record FlatProgram : Type 0 where
   pub flows : List Flow
+  pub apps : List App
   pub ins : List FlowNo
   pub outs : List FlowNo
   pub in_devices : List Device
@@ -49,11 +52,24 @@ abbrev pub IsWellDefined : FlatProgram → ℕ → Ty → Def → Type 0
 IsWellDefined p i ty (definitions.Sensor k) = slice_get p.ins k ≡ Some (record { 0 = i })
 IsWellDefined p i ty (definitions.Copy of) = HasType p ty of
 IsWellDefined p i ty (definitions.Const c) = type_of c ≡ ty
+IsWellDefined p i ty (definitions.Apply app out) =
+    (a : App) × (slice_get p.apps app ≡ Some a) × (slice_get a.outs out ≡ Some (record { 0 = i }))
 IsWellDefined p i ty (definitions.Op op of) = HasType p ty of × FitsType ty op
 
 -- the k-th input is the flow of the k-th sensor
 abbrev pub IsInput : FlatProgram → ℕ → FlowNo → Type 0
 IsInput p k flow = (f : Flow) × (slice_get p.flows flow.0 ≡ Some f) × (f.def ≡ definitions.Sensor k)
+
+-- the flow is this output of the application of number k
+abbrev pub IsOutput : FlatProgram → ℕ → ℕ → FlowNo → Type 0
+IsOutput p k out flow = (f : Flow) × (slice_get p.flows flow.0 ≡ Some f) × (f.def ≡ definitions.Apply k out)
+
+-- the application of number k names flows that are there, and its outputs, of which it has one or more, are its own
+pub record IsApplication (p : FlatProgram) (k : ℕ) (app : App) : Type 0 where
+  pub wcet : IsFactor app.wcet
+  pub args : (j : ℕ) (arg : Arg) → slice_get app.args j ≡ Some arg → arg.flow.0 < length p.flows
+  pub outs : (j : ℕ) (flow : FlowNo) → slice_get app.outs j ≡ Some flow → IsOutput p k j flow
+  pub has_output : 1 ≤ length app.outs
 
 -- the devices have names of their own and WCETs
 abbrev pub AreDevices : List Device → Type 0
@@ -66,6 +82,7 @@ pub record IsFlat (p : FlatProgram) : Type 0 where
   pub out_count : length p.out_devices ≡ length p.outs
   pub devices : AreDevices (p.in_devices ++ p.out_devices)
   pub flows : (i : ℕ) (flow : Flow) → slice_get p.flows i ≡ Some flow → IsWellDefined p i flow.ty flow.def
+  pub apps : (k : ℕ) (app : App) → slice_get p.apps k ≡ Some app → IsApplication p k app
   pub ins : (k : ℕ) (flow : FlowNo) → slice_get p.ins k ≡ Some flow → IsInput p k flow
   pub outs : (k : ℕ) (flow : FlowNo) → slice_get p.outs k ≡ Some flow → flow.0 < length p.flows
   pub few : length p.flows < 2 ^ 32

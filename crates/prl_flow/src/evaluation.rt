@@ -1,18 +1,24 @@
 //! The flows of a flat program, computed by instance.
 
-ghost use Rattle.std.specs.Prelude.{◌≡◌, ◌<◌, ◌≤◌, ◌^◌, length, List, IfOk, IfErr};
+ghost use Rattle.std.specs.Prelude.{◌≡◌, ◌<◌, ◌≤◌, ◌^◌, length, replicate, List, None, OnOk, IfOk, IfErr};
 ghost use Rattle.prl_base.specs.Clocks.{IsClock};
 ghost use Rattle.prl_flow.specs.Flows.{IsUpTo};
+ghost use Rattle.prl_body.specs.declared.bodies.Parts.{Parts};
+ghost use Rattle.prl_flow.specs.Applications.{HaveBodies};
 ghost use Rattle.prl_flow.specs.Instances.{HasSource};
-ghost use Rattle.prl_flow.specs.Solutions.{AreClocks, IsOrdered, HasRows, MeetsDefinition, Solves, values_of};
+ghost use Rattle.prl_flow.specs.Programs.{FlatProgram};
+ghost use Rattle.prl_flow.specs.Progress.{AreComputed, AreAhead, HasOutput};
+ghost use Rattle.prl_flow.specs.Solutions.{AreClocks, IsOrdered, HasRows, HasTypedRows, MeetsDefinition, Solves, values_of};
 ghost use Rattle.prl_flow.specs.Counts.{values_before};
 ghost use Rattle.prl_flow.specs.Faults.{IsFlowFault};
 ghost use Rattle.prl_base.specs.declared.values.Value.{Value as AnyValue};
 
+use crate::applications::apply;
 use crate::dates::{dates_before, values_before};
 use crate::instances::{constant, copied, operator_values};
 use crate::{Clocks, Def, Flat, Sensors};
 use prl_base::{Clock, FlowNo, Limit, Seq, Value, What};
+use prl_body::Bodies;
 use std::alloc::{AllocError, Global};
 use std::marker::Model;
 
@@ -51,7 +57,8 @@ impl FlowTable {
     }
 }
 
-/// The values of the next flow on its clock, from those of the flows before it.
+/// The values of the next flow on its clock, from those of the flows before it. It is no output of an
+/// application.
 fn next_values(
     alloc: Global,
     def: Def,
@@ -64,15 +71,70 @@ fn next_values(
     requires clock { IsClock clock }
     requires source { HasSource clocks.now sensors.now until flows.now clock def }
     ensures up_to { IfOk result (λ v. IsUpTo until clock v.items) }
-    ensures meets { IfOk result (λ v. MeetsDefinition clocks.now sensors.now until flows.now clock v.items def) }
+    ensures meets { IfOk result (λ v. (p : FlatProgram) (bodies : List Parts) → MeetsDefinition p clocks.now bodies sensors.now until flows.now clock v.items def) }
 {
     let count = dates_before(until, clock) as usize;
     match def {
         Def::Sensor(sensor) => copied(alloc, sensors.first(sensor, count)),
         Def::Copy(of) => copied(alloc, flows[of.0 as usize].as_slice()),
         Def::Const(value) => constant(alloc, value, count),
+        Def::Apply { .. } => unreachable!(),
         Def::Op { op, of } => operator_values(alloc, op, flows[of.0 as usize].as_slice(), count),
     }
+}
+
+/// Where the next flow, of number `i`, is the first output of its application that comes, puts the values of
+/// all the outputs into the places of their flows.
+fn look_ahead(
+    alloc: Global,
+    flat: &Flat,
+    clocks: &[Clock],
+    bodies: &Bodies,
+    i: usize,
+    until: u64,
+    flows: &[Seq<Value>],
+    ahead: &mut [Option<Seq<Value>>],
+) -> Result<(), AllocError>
+    requires until { until < 2 ^ 31 }
+    requires next { length flows.now ≡ i }
+    requires within { i < length flat.now.flows }
+    requires places { length ahead.old ≡ length flat.now.flows }
+    requires clocks { AreClocks flat.now clocks.now }
+    requires bodies { HaveBodies flat.now bodies.now }
+    requires ordered { IsOrdered flat.now }
+    requires computed { AreComputed flat.now clocks.now until flows.now }
+    requires ahead { AreAhead flat.now clocks.now bodies.now until flows.now ahead.old }
+    ensures ahead { OnOk result (AreAhead flat.now clocks.now bodies.now until flows.now ahead.new) }
+    ensures next { OnOk result (HasOutput flat.now i ahead.new) }
+{
+    let flow = &flat.flows()[i];
+    match flow.def {
+        Def::Apply { app, .. } => {
+            if ahead[i].is_some() {
+                return Ok(());
+            }
+            let app = &flat.apps()[app as usize];
+            match bodies.of(&app.name) {
+                Some(body) => {
+                    let count = dates_before(until, clocks[i]) as usize;
+                    apply(alloc, app, body, flows, count, ahead)
+                }
+                None => unreachable!(),
+            }
+        }
+        _ => Ok(()),
+    }
+}
+
+/// So many places, all empty.
+fn empty_places(alloc: Global, number: usize) -> Result<Vec<Option<Seq<Value>>>, AllocError>
+    ensures { IfOk result (λ v. v.items ≡ replicate number None) }
+{
+    let mut places = Vec::with_capacity(alloc, number)?;
+    for _ in 0..number {
+        places.push(None)?;
+    }
+    Ok(places)
 }
 
 /// The solution of the program.
@@ -80,37 +142,54 @@ fn solution(
     alloc: Global,
     flat: &Flat,
     clocks: &[Clock],
+    bodies: &Bodies,
     sensors: &Sensors,
     until: u64,
 ) -> Result<FlowTable, AllocError>
+    requires until { until < 2 ^ 31 }
     requires clocks { AreClocks flat.now clocks.now }
+    requires bodies { HaveBodies flat.now bodies.now }
     requires ordered { IsOrdered flat.now }
     requires rows { HasRows flat.now clocks.now sensors.now until }
-    ensures { IfOk result (Solves flat.now clocks.now sensors.now until) }
+    requires types { HasTypedRows flat.now sensors.now }
+    ensures { IfOk result (Solves flat.now clocks.now bodies.now sensors.now until) }
 {
     let definitions = flat.flows();
     let mut flows = Vec::with_capacity(alloc, definitions.len())?;
+    // The outputs of applications that are known before the loop comes to their flows.
+    let mut ahead = empty_places(alloc, definitions.len())?;
     for (i, flow) in definitions.iter().enumerate() {
-        let values = next_values(alloc, flow.def, clocks[i], clocks, sensors, until, &flows)?;
-        flows.push(Seq::new(values))?;
+        look_ahead(alloc, flat, clocks, bodies, i, until, &flows, &mut ahead)?;
+        let values = match ahead[i].take() {
+            Some(values) => values,
+            None => {
+                let def = flow.def;
+                Seq::new(next_values(alloc, def, clocks[i], clocks, sensors, until, &flows)?)
+            }
+        };
+        flows.push(values)?;
     }
     Ok(FlowTable { flows })
 }
 
-/// The flows of the program below `until`, in ticks: its one solution for these rows.
+/// The flows of the program below `until`, in ticks: its one solution for these bodies and rows. An
+/// application's steps take no memory beside the values of its outputs.
 pub fn evaluate(
     alloc: Global,
     flat: &Flat,
     clocks: &Clocks,
+    bodies: &Bodies,
     sensors: &Sensors,
     until: u64,
 ) -> Result<FlowTable, FlowFault>
     requires until { until < 2 ^ 31 }
     requires clocks { AreClocks flat.now clocks.now.of }
+    requires bodies { HaveBodies flat.now bodies.now }
     requires ordered { IsOrdered flat.now }
     requires rows { HasRows flat.now clocks.now.of sensors.now until }
-    ensures solution { IfOk result (λ table. Solves flat.now clocks.now.of sensors.now until table) }
-    ensures only { IfOk result (λ table. (flows : List (List AnyValue)) → Solves flat.now clocks.now.of sensors.now until flows → flows ≡ table) }
+    requires types { HasTypedRows flat.now sensors.now }
+    ensures solution { IfOk result (λ table. Solves flat.now clocks.now.of bodies.now sensors.now until table) }
+    ensures only { IfOk result (λ table. (flows : List (List AnyValue)) → Solves flat.now clocks.now.of bodies.now sensors.now until flows → flows ≡ table) }
     ensures few { IfOk result (λ _. values_before until clocks.now.of ≤ MAX_VALUES) }
     ensures fault { IfErr result (IsFlowFault (values_before until clocks.now.of)) }
 {
@@ -124,7 +203,7 @@ pub fn evaluate(
             found: values,
         }));
     }
-    match solution(alloc, flat, clocks, sensors, until) {
+    match solution(alloc, flat, clocks, bodies, sensors, until) {
         Ok(table) => Ok(table),
         Err(_) => Err(FlowFault::Memory),
     }

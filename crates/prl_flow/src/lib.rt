@@ -1,8 +1,9 @@
-//! Flat programs: lists of flows, each a sensor's, a copy, a constant or an operator on another flow.
-//! What their flows are is defined by date (`specs/`), and `evaluate` computes them by instance.
-//! It stands on `prl_base`.
+//! Flat programs: lists of flows, each a sensor's, a copy, a constant, an operator on another flow or an
+//! output of an applied import. What their flows are is defined by date (`specs/`), and `evaluate` computes
+//! them by instance. It stands on `prl_base` and on the bodies of `prl_body`.
 #![tactic(auto)]
 
+mod applications;
 mod dates;
 mod evaluation;
 mod instances;
@@ -13,5 +14,5 @@ mod tests;
 
 pub use dates::dates_before;
 pub use evaluation::{FlowFault, FlowTable, evaluate};
-pub use programs::{Clocks, Def, Flat, Flow, OutFlow};
+pub use programs::{App, Arg, Clocks, Def, Flat, Flow, OutFlow};
 pub use rows::Sensors;

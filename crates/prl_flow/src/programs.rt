@@ -15,6 +15,8 @@ pub enum Def {
     Copy(FlowNo),
     /// One value at each date.
     Const(Value),
+    /// An output of an application.
+    Apply { app: u32, out: u32 },
     /// An operator on another flow.
     Op { op: Op, of: FlowNo },
 }
@@ -30,12 +32,35 @@ pub struct Flow {
     pub at: Span,
 }
 
-/// A flat program: its flows, and which of them are main's inputs and outputs, in order. A device of an
-/// input is a sensor and one of an output an actuator: a name and a WCET in ticks. Contracts see a
-/// `FlatProgram`.
+/// An application of an imported node.
+#[derive(Debug, Drop)]
+pub struct App {
+    /// The node's name.
+    pub name: Name,
+    /// In ticks.
+    pub wcet: u32,
+    pub args: Seq<Arg>,
+    /// The flows of its outputs, in the order of the node.
+    pub outs: Seq<FlowNo>,
+    /// The node's name in the source text.
+    pub at: Span,
+}
+
+/// An argument of an application.
+#[derive(Clone, Copy, Debug, PartialEq, Eq)]
+pub struct Arg {
+    pub flow: FlowNo,
+    /// Where it stands in the source text.
+    pub at: Span,
+}
+
+/// A flat program: its flows, its applications of imported nodes, and which flows are main's inputs and
+/// outputs, in order. A device of an input is a sensor and one of an output an actuator: a name and a WCET
+/// in ticks. Contracts see a `FlatProgram`.
 #[derive(Debug, Drop)]
 pub struct Flat {
     pub flows: Seq<Flow>,
+    pub apps: Seq<App>,
     pub ins: Seq<FlowNo>,
     pub outs: Seq<FlowNo>,
     in_devices: Vec<(Name, u32)>,
@@ -49,6 +74,7 @@ impl Model for Flat {
 
     ghost view = { λ f. record {
       flows = f.flows;
+      apps = f.apps;
       ins = f.ins;
       outs = f.outs;
       in_devices = f.in_devices.items;
@@ -57,6 +83,7 @@ impl Model for Flat {
 
     ghost invariant = { λ f. IsFlat (record {
       flows = f.flows;
+      apps = f.apps;
       ins = f.ins;
       outs = f.outs;
       in_devices = f.in_devices.items;
@@ -68,16 +95,18 @@ impl Flat {
     /// The flat program of these lists. Takes no memory.
     pub fn new(
         flows: Seq<Flow>,
+        apps: Seq<App>,
         ins: Seq<FlowNo>,
         outs: Seq<FlowNo>,
         in_devices: Vec<(Name, u32)>,
         out_devices: Vec<(Name, u32)>,
     ) -> Flat
-        requires { IsFlat (record { flows = flows; ins = ins; outs = outs; in_devices = in_devices.items; out_devices = out_devices.items }) }
-        ensures { result ≡ record { flows = flows; ins = ins; outs = outs; in_devices = in_devices.items; out_devices = out_devices.items } }
+        requires { IsFlat (record { flows = flows; apps = apps; ins = ins; outs = outs; in_devices = in_devices.items; out_devices = out_devices.items }) }
+        ensures { result ≡ record { flows = flows; apps = apps; ins = ins; outs = outs; in_devices = in_devices.items; out_devices = out_devices.items } }
     {
         Flat {
             flows,
+            apps,
             ins,
             outs,
             in_devices,
@@ -91,6 +120,14 @@ impl Flat {
         ensures well_formed { IsFlat self.now }
     {
         self.flows.as_slice()
+    }
+
+    /// The applications of imported nodes, in order.
+    pub fn apps(&self) -> &[App]
+        ensures apps { result.now ≡ self.now.apps }
+        ensures well_formed { IsFlat self.now }
+    {
+        self.apps.as_slice()
     }
 
     /// The flows that are main's inputs, in order.

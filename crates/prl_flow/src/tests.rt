@@ -62,6 +62,7 @@ fn chain(alloc: Global, first: Op, second: Op) -> Result<Flat, Fail>
     let out_devices = vec![in alloc; (Name::new(alloc, b"o")?, 1)]?;
     Ok(Flat::new(
         Seq::new(flows),
+        Seq::new(vec![in alloc;]?),
         Seq::new(ins),
         Seq::new(outs),
         in_devices,

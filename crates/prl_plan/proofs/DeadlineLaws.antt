@@ -12,11 +12,11 @@ use Rattle.prl_plan.specs.Jobs.{Job, task_at, deadline_of}
 use Rattle.prl_plan.specs.Precedence.{preceding, ComesFrom, Precedes, PrecedesAlong}
 use Rattle.prl_plan.specs.Graphs.{IsWellFormed, IsEdge}
 use Rattle.prl_plan.specs.Dates.{Family, AreDeadlines, AreGreatestDeadlines}
-use Rattle.prl_plan.specs.declared.deadlines.Stretch.{Stretch}
-use Rattle.prl_plan.specs.Stretches.{IsIn, natural, count_in, following}
-use Rattle.prl_plan.specs.Deadlines.{earliest_of, needed_by, earliest, deadlines_after, IsStillBack}
+use Rattle.prl_plan.specs.declared.deadlines.Interval.{Interval}
+use Rattle.prl_plan.specs.Intervals.{IsIn, natural, count_in, successors}
+use Rattle.prl_plan.specs.Deadlines.{earliest_of, needed_by, earliest, deadlines_after, AreFixedDeadlines}
 use Rattle.prl_plan.proofs.RoundLaws.{source-inside}
-use Rattle.prl_plan.proofs.StretchLaws.{following-in}
+use Rattle.prl_plan.proofs.IntervalLaws.{following-in}
 
 equal : (x y : ℕ) → eqb x y ≡ true → x ≡ y
 equal x y h = grind (arith, nat_tests)
@@ -39,7 +39,7 @@ min-first a b = omega (arith, ints, clamps)
 min-second : (a b : ℤ) → int_min a b ≤ℤ b
 min-second a b = omega (arith, ints, clamps)
 
--- the numbers that are counted are those of the stretch
+-- the numbers that are counted are those of the interval
 natural-above : (z : ℤ) (k : ℕ) → k < natural z → pos (k + 1) ≤ℤ z
 natural-above (pos n) k h = omega (arith, ints, h)
 natural-above (negsuc n) k h = absurd (omega arith)
@@ -48,13 +48,13 @@ natural-below : (z : ℤ) (k : ℕ) → pos (k + 1) ≤ℤ z → k < natural z
 natural-below (pos n) k h = omega (arith, ints, h)
 natural-below (negsuc n) k h = absurd (omega (arith, ints, h))
 
-counted-in : (s : Stretch) (k : ℕ) → k < count_in s → IsIn (s.lowest +ℤ pos k) s
+counted-in : (s : Interval) (k : ℕ) → k < count_in s → IsIn (s.lowest +ℤ pos k) s
 counted-in s k h =
     let g = natural-above ((s.highest -ℤ s.lowest) +ℤ pos 1) k h in
     ((omega (arith, ints)), (omega (arith, ints, g)))
 
--- a number of the stretch stands at a place
-place-in : (s : Stretch) (n : ℤ) → IsIn n s → (k : ℕ) × (k < count_in s) × (n ≡ s.lowest +ℤ pos k)
+-- a number of the interval stands at a place
+place-in : (s : Interval) (n : ℤ) → IsIn n s → (k : ℕ) × (k < count_in s) × (n ≡ s.lowest +ℤ pos k)
 place-in s n h = go (n -ℤ s.lowest) refl
   where
     go : (d : ℤ) → n -ℤ s.lowest ≡ d → (k : ℕ) × (k < count_in s) × (n ≡ s.lowest +ℤ pos k)
@@ -103,8 +103,8 @@ module _ (graph : TaskGraph) (date : Family) where
   needed-below : (i : ℕ) (m : ℤ) (edge : Edge) (from : Producer) (best : ℤ) → needed_by graph date i m edge from best ≤ℤ best
   needed-below i m edge (producers.Constant value) best = le-self best
   needed-below i m edge (producers.Port task out) best =
-      cond-below (eqb task.0 i) (earliest_of graph date edge.to.0 (following edge.ops m).lowest (count_in (following edge.ops m)) best) best
-      (of-below edge.to.0 (following edge.ops m).lowest (count_in (following edge.ops m)) best)
+      cond-below (eqb task.0 i) (earliest_of graph date edge.to.0 (successors edge.ops m).lowest (count_in (successors edge.ops m)) best) best
+      (of-below edge.to.0 (successors edge.ops m).lowest (count_in (successors edge.ops m)) best)
 
   earliest-below : (i : ℕ) (m : ℤ) (edges : List Edge) (best : ℤ) → earliest graph date i m edges best ≤ℤ best
   earliest-below i m [] best = le-self best
@@ -112,20 +112,20 @@ module _ (graph : TaskGraph) (date : Family) where
       le-through (earliest graph date i m rest (needed_by graph date i m edge edge.from best)) (needed_by graph date i m edge edge.from best) best
       (earliest-below i m rest (needed_by graph date i m edge edge.from best)) (needed-below i m edge edge.from best)
 
-  -- an edge from the task asks for each job in its stretch
-  asks-this : (i : ℕ) (m : ℤ) (edge : Edge) (from : Producer) (best : ℤ) → ComesFrom from i → (n : ℤ) → IsIn n (following edge.ops m) →
+  -- an edge from the task asks for each job in its interval
+  asks-this : (i : ℕ) (m : ℤ) (edge : Edge) (from : Producer) (best : ℤ) → ComesFrom from i → (n : ℤ) → IsIn n (successors edge.ops m) →
       needed_by graph date i m edge from best ≤ℤ (date edge.to.0 n -ℤ pos (task_at graph edge.to.0).wcet)
   asks-this i m edge (producers.Constant value) best comes n inside = absurd comes
   asks-this i m edge (producers.Port task out) best comes n inside =
-      let at = place-in (following edge.ops m) n inside in
-      subst (λ (b : Bool). cond b (earliest_of graph date edge.to.0 (following edge.ops m).lowest (count_in (following edge.ops m)) best) best
+      let at = place-in (successors edge.ops m) n inside in
+      subst (λ (b : Bool). cond b (earliest_of graph date edge.to.0 (successors edge.ops m).lowest (count_in (successors edge.ops m)) best) best
       ≤ℤ (date edge.to.0 n -ℤ pos (task_at graph edge.to.0).wcet)) (sym (same task.0 i comes))
-      (subst (λ (x : ℤ). earliest_of graph date edge.to.0 (following edge.ops m).lowest (count_in (following edge.ops m)) best
+      (subst (λ (x : ℤ). earliest_of graph date edge.to.0 (successors edge.ops m).lowest (count_in (successors edge.ops m)) best
       ≤ℤ (date edge.to.0 x -ℤ pos (task_at graph edge.to.0).wcet)) (sym at.2)
-      (of-each edge.to.0 (following edge.ops m).lowest (count_in (following edge.ops m)) best at.0 at.1))
+      (of-each edge.to.0 (successors edge.ops m).lowest (count_in (successors edge.ops m)) best at.0 at.1))
 
   earliest-asks : (i : ℕ) (m : ℤ) (edges : List Edge) (best : ℤ) (k : ℕ) (edge : Edge) → slice_get edges k ≡ Some edge → ComesFrom edge.from i →
-      (n : ℤ) → IsIn n (following edge.ops m) → earliest graph date i m edges best ≤ℤ (date edge.to.0 n -ℤ pos (task_at graph edge.to.0).wcet)
+      (n : ℤ) → IsIn n (successors edge.ops m) → earliest graph date i m edges best ≤ℤ (date edge.to.0 n -ℤ pos (task_at graph edge.to.0).wcet)
   earliest-asks i m [] best k edge is comes n inside = cc
   earliest-asks i m (x ∷ rest) best zero edge is comes n inside =
       let one : x ≡ edge = cc in
@@ -144,21 +144,21 @@ module _ (graph : TaskGraph) (good : IsWellFormed graph) where
       other i m ≤ℤ needed_by graph date i m edge from best
   needed-above date other are above i m edge e stands (producers.Constant value) from best h = h
   needed-above date other are above i m edge e stands (producers.Port task out) from best h =
-      step (eqb task.0 i) (λ test. each-above graph date edge.to.0 (following edge.ops m).lowest (count_in (following edge.ops m)) best (other i m) h
+      step (eqb task.0 i) (λ test. each-above graph date edge.to.0 (successors edge.ops m).lowest (count_in (successors edge.ops m)) best (other i m) h
       (λ k inside. asks (equal task.0 i test) k inside))
     where
-      step : (b : Bool) → (b ≡ true → other i m ≤ℤ earliest_of graph date edge.to.0 (following edge.ops m).lowest (count_in (following edge.ops m)) best) →
-          other i m ≤ℤ cond b (earliest_of graph date edge.to.0 (following edge.ops m).lowest (count_in (following edge.ops m)) best) best
+      step : (b : Bool) → (b ≡ true → other i m ≤ℤ earliest_of graph date edge.to.0 (successors edge.ops m).lowest (count_in (successors edge.ops m)) best) →
+          other i m ≤ℤ cond b (earliest_of graph date edge.to.0 (successors edge.ops m).lowest (count_in (successors edge.ops m)) best) best
       step true g = g refl
       step false g = h
 
-      asks : task.0 ≡ i → (k : ℕ) → k < count_in (following edge.ops m) →
-          other i m ≤ℤ (date edge.to.0 ((following edge.ops m).lowest +ℤ pos k) -ℤ pos (task_at graph edge.to.0).wcet)
+      asks : task.0 ≡ i → (k : ℕ) → k < count_in (successors edge.ops m) →
+          other i m ≤ℤ (date edge.to.0 ((successors edge.ops m).lowest +ℤ pos k) -ℤ pos (task_at graph edge.to.0).wcet)
       asks own k inside =
-          let n : ℤ = (following edge.ops m).lowest +ℤ pos k in
+          let n : ℤ = (successors edge.ops m).lowest +ℤ pos k in
           let is : IsEdge graph edge = good.edges e edge stands in
           let number : preceding edge.ops n ≡ m =
-          (following-in edge.ty edge.ops is.operators m n).0 (counted-in (following edge.ops m) k inside) in
+          (following-in edge.ty edge.ops is.operators m n).0 (counted-in (successors edge.ops m) k inside) in
           let comes : ComesFrom edge.from i = subst (λ (p : Producer). ComesFrom p i) (sym from) own in
           let along : (other i m +ℤ pos (task_at graph edge.to.0).wcet) ≤ℤ other edge.to.0 n =
           are.along (record { task = i; number = m }) (record { task = edge.to.0; number = n })
@@ -181,8 +181,8 @@ module _ (graph : TaskGraph) (good : IsWellFormed graph) where
       earliest-above (deadlines_after graph rounds) other are (λ j n h. rounds-above other are rounds j n h) i m graph.edges (λ k edge is. (k, is))
       (deadline_of (task_at graph i) m) (are.below i m inside)
 
-  still-deadlines : (rounds : ℕ) → IsStillBack graph rounds → AreDeadlines graph (deadlines_after graph rounds)
-  still-deadlines rounds still = record {
+  fixed-deadlines : (rounds : ℕ) → AreFixedDeadlines graph rounds → AreDeadlines graph (deadlines_after graph rounds)
+  fixed-deadlines rounds still = record {
     below = λ i m inside. subst (λ (x : ℤ). x ≤ℤ deadline_of (task_at graph i) m) (still i m inside)
         (earliest-below graph (deadlines_after graph rounds) i m graph.edges (deadline_of (task_at graph i) m));
     along = along;
@@ -195,7 +195,7 @@ module _ (graph : TaskGraph) (good : IsWellFormed graph) where
           let is : PrecedesAlong graph edge before after = h.3 in
           let wf : IsEdge graph edge = good.edges h.0 edge h.2 in
           let inside : before.task < length graph.tasks = source-inside graph edge wf edge.from refl before.task is.from in
-          let there : IsIn after.number (following edge.ops before.number) =
+          let there : IsIn after.number (successors edge.ops before.number) =
           (following-in edge.ty edge.ops wf.operators before.number after.number).1 (sym is.number) in
           let asked : earliest graph (deadlines_after graph rounds) before.task before.number graph.edges (deadline_of (task_at graph before.task) before.number)
           ≤ℤ (deadlines_after graph rounds after.task after.number -ℤ pos (task_at graph after.task).wcet) =
@@ -207,8 +207,8 @@ module _ (graph : TaskGraph) (good : IsWellFormed graph) where
           subst (λ (x : ℤ). x ≤ℤ (deadlines_after graph rounds after.task after.number -ℤ pos (task_at graph after.task).wcet)) (still before.task before.number inside) asked in
           omega (arith, ints, now)
 
-  pub still-greatest : (rounds : ℕ) → IsStillBack graph rounds → AreGreatestDeadlines graph (deadlines_after graph rounds)
+  pub still-greatest : (rounds : ℕ) → AreFixedDeadlines graph rounds → AreGreatestDeadlines graph (deadlines_after graph rounds)
   still-greatest rounds still = record {
-    deadlines = still-deadlines rounds still;
+    deadlines = fixed-deadlines rounds still;
     greatest = λ other are i m inside. rounds-above other are rounds i m inside;
   }

@@ -30,7 +30,7 @@ module _ (c : RunConstants) (facts : HasPlanFacts c) where
       let k : ℕ = before.1 in
       let provides : Provides c m cell i n j k (before.2) = before.3 in
       let own : m ≡ k = facts.own j k (before.2) m cell provides.writes in
-      let early : c.release j k ≤ s.now = (let a : c.release j k ≤ c.release i n = provides.release in let b : c.release i n ≤ s.now = released in omega (arith, a, b)) in
+      let early : c.release j k ≤ s.now = (let a : c.release j k < c.release i n = provides.release in let b : c.release i n ≤ s.now = released in omega (arith, a, b)) in
       elim (cases_lt k (get_or s.ended j 0)) [
         | inl ended ↦
             (let lower : m + 1 ≤ get_or s.tags cell 0 = sound.written j k (before.2) m cell provides.writes (inl ended) in omega (arith, upper, lower))

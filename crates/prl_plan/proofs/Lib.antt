@@ -10,6 +10,13 @@ pub mod Actions
 pub mod RoundSteps
 pub mod RoundLaws
 pub mod Floors
-pub mod StretchLaws
+pub mod IntervalLaws
 pub mod DeadlineLaws
 pub mod DeadlineSteps
+pub mod WalkLaws
+pub mod UsedLaws
+pub mod ActionPlaces
+pub mod PlanFacts
+pub mod ReadPlaces
+pub mod Periods
+pub mod RoundPeriods

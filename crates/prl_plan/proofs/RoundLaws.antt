@@ -13,7 +13,7 @@ use Rattle.prl_plan.specs.Jobs.{Job, task_at, release_of}
 use Rattle.prl_plan.specs.Precedence.{preceding, ComesFrom, Precedes, PrecedesAlong}
 use Rattle.prl_plan.specs.Graphs.{IsWellFormed, IsEdge, IsSource}
 use Rattle.prl_plan.specs.Dates.{Family, AreReleases, AreLeastReleases}
-use Rattle.prl_plan.specs.Rounds.{asked, asked_of, latest, releases_after, IsStill}
+use Rattle.prl_plan.specs.Rounds.{asked, asked_of, latest, releases_after, AreFixedReleases}
 
 equal : (x y : ℕ) → eqb x y ≡ true → x ≡ y
 equal x y h = grind (arith, nat_tests)
@@ -122,8 +122,8 @@ module _ (graph : TaskGraph) (good : IsWellFormed graph) where
     latest-asks i m (x ∷ rest) best (suc k) edge j is to comes = latest-asks i m rest (asked_of graph date i m x best) k edge j is to comes
 
   -- where a further round changes nothing, the rounds are a family of releases
-  still-releases : (rounds : ℕ) → IsStill graph rounds → AreReleases graph (releases_after graph rounds)
-  still-releases rounds still = record {
+  fixed-releases : (rounds : ℕ) → AreFixedReleases graph rounds → AreReleases graph (releases_after graph rounds)
+  fixed-releases rounds still = record {
     above = λ i m inside. subst (λ (x : ℤ). release_of (task_at graph i) m ≤ℤ x) (still i m inside)
         (latest-above (releases_after graph rounds) i m graph.edges (release_of (task_at graph i) m));
     along = along;
@@ -140,8 +140,8 @@ module _ (graph : TaskGraph) (good : IsWellFormed graph) where
           ≤ℤ latest graph (releases_after graph rounds) after.task after.number graph.edges (release_of (task_at graph after.task) after.number)) (sym is.number)
           (latest-asks (releases_after graph rounds) after.task after.number graph.edges (release_of (task_at graph after.task) after.number) h.0 edge before.task h.2 is.to is.from))
 
-  pub still-least : (rounds : ℕ) → IsStill graph rounds → AreLeastReleases graph (releases_after graph rounds)
+  pub still-least : (rounds : ℕ) → AreFixedReleases graph rounds → AreLeastReleases graph (releases_after graph rounds)
   still-least rounds still = record {
-    releases = still-releases rounds still;
+    releases = fixed-releases rounds still;
     least = λ other are i m inside. rounds-below other are rounds i m inside;
   }

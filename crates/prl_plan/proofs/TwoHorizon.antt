@@ -9,7 +9,7 @@ use Rattle.prl_plan.specs.Facts.{HasPlanFacts}
 use Rattle.prl_plan.specs.Horizons.{IsEnd, IsHorizon, constants_of, sum_below, jobs_up_to, actions_up_to}
 use Rattle.prl_plan.specs.TwoTasks.{AreInPeriod, two_plan, IsTwo}
 use Rattle.prl_plan.proofs.Counts.{IsHorizonJob-count, job_count-horizon}
-use Rattle.prl_plan.proofs.TwoFacts.{deadline-two-0, deadline-two-1, actions-two-0, actions-two-1, two-facts, links-two}
+use Rattle.prl_plan.proofs.TwoFacts.{deadline-two-0, deadline-two-1, actions-two-0, actions-two-1, links-two}
 use Rattle.prl_plan.specs.Devices.{LinksDevices}
 
 -- a sum of twos
@@ -76,10 +76,6 @@ two-counted p two u =
       actions = (let e : actions_up_to (two_plan T a b) u ≡ 4 * job_count (task_at (two_plan T a b).graph 0) u = two-actions T a b two.3 u in omega (arith, e, is_each));
       end = subst (λ (x : ℕ). IsEnd (two_plan T a b) u x) (ap (λ (x : ℕ). x * T) (sym is_each) ∙ sym is_end) (two-end T a b two.3 u);
     })
-
-pub two-plan_facts : (p : PlanView) → IsTwo p → (h : Horizon) → IsHorizon p h → HasPlanFacts (constants_of p h)
-two-plan_facts p two h =
-    subst (λ (q : PlanView). IsHorizon q h → HasPlanFacts (constants_of q h)) (sym two.4) (λ is. two-facts two.0 two.1 two.2 two.3 h is)
 
 pub two-links : (p : PlanView) → IsTwo p → LinksDevices p
 two-links p two = subst (λ (q : PlanView). LinksDevices q) (sym two.4) (links-two two.0 two.1 two.2 two.3)

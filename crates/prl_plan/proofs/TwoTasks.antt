@@ -1,6 +1,7 @@
 -- The plan of two tasks is a plan.
 use Rattle.std.proofs.Common.{◌≡◌, ◌≢◌, ◌+◌, ◌-◌, ◌*◌, ◌/◌, ◌%◌, ◌<◌, ◌≤◌, ◌⊎◌, ℕ, zero, suc, true, List, [], ◌∷◌, length, get_or, take, sum, Some, inl, inr, refl, sym, ◌∙◌, ap, subst, arith, lit<, lit≤}
 use Rattle.std.specs.Prelude.{ℤ, pos, negsuc, ◌+ℤ◌, ◌*ℤ◌, ◌≤ℤ◌, slice_get, slice_index, slice_index_or}
+use Rattle.std.proofs.Math.Nat.{div_self}
 use Rattle.std.proofs.lemmas.Int.{ints}
 use Rattle.prl_plan.specs.declared.graphs.Edge.{Edge}
 use Rattle.prl_plan.specs.declared.graphs.Task.{Task}
@@ -106,6 +107,9 @@ module _ (T a b : ℕ) (fits : AreInPeriod T a b) where
     order = (refl, tt);
     actuators = two-actuators;
     hyper = fits.some;
+    few_tasks = lit≤ tt;
+    few_edges = lit≤ tt;
+    few_jobs = (let one : T / T ≡ 1 = div_self fits.some in omega (arith, one));
   }
 
   -- the jobs of the sensor task precede those of the actuator task, by number
@@ -240,7 +244,16 @@ module _ (T a b : ℕ) (fits : AreInPeriod T a b) where
       two-has_cells (suc e) x h = cc
 
   pub two-plan : IsPlan (two_plan T a b)
-  two-plan = record { graph = two-well_formed; dates = two-encoded; cells = two-cells }
+  two-plan = record { graph = two-well_formed; dates = two-encoded; room = record { room = two-room }; cells = two-cells; few_cells = lit≤ tt }
+    where
+      two-room : (i : ℕ) (m : ℤ) → i < 2 →
+          (encoded_release (two_graph T a b) (two_windows T a b) i m +ℤ pos (task_at (two_graph T a b) i).wcet)
+          ≤ℤ encoded_deadline (two_graph T a b) (two_windows T a b) i m
+      two-room zero m inside =
+          rw (release-0 m, deadline-0 m) (let f : a + b ≤ T = fits.together in let r : ℤ = m *ℤ pos T in omega (arith, ints, f))
+      two-room (suc zero) m inside =
+          rw (release-1 m, deadline-1 m) (let f : a + b ≤ T = fits.together in let r : ℤ = m *ℤ pos T in omega (arith, ints, f))
+      two-room (suc (suc i)) m inside = absurd (omega arith)
 
   -- the one edge has no operators
   pub two-reads : (e m : ℕ) → e < 1 → Reads (edge_at (two_graph T a b) e) m m

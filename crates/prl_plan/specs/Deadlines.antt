@@ -7,7 +7,7 @@ use Rattle.prl_plan.specs.declared.graphs.Producer.TheVariants as producers
 use Rattle.prl_plan.specs.declared.graphs.TaskGraph.{TaskGraph}
 use Rattle.prl_plan.specs.Jobs.{task_at, deadline_of}
 use Rattle.prl_plan.specs.Dates.{Family}
-use Rattle.prl_plan.specs.Stretches.{count_in, following}
+use Rattle.prl_plan.specs.Intervals.{count_in, successors}
 
 -- the earliest of a date and what so many jobs of task j ask, from job n on: each job's date less its WCET
 abbrev pub earliest_of : TaskGraph → Family → ℕ → ℤ → ℕ → ℤ → ℤ
@@ -19,7 +19,7 @@ earliest_of graph date j n (suc count) best =
 abbrev pub needed_by : TaskGraph → Family → ℕ → ℤ → Edge → Producer → ℤ → ℤ
 needed_by graph date i m edge (producers.Constant value) best = best
 needed_by graph date i m edge (producers.Port task out) best =
-    if task.0 == i then earliest_of graph date edge.to.0 (following edge.ops m).lowest (count_in (following edge.ops m)) best else best
+    if task.0 == i then earliest_of graph date edge.to.0 (successors edge.ops m).lowest (count_in (successors edge.ops m)) best else best
 
 abbrev pub earliest : TaskGraph → Family → ℕ → ℤ → List Edge → ℤ → ℤ
 earliest graph date i m [] best = best
@@ -32,6 +32,6 @@ deadlines_after graph (suc rounds) i m =
     earliest graph (deadlines_after graph rounds) i m graph.edges (deadline_of (task_at graph i) m)
 
 -- a further round changes no deadline
-abbrev pub IsStillBack : TaskGraph → ℕ → Type 0
-IsStillBack graph rounds =
+abbrev pub AreFixedDeadlines : TaskGraph → ℕ → Type 0
+AreFixedDeadlines graph rounds =
     (i : ℕ) (m : ℤ) → i < length graph.tasks → deadlines_after graph (suc rounds) i m ≡ deadlines_after graph rounds i m

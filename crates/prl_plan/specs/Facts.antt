@@ -19,10 +19,10 @@ pub record WritesAt (c : RunConstants) (i n place m cell : ℕ) : Type 0 where
   pub job : IsJob c i n
   pub action : (edge : EdgeNo) × (action_at c i n place ≡ actions.Write edge m (record { 0 = cell }))
 
--- horizon job n of task i writes instance m to the cell, and comes before job k of task j
+-- horizon job n of task i writes instance m to the cell, and both its encoded dates are earlier than those of job k of task j
 pub record Provides (c : RunConstants) (m cell j k i n place : ℕ) : Type 0 where
   pub writes : WritesAt c i n place m cell
-  pub release : c.release i n ≤ c.release j k
+  pub release : c.release i n < c.release j k
   pub deadline : c.deadline i n < c.deadline j k
 
 pub record HasPlanFacts (c : RunConstants) : Type 0 where

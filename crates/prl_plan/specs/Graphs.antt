@@ -1,9 +1,10 @@
 -- Well-formed task graphs.
-use Rattle.std.specs.Prelude.{◌≡◌, ◌≢◌, ◌+◌, ◌*◌, ◌≤◌, ◌<◌, ◌^◌, ◌++◌, ◌⊎◌, ℕ, pos, ◌≤ℤ◌, Bool, true, false, List, [], ◌∷◌, map, length, Some, slice_get, nat_abs}
+use Rattle.std.specs.Prelude.{◌≡◌, ◌≢◌, ◌+◌, ◌*◌, ◌/◌, ◌≤◌, ◌<◌, ◌^◌, ◌++◌, ◌⊎◌, ℕ, pos, ◌≤ℤ◌, Bool, true, false, List, [], ◌∷◌, map, sum, length, Some, slice_get, nat_abs}
 use Rattle.std.specs.Fmt.{decimal}
 use Rattle.prl_base.specs.Names.{IsName}
-use Rattle.prl_base.specs.Values.{type_of}
+use Rattle.prl_base.specs.Values.{type_of, FitsValue}
 use Rattle.prl_base.specs.declared.values.Ty.{Ty}
+use Rattle.prl_base.specs.declared.values.Value.{Value}
 use Rattle.prl_base.specs.declared.operators.Clock.{Clock}
 use Rattle.prl_base.specs.declared.operators.Op.{Op}
 use Rattle.prl_base.specs.declared.operators.Op.TheVariants as operators
@@ -14,6 +15,7 @@ use Rattle.prl_plan.specs.declared.graphs.Kind.{Kind}
 use Rattle.prl_plan.specs.declared.graphs.Kind.TheVariants as kinds
 use Rattle.prl_plan.specs.declared.graphs.Producer.{Producer}
 use Rattle.prl_plan.specs.declared.graphs.Producer.TheVariants as producers
+use Rattle.prl_plan.specs.declared.limits.TheConstants.{MAX_TASKS, MAX_EDGES, MAX_PERIOD_JOBS}
 use Rattle.prl_plan.specs.Jobs.{task_at}
 
 -- k divides n
@@ -36,14 +38,18 @@ TakeClock hyper [] producer consumer = (1 ≤ consumer.period) × Divides consum
 TakeClock hyper (op ∷ ops) producer consumer =
     (1 ≤ consumer.period) × Divides consumer.period hyper × ((between : Clock) × TakesClock op between consumer × TakeClock hyper ops producer between)
 
--- a factor is 1 to 2^31 - 1, a shift is not negative, and a constant has the type of the edge
+-- a value of this type, within its range
+abbrev pub IsOfType : Ty → Value → Type 0
+IsOfType ty value = (type_of value ≡ ty) × FitsValue value
+
+-- a factor is 1 to 2^31 - 1, a shift is a fraction that is not negative, and a constant has the type of the edge
 abbrev pub IsOperatorFor : Ty → Op → Type 0
-IsOperatorFor ty (operators.Fby c) = type_of c ≡ ty
-IsOperatorFor ty (operators.Cons c) = type_of c ≡ ty
+IsOperatorFor ty (operators.Fby c) = IsOfType ty c
+IsOperatorFor ty (operators.Cons c) = IsOfType ty c
 IsOperatorFor ty operators.Tail = Unit {0}
 IsOperatorFor ty (operators.Up k) = (1 ≤ k) × (k < 2 ^ 31)
 IsOperatorFor ty (operators.Down k) = (1 ≤ k) × (k < 2 ^ 31)
-IsOperatorFor ty (operators.Shift q) = pos 0 ≤ℤ q.num
+IsOperatorFor ty (operators.Shift q) = (1 ≤ q.den) × (pos 0 ≤ℤ q.num)
 
 abbrev pub is_sensor : Kind → Bool
 is_sensor (kinds.Sensor k) = true
@@ -81,7 +87,7 @@ pub record IsTask (hyper : ℕ) (task : Task) : Type 0 where
 -- An edge comes from a constant of its type, or from an output of a task of the graph that is no actuator task; a
 -- sensor task has only output 0. The flow of a task has the task's clock.
 abbrev pub IsSource : TaskGraph → Edge → Clock → Producer → Type 0
-IsSource graph edge clock (producers.Constant value) = type_of value ≡ edge.ty
+IsSource graph edge clock (producers.Constant value) = IsOfType edge.ty value
 IsSource graph edge clock (producers.Port task out) =
     (task.0 < length graph.tasks) × (is_actuator (task_at graph task.0).kind ≡ false) × (is_sensor (task_at graph task.0).kind ≡ true → out ≡ 0)
     × (clock ≡ (task_at graph task.0).clock)
@@ -109,6 +115,10 @@ pub record HasOnePort (graph : TaskGraph) (i : ℕ) : Type 0 where
   pub one : (e : ℕ) × (edge : Edge) × (slice_get graph.edges e ≡ Some edge) × (edge.to.0 ≡ i)
   pub only : (e : ℕ) (edge : Edge) → slice_get graph.edges e ≡ Some edge → edge.to.0 ≡ i → edge.port ≡ 0
 
+-- how many jobs the tasks have in a hyperperiod
+abbrev pub jobs_in_hyperperiod : TaskGraph → ℕ
+jobs_in_hyperperiod graph = sum (map (λ task. graph.hyper / task.clock.period) graph.tasks)
+
 pub record IsWellFormed (graph : TaskGraph) : Type 0 where
   pub kinds : AreNumbered 0 0 0 (map (λ task. task.kind) graph.tasks)
   pub tasks : (i : ℕ) (task : Task) → slice_get graph.tasks i ≡ Some task → IsTask graph.hyper task
@@ -117,3 +127,6 @@ pub record IsWellFormed (graph : TaskGraph) : Type 0 where
   pub order : AreInOrder graph.edges
   pub actuators : (i : ℕ) → i < length graph.tasks → is_actuator (task_at graph i).kind ≡ true → HasOnePort graph i
   pub hyper : 1 ≤ graph.hyper
+  pub few_tasks : length graph.tasks ≤ MAX_TASKS
+  pub few_edges : length graph.edges ≤ MAX_EDGES
+  pub few_jobs : jobs_in_hyperperiod graph ≤ MAX_PERIOD_JOBS

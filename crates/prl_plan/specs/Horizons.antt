@@ -4,6 +4,7 @@ use Rattle.prl_base.specs.declared.limits.Limit.{Limit}
 use Rattle.prl_base.specs.declared.limits.What.{What}
 use Rattle.prl_base.specs.declared.limits.What.TheVariants as whats
 use Rattle.prl_plan.specs.declared.horizons.Horizon.{Horizon}
+use Rattle.prl_plan.specs.declared.limits.TheConstants.{MAX_JOBS, MAX_EVENTS}
 use Rattle.prl_plan.specs.Jobs.{task_at, job_count, IsHorizonJob}
 use Rattle.prl_plan.specs.Plans.{PlanView, release_at, deadline_at, actions_of}
 use Rattle.prl_plan.specs.Runs.{RunConstants}
@@ -22,7 +23,7 @@ abbrev pub actions_up_to : PlanView → ℕ → ℕ
 actions_up_to plan until =
     sum_below (λ i. sum_below (λ n. length (actions_of plan i n)) (job_count (task_at plan.graph i) until)) (length plan.graph.tasks)
 
--- `end` is the greatest encoded deadline of a horizon job, 0 where there is none
+-- the greatest encoded deadline among the horizon jobs; 0 where the horizon has no job
 pub record IsEnd (plan : PlanView) (until end : ℕ) : Type 0 where
   pub above : (i n : ℕ) → IsHorizonJob plan.graph until i n → deadline_at plan i n ≤ end
   pub attained : (end ≡ 0) ⊎ ((i : ℕ) × (n : ℕ) × IsHorizonJob plan.graph until i n × (end ≡ deadline_at plan i n))
@@ -33,14 +34,14 @@ pub record IsHorizon (plan : PlanView) (horizon : Horizon) : Type 0 where
   pub end : IsEnd plan horizon.until horizon.end
   pub jobs : horizon.jobs ≡ jobs_up_to plan horizon.until
   pub events : horizon.events ≡ actions_up_to plan horizon.until + horizon.end
-  pub few_jobs : horizon.jobs ≤ 200000
-  pub few_events : horizon.events ≤ 1000000
+  pub few_jobs : horizon.jobs ≤ MAX_JOBS
+  pub few_events : horizon.events ≤ MAX_EVENTS
 
--- When a horizon is refused: it has more than 200,000 jobs, or else more than 1,000,000 events, and this is how many.
+-- When a horizon is refused: it has too many jobs, or else too many events, and this is how many.
 abbrev pub IsPast : PlanView → ℕ → What → ℕ → Type 0
-IsPast plan until whats.Jobs found = (found ≡ jobs_up_to plan until) × (200000 < found)
+IsPast plan until whats.Jobs found = (found ≡ jobs_up_to plan until) × (MAX_JOBS < found)
 IsPast plan until whats.Events found =
-    (jobs_up_to plan until ≤ 200000) × ((end : ℕ) × IsEnd plan until end × (found ≡ actions_up_to plan until + end)) × (1000000 < found)
+    (jobs_up_to plan until ≤ MAX_JOBS) × ((end : ℕ) × IsEnd plan until end × (found ≡ actions_up_to plan until + end)) × (MAX_EVENTS < found)
 IsPast plan until _ found = ⊥
 
 abbrev pub IsPastLimit : PlanView → ℕ → Limit → Type 0

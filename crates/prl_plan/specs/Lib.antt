@@ -13,5 +13,7 @@ pub mod Horizons
 pub mod TwoTasks
 pub mod Devices
 pub mod Rounds
-pub mod Stretches
+pub mod Intervals
 pub mod Deadlines
+pub mod Ranges
+pub mod FixedPoints

@@ -1,5 +1,5 @@
 -- Plans: a task graph with its encoded dates and its cells, and what its jobs do in a horizon.
-use Rattle.std.specs.Prelude.{◌≡◌, length, ◌+◌, ◌%◌, ◌==◌, ◌<◌, ◌^◌, ◌++◌, ℕ, pos, nat_abs, List, [], ◌∷◌, Option, is_some, IsSome, unwrap_or, slice_index, slice_index_or, if◌then◌else◌}
+use Rattle.std.specs.Prelude.{◌≡◌, length, ◌+◌, ◌%◌, ◌==◌, ◌<◌, ◌≤◌, ◌^◌, ◌++◌, ℕ, ℤ, pos, ◌+ℤ◌, ◌≤ℤ◌, nat_abs, sum, List, [], ◌∷◌, Option, is_some, IsSome, unwrap_or, slice_index, slice_index_or, if◌then◌else◌}
 use Rattle.prl_base.specs.declared.values.Ty.TheVariants as types
 use Rattle.prl_base.specs.declared.values.Value.TheVariants as values
 use Rattle.prl_plan.specs.declared.events.Action.{Action}
@@ -12,7 +12,9 @@ use Rattle.prl_plan.specs.declared.walks.Operand.{Operand}
 use Rattle.prl_plan.specs.declared.walks.Operand.TheVariants as operands
 use Rattle.prl_plan.specs.declared.tables.Window.{Window}
 use Rattle.prl_plan.specs.declared.tables.Used.{Used}
+use Rattle.prl_plan.specs.declared.limits.TheConstants.{MAX_CELLS}
 use Rattle.prl_plan.specs.Graphs.{IsWellFormed}
+use Rattle.prl_plan.specs.Jobs.{task_at}
 use Rattle.prl_plan.specs.Operands.{operand_of}
 use Rattle.prl_plan.specs.Precedence.{ComesFrom}
 use Rattle.prl_plan.specs.Dates.{AreEncodedDates, encoded_release, encoded_deadline}
@@ -28,10 +30,18 @@ pub record PlanView : Type 0 where
   pub counts : List ℕ
   pub used : List Used
 
+-- Between its encoded dates each job has room for its WCET: so no chain of jobs, each preceding the next, is longer than
+-- the time from the release of its first job to the deadline of its last.
+pub record HaveRoom (graph : TaskGraph) (windows : List (List Window)) : Type 0 where
+  pub room : (i : ℕ) (m : ℤ) → i < length graph.tasks →
+      (encoded_release graph windows i m +ℤ pos (task_at graph i).wcet) ≤ℤ encoded_deadline graph windows i m
+
 pub record IsPlan (plan : PlanView) : Type 0 where
   pub graph : IsWellFormed plan.graph
   pub dates : AreEncodedDates plan.graph plan.windows
+  pub room : HaveRoom plan.graph plan.windows
   pub cells : AreLeastCells plan.graph plan.windows plan.bases plan.counts plan.used
+  pub few_cells : sum plan.counts ≤ MAX_CELLS
 
 -- the encoded release of job n of task i, where n is at least 0
 abbrev pub release_at : PlanView → ℕ → ℕ → ℕ

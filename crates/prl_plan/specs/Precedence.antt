@@ -14,6 +14,15 @@ abbrev pub floor_div : ℤ → ℕ → ℤ
 floor_div (pos n) k = pos (n / k)
 floor_div (negsuc n) k = negsuc (n / k)
 
+-- the number on the producer's side of an operator, of number n on the consumer's side
+abbrev pub step_back : Op → ℤ → ℤ
+step_back (operators.Up k) n = floor_div n k
+step_back (operators.Down k) n = pos k *ℤ n
+step_back (operators.Shift q) n = n
+step_back operators.Tail n = suc_ℤ n
+step_back (operators.Cons c) n = pred_ℤ n
+step_back (operators.Fby c) n = pred_ℤ n
+
 -- the number of the producer's job that precedes job n of the consumer, by the operators from the consumer's end on
 abbrev pub preceding : List Op → ℤ → ℤ
 preceding [] n = n

@@ -32,6 +32,6 @@ releases_after graph (suc rounds) i m =
     latest graph (releases_after graph rounds) i m graph.edges (release_of (task_at graph i) m)
 
 -- a further round changes nothing
-abbrev pub IsStill : TaskGraph → ℕ → Type 0
-IsStill graph rounds =
+abbrev pub AreFixedReleases : TaskGraph → ℕ → Type 0
+AreFixedReleases graph rounds =
     (i : ℕ) (m : ℤ) → i < length graph.tasks → releases_after graph (suc rounds) i m ≡ releases_after graph rounds i m

@@ -1,5 +1,5 @@
 -- The lists of events that an executive may do.
-use Rattle.std.specs.Prelude.{◌≡◌, ◌+◌, ◌<◌, ◌≤◌, ◌⊎◌, ℕ, List, [], ◌∷◌, slice_index}
+use Rattle.std.specs.Prelude.{◌≡◌, ◌+◌, ◌<◌, ◌≤◌, ◌⊎◌, ℕ, List, [], ◌∷◌, slice_index, codes}
 use Rattle.prl_plan.specs.declared.events.Action.{Action}
 use Rattle.prl_plan.specs.declared.events.Action.TheVariants as actions
 use Rattle.prl_plan.specs.declared.events.Event.{Event}
@@ -18,20 +18,27 @@ pub record IsUnfinished (c : RunConstants) (s : ExecState) (j n : ℕ) : Type 0 
   pub job : n < c.jobs j
   pub unfinished : slice_index s.ended j ≤ n
 
+-- the name of a rule, as it is written
+abbrev pub rule_text : Rule → List ℕ
+rule_text rules.L1 = codes "L1"
+rule_text rules.L2 = codes "L2"
+rule_text rules.L3 = codes "L3"
+rule_text rules.L4 = codes "L4"
+
 -- L1: the job that acts is released
 abbrev pub ActsReleased : RunConstants → ExecState → ℕ → Type 0
 ActsReleased c s i = c.release i (first_unfinished s i) ≤ s.now
 
--- L2: the task that acts has an unfinished horizon job; the act belongs to the first one
+-- L2: some job of the task is a horizon job that has not ended, and it is the first of these that acts
 abbrev pub HasJob : RunConstants → ExecState → ℕ → Type 0
 HasJob c s i = IsUnfinished c s i (first_unfinished s i)
 
--- L3: no released unfinished horizon job has an earlier deadline than the job that acts
+-- L3: of the released horizon jobs that have not ended, none is due before the job that acts
 abbrev pub ActsFirst : RunConstants → ExecState → ℕ → Type 0
 ActsFirst c s i =
     (j n : ℕ) → IsUnfinished c s j n → c.release j n ≤ s.now → c.deadline i (first_unfinished s i) ≤ c.deadline j n
 
--- L4: a tick stays within the end, and at its deadline a horizon job has ended
+-- L4: the tick is not behind the end, and every horizon job that is due by then has ended
 pub record MayTick (c : RunConstants) (s : ExecState) : Type 0 where
   pub within : s.now + 1 ≤ c.end
   pub ended : (j n : ℕ) → IsUnfinished c s j n → s.now + 1 < c.deadline j n
@@ -75,16 +82,16 @@ IsFree c s (event ∷ events) = KeepsFree c s event × IsFree c (after_event c s
 abbrev pub IsComplete : RunConstants → ExecState → Type 0
 IsComplete c s = (j n : ℕ) → j < c.tasks → n < c.jobs j → n < slice_index s.ended j
 
--- a released unfinished horizon job has an earlier deadline than the job that acts
+-- some released horizon job that has not ended is due before the job that acts
 abbrev pub IsOvertaken : RunConstants → ExecState → ℕ → Type 0
 IsOvertaken c s i =
     (j : ℕ) × (n : ℕ) × IsUnfinished c s j n × (c.release j n ≤ s.now) × (c.deadline j n < c.deadline i (first_unfinished s i))
 
--- a horizon job has not ended, and its deadline is not after the next tick
+-- some horizon job that has not ended is due by the next tick
 abbrev pub IsDue : RunConstants → ExecState → Type 0
 IsDue c s = (j : ℕ) × (n : ℕ) × IsUnfinished c s j n × (c.deadline j n ≤ s.now + 1)
 
--- The first rule that the event breaks. An act is tried against L2, then L1, then L3, and a tick against L4.
+-- The first rule that the event breaks: for an act in the order L2, L1, L3; for a tick L4 alone.
 abbrev pub FirstBroken : RunConstants → ExecState → Event → Rule → Type 0
 FirstBroken c s (events.Act task) rules.L2 = (c.tasks ≤ task.0) ⊎ (c.jobs task.0 ≤ first_unfinished s task.0)
 FirstBroken c s (events.Act task) rules.L1 = HasJob c s task.0 × (s.now < c.release task.0 (first_unfinished s task.0))

@@ -1,78 +1,82 @@
 //! Encoded deadlines of small graphs, by a plain and slow recursion over rounds.
 
-ghost use Rattle.std.specs.Prelude.{◌≡◌, ◌<◌, ℕ, ℤ, pos, ◌+ℤ◌, ◌-ℤ◌, ◌≤ℤ◌, length, drop, IfSome, IsSome};
+ghost use Rattle.std.specs.Prelude.{◌≡◌, ◌<◌, ◌↔◌, ℕ, ℤ, pos, ◌+ℤ◌, ◌-ℤ◌, ◌≤ℤ◌, length, drop, IfSome, IsSome, MatchOption};
 ghost use Rattle.std.specs.Bool.{OnTrue, OnFalse};
 ghost use Rattle.std.specs.Int.{int_min};
 ghost use Rattle.prl_plan.specs.declared.graphs.TaskGraph.{TaskGraph};
 ghost use Rattle.prl_plan.specs.Graphs.{IsWellFormed};
 ghost use Rattle.prl_plan.specs.Dates.{Family, AreDeadlines, AreGreatestDeadlines};
 ghost use Rattle.prl_plan.specs.Jobs.{task_at, deadline_of};
-ghost use Rattle.prl_plan.specs.Stretches.{pulled, following, count_in};
-ghost use Rattle.prl_plan.specs.Deadlines.{earliest_of, needed_by, earliest, deadlines_after, IsStillBack};
+ghost use Rattle.prl_plan.specs.Intervals.{IsIn, preimage, successors, count_in};
+ghost use Rattle.prl_plan.specs.Precedence.{preceding, ComesFrom};
+ghost use Rattle.prl_plan.specs.Ranges.{Fits64, HasFactor, PreimageFits, SuccessorsFit, DueFits, CountFits, DeadlineFits, NeedFits, NeedsFit};
+ghost use Rattle.prl_plan.specs.Deadlines.{earliest_of, needed_by, earliest, deadlines_after, AreFixedDeadlines};
 
 use crate::rounds::{floor_div, release_of_job, task_in};
 use crate::{AnyJob, Edge, Producer, Task, TaskGraph};
 use prl_base::{Op, TaskNo};
 
-/// A stretch of whole numbers. There is none in it where the highest is below the lowest.
+/// A interval of whole numbers. There is none in it where the highest is below the lowest.
 #[derive(Clone, Copy, Debug, PartialEq, Eq)]
-pub struct Stretch {
+pub struct Interval {
     pub lowest: i64,
     pub highest: i64,
 }
 
-/// The numbers that the operator takes into a stretch, or `None` where a bound does not fit.
-fn pull(op: Op, into: Stretch) -> Option<Stretch>
-    ensures { IfSome result (λ s. s ≡ pulled op into) }
+/// The numbers that the operator takes into an interval. `None` exactly where a bound does not fit, or a factor is 0.
+fn preimage_of(op: Op, into: Interval) -> Option<Interval>
+    ensures exact { MatchOption result (¬ (PreimageFits op into)) (λ s. s ≡ preimage op into) }
+    ensures factor { IfSome result (λ s. HasFactor op) }
 {
-    let Stretch { lowest, highest } = into;
+    let Interval { lowest, highest } = into;
     match op {
         Op::Up(k) if k > 0 => {
             let last = i64::from(k).checked_mul(highest)?;
-            Some(Stretch {
+            Some(Interval {
                 lowest: i64::from(k).checked_mul(lowest)?,
                 highest: last.checked_add(i64::from(k - 1))?,
             })
         }
         Op::Down(k) if k > 0 => {
             let opposite = 0i64.checked_sub(lowest)?;
-            Some(Stretch {
+            Some(Interval {
                 lowest: 0i64.checked_sub(floor_div(opposite, k))?,
                 highest: floor_div(highest, k),
             })
         }
         Op::Up(_) | Op::Down(_) => None,
         Op::Shift(_) => Some(into),
-        Op::Tail => Some(Stretch {
+        Op::Tail => Some(Interval {
             lowest: lowest.checked_sub(1)?,
             highest: highest.checked_sub(1)?,
         }),
-        Op::Cons(_) | Op::Fby(_) => Some(Stretch {
+        Op::Cons(_) | Op::Fby(_) => Some(Interval {
             lowest: lowest.checked_add(1)?,
             highest: highest.checked_add(1)?,
         }),
     }
 }
 
-/// The numbers of the consumer's jobs that job `m` of the producer precedes, or `None` where a number on the way does not
-/// fit.
-pub fn following_jobs(ops: &[Op], m: i64) -> Option<Stretch>
-    ensures { IfSome result (λ s. s ≡ following ops.now m) }
+/// The numbers of the consumer's jobs that job `m` of the producer precedes: those from which the operators lead to `m`.
+/// `None` exactly where a bound on the way does not fit, or a factor is 0.
+pub fn following_jobs(ops: &[Op], m: i64) -> Option<Interval>
+    ensures exact { MatchOption result (¬ (SuccessorsFit ops.now m)) (λ s. s ≡ successors ops.now m) }
+    ensures numbers { IfSome result (λ s. (n : ℤ) → IsIn n s ↔ (preceding ops.now n ≡ m)) }
 {
     match ops {
-        [] => Some(Stretch {
+        [] => Some(Interval {
             lowest: m,
             highest: m,
         }),
-        [op, rest @ ..] => pull(*op, following_jobs(rest, m)?),
+        [op, rest @ ..] => preimage_of(*op, following_jobs(rest, m)?),
     }
 }
 
-/// How many numbers are in the stretch.
-fn count_of(stretch: Stretch) -> Option<u64>
-    ensures { IfSome result (λ n. n ≡ count_in stretch) }
+/// How many numbers are in the interval, or `None` where that does not fit.
+fn count_of(interval: Interval) -> Option<u64>
+    ensures { MatchOption result (¬ (CountFits interval)) (λ n. n ≡ count_in interval) }
 {
-    let count = stretch.highest.checked_sub(stretch.lowest)?.checked_add(1)?;
+    let count = interval.highest.checked_sub(interval.lowest)?.checked_add(1)?;
     if count >= 0 {
         Some(count as u64)
     } else {
@@ -82,7 +86,7 @@ fn count_of(stretch: Stretch) -> Option<u64>
 
 /// When job `m` of a task is due, in ticks, or `None` where that does not fit.
 fn deadline_of_job(task: &Task, m: i64) -> Option<i64>
-    ensures { IfSome result (λ d. d ≡ deadline_of task.now m) }
+    ensures { MatchOption result (¬ (DueFits task.now m)) (λ d. d ≡ deadline_of task.now m) }
 {
     let due = i64::try_from(task.due).ok()?;
     release_of_job(task, m)?.checked_add(due)
@@ -90,7 +94,7 @@ fn deadline_of_job(task: &Task, m: i64) -> Option<i64>
 
 /// The earlier of a date and of another less a WCET.
 fn sooner_of(best: i64, date: i64, wcet: u32) -> Option<i64>
-    ensures { IfSome result (λ r. r ≡ int_min best (date -ℤ pos wcet)) }
+    ensures { MatchOption result (¬ (Fits64 (date -ℤ pos wcet))) (λ r. r ≡ int_min best (date -ℤ pos wcet)) }
 {
     let start = date.checked_sub(i64::from(wcet))?;
     Some(best.min(start))
@@ -98,8 +102,9 @@ fn sooner_of(best: i64, date: i64, wcet: u32) -> Option<i64>
 
 /// Whether the edge leads from task `i`.
 fn leads_from(edge: &Edge, i: TaskNo) -> bool
+    ensures from { OnTrue result (ComesFrom edge.now.from i.0) }
     ensures yes { OnTrue result ((graph : TaskGraph) (date : Family) (m b : ℤ) → needed_by graph date i.0 m edge.now edge.now.from b
-        ≡ earliest_of graph date edge.now.to.0 (following edge.now.ops m).lowest (count_in (following edge.now.ops m)) b) }
+        ≡ earliest_of graph date edge.now.to.0 (successors edge.now.ops m).lowest (count_in (successors edge.now.ops m)) b) }
     ensures no { OnFalse result ((graph : TaskGraph) (date : Family) (m b : ℤ) → needed_by graph date i.0 m edge.now edge.now.from b ≡ b) }
 {
     match edge.from {
@@ -108,11 +113,12 @@ fn leads_from(edge: &Edge, i: TaskNo) -> bool
     }
 }
 
-/// The deadline of a job after so many rounds, in ticks, or `None` where a number on the way does not fit or a task is not
-/// there. It does the rounds again for each job that it asks for, so it serves small graphs alone.
+/// The deadline of a job after so many rounds, in ticks. `None` exactly where a number on the way does not fit or a task is
+/// not there. It does the rounds again for each job that it asks for, so it serves small graphs alone.
 #[cycle(back)]
 pub fn deadline_after(graph: &TaskGraph, rounds: u32, job: AnyJob) -> Option<i64>
-    ensures { IfSome result (λ d. d ≡ deadlines_after graph.now rounds job.task.0 job.number) }
+    ensures { MatchOption result (¬ (DeadlineFits graph.now rounds job.task.0 job.number))
+        (λ d. d ≡ deadlines_after graph.now rounds job.task.0 job.number) }
 {
     let first = deadline_of_job(task_in(graph, job.task)?, job.number);
     if rounds == 0 {
@@ -135,7 +141,7 @@ fn needed_along(
     best: Option<i64>,
 ) -> Option<i64>
     ensures date { IfSome result (λ r. IfSome best (λ b. r ≡ needed_by graph.now (deadlines_after graph.now rounds) job.task.0 job.number edge.now edge.now.from b)) }
-    ensures none { IfSome result (λ r. IsSome best) }
+    ensures none { MatchOption result (IsSome best → ¬ (NeedsFit graph.now rounds job.task.0 job.number edge.now)) (λ r. IsSome best) }
 {
     if !leads_from(edge, job.task) {
         return best;
@@ -151,7 +157,8 @@ fn needed_along(
 /// The earliest of a date and what so many jobs ask from the first on, after so many rounds.
 #[cycle(back)]
 fn needed_from(graph: &TaskGraph, rounds: u32, first: AnyJob, count: u64, best: i64) -> Option<i64>
-    ensures { IfSome result (λ r. r ≡ earliest_of graph.now (deadlines_after graph.now rounds) first.task.0 first.number count best) }
+    ensures { MatchOption result (¬ (NeedFits graph.now rounds first.task.0 first.number count))
+        (λ r. r ≡ earliest_of graph.now (deadlines_after graph.now rounds) first.task.0 first.number count best) }
 {
     if count == 0 {
         return Some(best);
@@ -170,5 +177,5 @@ fn needed_from(graph: &TaskGraph, rounds: u32, first: AnyJob, count: u64, best: 
 pub fn rounds_reach_the_greatest_deadlines()
     ensures above { (graph : TaskGraph) → IsWellFormed graph → (other : Family) → AreDeadlines graph other →
         (rounds i : ℕ) (m : ℤ) → i < length graph.tasks → other i m ≤ℤ deadlines_after graph rounds i m }
-    ensures greatest { (graph : TaskGraph) → IsWellFormed graph → (rounds : ℕ) → IsStillBack graph rounds → AreGreatestDeadlines graph (deadlines_after graph rounds) }
+    ensures greatest { (graph : TaskGraph) → IsWellFormed graph → (rounds : ℕ) → AreFixedDeadlines graph rounds → AreGreatestDeadlines graph (deadlines_after graph rounds) }
 {}

@@ -42,21 +42,34 @@ pub enum Action {
 pub enum Rule {
     /// The job that acts is released.
     L1,
-    /// The task that acts has an unfinished job of the horizon.
+    /// The task that acts has an unfinished job of the horizon, and the first such job acts.
     L2,
-    /// No released unfinished job has an earlier encoded deadline than the job that acts.
+    /// The job that acts has the earliest encoded deadline of the released unfinished jobs of the horizon, or shares it.
     L3,
-    /// The clock does not pass the end of the horizon, nor the encoded deadline of an unfinished job.
+    /// The clock goes no further than the end of the horizon, and comes to the encoded deadline of a job of the horizon
+    /// only where that job has ended.
     L4,
 }
 
-impl std::fmt::Display for Rule {
-    fn fmt<W: std::fmt::Write>(&self, f: &mut std::fmt::Formatter<W>) -> std::fmt::Result {
-        f.write_str(match self {
+impl Rule {
+    ghost use Rattle.std.specs.Prelude.{◌≡◌};
+    ghost use Rattle.prl_plan.specs.Rules.{rule_text};
+
+    /// The name of the rule, as it is written.
+    pub fn text(self) -> &'static str
+        ensures { result.now ≡ rule_text self }
+    {
+        match self {
             Rule::L1 => "L1",
             Rule::L2 => "L2",
             Rule::L3 => "L3",
             Rule::L4 => "L4",
-        })
+        }
+    }
+}
+
+impl std::fmt::Display for Rule {
+    fn fmt<W: std::fmt::Write>(&self, f: &mut std::fmt::Formatter<W>) -> std::fmt::Result {
+        f.write_str(self.text())
     }
 }

@@ -1,10 +1,16 @@
 //! What holds of plans, as functions that do nothing: the contract of each is the fact.
 
-ghost use Rattle.std.specs.Prelude.{◌≡◌, ◌<◌, ◌↔◌, ℕ, length, slice_index_or};
+ghost use Rattle.std.specs.Prelude.{◌≡◌, ◌<◌, ◌↔◌, ℕ, pos, List, length, IsSome, slice_get, slice_index_or};
+ghost use Rattle.prl_base.specs.declared.operators.Op.{Op};
 ghost use Rattle.prl_plan.specs.declared.events.Action.TheVariants as actions;
 ghost use Rattle.prl_plan.specs.declared.graphs.TaskGraph.{TaskGraph};
+ghost use Rattle.prl_plan.specs.declared.horizons.Horizon.{Horizon};
+ghost use Rattle.prl_plan.specs.declared.walks.Operand.TheVariants as operands;
+ghost use Rattle.prl_plan.specs.Graphs.{IsWellFormed};
+ghost use Rattle.prl_plan.specs.Operands.{walk, operand_of};
+ghost use Rattle.prl_plan.specs.Precedence.{preceding, ComesFrom};
 ghost use Rattle.prl_plan.specs.Jobs.{task_at, job_count, IsHorizonJob};
-ghost use Rattle.prl_plan.specs.Plans.{PlanView, IsPlan, actions_of, IsActionOf};
+ghost use Rattle.prl_plan.specs.Plans.{PlanView, IsPlan, edge_at, place_on, cell_of, reading, actions_of, IsActionOf};
 ghost use Rattle.prl_plan.specs.Facts.{HasPlanFacts};
 ghost use Rattle.prl_plan.specs.Devices.{LinksDevices};
 ghost use Rattle.prl_plan.specs.Horizons.{IsHorizon, constants_of};
@@ -17,9 +23,16 @@ pub fn horizon_jobs_are_counted()
         IsHorizonJob graph until i n ↔ (n < job_count (task_at graph i) until) }
 {}
 
-/// Each action of a job is what the definitions of operands, used instances and cells say.
+/// Each action of a job is what the definitions of operands, used instances and cells say. A job reads port `p` at place
+/// `p`, and writes to each edge from its task that uses its instance.
 pub fn actions_are_as_defined()
-    ensures { (plan : PlanView) (i n place : ℕ) → IsActionOf plan i n (slice_index_or (actions_of plan i n) place actions.End) }
+    ensures each { (plan : PlanView) (i n place : ℕ) → IsActionOf plan i n (slice_index_or (actions_of plan i n) place actions.End) }
+    ensures reads { (plan : PlanView) → IsWellFormed plan.graph → (e n : ℕ) → e < length plan.graph.edges →
+        slice_get (actions_of plan (edge_at plan.graph e).to.0 n) (edge_at plan.graph e).port
+        ≡ Some (reading plan e (edge_at plan.graph e) (operand_of (edge_at plan.graph e) n)) }
+    ensures writes { (plan : PlanView) (e i n : ℕ) → e < length plan.graph.edges → ComesFrom (edge_at plan.graph e).from i →
+        IsSome (place_on plan e n) →
+        (place : ℕ) × (slice_get (actions_of plan i n) place ≡ Some (actions.Write (record { 0 = e }) n (record { 0 = cell_of plan e n }))) }
 {}
 
 /// Each plan is one: its graph is well formed, and its dates and cells are those of the graph.
@@ -29,13 +42,31 @@ pub fn plan_is_one(plan: &Plan)
     let _ = plan.graph();
 }
 
-/// What the jobs of a plan keep in each of its horizons.
+/// Where the walk of an operand gives an instance, the producer's job of that number precedes the consumer's job.
+pub fn operands_precede()
+    ensures { (ops : List Op) (n m : ℕ) → walk ops n ≡ operands.From m → preceding ops (pos n) ≡ pos m }
+{}
+
+/// An instance that a horizon job reads is one that a horizon job gives.
+pub fn operands_are_of_horizon_jobs()
+    ensures { (graph : TaskGraph) → IsWellFormed graph → (until e i n m : ℕ) → e < length graph.edges →
+        ComesFrom (edge_at graph e).from i → IsHorizonJob graph until (edge_at graph e).to.0 n →
+        operand_of (edge_at graph e) n ≡ operands.From m → IsHorizonJob graph until i m }
+{}
+
+/// What the jobs of every plan keep, in each of its horizons.
+pub fn plans_keep_facts()
+    ensures { (plan : PlanView) (horizon : Horizon) → IsPlan plan → IsHorizon plan horizon → HasPlanFacts (constants_of plan horizon) }
+{}
+
+/// What the jobs of this plan keep in the horizon.
 pub fn plan_facts(plan: &Plan, horizon: Horizon)
     requires { IsHorizon plan.now horizon }
     ensures { HasPlanFacts (constants_of plan.now horizon) }
 {
     let _ = horizon;
-    plan.is_two();
+    plans_keep_facts();
+    plan_is_one(plan);
 }
 
 /// The tasks of a plan are sensors and actuators alone.

@@ -4,14 +4,8 @@ ghost use Rattle.std.specs.Prelude.{◌≡◌, ◌<◌, length, MatchResult};
 ghost use Rattle.prl_plan.specs.Jobs.{task_at, job_count};
 ghost use Rattle.prl_plan.specs.Horizons.{IsHorizon, IsPastLimit};
 
-use crate::Plan;
+use crate::{MAX_EVENTS, MAX_JOBS, Plan};
 use prl_base::{Limit, TaskNo, What};
-
-/// The most jobs that a horizon may have.
-pub const MAX_JOBS: u64 = 200_000;
-
-/// The most events that a horizon may have.
-pub const MAX_EVENTS: u64 = 1_000_000;
 
 /// The horizon of a plan: the jobs that are released before `until`.
 #[derive(Clone, Copy, Debug, PartialEq, Eq)]

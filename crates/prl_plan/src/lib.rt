@@ -6,9 +6,11 @@
 mod deadlines;
 mod events;
 mod facts;
+mod fixed_points;
 mod graphs;
 mod horizons;
 mod laws;
+mod limits;
 mod plans;
 mod rounds;
 mod tables;
@@ -16,16 +18,19 @@ mod tables;
 mod tests;
 mod walks;
 
-pub use deadlines::{Stretch, deadline_after, following_jobs, rounds_reach_the_greatest_deadlines};
+pub use deadlines::{Interval, deadline_after, following_jobs, rounds_reach_the_greatest_deadlines};
 pub use events::{Action, Event, Rule};
 pub use facts::{
-    actions_are_as_defined, horizon_jobs_are_counted, plan_facts, plan_is_one, plan_links_devices,
+    actions_are_as_defined, horizon_jobs_are_counted, operands_are_of_horizon_jobs,
+    operands_precede, plan_facts, plan_is_one, plan_links_devices, plans_keep_facts,
 };
+pub use fixed_points::{hyperperiod_decides, rounds_reach_dates};
 pub use graphs::{Edge, Kind, Producer, Task, TaskGraph};
 pub use horizons::Horizon;
 pub use laws::{
     gated_list_keeps_cells, legal_list_is_gated, run_of_two_lists, write_finds_cell_free,
 };
+pub use limits::{MAX_CELLS, MAX_EDGES, MAX_EVENTS, MAX_JOBS, MAX_PERIOD_JOBS, MAX_TASKS};
 pub use plans::Plan;
 pub use rounds::{AnyJob, preceding_job, release_after, rounds_reach_the_least_releases};
 pub use tables::{Used, Window};

@@ -1,8 +1,8 @@
 use crate::{
     Action, AnyJob, Edge, Horizon, Kind, Operand, Plan, Producer, Task, TaskGraph, deadline_after,
-    release_after, walk_back,
+    release_after, rounds_reach_dates, walk_back,
 };
-use prl_base::{CellNo, Clock, EdgeNo, Label, Limit, Op, Seq, TaskNo, Ty, Value, What};
+use prl_base::{CellNo, Clock, EdgeNo, Label, Limit, Op, Ratio, Seq, TaskNo, Ty, Value, What};
 use std::alloc::AllocError;
 use std::test::Fail;
 
@@ -94,11 +94,11 @@ fn edge(from: u32, to: u32, port: u32, period: u64, ops: Vec<Op>) -> Edge {
 }
 
 /// A fast task F between a sensor and an actuator, which reads a slow task S that reads it.
-fn fast_and_slow(rt: &HostRuntime) -> Result<TaskGraph, AllocError> {
+fn fast_and_slow(rt: &HostRuntime, slow_wcet: u32) -> Result<TaskGraph, AllocError> {
     let tasks = vec![in rt.alloc();
         task(rt, b"i", Kind::Sensor(0), 10, 1)?,
         task(rt, b"F@0", Kind::Node(0), 10, 2)?,
-        task(rt, b"S@1", Kind::Node(1), 30, 10)?,
+        task(rt, b"S@1", Kind::Node(1), 30, slow_wcet)?,
         task(rt, b"o", Kind::Actuator(0), 10, 1)?,
     ]?;
     let late = vec![in rt.alloc(); Op::Up(3), Op::Fby(Value::Int(0))]?;
@@ -116,61 +116,76 @@ fn fast_and_slow(rt: &HostRuntime) -> Result<TaskGraph, AllocError> {
     })
 }
 
-#[test]
-fn deadlines_by_rounds(rt: HostRuntime) -> Result<(), Fail> {
-    let graph = fast_and_slow(&rt)?;
-    for (i, number, deadline) in [(0, 2, 27), (1, 1, 19), (2, 0, 30), (3, 0, 10), (3, 2, 30)] {
-        let job = AnyJob {
-            task: TaskNo(i),
-            number,
-        };
-        assert_eq!(rt; deadline_after(&graph, 3, job), Some(deadline));
-        assert_eq!(rt; deadline_after(&graph, 4, job), Some(deadline));
-    }
-    Ok(())
-}
-
-#[test]
-fn releases_by_rounds(rt: HostRuntime) -> Result<(), Fail> {
-    let graph = fast_and_slow(&rt)?;
-    for (i, number, release) in [(0, 2, 20), (1, 1, 11), (2, 0, 3), (3, 0, 3), (3, 2, 23)] {
-        let job = AnyJob {
-            task: TaskNo(i),
-            number,
-        };
-        assert_eq!(rt; release_after(&graph, 3, job), Some(release));
-        assert_eq!(rt; release_after(&graph, 4, job), Some(release));
-    }
-    Ok(())
-}
-
-// An actuator of a sensor's flow that is slowed down and sped up again by 3.
-#[test]
-fn dates_of_a_held_flow(rt: HostRuntime) -> Result<(), Fail> {
-    let tasks = vec![in rt.alloc();
-        task(&rt, b"i", Kind::Sensor(0), 10, 1)?,
-        task(&rt, b"o", Kind::Actuator(0), 10, 1)?,
-    ]?;
-    let held = vec![in rt.alloc(); Op::Up(3), Op::Down(3)]?;
-    let graph = TaskGraph {
+/// A sensor and an actuator of WCET 1 on period 10, with these operators between them, and another start of the actuator.
+fn sensor_and_actuator(
+    rt: &HostRuntime,
+    ops: Vec<Op>,
+    start: u64,
+) -> Result<TaskGraph, AllocError> {
+    let mut actuator = task(rt, b"o", Kind::Actuator(0), 10, 1)?;
+    actuator.clock.start = start;
+    let tasks = vec![in rt.alloc(); task(rt, b"i", Kind::Sensor(0), 10, 1)?, actuator]?;
+    Ok(TaskGraph {
         tasks: Seq::new(tasks),
-        edges: Seq::new(vec![in rt.alloc(); edge(0, 1, 0, 10, held)]?),
+        edges: Seq::new(vec![in rt.alloc(); edge(0, 1, 0, 10, ops)]?),
         hyper: 30,
-    };
-    for (i, number, release, deadline) in [
+    })
+}
+
+/// A job with its encoded release and deadline.
+type Dated = (u32, i64, i64, i64);
+
+/// Whether these rounds reach the encoded dates, and the jobs have these.
+fn has_dates(graph: &TaskGraph, rounds: u32, jobs: &[Dated]) -> bool {
+    if rounds > 10 || rounds_reach_dates(graph, rounds) != Some(true) {
+        return false;
+    }
+    jobs.iter().all(|dated| {
+        let (i, number, release, deadline) = *dated;
+        let job = AnyJob {
+            task: TaskNo(i),
+            number,
+        };
+        release_after(graph, rounds, job) == Some(release)
+            && deadline_after(graph, rounds, job) == Some(deadline)
+    })
+}
+
+#[test]
+fn dates_of_a_fast_and_a_slow_task(rt: HostRuntime) -> Result<(), Fail> {
+    let graph = fast_and_slow(&rt, 10)?;
+    assert_eq!(rt; rounds_reach_dates(&graph, 1), Some(false));
+    let jobs = [
+        (0, 2, 20, 27),
+        (1, 1, 11, 19),
+        (2, 0, 3, 30),
+        (3, 0, 3, 10),
+        (3, 2, 23, 30),
+    ];
+    assert!(rt; has_dates(&graph, 3, &jobs));
+    let exact = [(0, 0, 0, 1), (1, 0, 1, 3), (2, 0, 3, 30), (0, 1, 10, 17)];
+    assert!(rt; has_dates(&fast_and_slow(&rt, 27)?, 3, &exact));
+    // Here the slow task has no room: 3 and then 28 is past its deadline.
+    let narrow = [(0, 0, 0, 0), (1, 0, 1, 2), (2, 0, 3, 30)];
+    assert!(rt; has_dates(&fast_and_slow(&rt, 28)?, 3, &narrow));
+    Ok(())
+}
+
+#[test]
+fn dates_behind_operators(rt: HostRuntime) -> Result<(), Fail> {
+    let held = vec![in rt.alloc(); Op::Up(3), Op::Down(3)]?;
+    let jobs = [
         (0, 0, 0, 9),
         (0, 1, 10, 20),
         (0, 2, 20, 30),
         (1, 0, 1, 10),
         (1, 1, 10, 20),
         (1, -3, -29, -20),
-    ] {
-        let job = AnyJob {
-            task: TaskNo(i),
-            number,
-        };
-        assert_eq!(rt; release_after(&graph, 2, job), Some(release));
-        assert_eq!(rt; deadline_after(&graph, 2, job), Some(deadline));
-    }
+    ];
+    assert!(rt; has_dates(&sensor_and_actuator(&rt, held, 0)?, 2, &jobs));
+    let half = Ratio::new(3, 2).ok().ok_or("a ratio")?;
+    let later = vec![in rt.alloc(); Op::Shift(half)]?;
+    let jobs = [(0, 0, 0, 10), (1, 0, 15, 25), (1, 1, 25, 35)];
+    assert!(rt; has_dates(&sensor_and_actuator(&rt, later, 15)?, 2, &jobs));
     Ok(())
 }

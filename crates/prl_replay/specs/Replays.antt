@@ -1,5 +1,5 @@
 -- What it is to replay a list of events.
-use Rattle.std.specs.Prelude.{◌≡◌, ◌+◌, ◌<◌, ℕ, Bool, true, false, List, [], ◌∷◌, length, take, filter, Some, slice_get}
+use Rattle.std.specs.Prelude.{◌≡◌, ◌+◌, ◌-◌, ◌<◌, ◌≤◌, ℕ, Bool, true, false, List, [], ◌∷◌, length, take, filter, Some, slice_get}
 use Rattle.prl_plan.specs.declared.events.Event.{Event}
 use Rattle.prl_plan.specs.Runs.{after_event, after_events}
 use Rattle.prl_plan.specs.Rules.{IsLegal, IsComplete, FirstBroken, IsFirstUnfinished}
@@ -48,3 +48,10 @@ IsReplayFault core events (faults.Illegal line rule) =
 IsReplayFault core events (faults.Unfinished task job) =
     IsLegal (constants core) core.state events × IsFirstUnfinished (constants core) (behind core events).state task.0 job
 IsReplayFault core events faults.Memory = Unit {0}
+
+-- Where the machine stands when the events were no whole run: behind those before the one that breaks a rule, or behind all
+-- of them, or, where memory ran out, behind a front of them.
+abbrev pub StopsAt : CoreView → List Event → CoreView → ReplayFault → Type 0
+StopsAt core events left (faults.Illegal line rule) = left ≡ behind core (take (line - 1) events)
+StopsAt core events left (faults.Unfinished task job) = left ≡ behind core events
+StopsAt core events left faults.Memory = (done : ℕ) × (done ≤ length events) × (left ≡ behind core (take done events))

@@ -1,10 +1,10 @@
 //! A list of events, done one by one on the machine of a plan.
 
-ghost use Rattle.std.specs.Prelude.{◌≡◌, ◌<◌, ◌≤◌, ◌++◌, [], ◌∷◌, All, IfOk, OnOk, MatchResult, filter, length};
+ghost use Rattle.std.specs.Prelude.{◌≡◌, ◌<◌, ◌≤◌, ◌++◌, [], ◌∷◌, All, OnOk, MatchResult, filter, length};
 ghost use Rattle.std.specs.Vec.{vec_items};
 ghost use Rattle.prl_plan.specs.Runs.{opening};
 ghost use Rattle.prl_core.specs.Machine.{CoreView, constants, IsOfPlan};
-ghost use Rattle.prl_replay.specs.Replays.{is_read, behind, IsReplay, IsReplayFault};
+ghost use Rattle.prl_replay.specs.Replays.{is_read, behind, IsReplay, IsReplayFault, StopsAt};
 
 use prl_base::TaskNo;
 use prl_core::{Core, Seen, Unfinished};
@@ -57,8 +57,8 @@ fn keep_read(reads: &mut Vec<Seen>, seen: Seen) -> Result<(), AllocFailed<Seen>>
     }
 }
 
-/// Does the events in order, from the opening on, and tells what their jobs read. At Ok every event kept the rules and
-/// every job of the horizon has ended.
+/// Does the events in order, from the state of the machine on, and tells what their jobs read. At Ok every event kept the
+/// rules and every job of the horizon has ended. An event that breaks a rule leaves the machine behind the events before it.
 pub fn replay(
     alloc: Global,
     core: &mut Core<'_>,
@@ -66,7 +66,7 @@ pub fn replay(
 ) -> Result<Vec<Seen>, ReplayFault>
     requires plan { All (IsOfPlan core.old.plan) events.now }
     ensures run { MatchResult result (λ reads. IsReplay core.entry.now events.now reads.items) (IsReplayFault core.entry.now events.now) }
-    ensures state { IfOk result (λ _. core.exit.now ≡ behind core.entry.now events.now) }
+    ensures state { MatchResult result (λ _. core.exit.now ≡ behind core.entry.now events.now) (StopsAt core.entry.now events.now core.exit.now) }
 {
     let mut reads = Vec::new(alloc);
     for (i, event) in events.iter().enumerate() {

@@ -10,6 +10,6 @@ one_of n = record { 0 = n } ∷ []
 pub new-requires : goal.new-requires
 unfolding one_of
 new-requires c =
-    IsFlat-made c.args.sensor.now c.args.actuator.now c.args.links.now c.requires _ _ _ _ _
-    (c.new-flows.ensures ∙ c.in_ok-link_flows.ensures) c.in_ok-ins.ensures (c.in_ok-outs.ensures ∙ ap one_of c.flow_named.ensures.exact)
+    IsFlat-made c.args.sensor.now c.args.actuator.now c.args.links.now c.requires _ _ _ _ _ _
+    (c.new-flows.ensures ∙ c.in_ok-link_flows.ensures) c.no_apps.ensures c.in_ok-ins.ensures (c.in_ok-outs.ensures ∙ ap one_of c.flow_named.ensures.exact)
     c.in_ok-sensors.ensures c.in_ok-actuators.ensures

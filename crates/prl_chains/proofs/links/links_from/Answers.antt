@@ -1,4 +1,4 @@
-use Rattle.std.proofs.Common.{Some, IfSome, length, sym, ◌∙◌, subst, arith, vec_items}
+use Rattle.std.proofs.Common.{IfSome, length, sym, ◌∙◌, subst, arith, vec_items}
 use Rattle.prl_ast.specs.Trees.{node_tree}
 use Rattle.prl_chains.specs.Links.{IsLink}
 use Rattle.prl_chains.proofs.ChainLinks.{links_from-next, AreLinks-next}

@@ -1,7 +1,9 @@
-use Rattle.std.proofs.Common.{◌≡◌, [], replicate, ◌∙◌}
+use Rattle.std.proofs.Common.{◌≡◌, List, [], replicate, ◌∙◌}
 use Rattle.std.proofs.lemmas.List.{get_or_read}
 use Rattle.std.proofs.lemmas.Result.{IfOk-weaker}
 use Rattle.prl_flow.specs.declared.programs.Def.TheVariants as definitions
+use Rattle.prl_body.specs.declared.bodies.Parts.{Parts}
+use Rattle.prl_flow.specs.Programs.{FlatProgram}
 use Rattle.prl_flow.specs.Instances.{HasSource, AreFirst, instance_of_operator}
 use Rattle.prl_flow.specs.Solutions.{values_of, clock_of, MeetsDefinition}
 use Rattle.prl_flow.proofs.ClockDates.{HasEnough-from_IsUpTo, OperatorByDate-from_instances}
@@ -23,8 +25,8 @@ operator_values-requires c = λ fits.
 pub returns-in-Const-clause-meets : goal.returns-in-Const-clause-meets
 returns-in-Const-clause-meets c =
     IfOk-weaker c.constant.result (λ v. v.items ≡ replicate c.dates_before-count.result c.in-Const.value)
-    (λ v. MeetsDefinition c.args.clocks.now c.args.sensors.now c.args.until c.args.flows.now c.args.clock v.items c.args.def)
-    (λ v same. rw c.in-Const.is (constant_meets c.args.clocks.now c.args.sensors.now c.args.until c.args.flows.now c.args.clock c.in-Const.value v.items c.requires.clock (rw c.dates_before-count.ensures.count at same)))
+    (λ v. (p : FlatProgram) (bodies : List Parts) → MeetsDefinition p c.args.clocks.now bodies c.args.sensors.now c.args.until c.args.flows.now c.args.clock v.items c.args.def)
+    (λ v same p bodies. rw c.in-Const.is (constant_meets p c.args.clocks.now bodies c.args.sensors.now c.args.until c.args.flows.now c.args.clock c.in-Const.value v.items c.requires.clock (rw c.dates_before-count.ensures.count at same)))
     c.constant.ensures
 
 pub returns-in-Op-clause-meets : goal.returns-in-Op-clause-meets
@@ -38,8 +40,8 @@ returns-in-Op-clause-meets c =
     let operand : c.as_slice-in-Op.result.now ≡ values_of flows of =
     c.as_slice-in-Op.ensures ∙ get_or_read flows of _ source.0 c.index-flows-of-in-Op.is [] in
     IfOk-weaker c.operator_values.result (λ v. AreFirst (instance_of_operator op c.as_slice-in-Op.result.now) c.dates_before-count.result v.items)
-    (λ v. MeetsDefinition c.args.clocks.now c.args.sensors.now until flows c.args.clock v.items c.args.def)
-    (λ v first. rw c.in-Op.is
+    (λ v. (p : FlatProgram) (bodies : List Parts) → MeetsDefinition p c.args.clocks.now bodies c.args.sensors.now until flows c.args.clock v.items c.args.def)
+    (λ v first p bodies. rw c.in-Op.is
     (OperatorByDate-from_instances op clock (values_of flows of) c.args.clock v.items until source.1 c.requires.clock source.2 c.operator_values.ensures.denominated
     (rw (operand, c.dates_before-count.ensures.count) at first)))
     c.operator_values.ensures.values

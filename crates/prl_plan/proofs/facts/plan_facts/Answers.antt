@@ -1,5 +1,4 @@
-use Rattle.prl_plan.proofs.TwoHorizon.{two-plan_facts}
 use Rattle.prl_plan.proofs.facts.plan_facts.Goals as goal
 
 pub returns : goal.returns
-returns c = two-plan_facts c.args.plan.now c.is_two.ensures c.args.horizon c.requires
+returns c = c.plans_keep_facts.ensures c.args.plan.now c.args.horizon c.plan_is_one.ensures c.requires

@@ -1,11 +1,18 @@
-use Rattle.std.proofs.Common.{◌≡◌, ℕ, ◌+◌, ◌++◌, [], ◌∷◌, List, take, sym, subst, ◌∙◌, ap, arith, vec_items}
+use Rattle.std.proofs.Common.{◌≡◌, ℕ, ◌+◌, ◌++◌, ◌<◌, [], ◌∷◌, List, Result, Err, length, get_or, take, refl, sym, subst, ◌∙◌, ap, arith, vec_items}
+use Rattle.std.specs.Prelude.{MatchResult}
+use Rattle.std.proofs.lemmas.Result.{err_from_is_err_and}
+use Rattle.std.proofs.lemmas.Option.{slice_get-get_or}
 use Rattle.std.proofs.lemmas.List.{take_more, take_all}
 use Rattle.prl_plan.specs.declared.events.Event.{Event}
-use Rattle.prl_plan.specs.Rules.{IsLegal, IsComplete, IsFirstUnfinished}
+use Rattle.prl_plan.specs.declared.events.Event.TheVariants as events
+use Rattle.prl_plan.specs.Rules.{IsLegal, IsComplete, IsFirstUnfinished, FirstBroken}
 use Rattle.prl_core.specs.Machine.{CoreView, constants}
-use Rattle.prl_replay.specs.Replays.{behind, TellsAll}
+use Rattle.prl_replay.specs.Replays.{behind, TellsAll, StopsAt}
 use Rattle.prl_replay.proofs.Runs.{legal_on, state_on, told_on}
 use Rattle.prl_replay.proofs.replays.replay.Goals as goal
+
+MatchResult-from_is : {T E : Type 0} {r : Result T E} (P : T → Type 0) (Q : E → Type 0) (d : E) → r ≡ Err d → Q d → MatchResult r P Q
+MatchResult-from_is P Q d is h = subst (λ x. MatchResult x P Q) (sym is) h
 
 pub loop-i-preserved : goal.loop-i-preserved
 loop-i-preserved c =
@@ -34,4 +41,27 @@ returns-in-Err-finished-clause-run c =
     let state = c.loop-i.invariant.state ∙ ap (behind c.args.core.now) whole in (
       subst (IsLegal (constants c.args.core.now) c.args.core.now.state) whole c.loop-i.invariant.legal,
       subst (λ (m : CoreView). IsFirstUnfinished (constants m) m.state c.in-Err-finished.field-0.task.0 c.in-Err-finished.field-0.job) state c.in-Err-finished.ensures,
+    )
+
+pub returns-in_err-keep_read-in-Ok-clause-state : goal.returns-in_err-keep_read-in-Ok-clause-state
+returns-in_err-keep_read-in-Ok-clause-state c =
+    let p = err_from_is_err_and c.from_residual.result c.from_residual.ensures.1 in
+    let more = take_more c.args.events.now c.loop-i.i events.Tick (omega arith) in
+    let inside : c.loop-i.i < length c.args.events.now = c.loop-i-test.true in
+    MatchResult-from_is (λ _. c.step.new.self ≡ behind c.args.core.now c.args.events.now) (StopsAt c.args.core.now c.args.events.now c.step.new.self) p.0 p.1
+    (subst (StopsAt c.args.core.now c.args.events.now c.step.new.self) (sym p.2) (
+      c.loop-i.i + 1,
+      (omega (arith, inside)),
+      state_on c.args.core.now c.loop-i.core c.step.new.self (take c.loop-i.i c.args.events.now) (take (c.loop-i.i + 1) c.args.events.now) _ more c.loop-i.invariant.state c.in-Ok.ensures.ok.2,
+    ))
+
+pub returns-in-Err-clause-run : goal.returns-in-Err-clause-run
+returns-in-Err-clause-run c =
+    let inside : c.loop-i.i < length c.args.events.now = c.loop-i-test.true in (
+      c.loop-i.i,
+      get_or c.args.events.now c.loop-i.i events.Tick,
+      refl,
+      slice_get-get_or c.args.events.now c.loop-i.i events.Tick inside,
+      c.loop-i.invariant.legal,
+      subst (λ (m : CoreView). FirstBroken (constants m) m.state (get_or c.args.events.now c.loop-i.i events.Tick) c.in-Err.illegal.rule) c.loop-i.invariant.state c.in-Err.ensures.err.0,
     )

@@ -1,0 +1,12 @@
+pub mod LinkTrees
+pub mod Loops
+pub mod Simple
+pub mod Levels
+pub mod Grows
+pub mod Alike
+pub mod Depths
+pub mod Calls
+pub mod Operands
+pub mod Texts
+pub mod RangeFaults
+pub mod WholeTexts

@@ -1,0 +1,31 @@
+use Rattle.std.proofs.Common.{◌≡◌, List, map, sym, ap, ◌∙◌, subst}
+use Rattle.std.proofs.lemmas.List.{map_push}
+use Rattle.prl_reader.specs.Readers.{many_at}
+use Rattle.prl_body.specs.Texts.{TextTree, text_tree}
+use Rattle.prl_bodytext.specs.declared.words.Fixed.TheVariants as fixed
+use Rattle.prl_bodytext.specs.Signs.{only}
+use Rattle.prl_bodytext.specs.Loops.{with_front}
+use Rattle.prl_bodytext.specs.Readers.{body_at, bodies_at}
+use Rattle.prl_bodytext.proofs.Loops.{goes_on, halts, fails, none_before}
+use Rattle.prl_bodytext.proofs.Texts.{body_steps}
+use Rattle.prl_bodytext.proofs.bodies.several.Goals as goal
+
+pub returns : goal.returns
+unfolding bodies_at
+returns c = halts body_steps _ _ _ (sym c.next_is.ensures ∙ c.more-test.false) c.more.invariant
+
+pub returns-in-Err : goal.returns-in-Err
+unfolding bodies_at
+returns-in-Err c = fails body_steps c.in-Err.stop _ c.more.rest.now _ (sym c.next_is.ensures ∙ c.more-test.true) c.in-Err.ensures c.more.invariant
+
+pub more-init : goal.more-init
+more-init c = none_before _ _ (ap (map text_tree) c.new-bodies.ensures.items)
+
+pub more-smaller : goal.more-smaller
+more-smaller c = body_steps.fewer c.more.rest.now _ _ c.in-Ok.ensures
+
+pub more-preserved : goal.more-preserved
+more-preserved c =
+    let after = c.in-Ok.read.1.now in
+    let P : List TextTree → Type 0 = λ front. with_front front (many_at (only fixed.Body) body_at after) ≡ many_at (only fixed.Body) body_at c.args.terminals.now in
+    subst P (sym (ap (map text_tree) c.in_ok-push.ensures.items ∙ map_push text_tree c.more.bodies.items c.in-Ok.read.0)) (goes_on body_steps _ _ _ _ _ (sym c.next_is.ensures ∙ c.more-test.true) c.in-Ok.ensures c.more.invariant)

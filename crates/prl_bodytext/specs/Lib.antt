@@ -1,0 +1,9 @@
+pub mod Words
+pub mod Signs
+pub mod Trees
+pub mod Grammar
+pub mod Readers
+pub mod Loops
+pub mod Lexing
+pub mod Ranges
+pub mod Parsing

@@ -1,0 +1,102 @@
+-- The bodies that a text has, or its first fault.
+use Rattle.prl_reader.specs.declared.reading.Stop.{Stop as Stopped}
+use Rattle.prl_reader.specs.declared.reading.Stop.TheVariants as stops
+use Rattle.std.specs.Prelude.{◌≡◌, ◌⊎◌, ℕ, ◌-◌, false, List, [], ◌∷◌, length, drop, Option, Some, None, Result, Ok, Err}
+use Rattle.prl_base.specs.Reading.{◌>>=◌}
+use Rattle.prl_body.specs.declared.faults.BodyFault.{BodyFault}
+use Rattle.prl_body.specs.declared.faults.BodyFault.TheVariants as faults
+use Rattle.prl_body.specs.Texts.{TextTree}
+use Rattle.prl_lex.specs.declared.tokens.LexFault.{LexFault}
+use Rattle.prl_lex.specs.declared.tokens.LexFault.TheVariants as lexical
+use Rattle.prl_lex.specs.declared.tokens.Token.{Token}
+use Rattle.prl_lex.specs.Lexing.{tokens_of}
+use Rattle.prl_reader.specs.Lexemes.{Lexeme}
+use Rattle.prl_reader.specs.Readers.{Stop, Stuck, Deep}
+use Rattle.prl_reader.specs.Whole.{all_at, IsFirstUnexpected}
+use Rattle.prl_bodytext.specs.Grammar.{BodiesText}
+use Rattle.prl_bodytext.specs.Lexing.{lexemes_of}
+use Rattle.prl_bodytext.specs.Ranges.{out_of_range}
+use Rattle.prl_bodytext.specs.Readers.{bodies_at}
+
+abbrev pub of_lexical : LexFault → BodyFault
+of_lexical (lexical.BadToken at) = faults.Syntax at
+of_lexical (lexical.NumberRange at) = faults.Syntax at
+of_lexical (lexical.Limit limit) = faults.Limit limit
+of_lexical lexical.Memory = faults.Memory
+
+abbrev pub lexed : Result (List Token) LexFault → Result (List Token) BodyFault
+lexed (Ok tokens) = Ok tokens
+lexed (Err fault) = Err (of_lexical fault)
+
+-- the place of the first of the tokens, or the end of the text
+abbrev pub place_or : ℕ → List Lexeme → ℕ
+place_or end [] = end
+place_or end (t ∷ ts) = t.at.at
+
+-- the place behind which so many tokens are left, its own among them
+abbrev pub place_of : List Lexeme → ℕ → ℕ → ℕ
+place_of ts left end = place_or end (drop (length ts - left) ts)
+
+abbrev pub of_stop : List Lexeme → ℕ → Stop → BodyFault
+of_stop ts end (Stuck left) = faults.Syntax (place_of ts left end)
+of_stop ts end Deep = faults.Memory
+
+abbrev pub placed : List Lexeme → ℕ → Result (List TextTree) Stop → Result (List TextTree) BodyFault
+placed ts end (Ok trees) = Ok trees
+placed ts end (Err stop) = Err (of_stop ts end stop)
+
+-- what the code answers where its reader stopped
+abbrev pub FaultOfStop : List Lexeme → ℕ → Stopped → BodyFault → Type 0
+FaultOfStop ts end (stops.Unexpected left) fault = fault ≡ faults.Syntax (place_of ts left end)
+FaultOfStop ts end stops.Memory fault = fault ≡ faults.Memory
+
+abbrev pub ranged : Option ℕ → List TextTree → Result (List TextTree) BodyFault
+ranged None trees = Ok trees
+ranged (Some at) trees = Err (faults.Syntax at)
+
+unfoldable pub bodies_of_tokens : List Lexeme → ℕ → Result (List TextTree) BodyFault
+bodies_of_tokens ts end = do
+  trees ← placed ts end (all_at bodies_at ts)
+  ranged (out_of_range false 0 ts) trees
+
+unfoldable pub bodies_of : List ℕ → Result (List TextTree) BodyFault
+bodies_of text = do
+  tokens ← lexed (tokens_of text)
+  bodies_of_tokens (lexemes_of text tokens) (length text)
+
+-- The text has these bodies: its tokens are a text of the grammar, with these trees, and its numbers are in range.
+pub record AreBodiesOf (text : List ℕ) (trees : List TextTree) : Type 0 where
+  pub tokens : List Token
+  pub lexical : tokens_of text ≡ Ok tokens
+  pub written : BodiesText trees (lexemes_of text tokens)
+  pub ranges : out_of_range false 0 (lexemes_of text tokens) ≡ None
+
+-- The first unexpected token of the text is at the place: no text of the grammar begins with the tokens up to it.
+pub record IsUnexpectedAt (text : List ℕ) (at : ℕ) : Type 0 where
+  pub tokens : List Token
+  pub left : ℕ
+  pub lexical : tokens_of text ≡ Ok tokens
+  pub first : IsFirstUnexpected BodiesText (lexemes_of text tokens) left
+  pub place : at ≡ place_of (lexemes_of text tokens) left (length text)
+
+-- The number at the place is the first out of its range, in a text of the grammar.
+pub record IsOutOfRangeAt (text : List ℕ) (at : ℕ) : Type 0 where
+  pub tokens : List Token
+  pub trees : List TextTree
+  pub lexical : tokens_of text ≡ Ok tokens
+  pub written : BodiesText trees (lexemes_of text tokens)
+  pub first : out_of_range false 0 (lexemes_of text tokens) ≡ Some at
+
+-- no token begins at the place, or a number above 2^64 - 1 does
+abbrev pub IsBadTokenAt : List ℕ → ℕ → Type 0
+IsBadTokenAt text at = (tokens_of text ≡ Err (lexical.BadToken at)) ⊎ (tokens_of text ≡ Err (lexical.NumberRange at))
+
+-- what each fault means for the text; there are no other ones
+abbrev pub Explains : List ℕ → BodyFault → Type 0
+Explains text (faults.Syntax at) = IsBadTokenAt text at ⊎ (IsUnexpectedAt text at ⊎ IsOutOfRangeAt text at)
+Explains text (faults.Limit limit) = tokens_of text ≡ Err (lexical.Limit limit)
+Explains text (faults.BodyName at) = ⊥
+Explains text (faults.BodyType at) = ⊥
+Explains text (faults.BodyArity at) = ⊥
+Explains text (faults.Missing name) = ⊥
+Explains text faults.Memory = Unit {0}

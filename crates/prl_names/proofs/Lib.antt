@@ -1,0 +1,11 @@
+pub mod Absent
+pub mod Apart
+pub mod Counts
+pub mod FirstPlaces
+pub mod Marking
+pub mod Params
+pub mod Reaching
+pub mod Repeating
+pub mod Right
+pub mod Rowing
+pub mod Rows

@@ -1,0 +1,10 @@
+use Rattle.std.proofs.Common.{◌≡◌, length}
+use Rattle.prl_ast.specs.Trees.{program_tree}
+use Rattle.prl_names.specs.Marks.{AreRows}
+use Rattle.prl_names.proofs.applications.closed_rows.Given as goal
+
+abbrev pub invariant-loop-k : goal.invariant-loop-k
+invariant-loop-k l = record {
+  rows : AreRows (program_tree l.names) l.k 0 l.rows.items;
+  len : length l.rows.items ≡ length l.names.nodes;
+}

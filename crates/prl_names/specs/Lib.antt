@@ -1,0 +1,10 @@
+pub mod Applications
+pub mod Checks
+pub mod ExprLists
+pub mod Lookups
+pub mod Marks
+pub mod Mentions
+pub mod Named
+pub mod Repeats
+pub mod Tables
+pub mod Unknowns

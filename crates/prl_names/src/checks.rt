@@ -1,0 +1,124 @@
+//! The checks of the names of a program.
+
+ghost use Rattle.std.specs.Prelude.{◌≡◌, ◌<◌, IfOk, IfSome, length};
+ghost use Rattle.std.specs.Option.{option_copied};
+ghost use Rattle.prl_base.specs.Reading.{Gives};
+ghost use Rattle.prl_ast.specs.Trees.{program_tree};
+ghost use Rattle.prl_names.specs.Named.{IsNamed};
+ghost use Rattle.prl_names.specs.Checks.{fault_of, main_of, names_of};
+
+use crate::absences::{undefined, without_device};
+use crate::applications::recursive;
+use crate::lookups::Names;
+use crate::repeats::repeat;
+use crate::unknowns::unknown;
+use prl_base::{Label, Name};
+use std::alloc::{AllocError, Global};
+
+/// Why the names of a program are refused.
+#[derive(Debug, Drop)]
+pub enum NameFault {
+    /// A name that is declared or defined a second time; number 11.
+    Twice(Name),
+    /// A name that is used and stands for nothing, or an input or output of main without a device; number 10.
+    Unknown(Name),
+    /// An output or a local without an equation; number 15.
+    Undefined(Name),
+    /// A node that applies itself through a cycle of applications; number 16.
+    Recursive(Name),
+    /// There is no node, or none of the name that is asked for; number 14.
+    NoMain,
+    Memory,
+}
+
+impl From<AllocError> for NameFault {
+    ghost use Rattle.std.specs.Prelude.{◌≡◌};
+    ghost use Rattle.prl_names.specs.declared.checks.NameFault.TheVariants.{Memory};
+
+    ghost from_gives = { λ _ e. e ≡ Memory };
+
+    fn from(_error: AllocError) -> NameFault {
+        NameFault::Memory
+    }
+}
+
+/// The place of the main node: the one of the name, or where no name is given the last.
+fn main_of(names: &Names<'_>, main: Option<&Label>) -> Option<usize>
+    ensures place { result ≡ main_of (program_tree names.now) (option_copied main.entry) }
+    ensures within { IfSome result (λ node. node < length names.now.nodes) }
+{
+    let nodes = names.program().nodes.as_slice();
+    match main {
+        None => {
+            if nodes.is_empty() {
+                None
+            } else {
+                Some(nodes.len() - 1)
+            }
+        }
+        Some(label) => {
+            for (k, node) in nodes.iter().enumerate() {
+                if node.name.bytes() == label.bytes() {
+                    return Some(k);
+                }
+            }
+            None
+        }
+    }
+}
+
+/// The place of the main node, or the first fault.
+#[tactic(auto, unfolding(crate::specs::Checks::names_of))]
+fn checked(alloc: Global, names: &Names<'_>, main: Option<&Label>) -> Result<usize, NameFault>
+    ensures { Gives (λ node. node) fault_of result (names_of (program_tree names.now) (option_copied main.entry)) }
+{
+    let program = names.program();
+    if let Some(mention) = repeat(alloc, names)? {
+        return Err(NameFault::Twice(mention.name.copy(alloc)?));
+    }
+    if let Some(name) = unknown(names) {
+        return Err(NameFault::Unknown(name.copy(alloc)?));
+    }
+    if let Some(name) = undefined(alloc, program)? {
+        return Err(NameFault::Undefined(name.copy(alloc)?));
+    }
+    if let Some(name) = recursive(alloc, names)? {
+        return Err(NameFault::Recursive(name.copy(alloc)?));
+    }
+    let node = match main_of(names, main) {
+        Some(node) => node,
+        None => return Err(NameFault::NoMain),
+    };
+    if let Some(name) = without_device(alloc, program, node)? {
+        return Err(NameFault::Unknown(name.copy(alloc)?));
+    }
+    Ok(node)
+}
+
+/// The place of the main node in the list of nodes, counted from 0: of the node of the name `main`, or where no
+/// name is given of the last.
+///
+/// Else the first fault in this order, and within a row the first in the order of the text. All nodes are looked at,
+/// also such as main does not apply.
+///
+/// - `Twice`: a node or import, a sensor, an actuator, or a flow of one node or import is declared a second time;
+///   or a flow is defined a second time, where an input is defined by its declaration.
+/// - `Unknown`: an equation uses a name, on its left or in its expression, that is no flow of its node, or applies a
+///   name that is no node or import.
+/// - `Undefined`: an output or a local has no equation.
+/// - `Recursive`: a node applies itself, directly or through others.
+/// - `NoMain`: there is no node, or none of the name `main`.
+/// - `Unknown`: an input of main has no sensor of its name, or an output no actuator.
+/// - `Memory`: memory ran out; this may come in place of each of the others.
+pub fn check_names(
+    alloc: Global,
+    names: &Names<'_>,
+    main: Option<&Label>,
+) -> Result<usize, NameFault>
+    // The main node, or the first fault.
+    ensures exact { Gives (λ node. node) fault_of result (names_of (program_tree names.now) (option_copied main.entry)) }
+    // What is known of a program whose names are right.
+    ensures named { IfOk result (IsNamed (program_tree names.now)) }
+{
+    checked(alloc, names, main)
+}

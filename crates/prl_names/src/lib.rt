@@ -1,0 +1,20 @@
+//! The names of a program: what each stands for, and the checks that come before those of types. It stands on
+//! the syntax tree of `prl_ast`.
+#![tactic(auto)]
+
+mod absences;
+mod applications;
+mod checks;
+mod laws;
+mod lookups;
+mod mentions;
+mod repeats;
+mod tables;
+mod unknowns;
+
+pub use checks::{NameFault, check_names};
+pub use laws::{place_has_the_name, reaching_is_found};
+pub use lookups::{Callee, Names};
+
+#[cfg(test)]
+mod tests;

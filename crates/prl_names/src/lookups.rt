@@ -1,0 +1,89 @@
+//! What a name of a program stands for.
+
+ghost use Rattle.std.specs.Prelude.{◌≡◌, IfOk};
+ghost use Rattle.prl_ast.specs.Trees.{program_tree};
+ghost use Rattle.prl_names.specs.Lookups.{param_at, callee_of};
+
+use crate::mentions::{imports, nodes};
+use crate::tables::{Places, all_params, found, param_in, places};
+use prl_ast::Program;
+use std::alloc::{AllocError, Global};
+use std::marker::Model;
+
+/// What an application applies: a node or an import, by its place in the list of these, from 0.
+#[derive(Clone, Copy, Debug, PartialEq, Eq)]
+pub enum Callee {
+    Node(usize),
+    Import(usize),
+}
+
+/// The names of a program, which it borrows. Contracts see that program.
+#[derive(Drop)]
+pub struct Names<'a> {
+    program: &'a Program,
+    nodes: Places<'a>,
+    imports: Places<'a>,
+    params: Vec<Places<'a>>,
+}
+
+impl<'a> Model for Names<'a> {
+    ghost use Rattle.std.specs.Coded.{codes};
+    ghost use Rattle.prl_ast.specs.Trees.{program_tree};
+    ghost use Rattle.prl_ast.specs.contracts.expressions.Base as base;
+    ghost use Rattle.prl_ast.specs.declared.declarations.Program.{Program};
+    ghost use Rattle.prl_names.specs.Tables.{AreTables};
+
+    ghost Value = { Program };
+
+    ghost coded = { Prim.hlevel (codes, base.the_row.coded) };
+
+    ghost view = { λ n. n.program.now };
+
+    ghost invariant = { λ n. AreTables n.nodes n.imports n.params.items (program_tree n.program.now) };
+}
+
+impl<'a> Names<'a> {
+    /// The names of the program.
+    pub fn new(alloc: Global, program: &'a Program) -> Result<Names<'a>, AllocError>
+        ensures { IfOk result (λ names. names ≡ program.now) }
+    {
+        let node_list = nodes(alloc, program.nodes.as_slice())?;
+        let import_list = imports(alloc, program.imports.as_slice())?;
+        Ok(Names {
+            program,
+            nodes: places(alloc, node_list.as_slice())?,
+            imports: places(alloc, import_list.as_slice())?,
+            params: all_params(alloc, program.nodes.as_slice())?,
+        })
+    }
+
+    /// The program.
+    pub fn program(&self) -> &'a Program
+        ensures { result.now ≡ self.now }
+    {
+        self.program
+    }
+
+    /// The place of the parameter of this name of the node at this place in the list of nodes: inputs, outputs
+    /// and locals are counted from 0, one behind the other. None where there is no such node or parameter;
+    /// where several have the name, the first. Takes no memory.
+    pub fn param(&self, node: usize, name: &[u8]) -> Option<usize>
+        ensures { result ≡ param_at (program_tree self.now) node name.now }
+    {
+        param_in(self.params.as_slice(), node, name)
+    }
+
+    /// The node of this name, or where there is none the import; where several have the name, the first. Takes
+    /// no memory.
+    pub fn callee(&self, name: &[u8]) -> Option<Callee>
+        ensures { result ≡ callee_of (program_tree self.now) name.now }
+    {
+        match found(&self.nodes, name) {
+            Some(node) => Some(Callee::Node(node)),
+            None => match found(&self.imports, name) {
+                Some(import) => Some(Callee::Import(import)),
+                None => None,
+            },
+        }
+    }
+}

@@ -1,0 +1,200 @@
+//! The first name of a program that is declared or defined a second time.
+
+ghost use Rattle.std.specs.Prelude.{◌≡◌, ◌≤◌, ◌++◌, length, drop, IfOk, OnOk, map, filter, None};
+ghost use Rattle.std.specs.Option.{option_map, is_some};
+ghost use Rattle.prl_ast.specs.declared.declarations.Placed.{Placed};
+ghost use Rattle.prl_ast.specs.Trees.{node_tree, program_tree};
+ghost use Rattle.prl_names.specs.Lookups.{param_at};
+ghost use Rattle.prl_names.specs.Mentions.{placed_of, placed_param, all_placed};
+ghost use Rattle.prl_names.specs.Repeats.{repeat_in, front_before, rest_from, merged, first_of, earliest_repeat, port_space, flow_space, lefts_of, definition_space, global_spaces, repeat_of};
+
+use crate::lookups::Names;
+use crate::mentions::{Mention, devices, flows, imports, inputs, nodes, ports};
+use prl_ast::{Import, Node, Placed};
+use std::alloc::{AllocError, Global};
+use std::collections::BTreeMap;
+
+/// The first of the names that stands before in the list.
+fn repeat_in<'a>(alloc: Global, space: &[Mention<'a>]) -> Result<Option<Mention<'a>>, AllocError>
+    ensures { IfOk result (λ repeat. option_map placed_of repeat ≡ repeat_in (all_placed space.now)) }
+{
+    let mut seen = BTreeMap::new(alloc);
+    for (k, mention) in space.iter().enumerate() {
+        let bytes = mention.name.bytes();
+        if seen.contains_key(bytes) {
+            return Ok(Some(*mention));
+        }
+        seen.insert(bytes, k)?;
+    }
+    Ok(None)
+}
+
+/// Which of the two stands before the other in the text.
+fn first_of<'a>(a: Option<Mention<'a>>, b: Option<Mention<'a>>) -> Option<Mention<'a>>
+    ensures { option_map placed_of result ≡ first_of (option_map placed_of a.entry) (option_map placed_of b.entry) }
+{
+    match (a, b) {
+        (None, _) => b,
+        (Some(_), None) => a,
+        (Some(x), Some(y)) => if y.at.at < x.at.at { b } else { a },
+    }
+}
+
+/// Appends those of the others, counted from `from`, that stand before the place one behind the other, and
+/// gives where they end.
+fn push_front<'a>(
+    list: &mut Vec<Mention<'a>>,
+    at: u32,
+    others: &[Mention<'a>],
+    from: usize,
+) -> Result<usize, AllocError>
+    requires { from ≤ length others.now }
+    ensures front { OnOk result (all_placed list.new.items ≡ all_placed list.old.items ++ front_before at (all_placed (drop from others.now))) }
+    ensures rest { IfOk result (λ end. all_placed (drop end others.now) ≡ rest_from at (all_placed (drop from others.now))) }
+    ensures within { IfOk result (λ end. end ≤ length others.now) }
+{
+    for k in from..others.len() {
+        let other = others[k];
+        if other.at.at >= at {
+            return Ok(k);
+        }
+        list.push(other)?;
+    }
+    Ok(others.len())
+}
+
+/// Two lists in the order of the text as one.
+fn merged<'a>(
+    alloc: Global,
+    mentions: &[Mention<'a>],
+    others: &[Mention<'a>],
+) -> Result<Vec<Mention<'a>>, AllocError>
+    ensures { IfOk result (λ list. all_placed list.items ≡ merged (all_placed mentions.now) (all_placed others.now)) }
+{
+    let mut list = Vec::new(alloc);
+    let mut from = 0;
+    for mention in mentions {
+        from = push_front(&mut list, mention.at.at, others, from)?;
+        list.push(*mention)?;
+    }
+    list.extend_from_slice(&others[from..])?;
+    Ok(list)
+}
+
+/// The first repeat of the ports of imports, and of another that was found before.
+fn repeat_in_ports<'a>(
+    alloc: Global,
+    before: Option<Mention<'a>>,
+    imports: &'a [Import],
+) -> Result<Option<Mention<'a>>, AllocError>
+    ensures { IfOk result (λ repeat. option_map placed_of repeat ≡ earliest_repeat (option_map placed_of before.entry) (map port_space imports.now)) }
+{
+    let mut first = before;
+    for import in imports {
+        let space = ports(alloc, import)?;
+        first = first_of(first, repeat_in(alloc, space.as_slice())?);
+    }
+    Ok(first)
+}
+
+/// The first repeat of the flows of nodes, and of another that was found before.
+fn repeat_in_flows<'a>(
+    alloc: Global,
+    before: Option<Mention<'a>>,
+    nodes: &'a [Node],
+) -> Result<Option<Mention<'a>>, AllocError>
+    ensures { IfOk result (λ repeat. option_map placed_of repeat ≡ earliest_repeat (option_map placed_of before.entry) (map flow_space (map node_tree nodes.now))) }
+{
+    let mut first = before;
+    for node in nodes {
+        let space = flows(alloc, node)?;
+        first = first_of(first, repeat_in(alloc, space.as_slice())?);
+    }
+    Ok(first)
+}
+
+/// Appends the left names that are flows of the node.
+fn push_defined<'a>(
+    list: &mut Vec<Mention<'a>>,
+    names: &Names<'_>,
+    node: usize,
+    lefts: &'a [Placed],
+) -> Result<(), AllocError>
+    ensures { OnOk result (all_placed list.new.items ≡
+        all_placed list.old.items ++ filter (λ (l : Placed). is_some (param_at (program_tree names.now) node l.name)) lefts.now) }
+{
+    for left in lefts {
+        if names.param(node, left.name.bytes()).is_some() {
+            list.push(Mention {
+                name: &left.name,
+                at: left.at,
+            })?;
+        }
+    }
+    Ok(())
+}
+
+/// What defines a flow of the node at this place: the inputs, and the left names that are flows.
+fn definitions<'a>(
+    alloc: Global,
+    names: &Names<'_>,
+    k: usize,
+    node: &'a Node,
+) -> Result<Vec<Mention<'a>>, AllocError>
+    ensures { IfOk result (λ list. all_placed list.items ≡ map placed_param node.now.ins
+        ++ filter (λ (l : Placed). is_some (param_at (program_tree names.now) k l.name)) (lefts_of (node_tree node.now))) }
+{
+    let mut list = inputs(alloc, node)?;
+    for equation in node.eqs.as_slice() {
+        push_defined(&mut list, names, k, equation.lefts.as_slice())?;
+    }
+    Ok(list)
+}
+
+/// The first repeat among what defines flows, and of another that was found before.
+fn repeat_in_definitions<'a>(
+    alloc: Global,
+    before: Option<Mention<'a>>,
+    names: &Names<'a>,
+) -> Result<Option<Mention<'a>>, AllocError>
+    ensures { IfOk result (λ repeat. option_map placed_of repeat ≡
+        earliest_repeat (option_map placed_of before.entry) (map definition_space (program_tree names.now).nodes)) }
+{
+    let mut first = before;
+    for (k, node) in names.program().nodes.as_slice().iter().enumerate() {
+        let space = definitions(alloc, names, k, node)?;
+        first = first_of(first, repeat_in(alloc, space.as_slice())?);
+    }
+    Ok(first)
+}
+
+/// The first repeat of the names of nodes and imports, of sensors and of actuators.
+fn repeat_of_globals<'a>(
+    alloc: Global,
+    names: &Names<'a>,
+) -> Result<Option<Mention<'a>>, AllocError>
+    ensures { IfOk result (λ repeat. option_map placed_of repeat ≡ earliest_repeat None (global_spaces (program_tree names.now))) }
+{
+    let program = names.program();
+    let import_list = imports(alloc, program.imports.as_slice())?;
+    let node_list = nodes(alloc, program.nodes.as_slice())?;
+    let callees = merged(alloc, import_list.as_slice(), node_list.as_slice())?;
+    let sensors = devices(alloc, program.sensors.as_slice())?;
+    let actuators = devices(alloc, program.actuators.as_slice())?;
+    let callee = repeat_in(alloc, callees.as_slice())?;
+    let sensor = repeat_in(alloc, sensors.as_slice())?;
+    let actuator = repeat_in(alloc, actuators.as_slice())?;
+    Ok(first_of(first_of(callee, sensor), actuator))
+}
+
+/// The first name, in the order of the text, that is declared or defined a second time.
+#[tactic(auto, unfolding(crate::specs::Repeats::repeat_of))]
+pub fn repeat<'a>(alloc: Global, names: &Names<'a>) -> Result<Option<Mention<'a>>, AllocError>
+    ensures { IfOk result (λ repeat. option_map placed_of repeat ≡ repeat_of (program_tree names.now)) }
+{
+    let program = names.program();
+    let first = repeat_of_globals(alloc, names)?;
+    let first = repeat_in_ports(alloc, first, program.imports.as_slice())?;
+    let first = repeat_in_flows(alloc, first, program.nodes.as_slice())?;
+    repeat_in_definitions(alloc, first, names)
+}

@@ -1,0 +1,15 @@
+pub mod Lists
+pub mod Scanning
+pub mod Pieces
+pub mod Fragments
+pub mod Words
+pub mod Spelled
+pub mod SpelledNodes
+pub mod Prints
+pub mod Readable
+pub mod ReadableNodes
+pub mod Source
+pub mod Meant
+pub mod MeantTrees
+pub mod Limits
+pub mod Printable

@@ -1,0 +1,162 @@
+-- What holds of the tree of a text of the grammar, where its tokens are of a text.
+use Rattle.std.proofs.Common.{◌≡◌, ◌==◌, ◌≤◌, ◌<◌, ◌+◌, ◌-◌, ◌&&◌, ◌||◌, ℕ, zero, suc, Bool, true, false, cond, not, leb, List, [], ◌∷◌, ◌++◌, length, Option, Some, None, refl, sym, ap, ◌∙◌, subst, inl, inr, ⊎_elim, arith}
+use Rattle.std.proofs.lemmas.Bool.{cond-true, cond-false, and_parts, leb-true, not-true}
+use Rattle.std.specs.List.{AllByRecursion}
+use Rattle.prl_base.specs.declared.places.Span.{Span}
+use Rattle.prl_reader.specs.Lexemes.{Lexeme}
+use Rattle.prl_reader.specs.Grammars.{One, Then, Give, Either, Many, Maybe, Named, Numbered, FromFirst}
+use Rattle.prl_syntax.specs.declared.words.Fixed.{Fixed}
+use Rattle.prl_syntax.specs.Words.{class_of}
+use Rattle.prl_syntax.specs.Ranges.{is_count, in_range, is_fault}
+use Rattle.prl_syntax.specs.Grammar.{The}
+use Rattle.prl_print.proofs.Words.{IsOwnName, IsOwnMaybe}
+
+-- the open parentheses behind a token of the class
+abbrev pub deeper : ℕ → ℕ → ℕ
+deeper d class = cond (class == 19) (d + 1) (cond (class == 20) (d - 1) d)
+
+-- The tokens, behind two of these classes and so many open parentheses, are in range, and within the limits of names
+-- and depth.
+abbrev pub FineFrom : ℕ → ℕ → ℕ → List Lexeme → Type 0
+FineFrom before last d [] = Unit {0}
+FineFrom before last d (t ∷ ts) = (is_fault before last t ≡ false) × (t.class ≡ 0 → IsOwnName t.name) × (deeper d t.class ≤ 64) × FineFrom last t.class (deeper d t.class) ts
+
+pub record FineAt (d : ℕ) (w : List Lexeme) : Type 0 where
+  pub before : ℕ
+  pub last : ℕ
+  pub from : FineFrom before last d w
+
+pub record Fine (w : List Lexeme) : Type 0 where
+  pub depth : ℕ
+  pub at : FineAt depth w
+
+abbrev pub depth_along : ℕ → List Lexeme → ℕ
+depth_along d [] = d
+depth_along d (t ∷ ts) = depth_along (deeper d t.class) ts
+
+fine_front : (before last d : ℕ) (u v : List Lexeme) → FineFrom before last d (u ++ v) → FineFrom before last d u
+fine_front before last d [] v h = tt
+fine_front before last d (t ∷ u) v h = (h.0, h.1, h.2, fine_front last t.class (deeper d t.class) u v h.3)
+
+fine_back : (before last d : ℕ) (u v : List Lexeme) → FineFrom before last d (u ++ v) → FineAt (depth_along d u) v
+fine_back before last d [] v h = record { before = before; last = last; from = h }
+fine_back before last d (t ∷ u) v h = fine_back last t.class (deeper d t.class) u v h.3
+
+pub front_at : {d : ℕ} (w u v : List Lexeme) → w ≡ u ++ v → FineAt d w → FineAt d u
+front_at {d} w u v e h = let P : List Lexeme → Type 0 = FineFrom h.before h.last d in record { before = h.before; last = h.last; from = fine_front h.before h.last d u v (subst P e h.from) }
+
+pub back_at : {d : ℕ} (w u v : List Lexeme) → w ≡ u ++ v → FineAt d w → FineAt (depth_along d u) v
+back_at {d} w u v e h = let P : List Lexeme → Type 0 = FineFrom h.before h.last d in fine_back h.before h.last d u v (subst P e h.from)
+
+pub fine_left : (w u v : List Lexeme) → w ≡ u ++ v → Fine w → Fine u
+fine_left w u v e h = record { depth = h.depth; at = front_at w u v e h.at }
+
+pub fine_right : (w u v : List Lexeme) → w ≡ u ++ v → Fine w → Fine v
+fine_right w u v e h = record { depth = depth_along h.depth u; at = back_at w u v e h.at }
+
+pub depth-append : (d : ℕ) (u v : List Lexeme) → depth_along d (u ++ v) ≡ depth_along (depth_along d u) v
+depth-append d [] v = refl
+depth-append d (t ∷ u) v = depth-append (deeper d t.class) u v
+
+-- The trees of the grammar's texts are such as P says.
+pub record Means {A : Type 0} (W : A → List Lexeme → Type 0) (P : A → Type 0) : Type 0 where
+  pub means : (a : A) (w : List Lexeme) → Fine w → W a w → P a
+
+pub m_then : {A B : Type 0} {W : A → List Lexeme → Type 0} {V : A → B → List Lexeme → Type 0} {P : A → Type 0} {Q : B → Type 0} → Means W P → ((a : A) → P a → Means (V a) Q) → Means (Then W V) Q
+m_then first second = record { means = λ b w fine x. (second x.first (first.means x.first x.left (fine_left w x.left x.right x.whole fine) x.head)).means b x.right (fine_right w x.left x.right x.whole fine) x.tail }
+
+pub m_give : {A : Type 0} {Q : A → Type 0} (x : A) → Q x → Means (Give x) Q
+m_give {A} {Q} x q = record { means = λ a w fine g. (let P : A → Type 0 = Q in subst P (sym g.is) q) }
+
+pub m_ends : {A B : Type 0} {W : A → List Lexeme → Type 0} {P : A → Type 0} {Q : B → Type 0} (f : A → B) → Means W P → ((a : A) → P a → Q (f a)) → Means (Then W (λ a. Give (f a))) Q
+m_ends f first h = m_then first (λ a p. m_give (f a) (h a p))
+
+pub m_any : {A : Type 0} {W : A → List Lexeme → Type 0} → Means W (λ a. Unit {0})
+m_any = record { means = λ a w fine h. tt }
+
+pub m_weaken : {A : Type 0} {W : A → List Lexeme → Type 0} {P Q : A → Type 0} → Means W P → ((a : A) → P a → Q a) → Means W Q
+m_weaken m h = record { means = λ a w fine x. h a (m.means a w fine x) }
+
+pub m_either : {A : Type 0} {W V : A → List Lexeme → Type 0} {P : A → Type 0} → Means W P → Means V P → Means (Either W V) P
+m_either {A} {W} {V} {P} one two = record { means = both }
+  where
+    both : (a : A) (w : List Lexeme) → Fine w → Either W V a w → P a
+    both a w fine (inl h) = one.means a w fine h
+    both a w fine (inr h) = two.means a w fine h
+
+pub m_many : {A : Type 0} {W : A → List Lexeme → Type 0} {P : A → Type 0} → Means W P → Means (Many W) (AllByRecursion P)
+m_many {A} {W} {P} m = record { means = all }
+  where
+    all : (xs : List A) (w : List Lexeme) → Fine w → Many W xs w → AllByRecursion P xs
+    all [] w fine h = tt
+    all (x ∷ xs) w fine h = (m.means x h.0 (fine_left w h.0 h.1 h.2 fine) h.3, all xs h.1 (fine_right w h.0 h.1 h.2 fine) h.4)
+
+pub m_maybe : {A : Type 0} {W : A → List Lexeme → Type 0} {P : A → Type 0} → Means W P → Means (Maybe W) (IsOwnMaybe P)
+m_maybe m = m_either (m_ends Some m (λ a p. p)) (m_give None tt)
+
+pub m_named : Means Named (λ n. IsOwnName n.0)
+m_named = record { means = named }
+  where
+    named : (n : List ℕ × Span) (w : List Lexeme) → Fine w → Named n w → IsOwnName n.0
+    named n w fine x =
+        let left = fine_left w x.left x.right x.whole fine in
+        let at = front_at x.left (x.first ∷ []) [] x.head.whole left.at in
+        let P : List ℕ × Span → Type 0 = λ m. IsOwnName m.0 in
+        subst P (sym x.tail.is) (at.from.1 x.head.is)
+
+-- a number behind a token that asks for a count
+counted : (before last : ℕ) (u : Lexeme) → u.class ≡ 1 → is_count before last ≡ true → (last == 26) ≡ false → is_fault before last u ≡ false → 1 ≤ u.number
+counted before last u one count minus fits =
+    let test : (true && not (cond (last == 26) (leb u.number 2147483648) (cond (is_count before last) (leb 1 u.number && leb u.number 2147483647) (leb u.number 2147483647)))) ≡ false = ap (λ c. (c == 1) && not (in_range before last u.number)) (sym one) ∙ fits in
+    let way : cond (last == 26) (leb u.number 2147483648) (cond (is_count before last) (leb 1 u.number && leb u.number 2147483647) (leb u.number 2147483647)) ≡ (leb 1 u.number && leb u.number 2147483647) = cond-false (last == 26) _ _ minus ∙ cond-true (is_count before last) _ _ count in
+    leb-true 1 u.number (and_parts (leb 1 u.number) (leb u.number 2147483647) (not_false _ (ap not (sym way) ∙ test))).0
+  where
+    not_false : (b : Bool) → not b ≡ false → b ≡ true
+    not_false true e = refl
+    not_false false e = cc
+
+-- the token of a text that is one
+pub token_of : (class : ℕ) (at : Span) (w : List Lexeme) → Then (One class) (λ t. Give t.at) at w → (t : Lexeme) × (w ≡ t ∷ []) × (t.class ≡ class)
+token_of class at w x = (x.first, x.whole ∙ ap (λ v. v ++ x.right) x.head.whole ∙ ap (λ v. x.first ∷ v) x.tail.whole, x.head.is)
+
+number_of : (n : ℕ × Span) (w : List Lexeme) → Numbered n w → (t : Lexeme) × (w ≡ t ∷ []) × (t.class ≡ 1) × (n.0 ≡ t.number)
+number_of n w x = (x.first, x.whole ∙ ap (λ v. v ++ x.right) x.head.whole ∙ ap (λ v. x.first ∷ v) x.tail.whole, x.head.is, ap (λ (m : ℕ × Span). m.0) x.tail.is)
+
+pub m_counted : {B : Type 0} {V : Span → ℕ × Span → B → List Lexeme → Type 0} {Q : B → Type 0} (f : Fixed) → ((l : ℕ) → is_count l (class_of f) ≡ true) → (class_of f == 26) ≡ false → ((p : Span) (n : ℕ × Span) → 1 ≤ n.0 → Means (V p n) Q) → Means (Then (The f) (λ p. Then Numbered (V p))) Q
+m_counted {B} {V} {Q} f count minus after = record { means = means }
+  where
+    means : (b : B) (w : List Lexeme) → Fine w → Then (The f) (λ p. Then Numbered (V p)) b w → Q b
+    means b w fine x =
+        let y = x.tail in
+        let t = token_of (class_of f) x.first x.left x.head in
+        let u = number_of y.first y.left y.head in
+        let whole : w ≡ t.0 ∷ u.0 ∷ y.right = x.whole ∙ ap (λ v. v ++ x.right) t.1 ∙ ap (λ v. t.0 ∷ v) (y.whole ∙ ap (λ v. v ++ y.right) u.1) in
+        let P : List Lexeme → Type 0 = FineFrom fine.at.before fine.at.last fine.depth in
+        let fits : is_fault fine.at.last t.0.class u.0 ≡ false = (subst P whole fine.at.from).3.0 in
+        let low : 1 ≤ u.0.number = counted fine.at.last (class_of f) u.0 u.2 (count fine.at.last) minus (ap (λ c. is_fault fine.at.last c u.0) (sym t.2) ∙ fits) in
+        let right = fine_right w x.left x.right x.whole fine in
+        (after x.first y.first (omega (arith, u.3, low))).means b y.right (fine_right x.right y.left y.right y.whole right) y.tail
+
+-- behind two tokens, of which the first is no count's own
+pub m_counted_later : {B : Type 0} {V : Span → Span → ℕ × Span → B → List Lexeme → Type 0} {Q : B → Type 0} (g f : Fixed) → is_count (class_of g) (class_of f) ≡ true → (class_of f == 26) ≡ false → ((o : Span) (p : Span) (n : ℕ × Span) → 1 ≤ n.0 → Means (V o p n) Q)
+    → Means (Then (The g) (λ o. Then (The f) (λ p. Then Numbered (V o p)))) Q
+m_counted_later {B} {V} {Q} g f count minus after = record { means = means }
+  where
+    means : (b : B) (w : List Lexeme) → Fine w → Then (The g) (λ o. Then (The f) (λ p. Then Numbered (V o p))) b w → Q b
+    means b w fine z =
+        let x = z.tail in
+        let y = x.tail in
+        let s = token_of (class_of g) z.first z.left z.head in
+        let t = token_of (class_of f) x.first x.left x.head in
+        let u = number_of y.first y.left y.head in
+        let whole : w ≡ s.0 ∷ t.0 ∷ u.0 ∷ y.right = z.whole ∙ ap (λ v. v ++ z.right) s.1 ∙ ap (λ v. s.0 ∷ v) (x.whole ∙ ap (λ v. v ++ x.right) t.1 ∙ ap (λ v. t.0 ∷ v) (y.whole ∙ ap (λ v. v ++ y.right) u.1)) in
+        let P : List Lexeme → Type 0 = FineFrom fine.at.before fine.at.last fine.depth in
+        let all = subst P whole fine.at.from in
+        let fits : is_fault s.0.class t.0.class u.0 ≡ false = all.3.3.0 in
+        let low : 1 ≤ u.0.number = counted (class_of g) (class_of f) u.0 u.2 count minus (ap (λ c. is_fault c (class_of f) u.0) (sym s.2) ∙ ap (λ c. is_fault s.0.class c u.0) (sym t.2) ∙ fits) in
+        let right = fine_right w z.left z.right z.whole fine in
+        let last = fine_right z.right x.left x.right x.whole right in
+        (after z.first x.first y.first (omega (arith, u.3, low))).means b y.right (fine_right x.right y.left y.right y.whole last) y.tail
+
+pub m_first : {A : Type 0} {W : A → List Lexeme → Type 0} {P : A → Type 0} → Means W P → Means (FromFirst W) (λ x. P x.1)
+m_first m = record { means = λ x w fine h. m.means x.1 w fine h.1 }

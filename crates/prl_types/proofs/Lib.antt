@@ -1,0 +1,11 @@
+pub mod MarkLemmas
+pub mod Replacing
+pub mod Meeting
+pub mod Starting
+pub mod Ending
+pub mod Declared
+pub mod Walking
+pub mod Counting
+pub mod Fitting
+pub mod Opening
+pub mod Outcomes

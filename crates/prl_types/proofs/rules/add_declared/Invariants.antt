@@ -1,0 +1,7 @@
+use Rattle.std.proofs.Common.{◌≡◌, ◌++◌, map, drop}
+use Rattle.prl_types.specs.Contexts.{owned_of}
+use Rattle.prl_types.specs.Rules.{declared_rules}
+use Rattle.prl_types.proofs.rules.add_declared.Given as goal
+
+abbrev pub invariant-loop-k : goal.invariant-loop-k
+invariant-loop-k l = l.rules.items ++ declared_rules l.k (map owned_of (drop l.k l.parameters)) ≡ l.initial.rules.items ++ declared_rules 0 (map owned_of l.parameters)

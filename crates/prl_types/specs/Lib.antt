@@ -1,0 +1,10 @@
+pub mod Choices
+pub mod Solutions
+pub mod Marks
+pub mod Parameters
+pub mod Flows
+pub mod Rules
+pub mod Arity
+pub mod Contexts
+pub mod Typing
+pub mod Typings

@@ -1,0 +1,22 @@
+//! The check of a program's names, arity and types. Every node is looked at, also one that main does not apply.
+//!
+//! A program whose names are right (`prl_names`) has rules between the types of its parameters; they are listed in the
+//! order of the text and then met one by one, so that the first contradiction is found, or else the first parameter
+//! that they leave open. It stands on the syntax tree of `prl_ast`.
+#![tactic(auto)]
+
+mod arities;
+mod contexts;
+mod faults;
+mod laws;
+mod rules;
+mod solving;
+mod terms;
+mod typing;
+
+pub use faults::TypeFault;
+pub use laws::outcome_is_unique;
+pub use typing::{Typed, check_names_types};
+
+#[cfg(test)]
+mod tests;

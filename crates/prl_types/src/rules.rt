@@ -1,0 +1,246 @@
+//! The rules of a program, in their order.
+
+ghost use Rattle.std.specs.Prelude.{◌≡◌, ◌++◌, ◌∷◌, [], map, IfOk, OnOk};
+ghost use Rattle.prl_ast.specs.Trees.{tree_of, root_of, equation_tree, node_tree, program_tree};
+ghost use Rattle.prl_names.specs.ExprLists.{all_trees};
+ghost use Rattle.prl_types.specs.Contexts.{owned_of};
+ghost use Rattle.prl_types.specs.Flows.{operand, operated, flows_of, root_flows, placed, placed_flows, terms_of};
+ghost use Rattle.prl_types.specs.Rules.{declared_rules, constant_rule, constant_rules, argument_rules, rules_in, root_rules, all_rules, left_rules, equations_rules, nodes_rules, rules_of};
+
+use crate::contexts::{Context, Parameter};
+use crate::terms::{Flow, Rule, Term};
+use prl_ast::{Base, Equation, Expr, Placed, PlacedOp};
+use prl_base::{Op, Ty};
+use std::alloc::{AllocError, Global};
+
+/// Adds the rules of the declared types.
+fn add_declared(rules: &mut Vec<Rule>, parameters: &[Parameter<'_>]) -> Result<(), AllocError>
+    ensures { OnOk result (rules.new.items ≡ rules.old.items ++ declared_rules 0 (map owned_of parameters.now)) }
+{
+    for (k, parameter) in parameters.iter().enumerate() {
+        if let Some(ty) = parameter.param.ty {
+            rules.push(Rule {
+                at: parameter.param.at.at,
+                wanted: Term::Known(ty),
+                found: Term::Parameter(k),
+            })?;
+        }
+    }
+    Ok(())
+}
+
+/// Adds the rule of an operator of a flow of this type.
+fn add_constant(rules: &mut Vec<Rule>, of: Term, operator: PlacedOp) -> Result<(), AllocError>
+    ensures { OnOk result (rules.new.items ≡ rules.old.items ++ constant_rule of operator.at.at operator.op) }
+{
+    match operator.op {
+        Op::Fby(value) | Op::Cons(value) => {
+            rules.push(Rule {
+                at: operator.at.at,
+                wanted: of,
+                found: Term::Known(value.ty()),
+            })?;
+            Ok(())
+        }
+        Op::Tail | Op::Up(_) | Op::Down(_) | Op::Shift(_) => Ok(()),
+    }
+}
+
+/// Adds the rules of prefixes, the innermost first.
+fn add_constants(rules: &mut Vec<Rule>, of: Term, prefixes: &[PlacedOp]) -> Result<(), AllocError>
+    ensures { OnOk result (rules.new.items ≡ rules.old.items ++ constant_rules of prefixes.now) }
+{
+    let mut k = prefixes.len();
+    while k > 0 {
+        k -= 1;
+        add_constant(rules, of, prefixes[k])?;
+    }
+    Ok(())
+}
+
+/// Adds the rules of the arguments.
+fn add_arguments(rules: &mut Vec<Rule>, inputs: &[Term], flows: &[Flow]) -> Result<(), AllocError>
+    ensures { OnOk result (rules.new.items ≡ rules.old.items ++ argument_rules inputs.now flows.now) }
+{
+    let mut k = 0;
+    while k < inputs.len() && k < flows.len() {
+        rules.push(Rule {
+            at: flows[k].at,
+            wanted: inputs[k],
+            found: flows[k].term,
+        })?;
+        k += 1;
+    }
+    Ok(())
+}
+
+/// The flow that an operator is of.
+fn operand(flows: &[Term]) -> Term
+    ensures { result ≡ operand flows.now }
+{
+    match flows.first() {
+        Some(term) => *term,
+        None => Term::Known(Ty::Int),
+    }
+}
+
+fn one(alloc: Global, term: Term) -> Result<Vec<Term>, AllocError>
+    ensures { IfOk result (λ terms. terms.items ≡ term ∷ []) }
+{
+    let mut terms = Vec::new(alloc);
+    terms.push(term)?;
+    Ok(terms)
+}
+
+/// The flows behind operators.
+fn operated(alloc: Global, expr: &Expr, flows: Vec<Term>) -> Result<Vec<Term>, AllocError>
+    ensures { IfOk result (λ terms. terms.items ≡ operated expr.now.pre expr.now.post flows.items) }
+{
+    if expr.pre.is_empty() && expr.post.is_empty() {
+        Ok(flows)
+    } else {
+        one(alloc, operand(flows.as_slice()))
+    }
+}
+
+fn add_flows(list: &mut Vec<Flow>, at: u32, terms: &[Term]) -> Result<(), AllocError>
+    ensures { OnOk result (list.new.items ≡ list.old.items ++ placed at terms.now) }
+{
+    for term in terms {
+        list.push(Flow { term: *term, at })?;
+    }
+    Ok(())
+}
+
+/// The types of the flows.
+fn terms(alloc: Global, flows: &[Flow]) -> Result<Vec<Term>, AllocError>
+    ensures { IfOk result (λ terms. terms.items ≡ terms_of flows.now) }
+{
+    flows.iter().map(|flow| flow.term).collect(alloc)
+}
+
+/// The flows of an expression of the node. Adds its rules, its parts before itself.
+#[cycle(rules)]
+fn expression(
+    alloc: Global,
+    context: &Context<'_, '_>,
+    node: usize,
+    expr: &Expr,
+    rules: &mut Vec<Rule>,
+) -> Result<Vec<Term>, AllocError>
+    ensures flows { IfOk result (λ flows. flows.items ≡ flows_of (program_tree context.now) node (tree_of expr.now)) }
+    ensures rules { OnOk result (rules.new.items ≡ rules.old.items ++ rules_in (program_tree context.now) node (tree_of expr.now)) }
+{
+    let flows = base(alloc, context, node, &expr.base, rules)?;
+    add_constants(rules, operand(flows.as_slice()), expr.pre.as_slice())?;
+    operated(alloc, expr, flows)
+}
+
+/// The flows of what operators are applied to.
+#[cycle(rules)]
+fn base(
+    alloc: Global,
+    context: &Context<'_, '_>,
+    node: usize,
+    base: &Base,
+    rules: &mut Vec<Rule>,
+) -> Result<Vec<Term>, AllocError>
+    ensures flows { IfOk result (λ flows. flows.items ≡ root_flows (program_tree context.now) node (root_of base.now)) }
+    ensures rules { OnOk result (rules.new.items ≡ rules.old.items ++ root_rules (program_tree context.now) node (root_of base.now)) }
+{
+    match base {
+        Base::Const(value) => one(alloc, Term::Known(value.ty())),
+        Base::Var(name) => one(alloc, context.named(node, name.bytes())),
+        Base::Apply { name, args, .. } => {
+            let flows = parts(alloc, context, node, args.as_slice(), rules)?;
+            let callee = context.callee(name.bytes());
+            let inputs = context.inputs(alloc, callee)?;
+            let outputs = context.outputs(alloc, callee)?;
+            add_arguments(rules, inputs.as_slice(), flows.as_slice())?;
+            Ok(outputs)
+        }
+        Base::Group(exprs) => {
+            let flows = parts(alloc, context, node, exprs.as_slice(), rules)?;
+            let terms = terms(alloc, flows.as_slice())?;
+            Ok(terms)
+        }
+    }
+}
+
+/// The flows of expressions, each at the place of its expression.
+#[cycle(rules)]
+fn parts(
+    alloc: Global,
+    context: &Context<'_, '_>,
+    node: usize,
+    exprs: &[Expr],
+    rules: &mut Vec<Rule>,
+) -> Result<Vec<Flow>, AllocError>
+    ensures flows { IfOk result (λ flows. flows.items ≡ placed_flows (program_tree context.now) node (all_trees exprs.now)) }
+    ensures rules { OnOk result (rules.new.items ≡ rules.old.items ++ all_rules (program_tree context.now) node (all_trees exprs.now)) }
+{
+    let mut list = Vec::new(alloc);
+    for expr in exprs {
+        let flows = expression(alloc, context, node, expr, rules)?;
+        add_flows(&mut list, expr.at.at, flows.as_slice())?;
+    }
+    Ok(list)
+}
+
+/// Adds the rules of the left names.
+fn add_lefts(
+    rules: &mut Vec<Rule>,
+    context: &Context<'_, '_>,
+    node: usize,
+    lefts: &[Placed],
+    flows: &[Term],
+) -> Result<(), AllocError>
+    ensures { OnOk result (rules.new.items ≡ rules.old.items ++ left_rules (program_tree context.now) node lefts.now flows.now) }
+{
+    let mut k = 0;
+    while k < lefts.len() && k < flows.len() {
+        rules.push(Rule {
+            at: lefts[k].at.at,
+            wanted: context.named(node, lefts[k].name.bytes()),
+            found: flows[k],
+        })?;
+        k += 1;
+    }
+    Ok(())
+}
+
+fn add_equations(
+    alloc: Global,
+    rules: &mut Vec<Rule>,
+    context: &Context<'_, '_>,
+    node: usize,
+    equations: &[Equation],
+) -> Result<(), AllocError>
+    ensures { OnOk result (rules.new.items ≡ rules.old.items ++ equations_rules (program_tree context.now) node (map equation_tree equations.now)) }
+{
+    for equation in equations {
+        let flows = expression(alloc, context, node, &equation.right, rules)?;
+        add_lefts(rules, context, node, equation.lefts.as_slice(), flows.as_slice())?;
+    }
+    Ok(())
+}
+
+fn add_nodes(alloc: Global, rules: &mut Vec<Rule>, context: &Context<'_, '_>) -> Result<(), AllocError>
+    ensures { OnOk result (rules.new.items ≡ rules.old.items ++ nodes_rules (program_tree context.now) 0 (program_tree context.now).nodes) }
+{
+    for (k, node) in context.program().nodes.as_slice().iter().enumerate() {
+        add_equations(alloc, rules, context, k, node.eqs.as_slice())?;
+    }
+    Ok(())
+}
+
+/// The rules of the program.
+#[tactic(auto, unfolding(crate::specs::Rules::rules_of))]
+pub fn rules(alloc: Global, context: &Context<'_, '_>) -> Result<Vec<Rule>, AllocError>
+    ensures { IfOk result (λ rules. rules.items ≡ rules_of (program_tree context.now)) }
+{
+    let mut list = Vec::new(alloc);
+    add_declared(&mut list, context.parameters())?;
+    add_nodes(alloc, &mut list, context)?;
+    Ok(list)
+}

@@ -1,0 +1,195 @@
+//! The check of names, arity and types.
+
+ghost use Rattle.std.specs.Prelude.{◌≡◌, ◌<◌, ◌≤◌, ℕ, List, [], length, IfOk, IfErr, MatchResult, Option};
+ghost use Rattle.std.specs.Option.{option_copied};
+ghost use Rattle.prl_ast.specs.Trees.{program_tree};
+ghost use Rattle.prl_types.specs.Parameters.{count_of};
+ghost use Rattle.prl_types.specs.Rules.{rules_of};
+ghost use Rattle.prl_types.specs.Arity.{arity_faults};
+ghost use Rattle.prl_types.specs.Solutions.{AreTypes, Explains};
+ghost use Rattle.prl_names.specs.Checks.{names_of};
+ghost use Rattle.prl_types.specs.Typing.{IsTyped, IsFault, HasParameter, IsTypeOf, IsOpen, of_names};
+ghost use Rattle.std.specs.Prelude.{Ok};
+
+use crate::arities::arity_fault;
+use crate::contexts::{Context, Parameter};
+use crate::faults::TypeFault;
+use crate::rules::rules;
+use crate::solving::{Unsolved, solve};
+use prl_ast::Program;
+use prl_base::{Label, Ty};
+use prl_names::{NameFault, Names, check_names};
+use std::alloc::Global;
+use std::marker::Model;
+
+/// A program whose names, arity and types are right. It borrows the program. Contracts see the program, the place of its
+/// main node, and the types of the parameters of all nodes in the order of their declaration.
+#[derive(Drop)]
+pub struct Typed<'a> {
+    program: &'a Program,
+    main: u32,
+    types: Vec<Ty>,
+    /// The number of the first parameter of each node.
+    firsts: Vec<usize>,
+}
+
+impl<'a> Model for Typed<'a> {
+    ghost use Rattle.std.specs.Prelude.{◌≡◌, length};
+    ghost use Rattle.std.specs.Coded.{codes};
+    ghost use Rattle.prl_ast.specs.Trees.{program_tree};
+    ghost use Rattle.prl_ast.specs.contracts.expressions.Base as base;
+    ghost use Rattle.prl_types.specs.Contexts.{AreFirsts};
+    ghost use Rattle.prl_types.specs.Parameters.{count_of};
+    ghost use Rattle.prl_types.specs.Typings.{Typing};
+
+    ghost Value = { Typing };
+
+    ghost coded = { Prim.hlevel (codes, base.the_row.coded) };
+
+    ghost view = { λ t. record { program = t.program.now; main = t.main; types = t.types.items } };
+
+    ghost invariant = { λ t. AreFirsts t.firsts.items (program_tree t.program.now) × (length t.types.items ≡ count_of (program_tree t.program.now)) };
+}
+
+impl<'a> Typed<'a> {
+    /// The program.
+    pub fn program(&self) -> &'a Program
+        ensures { result.now ≡ self.now.program }
+    {
+        self.program
+    }
+
+    /// The place of the main node in the list of nodes, counted from 0.
+    pub fn main(&self) -> u32
+        ensures { result ≡ self.now.main }
+    {
+        self.main
+    }
+
+    /// The type of a parameter of the node at this place of the list of nodes. Its inputs, outputs and locals are
+    /// counted from 0, one behind the other.
+    pub fn ty(&self, node: u32, param: u32) -> Ty
+        requires { HasParameter (program_tree self.now.program) node param }
+        ensures { IsTypeOf (program_tree self.now.program) self.now.types node param result }
+    {
+        self.types[self.firsts[node as usize] + param as usize]
+    }
+}
+
+/// The types of the parameters of all nodes.
+fn types(alloc: Global, context: &Context<'_, '_>) -> Result<Vec<Ty>, Unsolved>
+    ensures { MatchResult result (λ types. AreTypes (rules_of (program_tree context.now)) (count_of (program_tree context.now)) types.items)
+        (Explains (rules_of (program_tree context.now)) (count_of (program_tree context.now))) }
+{
+    match rules(alloc, context) {
+        Ok(rules) => solve(alloc, rules.as_slice(), context.parameters().len()),
+        Err(_) => Err(Unsolved::Memory),
+    }
+}
+
+fn of_names(fault: NameFault) -> TypeFault
+    ensures { result ≡ of_names fault }
+{
+    match fault {
+        NameFault::Twice(name) => TypeFault::Twice(name),
+        NameFault::Unknown(name) => TypeFault::Unknown(name),
+        NameFault::Undefined(name) => TypeFault::Undefined(name),
+        NameFault::Recursive(name) => TypeFault::Recursive(name),
+        NameFault::NoMain => TypeFault::NoMain,
+        NameFault::Memory => TypeFault::Memory,
+    }
+}
+
+/// The fault that a parameter's type is open.
+fn type_free(alloc: Global, parameter: Parameter<'_>) -> TypeFault
+    ensures { IsOpen parameter.entry result }
+{
+    match (parameter.node.copy(alloc), parameter.param.name.copy(alloc)) {
+        (Ok(node), Ok(name)) => TypeFault::TypeFree { node, name },
+        (Ok(_), Err(_)) => TypeFault::Memory,
+        (Err(_), Ok(_)) => TypeFault::Memory,
+        (Err(_), Err(_)) => TypeFault::Memory,
+    }
+}
+
+/// The fault of a program whose names and arity are right.
+fn of_types(alloc: Global, context: &Context<'_, '_>, fault: Unsolved) -> TypeFault
+    requires arity { arity_faults (program_tree context.now) ≡ [] }
+    requires fault { Explains (rules_of (program_tree context.now)) (count_of (program_tree context.now)) fault }
+    ensures { (main : Option (List ℕ)) (node : ℕ) → names_of (program_tree context.now) main ≡ Ok node → IsFault (program_tree context.now) main result }
+{
+    match fault {
+        Unsolved::Mismatch { at, wanted, found } => TypeFault::Mismatch { at, wanted, found },
+        Unsolved::Free(k) => type_free(alloc, context.parameters()[k]),
+        Unsolved::Memory => TypeFault::Memory,
+    }
+}
+
+/// The types of a program whose names these are.
+fn check<'a>(
+    alloc: Global,
+    program: &'a Program,
+    names: &Names<'_>,
+    main: Option<&Label>,
+) -> Result<Typed<'a>, TypeFault>
+    requires { names.now ≡ program.now }
+    ensures program { IfOk result (λ t. t.program ≡ program.now) }
+    ensures typed { IfOk result (λ t. IsTyped (program_tree program.now) (option_copied main.entry) t.main t.types) }
+    ensures fault { IfErr result (IsFault (program_tree program.now) (option_copied main.entry)) }
+{
+    let node = match check_names(alloc, names, main) {
+        Ok(node) => node,
+        Err(fault) => return Err(of_names(fault)),
+    };
+    if node > u32::MAX as usize {
+        return Err(TypeFault::Memory);
+    }
+    let context = match Context::new(alloc, names) {
+        Ok(context) => context,
+        Err(_) => return Err(TypeFault::Memory),
+    };
+    match arity_fault(&context) {
+        Some(at) => return Err(TypeFault::Arity(at)),
+        None => {}
+    }
+    match types(alloc, &context) {
+        Ok(types) => Ok(Typed {
+            program,
+            main: node as u32,
+            types,
+            firsts: context.into_firsts(),
+        }),
+        Err(fault) => Err(of_types(alloc, &context, fault)),
+    }
+}
+
+/// The types of the program's parameters. Its main node is the one of the name `main`, or where no name is given the
+/// last one.
+///
+/// Else the first fault in this order. All nodes are looked at, also such as main does not apply.
+///
+/// - `Twice`, `Unknown`, `Undefined`, `Recursive`, `NoMain`: what `check_names` of `prl_names` refuses.
+/// - `Arity`: an operator has not exactly one flow (its place is the operator's own), an application has another number
+///   of argument flows than its callee has inputs (the name's place), or an equation has another number of flows on its
+///   right than names on its left (the place of its first token): the first in the order of the text.
+/// - `Mismatch`: the first type rule that no choice of types meets together with all earlier ones, and the types that
+///   these give what is wanted and what is found. The rules are, in order: the declared types; then, node by node and
+///   equation by equation, that the constant of an operator has its operand's type (at the operator), that an argument
+///   has its parameter's type (at the first token of its expression; the parts before the whole), and that each flow on
+///   the right has the type of its left name (at that name).
+/// - `TypeFree`: the first flow, in the order of declaration, whose type the rules leave open.
+/// - `Memory`: memory ran out; this may come in place of each of the others.
+pub fn check_names_types<'a>(
+    alloc: Global,
+    program: &'a Program,
+    main: Option<&Label>,
+) -> Result<Typed<'a>, TypeFault>
+    ensures program { IfOk result (λ t. t.program ≡ program.now) }
+    ensures typed { IfOk result (λ t. IsTyped (program_tree program.now) (option_copied main.entry) t.main t.types) }
+    ensures fault { IfErr result (IsFault (program_tree program.now) (option_copied main.entry)) }
+{
+    match Names::new(alloc, program) {
+        Ok(names) => check(alloc, program, &names, main),
+        Err(_) => Err(TypeFault::Memory),
+    }
+}
