@@ -46,7 +46,7 @@ out_flows-up_to run flows n each k (flow ∷ outs) h = (each flow.0 h.0, out_flo
 
 -- the outputs of a solution are up to the date of the run
 pub AreUpTo-out_flows : (run : Run) (flows : List (List Value)) → IsFlat run.flat → AreClocks run.flat run.clocks.of
-    → Solves run.flat run.clocks.of run.sensors run.until flows → AreUpTo run.until (out_flows run flows 0 run.flat.outs)
+    → Solves run.flat run.clocks.of [] run.sensors run.until flows → AreUpTo run.until (out_flows run flows 0 run.flat.outs)
 AreUpTo-out_flows run flows flat clocks solution =
     All-from_recursion (IsOutput run.until) (out_flows run flows 0 run.flat.outs)
     (out_flows-up_to run flows (length run.flat.flows)

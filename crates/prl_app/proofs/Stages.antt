@@ -6,7 +6,7 @@ use Rattle.prl_base.specs.declared.values.Ty.{Ty}
 use Rattle.prl_ast.specs.Trees.{ProgramTree}
 use Rattle.prl_types.specs.declared.faults.TypeFault.{TypeFault}
 use Rattle.prl_types.specs.declared.faults.TypeFault.TheVariants as typing
-use Rattle.prl_types.specs.Typing.{IsTyped, IsFault}
+use Rattle.prl_types.specs.Typing.{IsTyped, IsFault, IsOutcome}
 use Rattle.prl_app.specs.declared.refusals.Refusal.{Refusal}
 use Rattle.prl_app.specs.declared.words.Command.{Command}
 use Rattle.prl_app.specs.declared.words.Mode.{Mode}
@@ -67,10 +67,32 @@ flows_typed view text sensors until program result parsed typed h =
     (answers_map view (λ o. chain_outcome program sensors until ≡ o) (next program) (λ o e. inl (typed.0, typed.1, typed.2, e)) result
     (answers_by view (chain_outcome program sensors until) result h))
 
+abbrev failed : TypeFault → Result (ℕ × List Ty) TypeFault
+failed fault = Err fault
+
+abbrev typed_as : ℕ × List Ty → Result (ℕ × List Ty) TypeFault
+typed_as t = Ok t
+
+err_same : (a b : TypeFault) → failed a ≡ failed b → a ≡ b
+err_same a b e = cc
+
+ok_err : (t : ℕ × List Ty) (fault : TypeFault) → typed_as t ≡ failed fault → ⊥
+ok_err t fault e = cc
+
 -- a program has one answer of the check of names and types
 pub record TypesAreOne : Type 0 where
-  pub typed : (p : ProgramTree) (main : Option (List ℕ)) (node : ℕ) (types : List Ty) (fault : TypeFault) → IsTyped p main node types → IsFault p main fault → fault ≡ typing.Memory
-  pub fault : (p : ProgramTree) (main : Option (List ℕ)) (a b : TypeFault) → IsFault p main a → IsFault p main b → a ≢ typing.Memory → b ≢ typing.Memory → a ≡ b
+  pub one : (p : ProgramTree) (main : Option (List ℕ)) (r s : Result (ℕ × List Ty) TypeFault)
+      → r ≢ Err typing.Memory → s ≢ Err typing.Memory → IsOutcome p main r → IsOutcome p main s → r ≡ s
+
+told : (fault : TypeFault) → fault ≢ typing.Memory → failed fault ≢ failed typing.Memory
+told fault some e = some (err_same fault typing.Memory e)
+
+typed_is_no_fault : (law : TypesAreOne) (p : ProgramTree) (node : ℕ) (types : List Ty) (fault : TypeFault) → IsTyped p None node types → IsFault p None fault → fault ≢ typing.Memory → ⊥
+typed_is_no_fault law p node types fault typed h some =
+    let e = law.one p None (Ok (node, types)) (Err fault) (λ m. ok_err (node, types) typing.Memory m) (told fault some) typed h in ok_err (node, types) fault e
+
+one_type_fault : (law : TypesAreOne) (p : ProgramTree) (a b : TypeFault) → IsFault p None a → IsFault p None b → a ≢ typing.Memory → b ≢ typing.Memory → a ≡ b
+one_type_fault law p a b h k x y = err_same a b (law.one p None (Err a) (Err b) (told a x) (told b y) h k)
 
 -- what follows comes to one outcome
 abbrev pub IsOne : (Result Asked Refusal → Type 0) → Type 0
@@ -85,11 +107,11 @@ module _ (law : TypesAreOne) where
   one_typed program next one a b ha hb = elim ha [
     | inl h ↦ elim hb [
       | inl k ↦ one a b h.3 k.3
-      | inr k ↦ absurd (k.2 (law.typed program None h.0 h.1 k.0 h.2 k.1))
+      | inr k ↦ absurd (typed_is_no_fault law program h.0 h.1 k.0 h.2 k.1 k.2)
     ]
     | inr h ↦ elim hb [
-      | inl k ↦ absurd (h.2 (law.typed program None k.0 k.1 h.0 k.2 h.1))
-      | inr k ↦ h.3 ∙ ap (λ f. Err (of_types f)) (law.fault program None h.0 k.0 h.1 k.1 h.2 k.2) ∙ sym k.3
+      | inl k ↦ absurd (typed_is_no_fault law program k.0 k.1 h.0 k.2 h.1 h.2)
+      | inr k ↦ h.3 ∙ ap (λ f. Err (of_types f)) (one_type_fault law program h.0 k.0 h.1 k.1 h.2 k.2) ∙ sym k.3
     ]
   ]
 

@@ -19,7 +19,7 @@ use crate::rows::rows_of;
 use crate::runs::{Run, chain_run, run_text};
 use prl_ast::Program;
 use prl_base::Value;
-use prl_chains::{Chain, chain_of, one_sensor_suffices};
+use prl_chains::{Chain, chain_of, chains_want_no_body, one_sensor_suffices};
 use prl_flow::dates_before;
 use std::alloc::Global;
 
@@ -41,6 +41,7 @@ fn chain_run_of(alloc: Global, chain: Chain, values: Vec<Value>, until: u32) -> 
         (λ refusal. FailsAs (refusal_of refusal) (enough_rows chain values.items until)) }
 {
     one_sensor_suffices();
+    chains_want_no_body();
     let need = rows_needed(&chain, until);
     let have = values.len() as u64;
     if have < need {

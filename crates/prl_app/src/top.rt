@@ -13,7 +13,7 @@ use crate::lines::write_line;
 use crate::refusals::{Part, Refusal};
 use crate::words::{Command, WordsFault, read_words};
 use prl_io::{Files, Probe, Sink, write_all};
-use prl_types::answers_are_one;
+use prl_types::outcome_is_unique;
 use std::alloc::Global;
 use std::sync::Wait;
 use std::thread::Threads;
@@ -145,7 +145,7 @@ pub fn prelude_alone<F: Files, S: Sink, E: Sink>(
         (record { folder = F.folder files.new; file_faults = F.faults files.new; out_bytes = S.written out.new; out_faults = S.faults out.new; err_bytes = E.written err.new; err_faults = E.faults err.new })
         status.code) }
 {
-    answers_are_one();
+    outcome_is_unique();
     Some(finish(alloc, words, files, out, err))
 }
 
