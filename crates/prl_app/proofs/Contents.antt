@@ -22,6 +22,7 @@ IsStop-map rose P Q f (stops.Unread part) h = h
 IsStop-map rose P Q f (stops.Refused (refusals.Absent part)) h = f (refusals.Absent part) h
 IsStop-map rose P Q f (stops.Refused (refusals.TooLong part)) h = f (refusals.TooLong part) h
 IsStop-map rose P Q f (stops.Refused (refusals.Grammar fault)) h = f (refusals.Grammar fault) h
+IsStop-map rose P Q f (stops.Refused (refusals.Types fault)) h = f (refusals.Types fault) h
 IsStop-map rose P Q f (stops.Refused (refusals.NotBuilt part)) h = f (refusals.NotBuilt part) h
 IsStop-map rose P Q f (stops.Refused (refusals.Short name have need)) h = f (refusals.Short name have need) h
 IsStop-map rose P Q f (stops.Refused (refusals.Limit limit)) h = f (refusals.Limit limit) h

@@ -24,7 +24,7 @@ use Rattle.prl_chains.specs.Chains.{chain_of}
 use Rattle.prl_app.specs.declared.refusals.Part.TheVariants as parts
 use Rattle.prl_app.specs.declared.refusals.Refusal.TheVariants as refusals
 use Rattle.prl_app.specs.Rows.{rows_of}
-use Rattle.prl_app.specs.Outcomes.{flows_outcome, program_outcome, enough_rows, or_refuse, within_limit}
+use Rattle.prl_app.specs.Outcomes.{chain_outcome, enough_rows, or_refuse, within_limit}
 
 some_inner : {A : Type 0} (x y : A) → Some x ≡ Some y → x ≡ y
 some_inner x y e = cc
@@ -46,7 +46,7 @@ out_flows-up_to run flows n each k (flow ∷ outs) h = (each flow.0 h.0, out_flo
 
 -- the outputs of a solution are up to the date of the run
 pub AreUpTo-out_flows : (run : Run) (flows : List (List Value)) → IsFlat run.flat → AreClocks run.flat run.clocks.of
-    → Solves run.flat run.clocks.of run.sensors run.until flows → AreUpTo run.until (out_flows run flows 0 run.flat.outs)
+    → Solves run.flat run.clocks.of [] run.sensors run.until flows → AreUpTo run.until (out_flows run flows 0 run.flat.outs)
 AreUpTo-out_flows run flows flat clocks solution =
     All-from_recursion (IsOutput run.until) (out_flows run flows 0 run.flat.outs)
     (out_flows-up_to run flows (length run.flat.flows)
@@ -61,16 +61,14 @@ pub within_limit-few : (run : Run) → values_before run.until run.clocks.of ≤
 within_limit-few run few = rw (le-ltb 4000000 (values_before run.until run.clocks.of) few) refl
 
 -- the outcome where each stage before the last one goes well
-pub flows_outcome-run : (text sensors : List ℕ) (until : ℕ) (program : ProgramTree) (chain : Chain) (values : List Value) (run : Run)
-    → program_outcome text ≡ Ok program
+pub chain_outcome-run : (sensors : List ℕ) (until : ℕ) (program : ProgramTree) (chain : Chain) (values : List Value) (run : Run)
     → or_refuse (refusals.NotBuilt parts.Program) (chain_of program) ≡ Ok chain
     → or_refuse (refusals.NotBuilt parts.Sensors) (rows_of (name_of chain.flat.in_devices 0) sensors) ≡ Ok values
     → enough_rows chain values until ≡ Ok values → run ≡ chain_run chain values until
-    → flows_outcome text sensors until ≡ within_limit run
-unfolding flows_outcome
-flows_outcome-run text sensors until program chain values run parsed read rows enough is =
-    ap (λ r. r >>= λ p. or_refuse (refusals.NotBuilt parts.Program) (chain_of p) >>= λ c. or_refuse (refusals.NotBuilt parts.Sensors) (rows_of (name_of c.flat.in_devices 0) sensors) >>= λ read. enough_rows c read until >>= λ values. within_limit (chain_run c values until)) parsed
-    ∙ ap (λ r. r >>= λ c. or_refuse (refusals.NotBuilt parts.Sensors) (rows_of (name_of c.flat.in_devices 0) sensors) >>= λ read. enough_rows c read until >>= λ values. within_limit (chain_run c values until)) read
+    → chain_outcome program sensors until ≡ within_limit run
+unfolding chain_outcome
+chain_outcome-run sensors until program chain values run read rows enough is =
+    ap (λ r. r >>= λ c. or_refuse (refusals.NotBuilt parts.Sensors) (rows_of (name_of c.flat.in_devices 0) sensors) >>= λ read. enough_rows c read until >>= λ values. within_limit (chain_run c values until)) read
     ∙ ap (λ r. r >>= λ read. enough_rows chain read until >>= λ values. within_limit (chain_run chain values until)) rows
     ∙ ap (λ r. r >>= λ values. within_limit (chain_run chain values until)) enough
     ∙ ap within_limit (sym is)

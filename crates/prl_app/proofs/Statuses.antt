@@ -11,7 +11,8 @@ use Rattle.prl_app.specs.declared.refusals.Refusal.TheVariants as refusals
 use Rattle.prl_app.specs.declared.words.Command.{Command}
 use Rattle.prl_app.specs.Asked.{Asked}
 use Rattle.prl_app.specs.Words.{command_of}
-use Rattle.prl_app.specs.Endings.{Folder, IsContent, ComesTo, Outside, IsRefused, HasCause, Ends, IsToldOn, IsAnswered, status_of, status_of_refusal, line_of, command_outcome}
+use Rattle.prl_app.specs.Endings.{Folder, IsContent, ComesTo, Outside, IsRefused, HasCause, Ends, IsToldOn, IsAnswered, status_of, status_of_refusal, line_of, IsCommandOutcome}
+use Rattle.prl_app.proofs.Stages.{TypesAreOne, one_command_outcome}
 use Rattle.prl_app.specs.Statuses.{SaysDone, SaysUnread, SaysUnwritten, SaysRefused, IsSilent, IsExact, IsComplete, IsStatus, SaysAll}
 
 -- the status of a refusal: 1, 6, 7 or 9
@@ -19,6 +20,7 @@ refusal_status : (refusal : Refusal) → (status_of_refusal refusal ≡ 1) ⊎ (
 refusal_status (refusals.Absent part) = inr (inr (inl refl))
 refusal_status (refusals.TooLong part) = inr (inr (inl refl))
 refusal_status (refusals.Grammar fault) = inl refl
+refusal_status (refusals.Types fault) = inl refl
 refusal_status (refusals.NotBuilt parts.Program) = inl refl
 refusal_status (refusals.NotBuilt parts.Sensors) = inr (inr (inr refl))
 refusal_status (refusals.Short name have need) = inr (inr (inr refl))
@@ -41,11 +43,14 @@ one_content told folder e part None most a b ha hb = ha ∙ sym hb
 one_content None folder e part (Some name) most a b ha hb = cc
 one_content (Some told) folder e part (Some name) most a b ha hb = ha ∙ sym hb
 
-one_outcome : (told : Option Folder) (folder : Folder) → told ≡ Some folder → (command : Command) (a b : Result Asked Refusal) → ComesTo told command a → ComesTo told command b → a ≡ b
-one_outcome told folder e command a b ha hb =
+one_outcome : (law : TypesAreOne) (told : Option Folder) (folder : Folder) → told ≡ Some folder → (command : Command) (a b : Result Asked Refusal)
+    → ComesTo told command a → ComesTo told command b → a ≡ b
+one_outcome law told folder e command a b ha hb =
     let program = one_content told folder e parts.Program command.program 1048576 ha.program hb.program ha.program_file hb.program_file in
     let sensors = one_content told folder e parts.Sensors command.sensors 33554432 ha.sensors hb.sensors ha.sensors_file hb.sensors_file in
-    sym ha.stages ∙ ap (λ p. command_outcome command p ha.sensors) program ∙ ap (command_outcome command hb.program) sensors ∙ hb.stages
+    let next = subst (λ p. IsCommandOutcome command p ha.sensors a) program ha.stages in
+    let last = subst (λ p. IsCommandOutcome command hb.program p a) sensors next in
+    one_command_outcome law command hb.program hb.sensors a b last hb.stages
 
 -- one list of words asks for one command
 one_command : (words : List (List ℕ)) (a b : Command) → command_of words ≡ Some a → command_of words ≡ Some b → a ≡ b
@@ -56,27 +61,28 @@ refused_by : (words : List (List ℕ)) (told : Option Folder) (refusal : Refusal
 refused_by words told (refusals.Absent part) h = inr h
 refused_by words told (refusals.TooLong part) h = inr h
 refused_by words told (refusals.Grammar fault) h = inr h
+refused_by words told (refusals.Types fault) h = inr h
 refused_by words told (refusals.NotBuilt part) h = inr h
 refused_by words told (refusals.Short name have need) h = inr h
 refused_by words told (refusals.Limit limit) h = inr h
 refused_by words told refusals.Memory h = inl refl
 
 -- two refusals of the words over a known folder are one
-one_refusal : (words : List (List ℕ)) (told : Option Folder) (folder : Folder) → told ≡ Some folder → (a b : Refusal) → IsRefused words told a → IsRefused words told b → a ≡ b
-one_refusal words told folder e a b ha hb =
+one_refusal : (law : TypesAreOne) (words : List (List ℕ)) (told : Option Folder) (folder : Folder) → told ≡ Some folder → (a b : Refusal) → IsRefused words told a → IsRefused words told b → a ≡ b
+one_refusal law words told folder e a b ha hb =
     let command = one_command words ha.command hb.command ha.asked hb.asked in
     let comes : ComesTo told ha.command (Err b) = subst (λ c. ComesTo told c (Err b)) (sym command) hb.comes in
-    let same = one_outcome told folder e ha.command (Err a) (Err b) ha.comes comes in cc
+    let same = one_outcome law told folder e ha.command (Err a) (Err b) ha.comes comes in cc
 
 -- what is refused over a known folder asks for nothing
-not_asked : (words : List (List ℕ)) (told : Option Folder) (folder : Folder) → told ≡ Some folder → (a : Refusal) → IsRefused words told a
+not_asked : (law : TypesAreOne) (words : List (List ℕ)) (told : Option Folder) (folder : Folder) → told ≡ Some folder → (a : Refusal) → IsRefused words told a
     → (command : Command) (asked : Asked) → command_of words ≡ Some command → ComesTo told command (Ok asked) → ⊥
-not_asked words told folder e a ha command asked asks comes =
+not_asked law words told folder e a ha command asked asks comes =
     let same_command = one_command words ha.command command ha.asked asks in
     let here : ComesTo told ha.command (Ok asked) = subst (λ c. ComesTo told c (Ok asked)) (sym same_command) comes in
-    let same = one_outcome told folder e ha.command (Err a) (Ok asked) ha.comes here in cc
+    let same = one_outcome law told folder e ha.command (Err a) (Ok asked) ha.comes here in cc
 
-module _ (words : List (List ℕ)) (old new : Outside) where
+module _ (law : TypesAreOne) (words : List (List ℕ)) (old new : Outside) where
   done_by : (ending : Ending) → Ends words old new ending → IsToldOn old new (line_of (command_of words) ending) → SaysDone words old new (status_of ending)
   done_by endings.Done cause told e =
       elim told [ inl h ↦ (cause.0, cause.1, cause.2, h) | inr h ↦ absurd (no_front old.err_bytes new.err_bytes h.0) ]
@@ -149,15 +155,15 @@ module _ (words : List (List ℕ)) (old new : Outside) where
 
   exact_by : (ending : Ending) → Ends words old new ending → IsExact words old new (status_of ending)
   exact_by endings.Done cause folder told refusal refused same =
-      absurd (not_asked words old.folder folder told refusal refused cause.1.command cause.1.asked_for cause.1.asked cause.1.comes)
+      absurd (not_asked law words old.folder folder told refusal refused cause.1.command cause.1.asked_for cause.1.asked cause.1.comes)
   exact_by endings.Words cause folder told refusal refused same = absurd (asked_none refused.command refused.asked cause.0)
   exact_by (endings.Unread part) cause folder told refusal refused same = absurd (omega (arith, cause.0))
   exact_by endings.Unwritten cause folder told refusal refused same =
-      absurd (not_asked words old.folder folder told refusal refused cause.1.command cause.1.asked_for cause.1.asked cause.1.comes)
+      absurd (not_asked law words old.folder folder told refusal refused cause.1.command cause.1.asked_for cause.1.asked cause.1.comes)
   exact_by (endings.Refused other) cause folder told refusal refused same =
       elim (refused_by words old.folder other cause.0) [
         | inl six ↦ inr six
-        | inr h ↦ inl (ap status_of_refusal (one_refusal words old.folder folder told other refusal h refused))
+        | inr h ↦ inl (ap status_of_refusal (one_refusal law words old.folder folder told other refusal h refused))
       ]
 
   complete_by : (ending : Ending) → Ends words old new ending → IsComplete words old new (status_of ending)
@@ -168,7 +174,7 @@ module _ (words : List (List ℕ)) (old new : Outside) where
   complete_by (endings.Refused other) cause folder told command asked asks comes files out =
       elim (refused_by words old.folder other cause.0) [
         | inl six ↦ inr six
-        | inr h ↦ absurd (not_asked words old.folder folder told other h command asked asks comes)
+        | inr h ↦ absurd (not_asked law words old.folder folder told other h command asked asks comes)
       ]
 
   status_by : (ending : Ending) → IsStatus (status_of ending)
@@ -185,16 +191,16 @@ module _ (words : List (List ℕ)) (old new : Outside) where
   ]
 
 -- how a call ended says all of it
-pub SaysAll-answered : (words : List (List ℕ)) (old new : Outside) (code : ℕ) → IsAnswered words old new code → SaysAll words old new code
-SaysAll-answered words old new code a =
+pub SaysAll-answered : TypesAreOne → (words : List (List ℕ)) (old new : Outside) (code : ℕ) → IsAnswered words old new code → SaysAll words old new code
+SaysAll-answered law words old new code a =
     subst (SaysAll words old new) (sym a.status) (record {
-      done = done_by words old new a.ending a.cause a.line;
-      words_refused = (words_by words old new a.ending a.cause, no_words_by words old new a.ending a.cause);
-      unread = unread_by words old new a.ending a.cause;
-      unwritten = unwritten_by words old new a.ending a.cause;
-      refused = refusal_by words old new a.ending a.cause a.line;
-      silent = silent_by words old new a.ending a.cause;
-      exact = exact_by words old new a.ending a.cause;
-      complete = complete_by words old new a.ending a.cause;
-      status = status_by words old new a.ending;
+      done = done_by law words old new a.ending a.cause a.line;
+      words_refused = (words_by law words old new a.ending a.cause, no_words_by law words old new a.ending a.cause);
+      unread = unread_by law words old new a.ending a.cause;
+      unwritten = unwritten_by law words old new a.ending a.cause;
+      refused = refusal_by law words old new a.ending a.cause a.line;
+      silent = silent_by law words old new a.ending a.cause;
+      exact = exact_by law words old new a.ending a.cause;
+      complete = complete_by law words old new a.ending a.cause;
+      status = status_by law words old new a.ending;
     })

@@ -2,9 +2,12 @@
 use Rattle.std.specs.Prelude.{◌≡◌, ◌<◌, ◌≤◌, ℕ, List, [], ◌∷◌, length, Option, Some, None, Result, Ok, Err, MatchOption, IsSome, unwrap_or, ◌⊎◌, codes}
 use Rattle.std.specs.List.{concat}
 use Rattle.std.specs.Fmt.{decimal}
-use Rattle.prl_base.specs.Reading.{◌>>=◌}
 use Rattle.prl_base.specs.Limits.{what_text}
 use Rattle.prl_base.specs.declared.limits.Limit.{Limit}
+use Rattle.prl_base.specs.declared.values.Ty.{Ty}
+use Rattle.prl_base.specs.declared.values.Ty.TheVariants as types
+use Rattle.prl_types.specs.declared.faults.TypeFault.{TypeFault}
+use Rattle.prl_types.specs.declared.faults.TypeFault.TheVariants as typing
 use Rattle.prl_io.specs.Folders.{reading_of}
 use Rattle.prl_io.specs.Growth.{appended, AppendsFront}
 use Rattle.prl_io.specs.declared.reading.FileFault.{FileFault}
@@ -22,7 +25,7 @@ use Rattle.prl_app.specs.declared.refusals.Refusal.TheVariants as refusals
 use Rattle.prl_app.specs.declared.words.Command.{Command}
 use Rattle.prl_app.specs.Words.{command_of}
 use Rattle.prl_app.specs.Asked.{Asked, IsTextOf}
-use Rattle.prl_app.specs.Outcomes.{mode_outcome, refusal_of}
+use Rattle.prl_app.specs.Outcomes.{Then, IsModeOutcome, refusal_of}
 
 -- what is known of a folder: the bytes of each file by its name
 abbrev pub Folder : Type 0
@@ -41,6 +44,7 @@ abbrev pub IsFileRefusal : Part → Refusal → Type 0
 IsFileRefusal part (refusals.Absent p) = p ≡ part
 IsFileRefusal part (refusals.TooLong p) = p ≡ part
 IsFileRefusal part (refusals.Grammar fault) = ⊥
+IsFileRefusal part (refusals.Types fault) = ⊥
 IsFileRefusal part (refusals.NotBuilt p) = ⊥
 IsFileRefusal part (refusals.Short name have need) = ⊥
 IsFileRefusal part (refusals.Limit limit) = ⊥
@@ -55,11 +59,8 @@ IsContent None part (Some name) most (Err refusal) = IsFileRefusal part refusal
 IsContent (Some folder) part (Some name) most content = content ≡ read_as part (reading_of (folder name) most)
 
 -- the stages on what the files give
-abbrev pub command_outcome : Command → Result (List ℕ) Refusal → Result (List ℕ) Refusal → Result Asked Refusal
-command_outcome command program sensors = do
-  text ← program
-  rows ← sensors
-  mode_outcome command.mode text rows command.until
+abbrev pub IsCommandOutcome : Command → Result (List ℕ) Refusal → Result (List ℕ) Refusal → Result Asked Refusal → Type 0
+IsCommandOutcome command program sensors = Then program (λ text. Then sensors (λ rows. IsModeOutcome command.mode text rows command.until))
 
 -- the command comes to this outcome, over a folder of which this is known
 pub record ComesTo (told : Option Folder) (command : Command) (outcome : Result Asked Refusal) : Type 0 where
@@ -67,7 +68,7 @@ pub record ComesTo (told : Option Folder) (command : Command) (outcome : Result 
   pub sensors : Result (List ℕ) Refusal
   pub program_file : IsContent told parts.Program command.program 1048576 program
   pub sensors_file : IsContent told parts.Sensors command.sensors 33554432 sensors
-  pub stages : command_outcome command program sensors ≡ outcome
+  pub stages : IsCommandOutcome command program sensors outcome
 
 abbrev pub status_of_part : Part → ℕ
 status_of_part parts.Program = 1
@@ -77,6 +78,7 @@ abbrev pub status_of_refusal : Refusal → ℕ
 status_of_refusal (refusals.Absent part) = 7
 status_of_refusal (refusals.TooLong part) = 7
 status_of_refusal (refusals.Grammar fault) = 1
+status_of_refusal (refusals.Types fault) = 1
 status_of_refusal (refusals.NotBuilt part) = status_of_part part
 status_of_refusal (refusals.Short name have need) = 9
 status_of_refusal (refusals.Limit limit) = 1
@@ -107,6 +109,28 @@ grammar_line (grammar.BadToken at) = placed_line (codes "1 bad token at ") at
 grammar_line (grammar.Unexpected at) = placed_line (codes "2 unexpected at ") at
 grammar_line (grammar.NumberRange at) = placed_line (codes "3 number range at ") at
 
+abbrev pub type_text : Ty → List ℕ
+type_text types.Int = codes "int"
+type_text types.Bool = codes "bool"
+
+abbrev pub mismatch_line : ℕ → Ty → Ty → List ℕ
+mismatch_line at wanted found =
+    concat (codes "13 mismatch at " ∷ decimal at ∷ codes " wanted " ∷ type_text wanted ∷ codes " found " ∷ type_text found ∷ codes "\n" ∷ [])
+
+abbrev pub type_free_line : List ℕ → List ℕ → List ℕ
+type_free_line node name = concat (codes "17 type free " ∷ node ∷ codes "." ∷ name ∷ codes "\n" ∷ [])
+
+abbrev pub types_line : TypeFault → List ℕ
+types_line (typing.Twice name) = named_line (codes "11 twice ") name
+types_line (typing.Unknown name) = named_line (codes "10 unknown ") name
+types_line (typing.Undefined name) = named_line (codes "15 undefined ") name
+types_line (typing.Recursive name) = named_line (codes "16 recursive ") name
+types_line typing.NoMain = codes "14 no main\n"
+types_line (typing.Arity at) = placed_line (codes "12 arity at ") at
+types_line (typing.Mismatch at wanted found) = mismatch_line at wanted found
+types_line (typing.TypeFree node name) = type_free_line node name
+types_line typing.Memory = codes "memory\n"
+
 abbrev pub short_line : List ℕ → ℕ → ℕ → List ℕ
 short_line name have need =
     concat (codes "84 short " ∷ name ∷ codes " " ∷ decimal have ∷ codes " " ∷ decimal need ∷ codes "\n" ∷ [])
@@ -119,6 +143,7 @@ abbrev pub refusal_line : Option Command → Refusal → List ℕ
 refusal_line command (refusals.Absent part) = named_line (codes "absent ") (file_name command part)
 refusal_line command (refusals.TooLong part) = named_line (codes "too long ") (file_name command part)
 refusal_line command (refusals.Grammar fault) = grammar_line fault
+refusal_line command (refusals.Types fault) = types_line fault
 refusal_line command (refusals.NotBuilt part) = named_line (codes "9 not built ") (file_name command part)
 refusal_line command (refusals.Short name have need) = short_line name have need
 refusal_line command (refusals.Limit limit) = limit_line limit

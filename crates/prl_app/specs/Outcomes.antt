@@ -1,13 +1,17 @@
 -- What a command comes to: something to compute, or a refusal, by its stages in order.
-use Rattle.std.specs.Prelude.{◌≡◌, ℕ, List, length, Option, Some, None, Result, Ok, Err, nat_lt, if◌then◌else◌}
+use Rattle.std.specs.Prelude.{◌≡◌, ◌≢◌, ◌⊎◌, ℕ, List, length, Option, Some, None, Result, Ok, Err, MatchOption, nat_lt, if◌then◌else◌}
 use Rattle.prl_base.specs.Reading.{◌>>=◌, FailsAs}
 use Rattle.prl_base.specs.declared.limits.What.TheVariants as whats
+use Rattle.prl_base.specs.declared.values.Ty.{Ty}
 use Rattle.prl_base.specs.declared.values.Value.{Value}
 use Rattle.prl_flow.specs.Counts.{dates_before, values_before}
 use Rattle.prl_ast.specs.Trees.{ProgramTree}
 use Rattle.prl_syntax.specs.declared.parsing.ParseFault.{ParseFault}
 use Rattle.prl_syntax.specs.declared.parsing.ParseFault.TheVariants as parsing
 use Rattle.prl_syntax.specs.Parsing.{parse_of}
+use Rattle.prl_types.specs.declared.faults.TypeFault.{TypeFault}
+use Rattle.prl_types.specs.declared.faults.TypeFault.TheVariants as typing
+use Rattle.prl_types.specs.Typing.{IsTyped, IsFault}
 use Rattle.prl_app.specs.declared.refusals.GrammarFault.TheVariants as grammar
 use Rattle.prl_app.specs.declared.refusals.Part.TheVariants as parts
 use Rattle.prl_app.specs.declared.refusals.Refusal.{Refusal}
@@ -27,6 +31,7 @@ abbrev pub refusal_of : Refusal → Option Refusal
 refusal_of (refusals.Absent part) = Some (refusals.Absent part)
 refusal_of (refusals.TooLong part) = Some (refusals.TooLong part)
 refusal_of (refusals.Grammar fault) = Some (refusals.Grammar fault)
+refusal_of (refusals.Types fault) = Some (refusals.Types fault)
 refusal_of (refusals.NotBuilt part) = Some (refusals.NotBuilt part)
 refusal_of (refusals.Short name have need) = Some (refusals.Short name have need)
 refusal_of (refusals.Limit limit) = Some (refusals.Limit limit)
@@ -65,14 +70,41 @@ or_fault (Err fault) = Err (of_parse fault)
 abbrev pub program_outcome : List ℕ → Result ProgramTree Refusal
 program_outcome text = or_fault (parse_of text)
 
--- the stages of mode `flows` on the bytes of a program and of its rows
-unfoldable pub flows_outcome : List ℕ → List ℕ → ℕ → Result Asked Refusal
-flows_outcome text sensors until = do
-  program ← program_outcome text
+-- want of memory is no fault of names or types
+abbrev pub of_types : TypeFault → Refusal
+of_types (typing.Twice name) = refusals.Types (typing.Twice name)
+of_types (typing.Unknown name) = refusals.Types (typing.Unknown name)
+of_types (typing.Undefined name) = refusals.Types (typing.Undefined name)
+of_types (typing.Recursive name) = refusals.Types (typing.Recursive name)
+of_types typing.NoMain = refusals.Types typing.NoMain
+of_types (typing.Arity at) = refusals.Types (typing.Arity at)
+of_types (typing.Mismatch at wanted found) = refusals.Types (typing.Mismatch at wanted found)
+of_types (typing.TypeFree node name) = refusals.Types (typing.TypeFree node name)
+of_types typing.Memory = refusals.Memory
+
+-- a refusal ends it; else what follows comes to the outcome
+abbrev pub Then : {A : Type 0} → Result A Refusal → (A → Result Asked Refusal → Type 0) → Result Asked Refusal → Type 0
+Then (Ok x) next outcome = next x outcome
+Then (Err refusal) next outcome = outcome ≡ Err refusal
+
+-- names and types are right, and what follows comes to the outcome; or they have a fault
+abbrev pub WithTypes : ProgramTree → (Result Asked Refusal → Type 0) → Result Asked Refusal → Type 0
+WithTypes program next outcome =
+    ((node : ℕ) × (types : List Ty) × IsTyped program None node types × next outcome)
+    ⊎ ((fault : TypeFault) × IsFault program None fault × (fault ≢ typing.Memory) × (outcome ≡ Err (of_types fault)))
+
+-- the run of a chain of equations on its rows
+unfoldable pub chain_outcome : ProgramTree → List ℕ → ℕ → Result Asked Refusal
+chain_outcome program sensors until = do
   chain ← or_refuse (refusals.NotBuilt parts.Program) (chain_of program)
   read ← or_refuse (refusals.NotBuilt parts.Sensors) (rows_of (name_of chain.flat.in_devices 0) sensors)
   values ← enough_rows chain read until
   within_limit (chain_run chain values until)
+
+-- the stages of mode `flows` on the bytes of a program and of its rows
+abbrev pub IsFlowsOutcome : List ℕ → List ℕ → ℕ → Result Asked Refusal → Type 0
+IsFlowsOutcome text sensors until =
+    Then (program_outcome text) (λ program. WithTypes program (λ outcome. chain_outcome program sensors until ≡ outcome))
 
 -- the stages of mode `print` on the bytes of a program
 abbrev pub print_outcome : List ℕ → Result Asked Refusal
@@ -81,9 +113,16 @@ print_outcome text = do
   Ok (ToPrint program)
 
 -- the stages of a mode on the bytes of a program and of its rows
-abbrev pub mode_outcome : Mode → List ℕ → List ℕ → ℕ → Result Asked Refusal
-mode_outcome modes.Flows program sensors until = flows_outcome program sensors until
-mode_outcome modes.Print program sensors until = print_outcome program
+abbrev pub IsModeOutcome : Mode → List ℕ → List ℕ → ℕ → Result Asked Refusal → Type 0
+IsModeOutcome modes.Flows program sensors until outcome = IsFlowsOutcome program sensors until outcome
+IsModeOutcome modes.Print program sensors until outcome = print_outcome program ≡ outcome
+
+-- the text of what is asked for, where the stages come to that; or their refusal
+abbrev pub IsTextBy : (Result Asked Refusal → Type 0) → List ℕ → Type 0
+IsTextBy comes text = (asked : Asked) × comes (Ok asked) × IsTextOf asked text
+
+abbrev pub IsRefusalBy : (Result Asked Refusal → Type 0) → Refusal → Type 0
+IsRefusalBy comes refusal = MatchOption (refusal_of refusal) (Unit {0}) (λ r. comes (Err r))
 
 -- the text of what is asked for
 abbrev pub IsTextFor : Result Asked Refusal → List ℕ → Type 0

@@ -5,7 +5,8 @@ use Rattle.prl_base.specs.declared.numbers.FlowNo.{FlowNo}
 use Rattle.prl_base.specs.declared.values.Value.{Value}
 use Rattle.prl_flow.specs.declared.programs.OutFlow.{OutFlow}
 use Rattle.prl_flow.specs.Programs.{name_of}
-use Rattle.prl_flow.specs.Solutions.{Solves, AreClocks, IsOrdered, HasRows, clock_of, values_of}
+use Rattle.prl_flow.specs.Solutions.{Solves, AreClocks, IsOrdered, HasRows, HasTypedRows, clock_of, values_of}
+use Rattle.prl_flow.specs.Applications.{HaveBodies}
 use Rattle.prl_flow.specs.Actuators.{actuator_text}
 use Rattle.prl_chains.specs.declared.chains.Chain.{Chain}
 use Rattle.prl_app.specs.declared.runs.Run.{Run}
@@ -18,12 +19,14 @@ input_clock c = clock_of c.clocks.of 0
 abbrev pub chain_run : Chain → List Value → ℕ → Run
 chain_run c values until = record { flat = c.flat; clocks = c.clocks; sensors = values ∷ []; until = until }
 
--- the clocks are the program's, the flows stand in order, and the rows suffice
+-- the clocks are the program's, the flows stand in order, no body is wanted, and the rows suffice
 pub record IsReady (run : Run) : Type 0 where
   pub until : run.until < 2 ^ 31
   pub clocks : AreClocks run.flat run.clocks.of
   pub ordered : IsOrdered run.flat
   pub rows : HasRows run.flat run.clocks.of run.sensors run.until
+  pub bodies : HaveBodies run.flat []
+  pub types : HasTypedRows run.flat run.sensors
 
 -- the flow of main's output of number k, with its name and clock
 abbrev pub out_flow : Run → List (List Value) → ℕ → FlowNo → OutFlow
@@ -38,6 +41,6 @@ out_flows run flows k (flow ∷ rest) = out_flow run flows k flow ∷ out_flows 
 -- The program has one solution for the rows, and the text is that of its actuators.
 pub record IsFlowsText (run : Run) (text : List ℕ) : Type 0 where
   pub flows : List (List Value)
-  pub solution : Solves run.flat run.clocks.of run.sensors run.until flows
-  pub only : (others : List (List Value)) → Solves run.flat run.clocks.of run.sensors run.until others → others ≡ flows
+  pub solution : Solves run.flat run.clocks.of [] run.sensors run.until flows
+  pub only : (others : List (List Value)) → Solves run.flat run.clocks.of [] run.sensors run.until others → others ≡ flows
   pub rows : text ≡ actuator_text run.until (out_flows run flows 0 run.flat.outs)

@@ -3,7 +3,7 @@
 ghost use Rattle.std.specs.Prelude.{◌≡◌, ◌<◌, ◌≤◌, ◌^◌, ℕ, Ok, Err, MatchResult, IfOk, length};
 ghost use Rattle.prl_app.specs.Endings.{IsContent, IsStop, ComesTo};
 ghost use Rattle.prl_app.specs.Asked.{Asked, IsTextOf};
-ghost use Rattle.prl_app.specs.Outcomes.{mode_outcome, IsTextFor, IsRefusalOf};
+ghost use Rattle.prl_app.specs.Outcomes.{IsModeOutcome, IsTextBy, IsRefusalBy};
 
 use crate::flows::flows;
 use crate::printing::printed;
@@ -64,8 +64,8 @@ fn stages(
 ) -> Result<Vec<u8>, Refusal>
     requires program { length program.now < 2 ^ 32 }
     requires until { until < 2 ^ 31 }
-    ensures { MatchResult result (λ text. IsTextFor (mode_outcome mode program.now sensors.now until) text.items)
-        (IsRefusalOf (mode_outcome mode program.now sensors.now until)) }
+    ensures { MatchResult result (λ text. IsTextBy (IsModeOutcome mode program.now sensors.now until) text.items)
+        (IsRefusalBy (IsModeOutcome mode program.now sensors.now until)) }
 {
     match mode {
         Mode::Flows => flows(alloc, program, sensors, until),

@@ -9,17 +9,17 @@ ghost use Rattle.prl_flow.specs.Counts.{dates_before};
 ghost use Rattle.prl_flow.specs.Programs.{name_of};
 ghost use Rattle.prl_chains.specs.Chains.{chain_of};
 ghost use Rattle.prl_chains.specs.Facts.{IsChain};
-ghost use Rattle.prl_app.specs.Outcomes.{flows_outcome, enough_rows, or_refuse, refusal_of, IsTextFor, IsRefusalOf};
+ghost use Rattle.prl_app.specs.Outcomes.{chain_outcome, enough_rows, or_refuse, refusal_of, IsFlowsOutcome, IsTextFor, IsRefusalOf, IsTextBy, IsRefusalBy};
 ghost use Rattle.prl_app.specs.Rows.{rows_of};
 ghost use Rattle.prl_app.specs.Runs.{IsReady, chain_run, input_clock};
 
-use crate::programs::program_of;
+use crate::programs::{check_program, program_of};
 use crate::refusals::{Part, Refusal};
 use crate::rows::rows_of;
 use crate::runs::{Run, chain_run, run_text};
 use prl_ast::Program;
 use prl_base::Value;
-use prl_chains::{Chain, chain_of, one_sensor_suffices};
+use prl_chains::{Chain, chain_of, chains_want_no_body, one_sensor_suffices};
 use prl_flow::dates_before;
 use std::alloc::Global;
 
@@ -41,6 +41,7 @@ fn chain_run_of(alloc: Global, chain: Chain, values: Vec<Value>, until: u32) -> 
         (λ refusal. FailsAs (refusal_of refusal) (enough_rows chain values.items until)) }
 {
     one_sensor_suffices();
+    chains_want_no_body();
     let need = rows_needed(&chain, until);
     let have = values.len() as u64;
     if have < need {
@@ -74,19 +75,19 @@ fn values_of(alloc: Global, chain: &Chain, text: &[u8]) -> Result<Vec<Value>, Re
     }
 }
 
-/// The actuators' text of a program on its rows, both as bytes, below the date `until` in ticks.
-#[tactic(auto, unfolding(crate::specs::Outcomes::flows_outcome))]
-pub fn flows(alloc: Global, text: &[u8], sensors: &[u8], until: u32) -> Result<Vec<u8>, Refusal>
-    requires text { length text.now < 2 ^ 32 }
+/// The actuators' text of a program whose names and types are right.
+#[tactic(auto, unfolding(crate::specs::Outcomes::chain_outcome))]
+fn chain_flows(
+    alloc: Global,
+    program: &Program,
+    sensors: &[u8],
+    until: u32,
+) -> Result<Vec<u8>, Refusal>
     requires until { until < 2 ^ 31 }
-    ensures { MatchResult result (λ rows. IsTextFor (flows_outcome text.now sensors.now until) rows.items)
-        (IsRefusalOf (flows_outcome text.now sensors.now until)) }
+    ensures { MatchResult result (λ rows. IsTextFor (chain_outcome (program_tree program.now) sensors.now until) rows.items)
+        (IsRefusalOf (chain_outcome (program_tree program.now) sensors.now until)) }
 {
-    let program = match program_of(alloc, text) {
-        Ok(program) => program,
-        Err(refusal) => return Err(refusal),
-    };
-    let chain = match chain_of_program(alloc, &program) {
+    let chain = match chain_of_program(alloc, program) {
         Ok(chain) => chain,
         Err(refusal) => return Err(refusal),
     };
@@ -99,4 +100,21 @@ pub fn flows(alloc: Global, text: &[u8], sensors: &[u8], until: u32) -> Result<V
         Err(refusal) => return Err(refusal),
     };
     run_text(alloc, &run)
+}
+
+/// The actuators' text of a program on its rows, both as bytes, below the date `until` in ticks.
+pub fn flows(alloc: Global, text: &[u8], sensors: &[u8], until: u32) -> Result<Vec<u8>, Refusal>
+    requires text { length text.now < 2 ^ 32 }
+    requires until { until < 2 ^ 31 }
+    ensures { MatchResult result (λ rows. IsTextBy (IsFlowsOutcome text.now sensors.now until) rows.items)
+        (IsRefusalBy (IsFlowsOutcome text.now sensors.now until)) }
+{
+    let program = match program_of(alloc, text) {
+        Ok(program) => program,
+        Err(refusal) => return Err(refusal),
+    };
+    match check_program(alloc, &program) {
+        Ok(()) => chain_flows(alloc, &program, sensors, until),
+        Err(refusal) => Err(refusal),
+    }
 }

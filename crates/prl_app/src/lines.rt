@@ -2,14 +2,15 @@
 
 ghost use Rattle.std.specs.Prelude.{◌≡◌, ◌<◌, ◌≤◌, [], unwrap_or, OnErr};
 ghost use Rattle.prl_io.specs.Growth.{IsWritten};
-ghost use Rattle.prl_app.specs.Endings.{file_name, named_line, placed_line, grammar_line, short_line, limit_line, refusal_line, line_of};
+ghost use Rattle.prl_app.specs.Endings.{file_name, named_line, placed_line, grammar_line, type_text, mismatch_line, type_free_line, types_line, short_line, limit_line, refusal_line, line_of};
 
 use crate::endings::Ending;
 use crate::refusals::{GrammarFault, Part, Refusal};
 use crate::words::Command;
 use itoa::Buffer;
-use prl_base::{Label, Limit};
+use prl_base::{Label, Limit, Ty};
 use prl_io::{Failed, Sink, write_all, write_pieces};
+use prl_types::TypeFault;
 
 fn label_bytes(label: &Option<Label>) -> &[u8]
     ensures { result.now ≡ unwrap_or label.now [] }
@@ -65,6 +66,72 @@ fn write_grammar<E: Sink>(err: &mut E, fault: GrammarFault) -> Result<(), Failed
     }
 }
 
+fn type_text(ty: Ty) -> &'static [u8]
+    ensures { result.now ≡ type_text ty }
+{
+    match ty {
+        Ty::Int => b"int",
+        Ty::Bool => b"bool",
+    }
+}
+
+/// Writes the line of a type that is not the wanted one.
+fn write_mismatch<E: Sink>(err: &mut E, at: u32, wanted: Ty, found: Ty) -> Result<(), Failed>
+    ensures grown { IsWritten (E.written err.old) (E.written err.new) (mismatch_line at wanted found) result }
+    ensures counted { E.faults err.old ≤ E.faults err.new }
+    ensures failed { OnErr result (E.faults err.old < E.faults err.new) }
+{
+    let mut buffer = Buffer::new();
+    let at = buffer.format(at).as_bytes();
+    let front = b"13 mismatch at ".as_slice();
+    let wanting = b" wanted ".as_slice();
+    let finding = b" found ".as_slice();
+    let end = b"\n".as_slice();
+    write_pieces(
+        err,
+        &[
+            front,
+            at,
+            wanting,
+            type_text(wanted),
+            finding,
+            type_text(found),
+            end,
+        ],
+    )
+}
+
+/// Writes the line of a variable whose type the rules leave open.
+fn write_type_free<E: Sink>(err: &mut E, node: &[u8], name: &[u8]) -> Result<(), Failed>
+    ensures grown { IsWritten (E.written err.old) (E.written err.new) (type_free_line node.now name.now) result }
+    ensures counted { E.faults err.old ≤ E.faults err.new }
+    ensures failed { OnErr result (E.faults err.old < E.faults err.new) }
+{
+    let front = b"17 type free ".as_slice();
+    let dot = b".".as_slice();
+    let end = b"\n".as_slice();
+    write_pieces(err, &[front, node, dot, name, end])
+}
+
+/// Writes the line of a fault of names or types.
+fn write_types<E: Sink>(err: &mut E, fault: &TypeFault) -> Result<(), Failed>
+    ensures grown { IsWritten (E.written err.old) (E.written err.new) (types_line fault.now) result }
+    ensures counted { E.faults err.old ≤ E.faults err.new }
+    ensures failed { OnErr result (E.faults err.old < E.faults err.new) }
+{
+    match fault {
+        TypeFault::Twice(name) => write_two(err, b"11 twice ", name.bytes()),
+        TypeFault::Unknown(name) => write_two(err, b"10 unknown ", name.bytes()),
+        TypeFault::Undefined(name) => write_two(err, b"15 undefined ", name.bytes()),
+        TypeFault::Recursive(name) => write_two(err, b"16 recursive ", name.bytes()),
+        TypeFault::NoMain => write_all(err, b"14 no main\n"),
+        TypeFault::Arity(at) => write_placed(err, b"12 arity at ", *at),
+        TypeFault::Mismatch { at, wanted, found } => write_mismatch(err, *at, *wanted, *found),
+        TypeFault::TypeFree { node, name } => write_type_free(err, node.bytes(), name.bytes()),
+        TypeFault::Memory => write_all(err, b"memory\n"),
+    }
+}
+
 /// Writes the line of a sensor that has too few rows.
 fn write_short<E: Sink>(err: &mut E, name: &[u8], have: u64, need: u64) -> Result<(), Failed>
     ensures grown { IsWritten (E.written err.old) (E.written err.new) (short_line name.now have need) result }
@@ -112,6 +179,7 @@ fn write_refusal<E: Sink>(
         Refusal::Absent(part) => write_two(err, b"absent ", file_name(command, *part)),
         Refusal::TooLong(part) => write_two(err, b"too long ", file_name(command, *part)),
         Refusal::Grammar(fault) => write_grammar(err, *fault),
+        Refusal::Types(fault) => write_types(err, fault),
         Refusal::NotBuilt(part) => write_two(err, b"9 not built ", file_name(command, *part)),
         Refusal::Short { name, have, need } => write_short(err, name.bytes(), *have, *need),
         Refusal::Limit(limit) => write_limit(err, *limit),

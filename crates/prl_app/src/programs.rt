@@ -1,13 +1,18 @@
-//! The first stages, which all modes share: from the bytes of a program to the program.
+//! The first stages, which modes share: from the bytes of a program to the program, with its names and types
+//! checked.
 
-ghost use Rattle.std.specs.Prelude.{◌≡◌, ◌<◌, ◌^◌, length};
+ghost use Rattle.std.specs.Prelude.{◌≡◌, ◌≢◌, ◌<◌, ◌^◌, ℕ, List, None, MatchOption, MatchResult, length};
 ghost use Rattle.prl_base.specs.Reading.{Gives};
 ghost use Rattle.prl_ast.specs.Trees.{program_tree};
-ghost use Rattle.prl_app.specs.Outcomes.{of_parse, program_outcome, refusal_of};
+ghost use Rattle.prl_app.specs.Outcomes.{of_parse, of_types, program_outcome, refusal_of};
+ghost use Rattle.prl_types.specs.Typing.{IsTyped, IsFault};
+ghost use Rattle.prl_base.specs.declared.values.Ty.{Ty as AnyTy};
+ghost use Rattle.prl_types.specs.declared.faults.TypeFault.{TypeFault as AnyFault};
 
 use crate::refusals::{GrammarFault, Refusal};
 use prl_ast::Program;
 use prl_syntax::{ParseFault, parse};
+use prl_types::{TypeFault, check_names_types};
 use std::alloc::Global;
 
 fn of_parse(fault: ParseFault) -> Refusal
@@ -30,5 +35,35 @@ pub fn program_of(alloc: Global, text: &[u8]) -> Result<Program, Refusal>
     match parse(alloc, text) {
         Ok(program) => Ok(program),
         Err(fault) => Err(of_parse(fault)),
+    }
+}
+
+fn of_types(fault: TypeFault) -> Refusal
+    ensures { result ≡ of_types fault }
+{
+    match fault {
+        TypeFault::Twice(name) => Refusal::Types(TypeFault::Twice(name)),
+        TypeFault::Unknown(name) => Refusal::Types(TypeFault::Unknown(name)),
+        TypeFault::Undefined(name) => Refusal::Types(TypeFault::Undefined(name)),
+        TypeFault::Recursive(name) => Refusal::Types(TypeFault::Recursive(name)),
+        TypeFault::NoMain => Refusal::Types(TypeFault::NoMain),
+        TypeFault::Arity(at) => Refusal::Types(TypeFault::Arity(at)),
+        TypeFault::Mismatch { at, wanted, found } => {
+            Refusal::Types(TypeFault::Mismatch { at, wanted, found })
+        }
+        TypeFault::TypeFree { node, name } => Refusal::Types(TypeFault::TypeFree { node, name }),
+        TypeFault::Memory => Refusal::Memory,
+    }
+}
+
+/// Refused where names or types of the program are not right.
+pub fn check_program(alloc: Global, program: &Program) -> Result<(), Refusal>
+    ensures { MatchResult result (λ _. (node : ℕ) × (types : List AnyTy) × IsTyped (program_tree program.now) None node types)
+        (λ refusal. MatchOption (refusal_of refusal) (Unit {0})
+        (λ r. (fault : AnyFault) × IsFault (program_tree program.now) None fault × (fault ≢ TypeFault.Memory) × (r ≡ of_types fault))) }
+{
+    match check_names_types(alloc, program, None) {
+        Ok(_) => Ok(()),
+        Err(fault) => Err(of_types(fault)),
     }
 }

@@ -1,6 +1,7 @@
 //! Why a command does not end with its text.
 
 use prl_base::{Limit, Name};
+use prl_types::TypeFault;
 use std::alloc::AllocError;
 
 /// A file that a command names.
@@ -30,6 +31,8 @@ pub enum Refusal {
     TooLong(Part),
     /// The program is not of the grammar.
     Grammar(GrammarFault),
+    /// The names or the types of the program are not right.
+    Types(TypeFault),
     /// The file is not of the form that is built so far.
     NotBuilt(Part),
     /// The sensor has fewer rows than its flow has dates.

@@ -10,6 +10,7 @@ ghost use Rattle.prl_app.specs.Outcomes.{within_limit, IsTextFor, IsRefusalOf};
 
 use crate::refusals::Refusal;
 use prl_base::{FlowNo, Seq, Value};
+use prl_body::Bodies;
 use prl_chains::Chain;
 use prl_flow::{Clocks, Flat, FlowFault, FlowTable, OutFlow, Sensors, evaluate};
 use prl_sensors::actuator_text;
@@ -99,7 +100,8 @@ pub fn run_text(alloc: Global, run: &Run) -> Result<Vec<u8>, Refusal>
     ensures { MatchResult result (λ text. IsTextFor (within_limit run.now) text.items) (IsRefusalOf (within_limit run.now)) }
 {
     let until = run.until as u64;
-    let table = match evaluate(alloc, &run.flat, &run.clocks, &run.sensors, until) {
+    let bodies = Bodies::none(alloc);
+    let table = match evaluate(alloc, &run.flat, &run.clocks, &bodies, &run.sensors, until) {
         Ok(table) => table,
         Err(FlowFault::Limit(limit)) => return Err(Refusal::Limit(limit)),
         Err(FlowFault::Memory) => return Err(Refusal::Memory),

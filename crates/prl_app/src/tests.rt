@@ -190,15 +190,19 @@ fn programs_rows_and_dates(rt: HostRuntime) -> Result<(), Fail> {
     Ok(())
 }
 
-/// Mode `print` on a text: the status, and what is on `out` and `err`.
-fn check_print(
+/// The words of mode `print` on the file `p.prl`.
+const PRINT: [&str; 4] = ["prelude", "print", "--program", "p.prl"];
+
+/// A command line on the text of a program: the status, and what is on `out` and `err`.
+fn check_text(
     rt: &impl Abort,
     alloc: Global,
+    line: &[&str],
     text: Vec<u8>,
     told: (u8, &str, &str),
 ) -> Result<(), Fail> {
-    let words = strings(alloc, &["prelude", "print", "--program", "p.prl"])?;
-    let mut files = files(alloc, text, None, &[])?;
+    let words = strings(alloc, line)?;
+    let mut files = files(alloc, text, Some(SIX), &[])?;
     let mut out = MemSink::new(alloc, 1000, 1000, Vec::new(alloc))?;
     let mut err = MemSink::new(alloc, 1000, 1000, Vec::new(alloc))?;
     let status = prelude_alone(alloc, &words, &mut files, &mut out, &mut err).ok_or("no status")?;
@@ -224,10 +228,39 @@ fn printed_programs(rt: HostRuntime) -> Result<(), Fail> {
         ("9999999999", (1, "", "3 number range at 90\n")),
     ];
     for (right, told) in cases {
-        check_print(&rt, rt.alloc(), program(rt.alloc(), right)?, told)?;
+        check_text(&rt, rt.alloc(), &PRINT, program(rt.alloc(), right)?, told)?;
     }
     let node = Vec::from_slice(rt.alloc(), b"node")?;
-    check_print(&rt, rt.alloc(), node, (1, "", "2 unexpected at 4\n"))
+    check_text(
+        &rt,
+        rt.alloc(),
+        &PRINT,
+        node,
+        (1, "", "2 unexpected at 4\n"),
+    )
+}
+
+#[test]
+fn names_and_types_that_are_refused(rt: HostRuntime) -> Result<(), Fail> {
+    let cases = [
+        ("true fby i", "13 mismatch at 95 wanted int found bool\n"),
+        ("k", "10 unknown k\n"),
+    ];
+    for (right, line) in cases {
+        let text = program(rt.alloc(), right)?;
+        check_text(&rt, rt.alloc(), &flows_words("60"), text, (1, "", line))?;
+    }
+    let open = Vec::from_slice(
+        rt.alloc(),
+        b"sensor i wcet 1; actuator o wcet 1; node main (i: rate (10, 0)) returns (o) let o = i; tel",
+    )?;
+    check_text(
+        &rt,
+        rt.alloc(),
+        &flows_words("60"),
+        open,
+        (1, "", "17 type free main.i\n"),
+    )
 }
 
 #[test]

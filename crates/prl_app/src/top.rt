@@ -13,6 +13,7 @@ use crate::lines::write_line;
 use crate::refusals::{Part, Refusal};
 use crate::words::{Command, WordsFault, read_words};
 use prl_io::{Files, Probe, Sink, write_all};
+use prl_types::outcome_is_unique;
 use std::alloc::Global;
 use std::sync::Wait;
 use std::thread::Threads;
@@ -52,7 +53,7 @@ fn status_of_refusal(refusal: &Refusal) -> u8
 {
     match refusal {
         Refusal::Absent(_) | Refusal::TooLong(_) => 7,
-        Refusal::Grammar(_) => 1,
+        Refusal::Grammar(_) | Refusal::Types(_) => 1,
         Refusal::NotBuilt(part) => status_of_part(*part),
         Refusal::Short { .. } => 9,
         Refusal::Limit(_) => 1,
@@ -81,15 +82,15 @@ fn perform<F: Files, S: Sink>(
         Err(WordsFault::Refused) => return (None, Ending::Words),
         Err(WordsFault::Memory) => return (None, Ending::Refused(Refusal::Memory)),
     };
-    let ending = match answer(alloc, files, &command) {
-        Ok(text) => match write_all(out, &text) {
-            Ok(()) => Ending::Done,
-            Err(_) => Ending::Unwritten,
-        },
-        Err(Stop::Unread(part)) => Ending::Unread(part),
-        Err(Stop::Refused(refusal)) => Ending::Refused(refusal),
+    let text = match answer(alloc, files, &command) {
+        Ok(text) => text,
+        Err(Stop::Unread(part)) => return (Some(command), Ending::Unread(part)),
+        Err(Stop::Refused(refusal)) => return (Some(command), Ending::Refused(refusal)),
     };
-    (Some(command), ending)
+    match write_all(out, &text) {
+        Ok(()) => (Some(command), Ending::Done),
+        Err(_) => (Some(command), Ending::Unwritten),
+    }
 }
 
 /// Tells on `err` how a call ended.
@@ -144,6 +145,7 @@ pub fn prelude_alone<F: Files, S: Sink, E: Sink>(
         (record { folder = F.folder files.new; file_faults = F.faults files.new; out_bytes = S.written out.new; out_faults = S.faults out.new; err_bytes = E.written err.new; err_faults = E.faults err.new })
         status.code) }
 {
+    outcome_is_unique();
     Some(finish(alloc, words, files, out, err))
 }
 

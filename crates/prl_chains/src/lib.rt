@@ -10,7 +10,7 @@ mod relays;
 mod rights;
 
 pub use chains::{Chain, chain_of};
-pub use relays::{copies_hand_on, one_sensor_suffices};
+pub use relays::{chains_want_no_body, copies_hand_on, one_sensor_suffices};
 
 #[cfg(test)]
 mod tests;

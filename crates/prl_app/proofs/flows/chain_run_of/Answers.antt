@@ -1,4 +1,4 @@
-use Rattle.std.proofs.Common.{ℕ, ◌<◌, length, sym, subst, rules, arith}
+use Rattle.std.proofs.Common.{ℕ, ◌<◌, [], ◌∷◌, length, sym, subst, rules, arith}
 use Rattle.prl_base.specs.Clocks.{date_at}
 use Rattle.prl_app.specs.Runs.{IsReady, input_clock}
 use Rattle.prl_app.proofs.flows.chain_run_of.Goals as goal
@@ -15,5 +15,7 @@ returns c =
         clocks = chain.clocks;
         ordered = chain.ordered;
         rows = c.one_sensor_suffices.ensures c.args.chain chain c.args.values.items c.args.until rows;
+        bodies = c.chains_want_no_body.ensures.bodies c.args.chain chain [];
+        types = c.chains_want_no_body.ensures.rows c.args.chain chain (c.args.values.items ∷ []);
       }),
     )

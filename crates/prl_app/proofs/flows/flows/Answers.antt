@@ -1,15 +1,11 @@
-use Rattle.std.proofs.Common.{Result, sym, subst}
-use Rattle.std.specs.Prelude.{MatchResult}
 use Rattle.prl_ast.specs.Trees.{program_tree}
-use Rattle.prl_app.specs.declared.refusals.Refusal.{Refusal}
-use Rattle.prl_app.specs.Asked.{Asked}
-use Rattle.prl_app.specs.Outcomes.{IsTextFor, IsRefusalOf}
-use Rattle.prl_app.proofs.Outputs.{flows_outcome-run}
+use Rattle.prl_app.proofs.Stages.{flows_refused, flows_typed}
 use Rattle.prl_app.proofs.flows.flows.Goals as goal
 
-pub returns : goal.returns
-returns c =
-    let run = c.in-Ok-chain_run_of.ensures in
-    subst (λ (outcome : Result Asked Refusal). MatchResult c.run_text.result (λ text. IsTextFor outcome text.items) (IsRefusalOf outcome))
-    (sym (flows_outcome-run c.args.text.now c.args.sensors.now c.args.until (program_tree c.in-Ok.program) c.in-Ok-chain_of_program.chain c.in-Ok-values_of.values.items c.in-Ok-chain_run_of.run' c.in-Ok.ensures c.in-Ok-chain_of_program.ensures.exact c.in-Ok-values_of.ensures run.0 run.1))
-    c.run_text.ensures
+pub returns-in-Err : goal.returns-in-Err
+returns-in-Err c = flows_refused c.args.text.now c.args.sensors.now c.args.until c.in-Err.refusal c.in-Err.ensures
+
+pub returns-in-Ok-check_program : goal.returns-in-Ok-check_program
+returns-in-Ok-check_program c =
+    flows_typed (λ rows. rows.items) c.args.text.now c.args.sensors.now c.args.until (program_tree c.in-Ok.program) c.chain_flows.result c.in-Ok.ensures
+    c.in-Ok-check_program.ensures c.chain_flows.ensures

@@ -8,5 +8,5 @@ pub returns-in-Ok-print : goal.returns-in-Ok-print
 returns-in-Ok-print c = (
   ToPrint (program_tree c.in-Ok.program),
   ap (λ read. read >>= λ program. Ok (ToPrint program)) c.in-Ok.ensures,
-  c.in-Ok-print.ensures,
+  c.in-Ok-print.ensures.text,
 )
