@@ -13,7 +13,7 @@ ghost use Rattle.prl_chains.specs.Facts.{AreBetween, IsChain};
 ghost use Rattle.prl_chains.specs.Relays.{is_copy, are_copies, is_relay};
 
 use crate::links::{
-    Link, flow_named, has_param, have_flows, is_linked, link_clocks, link_flows, links_of,
+    Link, are_few, flow_named, has_param, have_flows, is_linked, link_clocks, link_flows, links_of,
 };
 use crate::options::the_one;
 use crate::rights::is_factor;
@@ -187,6 +187,10 @@ fn node_links(
         None => return Ok(None),
         Some(ends) => ends,
     };
+    // First the number of equations, which bounds the names that are compared.
+    if !are_few(node) {
+        return Ok(None);
+    }
     if !are_variables(sensor, actuator, input, output, locals) {
         return Ok(None);
     }

@@ -1,6 +1,6 @@
 //! The flows that the equations of a node define, one behind the other.
 
-ghost use Rattle.std.specs.Prelude.{◌≡◌, ◌<◌, ◌≤◌, ◌^◌, [], ◌∷◌, length, map, IfOk, IfSome};
+ghost use Rattle.std.specs.Prelude.{◌≡◌, ◌<◌, ◌≤◌, ◌^◌, [], ◌∷◌, length, map, nat_le, IfOk, IfSome};
 ghost use Rattle.std.specs.Option.{option_map};
 ghost use Rattle.std.specs.Vec.{vec_items, vec_len};
 ghost use Rattle.prl_ast.specs.Trees.{node_tree, equation_tree};
@@ -152,6 +152,13 @@ fn links_from(
     Ok(Some(links))
 }
 
+/// Whether the node has at most 64 equations.
+pub fn are_few(node: &Node) -> bool
+    ensures { result ≡ nat_le (length (node_tree node.now).eqs) 64 }
+{
+    node.eqs.len() <= MAX_EQUATIONS
+}
+
 /// The flow of the input, and those of the equations in order; none where they are more than 64.
 pub fn links_of(
     alloc: Global,
@@ -164,7 +171,7 @@ pub fn links_of(
     ensures links { IfOk result (λ links. IfSome links (λ l. AreLinks (vec_items l))) }
     ensures few { IfOk result (λ links. IfSome links (λ l. vec_len l ≤ 65)) }
 {
-    if node.eqs.len() > MAX_EQUATIONS {
+    if !are_few(node) {
         return Ok(None);
     }
     links_from(alloc, node, input, period)
