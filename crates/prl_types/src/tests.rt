@@ -1,9 +1,10 @@
 ghost use Rattle.std.specs.Prelude.{◌<◌, ◌^◌, length};
 
 use super::*;
+use prl_ast::Program;
 use prl_base::{Label, Ty};
 use prl_syntax::parse;
-use std::alloc::Global;
+use std::alloc::{AllocError, Global};
 use std::test::*;
 
 /// What is wrong with the program of the text, as far as these tests ask.
@@ -19,25 +20,39 @@ enum Seen {
     Other,
 }
 
+/// What the check answers of the program of the text, whose main node is `main`.
+fn fault_of(alloc: Global, program: &Program) -> Result<Option<TypeFault>, AllocError> {
+    let main = Label::new(alloc, b"main")?;
+    match check_names_types(alloc, program, Some(&main)) {
+        Ok(_) => Ok(None),
+        Err(fault) => Ok(Some(fault)),
+    }
+}
+
+fn shown(fault: &TypeFault) -> Seen {
+    match fault {
+        TypeFault::Arity(at) => Seen::Arity(*at),
+        TypeFault::Mismatch { at, wanted, found } => Seen::Mismatch(*at, *wanted, *found),
+        TypeFault::TypeFree { node, name } => match (node.bytes(), name.bytes()) {
+            ([n, ..], [f, ..]) => Seen::Free(*n, *f),
+            _ => Seen::Other,
+        },
+        TypeFault::Unknown(name) => match name.bytes() {
+            [n, ..] => Seen::Unknown(*n),
+            [] => Seen::Other,
+        },
+        _ => Seen::Other,
+    }
+}
+
 fn outcome(alloc: Global, text: &[u8]) -> Result<Seen, Fail>
     requires { length text.now < 2 ^ 32 }
 {
     let program = parse(alloc, text)?;
-    let main = Label::new(alloc, b"main")?;
-    Ok(match check_names_types(alloc, &program, Some(&main)) {
-        Ok(_) => Seen::Nothing,
-        Err(TypeFault::Arity(at)) => Seen::Arity(at),
-        Err(TypeFault::Mismatch { at, wanted, found }) => Seen::Mismatch(at, wanted, found),
-        Err(TypeFault::TypeFree { node, name }) => match (node.bytes(), name.bytes()) {
-            ([n, ..], [f, ..]) => Seen::Free(*n, *f),
-            _ => Seen::Other,
-        },
-        Err(TypeFault::Unknown(name)) => match name.bytes() {
-            [n, ..] => Seen::Unknown(*n),
-            [] => Seen::Other,
-        },
-        Err(_) => Seen::Other,
-    })
+    match fault_of(alloc, &program)? {
+        None => Ok(Seen::Nothing),
+        Some(fault) => Ok(shown(&fault)),
+    }
 }
 
 #[test]
