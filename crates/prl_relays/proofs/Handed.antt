@@ -1,11 +1,15 @@
 -- A whole run of the plan of a chain that hands its input on: what the machine needs, and what its actuator gives.
-use Rattle.std.proofs.Common.{◌≡◌, ℕ, ◌+◌, ◌-◌, ◌/◌, ◌<◌, ◌≤◌, ◌↔◌, zero, suc, Bool, true, false, ◌&&◌, IsTrue, List, [], ◌∷◌, take, length, Some, refl, sym, ap, ◌∙◌, subst, arith}
+use Rattle.std.proofs.Common.{◌≡◌, ℕ, ◌+◌, ◌-◌, ◌/◌, ◌<◌, ◌≤◌, ◌↔◌, zero, suc, List, [], ◌∷◌, take, length, Some, refl, sym, ap, ◌∙◌, subst, arith, ◌++◌}
+use Rattle.std.specs.List.{flat_map}
+use Rattle.std.proofs.lemmas.List.Elements.{All-from_recursion}
 use Rattle.std.specs.Prelude.{slice_get, slice_index, slice_index_or, replicate, nat_le, All}
-use Rattle.prl_base.specs.Clocks.{date_at}
+use Rattle.prl_base.specs.Clocks.{IsClock, date_at}
 use Rattle.prl_base.specs.declared.numbers.FlowNo.{FlowNo}
 use Rattle.prl_base.specs.declared.values.Value.{Value}
 use Rattle.prl_flow.specs.Rows.{Rows, rows_of}
 use Rattle.prl_flow.specs.Flows.{IsUpTo}
+use Rattle.prl_flow.specs.Actuators.{AreUpTo, actuator_text}
+use Rattle.prl_flow.specs.declared.programs.OutFlow.{OutFlow}
 use Rattle.prl_flow.specs.Programs.{wcet_of}
 use Rattle.prl_flow.specs.Solutions.{clock_of, values_of}
 use Rattle.prl_chains.specs.declared.chains.Chain.{Chain}
@@ -16,14 +20,17 @@ use Rattle.prl_plan.specs.declared.horizons.Horizon.{Horizon}
 use Rattle.prl_plan.specs.declared.events.Event.{Event}
 use Rattle.prl_plan.specs.declared.events.Event.TheVariants as events
 use Rattle.prl_plan.specs.Plans.{PlanView}
-use Rattle.prl_plan.specs.Jobs.{task_at, job_count}
-use Rattle.prl_plan.specs.Runs.{ExecState}
-use Rattle.prl_plan.specs.Rules.{IsComplete}
+use Rattle.prl_plan.specs.Facts.{HasPlanFacts}
+use Rattle.prl_plan.specs.Horizons.{constants_of}
+use Rattle.prl_plan.specs.Runs.{RunConstants, ExecState, opening, after_events}
+use Rattle.prl_plan.specs.Rules.{IsComplete, IsLegal, IsGated}
+use Rattle.prl_core.specs.declared.seen.Seen.{Seen}
 use Rattle.prl_core.specs.Values.{HasRows}
 use Rattle.prl_core.specs.Machine.{CoreView, constants, Drives, AreOutputs, IsOfPlan}
-use Rattle.prl_replay.specs.Replays.{behind}
+use Rattle.prl_replay.specs.Replays.{behind, IsReplay}
 use Rattle.prl_replay.specs.Schedules.{IsOfTasks}
-use Rattle.prl_relays.specs.Relays.{Relay, HasValues, IsReady, IsOutput, input_clock, is_in_time, relay_plan, output_of, machine}
+use Rattle.prl_relays.specs.Reads.{read_line}
+use Rattle.prl_relays.specs.Relays.{Relay, task_names, out_flow, replay_lines, HasValues, IsReady, IsOutput, input_clock, relay_plan, output_of, machine}
 use Rattle.prl_relays.proofs.Solutions.{job_dates, both, at_first, HandsOver, each_column, relay_solves, relay_only}
 
 -- how many jobs each of the two tasks has
@@ -145,3 +152,53 @@ solved_by r horizon s out ready hands same complete counted i drives outputs =
       output = outputs_of r horizon s out ready same complete counted i drives outputs
           ∙ sym (each_column r.chain r.values r.until n over (output_of r.chain) (output_inside r.chain ready.chain));
     }
+
+-- the machine of the chain's plan and values
+pub core_is : (r : Relay) (horizon : Horizon) (core : CoreView) (plan : PlanView) (rows : Rows)
+    → core ≡ record { plan = plan; rows = rows; horizon = horizon; state = opening (constants_of plan horizon) }
+    → plan ≡ relay_plan r.chain → rows ≡ r.values ∷ [] → core ≡ machine r horizon
+core_is r horizon core plan rows is planned are =
+    is ∙ ap (λ (p : PlanView). record { plan = p; rows = rows; horizon = horizon; state = opening (constants_of p horizon) }) planned
+    ∙ ap (λ (xs : Rows). record { plan = relay_plan r.chain; rows = xs; horizon = horizon; state = opening (constants_of (relay_plan r.chain) horizon) }) are
+
+-- what the laws of legal lists say
+abbrev pub LegalIsGated : Type 0
+LegalIsGated = (c : RunConstants) → HasPlanFacts c → (list : List Event) → IsLegal c (opening c) list → IsGated c (opening c) list
+
+abbrev pub GatedIsCounted : Type 0
+GatedIsCounted =
+    (c : RunConstants) → HasPlanFacts c → (list : List Event) → IsGated c (opening c) list → (i : ℕ) → i < c.tasks
+    → slice_index (after_events c (opening c) list).ended i ≤ c.jobs i
+
+-- behind a whole run from the opening, what the actuator has read is the output of the one solution
+pub solved_behind : (r : Relay) (horizon : Horizon) (list : List Event) (reads : List Seen) (left : CoreView) (plan : PlanView) (out : List Value)
+    → IsReady r → HandsOn r.chain → horizon.until ≡ r.until → plan ≡ relay_plan r.chain → LegalIsGated → GatedIsCounted → HasPlanFacts (constants_of plan horizon)
+    → IsReplay (machine r horizon) list reads → left ≡ behind (machine r horizon) list
+    → (i : ℕ) × Drives left.plan i 0 × AreOutputs left i out → IsOutput r out
+solved_behind r horizon list reads left plan out ready hands same planned gated counted facts run is outputs =
+    let c : RunConstants = constants_of (relay_plan r.chain) horizon in
+    let here : HasPlanFacts c = subst (λ (p : PlanView). HasPlanFacts (constants_of p horizon)) planned facts in
+    let most : slice_index (behind (machine r horizon) list).state.ended 1 ≤ jobs_of r.chain horizon.until =
+    counted c here list (gated c here list run.legal) 1 (omega arith) in
+    let (i, drives, told) = subst (λ (m : CoreView). (i : ℕ) × Drives m.plan i 0 × AreOutputs m i out) is outputs in
+    solved_by r horizon (behind (machine r horizon) list).state out ready hands same run.complete most i drives told
+
+-- the output of a solution is up to the date
+pub outputs_up_to : (r : Relay) (out : List Value) → IsReady r → IsOutput r out → AreUpTo r.until (out_flow r.chain out ∷ [])
+outputs_up_to r out ready solved =
+    let below : output_of r.chain < length r.chain.flat.flows = output_inside r.chain ready.chain in
+    let clock : IsClock (clock_of r.chain.clocks.of (output_of r.chain)) =
+    ready.chain.clocks.clock (output_of r.chain) (let count = ready.chain.clocks.count in omega (arith, below, count)) in
+    let up_to : IsUpTo r.until (clock_of r.chain.clocks.of (output_of r.chain)) (values_of solved.flows (output_of r.chain)) =
+    solved.solution.up_to (output_of r.chain) (let count = solved.solution.count in omega (arith, below, count)) in
+    All-from_recursion (λ (o : OutFlow). IsClock o.clock × IsUpTo r.until o.clock o.values) (out_flow r.chain out ∷ [])
+    ((clock, subst (IsUpTo r.until (clock_of r.chain.clocks.of (output_of r.chain))) (sym solved.output) up_to), tt)
+
+-- the text of the reads and the rows
+pub lines_are : (r : Relay) (names : List (List ℕ)) (seens reads : List Seen) (out : List Value) (written rows text : List ℕ)
+    → text ≡ flat_map (read_line names) seens ++ written → names ≡ task_names r.chain → seens ≡ reads → written ≡ rows
+    → rows ≡ actuator_text r.until (out_flow r.chain out ∷ []) → text ≡ replay_lines r reads out
+lines_are r names seens reads out written rows text is named seen same told =
+    is ∙ ap (λ (ns : List (List ℕ)). flat_map (read_line ns) seens ++ written) named
+    ∙ ap (λ (xs : List Seen). flat_map (read_line (task_names r.chain)) xs ++ written) seen
+    ∙ ap (λ (ys : List ℕ). flat_map (read_line (task_names r.chain)) reads ++ ys) (same ∙ told)

@@ -1,2 +1,3 @@
 pub mod Solutions
 pub mod Handed
+pub mod TwoNames

@@ -1,5 +1,5 @@
 -- The one solution of a chain that hands its input on.
-use Rattle.std.proofs.Common.{◌≡◌, ◌≢◌, ◌↔◌, ℕ, ◌+◌, ◌-◌, ◌*◌, ◌/◌, ◌%◌, ◌<◌, ◌≤◌, zero, suc, Bool, true, false, ◌&&◌, IsTrue, List, [], ◌∷◌, take, length, get_or, Option, Some, None, refl, sym, ap, ◌∙◌, subst, arith}
+use Rattle.std.proofs.Common.{◌≡◌, ◌↔◌, ℕ, ◌+◌, ◌-◌, ◌*◌, ◌/◌, ◌%◌, ◌<◌, ◌≤◌, zero, suc, Bool, true, false, ◌&&◌, IsTrue, List, [], ◌∷◌, take, length, Some, refl, sym, ap, ◌∙◌, subst, arith}
 use Rattle.std.specs.Prelude.{slice_get, slice_index_or, replicate}
 use Rattle.std.specs.List.{list_all}
 use Rattle.std.proofs.Math.Nat.{mul-le-mul_left}
@@ -8,7 +8,7 @@ use Rattle.prl_base.specs.Clocks.{date_at}
 use Rattle.prl_base.specs.declared.operators.Clock.{Clock}
 use Rattle.prl_base.specs.declared.numbers.FlowNo.{FlowNo}
 use Rattle.prl_base.specs.declared.values.Value.{Value}
-use Rattle.prl_flow.specs.Rows.{Rows, rows_of}
+use Rattle.prl_flow.specs.Rows.{Rows}
 use Rattle.prl_flow.specs.Flows.{IsUpTo}
 use Rattle.prl_flow.specs.declared.programs.Def.{Def}
 use Rattle.prl_flow.specs.declared.programs.Def.TheVariants as definitions

@@ -2,7 +2,6 @@
 use Rattle.std.specs.Prelude.{◌≡◌, ◌&&◌, ◌+◌, ◌++◌, ◌<◌, ◌^◌, ℕ, Bool, List, [], ◌∷◌, length, Ok, Err, IsTrue, nat_le, slice_index_or}
 use Rattle.std.specs.List.{flat_map}
 use Rattle.prl_base.specs.Clocks.{date_at}
-use Rattle.prl_base.specs.declared.limits.Limit.{Limit}
 use Rattle.prl_base.specs.declared.operators.Clock.{Clock}
 use Rattle.prl_base.specs.declared.values.Value.{Value}
 use Rattle.prl_flow.specs.Programs.{name_of, wcet_of}

@@ -30,7 +30,6 @@ pub(crate) fn plan_of(alloc: Global, chain: &Chain) -> Result<Plan, AllocError>
     let period = chain.input_clock().period;
     let wcet_in = chain.flat.in_wcet(0);
     let wcet_out = chain.flat.out_wcet(0);
-    let _flows = chain.flat.flows();
     Plan::two(alloc, sensor, actuator, period, wcet_in, wcet_out)
 }
 

@@ -68,12 +68,10 @@ fn of_fault(fault: ReplayFault) -> RelayFault
     }
 }
 
-/// The rows of the actuator, whose flow has these values.
-fn output_rows(alloc: Global, chain: &Chain, outputs: Vec<Value>) -> Result<Vec<u8>, AllocError>
-    requires chain { IsChain chain.now }
-    requires up_to { (until : ℕ) × (until < 2 ^ 64) × AreUpTo until (out_flow chain.now outputs.items ∷ []) }
-    ensures { (until : ℕ) → AreUpTo until (out_flow chain.now outputs.items ∷ [])
-        → IfOk result (λ rows. rows.items ≡ actuator_text until (out_flow chain.now outputs.items ∷ [])) }
+/// The flow of the actuator, with these values.
+fn out_flows(alloc: Global, chain: &Chain, outputs: Vec<Value>) -> Result<Vec<OutFlow>, AllocError>
+    requires { IsChain chain.now }
+    ensures { IfOk result (λ outs. vec_items outs ≡ out_flow chain.now outputs.items ∷ []) }
 {
     let flow = chain.flat.outs()[0];
     let clock = chain.clocks.of.as_slice()[flow.0 as usize];
@@ -84,6 +82,17 @@ fn output_rows(alloc: Global, chain: &Chain, outputs: Vec<Value>) -> Result<Vec<
         clock,
         values: Seq::new(outputs),
     })?;
+    Ok(outs)
+}
+
+/// The rows of the actuator, whose flow has these values.
+fn output_rows(alloc: Global, chain: &Chain, outputs: Vec<Value>) -> Result<Vec<u8>, AllocError>
+    requires chain { IsChain chain.now }
+    requires up_to { (until : ℕ) × (until < 2 ^ 64) × AreUpTo until (out_flow chain.now outputs.items ∷ []) }
+    ensures { (until : ℕ) → AreUpTo until (out_flow chain.now outputs.items ∷ [])
+        → IfOk result (λ rows. rows.items ≡ actuator_text until (out_flow chain.now outputs.items ∷ [])) }
+{
+    let outs = out_flows(alloc, chain, outputs)?;
     actuator_text(alloc, &outs)
 }
 
