@@ -9,3 +9,6 @@ mod runs;
 
 pub use plans::is_in_time;
 pub use relays::{RelayFault, replay_text};
+
+#[cfg(test)]
+mod tests;
