@@ -2,11 +2,13 @@
 //! the text of the schedule to the reads and the actuator's rows. It stands on chains, plans, the machine and schedules.
 #![tactic(auto)]
 
+mod laws;
 mod plans;
 mod reads;
 mod relays;
 mod runs;
 
+pub use laws::replays_end_one_way;
 pub use plans::is_in_time;
 pub use relays::{RelayFault, replay_text};
 
