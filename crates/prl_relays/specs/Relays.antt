@@ -1,5 +1,5 @@
 -- The replay of a schedule on the plan of a sensor and an actuator, for a chain that only hands its input on.
-use Rattle.std.specs.Prelude.{◌≡◌, ◌&&◌, ◌+◌, ◌++◌, ◌<◌, ◌^◌, ℕ, Bool, List, [], ◌∷◌, length, Ok, Err, IsTrue, nat_le, slice_index_or}
+use Rattle.std.specs.Prelude.{◌≡◌, ◌&&◌, ◌+◌, ◌++◌, ◌<◌, ℕ, Bool, List, [], ◌∷◌, length, Ok, Err, IsTrue, nat_le, slice_index_or}
 use Rattle.std.specs.List.{flat_map}
 use Rattle.prl_base.specs.Clocks.{date_at}
 use Rattle.prl_base.specs.declared.operators.Clock.{Clock}
@@ -68,7 +68,6 @@ HasValues c values until = (n : ℕ) → date_at (input_clock c) n < until → n
 pub record IsReady (r : Relay) : Type 0 where
   pub chain : IsChain r.chain
   pub in_time : IsTrue (is_in_time r.chain)
-  pub until : r.until < 2 ^ 31
   pub values : HasValues r.chain r.values r.until
 
 -- The flat program of the chain has one solution, and these are the values of its output there.

@@ -9,7 +9,7 @@ use Rattle.prl_relays.proofs.relays.scheduled.Goals as goal
 pub output_rows-requires-clause-up_to : goal.output_rows-requires-clause-up_to
 output_rows-requires-clause-up_to c =
     let r : Relay = record { chain = c.args.chain.now; values = c.args.values.items; until = c.args.horizon.until } in
-    (c.args.horizon.until, (let small = c.requires.ready.until in omega (arith, small)), outputs_up_to r c.in-Ok-replayed.run'.outputs.items c.requires.ready c.in-Ok-replayed.ensures.solved)
+    (c.args.horizon.until, (let small = c.requires.horizon.until in omega (arith, small)), outputs_up_to r c.in-Ok-replayed.run'.outputs.items c.requires.ready c.in-Ok-replayed.ensures.solved)
 
 pub returns : goal.returns
 returns c =
