@@ -126,7 +126,7 @@ fn scheduled(
 
 /// The replay of a schedule, below the date `until` in ticks: a line `read TASK JOB PORT INSTANCE CELL VALUE` for each read, in
 /// order, and then the rows `NAME,INSTANCE,DATE,VALUE` of the actuator by date. The values are those of the sensor's instances,
-/// from 0 on. Refused are, in this order: a horizon past a limit, a line that is no event, the first event that breaks a rule,
+/// from 0 on, one for each date of the input or more, and the chain is one that `is_in_time` takes. Refused are, in this order: a horizon past a limit, a line that is no event, the first event that breaks a rule,
 /// and the first job that has not ended.
 pub fn replay_text(
     alloc: Global,
