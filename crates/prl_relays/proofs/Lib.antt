@@ -1,0 +1,6 @@
+pub mod Solutions
+pub mod Handed
+pub mod TwoNames
+pub mod Legality
+pub mod HorizonLimits
+pub mod OneEnd

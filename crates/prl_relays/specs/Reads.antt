@@ -1,0 +1,27 @@
+-- The lines that tell what the jobs of a run read.
+use Rattle.std.specs.Prelude.{◌++◌, ℕ, List, [], ◌∷◌, slice_index_or, codes}
+use Rattle.std.specs.Fmt.{decimal}
+use Rattle.std.specs.List.{concat}
+use Rattle.prl_base.specs.declared.values.Value.{Value}
+use Rattle.prl_flow.specs.Actuators.{value_text}
+use Rattle.prl_core.specs.declared.seen.Seen.{Seen}
+use Rattle.prl_core.specs.declared.seen.Seen.TheVariants as sights
+
+-- the name of a task
+abbrev pub name_at : List (List ℕ) → ℕ → List ℕ
+name_at names i = slice_index_or names i []
+
+-- a value and the end of its line
+abbrev pub value_line : Value → List ℕ
+value_line value = value_text value ++ codes "\n"
+
+-- The line of a read of an instance: `read TASK JOB PORT INSTANCE CELL VALUE`. What else is seen has no line.
+abbrev pub read_line : List (List ℕ) → Seen → List ℕ
+read_line names (sights.Read task job port edge instance cell value) =
+    concat (codes "read " ∷ name_at names task.0 ∷ codes " " ∷ decimal job ∷ codes " " ∷ decimal port ∷ codes " " ∷ decimal instance
+    ∷ codes " " ∷ decimal cell.0 ∷ codes " " ∷ [])
+    ++ value_line value
+read_line names (sights.ReadConst task job port value) = []
+read_line names (sights.Ticked tick) = []
+read_line names (sights.Wrote task job edge cell) = []
+read_line names (sights.Ended task job) = []

@@ -1,0 +1,17 @@
+//! The replay of a schedule for a chain that only hands its input on: from the chain, the values of its sensor, the date and
+//! the text of the schedule to the reads and the actuator's rows. It stands on chains,
+//! plans, the machine and schedules; the syntax serves its tests.
+#![tactic(auto)]
+
+mod laws;
+mod plans;
+mod reads;
+mod relays;
+mod runs;
+
+pub use laws::replays_end_one_way;
+pub use plans::is_in_time;
+pub use relays::{RelayFault, replay_text};
+
+#[cfg(test)]
+mod tests;
