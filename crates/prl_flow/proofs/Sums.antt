@@ -55,7 +55,7 @@ only_one P x p zero y found = let e : x ≡ y = cc in subst (P 0) e p
 only_one P x p (suc k) y found = cc
 
 -- the same of a list that is known to have one
-only_one_of : {A : Type 0} (P : ℕ → A → Type 0) (x : A) (xs : List A) → xs ≡ x ∷ [] → P 0 x → (k : ℕ) (y : A) → slice_get xs k ≡ Some y → P k y
+pub only_one_of : {A : Type 0} (P : ℕ → A → Type 0) (x : A) (xs : List A) → xs ≡ x ∷ [] → P 0 x → (k : ℕ) (y : A) → slice_get xs k ≡ Some y → P k y
 only_one_of P x xs is p k y found = only_one P x p k y (subst (λ l. slice_get l k ≡ Some y) is found)
 
 application_is_well_formed : (f0 f1 f2 : Flow) (app : App) → AreSums f0 f1 f2 app → IsApplication (program f0 f1 f2 app) 0 app
