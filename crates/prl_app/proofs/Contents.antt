@@ -17,20 +17,30 @@ some_content None part (Some name) most = (Ok [], omega arith)
 some_content (Some folder) part (Some name) most = (read_as part (reading_of (folder name) most), refl)
 
 -- a cause of each refusal is a cause of the stop
-pub IsStop-map : (rose : Type 0) (P Q : Refusal → Type 0) → ((refusal : Refusal) → P refusal → Q refusal) → (stop : Stop) → IsStop rose P stop → IsStop rose Q stop
-IsStop-map rose P Q f (stops.Unread part) h = h
-IsStop-map rose P Q f (stops.Refused (refusals.Absent part)) h = f (refusals.Absent part) h
-IsStop-map rose P Q f (stops.Refused (refusals.TooLong part)) h = f (refusals.TooLong part) h
-IsStop-map rose P Q f (stops.Refused (refusals.Grammar fault)) h = f (refusals.Grammar fault) h
-IsStop-map rose P Q f (stops.Refused (refusals.Types fault)) h = f (refusals.Types fault) h
-IsStop-map rose P Q f (stops.Refused (refusals.NotBuilt part)) h = f (refusals.NotBuilt part) h
-IsStop-map rose P Q f (stops.Refused (refusals.Short name have need)) h = f (refusals.Short name have need) h
-IsStop-map rose P Q f (stops.Refused (refusals.Limit limit)) h = f (refusals.Limit limit) h
-IsStop-map rose P Q f (stops.Refused refusals.Memory) h = tt
+pub IsStop-map : (rose risen : Type 0) (P Q : Refusal → Type 0) → (rose → risen) → ((refusal : Refusal) → P refusal → Q refusal) → (stop : Stop) → IsStop rose P stop → IsStop risen Q stop
+IsStop-map rose risen P Q count f (stops.Unread part) h = count h
+IsStop-map rose risen P Q count f (stops.Refused (refusals.Absent part)) h = f (refusals.Absent part) h
+IsStop-map rose risen P Q count f (stops.Refused (refusals.TooLong part)) h = f (refusals.TooLong part) h
+IsStop-map rose risen P Q count f (stops.Refused (refusals.Grammar fault)) h = f (refusals.Grammar fault) h
+IsStop-map rose risen P Q count f (stops.Refused (refusals.Types fault)) h = f (refusals.Types fault) h
+IsStop-map rose risen P Q count f (stops.Refused (refusals.NotBuilt part)) h = f (refusals.NotBuilt part) h
+IsStop-map rose risen P Q count f (stops.Refused (refusals.Short name have need)) h = f (refusals.Short name have need) h
+IsStop-map rose risen P Q count f (stops.Refused (refusals.Limit limit)) h = f (refusals.Limit limit) h
+IsStop-map rose risen P Q count f (stops.Refused (refusals.Schedule fault)) h = f (refusals.Schedule fault) h
+IsStop-map rose risen P Q count f (stops.Refused refusals.Memory) h = tt
 
 -- a command whose program is refused comes to that refusal
 pub ComesTo-program : (told : Option Folder) (command : Command) (refusal : Refusal)
     → IsContent told parts.Program command.program 1048576 (Err refusal) → ComesTo told command (Err refusal)
 ComesTo-program told command refusal h =
     let rows = some_content told parts.Sensors command.sensors 33554432 in
-    record { program = Err refusal; sensors = rows.0; program_file = h; sensors_file = rows.1; stages = refl }
+    let events = some_content told parts.Schedule command.schedule 83886080 in
+    record { program = Err refusal; sensors = rows.0; schedule = events.0; program_file = h; sensors_file = rows.1; schedule_file = events.1; stages = refl }
+
+-- a command whose sensor rows are refused comes to that refusal
+pub ComesTo-sensors : (told : Option Folder) (command : Command) (program : List ℕ) (refusal : Refusal)
+    → IsContent told parts.Program command.program 1048576 (Ok program) → IsContent told parts.Sensors command.sensors 33554432 (Err refusal)
+    → ComesTo told command (Err refusal)
+ComesTo-sensors told command program refusal p h =
+    let events = some_content told parts.Schedule command.schedule 83886080 in
+    record { program = Ok program; sensors = Err refusal; schedule = events.0; program_file = p; sensors_file = h; schedule_file = events.1; stages = refl }

@@ -18,13 +18,8 @@ use Rattle.prl_app.specs.Asked.{ToCompute}
 use Rattle.prl_app.specs.Runs.{out_flows, chain_run}
 use Rattle.prl_base.specs.Reading.{◌>>=◌}
 use Rattle.prl_ast.specs.Trees.{ProgramTree}
-use Rattle.prl_flow.specs.Programs.{name_of}
 use Rattle.prl_chains.specs.declared.chains.Chain.{Chain}
-use Rattle.prl_chains.specs.Chains.{chain_of}
-use Rattle.prl_app.specs.declared.refusals.Part.TheVariants as parts
-use Rattle.prl_app.specs.declared.refusals.Refusal.TheVariants as refusals
-use Rattle.prl_app.specs.Rows.{rows_of}
-use Rattle.prl_app.specs.Outcomes.{chain_outcome, enough_rows, or_refuse, within_limit}
+use Rattle.prl_app.specs.Outcomes.{chain_outcome, chain_stage, values_stage, within_limit}
 
 some_inner : {A : Type 0} (x y : A) → Some x ≡ Some y → x ≡ y
 some_inner x y e = cc
@@ -62,13 +57,10 @@ within_limit-few run few = rw (le-ltb 4000000 (values_before run.until run.clock
 
 -- the outcome where each stage before the last one goes well
 pub chain_outcome-run : (sensors : List ℕ) (until : ℕ) (program : ProgramTree) (chain : Chain) (values : List Value) (run : Run)
-    → or_refuse (refusals.NotBuilt parts.Program) (chain_of program) ≡ Ok chain
-    → or_refuse (refusals.NotBuilt parts.Sensors) (rows_of (name_of chain.flat.in_devices 0) sensors) ≡ Ok values
-    → enough_rows chain values until ≡ Ok values → run ≡ chain_run chain values until
+    → chain_stage program ≡ Ok chain → values_stage chain sensors until ≡ Ok values → run ≡ chain_run chain values until
     → chain_outcome program sensors until ≡ within_limit run
 unfolding chain_outcome
-chain_outcome-run sensors until program chain values run read rows enough is =
-    ap (λ r. r >>= λ c. or_refuse (refusals.NotBuilt parts.Sensors) (rows_of (name_of c.flat.in_devices 0) sensors) >>= λ read. enough_rows c read until >>= λ values. within_limit (chain_run c values until)) read
-    ∙ ap (λ r. r >>= λ read. enough_rows chain read until >>= λ values. within_limit (chain_run chain values until)) rows
-    ∙ ap (λ r. r >>= λ values. within_limit (chain_run chain values until)) enough
+chain_outcome-run sensors until program chain values run read rows is =
+    ap (λ r. r >>= λ c. values_stage c sensors until >>= λ values. within_limit (chain_run c values until)) read
+    ∙ ap (λ r. r >>= λ values. within_limit (chain_run chain values until)) rows
     ∙ ap within_limit (sym is)

@@ -6,6 +6,8 @@ use Rattle.prl_base.specs.Limits.{what_text}
 use Rattle.prl_base.specs.declared.limits.Limit.{Limit}
 use Rattle.prl_base.specs.declared.values.Ty.{Ty}
 use Rattle.prl_base.specs.declared.values.Ty.TheVariants as types
+use Rattle.prl_plan.specs.declared.events.Rule.{Rule}
+use Rattle.prl_plan.specs.Rules.{rule_text}
 use Rattle.prl_types.specs.declared.faults.TypeFault.{TypeFault}
 use Rattle.prl_types.specs.declared.faults.TypeFault.TheVariants as typing
 use Rattle.prl_io.specs.Folders.{reading_of}
@@ -20,12 +22,15 @@ use Rattle.prl_app.specs.declared.refusals.GrammarFault.{GrammarFault}
 use Rattle.prl_app.specs.declared.refusals.GrammarFault.TheVariants as grammar
 use Rattle.prl_app.specs.declared.refusals.Part.{Part}
 use Rattle.prl_app.specs.declared.refusals.Part.TheVariants as parts
+use Rattle.prl_app.specs.declared.refusals.RunFault.{RunFault}
+use Rattle.prl_app.specs.declared.refusals.RunFault.TheVariants as runs
 use Rattle.prl_app.specs.declared.refusals.Refusal.{Refusal}
 use Rattle.prl_app.specs.declared.refusals.Refusal.TheVariants as refusals
 use Rattle.prl_app.specs.declared.words.Command.{Command}
 use Rattle.prl_app.specs.Words.{command_of}
 use Rattle.prl_app.specs.Asked.{Asked, IsTextOf}
-use Rattle.prl_app.specs.Outcomes.{Then, IsModeOutcome, refusal_of}
+use Rattle.prl_app.specs.Outcomes.{Then, refusal_of}
+use Rattle.prl_app.specs.Modes.{IsModeOutcome}
 
 -- what is known of a folder: the bytes of each file by its name
 abbrev pub Folder : Type 0
@@ -48,6 +53,7 @@ IsFileRefusal part (refusals.Types fault) = ⊥
 IsFileRefusal part (refusals.NotBuilt p) = ⊥
 IsFileRefusal part (refusals.Short name have need) = ⊥
 IsFileRefusal part (refusals.Limit limit) = ⊥
+IsFileRefusal part (refusals.Schedule fault) = ⊥
 IsFileRefusal part refusals.Memory = ⊥
 
 -- What a file gives to the stages: nothing where none is named; what the folder has, where that is known; else some
@@ -59,20 +65,24 @@ IsContent None part (Some name) most (Err refusal) = IsFileRefusal part refusal
 IsContent (Some folder) part (Some name) most content = content ≡ read_as part (reading_of (folder name) most)
 
 -- the stages on what the files give
-abbrev pub IsCommandOutcome : Command → Result (List ℕ) Refusal → Result (List ℕ) Refusal → Result Asked Refusal → Type 0
-IsCommandOutcome command program sensors = Then program (λ text. Then sensors (λ rows. IsModeOutcome command.mode text rows command.until))
+abbrev pub IsCommandOutcome : Command → Result (List ℕ) Refusal → Result (List ℕ) Refusal → Result (List ℕ) Refusal → Result Asked Refusal → Type 0
+IsCommandOutcome command program sensors schedule =
+    Then program (λ text. Then sensors (λ rows. Then schedule (λ events. IsModeOutcome command.mode text rows events command.until)))
 
 -- the command comes to this outcome, over a folder of which this is known
 pub record ComesTo (told : Option Folder) (command : Command) (outcome : Result Asked Refusal) : Type 0 where
   pub program : Result (List ℕ) Refusal
   pub sensors : Result (List ℕ) Refusal
+  pub schedule : Result (List ℕ) Refusal
   pub program_file : IsContent told parts.Program command.program 1048576 program
   pub sensors_file : IsContent told parts.Sensors command.sensors 33554432 sensors
-  pub stages : IsCommandOutcome command program sensors outcome
+  pub schedule_file : IsContent told parts.Schedule command.schedule 83886080 schedule
+  pub stages : IsCommandOutcome command program sensors schedule outcome
 
 abbrev pub status_of_part : Part → ℕ
 status_of_part parts.Program = 1
 status_of_part parts.Sensors = 9
+status_of_part parts.Schedule = 8
 
 abbrev pub status_of_refusal : Refusal → ℕ
 status_of_refusal (refusals.Absent part) = 7
@@ -82,6 +92,7 @@ status_of_refusal (refusals.Types fault) = 1
 status_of_refusal (refusals.NotBuilt part) = status_of_part part
 status_of_refusal (refusals.Short name have need) = 9
 status_of_refusal (refusals.Limit limit) = 1
+status_of_refusal (refusals.Schedule fault) = 8
 status_of_refusal refusals.Memory = 6
 
 abbrev pub status_of : Ending → ℕ
@@ -96,6 +107,7 @@ abbrev pub file_name : Option Command → Part → List ℕ
 file_name None part = []
 file_name (Some command) parts.Program = unwrap_or command.program []
 file_name (Some command) parts.Sensors = unwrap_or command.sensors []
+file_name (Some command) parts.Schedule = unwrap_or command.schedule []
 
 -- lines by their pieces
 abbrev pub named_line : List ℕ → List ℕ → List ℕ
@@ -139,6 +151,17 @@ abbrev pub limit_line : Limit → List ℕ
 limit_line limit =
     concat (codes "4 limit " ∷ what_text limit.what ∷ codes " found " ∷ decimal limit.found ∷ codes "\n" ∷ [])
 
+abbrev pub illegal_line : ℕ → Rule → List ℕ
+illegal_line line rule = concat (codes "71 illegal line " ∷ decimal line ∷ codes " rule " ∷ rule_text rule ∷ codes "\n" ∷ [])
+
+abbrev pub unfinished_line : List ℕ → ℕ → List ℕ
+unfinished_line name job = concat (codes "72 unfinished " ∷ name ∷ codes " " ∷ decimal job ∷ codes "\n" ∷ [])
+
+abbrev pub schedule_line : RunFault → List ℕ
+schedule_line (runs.Syntax line) = placed_line (codes "70 schedule syntax line ") line
+schedule_line (runs.Illegal line rule) = illegal_line line rule
+schedule_line (runs.Unfinished name job) = unfinished_line name job
+
 abbrev pub refusal_line : Option Command → Refusal → List ℕ
 refusal_line command (refusals.Absent part) = named_line (codes "absent ") (file_name command part)
 refusal_line command (refusals.TooLong part) = named_line (codes "too long ") (file_name command part)
@@ -147,6 +170,7 @@ refusal_line command (refusals.Types fault) = types_line fault
 refusal_line command (refusals.NotBuilt part) = named_line (codes "9 not built ") (file_name command part)
 refusal_line command (refusals.Short name have need) = short_line name have need
 refusal_line command (refusals.Limit limit) = limit_line limit
+refusal_line command (refusals.Schedule fault) = schedule_line fault
 refusal_line command refusals.Memory = codes "memory\n"
 
 -- the line that is written to err

@@ -4,5 +4,7 @@ pub mod Rows
 pub mod Runs
 pub mod Asked
 pub mod Outcomes
+pub mod Replays
+pub mod Modes
 pub mod Endings
 pub mod Statuses

@@ -21,10 +21,9 @@ use Rattle.prl_chains.specs.declared.chains.Chain.{Chain}
 use Rattle.prl_chains.specs.Chains.{chain_of}
 use Rattle.prl_flow.specs.Programs.{name_of}
 use Rattle.prl_app.specs.Rows.{rows_of}
-use Rattle.prl_app.specs.declared.words.Mode.{Mode}
-use Rattle.prl_app.specs.declared.words.Mode.TheVariants as modes
 use Rattle.prl_app.specs.Asked.{Asked, ToCompute, ToPrint, IsTextOf}
-use Rattle.prl_app.specs.Runs.{input_clock, chain_run}
+use Rattle.prl_relays.specs.Relays.{input_clock}
+use Rattle.prl_app.specs.Runs.{chain_run}
 
 -- want of memory is free
 abbrev pub refusal_of : Refusal → Option Refusal
@@ -35,6 +34,7 @@ refusal_of (refusals.Types fault) = Some (refusals.Types fault)
 refusal_of (refusals.NotBuilt part) = Some (refusals.NotBuilt part)
 refusal_of (refusals.Short name have need) = Some (refusals.Short name have need)
 refusal_of (refusals.Limit limit) = Some (refusals.Limit limit)
+refusal_of (refusals.Schedule fault) = Some (refusals.Schedule fault)
 refusal_of refusals.Memory = None
 
 abbrev pub or_refuse : {A : Type 0} → Refusal → Option A → Result A Refusal
@@ -93,29 +93,36 @@ WithTypes program next outcome =
     ((node : ℕ) × (types : List Ty) × IsTyped program None node types × next outcome)
     ⊎ ((fault : TypeFault) × IsFault program None fault × (fault ≢ typing.Memory) × (outcome ≡ Err (of_types fault)))
 
+-- The grammar and the types of a program are right, and what follows comes to the outcome; or they are refused.
+abbrev pub WithProgram : List ℕ → (ProgramTree → Result Asked Refusal → Type 0) → Result Asked Refusal → Type 0
+WithProgram text next = Then (program_outcome text) (λ program. WithTypes program (next program))
+
+-- the chain of equations that the program is
+abbrev pub chain_stage : ProgramTree → Result Chain Refusal
+chain_stage program = or_refuse (refusals.NotBuilt parts.Program) (chain_of program)
+
+-- the values of the sensor's rows, as many as are wanted or more
+unfoldable pub values_stage : Chain → List ℕ → ℕ → Result (List Value) Refusal
+values_stage chain sensors until = do
+  read ← or_refuse (refusals.NotBuilt parts.Sensors) (rows_of (name_of chain.flat.in_devices 0) sensors)
+  enough_rows chain read until
+
 -- the run of a chain of equations on its rows
 unfoldable pub chain_outcome : ProgramTree → List ℕ → ℕ → Result Asked Refusal
 chain_outcome program sensors until = do
-  chain ← or_refuse (refusals.NotBuilt parts.Program) (chain_of program)
-  read ← or_refuse (refusals.NotBuilt parts.Sensors) (rows_of (name_of chain.flat.in_devices 0) sensors)
-  values ← enough_rows chain read until
+  chain ← chain_stage program
+  values ← values_stage chain sensors until
   within_limit (chain_run chain values until)
 
 -- the stages of mode `flows` on the bytes of a program and of its rows
 abbrev pub IsFlowsOutcome : List ℕ → List ℕ → ℕ → Result Asked Refusal → Type 0
-IsFlowsOutcome text sensors until =
-    Then (program_outcome text) (λ program. WithTypes program (λ outcome. chain_outcome program sensors until ≡ outcome))
+IsFlowsOutcome text sensors until = WithProgram text (λ program outcome. chain_outcome program sensors until ≡ outcome)
 
 -- the stages of mode `print` on the bytes of a program
 abbrev pub print_outcome : List ℕ → Result Asked Refusal
 print_outcome text = do
   program ← program_outcome text
   Ok (ToPrint program)
-
--- the stages of a mode on the bytes of a program and of its rows
-abbrev pub IsModeOutcome : Mode → List ℕ → List ℕ → ℕ → Result Asked Refusal → Type 0
-IsModeOutcome modes.Flows program sensors until outcome = IsFlowsOutcome program sensors until outcome
-IsModeOutcome modes.Print program sensors until outcome = print_outcome program ≡ outcome
 
 -- the text of what is asked for, where the stages come to that; or their refusal
 abbrev pub IsTextBy : (Result Asked Refusal → Type 0) → List ℕ → Type 0

@@ -1,6 +1,5 @@
 -- What a program and its rows ask to be computed, and the text that they mean.
 use Rattle.std.specs.Prelude.{◌≡◌, ◌+◌, ◌<◌, ◌^◌, ℕ, List, [], ◌∷◌}
-use Rattle.prl_base.specs.declared.operators.Clock.{Clock}
 use Rattle.prl_base.specs.declared.numbers.FlowNo.{FlowNo}
 use Rattle.prl_base.specs.declared.values.Value.{Value}
 use Rattle.prl_flow.specs.declared.programs.OutFlow.{OutFlow}
@@ -10,10 +9,6 @@ use Rattle.prl_flow.specs.Applications.{HaveBodies}
 use Rattle.prl_flow.specs.Actuators.{actuator_text}
 use Rattle.prl_chains.specs.declared.chains.Chain.{Chain}
 use Rattle.prl_app.specs.declared.runs.Run.{Run}
-
--- the clock of the input
-abbrev pub input_clock : Chain → Clock
-input_clock c = clock_of c.clocks.of 0
 
 -- what a chain and the values of its input ask to be computed
 abbrev pub chain_run : Chain → List Value → ℕ → Run

@@ -25,10 +25,10 @@ abbrev pub SaysUnwritten : List (List ℕ) → Outside → Outside → ℕ → T
 SaysUnwritten words old new code =
     code ≡ 4 → (text : List ℕ) × Means words old.folder text × AppendsFront old.out_bytes new.out_bytes text × (old.out_faults < new.out_faults)
 
--- 1, 7 and 9: the command comes to a refusal of this status, and its line is told
+-- 1, 7, 8 and 9: the command comes to a refusal of this status, and its line is told
 abbrev pub SaysRefused : List (List ℕ) → Outside → Outside → ℕ → Type 0
 SaysRefused words old new code =
-    (code ≡ 1) ⊎ ((code ≡ 7) ⊎ (code ≡ 9)) →
+    (code ≡ 1) ⊎ ((code ≡ 7) ⊎ ((code ≡ 8) ⊎ (code ≡ 9))) →
     (refusal : Refusal) × IsRefused words old.folder refusal × (status_of_refusal refusal ≡ code) × IsToldOn old new (refusal_line (command_of words) refusal)
 
 -- out gets nothing at any status but 0 and 4
@@ -50,7 +50,7 @@ IsComplete words old new code =
 -- no other status comes
 abbrev pub IsStatus : ℕ → Type 0
 IsStatus code =
-    (code ≡ 0) ⊎ ((code ≡ 1) ⊎ ((code ≡ 2) ⊎ ((code ≡ 3) ⊎ ((code ≡ 4) ⊎ ((code ≡ 6) ⊎ ((code ≡ 7) ⊎ (code ≡ 9)))))))
+    (code ≡ 0) ⊎ ((code ≡ 1) ⊎ ((code ≡ 2) ⊎ ((code ≡ 3) ⊎ ((code ≡ 4) ⊎ ((code ≡ 6) ⊎ ((code ≡ 7) ⊎ ((code ≡ 8) ⊎ (code ≡ 9))))))))
 
 -- All that the status of a call says, and what it does not: want of memory (6) may come wherever the words are a
 -- command.

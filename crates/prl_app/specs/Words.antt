@@ -40,19 +40,30 @@ flows_at words = do
   sensors ← option_at (codes "--sensors") program.1
   until ← option_at (codes "--until") sensors.1
   number ← number_up_to 2147483647 until.0
-  at_end (record { mode = modes.Flows; program = Some program.0; sensors = Some sensors.0; until = number }) until.1
+  at_end (record { mode = modes.Flows; program = Some program.0; sensors = Some sensors.0; schedule = None; until = number }) until.1
+
+-- `--program NAME --sensors NAME --schedule NAME --until N`, and no more
+unfoldable pub replay_at : List (List ℕ) → Option Command
+replay_at words = do
+  program ← option_at (codes "--program") words
+  sensors ← option_at (codes "--sensors") program.1
+  schedule ← option_at (codes "--schedule") sensors.1
+  until ← option_at (codes "--until") schedule.1
+  number ← number_up_to 2147483647 until.0
+  at_end (record { mode = modes.Replay; program = Some program.0; sensors = Some sensors.0; schedule = Some schedule.0; until = number }) until.1
 
 -- `--program NAME`, and no more
 unfoldable pub print_at : List (List ℕ) → Option Command
 print_at words = do
   program ← option_at (codes "--program") words
-  at_end (record { mode = modes.Print; program = Some program.0; sensors = None; until = 0 }) program.1
+  at_end (record { mode = modes.Print; program = Some program.0; sensors = None; schedule = None; until = 0 }) program.1
 
 -- what stands behind the name of a mode
 abbrev pub mode_at : List ℕ → List (List ℕ) → Option Command
 mode_at mode words =
     if bytes_eq mode (codes "flows") then flows_at words
     else if bytes_eq mode (codes "print") then print_at words
+    else if bytes_eq mode (codes "replay") then replay_at words
     else None
 
 -- the command that the words ask for, if they are of the form of one: the program's own name, the mode, and what the

@@ -3,11 +3,13 @@
 ghost use Rattle.std.specs.Prelude.{◌≡◌, ◌<◌, ◌≤◌, ◌^◌, ℕ, Ok, Err, MatchResult, IfOk, length};
 ghost use Rattle.prl_app.specs.Endings.{IsContent, IsStop, ComesTo};
 ghost use Rattle.prl_app.specs.Asked.{Asked, IsTextOf};
-ghost use Rattle.prl_app.specs.Outcomes.{IsModeOutcome, IsTextBy, IsRefusalBy};
+ghost use Rattle.prl_app.specs.Outcomes.{IsTextBy, IsRefusalBy};
+ghost use Rattle.prl_app.specs.Modes.{IsModeOutcome};
 
 use crate::flows::flows;
 use crate::printing::printed;
 use crate::refusals::{Part, Refusal};
+use crate::replaying::replay;
 use crate::words::{Command, Mode};
 use prl_base::Label;
 use prl_io::{FileFault, Files};
@@ -18,6 +20,9 @@ const MAX_PROGRAM: u64 = 1_048_576;
 
 /// The most bytes that sensor rows may have.
 const MAX_SENSORS: u64 = 33_554_432;
+
+/// The most bytes that a schedule may have.
+const MAX_SCHEDULE: u64 = 83_886_080;
 
 /// Why a command gives no text.
 #[derive(Debug, Drop)]
@@ -54,22 +59,24 @@ fn read_part<F: Files>(
     }
 }
 
-/// The text that the stages of a mode make of the bytes of a program and of its rows.
+/// The text that the stages of a mode make of the bytes of a program, of its rows and of a schedule.
 fn stages(
     alloc: Global,
     mode: Mode,
     program: &[u8],
     sensors: &[u8],
+    schedule: &[u8],
     until: u32,
 ) -> Result<Vec<u8>, Refusal>
     requires program { length program.now < 2 ^ 32 }
     requires until { until < 2 ^ 31 }
-    ensures { MatchResult result (λ text. IsTextBy (IsModeOutcome mode program.now sensors.now until) text.items)
-        (IsRefusalBy (IsModeOutcome mode program.now sensors.now until)) }
+    ensures { MatchResult result (λ text. IsTextBy (IsModeOutcome mode program.now sensors.now schedule.now until) text.items)
+        (IsRefusalBy (IsModeOutcome mode program.now sensors.now schedule.now until)) }
 {
     match mode {
         Mode::Flows => flows(alloc, program, sensors, until),
         Mode::Print => printed(alloc, program),
+        Mode::Replay => replay(alloc, program, sensors, schedule, until),
     }
 }
 
@@ -90,7 +97,24 @@ pub fn answer<F: Files>(alloc: Global, files: &mut F, command: &Command) -> Resu
         Ok(sensors) => sensors,
         Err(stop) => return Err(stop),
     };
-    match stages(alloc, command.mode, &program, &sensors, command.until) {
+    let schedule = match read_part(
+        alloc,
+        files,
+        Part::Schedule,
+        &command.schedule,
+        MAX_SCHEDULE,
+    ) {
+        Ok(schedule) => schedule,
+        Err(stop) => return Err(stop),
+    };
+    match stages(
+        alloc,
+        command.mode,
+        &program,
+        &sensors,
+        &schedule,
+        command.until,
+    ) {
         Ok(text) => Ok(text),
         Err(refusal) => Err(Stop::Refused(refusal)),
     }

@@ -1,78 +1,31 @@
 //! Mode `flows`: from the bytes of a program and of its rows to the actuators' text.
 
-ghost use Rattle.std.specs.Prelude.{◌≡◌, ◌<◌, ◌≤◌, ◌^◌, ℕ, MatchResult, IfOk, length};
-ghost use Rattle.std.specs.Vec.{vec_items};
-ghost use Rattle.prl_base.specs.Clocks.{date_at};
-ghost use Rattle.prl_base.specs.Reading.{FailsAs, Gives};
+ghost use Rattle.std.specs.Prelude.{◌≡◌, ◌<◌, ◌^◌, MatchResult, IfOk, length};
 ghost use Rattle.prl_ast.specs.Trees.{program_tree};
-ghost use Rattle.prl_flow.specs.Counts.{dates_before};
-ghost use Rattle.prl_flow.specs.Programs.{name_of};
-ghost use Rattle.prl_chains.specs.Chains.{chain_of};
 ghost use Rattle.prl_chains.specs.Facts.{IsChain};
-ghost use Rattle.prl_app.specs.Outcomes.{chain_outcome, enough_rows, or_refuse, refusal_of, IsFlowsOutcome, IsTextFor, IsRefusalOf, IsTextBy, IsRefusalBy};
-ghost use Rattle.prl_app.specs.Rows.{rows_of};
-ghost use Rattle.prl_app.specs.Runs.{IsReady, chain_run, input_clock};
+ghost use Rattle.prl_relays.specs.Relays.{HasValues};
+ghost use Rattle.prl_app.specs.Outcomes.{chain_outcome, IsFlowsOutcome, IsTextFor, IsRefusalOf, IsTextBy, IsRefusalBy};
+ghost use Rattle.prl_app.specs.Runs.{IsReady, chain_run};
 
+use crate::chains::{chain_of_program, values_of};
 use crate::programs::{check_program, program_of};
-use crate::refusals::{Part, Refusal};
-use crate::rows::rows_of;
+use crate::refusals::Refusal;
 use crate::runs::{Run, chain_run, run_text};
 use prl_ast::Program;
 use prl_base::Value;
-use prl_chains::{Chain, chain_of, chains_want_no_body, one_sensor_suffices};
-use prl_flow::dates_before;
-use std::alloc::Global;
-
-/// How many rows the input needs: one for each date of its clock.
-fn rows_needed(chain: &Chain, until: u32) -> u64
-    requires { IsChain chain.now }
-    ensures exact { result ≡ dates_before until (input_clock chain.now) }
-    ensures each { (n : ℕ) → date_at (input_clock chain.now) n < until → n < result }
-{
-    dates_before(until as u64, chain.input_clock())
-}
+use prl_chains::{Chain, chains_want_no_body, one_sensor_suffices};
+use std::alloc::{AllocError, Global};
 
 /// A chain and the values of its input, as what is to be computed.
-fn chain_run_of(alloc: Global, chain: Chain, values: Vec<Value>, until: u32) -> Result<Run, Refusal>
+fn run_of(alloc: Global, chain: Chain, values: Vec<Value>, until: u32) -> Result<Run, AllocError>
     requires chain { IsChain chain }
+    requires values { HasValues chain values.items until }
     requires until { until < 2 ^ 31 }
-    ensures { MatchResult result
-        (λ run. (enough_rows chain values.items until ≡ Ok values.items) × (run ≡ chain_run chain values.items until) × IsReady run)
-        (λ refusal. FailsAs (refusal_of refusal) (enough_rows chain values.items until)) }
+    ensures { IfOk result (λ run. (run ≡ chain_run chain values.items until) × IsReady run) }
 {
     one_sensor_suffices();
     chains_want_no_body();
-    let need = rows_needed(&chain, until);
-    let have = values.len() as u64;
-    if have < need {
-        let name = chain.flat.in_name(0).copy(alloc)?;
-        return Err(Refusal::Short { name, have, need });
-    }
     Ok(chain_run(alloc, chain, values, until)?)
-}
-
-/// The chain of the program.
-fn chain_of_program(alloc: Global, program: &Program) -> Result<Chain, Refusal>
-    ensures exact { Gives (λ chain. chain) refusal_of result (or_refuse (Refusal.NotBuilt Part.Program) (chain_of (program_tree program.now))) }
-    ensures sound { IfOk result IsChain }
-{
-    match chain_of(alloc, program) {
-        Ok(Some(chain)) => Ok(chain),
-        Ok(None) => Err(Refusal::NotBuilt(Part::Program)),
-        Err(_) => Err(Refusal::Memory),
-    }
-}
-
-/// The values of the rows of the chain's sensor.
-fn values_of(alloc: Global, chain: &Chain, text: &[u8]) -> Result<Vec<Value>, Refusal>
-    requires { IsChain chain.now }
-    ensures { Gives vec_items refusal_of result (or_refuse (Refusal.NotBuilt Part.Sensors) (rows_of (name_of chain.now.flat.in_devices 0) text.now)) }
-{
-    match rows_of(alloc, chain.flat.in_name(0).bytes(), text) {
-        Ok(Some(values)) => Ok(values),
-        Ok(None) => Err(Refusal::NotBuilt(Part::Sensors)),
-        Err(_) => Err(Refusal::Memory),
-    }
 }
 
 /// The actuators' text of a program whose names and types are right.
@@ -91,13 +44,13 @@ fn chain_flows(
         Ok(chain) => chain,
         Err(refusal) => return Err(refusal),
     };
-    let values = match values_of(alloc, &chain, sensors) {
+    let values = match values_of(alloc, &chain, sensors, until) {
         Ok(values) => values,
         Err(refusal) => return Err(refusal),
     };
-    let run = match chain_run_of(alloc, chain, values, until) {
+    let run = match run_of(alloc, chain, values, until) {
         Ok(run) => run,
-        Err(refusal) => return Err(refusal),
+        Err(_) => return Err(Refusal::Memory),
     };
     run_text(alloc, &run)
 }

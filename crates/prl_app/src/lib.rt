@@ -3,19 +3,21 @@
 #![tactic(auto)]
 
 mod answers;
+mod chains;
 mod endings;
 mod flows;
 mod lines;
 mod printing;
 mod programs;
 mod refusals;
+mod replaying;
 mod rows;
 mod runs;
 mod top;
 mod words;
 
 pub use endings::Ending;
-pub use refusals::{GrammarFault, Part, Refusal};
+pub use refusals::{GrammarFault, Part, Refusal, RunFault};
 pub use runs::Run;
 pub use top::{Status, prelude, prelude_alone};
 pub use words::{Command, Mode, WordsFault, read_words};

@@ -2,14 +2,15 @@
 
 ghost use Rattle.std.specs.Prelude.{◌≡◌, ◌<◌, ◌≤◌, [], unwrap_or, OnErr};
 ghost use Rattle.prl_io.specs.Growth.{IsWritten};
-ghost use Rattle.prl_app.specs.Endings.{file_name, named_line, placed_line, grammar_line, type_text, mismatch_line, type_free_line, types_line, short_line, limit_line, refusal_line, line_of};
+ghost use Rattle.prl_app.specs.Endings.{file_name, named_line, placed_line, grammar_line, type_text, mismatch_line, type_free_line, types_line, short_line, limit_line, illegal_line, unfinished_line, schedule_line, refusal_line, line_of};
 
 use crate::endings::Ending;
-use crate::refusals::{GrammarFault, Part, Refusal};
+use crate::refusals::{GrammarFault, Part, Refusal, RunFault};
 use crate::words::Command;
 use itoa::Buffer;
 use prl_base::{Label, Limit, Ty};
 use prl_io::{Failed, Sink, write_all, write_pieces};
+use prl_plan::Rule;
 use prl_types::TypeFault;
 
 fn label_bytes(label: &Option<Label>) -> &[u8]
@@ -30,6 +31,7 @@ fn file_name(command: &Option<Command>, part: Part) -> &[u8]
         Some(command) => match part {
             Part::Program => label_bytes(&command.program),
             Part::Sensors => label_bytes(&command.sensors),
+            Part::Schedule => label_bytes(&command.schedule),
         },
     }
 }
@@ -43,8 +45,8 @@ fn write_two<E: Sink>(err: &mut E, front: &[u8], name: &[u8]) -> Result<(), Fail
     write_pieces(err, &[front, name, b"\n".as_slice()])
 }
 
-/// Writes a line that ends in a place of the text.
-fn write_placed<E: Sink>(err: &mut E, front: &[u8], at: u32) -> Result<(), Failed>
+/// Writes a line that ends in a place of the text, or in the number of a line.
+fn write_placed<E: Sink>(err: &mut E, front: &[u8], at: u64) -> Result<(), Failed>
     ensures grown { IsWritten (E.written err.old) (E.written err.new) (placed_line front.now at) result }
     ensures counted { E.faults err.old ≤ E.faults err.new }
     ensures failed { OnErr result (E.faults err.old < E.faults err.new) }
@@ -60,9 +62,9 @@ fn write_grammar<E: Sink>(err: &mut E, fault: GrammarFault) -> Result<(), Failed
     ensures failed { OnErr result (E.faults err.old < E.faults err.new) }
 {
     match fault {
-        GrammarFault::BadToken(at) => write_placed(err, b"1 bad token at ", at),
-        GrammarFault::Unexpected(at) => write_placed(err, b"2 unexpected at ", at),
-        GrammarFault::NumberRange(at) => write_placed(err, b"3 number range at ", at),
+        GrammarFault::BadToken(at) => write_placed(err, b"1 bad token at ", at as u64),
+        GrammarFault::Unexpected(at) => write_placed(err, b"2 unexpected at ", at as u64),
+        GrammarFault::NumberRange(at) => write_placed(err, b"3 number range at ", at as u64),
     }
 }
 
@@ -125,7 +127,7 @@ fn write_types<E: Sink>(err: &mut E, fault: &TypeFault) -> Result<(), Failed>
         TypeFault::Undefined(name) => write_two(err, b"15 undefined ", name.bytes()),
         TypeFault::Recursive(name) => write_two(err, b"16 recursive ", name.bytes()),
         TypeFault::NoMain => write_all(err, b"14 no main\n"),
-        TypeFault::Arity(at) => write_placed(err, b"12 arity at ", *at),
+        TypeFault::Arity(at) => write_placed(err, b"12 arity at ", *at as u64),
         TypeFault::Mismatch { at, wanted, found } => write_mismatch(err, *at, *wanted, *found),
         TypeFault::TypeFree { node, name } => write_type_free(err, node.bytes(), name.bytes()),
         TypeFault::Memory => write_all(err, b"memory\n"),
@@ -165,6 +167,47 @@ fn write_limit<E: Sink>(err: &mut E, limit: Limit) -> Result<(), Failed>
     )
 }
 
+/// Writes the line of an event that breaks a rule.
+fn write_illegal<E: Sink>(err: &mut E, line: u64, rule: Rule) -> Result<(), Failed>
+    ensures grown { IsWritten (E.written err.old) (E.written err.new) (illegal_line line rule) result }
+    ensures counted { E.faults err.old ≤ E.faults err.new }
+    ensures failed { OnErr result (E.faults err.old < E.faults err.new) }
+{
+    let mut buffer = Buffer::new();
+    let line = buffer.format(line).as_bytes();
+    let front = b"71 illegal line ".as_slice();
+    let middle = b" rule ".as_slice();
+    let end = b"\n".as_slice();
+    write_pieces(err, &[front, line, middle, rule.text().as_bytes(), end])
+}
+
+/// Writes the line of a job that has not ended.
+fn write_unfinished<E: Sink>(err: &mut E, name: &[u8], job: u64) -> Result<(), Failed>
+    ensures grown { IsWritten (E.written err.old) (E.written err.new) (unfinished_line name.now job) result }
+    ensures counted { E.faults err.old ≤ E.faults err.new }
+    ensures failed { OnErr result (E.faults err.old < E.faults err.new) }
+{
+    let mut buffer = Buffer::new();
+    let job = buffer.format(job).as_bytes();
+    let front = b"72 unfinished ".as_slice();
+    let blank = b" ".as_slice();
+    let end = b"\n".as_slice();
+    write_pieces(err, &[front, name, blank, job, end])
+}
+
+/// Writes the line of a schedule that is no whole run.
+fn write_schedule<E: Sink>(err: &mut E, fault: &RunFault) -> Result<(), Failed>
+    ensures grown { IsWritten (E.written err.old) (E.written err.new) (schedule_line fault.now) result }
+    ensures counted { E.faults err.old ≤ E.faults err.new }
+    ensures failed { OnErr result (E.faults err.old < E.faults err.new) }
+{
+    match fault {
+        RunFault::Syntax(line) => write_placed(err, b"70 schedule syntax line ", *line),
+        RunFault::Illegal { line, rule } => write_illegal(err, *line, *rule),
+        RunFault::Unfinished { name, job } => write_unfinished(err, name.bytes(), *job),
+    }
+}
+
 /// Writes the line of a refusal.
 fn write_refusal<E: Sink>(
     err: &mut E,
@@ -183,6 +226,7 @@ fn write_refusal<E: Sink>(
         Refusal::NotBuilt(part) => write_two(err, b"9 not built ", file_name(command, *part)),
         Refusal::Short { name, have, need } => write_short(err, name.bytes(), *have, *need),
         Refusal::Limit(limit) => write_limit(err, *limit),
+        Refusal::Schedule(fault) => write_schedule(err, fault),
         Refusal::Memory => write_all(err, b"memory\n"),
     }
 }

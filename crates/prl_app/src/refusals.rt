@@ -1,6 +1,7 @@
 //! Why a command does not end with its text.
 
 use prl_base::{Limit, Name};
+use prl_plan::Rule;
 use prl_types::TypeFault;
 use std::alloc::AllocError;
 
@@ -9,6 +10,7 @@ use std::alloc::AllocError;
 pub enum Part {
     Program,
     Sensors,
+    Schedule,
 }
 
 /// Why a text is not of the grammar, with the place in its bytes.
@@ -20,6 +22,17 @@ pub enum GrammarFault {
     Unexpected(u32),
     /// The number here is out of its range.
     NumberRange(u32),
+}
+
+/// Why a schedule is no whole run of the program's tasks.
+#[derive(Debug, Drop)]
+pub enum RunFault {
+    /// The line of this number, counted from 1, is no event.
+    Syntax(u64),
+    /// The event of this line, counted from 1, is the first that breaks a rule, and this is the first rule that it breaks.
+    Illegal { line: u64, rule: Rule },
+    /// No event breaks a rule, but this job of the task has not ended.
+    Unfinished { name: Name, job: u64 },
 }
 
 /// Why a stage of a command refuses.
@@ -39,6 +52,8 @@ pub enum Refusal {
     Short { name: Name, have: u64, need: u64 },
     /// A count is past its limit.
     Limit(Limit),
+    /// The schedule is no whole run.
+    Schedule(RunFault),
     Memory,
 }
 

@@ -370,3 +370,80 @@ fn faults_of_files_and_sinks(rt: HostRuntime) -> Result<(), Fail> {
     assert_eq!(rt; err.bytes(), b"too long p.prl\n".as_slice());
     Ok(())
 }
+
+/// The files of a replay: the program `p.prl`, the sensor rows `i.csv` and the schedule `s.txt`.
+fn replay_files(alloc: Global, schedule: &str, rows: &str) -> Result<MemFiles, Fail> {
+    let mut entries = Vec::new(alloc);
+    entries.push((Label::new(alloc, b"p.prl")?, program(alloc, "i")?))?;
+    entries.push((
+        Label::new(alloc, b"i.csv")?,
+        Vec::from_slice(alloc, rows.as_bytes())?,
+    ))?;
+    entries.push((
+        Label::new(alloc, b"s.txt")?,
+        Vec::from_slice(alloc, schedule.as_bytes())?,
+    ))?;
+    Ok(MemFiles::new(entries, Vec::new(alloc)))
+}
+
+/// A replay up to a date: the status, and what is on `out` and `err`.
+fn check_replay(
+    rt: &impl Abort,
+    alloc: Global,
+    schedule: &str,
+    until: &str,
+    told: (u8, &str, &str),
+) -> Result<(), Fail> {
+    let line = [
+        "prelude",
+        "replay",
+        "--program",
+        "p.prl",
+        "--sensors",
+        "i.csv",
+        "--schedule",
+        "s.txt",
+        "--until",
+        until,
+    ];
+    let words = strings(alloc, &line)?;
+    let mut files = replay_files(alloc, schedule, "i,0,1\ni,1,2\n")?;
+    let mut out = MemSink::new(alloc, 1000, 1000, Vec::new(alloc))?;
+    let mut err = MemSink::new(alloc, 1000, 1000, Vec::new(alloc))?;
+    let status = prelude_alone(alloc, &words, &mut files, &mut out, &mut err).ok_or("no status")?;
+    assert_eq!(rt; status.code, told.0, "{schedule}");
+    assert_eq!(rt; out.bytes(), told.1.as_bytes(), "{schedule}");
+    assert_eq!(rt; err.bytes(), told.2.as_bytes(), "{schedule}");
+    Ok(())
+}
+
+const WHOLE: &str =
+    "act i\nact i\ntick\nact o\nact o\ntick\ntick\ntick\ntick\ntick\ntick\ntick\ntick\ntick\nact i\nact i\ntick\nact o\nact o\n";
+
+#[test]
+fn replays(rt: HostRuntime) -> Result<(), Fail> {
+    let read = "read o 0 0 0 0 1\nread o 1 0 1 0 2\no,0,0,1\no,1,10,2\n";
+    let cases = [
+        (WHOLE, "20", (0, read, "")),
+        ("act o", "20", (8, "", "71 illegal line 1 rule L1\n")),
+        ("tick\nact o", "20", (8, "", "71 illegal line 2 rule L3\n")),
+        (
+            "tick\ntick\ntick\ntick\ntick\ntick\ntick\ntick\ntick\n",
+            "20",
+            (8, "", "71 illegal line 9 rule L4\n"),
+        ),
+        ("", "20", (8, "", "72 unfinished i 0\n")),
+        (
+            "act i\nact x\n",
+            "20",
+            (8, "", "70 schedule syntax line 2\n"),
+        ),
+        ("", "0", (0, "", "")),
+        ("", "30", (9, "", "84 short i 2 3\n")),
+        ("", "2147483647", (1, "", "4 limit jobs found 429496730\n")),
+    ];
+    for (schedule, until, told) in cases {
+        check_replay(&rt, rt.alloc(), schedule, until, told)?;
+    }
+    Ok(())
+}

@@ -13,6 +13,7 @@ use crate::lines::write_line;
 use crate::refusals::{Part, Refusal};
 use crate::words::{Command, WordsFault, read_words};
 use prl_io::{Files, Probe, Sink, write_all};
+use prl_relays::{horizons_end_one_way, replays_end_one_way};
 use prl_types::outcome_is_unique;
 use std::alloc::Global;
 use std::sync::Wait;
@@ -22,8 +23,8 @@ use std::thread::Threads;
 #[derive(Clone, Copy, Debug, PartialEq, Eq)]
 pub struct Status {
     /// 0: all done and all written. 1: the program is refused. 2: the words are no command. 3: a
-    /// reading failed. 4: a writing failed. 6: memory ran out. 7: a file is absent or too long. 9: the sensor
-    /// rows are refused.
+    /// reading failed. 4: a writing failed. 6: memory ran out. 7: a file is absent or too long. 8: the
+    /// schedule is refused. 9: the sensor rows are refused.
     pub code: u8,
 }
 
@@ -33,6 +34,7 @@ fn status_of_part(part: Part) -> u8
     match part {
         Part::Program => 1,
         Part::Sensors => 9,
+        Part::Schedule => 8,
     }
 }
 
@@ -57,6 +59,7 @@ fn status_of_refusal(refusal: &Refusal) -> u8
         Refusal::NotBuilt(part) => status_of_part(*part),
         Refusal::Short { .. } => 9,
         Refusal::Limit(_) => 1,
+        Refusal::Schedule(_) => 8,
         Refusal::Memory => 6,
     }
 }
@@ -146,6 +149,8 @@ pub fn prelude_alone<F: Files, S: Sink, E: Sink>(
         status.code) }
 {
     outcome_is_unique();
+    horizons_end_one_way();
+    replays_end_one_way();
     Some(finish(alloc, words, files, out, err))
 }
 

@@ -4,7 +4,7 @@ ghost use Rattle.std.specs.Prelude.{◌≡◌, ◌<◌, ◌≤◌, ◌^◌, map,
 ghost use Rattle.std.specs.Option.{option_map};
 ghost use Rattle.std.specs.String.{string_bytes};
 ghost use Rattle.prl_base.specs.Reading.{Gives};
-ghost use Rattle.prl_app.specs.Words.{is_value, number_up_to, option_at, at_end, flows_at, print_at, mode_at, command_of, meaning_of, words_fault};
+ghost use Rattle.prl_app.specs.Words.{is_value, number_up_to, option_at, at_end, flows_at, print_at, replay_at, mode_at, command_of, meaning_of, words_fault};
 ghost use Rattle.prl_app.specs.OptionViews.{named};
 
 use prl_base::{Label, decimal_of};
@@ -20,6 +20,8 @@ pub enum Mode {
     Flows,
     /// Writes the program in its printed form.
     Print,
+    /// Replays a schedule: writes what the jobs read, and the flows of the actuators.
+    Replay,
 }
 
 /// What the words of a command line ask for. An option that is not given is None, and a number that is
@@ -31,6 +33,8 @@ pub struct Command {
     pub program: Option<Label>,
     /// The file of the sensor rows.
     pub sensors: Option<Label>,
+    /// The file of the schedule.
+    pub schedule: Option<Label>,
     /// The date up to which the mode runs, in ticks.
     pub until: u32,
 }
@@ -105,6 +109,7 @@ struct Options<'a> {
     mode: Mode,
     program: &'a [u8],
     sensors: Option<&'a [u8]>,
+    schedule: Option<&'a [u8]>,
     until: u32,
 }
 
@@ -133,6 +138,29 @@ fn flows_at<'a>(words: &'a [String]) -> Option<Options<'a>>
             mode: Mode::Flows,
             program,
             sensors: Some(sensors),
+            schedule: None,
+            until,
+        },
+        rest,
+    )
+}
+
+#[tactic(auto, unfolding(crate::specs::Words::replay_at))]
+fn replay_at<'a>(words: &'a [String]) -> Option<Options<'a>>
+    ensures exact { option_map named result ≡ replay_at (map string_bytes words.now) }
+    ensures until { IfSome result (λ o. o.until < 2 ^ 31) }
+{
+    let (program, rest) = option_at(b"--program", words)?;
+    let (sensors, rest) = option_at(b"--sensors", rest)?;
+    let (schedule, rest) = option_at(b"--schedule", rest)?;
+    let (until, rest) = option_at(b"--until", rest)?;
+    let until = number_up_to(MAX_UNTIL, until)?;
+    at_end(
+        Options {
+            mode: Mode::Replay,
+            program,
+            sensors: Some(sensors),
+            schedule: Some(schedule),
             until,
         },
         rest,
@@ -150,6 +178,7 @@ fn print_at<'a>(words: &'a [String]) -> Option<Options<'a>>
             mode: Mode::Print,
             program,
             sensors: None,
+            schedule: None,
             until: 0,
         },
         rest,
@@ -165,6 +194,8 @@ fn mode_at<'a>(mode: &[u8], words: &'a [String]) -> Option<Options<'a>>
         flows_at(words)
     } else if mode == b"print".as_slice() {
         print_at(words)
+    } else if mode == b"replay".as_slice() {
+        replay_at(words)
     } else {
         None
     }
@@ -191,8 +222,9 @@ fn label_of(alloc: Global, name: Option<&[u8]>) -> Result<Option<Label>, AllocEr
 }
 
 /// The command that the words ask for. The first word is the program's own name and is not read. The
-/// others are `flows --program NAME --sensors NAME --until N` or `print --program NAME`, in this order: a NAME
-/// is not empty and does not begin with `-`, and N has 1 to 20 digits and is at most 2147483647.
+/// others are `flows --program NAME --sensors NAME --until N`, `print --program NAME` or
+/// `replay --program NAME --sensors NAME --schedule NAME --until N`, in this order: a NAME is not empty and does
+/// not begin with `-`, and N has 1 to 20 digits and is at most 2147483647.
 pub fn read_words(alloc: Global, words: &[String]) -> Result<Command, WordsFault>
     ensures exact { Gives (λ c. c) words_fault result (meaning_of (command_of (map string_bytes words.now))) }
     ensures until { IfOk result (λ c. c.until < 2 ^ 31) }
@@ -205,6 +237,7 @@ pub fn read_words(alloc: Global, words: &[String]) -> Result<Command, WordsFault
         mode: options.mode,
         program: Some(Label::new(alloc, options.program)?),
         sensors: label_of(alloc, options.sensors)?,
+        schedule: label_of(alloc, options.schedule)?,
         until: options.until,
     })
 }

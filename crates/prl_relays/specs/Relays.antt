@@ -77,9 +77,13 @@ pub record IsOutput (r : Relay) (outputs : List Value) : Type 0 where
   pub only : (others : List (List Value)) → Solves r.chain.flat r.chain.clocks.of [] (r.values ∷ []) r.until others → others ≡ flows
   pub output : outputs ≡ values_of flows (output_of r.chain)
 
+-- the horizon of a chain's plan up to a date
+abbrev pub IsHorizonUpTo : Chain → ℕ → Horizon → Type 0
+IsHorizonUpTo c until horizon = IsHorizon (relay_plan c) horizon × (horizon.until ≡ until)
+
 -- the horizon of the plan up to the date
 abbrev pub IsHorizonOf : Relay → Horizon → Type 0
-IsHorizonOf r horizon = IsHorizon (relay_plan r.chain) horizon × (horizon.until ≡ r.until)
+IsHorizonOf r = IsHorizonUpTo r.chain r.until
 
 -- the machine before the first event
 abbrev pub machine : Relay → Horizon → CoreView

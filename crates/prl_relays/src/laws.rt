@@ -1,9 +1,13 @@
-//! A law of replays, as a function that does nothing: its contract is the law.
+//! Laws of replays, each as a function that does nothing: its contract is the law.
 
 ghost use Rattle.std.specs.Prelude.{◌≡◌, ◌≢◌, ℕ, List};
+ghost use Rattle.prl_base.specs.declared.limits.Limit.{Limit};
+ghost use Rattle.prl_chains.specs.declared.chains.Chain.{Chain};
+ghost use Rattle.prl_plan.specs.declared.horizons.Horizon.{Horizon};
+ghost use Rattle.prl_plan.specs.Horizons.{IsPastLimit};
 ghost use Rattle.prl_relays.specs.declared.relays.RelayFault.{RelayFault};
 ghost use Rattle.prl_relays.specs.declared.relays.RelayFault.TheVariants as faults;
-ghost use Rattle.prl_relays.specs.Relays.{Relay, IsReplayText, IsRelayFault};
+ghost use Rattle.prl_relays.specs.Relays.{Relay, relay_plan, IsHorizonUpTo, IsReplayText, IsRelayFault};
 
 /// A replay comes to one end, want of memory aside: it has one text and is not refused, or it is refused for one reason.
 pub fn replays_end_one_way()
@@ -11,4 +15,12 @@ pub fn replays_end_one_way()
     ensures not_both { (r : Relay) (schedule text : List ℕ) (fault : RelayFault) → IsReplayText r schedule text → IsRelayFault r schedule fault → fault ≡ faults.Memory }
     ensures one_fault { (r : Relay) (schedule : List ℕ) (a b : RelayFault) → IsRelayFault r schedule a → IsRelayFault r schedule b
         → a ≢ faults.Memory → b ≢ faults.Memory → a ≡ b }
+{}
+
+/// A chain's plan has a horizon up to a date, or passes one limit.
+pub fn horizons_end_one_way()
+    ensures not_both { (chain : Chain) (until : ℕ) (horizon : Horizon) (limit : Limit) → IsHorizonUpTo chain until horizon
+        → IsPastLimit (relay_plan chain) until limit → ⊥ }
+    ensures one_limit { (chain : Chain) (until : ℕ) (a b : Limit) → IsPastLimit (relay_plan chain) until a → IsPastLimit (relay_plan chain) until b
+        → a ≡ b }
 {}

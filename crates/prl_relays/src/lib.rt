@@ -9,8 +9,8 @@ mod reads;
 mod relays;
 mod runs;
 
-pub use laws::replays_end_one_way;
-pub use plans::is_in_time;
+pub use laws::{horizons_end_one_way, replays_end_one_way};
+pub use plans::{horizon_limit, is_in_time};
 pub use relays::{RelayFault, replay_text};
 
 #[cfg(test)]

@@ -9,7 +9,6 @@ use Rattle.prl_app.proofs.flows.chain_flows.Goals as goal
 
 pub returns : goal.returns
 returns c =
-    let run = c.in-Ok-chain_run_of.ensures in
     subst (λ (outcome : Result Asked Refusal). MatchResult c.run_text.result (λ text. IsTextFor outcome text.items) (IsRefusalOf outcome))
-    (sym (chain_outcome-run c.args.sensors.now c.args.until (program_tree c.args.program.now) c.in-Ok.chain c.in-Ok-values_of.values.items c.in-Ok-chain_run_of.run' c.in-Ok.ensures.exact c.in-Ok-values_of.ensures run.0 run.1))
+    (sym (chain_outcome-run c.args.sensors.now c.args.until (program_tree c.args.program.now) c.in-Ok.chain c.in-Ok-values_of.values.items c.in-Ok-run_of.run' c.in-Ok.ensures.exact c.in-Ok-values_of.ensures.exact c.in-Ok-run_of.ensures.0))
     c.run_text.ensures
