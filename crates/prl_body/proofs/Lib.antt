@@ -9,3 +9,4 @@ pub mod Inversion
 pub mod TypedSound
 pub mod BodySound
 pub mod BodyList
+pub mod UsedBodies

@@ -10,3 +10,4 @@ pub mod NameChecks
 pub mod Faults
 pub mod TypeChecks
 pub mod Checks
+pub mod Used

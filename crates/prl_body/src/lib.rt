@@ -6,6 +6,7 @@ mod bodies;
 mod checks;
 mod codes;
 mod faults;
+mod laws;
 mod machines;
 mod names;
 mod operators;
@@ -17,9 +18,10 @@ mod values;
 pub use bodies::{Body, Parts, Register};
 pub use codes::{Code, Link, Place};
 pub use faults::BodyFault;
+pub use laws::used_imports_have_bodies;
 pub use machines::Machine;
 pub use operators::{Operator, Prefix};
-pub use program_bodies::{Bodies, check_bodies};
+pub use program_bodies::{Bodies, check_bodies, import_named};
 pub use texts::{BodyText, BodyTexts, Expr, ExprLink, RegisterText, Statement};
 
 #[cfg(test)]

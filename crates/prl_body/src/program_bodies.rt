@@ -91,7 +91,7 @@ fn has_text(texts: &[BodyText], name: &Name) -> bool
 }
 
 /// The import of this name.
-fn import_named<'a>(imports: &'a [Import], name: &Name) -> Option<&'a Import>
+pub fn import_named<'a>(imports: &'a [Import], name: &Name) -> Option<&'a Import>
     ensures { option_copied result ≡ import_named imports.now name.now }
 {
     for import in imports {

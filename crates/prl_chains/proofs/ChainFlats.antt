@@ -5,20 +5,24 @@ use Rattle.std.specs.Option.{option_map}
 use Rattle.std.proofs.lemmas.List.{length-map}
 use Rattle.std.proofs.lemmas.Option.{slice_get-map, slice_get_within}
 use Rattle.prl_ast.specs.declared.declarations.Device.{Device}
+use Rattle.prl_ast.specs.declared.declarations.Import.{Import}
 use Rattle.prl_base.specs.Clocks.{IsClock}
 use Rattle.prl_base.specs.declared.operators.Clock.{Clock}
 use Rattle.prl_base.specs.declared.numbers.FlowNo.{FlowNo}
 use Rattle.prl_base.specs.declared.values.Ty.TheVariants as types
 use Rattle.prl_flow.specs.declared.programs.App.{App}
-use Rattle.prl_flow.specs.Programs.{FlatProgram, IsFlat, HasType, IsWellDefined, IsInput, IsFactor}
+use Rattle.prl_flow.specs.declared.programs.Arg.{Arg}
+use Rattle.prl_flow.specs.Programs.{IsFlat, HasType, IsWellDefined, IsApplication, IsInput, IsFactor}
 use Rattle.prl_flow.specs.Programs as programs
-use Rattle.prl_flow.specs.Solutions.{AgreesClock, UsesBelow, clock_of}
+use Rattle.prl_flow.specs.Solutions.{AgreesClock, HasOneClock, UsesBelow, clock_of}
 use Rattle.prl_flow.specs.declared.programs.Flow.{Flow}
 use Rattle.prl_flow.specs.declared.programs.Def.TheVariants as definitions
 use Rattle.prl_flow.specs.declared.programs.Def.{Def}
 use Rattle.prl_flow.proofs.Lists.{element_at}
 use Rattle.prl_chains.specs.declared.links.Link.{Link}
-use Rattle.prl_chains.specs.Links.{link_clock, flow_named, IsLinked}
+use Rattle.prl_chains.specs.Applications.{IsAmong}
+use Rattle.prl_chains.specs.Equations.{AreDefined, Definitions}
+use Rattle.prl_chains.specs.Links.{link_clock, flow_named, IsLinked, IsOutputOf}
 use Rattle.prl_chains.specs.Chains.{flat_chain, link_flow}
 use Rattle.prl_chains.specs.Facts.{AreBetween, IsChain}
 use Rattle.prl_chains.proofs.ChainLinks.{clock_of-link}
@@ -61,104 +65,123 @@ at_each f P (x ∷ xs) h zero y e = subst (P 0) (some_inner (f x) y e) (h 0 x re
 at_each f P (x ∷ xs) h (suc i) y e = at_each f (λ k. P (suc k)) xs (λ k z found. h (suc k) z found) i y e
 
 -- a flow before another
-int_before : (sensor actuator : Device) (links : List Link) (i : ℕ) (l : Link) (of : FlowNo) → slice_get links i ≡ Some l → of.0 < i
-    → HasType (flat_chain sensor actuator links).flat types.Int of
-int_before sensor actuator links i l of found below =
-    let within : i < length links = slice_get_within links i l found in
-    let (x, at) = element_at links of.0 (omega arith) in
-    (link_flow x, slice_get-map link_flow links of.0 ∙ ap (option_map link_flow) at, refl)
+int_before : (sensor actuator : Device) (d : Definitions) (i : ℕ) (l : Link) (of : FlowNo) → slice_get d.links i ≡ Some l → of.0 < i
+    → HasType (flat_chain sensor actuator d).flat types.Int of
+int_before sensor actuator d i l of found below =
+    let within : i < length d.links = slice_get_within d.links i l found in
+    let (x, at) = element_at d.links of.0 (omega arith) in
+    (link_flow x, slice_get-map link_flow d.links of.0 ∙ ap (option_map link_flow) at, refl)
 
-well_defined : (sensor actuator : Device) (links : List Link) (i : ℕ) (l : Link) (def : Def) → slice_get links i ≡ Some l
-    → IsLinked (map link_clock links) i (link_clock l) def → IsWellDefined (flat_chain sensor actuator links).flat i types.Int def
-well_defined sensor actuator links i l (definitions.Sensor k) found linked = rw (linked.0, linked.1) refl
-well_defined sensor actuator links i l (definitions.Copy of) found linked = int_before sensor actuator links i l of found linked.0
-well_defined sensor actuator links i l (definitions.Const v) found linked = absurd linked
-well_defined sensor actuator links i l (definitions.Apply app out) found linked = absurd linked
-well_defined sensor actuator links i l (definitions.Op op of) found linked = (int_before sensor actuator links i l of found linked.0, linked.1)
+well_defined : (sensor actuator : Device) (d : Definitions) (i : ℕ) (l : Link) (def : Def) → slice_get d.links i ≡ Some l
+    → IsLinked d.apps (map link_clock d.links) i (link_clock l) def → IsWellDefined (flat_chain sensor actuator d).flat i types.Int def
+well_defined sensor actuator d i l (definitions.Sensor k) found linked = rw (linked.0, linked.1) refl
+well_defined sensor actuator d i l (definitions.Copy of) found linked = int_before sensor actuator d i l of found linked.0
+well_defined sensor actuator d i l (definitions.Const v) found linked = absurd linked
+well_defined sensor actuator d i l (definitions.Apply app out) found linked = (linked.app, linked.applied, linked.place)
+well_defined sensor actuator d i l (definitions.Op op of) found linked = (int_before sensor actuator d i l of found linked.0, linked.1)
 
--- the first flow is the sensor's
-first_def : (clocks : List Clock) (c : Clock) (def : Def) → IsLinked clocks 0 c def → def ≡ definitions.Sensor 0
-first_def clocks c (definitions.Sensor k) linked = ap definitions.Sensor linked.1
-first_def clocks c (definitions.Copy of) linked = let none : ⊥ = omega (arith, linked.0) in absurd none
-first_def clocks c (definitions.Const v) linked = absurd linked
-first_def clocks c (definitions.Apply app out) linked = absurd linked
-first_def clocks c (definitions.Op op of) linked = let none : ⊥ = omega (arith, linked.0) in absurd none
+is_input : (imports : List Import) (sensor actuator : Device) (d : Definitions) → AreBetween imports sensor actuator d
+    → IsInput (flat_chain sensor actuator d).flat 0 (record { 0 = 0 })
+is_input imports sensor actuator d h =
+    let (l, found) = element_at d.links 0 h.defined.some in
+    (link_flow l, slice_get-map link_flow d.links 0 ∙ ap (option_map link_flow) found, h.defined.first l found)
 
-is_input : (sensor actuator : Device) (links : List Link) → AreBetween sensor actuator links → IsInput (flat_chain sensor actuator links).flat 0 (record { 0 = 0 })
-is_input sensor actuator links h =
-    let (l, found) = element_at links 0 h.linked.some in
-    (link_flow l, slice_get-map link_flow links 0 ∙ ap (option_map link_flow) found, first_def (map link_clock links) (link_clock l) l.def (h.linked.each 0 l found).linked)
+-- the outputs of an application are its own
+is_application : (sensor actuator : Device) (d : Definitions) (k : ℕ) (app : App) → IsAmong d.links k app → IsApplication (flat_chain sensor actuator d).flat k app
+is_application sensor actuator d k app h = record {
+  wcet = h.wcet;
+  args = λ j arg found. let has = h.args j arg found in
+      let small = slice_get_within d.links arg.flow.0 has.link has.found in
+      omega (arith, small, length-map d.links link_flow);
+  outs = λ j flow found. let made = h.outs j flow found in
+      (link_flow made.link, slice_get-map link_flow d.links flow.0 ∙ ap (option_map link_flow) made.found, made.def);
+  has_output = h.some_output;
+}
 
-pub IsFlat-chain : (sensor actuator : Device) (links : List Link) → AreBetween sensor actuator links → IsFlat (flat_chain sensor actuator links).flat
-IsFlat-chain sensor actuator links h = record {
+pub IsFlat-chain : (imports : List Import) (sensor actuator : Device) (d : Definitions) → AreBetween imports sensor actuator d → IsFlat (flat_chain sensor actuator d).flat
+IsFlat-chain imports sensor actuator d h = record {
   in_count = refl;
   out_count = refl;
   devices = (
-    at_two (λ k (d : programs.Device). IsFactor d.1) (sensor.name, sensor.wcet) (actuator.name, actuator.wcet) h.wcet_in h.wcet_out,
+    at_two (λ k (x : programs.Device). IsFactor x.1) (sensor.name, sensor.wcet) (actuator.name, actuator.wcet) h.wcet_in h.wcet_out,
     apart_names sensor.name actuator.name sensor.wcet actuator.wcet h.apart,
   );
-  flows = at_each link_flow (λ i (flow : Flow). IsWellDefined (flat_chain sensor actuator links).flat i flow.ty flow.def) links
-      (λ i l found. well_defined sensor actuator links i l l.def found (h.linked.each i l found).linked);
-  apps = λ k app found. cc;
-  ins = at_one (λ k (flow : FlowNo). IsInput (flat_chain sensor actuator links).flat k flow) (record { 0 = 0 }) (is_input sensor actuator links h);
-  outs = at_one (λ k (flow : FlowNo). flow.0 < length (map link_flow links)) (record { 0 = flow_named links actuator.name }) (omega (arith, h.out, length-map links link_flow));
-  few = omega (arith, h.few, length-map links link_flow);
+  flows = at_each link_flow (λ i (flow : Flow). IsWellDefined (flat_chain sensor actuator d).flat i flow.ty flow.def) d.links
+      (λ i l found. well_defined sensor actuator d i l l.def found (h.defined.each i l found).linked);
+  apps = λ k app found. is_application sensor actuator d k app (h.defined.among k app found);
+  ins = at_one (λ k (flow : FlowNo). IsInput (flat_chain sensor actuator d).flat k flow) (record { 0 = 0 }) (is_input imports sensor actuator d h);
+  outs = at_one (λ k (flow : FlowNo). flow.0 < length (map link_flow d.links)) (record { 0 = flow_named d.links actuator.name }) (omega (arith, h.out, length-map d.links link_flow));
+  few = omega (arith, h.few, length-map d.links link_flow);
 }
 
 -- the same for lists that were made one by one
-pub IsFlat-made : (sensor actuator : Device) (links : List Link) → AreBetween sensor actuator links
+pub IsFlat-made : (sensor actuator : Device) (d : Definitions) → (imports : List Import) × AreBetween imports sensor actuator d
     → (flows : List Flow) (apps : List App) (ins outs : List FlowNo) (sensors actuators : List programs.Device)
-    → flows ≡ (flat_chain sensor actuator links).flat.flows → apps ≡ [] → ins ≡ (flat_chain sensor actuator links).flat.ins → outs ≡ (flat_chain sensor actuator links).flat.outs
-    → sensors ≡ (flat_chain sensor actuator links).flat.in_devices → actuators ≡ (flat_chain sensor actuator links).flat.out_devices
+    → flows ≡ (flat_chain sensor actuator d).flat.flows → apps ≡ d.apps → ins ≡ (flat_chain sensor actuator d).flat.ins → outs ≡ (flat_chain sensor actuator d).flat.outs
+    → sensors ≡ (flat_chain sensor actuator d).flat.in_devices → actuators ≡ (flat_chain sensor actuator d).flat.out_devices
     → IsFlat (record { flows = flows; apps = apps; ins = ins; outs = outs; in_devices = sensors; out_devices = actuators })
-IsFlat-made sensor actuator links h flows apps ins outs sensors actuators e a f g k l = rw (e, a, f, g, k, l) (IsFlat-chain sensor actuator links h)
+IsFlat-made sensor actuator d h flows apps ins outs sensors actuators e a f g k l = rw (e, a, f, g, k, l) (IsFlat-chain h.0 sensor actuator d h.1)
 
-clock_agrees : (clocks : List Clock) (i : ℕ) (c : Clock) (def : Def) → IsLinked clocks i c def → AgreesClock clocks c def
-clock_agrees clocks i c (definitions.Sensor k) linked = tt
-clock_agrees clocks i c (definitions.Copy of) linked = linked.1
-clock_agrees clocks i c (definitions.Const v) linked = tt
-clock_agrees clocks i c (definitions.Apply app out) linked = tt
-clock_agrees clocks i c (definitions.Op op of) linked = linked.2
+clock_agrees : (apps : List App) (clocks : List Clock) (i : ℕ) (c : Clock) (def : Def) → IsLinked apps clocks i c def → AgreesClock clocks c def
+clock_agrees apps clocks i c (definitions.Sensor k) linked = tt
+clock_agrees apps clocks i c (definitions.Copy of) linked = linked.1
+clock_agrees apps clocks i c (definitions.Const v) linked = tt
+clock_agrees apps clocks i c (definitions.Apply app out) linked = tt
+clock_agrees apps clocks i c (definitions.Op op of) linked = linked.2
 
-uses_below : (p : FlatProgram) (clocks : List Clock) (i : ℕ) (c : Clock) (def : Def) → IsLinked clocks i c def → UsesBelow p i def
-uses_below p clocks i c (definitions.Sensor k) linked = tt
-uses_below p clocks i c (definitions.Copy of) linked = linked.0
-uses_below p clocks i c (definitions.Const v) linked = tt
-uses_below p clocks i c (definitions.Apply app out) linked = absurd linked
-uses_below p clocks i c (definitions.Op op of) linked = linked.0
+below_all : (apps : List App) (i k out : ℕ) → IsOutputOf apps i k out → (app : App) → slice_get apps k ≡ Some app → (j : ℕ) (arg : Arg) → slice_get app.args j ≡ Some arg → arg.flow.0 < i
+below_all apps i k out h app found j arg at =
+    let same : h.app ≡ app = some_inner h.app app (sym h.applied ∙ found) in
+    h.below j arg (ap (λ (a : App). slice_get a.args j) same ∙ at)
+
+uses_below : (sensor actuator : Device) (d : Definitions) (clocks : List Clock) (i : ℕ) (c : Clock) (def : Def) → IsLinked d.apps clocks i c def
+    → UsesBelow (flat_chain sensor actuator d).flat i def
+uses_below sensor actuator d clocks i c (definitions.Sensor k) linked = tt
+uses_below sensor actuator d clocks i c (definitions.Copy of) linked = linked.0
+uses_below sensor actuator d clocks i c (definitions.Const v) linked = tt
+uses_below sensor actuator d clocks i c (definitions.Apply app out) linked = below_all d.apps i app out linked
+uses_below sensor actuator d clocks i c (definitions.Op op of) linked = linked.0
 
 -- each clock is that of a flow
-each_clock : (sensor actuator : Device) (links : List Link) → AreBetween sensor actuator links → (P : Clock → Type 0)
-    → ((l : Link) → IsFactor l.period → P (link_clock l)) → (i : ℕ) → i < length (map link_clock links) → P (clock_of (map link_clock links) i)
-each_clock sensor actuator links h P made i small =
-    let (l, found) = element_at links i (omega (arith, length-map links link_clock)) in
-    rw (clock_of-link links i l found) (made l (h.linked.each i l found).period)
+each_clock : (imports : List Import) (d : Definitions) → AreDefined imports d → (P : Clock → Type 0)
+    → ((l : Link) → IsFactor l.period → P (link_clock l)) → (i : ℕ) → i < length (map link_clock d.links) → P (clock_of (map link_clock d.links) i)
+each_clock imports d h P made i small =
+    let (l, found) = element_at d.links i (omega (arith, length-map d.links link_clock)) in
+    rw (clock_of-link d.links i l found) (made l (h.each i l found).period)
 
-agrees : (sensor actuator : Device) (links : List Link) → AreBetween sensor actuator links → (i : ℕ) (l : Link) → slice_get links i ≡ Some l
-    → AgreesClock (map link_clock links) (clock_of (map link_clock links) i) l.def
-agrees sensor actuator links h i l found =
-    subst (λ (x : Clock). AgreesClock (map link_clock links) x l.def) (sym (clock_of-link links i l found))
-    (clock_agrees (map link_clock links) i (link_clock l) l.def (h.linked.each i l found).linked)
+agrees : (imports : List Import) (d : Definitions) → AreDefined imports d → (i : ℕ) (l : Link) → slice_get d.links i ≡ Some l
+    → AgreesClock (map link_clock d.links) (clock_of (map link_clock d.links) i) l.def
+agrees imports d h i l found =
+    subst (λ (x : Clock). AgreesClock (map link_clock d.links) x l.def) (sym (clock_of-link d.links i l found))
+    (clock_agrees d.apps (map link_clock d.links) i (link_clock l) l.def (h.each i l found).linked)
 
-pub IsChain-flat : (sensor actuator : Device) (links : List Link) → AreBetween sensor actuator links → IsChain (flat_chain sensor actuator links)
-IsChain-flat sensor actuator links h = record {
-  flat = IsFlat-chain sensor actuator links h;
+-- the flows of an application have one clock
+one_clock : (links : List Link) (k : ℕ) (app : App) → IsAmong links k app → HasOneClock (map link_clock links) app
+one_clock links k app h = record {
+  clock = record { period = h.period; start = 0 };
+  args = λ j arg found. let has = h.args j arg found in
+      clock_of-link links arg.flow.0 has.link has.found ∙ ap (λ (p : ℕ). record { period = p; start = 0 }) has.same;
+  outs = λ j flow found. let made = h.outs j flow found in
+      clock_of-link links flow.0 made.link made.found ∙ ap (λ (p : ℕ). record { period = p; start = 0 }) made.same;
+}
+
+pub IsChain-flat : (sensor actuator : Device) (d : Definitions) → (imports : List Import) × AreBetween imports sensor actuator d → IsChain (flat_chain sensor actuator d)
+IsChain-flat sensor actuator d (imports, h) = record {
+  flat = IsFlat-chain imports sensor actuator d h;
   clocks = record {
-    count = length-map links link_clock ∙ sym (length-map links link_flow);
-    clock = each_clock sensor actuator links h IsClock (λ l factor. factor.0);
-    agree = at_each link_flow (λ i (flow : Flow). AgreesClock (map link_clock links) (clock_of (map link_clock links) i) flow.def) links (agrees sensor actuator links h);
-    apps = λ k app found. cc;
+    count = length-map d.links link_clock ∙ sym (length-map d.links link_flow);
+    clock = each_clock imports d h.defined IsClock (λ l factor. factor.0);
+    agree = at_each link_flow (λ i (flow : Flow). AgreesClock (map link_clock d.links) (clock_of (map link_clock d.links) i) flow.def) d.links (agrees imports d h.defined);
+    apps = λ k app found. one_clock d.links k app (h.defined.among k app found);
   };
-  no_application = refl;
-  ordered = at_each link_flow (λ i (flow : Flow). UsesBelow (flat_chain sensor actuator links).flat i flow.def) links
-      (λ i l found. uses_below (flat_chain sensor actuator links).flat (map link_clock links) i (link_clock l) l.def (h.linked.each i l found).linked);
+  ordered = at_each link_flow (λ i (flow : Flow). UsesBelow (flat_chain sensor actuator d).flat i flow.def) d.links
+      (λ i l found. uses_below sensor actuator d (map link_clock d.links) i (link_clock l) l.def (h.defined.each i l found).linked);
   ins = refl;
   outs = refl;
-  types_are = at_each link_flow (λ i (flow : Flow). flow.ty ≡ types.Int) links (λ i l found. refl);
-  starts = each_clock sensor actuator links h (λ (c : Clock). c.start ≡ 0) (λ l factor. refl);
-  periods = each_clock sensor actuator links h (λ (c : Clock). IsFactor c.period) (λ l factor. factor);
+  types_are = at_each link_flow (λ i (flow : Flow). flow.ty ≡ types.Int) d.links (λ i l found. refl);
+  starts = each_clock imports d h.defined (λ (c : Clock). c.start ≡ 0) (λ l factor. refl);
+  periods = each_clock imports d h.defined (λ (c : Clock). IsFactor c.period) (λ l factor. factor);
   wcet_in = h.wcet_in;
   wcet_out = h.wcet_out;
-  some = omega (arith, h.linked.some, length-map links link_clock);
-  few = omega (arith, h.few, length-map links link_flow);
+  some = let some = h.defined.some in omega (arith, some, length-map d.links link_clock);
 }

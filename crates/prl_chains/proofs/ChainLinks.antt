@@ -1,24 +1,25 @@
 -- Flows that stand one behind the other.
-use Rattle.std.proofs.Common.{◌≡◌, ℕ, ◌+◌, ◌<◌, ◌≤◌, zero, suc, List, [], ◌∷◌, ◌++◌, length, map, Option, Some, slice_get, refl, sym, ap, ◌∙◌, subst, arith, length-append, below_more, drop, get_or, drop-cons, add-one}
+use Rattle.std.proofs.Common.{◌≡◌, ℕ, ◌+◌, ◌<◌, ◌≤◌, zero, suc, List, [], ◌∷◌, ◌++◌, length, map, Some, slice_get, refl, sym, ap, ◌∙◌, subst, arith, length-append, append-nil}
 use Rattle.std.specs.Option.{option_map}
 use Rattle.std.proofs.lemmas.List.{get_or_append_left, map-append, length-map}
 use Rattle.std.proofs.lemmas.Option.{slice_get-map, slice_get_within, get_or_from_slice_get}
 use Rattle.prl_base.specs.declared.operators.Clock.{Clock}
-use Rattle.prl_ast.specs.declared.declarations.Equation.{Equation}
+use Rattle.prl_ast.specs.declared.declarations.Import.{Import}
 use Rattle.prl_ast.specs.declared.declarations.Placed.{Placed}
-use Rattle.prl_ast.specs.Trees.{NodeTree, equation_tree}
+use Rattle.prl_flow.specs.declared.programs.App.{App}
 use Rattle.prl_flow.specs.declared.programs.Def.{Def}
 use Rattle.prl_flow.specs.declared.programs.Def.TheVariants as definitions
 use Rattle.prl_flow.specs.Flows.{IsResultClock}
 use Rattle.prl_flow.specs.Programs.{IsFactor}
 use Rattle.prl_flow.specs.Solutions.{clock_of}
-use Rattle.prl_flow.proofs.Lists.{slice_get-append_left, slice_get-push}
+use Rattle.prl_flow.proofs.Lists.{slice_get-append_left}
 use Rattle.prl_chains.specs.declared.rights.Right.{Right}
 use Rattle.prl_chains.specs.declared.rights.Right.TheVariants.{Copy, Delayed, Faster, Slower}
 use Rattle.prl_chains.specs.declared.links.Link.{Link}
-use Rattle.prl_chains.specs.Options.{◌>>=◌}
+use Rattle.prl_chains.specs.Applications.{HasPeriod, IsAmong, IsMade}
+use Rattle.prl_chains.specs.Equations.{AreDefined, Definitions}
 use Rattle.prl_chains.specs.Rights.{def_of, IsRight, IsPeriod}
-use Rattle.prl_chains.specs.Links.{link_clock, made_link, link_of, links_from, IsLinked, IsLink, AreLinks}
+use Rattle.prl_chains.specs.Links.{link_clock, made_link, IsLinked, IsLink, IsOutputOf}
 
 -- the clock of a flow
 pub clock_of-link : (links : List Link) (i : ℕ) (l : Link) → slice_get links i ≡ Some l → clock_of (map link_clock links) i ≡ link_clock l
@@ -27,7 +28,7 @@ clock_of-link links i l found =
     (slice_get-map link_clock links i ∙ ap (option_map link_clock) found)
 
 right_is_linked : (clocks : List Clock) (i : ℕ) (right : Right) (of old new : ℕ) → of < i → clock_of clocks of ≡ record { period = old; start = 0 }
-    → IsRight right → IsPeriod right old new → IsLinked clocks i (record { period = new; start = 0 }) (def_of right (record { 0 = of }))
+    → IsRight right → IsPeriod right old new → IsLinked [] clocks i (record { period = new; start = 0 }) (def_of right (record { 0 = of }))
 right_is_linked clocks i Copy of old new below clock factor period =
     (below, ap (λ (p : ℕ). record { period = p; start = 0 }) period.1 ∙ sym clock)
 right_is_linked clocks i (Delayed number) of old new below clock factor period =
@@ -46,76 +47,123 @@ new_period (Slower k) old new h = h.0
 -- a right side over one of the flows makes a flow behind them
 pub IsLink-made : (links : List Link) (left : Placed) (right : Right) (of : ℕ) (used : Link) (new : ℕ) → slice_get links of ≡ Some used
     → IsRight right → IsPeriod right used.period new
-    → IsLink links (length links) (made_link left (def_of right (record { 0 = of })) new)
+    → IsLink [] links (length links) (made_link left (def_of right (record { 0 = of })) new)
 IsLink-made links left right of used new found factor period = record {
   period = new_period right used.period new period;
   linked = right_is_linked (map link_clock links) (length links) right of used.period new (slice_get_within links of used found) (clock_of-link links of used found) factor period;
 }
 
--- flows behind do not change what a flow is made of
-IsLinked-more : (clocks more : List Clock) (i : ℕ) (c : Clock) (def : Def) → i ≤ length clocks → IsLinked clocks i c def → IsLinked (clocks ++ more) i c def
-IsLinked-more clocks more i c (definitions.Sensor k) within linked = linked
-IsLinked-more clocks more i c (definitions.Copy of) within linked =
+-- applications behind do not change whose output a flow is
+IsOutputOf-more : (apps others : List App) (i k out : ℕ) → IsOutputOf apps i k out → IsOutputOf (apps ++ others) i k out
+IsOutputOf-more apps others i k out h = record {
+  app = h.app;
+  applied = slice_get-append_left apps others k (slice_get_within apps k h.app h.applied) ∙ h.applied;
+  place = h.place;
+  below = h.below;
+}
+
+-- flows and applications behind do not change what a flow is made of
+IsLinked-more : (apps others : List App) (clocks more : List Clock) (i : ℕ) (c : Clock) (def : Def) → i ≤ length clocks
+    → IsLinked apps clocks i c def → IsLinked (apps ++ others) (clocks ++ more) i c def
+IsLinked-more apps others clocks more i c (definitions.Sensor k) within linked = linked
+IsLinked-more apps others clocks more i c (definitions.Copy of) within linked =
     (linked.0, linked.1 ∙ sym (get_or_append_left clocks more (record { period = 1; start = 0 }) of.0 (omega (arith, linked.0))))
-IsLinked-more clocks more i c (definitions.Const v) within linked = linked
-IsLinked-more clocks more i c (definitions.Apply app out) within linked = linked
-IsLinked-more clocks more i c (definitions.Op op of) within linked = (
+IsLinked-more apps others clocks more i c (definitions.Const v) within linked = linked
+IsLinked-more apps others clocks more i c (definitions.Apply app out) within linked = IsOutputOf-more apps others i app out linked
+IsLinked-more apps others clocks more i c (definitions.Op op of) within linked = (
   linked.0,
   linked.1,
   subst (λ (x : Clock). IsResultClock op x c) (sym (get_or_append_left clocks more (record { period = 1; start = 0 }) of.0 (omega (arith, linked.0)))) linked.2,
 )
 
-IsLink-more : (links : List Link) (new : Link) (i : ℕ) (l : Link) → i ≤ length links → IsLink links i l → IsLink (links ++ new ∷ []) i l
-IsLink-more links new i l within h = record {
+pub IsLink-more : (apps others : List App) (links more : List Link) (i : ℕ) (l : Link) → i ≤ length links → IsLink apps links i l → IsLink (apps ++ others) (links ++ more) i l
+IsLink-more apps others links more i l within h = record {
   period = h.period;
-  linked = subst (λ (clocks : List Clock). IsLinked clocks i (link_clock l) l.def) (sym (map-append link_clock links (new ∷ [])))
-      (IsLinked-more (map link_clock links) (link_clock new ∷ []) i (link_clock l) l.def (omega (arith, length-map links link_clock)) h.linked);
+  linked = subst (λ (clocks : List Clock). IsLinked (apps ++ others) clocks i (link_clock l) l.def) (sym (map-append link_clock links more))
+      (IsLinked-more apps others (map link_clock links) (map link_clock more) i (link_clock l) l.def (omega (arith, length-map links link_clock)) h.linked);
 }
 
--- one flow more
-AreLinks-push : (links : List Link) (new : Link) → AreLinks links → IsLink links (length links) new → AreLinks (links ++ new ∷ [])
-AreLinks-push links new h next =
-    let all : (i : ℕ) → i < length links + 1 → (l : Link) → slice_get (links ++ new ∷ []) i ≡ Some l → IsLink (links ++ new ∷ []) i l =
-    below_more (λ i. (l : Link) → slice_get (links ++ new ∷ []) i ≡ Some l → IsLink (links ++ new ∷ []) i l) (length links)
-    (λ i below l found. IsLink-more links new i l (omega arith) (h.each i l (sym (slice_get-append_left links (new ∷ []) i below) ∙ found)))
-    (λ l found.
-    let same : new ≡ l = let e : Some new ≡ Some l = sym (slice_get-push links new) ∙ found in cc in
-    subst (IsLink (links ++ new ∷ []) (length links)) same (IsLink-more links new (length links) new (omega arith) next)) in
-    record {
-      some = omega (arith, length-append links (new ∷ []));
-      each = λ i l found. all i (let small : i < length (links ++ new ∷ []) = slice_get_within (links ++ new ∷ []) i l found in omega (arith, length-append links (new ∷ []))) l found;
-    }
+-- what holds at each place of two lists holds at each place of both, one behind the other
+pub at_both : {A : Type 0} (P : ℕ → A → Type 0) (xs ys : List A) → ((i : ℕ) (x : A) → slice_get xs i ≡ Some x → P i x)
+    → ((j : ℕ) (y : A) → slice_get ys j ≡ Some y → (i : ℕ) → i ≡ length xs + j → P i y) → (i : ℕ) (z : A) → slice_get (xs ++ ys) i ≡ Some z → P i z
+at_both P [] ys left right i z found = right i z found i (omega arith)
+at_both P (x ∷ xs) ys left right zero z found = left 0 z found
+at_both P (x ∷ xs) ys left right (suc i) z found =
+    at_both (λ k. P (suc k)) xs ys (λ k w at. left (suc k) w at) (λ j w at k e. right j w at (suc k) (omega (arith, e))) i z found
 
-input_alone : (first : Link) → IsFactor first.period → first.def ≡ definitions.Sensor 0 → (i : ℕ) (l : Link) → slice_get (first ∷ []) i ≡ Some l → IsLink (first ∷ []) i l
+-- an element of the second list
+pub get_behind : {A : Type 0} (xs ys : List A) (i j : ℕ) → i ≡ length xs + j → slice_get (xs ++ ys) i ≡ slice_get ys j
+get_behind [] ys i j e = ap (slice_get ys) (omega (arith, e))
+get_behind (x ∷ xs) ys zero j e = absurd (omega (arith, e))
+get_behind (x ∷ xs) ys (suc i) j e = get_behind xs ys i j (omega (arith, e))
+
+input_alone : (first : Link) → IsFactor first.period → first.def ≡ definitions.Sensor 0 → (i : ℕ) (l : Link) → slice_get (first ∷ []) i ≡ Some l → IsLink [] (first ∷ []) i l
 input_alone first factor sensor zero l found =
     let e : first ≡ l = cc in
-    subst (IsLink (first ∷ []) 0) e (record { period = factor; linked = rw sensor (refl, refl) })
+    subst (IsLink [] (first ∷ []) 0) e (record { period = factor; linked = rw sensor (refl, refl) })
 input_alone first factor sensor (suc i) l found = cc
 
 -- the input alone
-pub AreLinks-input : (first : Link) → IsFactor first.period → first.def ≡ definitions.Sensor 0 → AreLinks (first ∷ [])
-AreLinks-input first factor sensor = record { some = omega arith; each = input_alone first factor sensor }
+pub AreDefined-input : (imports : List Import) (first : Link) → IsFactor first.period → first.def ≡ definitions.Sensor 0 → AreDefined imports (record { links = first ∷ []; apps = [] })
+AreDefined-input imports first factor sensor = record {
+  some = omega arith;
+  first = λ l found. let same : first ≡ l = cc in subst (λ (x : Link). x.def ≡ definitions.Sensor 0) same sensor;
+  each = input_alone first factor sensor;
+  among = λ k app found. absurd (cc);
+  imported = λ k app found. absurd (cc);
+}
 
--- the flow of the equation at a place stands in front of those behind it
-links_from-drop : (n : NodeTree) (links : List Link) (equations : List Equation) (i : ℕ) (e : Equation) → i < length equations → e ≡ get_or equations i e
-    → links_from n links (map equation_tree (drop i equations))
-    ≡ (link_of n links (equation_tree e) >>= λ link. links_from n (links ++ link ∷ []) (map equation_tree (drop (i + 1) equations)))
-links_from-drop n links equations i e below item =
-    let next : drop i equations ≡ e ∷ drop (i + 1) equations =
-    rw add-one (drop-cons equations i e below ∙ ap (λ (x : Equation). x ∷ drop (suc i) equations) (sym item)) in
-    ap (λ (es : List Equation). links_from n links (map equation_tree es)) next
+-- the flows that an application names are there behind others too
+pub HasPeriod-more : (links more : List Link) (i period : ℕ) → HasPeriod links i period → HasPeriod (links ++ more) i period
+HasPeriod-more links more i period h =
+    record { link = h.link; found = slice_get-append_left links more i (slice_get_within links i h.link h.found) ∙ h.found; same = h.same }
 
--- where it makes a flow, that is the next
-pub links_from-next : (n : NodeTree) (links others all : List Link) (equations : List Equation) (i : ℕ) (e : Equation) (link : Link) → i < length equations → e ≡ get_or equations i e
-    → others ≡ links → Some link ≡ link_of n others (equation_tree e) → all ≡ links ++ link ∷ []
-    → links_from n all (map equation_tree (drop (i + 1) equations)) ≡ links_from n links (map equation_tree (drop i equations))
-links_from-next n links others all equations i e link below item is found more =
-    ap (λ (ls : List Link). links_from n ls (map equation_tree (drop (i + 1) equations))) more
-    ∙ sym (links_from-drop n links equations i e below item
-    ∙ ap (λ (r : Option Link). r >>= λ l. links_from n (links ++ l ∷ []) (map equation_tree (drop (i + 1) equations)))
-    (ap (λ (ls : List Link). link_of n ls (equation_tree e)) (sym is) ∙ sym found))
+IsMade-more : (links more : List Link) (i period k out : ℕ) → IsMade links i period k out → IsMade (links ++ more) i period k out
+IsMade-more links more i period k out h =
+    record { link = h.link; found = slice_get-append_left links more i (slice_get_within links i h.link h.found) ∙ h.found; same = h.same; def = h.def }
 
--- the same, as a longer list made by the code
-pub AreLinks-next : (links others all : List Link) (new : Link) → AreLinks links → others ≡ links → IsLink others (length others) new → all ≡ links ++ new ∷ [] → AreLinks all
-AreLinks-next links others all new h is next more =
-    subst AreLinks (sym more) (AreLinks-push links new h (subst (λ (ls : List Link). IsLink ls (length ls) new) is next))
+pub IsAmong-more : (links more : List Link) (k : ℕ) (app : App) → IsAmong links k app → IsAmong (links ++ more) k app
+IsAmong-more links more k app h = record {
+  period = h.period;
+  wcet = h.wcet;
+  some_output = h.some_output;
+  args = λ j arg found. HasPeriod-more links more arg.flow.0 h.period (h.args j arg found);
+  outs = λ j flow found. IsMade-more links more flow.0 h.period k j (h.outs j flow found);
+}
+
+pub within_links : (links : List Link) (i : ℕ) (l : Link) → slice_get links i ≡ Some l → i ≤ length links
+within_links links i l found = let less = slice_get_within links i l found in omega (arith, less)
+
+-- the flow behind these
+last_link : (apps : List App) (links : List Link) (new : Link) → IsLink [] links (length links) new → (j : ℕ) (l : Link) → slice_get (new ∷ []) j ≡ Some l
+    → (i : ℕ) → i ≡ length links + j → IsLink apps (links ++ new ∷ []) i l
+last_link apps links new next zero l found i at =
+    let same : new ≡ l = cc in
+    let place : length links ≡ i = omega (arith, at) in
+    let here : IsLink apps (links ++ new ∷ []) (length links) new = IsLink-more [] apps links (new ∷ []) (length links) new (omega arith) next in
+    subst (λ (x : Link). IsLink apps (links ++ new ∷ []) i x) same (subst (λ n. IsLink apps (links ++ new ∷ []) n new) place here)
+last_link apps links new next (suc j) l found i at = absurd (cc)
+
+-- the first flow stays the first
+pub first-more : (links more : List Link) → 0 < length links → ((l : Link) → slice_get links 0 ≡ Some l → l.def ≡ definitions.Sensor 0)
+    → (l : Link) → slice_get (links ++ more) 0 ≡ Some l → l.def ≡ definitions.Sensor 0
+first-more links more some first l found = first l (sym (slice_get-append_left links more 0 some) ∙ found)
+
+-- one flow more
+pub AreDefined-push : (imports : List Import) (d : Definitions) (new : Link) → AreDefined imports d → IsLink [] d.links (length d.links) new
+    → AreDefined imports (record { links = d.links ++ new ∷ []; apps = d.apps })
+AreDefined-push imports d new h next = record {
+  some = let some = h.some in omega (arith, some, length-append d.links (new ∷ []));
+  first = first-more d.links (new ∷ []) h.some h.first;
+  each = at_both (λ i l. IsLink d.apps (d.links ++ new ∷ []) i l) d.links (new ∷ [])
+      (λ i l found. subst (λ (apps : List App). IsLink apps (d.links ++ new ∷ []) i l) (append-nil d.apps)
+      (IsLink-more d.apps [] d.links (new ∷ []) i l (within_links d.links i l found) (h.each i l found)))
+      (λ j l found i at. last_link d.apps d.links new next j l found i at);
+  among = λ k app found. IsAmong-more d.links (new ∷ []) k app (h.among k app found);
+  imported = h.imported;
+}
+
+-- the same for lists that were made one by one
+pub AreDefined-pushed : (imports : List Import) (d : Definitions) (new : Link) (links : List Link) (apps : List App) → links ≡ d.links ++ new ∷ [] → apps ≡ d.apps
+    → AreDefined imports d → IsLink [] d.links (length d.links) new → AreDefined imports (record { links = links; apps = apps })
+AreDefined-pushed imports d new links apps more same h next = rw (more, same) (AreDefined-push imports d new h next)

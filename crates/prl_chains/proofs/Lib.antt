@@ -1,5 +1,10 @@
 pub mod Truths
+pub mod SomeParts
 pub mod Variables
 pub mod ChainLinks
+pub mod ChainApps
+pub mod ChainEquations
 pub mod ChainFlats
 pub mod Relayed
+pub mod ChainBodies
+pub mod SomeApplied

@@ -1,13 +1,16 @@
 -- Chains of copies hand the input on.
-use Rattle.std.proofs.Common.{◌≡◌, ℕ, ◌<◌, zero, suc, List, [], ◌∷◌, length, Some, IsTrue, refl, ap, ◌∙◌, subst, arith}
-use Rattle.std.specs.Prelude.{None, slice_get}
+use Rattle.std.proofs.Common.{◌≡◌, ℕ, ◌<◌, zero, suc, List, [], ◌∷◌, length, Some, IsTrue, refl, sym, ap, ◌∙◌, subst, arith}
+use Rattle.std.specs.Prelude.{slice_get}
 use Rattle.std.specs.List.{list_all}
+use Rattle.std.proofs.lemmas.Bool.{eqb-true, eq-eqb}
+use Rattle.std.proofs.lemmas.Option.{slice_get_within}
 use Rattle.prl_base.specs.declared.numbers.FlowNo.{FlowNo}
 use Rattle.prl_base.specs.declared.values.Value.{Value}
 use Rattle.prl_flow.specs.Rows.{Rows}
 use Rattle.prl_body.specs.declared.bodies.Parts.{Parts}
 use Rattle.prl_flow.specs.declared.programs.App.{App}
 use Rattle.prl_flow.specs.Applications.{HaveBodies}
+use Rattle.prl_flow.specs.Programs.{IsOutput}
 use Rattle.prl_flow.specs.Solutions.{HasTypedRows, Solves, AgreesClock, UsesBelow, MeetsDefinition, clock_of, values_of}
 use Rattle.prl_flow.specs.declared.programs.Flow.{Flow}
 use Rattle.prl_flow.specs.declared.programs.Def.TheVariants as definitions
@@ -16,7 +19,7 @@ use Rattle.prl_flow.proofs.Lists.{element_at}
 use Rattle.prl_chains.specs.declared.chains.Chain.{Chain}
 use Rattle.prl_chains.specs.Facts.{IsChain}
 use Rattle.prl_chains.proofs.Truths.{both_true}
-use Rattle.prl_chains.specs.Relays.{is_copy, are_copies, is_relay, HandsOn}
+use Rattle.prl_chains.specs.Relays.{is_copy, are_copies, is_relay, has_no_application, HandsOn}
 
 -- each of these flows is a copy
 each_copy : (flows : List Flow) → IsTrue (list_all (λ (f : Flow). is_copy f.def) flows) → (i : ℕ) (flow : Flow) → slice_get flows i ≡ Some flow → IsTrue (is_copy flow.def)
@@ -90,13 +93,41 @@ HandsOn-copies c h relay = record {
       all_values c h relay bodies rows until flows solved flow.0 (omega (arith, h.flat.outs k flow found, solved.count));
 }
 
-no_application : (c : Chain) → IsChain c → (k : ℕ) (app : App) → slice_get c.flat.apps k ≡ Some app → ⊥
-no_application c h k app found =
-    let none : slice_get c.flat.apps k ≡ None = ap (λ (apps : List App). slice_get apps k) h.no_application in
-    cc
+no_application : (c : Chain) → IsTrue (has_no_application c) → (k : ℕ) (app : App) → slice_get c.flat.apps k ≡ Some app → ⊥
+no_application c none k app found =
+    let small = slice_get_within c.flat.apps k app found in
+    let empty : length c.flat.apps ≡ 0 = eqb-true (length c.flat.apps) 0 none in
+    omega (arith, small, empty)
 
-pub bodies-none : (c : Chain) → IsChain c → (bodies : List Parts) → HaveBodies c.flat bodies
-bodies-none c h bodies k app found = absurd (no_application c h k app found)
+pub bodies-none : (c : Chain) → IsChain c → IsTrue (has_no_application c) → (bodies : List Parts) → HaveBodies c.flat bodies
+bodies-none c h none bodies k app found = absurd (no_application c none k app found)
 
-pub rows-none : (c : Chain) → IsChain c → (rows : Rows) → HasTypedRows c.flat rows
-rows-none c h rows some = let none : ⊥ = omega (arith, some, ap (λ (apps : List App). length apps) h.no_application) in absurd none
+pub rows-none : (c : Chain) → IsChain c → IsTrue (has_no_application c) → (rows : Rows) → HasTypedRows c.flat rows
+rows-none c h none rows some =
+    let empty : length c.flat.apps ≡ 0 = eqb-true (length c.flat.apps) 0 none in
+    let wrong : ⊥ = omega (arith, some, empty) in
+    absurd wrong
+
+not_applied : (c : Chain) → IsChain c → IsTrue (is_relay c) → (k out i : ℕ) (f : Flow) → slice_get c.flat.flows i ≡ Some f → f.def ≡ definitions.Apply k out → ⊥
+not_applied c h relay k out zero f found is =
+    let (g, first, sensor) = h.flat.ins 0 (record { 0 = 0 }) (ap (λ (xs : List FlowNo). slice_get xs 0) h.ins) in
+    let same : g ≡ f = let e : Some g ≡ Some f = sym first ∙ found in cc in
+    let clash : definitions.Sensor 0 ≡ definitions.Apply k out = sym sensor ∙ ap (λ (x : Flow). x.def) same ∙ is in
+    absurd (cc)
+not_applied c h relay k out (suc i) f found is =
+    let (of, copy) = copied f.def (copy_behind c.flat.flows relay i f found) in
+    let clash : definitions.Copy of ≡ definitions.Apply k out = sym copy ∙ is in
+    absurd (cc)
+
+-- where each flow but the first is a copy, no flow is an output of an application
+no_output : (c : Chain) → IsChain c → IsTrue (is_relay c) → (k out : ℕ) (flow : FlowNo) → IsOutput c.flat k out flow → ⊥
+no_output c h relay k out flow (f, found, is) = not_applied c h relay k out flow.0 f found is
+
+pub relay-no_application : (c : Chain) → IsChain c → IsTrue (is_relay c) → IsTrue (has_no_application c)
+relay-no_application c h relay =
+    let none : 0 < length c.flat.apps → ⊥ = λ some.
+    let (app, found) = element_at c.flat.apps 0 some in
+    let fits = h.flat.apps 0 app found in
+    let (flow, at) = element_at app.outs 0 fits.has_output in
+    no_output c h relay 0 0 flow (fits.outs 0 flow at) in
+    eq-eqb (length c.flat.apps) 0 (omega (arith, none))

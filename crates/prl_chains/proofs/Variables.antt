@@ -5,16 +5,17 @@ use Rattle.std.specs.Str.{bytes_eq}
 use Rattle.std.proofs.lemmas.Bool.{leb-true, ltb-true}
 use Rattle.std.proofs.lemmas.Slice.Eq.{bytes_eq-Decides}
 use Rattle.prl_ast.specs.declared.declarations.Device.{Device}
+use Rattle.prl_ast.specs.declared.declarations.Import.{Import}
 use Rattle.prl_ast.specs.declared.declarations.Param.{Param}
 use Rattle.prl_flow.specs.Programs.{IsFactor}
-use Rattle.prl_chains.specs.declared.links.Link.{Link}
 use Rattle.prl_chains.specs.Rights.{is_factor}
-use Rattle.prl_chains.specs.Links.{flow_named, is_linked, has_param, AreLinks}
+use Rattle.prl_chains.specs.Equations.{AreDefined, Definitions}
+use Rattle.prl_chains.specs.Links.{flow_named, is_linked, has_param}
 use Rattle.prl_chains.specs.Chains.{is_bare, are_apart, is_device_of, are_variables}
 use Rattle.prl_chains.specs.Facts.{AreBetween}
 use Rattle.prl_chains.proofs.Truths.{both_true}
 
-factor_from : (k : ℕ) → is_factor k ≡ true → IsFactor k
+pub factor_from : (k : ℕ) → is_factor k ≡ true → IsFactor k
 factor_from k h =
     let both = both_true (nat_le 1 k) (nat_lt k (2 ^ 31)) h in
     (leb-true 1 k both.0, ltb-true k (2 ^ 31) both.1)
@@ -32,19 +33,19 @@ apart_from input output locals h same =
     let wrong : false ≡ true = sym (ap not found) ∙ both.0 in
     cc
 
-pub AreBetween-made : (sensor actuator : Device) (input output : Param) (locals : List Param) (links : List Link) → are_variables sensor actuator input output locals ≡ true
-    → AreLinks links → length links ≤ 65 → is_linked links output.name ≡ true → AreBetween sensor actuator links
-AreBetween-made sensor actuator input output locals links h linked few out =
+pub AreBetween-made : (imports : List Import) (sensor actuator : Device) (input output : Param) (locals : List Param) (d : Definitions) → are_variables sensor actuator input output locals ≡ true
+    → AreDefined imports d → length d.links < 2 ^ 32 → is_linked d.links output.name ≡ true → AreBetween imports sensor actuator d
+AreBetween-made imports sensor actuator input output locals d h defined few out =
     let first = both_true (is_device_of sensor input && is_device_of actuator output && list_all is_bare (output ∷ locals)) (are_apart (input ∷ output ∷ locals)) h in
     let second = both_true (is_device_of sensor input && is_device_of actuator output) (list_all is_bare (output ∷ locals)) first.0 in
     let third = both_true (is_device_of sensor input) (is_device_of actuator output) second.0 in
     let from = device_from sensor input third.0 in
     let to = device_from actuator output third.1 in
-    let last : flow_named links output.name < length links = ltb-true (flow_named links output.name) (length links) out in
+    let last : flow_named d.links output.name < length d.links = ltb-true (flow_named d.links output.name) (length d.links) out in
     record {
-      linked = linked;
+      defined = defined;
       few = few;
-      out = subst (λ (name : List ℕ). flow_named links name < length links) to.1 last;
+      out = subst (λ (name : List ℕ). flow_named d.links name < length d.links) to.1 last;
       apart = λ same. apart_from input output locals first.1 (from.1 ∙ same ∙ sym to.1);
       wcet_in = from.0;
       wcet_out = to.0;

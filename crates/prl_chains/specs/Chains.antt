@@ -5,6 +5,7 @@ use Rattle.std.specs.Str.{bytes_eq}
 use Rattle.prl_base.specs.declared.values.Ty.{Ty}
 use Rattle.prl_base.specs.declared.values.Ty.TheVariants as types
 use Rattle.prl_ast.specs.declared.declarations.Device.{Device}
+use Rattle.prl_ast.specs.declared.declarations.Import.{Import}
 use Rattle.prl_ast.specs.declared.declarations.Param.{Param}
 use Rattle.prl_ast.specs.declared.declarations.Rate.{Rate}
 use Rattle.prl_ast.specs.Trees.{NodeTree, ProgramTree}
@@ -14,7 +15,8 @@ use Rattle.prl_chains.specs.declared.chains.Chain.{Chain}
 use Rattle.prl_chains.specs.declared.links.Link.{Link}
 use Rattle.prl_chains.specs.Options.{◌>>=◌, the_one}
 use Rattle.prl_chains.specs.Rights.{is_factor}
-use Rattle.prl_chains.specs.Links.{link_clock, flow_named, is_linked, has_param, links_from}
+use Rattle.prl_chains.specs.Links.{link_clock, flow_named, is_linked, has_param}
+use Rattle.prl_chains.specs.Equations.{Definitions, with_equations}
 
 -- a variable with no note
 abbrev pub is_bare : Param → Bool
@@ -53,9 +55,10 @@ are_variables sensor actuator input output locals =
 abbrev pub input_link : Param → ℕ → Link
 input_link input period = record { name = input.name; at = input.at; def = definitions.Sensor 0; period = period }
 
--- the flow of the input, and those of the equations in order, of which there are at most 64
-abbrev pub links_of : NodeTree → Param → ℕ → Option (List Link)
-links_of n input period = if nat_le (length n.eqs) 64 then links_from n (input_link input period ∷ []) n.eqs else None
+-- the flow of the input, and what the equations define in order, of which there are at most 64
+abbrev pub defined_of : List Import → NodeTree → Param → ℕ → Option Definitions
+defined_of imports n input period =
+    if nat_le (length n.eqs) 64 then with_equations imports n (record { links = input_link input period ∷ []; apps = [] }) n.eqs else None
 
 -- the variables have flows
 abbrev pub have_flows : List Link → List Param → Bool
@@ -64,18 +67,18 @@ have_flows links params = list_all (λ (p : Param). is_linked links p.name) para
 abbrev pub link_flow : Link → Flow
 link_flow l = record { label = l.name; ty = types.Int; def = l.def; at = l.at }
 
--- the flat program of these flows, the first of which is the input's
-abbrev pub flat_chain : Device → Device → List Link → Chain
-flat_chain sensor actuator links = record {
+-- the flat program of these flows, the first of which is the input's, and applications
+abbrev pub flat_chain : Device → Device → Definitions → Chain
+flat_chain sensor actuator d = record {
   flat = record {
-    flows = map link_flow links;
-    apps = [];
+    flows = map link_flow d.links;
+    apps = d.apps;
     ins = record { 0 = 0 } ∷ [];
-    outs = record { 0 = flow_named links actuator.name } ∷ [];
+    outs = record { 0 = flow_named d.links actuator.name } ∷ [];
     in_devices = (sensor.name, sensor.wcet) ∷ [];
     out_devices = (actuator.name, actuator.wcet) ∷ [];
   };
-  clocks = record { of = map link_clock links };
+  clocks = record { of = map link_clock d.links };
 }
 
 -- the one input of a node with its period, and the one output
@@ -86,24 +89,24 @@ ends_of n = do
   output ← the_one n.outs
   Some (input, period, output)
 
--- the flows of a node between these devices
-unfoldable pub node_links : Device → Device → NodeTree → Option (List Link)
-node_links sensor actuator n = do
+-- what a node between these devices defines, where these are the imports
+unfoldable pub node_defined : List Import → Device → Device → NodeTree → Option Definitions
+node_defined imports sensor actuator n = do
   ends ← ends_of n
-  links ← if are_variables sensor actuator ends.0 ends.2 n.locals then links_of n ends.0 ends.1 else None
-  if have_flows links (ends.2 ∷ n.locals) then Some links else None
+  d ← if are_variables sensor actuator ends.0 ends.2 n.locals then defined_of imports n ends.0 ends.1 else None
+  if have_flows d.links (ends.2 ∷ n.locals) then Some d else None
 
--- the one sensor, the one actuator and the one node of a program with no import
+-- the one sensor, the one actuator and the one node of a program
 unfoldable pub parts_of : ProgramTree → Option (Device × Device × NodeTree)
 parts_of p = do
   sensor ← the_one p.sensors
   actuator ← the_one p.actuators
   node ← the_one p.nodes
-  if length p.imports == 0 then Some (sensor, actuator, node) else None
+  Some (sensor, actuator, node)
 
--- the chain of a program, if it is of the form
+-- the chain of a program, if it is of the form; imports that are not applied may be of any form
 unfoldable pub chain_of : ProgramTree → Option Chain
 chain_of p = do
   parts ← parts_of p
-  links ← node_links parts.0 parts.1 parts.2
-  Some (flat_chain parts.0 parts.1 links)
+  d ← node_defined p.imports parts.0 parts.1 parts.2
+  Some (flat_chain parts.0 parts.1 d)

@@ -1,19 +1,22 @@
 -- What is known of a chain.
-use Rattle.std.specs.Prelude.{◌≡◌, ◌≢◌, ◌<◌, ◌≤◌, ℕ, List, [], ◌∷◌, length, Some, slice_get}
+use Rattle.std.specs.Prelude.{◌≡◌, ◌≢◌, ◌<◌, ◌^◌, ℕ, List, [], ◌∷◌, length, Some, slice_get}
 use Rattle.prl_ast.specs.declared.declarations.Device.{Device}
+use Rattle.prl_ast.specs.declared.declarations.Import.{Import}
 use Rattle.prl_base.specs.declared.values.Ty.TheVariants as types
+use Rattle.prl_flow.specs.declared.programs.App.{App}
 use Rattle.prl_flow.specs.declared.programs.Flow.{Flow}
 use Rattle.prl_flow.specs.Programs.{IsFlat, IsFactor, wcet_of}
 use Rattle.prl_flow.specs.Solutions.{AreClocks, IsOrdered, clock_of}
 use Rattle.prl_chains.specs.declared.chains.Chain.{Chain}
-use Rattle.prl_chains.specs.declared.links.Link.{Link}
-use Rattle.prl_chains.specs.Links.{AreLinks, flow_named}
+use Rattle.prl_chains.specs.Applications.{IsOfImport}
+use Rattle.prl_chains.specs.Equations.{Definitions, AreDefined}
+use Rattle.prl_chains.specs.Links.{flow_named}
 
--- flows that stand between these devices, one of which is the actuator's
-pub record AreBetween (sensor actuator : Device) (links : List Link) : Type 0 where
-  pub linked : AreLinks links
-  pub few : length links ≤ 65
-  pub out : flow_named links actuator.name < length links
+-- definitions between these devices, one flow of which is the actuator's, where these are the imports
+pub record AreBetween (imports : List Import) (sensor actuator : Device) (d : Definitions) : Type 0 where
+  pub defined : AreDefined imports d
+  pub few : length d.links < 2 ^ 32
+  pub out : flow_named d.links actuator.name < length d.links
   pub apart : sensor.name ≢ actuator.name
   pub wcet_in : IsFactor sensor.wcet
   pub wcet_out : IsFactor actuator.wcet
@@ -24,7 +27,6 @@ pub record IsChain (c : Chain) : Type 0 where
   pub flat : IsFlat c.flat
   pub clocks : AreClocks c.flat c.clocks.of
   pub ordered : IsOrdered c.flat
-  pub no_application : c.flat.apps ≡ []
   pub ins : c.flat.ins ≡ record { 0 = 0 } ∷ []
   pub outs : length c.flat.outs ≡ 1
   pub types_are : (i : ℕ) (flow : Flow) → slice_get c.flat.flows i ≡ Some flow → flow.ty ≡ types.Int
@@ -33,4 +35,7 @@ pub record IsChain (c : Chain) : Type 0 where
   pub wcet_in : IsFactor (wcet_of c.flat.in_devices 0)
   pub wcet_out : IsFactor (wcet_of c.flat.out_devices 0)
   pub some : 0 < length c.clocks.of
-  pub few : length c.flat.flows ≤ 65
+
+-- each application of a chain is of an import of these
+abbrev pub AppliesImports : List Import → Chain → Type 0
+AppliesImports imports c = (k : ℕ) (app : App) → slice_get c.flat.apps k ≡ Some app → IsOfImport imports app

@@ -1,4 +1,4 @@
--- The flows that the equations of a node define, one behind the other.
+-- The flow that an equation over one earlier flow defines.
 use Rattle.std.specs.Prelude.{◌≡◌, ◌&&◌, ◌||◌, ◌<◌, ◌++◌, ℕ, Bool, not, List, [], ◌∷◌, length, map, Option, Some, None, nat_lt, slice_get, if◌then◌else◌}
 use Rattle.std.specs.List.{position_or_len, list_any}
 use Rattle.std.specs.Str.{bytes_eq}
@@ -7,6 +7,8 @@ use Rattle.prl_base.specs.declared.values.Ty.TheVariants as types
 use Rattle.prl_ast.specs.declared.declarations.Param.{Param}
 use Rattle.prl_ast.specs.declared.declarations.Placed.{Placed}
 use Rattle.prl_ast.specs.Trees.{NodeTree, EquationTree}
+use Rattle.prl_flow.specs.declared.programs.App.{App}
+use Rattle.prl_flow.specs.declared.programs.Arg.{Arg}
 use Rattle.prl_flow.specs.declared.programs.Def.{Def}
 use Rattle.prl_flow.specs.declared.programs.Def.TheVariants as definitions
 use Rattle.prl_flow.specs.Flows.{IsResultClock}
@@ -48,33 +50,28 @@ link_of n links e = do
   period ← period_of right.0 used.period
   if may_define n links left.name then Some (made_link left (def_of right.0 (record { 0 = flow_named links right.1 })) period) else None
 
--- the flows of equations, behind these
-abbrev pub links_from : NodeTree → List Link → List EquationTree → Option (List Link)
-links_from n links [] = Some links
-links_from n links (e ∷ es) = do
-  link ← link_of n links e
-  links_from n (links ++ link ∷ []) es
+-- the flow `i` is this output of the application of number `k`, whose arguments are flows before it
+pub record IsOutputOf (apps : List App) (i k out : ℕ) : Type 0 where
+  pub app : App
+  pub applied : slice_get apps k ≡ Some app
+  pub place : slice_get app.outs out ≡ Some (record { 0 = i })
+  pub below : (j : ℕ) (arg : Arg) → slice_get app.args j ≡ Some arg → arg.flow.0 < i
 
--- what is known of the definition of the flow `i` on the clock `c`: it uses a flow before it, and its clock is made
--- of the clock of that
-abbrev pub IsLinked : List Clock → ℕ → Clock → Def → Type 0
-IsLinked clocks i c (definitions.Sensor k) = (i ≡ 0) × (k ≡ 0)
-IsLinked clocks i c (definitions.Copy of) = (of.0 < i) × (c ≡ clock_of clocks of.0)
-IsLinked clocks i c (definitions.Const v) = ⊥
-IsLinked clocks i c (definitions.Apply app out) = ⊥
-IsLinked clocks i c (definitions.Op op of) =
+-- what is known of the definition of the flow `i` on the clock `c`, among these applications: it uses flows before it,
+-- and the clock of an operator's result is made of the clock of the other flow
+abbrev pub IsLinked : List App → List Clock → ℕ → Clock → Def → Type 0
+IsLinked apps clocks i c (definitions.Sensor k) = (i ≡ 0) × (k ≡ 0)
+IsLinked apps clocks i c (definitions.Copy of) = (of.0 < i) × (c ≡ clock_of clocks of.0)
+IsLinked apps clocks i c (definitions.Const v) = ⊥
+IsLinked apps clocks i c (definitions.Apply app out) = IsOutputOf apps i app out
+IsLinked apps clocks i c (definitions.Op op of) =
     (of.0 < i) × FitsType types.Int op × IsResultClock op (clock_of clocks of.0) c
 
 -- each of these flows has a period of 1 to 2^31 - 1
 abbrev pub HavePeriods : List Link → Type 0
 HavePeriods links = (i : ℕ) (l : Link) → slice_get links i ≡ Some l → IsFactor l.period
 
--- the flow of number `i` among these
-pub record IsLink (links : List Link) (i : ℕ) (l : Link) : Type 0 where
+-- the flow of number `i` among these flows and applications
+pub record IsLink (apps : List App) (links : List Link) (i : ℕ) (l : Link) : Type 0 where
   pub period : IsFactor l.period
-  pub linked : IsLinked (map link_clock links) i (link_clock l) l.def
-
--- flows that stand one behind the other
-pub record AreLinks (links : List Link) : Type 0 where
-  pub some : 0 < length links
-  pub each : (i : ℕ) (l : Link) → slice_get links i ≡ Some l → IsLink links i l
+  pub linked : IsLinked apps (map link_clock links) i (link_clock l) l.def

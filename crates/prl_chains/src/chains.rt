@@ -1,29 +1,29 @@
 //! Chains: which programs are of the form, and their flat programs.
 
-ghost use Rattle.std.specs.Prelude.{◌≡◌, ◌<◌, ◌≤◌, [], ◌∷◌, map, IfOk, IfSome};
+ghost use Rattle.std.specs.Prelude.{◌≡◌, ◌<◌, ◌≤◌, [], ◌∷◌, List, map, IfOk, IfSome};
 ghost use Rattle.std.specs.List.{list_all};
 ghost use Rattle.std.specs.Option.{option_map};
 ghost use Rattle.std.specs.Vec.{vec_items};
+ghost use Rattle.prl_ast.specs.declared.declarations.Import.{Import as AnyImport};
 ghost use Rattle.prl_ast.specs.Trees.{node_tree, program_tree};
 ghost use Rattle.prl_flow.specs.Programs.{IsFactor};
 ghost use Rattle.prl_flow.specs.Solutions.{clock_of};
-ghost use Rattle.prl_chains.specs.Chains.{is_bare, whole_period, noted_period, input_period, are_apart, is_device_of, are_variables, flat_chain, ends_of, node_links, parts_of, chain_of};
+ghost use Rattle.prl_chains.specs.Chains.{is_bare, whole_period, noted_period, input_period, are_apart, is_device_of, are_variables, flat_chain, ends_of, node_defined, parts_of, chain_of};
 ghost use Rattle.prl_chains.specs.Options.{the_one};
-ghost use Rattle.prl_chains.specs.Facts.{AreBetween, IsChain};
-ghost use Rattle.prl_chains.specs.Relays.{is_copy, are_copies, is_relay};
+ghost use Rattle.prl_chains.specs.Facts.{AreBetween, AppliesImports, IsChain};
+ghost use Rattle.prl_chains.specs.Relays.{has_no_application, is_copy, are_copies, is_relay};
 
-use crate::links::{
-    Link, are_few, flow_named, has_param, have_flows, is_linked, link_clocks, link_flows, links_of,
-};
+use crate::equations::{Defined, are_few, defined_of};
+use crate::links::{flow_named, has_param, have_flows, is_linked, link_clocks, link_flows};
 use crate::options::the_one;
 use crate::rights::is_factor;
-use prl_ast::{Device, Node, Param, Program, Rate};
+use prl_ast::{Device, Import, Node, Param, Program, Rate};
 use prl_base::{Clock, FlowNo, Name, Seq, Ty};
-use prl_flow::{App, Clocks, Def, Flat, Flow};
+use prl_flow::{Clocks, Def, Flat, Flow};
 use std::alloc::{AllocError, Global};
 
-/// The flat program of a chain, with the clocks of its flows. The flow 0 is the input's, and each other one that
-/// of an equation, in order.
+/// The flat program of a chain, with the clocks of its flows. The flow 0 is the input's, and the others are those of the
+/// equations, in order.
 #[derive(Debug, Drop)]
 pub struct Chain {
     pub flat: Flat,
@@ -37,6 +37,13 @@ impl Chain {
         ensures { result ≡ clock_of self.now.clocks.of 0 }
     {
         self.clocks.of.as_slice()[0]
+    }
+
+    /// Whether it applies no import.
+    pub fn has_no_application(&self) -> bool
+        ensures { result ≡ has_no_application self.now }
+    {
+        self.flat.apps().is_empty()
     }
 
     /// Whether each flow but the input's is a copy.
@@ -171,16 +178,17 @@ fn ends_of(node: &Node) -> Option<(&Param, u32, &Param)>
     Some((input, period, output))
 }
 
-/// The flows of a node between these devices.
-#[tactic(auto, unfolding(crate::specs::Chains::node_links))]
-fn node_links(
+/// What a node between these devices defines.
+#[tactic(auto, unfolding(crate::specs::Chains::node_defined))]
+fn node_defined(
     alloc: Global,
+    imports: &[Import],
     sensor: &Device,
     actuator: &Device,
     node: &Node,
-) -> Result<Option<Vec<Link>>, AllocError>
-    ensures exact { IfOk result (λ links. option_map vec_items links ≡ node_links sensor.now actuator.now (node_tree node.now)) }
-    ensures between { IfOk result (λ links. IfSome links (λ l. AreBetween sensor.now actuator.now (vec_items l))) }
+) -> Result<Option<Defined>, AllocError>
+    ensures exact { IfOk result (λ defined. defined ≡ node_defined imports.now sensor.now actuator.now (node_tree node.now)) }
+    ensures between { IfOk result (λ defined. IfSome defined (AreBetween imports.now sensor.now actuator.now)) }
 {
     let locals = node.locals.as_slice();
     let (input, period, output) = match ends_of(node) {
@@ -194,11 +202,11 @@ fn node_links(
     if !are_variables(sensor, actuator, input, output, locals) {
         return Ok(None);
     }
-    match links_of(alloc, node, input, period)? {
+    match defined_of(alloc, imports, node, input, period)? {
         None => Ok(None),
-        Some(links) => {
-            if is_linked(&links, &output.name) && have_flows(&links, locals) {
-                Ok(Some(links))
+        Some(defined) => {
+            if is_linked(&defined.links, &output.name) && have_flows(&defined.links, locals) {
+                Ok(Some(defined))
             } else {
                 Ok(None)
             }
@@ -217,7 +225,7 @@ fn one_node(nodes: &[Node]) -> Option<&Node>
     }
 }
 
-/// The one sensor, the one actuator and the one node, where there is no import.
+/// The one sensor, the one actuator and the one node.
 #[tactic(auto, unfolding(crate::specs::Chains::parts_of))]
 fn parts_of(program: &Program) -> Option<(&Device, &Device, &Node)>
     ensures { option_map (λ p. (p.0.now, p.1.now, node_tree p.2.now)) result ≡ parts_of (program_tree program.now) }
@@ -225,11 +233,7 @@ fn parts_of(program: &Program) -> Option<(&Device, &Device, &Node)>
     let sensor = the_one(program.sensors.as_slice())?;
     let actuator = the_one(program.actuators.as_slice())?;
     let node = one_node(program.nodes.as_slice())?;
-    if program.imports.is_empty() {
-        Some((sensor, actuator, node))
-    } else {
-        None
-    }
+    Some((sensor, actuator, node))
 }
 
 fn one<T: Drop>(alloc: Global, item: T) -> Result<Vec<T>, AllocError>
@@ -254,47 +258,40 @@ fn one_device(alloc: Global, device: &Device) -> Result<Vec<(Name, u32)>, AllocE
     one(alloc, (device.name.copy(alloc)?, device.wcet))
 }
 
-/// No application.
-fn no_apps(alloc: Global) -> Seq<App>
-    ensures { result ≡ [] }
-{
-    Seq::new(Vec::new(alloc))
-}
-
-/// The flat program of flows between these devices.
+/// The flat program of definitions between these devices.
 fn flat_of(
     alloc: Global,
     sensor: &Device,
     actuator: &Device,
-    links: &[Link],
+    defined: Defined,
 ) -> Result<Flat, AllocError>
-    requires { AreBetween sensor.now actuator.now links.now }
-    ensures { IfOk result (λ flat. flat ≡ (flat_chain sensor.now actuator.now links.now).flat) }
+    requires { (imports : List AnyImport) × AreBetween imports sensor.now actuator.now defined }
+    ensures { IfOk result (λ flat. flat ≡ (flat_chain sensor.now actuator.now defined).flat) }
 {
-    let flows = Seq::new(link_flows(alloc, links)?);
+    let Defined { links, apps } = defined;
+    let flows = Seq::new(link_flows(alloc, &links)?);
     let ins = one_flow(alloc, FlowNo(0))?;
-    let outs = one_flow(alloc, FlowNo(flow_named(links, &actuator.name) as u32))?;
+    let outs = one_flow(alloc, FlowNo(flow_named(&links, &actuator.name) as u32))?;
     let sensors = one_device(alloc, sensor)?;
     let actuators = one_device(alloc, actuator)?;
-    Ok(Flat::new(flows, no_apps(alloc), ins, outs, sensors, actuators))
+    Ok(Flat::new(flows, Seq::new(apps), ins, outs, sensors, actuators))
 }
 
-/// The chain of flows between these devices.
+/// The chain of definitions between these devices.
 fn flat_chain(
     alloc: Global,
     sensor: &Device,
     actuator: &Device,
-    links: &[Link],
+    defined: Defined,
 ) -> Result<Chain, AllocError>
-    requires { AreBetween sensor.now actuator.now links.now }
-    ensures exact { IfOk result (λ chain. chain ≡ flat_chain sensor.now actuator.now links.now) }
+    requires { (imports : List AnyImport) × AreBetween imports sensor.now actuator.now defined }
+    ensures exact { IfOk result (λ chain. chain ≡ flat_chain sensor.now actuator.now defined) }
     ensures sound { IfOk result IsChain }
 {
+    let clocks = Seq::new(link_clocks(alloc, &defined.links)?);
     Ok(Chain {
-        flat: flat_of(alloc, sensor, actuator, links)?,
-        clocks: Clocks {
-            of: Seq::new(link_clocks(alloc, links)?),
-        },
+        flat: flat_of(alloc, sensor, actuator, defined)?,
+        clocks: Clocks { of: clocks },
     })
 }
 
@@ -303,13 +300,14 @@ fn flat_chain(
 pub fn chain_of(alloc: Global, program: &Program) -> Result<Option<Chain>, AllocError>
     ensures exact { IfOk result (λ chain. chain ≡ chain_of (program_tree program.now)) }
     ensures sound { IfOk result (λ chain. IfSome chain IsChain) }
+    ensures imports { IfOk result (λ chain. IfSome chain (AppliesImports program.now.imports)) }
 {
     let (sensor, actuator, node) = match parts_of(program) {
         None => return Ok(None),
         Some(parts) => parts,
     };
-    match node_links(alloc, sensor, actuator, node)? {
+    match node_defined(alloc, program.imports.as_slice(), sensor, actuator, node)? {
         None => Ok(None),
-        Some(links) => Ok(Some(flat_chain(alloc, sensor, actuator, &links)?)),
+        Some(defined) => Ok(Some(flat_chain(alloc, sensor, actuator, defined)?)),
     }
 }

@@ -1,12 +1,11 @@
-//! The flows that the equations of a node define, one behind the other.
+//! The flow that an equation over one earlier flow defines.
 
-ghost use Rattle.std.specs.Prelude.{◌≡◌, ◌<◌, ◌≤◌, ◌^◌, [], ◌∷◌, length, map, nat_le, IfOk, IfSome};
+ghost use Rattle.std.specs.Prelude.{◌≡◌, ◌<◌, ◌≤◌, ◌^◌, [], length, map, IfOk, IfSome};
 ghost use Rattle.std.specs.Option.{option_map};
-ghost use Rattle.std.specs.Vec.{vec_items, vec_len};
+ghost use Rattle.std.specs.Vec.{vec_items};
 ghost use Rattle.prl_ast.specs.Trees.{node_tree, equation_tree};
-ghost use Rattle.prl_flow.specs.Programs.{IsFactor};
-ghost use Rattle.prl_chains.specs.Links.{flow_named, is_linked, has_param, may_define, made_link, link_of, links_from, link_clock, HavePeriods, IsLink, AreLinks};
-ghost use Rattle.prl_chains.specs.Chains.{link_flow, links_of, input_link, have_flows};
+ghost use Rattle.prl_chains.specs.Links.{flow_named, is_linked, has_param, may_define, made_link, link_of, link_clock, HavePeriods, IsLink};
+ghost use Rattle.prl_chains.specs.Chains.{link_flow, input_link, have_flows};
 
 use crate::options::the_one;
 use crate::rights::{def_of, period_of, right_of};
@@ -14,9 +13,6 @@ use prl_ast::{Equation, Node, Param, Placed};
 use prl_base::{Clock, FlowNo, Label, Name, Span, Ty};
 use prl_flow::{Def, Flow};
 use std::alloc::{AllocError, Global};
-
-/// The most equations of a chain.
-const MAX_EQUATIONS: usize = 64;
 
 /// A flow, with its name and its period in ticks. It starts at 0.
 #[derive(Debug, Drop)]
@@ -61,7 +57,7 @@ pub fn has_param(params: &[Param], name: &Name) -> bool
 }
 
 /// Whether the name is an output or a local, and has no flow yet.
-fn may_define(node: &Node, links: &[Link], name: &Name) -> bool
+pub fn may_define(node: &Node, links: &[Link], name: &Name) -> bool
     ensures { result ≡ may_define (node_tree node.now) links.now name.now }
 {
     (has_param(node.outs.as_slice(), name) || has_param(node.locals.as_slice(), name))
@@ -78,7 +74,7 @@ fn definition_of<'a>(
     requires few { length links.now < 2 ^ 32 }
     requires periods { HavePeriods links.now }
     ensures exact { option_map (λ d. made_link d.0.now d.1 d.2) result ≡ link_of (node_tree node.now) links.now (equation_tree equation.now) }
-    ensures link { IfSome result (λ d. IsLink links.now (length links.now) (made_link d.0.now d.1 d.2)) }
+    ensures link { IfSome result (λ d. IsLink [] links.now (length links.now) (made_link d.0.now d.1 d.2)) }
 {
     let left = the_one(equation.lefts.as_slice())?;
     let (right, name) = right_of(&equation.right)?;
@@ -93,7 +89,7 @@ fn definition_of<'a>(
 }
 
 /// The flow of an equation, behind these.
-fn link_of(
+pub fn link_of(
     alloc: Global,
     node: &Node,
     links: &[Link],
@@ -102,7 +98,7 @@ fn link_of(
     requires few { length links.now < 2 ^ 32 }
     requires periods { HavePeriods links.now }
     ensures exact { IfOk result (λ link. link ≡ link_of (node_tree node.now) links.now (equation_tree equation.now)) }
-    ensures link { IfOk result (λ link. IfSome link (IsLink links.now (length links.now))) }
+    ensures link { IfOk result (λ link. IfSome link (IsLink [] links.now (length links.now))) }
 {
     match definition_of(node, links, equation) {
         None => Ok(None),
@@ -115,7 +111,8 @@ fn link_of(
     }
 }
 
-fn input_link(alloc: Global, input: &Param, period: u32) -> Result<Link, AllocError>
+/// The flow of the input.
+pub fn input_link(alloc: Global, input: &Param, period: u32) -> Result<Link, AllocError>
     ensures { IfOk result (λ link. link ≡ input_link input.now period) }
 {
     Ok(Link {
@@ -124,57 +121,6 @@ fn input_link(alloc: Global, input: &Param, period: u32) -> Result<Link, AllocEr
         def: Def::Sensor(0),
         period,
     })
-}
-
-/// The flows of equations, behind that of the input.
-fn links_from(
-    alloc: Global,
-    node: &Node,
-    input: &Param,
-    period: u32,
-) -> Result<Option<Vec<Link>>, AllocError>
-    requires period { IsFactor period }
-    requires few { length node.now.eqs ≤ 64 }
-    ensures exact { IfOk result (λ links. option_map vec_items links
-        ≡ links_from (node_tree node.now) (input_link input.now period ∷ []) (map equation_tree node.now.eqs)) }
-    ensures links { IfOk result (λ links. IfSome links (λ l. AreLinks (vec_items l))) }
-    ensures few { IfOk result (λ links. IfSome links (λ l. vec_len l ≤ 65)) }
-{
-    let equations = node.eqs.as_slice();
-    let mut links = Vec::with_capacity(alloc, equations.len() + 1)?;
-    links.push(input_link(alloc, input, period)?)?;
-    for equation in equations {
-        match link_of(alloc, node, &links, equation)? {
-            None => return Ok(None),
-            Some(link) => links.push(link)?,
-        }
-    }
-    Ok(Some(links))
-}
-
-/// Whether the node has at most 64 equations.
-pub fn are_few(node: &Node) -> bool
-    ensures { result ≡ nat_le (length (node_tree node.now).eqs) 64 }
-{
-    node.eqs.len() <= MAX_EQUATIONS
-}
-
-/// The flow of the input, and those of the equations in order; none where they are more than 64.
-pub fn links_of(
-    alloc: Global,
-    node: &Node,
-    input: &Param,
-    period: u32,
-) -> Result<Option<Vec<Link>>, AllocError>
-    requires period { IsFactor period }
-    ensures exact { IfOk result (λ links. option_map vec_items links ≡ links_of (node_tree node.now) input.now period) }
-    ensures links { IfOk result (λ links. IfSome links (λ l. AreLinks (vec_items l))) }
-    ensures few { IfOk result (λ links. IfSome links (λ l. vec_len l ≤ 65)) }
-{
-    if !are_few(node) {
-        return Ok(None);
-    }
-    links_from(alloc, node, input, period)
 }
 
 /// Whether each of the variables has a flow.

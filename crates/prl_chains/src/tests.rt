@@ -1,8 +1,13 @@
-ghost use Rattle.std.specs.Prelude.{◌<◌, ◌^◌, length};
+ghost use Rattle.std.specs.Prelude.{◌≡◌, ◌<◌, ◌^◌, ℕ, Some, length, slice_get, IfOk};
+ghost use Rattle.prl_base.specs.Values.{type_of};
+ghost use Rattle.prl_base.specs.declared.values.Ty.TheVariants as types;
+ghost use Rattle.prl_base.specs.declared.values.Value.{Value as AnyValue};
 
 use super::*;
-use prl_base::{Clock, FlowNo, Op, Value};
-use prl_flow::Def;
+use prl_base::{Clock, FlowNo, Op, Seq, Value};
+use prl_body::check_bodies;
+use prl_bodytext::parse_bodies;
+use prl_flow::{Def, Sensors, dates_before, evaluate};
 use prl_syntax::parse;
 use std::alloc::Global;
 use std::test::*;
@@ -100,7 +105,7 @@ fn relay(rt: HostRuntime) -> Result<(), Fail> {
 
 #[test]
 fn programs_of_other_forms(rt: HostRuntime) -> Result<(), Fail> {
-    let texts: [&[u8]; 9] = [
+    let texts: [&[u8]; 14] = [
         b"sensor i wcet 1; actuator o wcet 1; node n (i: int rate (4, 1)) returns (o) let o = i; tel",
         b"sensor i wcet 1; actuator o wcet 1; node n (i: int rate (4, 0) due 3) returns (o) let o = i; tel",
         b"sensor i wcet 1; actuator o wcet 1; node n (i: bool rate (4, 0)) returns (o) let o = i; tel",
@@ -110,10 +115,82 @@ fn programs_of_other_forms(rt: HostRuntime) -> Result<(), Fail> {
         b"sensor i wcet 1; actuator o wcet 1; node n (i: int rate (4, 0)) returns (o) var x; let o = x; x = i; tel",
         b"sensor i wcet 1; actuator o wcet 1; node n (i: int rate (4, 0)) returns (o) let o = 1; tel",
         b"sensor i wcet 1; actuator o wcet 1; node n (i: int rate (4, 0)) returns (o) var x; let o = i; tel",
+        // Arguments of two clocks, a port of type bool, one argument for two inputs, a node that is no import, two outputs of one name.
+        b"imported node F(a, b: int) returns (y: int) wcet 1; sensor i wcet 1; actuator o wcet 1; node n (i: int rate (4, 0)) returns (o) var x; let x = i *^ 2; o = F(i, x); tel",
+        b"imported node F(a: int) returns (y: int; z: bool) wcet 1; sensor i wcet 1; actuator o wcet 1; node n (i: int rate (4, 0)) returns (o) var x; let (o, x) = F(i); tel",
+        b"imported node F(a, b: int) returns (y: int) wcet 1; sensor i wcet 1; actuator o wcet 1; node n (i: int rate (4, 0)) returns (o) let o = F(i); tel",
+        b"imported node F(a: int) returns (y: int) wcet 1; sensor i wcet 1; actuator o wcet 1; node n (i: int rate (4, 0)) returns (o) let o = n(i); tel",
+        b"imported node F(a: int) returns (y, z: int) wcet 1; sensor i wcet 1; actuator o wcet 1; node n (i: int rate (4, 0)) returns (o) let (o, o) = F(i); tel",
     ];
     for text in texts {
         assert!(rt; text.len() < 200);
         assert!(rt; chain(rt.alloc(), text)?.is_none());
     }
+    Ok(())
+}
+
+const SUM: &[u8] = b"imported node G(x: int) returns (y: int) wcet 1;
+imported node H(x: bool) returns (y: bool) wcet 1;
+sensor i wcet 1;
+actuator o wcet 1;
+node main (i: int rate (10, 0)) returns (o)
+let
+  o = G(i);
+tel
+";
+
+const DIFFERENCE: &[u8] = b"imported node F(a, b: int) returns (s, d: int) wcet 1;
+sensor i wcet 1;
+actuator o wcet 1;
+node main (i: int rate (10, 0)) returns (o)
+  var s, late;
+let
+  late = 10 fby i;
+  (s, o) = F(i, late);
+tel
+";
+
+fn ints(alloc: Global, values: &[i32]) -> Result<Vec<Value>, Fail>
+    ensures number { IfOk result (λ v. length v.items ≡ length values.now) }
+    ensures types { IfOk result (λ v. (n : ℕ) (x : AnyValue) → slice_get v.items n ≡ Some x → type_of x ≡ types.Int) }
+{
+    let mut ints = Vec::with_capacity(alloc, values.len())?;
+    for value in values {
+        ints.push(Value::Int(*value))?;
+    }
+    Ok(ints)
+}
+
+/// The values of the actuator of a program with these bodies on these rows.
+fn outputs(alloc: Global, text: &[u8], bodies: &[u8], rows: &[i32]) -> Result<Vec<Value>, Fail>
+    requires text { length text.now < 2 ^ 32 }
+    requires bodies { length bodies.now < 2 ^ 32 }
+{
+    let program = parse(alloc, text)?;
+    let chain = chain_of(alloc, &program)?.ok_or("not of the form")?;
+    let imports = program.imports.as_slice();
+    let used = used_imports(alloc, imports, &chain)?;
+    let texts = parse_bodies(alloc, bodies)?;
+    let bodies = check_bodies(alloc, &texts, imports, &used)?;
+    one_sensor_suffices();
+    numbers_are_rows();
+    applied_imports_have_bodies();
+    if (rows.len() as u64) < dates_before(60, chain.input_clock()) {
+        return Err(Fail::from("short"));
+    }
+    let sensors = Sensors::new(vec![in alloc; Seq::new(ints(alloc, rows)?)]?);
+    let table = evaluate(alloc, &chain.flat, &chain.clocks, &bodies, &sensors, 60)?;
+    Ok(table.values(chain.flat.outs()[0]).to_vec(alloc)?)
+}
+
+#[test]
+fn applications(rt: HostRuntime) -> Result<(), Fail> {
+    let alloc = rt.alloc();
+    let rows: [i32; 6] = [1, 2, 3, 4, 5, 6];
+    let sums = outputs(alloc, SUM, b"body G { reg a = 0; y = a + x; a = a + x; }", &rows)?;
+    assert_eq!(rt; sums, ints(alloc, &[1, 3, 6, 10, 15, 21])?);
+    // 1 - 10, and then each input less the one before.
+    let differences = outputs(alloc, DIFFERENCE, b"body F { d = a - b; s = a + b; }", &rows)?;
+    assert_eq!(rt; differences, ints(alloc, &[-9, 1, 1, 1, 1, 1])?);
     Ok(())
 }

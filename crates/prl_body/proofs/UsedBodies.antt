@@ -1,0 +1,148 @@
+-- The bodies of used imports are there, with the imports' ports.
+use Rattle.std.proofs.Common.{◌≡◌, ℕ, zero, suc, Bool, true, false, List, [], ◌∷◌, ◌++◌, map, slice_get, Option, Some, None, Result, Ok, Err, refl, sym, ap, ◌∙◌, subst}
+use Rattle.std.specs.Prelude.{if◌then◌else◌}
+use Rattle.std.specs.Str.{bytes_eq}
+use Rattle.std.proofs.lemmas.Slice.Eq.{bytes_eq-Decides}
+use Rattle.prl_base.specs.Reading.{◌>>=◌}
+use Rattle.prl_ast.specs.declared.declarations.Import.{Import}
+use Rattle.prl_body.specs.declared.bodies.Parts.{Parts}
+use Rattle.prl_body.specs.declared.faults.BodyFault.{BodyFault}
+use Rattle.prl_body.specs.declared.faults.BodyFault.TheVariants as faults
+use Rattle.prl_body.specs.Bodies.{body_named}
+use Rattle.prl_body.specs.Checks.{RegisterTree, BodyTree, body_tree, typed_statements, output_values, resolved_registers, without_fault, checked_body, checked_one, checked_bodies, has_text, has_body, all_there, checked, import_named}
+use Rattle.prl_body.specs.Expressions.{Expression}
+use Rattle.prl_body.specs.NameChecks.{name_fault}
+use Rattle.prl_body.specs.Texts.{TextTree}
+use Rattle.prl_body.specs.Used.{HaveBodiesOf}
+use Rattle.prl_body.proofs.Inversion.{both_ok, passed_ok}
+
+-- the tree of a checked body has the ports of the import of its name
+record IsTreeOf (imports : List Import) (t : BodyTree) : Type 0 where
+  of : Import
+  declared : import_named imports t.name ≡ Some of
+  ins : t.ins ≡ of.ins
+  outs : t.outs ≡ of.outs
+
+abbrev AreTreesOf : List Import → List BodyTree → Type 0
+AreTreesOf imports ts = (k : ℕ) (t : BodyTree) → slice_get ts k ≡ Some t → IsTreeOf imports t
+
+none_of : (imports : List Import) → AreTreesOf imports []
+none_of imports k t found = absurd (cc)
+
+one_more : (imports : List Import) (t : BodyTree) (ts : List BodyTree) → IsTreeOf imports t → AreTreesOf imports ts → AreTreesOf imports (t ∷ ts)
+one_more imports t ts h hs zero x found =
+    let same : t ≡ x = cc in
+    subst (IsTreeOf imports) same h
+one_more imports t ts h hs (suc k) x found = hs k x found
+
+record HasPorts (of : Import) (name : List ℕ) (t : BodyTree) : Type 0 where
+  name_is : t.name ≡ name
+  ins : t.ins ≡ of.ins
+  outs : t.outs ≡ of.outs
+
+checked_ports : (of : Import) (body : TextTree) (t : BodyTree) → checked_body of body ≡ Ok t → HasPorts of body.name t
+checked_ports of body t is =
+    let ins = of.ins in
+    let finish : List Expression → List RegisterTree → BodyTree = λ values registers. record { name = body.name; ins = ins; outs = of.outs; registers = registers; values = values } in
+    let from_values : List Expression → Result BodyTree BodyFault = λ values. (resolved_registers ins body.registers body.statements 0 body.registers >>= λ registers. Ok (finish values registers)) in
+    let from_types : Unit {0} → Result BodyTree BodyFault = λ u. (output_values ins body.registers body.at.at body.statements of.outs >>= from_values) in
+    let from_names : Unit {0} → Result BodyTree BodyFault = λ u. (typed_statements ins of.outs body.registers body.statements >>= from_types) in
+    let names = both_ok (without_fault (name_fault ins of.outs body)) from_names t is in
+    let types = both_ok (typed_statements ins of.outs body.registers body.statements) from_types t names.rest in
+    let values = both_ok (output_values ins body.registers body.at.at body.statements of.outs) from_values t types.rest in
+    let last : List RegisterTree → Result BodyTree BodyFault = λ registers. Ok (finish values.first registers) in
+    let registers = both_ok (resolved_registers ins body.registers body.statements 0 body.registers) last t values.rest in
+    let same : finish values.first registers.first ≡ t = cc (registers.rest) in
+    subst (HasPorts of body.name) same (record { name_is = refl; ins = refl; outs = refl })
+
+refused_ok : {A F : Type 0} (b : Bool) (r : Result A F) (y : A) (e : F) → (if b then Err e else r) ≡ Ok y → r ≡ Ok y
+refused_ok true r y e is = absurd (cc)
+refused_ok false r y e is = is
+
+-- the body of a text, and those behind it
+checked_next : (imports : List Import) (earlier : List TextTree) (b : TextTree) (rest : Result (List BodyTree) BodyFault) (ts : List BodyTree) (o : Option Import) →
+    import_named imports b.name ≡ o → ((xs : List BodyTree) → rest ≡ Ok xs → AreTreesOf imports xs) →
+    checked_one earlier o b (λ x. (rest >>= λ xs. Ok (x ∷ xs))) rest ≡ Ok ts → AreTreesOf imports ts
+checked_next imports earlier b rest ts None declared others is = others ts is
+checked_next imports earlier b rest ts (Some of) declared others is =
+    let found : BodyTree → Result (List BodyTree) BodyFault = λ x. (rest >>= λ xs. Ok (x ∷ xs)) in
+    let passed = refused_ok (has_text earlier b.name) (checked_body of b >>= found) ts (faults.BodyName b.at.at) is in
+    let one = both_ok (checked_body of b) found ts passed in
+    let last : List BodyTree → Result (List BodyTree) BodyFault = λ xs. Ok (one.first ∷ xs) in
+    let two = both_ok rest last ts one.rest in
+    let same : one.first ∷ two.first ≡ ts = cc (two.rest) in
+    let ports = checked_ports of b one.first one.is in
+    let here : IsTreeOf imports one.first = record { of = of; declared = ap (import_named imports) ports.name_is ∙ declared; ins = ports.ins; outs = ports.outs } in
+    subst (AreTreesOf imports) same (one_more imports one.first two.first here (others two.first two.is))
+
+checked_trees : (imports : List Import) (earlier texts : List TextTree) (ts : List BodyTree) → checked_bodies imports earlier texts ≡ Ok ts → AreTreesOf imports ts
+checked_trees imports earlier [] ts is =
+    let same : [] ≡ ts = cc in
+    subst (AreTreesOf imports) same (none_of imports)
+checked_trees imports earlier (b ∷ bs) ts is =
+    checked_next imports earlier b (checked_bodies imports (earlier ++ b ∷ []) bs) ts (import_named imports b.name) refl
+    (checked_trees imports (earlier ++ b ∷ []) bs) is
+
+-- a name that a tree has is that of a body
+record Found (bodies : List Parts) (name : List ℕ) : Type 0 where
+  body : Parts
+  at : ℕ
+  tree : slice_get (map body_tree bodies) at ≡ Some (body_tree body)
+  named : body_named bodies name ≡ Some body
+  name_is : body.name ≡ name
+
+found_first : (b : Parts) (bs : List Parts) (name : List ℕ) (same : Bool) → bytes_eq b.name name ≡ same →
+    (has_body (map body_tree bs) name ≡ true → Found bs name) → has_body (map body_tree (b ∷ bs)) name ≡ true → Found (b ∷ bs) name
+found_first b bs name true is others has = record {
+  body = b;
+  at = 0;
+  tree = refl;
+  named = rw is refl;
+  name_is = (bytes_eq-Decides b.name name).0 is;
+}
+found_first b bs name false is others has =
+    let behind : has_body (map body_tree bs) name ≡ true = rw is at has in
+    let rest = others behind in
+    record {
+      body = rest.body;
+      at = suc rest.at;
+      tree = rest.tree;
+      named = rw is rest.named;
+      name_is = rest.name_is;
+    }
+
+found : (bodies : List Parts) (name : List ℕ) → has_body (map body_tree bodies) name ≡ true → Found bodies name
+found [] name has = absurd (cc)
+found (b ∷ bs) name has = found_first b bs name (bytes_eq b.name name) refl (found bs name) has
+
+each_there : (trees : List BodyTree) (used : List (List ℕ)) (u : Unit {0}) → all_there trees used ≡ Ok u → (k : ℕ) (name : List ℕ) → slice_get used k ≡ Some name →
+    has_body trees name ≡ true
+each_there trees [] u is k name at = absurd (cc)
+each_there trees (n ∷ ns) u is zero name at =
+    let passed = passed_ok (has_body trees n) (all_there trees ns) u (faults.Missing n) is in
+    let same : n ≡ name = cc in
+    subst (λ x. has_body trees x ≡ true) same passed.0
+each_there trees (n ∷ ns) u is (suc k) name at =
+    let passed = passed_ok (has_body trees n) (all_there trees ns) u (faults.Missing n) is in
+    each_there trees ns u passed.1 k name at
+
+pub HaveBodiesOf-checked : (imports : List Import) (used : List (List ℕ)) (texts : List TextTree) (bodies : List Parts) →
+    checked imports used texts ≡ Ok (map body_tree bodies) → HaveBodiesOf imports used bodies
+HaveBodiesOf-checked imports used texts bodies is k name at =
+    let trees = map body_tree bodies in
+    let last : List BodyTree → Unit {0} → Result (List BodyTree) BodyFault = λ ts u. Ok ts in
+    let from_trees : List BodyTree → Result (List BodyTree) BodyFault = λ ts. (all_there ts used >>= last ts) in
+    let one = both_ok (checked_bodies imports [] texts) from_trees trees is in
+    let two = both_ok (all_there one.first used) (last one.first) trees one.rest in
+    let same : one.first ≡ trees = cc (two.rest) in
+    let has = each_there trees used two.first (subst (λ ts. all_there ts used ≡ Ok two.first) same two.is) k name at in
+    let here = found bodies name has in
+    let of_tree = checked_trees imports [] texts trees (subst (λ ts. checked_bodies imports [] texts ≡ Ok ts) same one.is) here.at (body_tree here.body) here.tree in
+    record {
+      body = here.body;
+      of = of_tree.of;
+      named = here.named;
+      declared = ap (import_named imports) (sym here.name_is) ∙ of_tree.declared;
+      ins = of_tree.ins;
+      outs = of_tree.outs;
+    }
