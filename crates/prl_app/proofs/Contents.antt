@@ -23,6 +23,7 @@ IsStop-map rose risen P Q count f (stops.Refused (refusals.Absent part)) h = f (
 IsStop-map rose risen P Q count f (stops.Refused (refusals.TooLong part)) h = f (refusals.TooLong part) h
 IsStop-map rose risen P Q count f (stops.Refused (refusals.Grammar fault)) h = f (refusals.Grammar fault) h
 IsStop-map rose risen P Q count f (stops.Refused (refusals.Types fault)) h = f (refusals.Types fault) h
+IsStop-map rose risen P Q count f (stops.Refused (refusals.Bodies fault)) h = f (refusals.Bodies fault) h
 IsStop-map rose risen P Q count f (stops.Refused (refusals.NotBuilt part)) h = f (refusals.NotBuilt part) h
 IsStop-map rose risen P Q count f (stops.Refused (refusals.Short name have need)) h = f (refusals.Short name have need) h
 IsStop-map rose risen P Q count f (stops.Refused (refusals.Limit limit)) h = f (refusals.Limit limit) h
@@ -33,14 +34,24 @@ IsStop-map rose risen P Q count f (stops.Refused refusals.Memory) h = tt
 pub ComesTo-program : (told : Option Folder) (command : Command) (refusal : Refusal)
     → IsContent told parts.Program command.program 1048576 (Err refusal) → ComesTo told command (Err refusal)
 ComesTo-program told command refusal h =
+    let texts = some_content told parts.Bodies command.bodies 1048576 in
     let rows = some_content told parts.Sensors command.sensors 33554432 in
     let events = some_content told parts.Schedule command.schedule 83886080 in
-    record { program = Err refusal; sensors = rows.0; schedule = events.0; program_file = h; sensors_file = rows.1; schedule_file = events.1; stages = refl }
+    record { program = Err refusal; bodies = texts.0; sensors = rows.0; schedule = events.0; program_file = h; bodies_file = texts.1; sensors_file = rows.1; schedule_file = events.1; stages = refl }
+
+-- a command whose bodies are refused comes to that refusal
+pub ComesTo-bodies : (told : Option Folder) (command : Command) (program : List ℕ) (refusal : Refusal)
+    → IsContent told parts.Program command.program 1048576 (Ok program) → IsContent told parts.Bodies command.bodies 1048576 (Err refusal)
+    → ComesTo told command (Err refusal)
+ComesTo-bodies told command program refusal p h =
+    let rows = some_content told parts.Sensors command.sensors 33554432 in
+    let events = some_content told parts.Schedule command.schedule 83886080 in
+    record { program = Ok program; bodies = Err refusal; sensors = rows.0; schedule = events.0; program_file = p; bodies_file = h; sensors_file = rows.1; schedule_file = events.1; stages = refl }
 
 -- a command whose sensor rows are refused comes to that refusal
-pub ComesTo-sensors : (told : Option Folder) (command : Command) (program : List ℕ) (refusal : Refusal)
-    → IsContent told parts.Program command.program 1048576 (Ok program) → IsContent told parts.Sensors command.sensors 33554432 (Err refusal)
-    → ComesTo told command (Err refusal)
-ComesTo-sensors told command program refusal p h =
+pub ComesTo-sensors : (told : Option Folder) (command : Command) (program bodies : List ℕ) (refusal : Refusal)
+    → IsContent told parts.Program command.program 1048576 (Ok program) → IsContent told parts.Bodies command.bodies 1048576 (Ok bodies)
+    → IsContent told parts.Sensors command.sensors 33554432 (Err refusal) → ComesTo told command (Err refusal)
+ComesTo-sensors told command program bodies refusal p b h =
     let events = some_content told parts.Schedule command.schedule 83886080 in
-    record { program = Ok program; sensors = Err refusal; schedule = events.0; program_file = p; sensors_file = h; schedule_file = events.1; stages = refl }
+    record { program = Ok program; bodies = Ok bodies; sensors = Err refusal; schedule = events.0; program_file = p; bodies_file = b; sensors_file = h; schedule_file = events.1; stages = refl }

@@ -1,5 +1,5 @@
 -- The flows of main's outputs.
-use Rattle.std.proofs.Common.{◌≡◌, ℕ, ◌+◌, ◌<◌, ◌≤◌, suc, List, [], ◌∷◌, length, Some, Ok, refl, sym, ap, ◌∙◌, arith}
+use Rattle.std.proofs.Common.{◌≡◌, ℕ, ◌+◌, ◌<◌, ◌≤◌, suc, List, [], ◌∷◌, length, map, Some, Ok, refl, sym, ap, ◌∙◌, arith}
 use Rattle.std.specs.Prelude.{slice_get}
 use Rattle.std.specs.List.{AllByRecursion}
 use Rattle.std.proofs.lemmas.List.Elements.{All-from_recursion}
@@ -15,14 +15,14 @@ use Rattle.prl_flow.specs.Actuators.{AreUpTo}
 use Rattle.prl_flow.specs.Counts.{values_before}
 use Rattle.prl_app.specs.declared.runs.Run.{Run}
 use Rattle.prl_app.specs.Asked.{ToCompute}
-use Rattle.prl_app.specs.Runs.{out_flows, chain_run}
+use Rattle.prl_body.specs.declared.bodies.Parts.{Parts}
+use Rattle.prl_body.specs.Checks.{body_tree}
+use Rattle.prl_app.specs.Runs.{Computation, computation_of, chain_computation, out_flows, chain_run}
 use Rattle.prl_base.specs.Reading.{◌>>=◌}
 use Rattle.prl_ast.specs.Trees.{ProgramTree}
 use Rattle.prl_chains.specs.declared.chains.Chain.{Chain}
-use Rattle.prl_app.specs.Outcomes.{chain_outcome, chain_stage, values_stage, within_limit}
+use Rattle.prl_app.specs.Outcomes.{bodies_stage, chain_outcome, chain_stage, values_stage, within_limit}
 
-some_inner : {A : Type 0} (x y : A) → Some x ≡ Some y → x ≡ y
-some_inner x y e = cc
 
 -- what holds at each place holds of each
 all_by_places : {A : Type 0} (P : A → Type 0) (xs : List A) → ((k : ℕ) (x : A) → slice_get xs k ≡ Some x → P x) → AllByRecursion P xs
@@ -41,7 +41,7 @@ out_flows-up_to run flows n each k (flow ∷ outs) h = (each flow.0 h.0, out_flo
 
 -- the outputs of a solution are up to the date of the run
 pub AreUpTo-out_flows : (run : Run) (flows : List (List Value)) → IsFlat run.flat → AreClocks run.flat run.clocks.of
-    → Solves run.flat run.clocks.of [] run.sensors run.until flows → AreUpTo run.until (out_flows run flows 0 run.flat.outs)
+    → Solves run.flat run.clocks.of run.bodies run.sensors run.until flows → AreUpTo run.until (out_flows run flows 0 run.flat.outs)
 AreUpTo-out_flows run flows flat clocks solution =
     All-from_recursion (IsOutput run.until) (out_flows run flows 0 run.flat.outs)
     (out_flows-up_to run flows (length run.flat.flows)
@@ -52,15 +52,16 @@ AreUpTo-out_flows run flows flat clocks solution =
     0 run.flat.outs (all_by_places (λ (flow : FlowNo). flow.0 < length run.flat.flows) run.flat.outs flat.outs))
 
 -- what has few enough values is computed as it is
-pub within_limit-few : (run : Run) → values_before run.until run.clocks.of ≤ 4000000 → within_limit run ≡ Ok (ToCompute run)
-within_limit-few run few = rw (le-ltb 4000000 (values_before run.until run.clocks.of) few) refl
+pub within_limit-few : (c : Computation) → values_before c.until c.clocks.of ≤ 4000000 → within_limit c ≡ Ok (ToCompute c)
+within_limit-few c few = rw (le-ltb 4000000 (values_before c.until c.clocks.of) few) refl
 
 -- the outcome where each stage before the last one goes well
-pub chain_outcome-run : (sensors : List ℕ) (until : ℕ) (program : ProgramTree) (chain : Chain) (values : List Value) (run : Run)
-    → chain_stage program ≡ Ok chain → values_stage chain sensors until ≡ Ok values → run ≡ chain_run chain values until
-    → chain_outcome program sensors until ≡ within_limit run
+pub chain_outcome-run : (texts sensors : List ℕ) (until : ℕ) (program : ProgramTree) (chain : Chain) (bodies : List Parts) (values : List Value) (run : Run)
+    → chain_stage program ≡ Ok chain → bodies_stage program chain texts ≡ Ok (map body_tree bodies) → values_stage chain sensors until ≡ Ok values
+    → run ≡ chain_run chain bodies values until → chain_outcome program texts sensors until ≡ within_limit (computation_of run)
 unfolding chain_outcome
-chain_outcome-run sensors until program chain values run read rows is =
-    ap (λ r. r >>= λ c. values_stage c sensors until >>= λ values. within_limit (chain_run c values until)) read
-    ∙ ap (λ r. r >>= λ values. within_limit (chain_run chain values until)) rows
-    ∙ ap within_limit (sym is)
+chain_outcome-run texts sensors until program chain bodies values run read checked rows is =
+    ap (λ r. r >>= λ c. bodies_stage program c texts >>= λ trees. values_stage c sensors until >>= λ values. within_limit (chain_computation c trees values until)) read
+    ∙ ap (λ r. r >>= λ trees. values_stage chain sensors until >>= λ values. within_limit (chain_computation chain trees values until)) checked
+    ∙ ap (λ r. r >>= λ values. within_limit (chain_computation chain (map body_tree bodies) values until)) rows
+    ∙ ap (λ r. within_limit (computation_of r)) (sym is)

@@ -1,10 +1,16 @@
 -- Rows line by line.
-use Rattle.std.proofs.Common.{◌≡◌, ◌≢◌, ℕ, ◌+◌, ◌<◌, List, [], ◌∷◌, ◌++◌, length, Option, Some, None, refl, sym, ap, ◌∙◌, arith, append_assoc, append-nil}
+use Rattle.std.specs.Prelude.{codes, ℤ, slice_get}
+use Rattle.std.specs.Fmt.{decimal}
+use Rattle.prl_base.specs.Decimals.{integer_of}
+use Rattle.prl_base.specs.Values.{type_of}
+use Rattle.prl_base.specs.declared.values.Ty.TheVariants as types
+use Rattle.prl_base.specs.declared.values.Value.TheVariants as kinds
+use Rattle.std.proofs.Common.{◌≡◌, ◌≢◌, ℕ, zero, suc, ◌+◌, ◌<◌, List, [], ◌∷◌, ◌++◌, length, Option, Some, None, refl, sym, ap, subst, ◌∙◌, arith, append_assoc, append-nil}
 use Rattle.prl_base.specs.Lines.{cut_line, lines_of}
 use Rattle.prl_base.specs.declared.values.Value.{Value}
 use Rattle.prl_base.proofs.LineCuts.{lines_of-cut, lines_of-end, length-lines_of}
 use Rattle.prl_app.specs.Words.{◌>>=◌}
-use Rattle.prl_app.specs.Rows.{row_value, values_from}
+use Rattle.prl_app.specs.Rows.{after_front, row_value, values_from, AreNumbers}
 
 -- values with more values in front of them
 abbrev pub with_front : List Value → Option (List Value) → Option (List Value)
@@ -64,3 +70,46 @@ pub with_front-open : (name : List ℕ) (k : ℕ) (front : List Value) (text : L
     → with_front front (left_in name k text) ≡ None
 with_front-open name k front [] e some = absurd (some refl)
 with_front-open name k front (b ∷ bs) e some = ap (λ lines. with_front front (values_from name k lines)) (lines_of-end (b ∷ bs) e)
+
+some_inner : {A : Type 0} (x y : A) → Some x ≡ Some y → x ≡ y
+some_inner x y e = cc
+
+-- what a step of reading gives comes of what it had
+given : {A B : Type 0} (o : Option A) (f : A → Option B) (y : B) → (o >>= f) ≡ Some y → (x : A) × (o ≡ Some x) × (f x ≡ Some y)
+given None f y e = cc
+given (Some x) f y e = (x, refl, e)
+
+abbrev number_value : Option ℤ → Option Value
+number_value read = read >>= λ number. Some (kinds.Int number)
+
+-- a row's value is a number
+row_value-int : (name : List ℕ) (instance : ℕ) (line : List ℕ) (v : Value) → row_value name instance line ≡ Some v → type_of v ≡ types.Int
+unfolding row_value
+row_value-int name instance line v e =
+    let first = given (after_front name line) (λ rest. after_front (codes ",") rest >>= λ rest. after_front (decimal instance) rest >>= λ rest. after_front (codes ",") rest >>= λ rest. number_value (integer_of rest)) v e in
+    let second = given (after_front (codes ",") first.0) (λ rest. after_front (decimal instance) rest >>= λ rest. after_front (codes ",") rest >>= λ rest. number_value (integer_of rest)) v first.2 in
+    let third = given (after_front (decimal instance) second.0) (λ rest. after_front (codes ",") rest >>= λ rest. number_value (integer_of rest)) v second.2 in
+    let fourth = given (after_front (codes ",") third.0) (λ rest. number_value (integer_of rest)) v third.2 in
+    let fifth = given (integer_of fourth.0) (λ number. Some (kinds.Int number)) v fourth.2 in
+    sym (ap type_of (some_inner (kinds.Int fifth.0) v fifth.2))
+
+no_numbers : AreNumbers []
+no_numbers n v at = cc
+
+one_more_number : (v : Value) (vs : List Value) → type_of v ≡ types.Int → AreNumbers vs → AreNumbers (v ∷ vs)
+one_more_number v vs h hs zero w at = sym (ap type_of (some_inner v w at)) ∙ h
+one_more_number v vs h hs (suc n) w at = hs n w at
+
+last_numbers : (name : List ℕ) (k : ℕ) (line : List ℕ) (vs : List Value) → values_from name k (line ∷ []) ≡ Some vs → AreNumbers vs
+last_numbers name k [] vs e = subst AreNumbers (some_inner [] vs e) no_numbers
+last_numbers name k (b ∷ bs) vs e = cc
+
+-- each of the values of lines is a number
+pub values_from-numbers : (name : List ℕ) (k : ℕ) (lines : List (List ℕ)) (vs : List Value) → values_from name k lines ≡ Some vs → AreNumbers vs
+values_from-numbers name k [] vs e = cc
+values_from-numbers name k (line ∷ []) vs e = last_numbers name k line vs e
+values_from-numbers name k (line ∷ next ∷ lines) vs e =
+    let row = given (row_value name k line) (then_values (values_from name (k + 1) (next ∷ lines))) vs (sym (values_from-cons name k line (next ∷ lines) (omega arith)) ∙ e) in
+    let rest = given (values_from name (k + 1) (next ∷ lines)) (λ ws. Some (row.0 ∷ ws)) vs row.2 in
+    subst AreNumbers (some_inner (row.0 ∷ rest.0) vs rest.2)
+    (one_more_number row.0 rest.0 (row_value-int name k line row.0 row.1) (values_from-numbers name (k + 1) (next ∷ lines) rest.0 rest.1))

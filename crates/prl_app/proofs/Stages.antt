@@ -20,8 +20,8 @@ use Rattle.prl_app.specs.declared.words.Command.{Command}
 use Rattle.prl_app.specs.declared.words.Mode.{Mode}
 use Rattle.prl_app.specs.declared.words.Mode.TheVariants as modes
 use Rattle.prl_app.specs.Asked.{Asked}
-use Rattle.prl_app.specs.Outcomes.{Then, WithTypes, WithProgram, IsTextFor, IsRefusalOf, IsTextBy, IsRefusalBy, refusal_of, of_types, program_outcome, chain_outcome, values_stage}
-use Rattle.prl_app.specs.Replays.{of_relay, relay_stage, WithHorizon, IsScheduleOutcome, IsValuesOutcome, IsRelayOutcome}
+use Rattle.prl_app.specs.Outcomes.{Then, WithTypes, WithProgram, IsTextFor, IsRefusalOf, IsTextBy, IsRefusalBy, refusal_of, of_types, program_outcome, bodies_stage, chain_outcome, values_stage}
+use Rattle.prl_app.specs.Replays.{of_relay, relay_stage, WithHorizon, IsScheduleOutcome, IsValuesOutcome, IsRelayOutcome, IsProgramReplay}
 use Rattle.prl_app.specs.Modes.{IsModeOutcome}
 use Rattle.prl_app.specs.Endings.{IsCommandOutcome}
 
@@ -183,18 +183,23 @@ module _ (law : StagesAreOne) where
   one_program text next one =
       one_then (program_outcome text) (λ program. WithTypes program (next program)) (λ program. one_typed program (next program) (one program))
 
-  one_mode : (mode : Mode) (program sensors schedule : List ℕ) (until : ℕ) → IsOne (IsModeOutcome mode program sensors schedule until)
-  one_mode modes.Flows text sensors schedule until =
-      one_program text (λ program outcome. chain_outcome program sensors until ≡ outcome) (λ program a b ha hb. sym ha ∙ hb)
-  one_mode modes.Print text sensors schedule until = λ a b ha hb. sym ha ∙ hb
-  one_mode modes.Replay text sensors schedule until =
-      one_program text (λ program. Then (relay_stage program) (λ chain. IsRelayOutcome chain sensors schedule until))
-      (λ program. one_then (relay_stage program) (λ chain. IsRelayOutcome chain sensors schedule until) (λ chain. one_relay chain sensors schedule until))
+  one_replay : (program : ProgramTree) (bodies sensors schedule : List ℕ) (until : ℕ) → IsOne (IsProgramReplay program bodies sensors schedule until)
+  one_replay program bodies sensors schedule until =
+      one_then (relay_stage program) (λ chain. Then (bodies_stage program chain bodies) (λ trees. IsRelayOutcome chain sensors schedule until))
+      (λ chain. one_then (bodies_stage program chain bodies) (λ trees. IsRelayOutcome chain sensors schedule until) (λ trees. one_relay chain sensors schedule until))
+
+  one_mode : (mode : Mode) (program bodies sensors schedule : List ℕ) (until : ℕ) → IsOne (IsModeOutcome mode program bodies sensors schedule until)
+  one_mode modes.Flows text bodies sensors schedule until =
+      one_program text (λ program outcome. chain_outcome program bodies sensors until ≡ outcome) (λ program a b ha hb. sym ha ∙ hb)
+  one_mode modes.Print text bodies sensors schedule until = λ a b ha hb. sym ha ∙ hb
+  one_mode modes.Replay text bodies sensors schedule until =
+      one_program text (λ program. IsProgramReplay program bodies sensors schedule until) (λ program. one_replay program bodies sensors schedule until)
 
   -- a command comes to one outcome on what its files give
-  pub one_command_outcome : (command : Command) (program sensors schedule : Result (List ℕ) Refusal) → IsOne (IsCommandOutcome command program sensors schedule)
-  one_command_outcome command program sensors schedule =
-      one_then program (λ text. Then sensors (λ rows. Then schedule (λ events. IsModeOutcome command.mode text rows events command.until)))
-      (λ text. one_then sensors (λ rows. Then schedule (λ events. IsModeOutcome command.mode text rows events command.until))
-      (λ rows. one_then schedule (λ events. IsModeOutcome command.mode text rows events command.until)
-      (λ events. one_mode command.mode text rows events command.until)))
+  pub one_command_outcome : (command : Command) (program bodies sensors schedule : Result (List ℕ) Refusal) → IsOne (IsCommandOutcome command program bodies sensors schedule)
+  one_command_outcome command program bodies sensors schedule =
+      one_then program (λ text. Then bodies (λ texts. Then sensors (λ rows. Then schedule (λ events. IsModeOutcome command.mode text texts rows events command.until))))
+      (λ text. one_then bodies (λ texts. Then sensors (λ rows. Then schedule (λ events. IsModeOutcome command.mode text texts rows events command.until)))
+      (λ texts. one_then sensors (λ rows. Then schedule (λ events. IsModeOutcome command.mode text texts rows events command.until))
+      (λ rows. one_then schedule (λ events. IsModeOutcome command.mode text texts rows events command.until)
+      (λ events. one_mode command.mode text texts rows events command.until))))

@@ -22,7 +22,9 @@ refusal_status (refusals.Absent part) = inr (inr (inl refl))
 refusal_status (refusals.TooLong part) = inr (inr (inl refl))
 refusal_status (refusals.Grammar fault) = inl refl
 refusal_status (refusals.Types fault) = inl refl
+refusal_status (refusals.Bodies fault) = inl refl
 refusal_status (refusals.NotBuilt parts.Program) = inl refl
+refusal_status (refusals.NotBuilt parts.Bodies) = inl refl
 refusal_status (refusals.NotBuilt parts.Sensors) = inr (inr (inr (inr refl)))
 refusal_status (refusals.NotBuilt parts.Schedule) = inr (inr (inr (inl refl)))
 refusal_status (refusals.Short name have need) = inr (inr (inr (inr refl)))
@@ -57,10 +59,12 @@ one_outcome law told folder e command a b ha hb =
     let program = one_content told folder e parts.Program command.program 1048576 ha.program hb.program ha.program_file hb.program_file in
     let sensors = one_content told folder e parts.Sensors command.sensors 33554432 ha.sensors hb.sensors ha.sensors_file hb.sensors_file in
     let schedule = one_content told folder e parts.Schedule command.schedule 83886080 ha.schedule hb.schedule ha.schedule_file hb.schedule_file in
-    let first = subst (λ p. IsCommandOutcome command p ha.sensors ha.schedule a) program ha.stages in
-    let second = subst (λ p. IsCommandOutcome command hb.program p ha.schedule a) sensors first in
-    let third = subst (λ p. IsCommandOutcome command hb.program hb.sensors p a) schedule second in
-    one_command_outcome law command hb.program hb.sensors hb.schedule a b third hb.stages
+    let bodies = one_content told folder e parts.Bodies command.bodies 1048576 ha.bodies hb.bodies ha.bodies_file hb.bodies_file in
+    let first = subst (λ p. IsCommandOutcome command p ha.bodies ha.sensors ha.schedule a) program ha.stages in
+    let second = subst (λ p. IsCommandOutcome command hb.program p ha.sensors ha.schedule a) bodies first in
+    let third = subst (λ p. IsCommandOutcome command hb.program hb.bodies p ha.schedule a) sensors second in
+    let fourth = subst (λ p. IsCommandOutcome command hb.program hb.bodies hb.sensors p a) schedule third in
+    one_command_outcome law command hb.program hb.bodies hb.sensors hb.schedule a b fourth hb.stages
 
 -- one list of words asks for one command
 one_command : (words : List (List ℕ)) (a b : Command) → command_of words ≡ Some a → command_of words ≡ Some b → a ≡ b
@@ -72,6 +76,7 @@ refused_by words told (refusals.Absent part) h = inr h
 refused_by words told (refusals.TooLong part) h = inr h
 refused_by words told (refusals.Grammar fault) h = inr h
 refused_by words told (refusals.Types fault) h = inr h
+refused_by words told (refusals.Bodies fault) h = inr h
 refused_by words told (refusals.NotBuilt part) h = inr h
 refused_by words told (refusals.Short name have need) h = inr h
 refused_by words told (refusals.Limit limit) h = inr h

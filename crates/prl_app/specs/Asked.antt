@@ -3,16 +3,15 @@ use Rattle.std.specs.Prelude.{◌≡◌, ℕ, List}
 use Rattle.prl_ast.specs.Trees.{ProgramTree}
 use Rattle.prl_print.specs.Printing.{printed}
 use Rattle.prl_relays.specs.Relays.{Relay, IsReplayText}
-use Rattle.prl_app.specs.declared.runs.Run.{Run}
-use Rattle.prl_app.specs.Runs.{IsFlowsText}
+use Rattle.prl_app.specs.Runs.{Computation, IsFlowsText}
 
--- a run to compute, a program to print, or the schedule of a relay to replay
+-- flows to compute, a program to print, or the schedule of a relay to replay
 pub data Asked : Type 0 where
-  ToCompute : Run → Asked
+  ToCompute : Computation → Asked
   ToPrint : ProgramTree → Asked
   ToReplay : Relay → List ℕ → Asked
 
 abbrev pub IsTextOf : Asked → List ℕ → Type 0
-IsTextOf (ToCompute run) text = IsFlowsText run text
+IsTextOf (ToCompute c) text = IsFlowsText c text
 IsTextOf (ToPrint program) text = text ≡ printed program
 IsTextOf (ToReplay relay schedule) text = IsReplayText relay schedule text

@@ -6,6 +6,8 @@ use Rattle.prl_base.specs.Limits.{what_text}
 use Rattle.prl_base.specs.declared.limits.Limit.{Limit}
 use Rattle.prl_base.specs.declared.values.Ty.{Ty}
 use Rattle.prl_base.specs.declared.values.Ty.TheVariants as types
+use Rattle.prl_body.specs.declared.faults.BodyFault.{BodyFault}
+use Rattle.prl_body.specs.declared.faults.BodyFault.TheVariants as body_faults
 use Rattle.prl_plan.specs.declared.events.Rule.{Rule}
 use Rattle.prl_plan.specs.Rules.{rule_text}
 use Rattle.prl_types.specs.declared.faults.TypeFault.{TypeFault}
@@ -50,6 +52,7 @@ IsFileRefusal part (refusals.Absent p) = p ≡ part
 IsFileRefusal part (refusals.TooLong p) = p ≡ part
 IsFileRefusal part (refusals.Grammar fault) = ⊥
 IsFileRefusal part (refusals.Types fault) = ⊥
+IsFileRefusal part (refusals.Bodies fault) = ⊥
 IsFileRefusal part (refusals.NotBuilt p) = ⊥
 IsFileRefusal part (refusals.Short name have need) = ⊥
 IsFileRefusal part (refusals.Limit limit) = ⊥
@@ -65,22 +68,25 @@ IsContent None part (Some name) most (Err refusal) = IsFileRefusal part refusal
 IsContent (Some folder) part (Some name) most content = content ≡ read_as part (reading_of (folder name) most)
 
 -- the stages on what the files give
-abbrev pub IsCommandOutcome : Command → Result (List ℕ) Refusal → Result (List ℕ) Refusal → Result (List ℕ) Refusal → Result Asked Refusal → Type 0
-IsCommandOutcome command program sensors schedule =
-    Then program (λ text. Then sensors (λ rows. Then schedule (λ events. IsModeOutcome command.mode text rows events command.until)))
+abbrev pub IsCommandOutcome : Command → Result (List ℕ) Refusal → Result (List ℕ) Refusal → Result (List ℕ) Refusal → Result (List ℕ) Refusal → Result Asked Refusal → Type 0
+IsCommandOutcome command program bodies sensors schedule =
+    Then program (λ text. Then bodies (λ texts. Then sensors (λ rows. Then schedule (λ events. IsModeOutcome command.mode text texts rows events command.until))))
 
 -- the command comes to this outcome, over a folder of which this is known
 pub record ComesTo (told : Option Folder) (command : Command) (outcome : Result Asked Refusal) : Type 0 where
   pub program : Result (List ℕ) Refusal
+  pub bodies : Result (List ℕ) Refusal
   pub sensors : Result (List ℕ) Refusal
   pub schedule : Result (List ℕ) Refusal
   pub program_file : IsContent told parts.Program command.program 1048576 program
+  pub bodies_file : IsContent told parts.Bodies command.bodies 1048576 bodies
   pub sensors_file : IsContent told parts.Sensors command.sensors 33554432 sensors
   pub schedule_file : IsContent told parts.Schedule command.schedule 83886080 schedule
-  pub stages : IsCommandOutcome command program sensors schedule outcome
+  pub stages : IsCommandOutcome command program bodies sensors schedule outcome
 
 abbrev pub status_of_part : Part → ℕ
 status_of_part parts.Program = 1
+status_of_part parts.Bodies = 1
 status_of_part parts.Sensors = 9
 status_of_part parts.Schedule = 8
 
@@ -89,6 +95,7 @@ status_of_refusal (refusals.Absent part) = 7
 status_of_refusal (refusals.TooLong part) = 7
 status_of_refusal (refusals.Grammar fault) = 1
 status_of_refusal (refusals.Types fault) = 1
+status_of_refusal (refusals.Bodies fault) = 1
 status_of_refusal (refusals.NotBuilt part) = status_of_part part
 status_of_refusal (refusals.Short name have need) = 9
 status_of_refusal (refusals.Limit limit) = 1
@@ -106,6 +113,7 @@ status_of (endings.Refused refusal) = status_of_refusal refusal
 abbrev pub file_name : Option Command → Part → List ℕ
 file_name None part = []
 file_name (Some command) parts.Program = unwrap_or command.program []
+file_name (Some command) parts.Bodies = unwrap_or command.bodies []
 file_name (Some command) parts.Sensors = unwrap_or command.sensors []
 file_name (Some command) parts.Schedule = unwrap_or command.schedule []
 
@@ -143,13 +151,22 @@ types_line (typing.Mismatch at wanted found) = mismatch_line at wanted found
 types_line (typing.TypeFree node name) = type_free_line node name
 types_line typing.Memory = codes "memory\n"
 
-abbrev pub short_line : List ℕ → ℕ → ℕ → List ℕ
-short_line name have need =
-    concat (codes "84 short " ∷ name ∷ codes " " ∷ decimal have ∷ codes " " ∷ decimal need ∷ codes "\n" ∷ [])
-
 abbrev pub limit_line : Limit → List ℕ
 limit_line limit =
     concat (codes "4 limit " ∷ what_text limit.what ∷ codes " found " ∷ decimal limit.found ∷ codes "\n" ∷ [])
+
+abbrev pub bodies_line : BodyFault → List ℕ
+bodies_line (body_faults.Syntax at) = placed_line (codes "23 body syntax at ") at
+bodies_line (body_faults.Limit limit) = limit_line limit
+bodies_line (body_faults.BodyName at) = placed_line (codes "24 body name at ") at
+bodies_line (body_faults.BodyType at) = placed_line (codes "22 body type at ") at
+bodies_line (body_faults.BodyArity at) = placed_line (codes "21 body arity at ") at
+bodies_line (body_faults.Missing name) = named_line (codes "20 body missing ") name
+bodies_line body_faults.Memory = codes "memory\n"
+
+abbrev pub short_line : List ℕ → ℕ → ℕ → List ℕ
+short_line name have need =
+    concat (codes "84 short " ∷ name ∷ codes " " ∷ decimal have ∷ codes " " ∷ decimal need ∷ codes "\n" ∷ [])
 
 abbrev pub illegal_line : ℕ → Rule → List ℕ
 illegal_line line rule = concat (codes "71 illegal line " ∷ decimal line ∷ codes " rule " ∷ rule_text rule ∷ codes "\n" ∷ [])
@@ -167,6 +184,7 @@ refusal_line command (refusals.Absent part) = named_line (codes "absent ") (file
 refusal_line command (refusals.TooLong part) = named_line (codes "too long ") (file_name command part)
 refusal_line command (refusals.Grammar fault) = grammar_line fault
 refusal_line command (refusals.Types fault) = types_line fault
+refusal_line command (refusals.Bodies fault) = bodies_line fault
 refusal_line command (refusals.NotBuilt part) = named_line (codes "9 not built ") (file_name command part)
 refusal_line command (refusals.Short name have need) = short_line name have need
 refusal_line command (refusals.Limit limit) = limit_line limit

@@ -5,4 +5,4 @@ use Rattle.prl_app.specs.declared.words.Command.{Command}
 use Rattle.prl_app.specs.declared.words.Options.{Options}
 
 abbrev pub named : Options → Command
-named o = record { mode = o.mode; program = Some o.program.now; sensors = option_map (λ bytes. bytes.now) o.sensors; schedule = option_map (λ bytes. bytes.now) o.schedule; until = o.until }
+named o = record { mode = o.mode; program = Some o.program.now; bodies = option_map (λ bytes. bytes.now) o.bodies; sensors = option_map (λ bytes. bytes.now) o.sensors; schedule = option_map (λ bytes. bytes.now) o.schedule; until = o.until }

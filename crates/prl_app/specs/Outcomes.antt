@@ -16,14 +16,18 @@ use Rattle.prl_app.specs.declared.refusals.GrammarFault.TheVariants as grammar
 use Rattle.prl_app.specs.declared.refusals.Part.TheVariants as parts
 use Rattle.prl_app.specs.declared.refusals.Refusal.{Refusal}
 use Rattle.prl_app.specs.declared.refusals.Refusal.TheVariants as refusals
-use Rattle.prl_app.specs.declared.runs.Run.{Run}
 use Rattle.prl_chains.specs.declared.chains.Chain.{Chain}
 use Rattle.prl_chains.specs.Chains.{chain_of}
+use Rattle.prl_chains.specs.Used.{used_imports}
+use Rattle.prl_body.specs.declared.faults.BodyFault.{BodyFault}
+use Rattle.prl_body.specs.declared.faults.BodyFault.TheVariants as body_faults
+use Rattle.prl_body.specs.Checks.{BodyTree, checked}
+use Rattle.prl_bodytext.specs.Parsing.{bodies_of}
 use Rattle.prl_flow.specs.Programs.{name_of}
 use Rattle.prl_app.specs.Rows.{rows_of}
 use Rattle.prl_app.specs.Asked.{Asked, ToCompute, ToPrint, IsTextOf}
 use Rattle.prl_relays.specs.Relays.{input_clock}
-use Rattle.prl_app.specs.Runs.{chain_run}
+use Rattle.prl_app.specs.Runs.{Computation, chain_computation}
 
 -- want of memory is free
 abbrev pub refusal_of : Refusal → Option Refusal
@@ -31,6 +35,7 @@ refusal_of (refusals.Absent part) = Some (refusals.Absent part)
 refusal_of (refusals.TooLong part) = Some (refusals.TooLong part)
 refusal_of (refusals.Grammar fault) = Some (refusals.Grammar fault)
 refusal_of (refusals.Types fault) = Some (refusals.Types fault)
+refusal_of (refusals.Bodies fault) = Some (refusals.Bodies fault)
 refusal_of (refusals.NotBuilt part) = Some (refusals.NotBuilt part)
 refusal_of (refusals.Short name have need) = Some (refusals.Short name have need)
 refusal_of (refusals.Limit limit) = Some (refusals.Limit limit)
@@ -49,11 +54,11 @@ enough_rows c values until =
     else Ok values
 
 -- at most 4,000,000 values of all flows
-abbrev pub within_limit : Run → Result Asked Refusal
-within_limit run =
-    if nat_lt 4000000 (values_before run.until run.clocks.of) then
-    Err (refusals.Limit (record { what = whats.Values; found = values_before run.until run.clocks.of }))
-    else Ok (ToCompute run)
+abbrev pub within_limit : Computation → Result Asked Refusal
+within_limit c =
+    if nat_lt 4000000 (values_before c.until c.clocks.of) then
+    Err (refusals.Limit (record { what = whats.Values; found = values_before c.until c.clocks.of }))
+    else Ok (ToCompute c)
 
 abbrev pub of_parse : ParseFault → Refusal
 of_parse (parsing.BadToken at) = refusals.Grammar (grammar.BadToken at)
@@ -82,6 +87,20 @@ of_types (typing.Mismatch at wanted found) = refusals.Types (typing.Mismatch at 
 of_types (typing.TypeFree node name) = refusals.Types (typing.TypeFree node name)
 of_types typing.Memory = refusals.Memory
 
+-- a limit is told as such, and want of memory is no fault of bodies
+abbrev pub of_body : BodyFault → Refusal
+of_body (body_faults.Syntax at) = refusals.Bodies (body_faults.Syntax at)
+of_body (body_faults.Limit limit) = refusals.Limit limit
+of_body (body_faults.BodyName at) = refusals.Bodies (body_faults.BodyName at)
+of_body (body_faults.BodyType at) = refusals.Bodies (body_faults.BodyType at)
+of_body (body_faults.BodyArity at) = refusals.Bodies (body_faults.BodyArity at)
+of_body (body_faults.Missing name) = refusals.Bodies (body_faults.Missing name)
+of_body body_faults.Memory = refusals.Memory
+
+abbrev pub or_body_fault : {A : Type 0} → Result A BodyFault → Result A Refusal
+or_body_fault (Ok x) = Ok x
+or_body_fault (Err fault) = Err (of_body fault)
+
 -- a refusal ends it; else what follows comes to the outcome
 abbrev pub Then : {A : Type 0} → Result A Refusal → (A → Result Asked Refusal → Type 0) → Result Asked Refusal → Type 0
 Then (Ok x) next outcome = next x outcome
@@ -101,22 +120,29 @@ WithProgram text next = Then (program_outcome text) (λ program. WithTypes progr
 abbrev pub chain_stage : ProgramTree → Result Chain Refusal
 chain_stage program = or_refuse (refusals.NotBuilt parts.Program) (chain_of program)
 
+-- the bodies of the text, which fit the program's imports, and one for each import that the chain applies
+unfoldable pub bodies_stage : ProgramTree → Chain → List ℕ → Result (List BodyTree) Refusal
+bodies_stage program chain text = do
+  texts ← or_body_fault (bodies_of text)
+  or_body_fault (checked program.imports (used_imports program.imports chain.flat.apps) texts)
+
 -- the values of the sensor's rows, as many as are wanted or more
 unfoldable pub values_stage : Chain → List ℕ → ℕ → Result (List Value) Refusal
 values_stage chain sensors until = do
   read ← or_refuse (refusals.NotBuilt parts.Sensors) (rows_of (name_of chain.flat.in_devices 0) sensors)
   enough_rows chain read until
 
--- the run of a chain of equations on its rows
-unfoldable pub chain_outcome : ProgramTree → List ℕ → ℕ → Result Asked Refusal
-chain_outcome program sensors until = do
+-- the run of a chain of equations with its bodies on its rows
+unfoldable pub chain_outcome : ProgramTree → List ℕ → List ℕ → ℕ → Result Asked Refusal
+chain_outcome program texts sensors until = do
   chain ← chain_stage program
+  trees ← bodies_stage program chain texts
   values ← values_stage chain sensors until
-  within_limit (chain_run chain values until)
+  within_limit (chain_computation chain trees values until)
 
--- the stages of mode `flows` on the bytes of a program and of its rows
-abbrev pub IsFlowsOutcome : List ℕ → List ℕ → ℕ → Result Asked Refusal → Type 0
-IsFlowsOutcome text sensors until = WithProgram text (λ program outcome. chain_outcome program sensors until ≡ outcome)
+-- the stages of mode `flows` on the bytes of a program, of bodies and of rows
+abbrev pub IsFlowsOutcome : List ℕ → List ℕ → List ℕ → ℕ → Result Asked Refusal → Type 0
+IsFlowsOutcome text texts sensors until = WithProgram text (λ program outcome. chain_outcome program texts sensors until ≡ outcome)
 
 -- the stages of mode `print` on the bytes of a program
 abbrev pub print_outcome : List ℕ → Result Asked Refusal

@@ -15,7 +15,7 @@ use Rattle.prl_app.specs.declared.refusals.Refusal.{Refusal}
 use Rattle.prl_app.specs.declared.refusals.Refusal.TheVariants as refusals
 use Rattle.prl_app.specs.declared.refusals.RunFault.TheVariants as runs
 use Rattle.prl_app.specs.Asked.{Asked, ToReplay}
-use Rattle.prl_app.specs.Outcomes.{Then, WithProgram, chain_stage, values_stage}
+use Rattle.prl_app.specs.Outcomes.{Then, WithProgram, bodies_stage, chain_stage, values_stage}
 
 -- the name of a task: task 0 is the sensor's, and task 1 the actuator's
 abbrev pub device_name : Chain → ℕ → List ℕ
@@ -59,7 +59,11 @@ IsValuesOutcome chain sensors schedule until =
 abbrev pub IsRelayOutcome : Chain → List ℕ → List ℕ → ℕ → Result Asked Refusal → Type 0
 IsRelayOutcome chain sensors schedule until = WithHorizon chain until (IsValuesOutcome chain sensors schedule until)
 
--- the stages of mode `replay` on the bytes of a program, of its rows and of a schedule
-abbrev pub IsReplayOutcome : List ℕ → List ℕ → List ℕ → ℕ → Result Asked Refusal → Type 0
-IsReplayOutcome text sensors schedule until =
-    WithProgram text (λ program. Then (relay_stage program) (λ chain. IsRelayOutcome chain sensors schedule until))
+-- the chain of a program, its bodies, of which none is used, and then the horizon, the rows and the schedule
+abbrev pub IsProgramReplay : ProgramTree → List ℕ → List ℕ → List ℕ → ℕ → Result Asked Refusal → Type 0
+IsProgramReplay program bodies sensors schedule until =
+    Then (relay_stage program) (λ chain. Then (bodies_stage program chain bodies) (λ trees. IsRelayOutcome chain sensors schedule until))
+
+-- the stages of mode `replay` on the bytes of a program, of bodies, of sensor rows and of a schedule
+abbrev pub IsReplayOutcome : List ℕ → List ℕ → List ℕ → List ℕ → ℕ → Result Asked Refusal → Type 0
+IsReplayOutcome text bodies sensors schedule until = WithProgram text (λ program. IsProgramReplay program bodies sensors schedule until)

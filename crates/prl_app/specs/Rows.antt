@@ -1,9 +1,11 @@
 -- Sensor rows of the form that is built so far.
-use Rattle.std.specs.Prelude.{◌+◌, ℕ, List, [], ◌∷◌, length, take, drop, Option, Some, None, if◌then◌else◌, codes}
+use Rattle.std.specs.Prelude.{◌≡◌, ◌+◌, ℕ, List, [], ◌∷◌, length, take, drop, Option, Some, None, slice_get, if◌then◌else◌, codes}
 use Rattle.std.specs.Fmt.{decimal}
 use Rattle.std.specs.Str.{bytes_eq}
 use Rattle.prl_base.specs.Lines.{lines_of}
 use Rattle.prl_base.specs.Decimals.{integer_of}
+use Rattle.prl_base.specs.Values.{type_of}
+use Rattle.prl_base.specs.declared.values.Ty.TheVariants as types
 use Rattle.prl_base.specs.declared.values.Value.{Value}
 use Rattle.prl_base.specs.declared.values.Value.TheVariants as values
 use Rattle.prl_app.specs.Words.{◌>>=◌}
@@ -11,6 +13,10 @@ use Rattle.prl_app.specs.Words.{◌>>=◌}
 -- what stands behind the front, where the text begins with it
 abbrev pub after_front : List ℕ → List ℕ → Option (List ℕ)
 after_front front text = if bytes_eq (take (length front) text) front then Some (drop (length front) text) else None
+
+-- each value is a number
+abbrev pub AreNumbers : List Value → Type 0
+AreNumbers read = (n : ℕ) (v : Value) → slice_get read n ≡ Some v → type_of v ≡ types.Int
 
 -- NAME,INSTANCE,VALUE
 unfoldable pub row_value : List ℕ → ℕ → List ℕ → Option Value

@@ -1,5 +1,10 @@
--- What a program and its rows ask to be computed, and the text that they mean.
-use Rattle.std.specs.Prelude.{◌≡◌, ◌+◌, ◌<◌, ◌^◌, ℕ, List, [], ◌∷◌}
+-- What a program, its bodies and its rows ask to be computed, and the text that they mean.
+use Rattle.std.specs.Prelude.{◌≡◌, ◌+◌, ◌<◌, ◌^◌, ℕ, List, [], ◌∷◌, map}
+use Rattle.prl_body.specs.declared.bodies.Parts.{Parts}
+use Rattle.prl_body.specs.Checks.{BodyTree, body_tree}
+use Rattle.prl_flow.specs.declared.programs.Clocks.{Clocks}
+use Rattle.prl_flow.specs.Programs.{FlatProgram}
+use Rattle.prl_flow.specs.Rows.{Rows}
 use Rattle.prl_base.specs.declared.numbers.FlowNo.{FlowNo}
 use Rattle.prl_base.specs.declared.values.Value.{Value}
 use Rattle.prl_flow.specs.declared.programs.OutFlow.{OutFlow}
@@ -10,17 +15,33 @@ use Rattle.prl_flow.specs.Actuators.{actuator_text}
 use Rattle.prl_chains.specs.declared.chains.Chain.{Chain}
 use Rattle.prl_app.specs.declared.runs.Run.{Run}
 
--- what a chain and the values of its input ask to be computed
-abbrev pub chain_run : Chain → List Value → ℕ → Run
-chain_run c values until = record { flat = c.flat; clocks = c.clocks; sensors = values ∷ []; until = until }
+-- a flat program with its clocks, the trees of its bodies, its rows, and the date up to which it runs
+pub record Computation : Type 0 where
+  pub flat : FlatProgram
+  pub clocks : Clocks
+  pub bodies : List BodyTree
+  pub sensors : Rows
+  pub until : ℕ
 
--- the clocks are the program's, the flows stand in order, no body is wanted, and the rows suffice
+-- what a chain, its bodies and the values of its input ask to be computed
+abbrev pub chain_computation : Chain → List BodyTree → List Value → ℕ → Computation
+chain_computation c bodies values until = record { flat = c.flat; clocks = c.clocks; bodies = bodies; sensors = values ∷ []; until = until }
+
+-- what a run computes, whose bodies are checked
+abbrev pub computation_of : Run → Computation
+computation_of run = record { flat = run.flat; clocks = run.clocks; bodies = map body_tree run.bodies; sensors = run.sensors; until = run.until }
+
+-- a run of a chain
+abbrev pub chain_run : Chain → List Parts → List Value → ℕ → Run
+chain_run c bodies values until = record { flat = c.flat; clocks = c.clocks; bodies = bodies; sensors = values ∷ []; until = until }
+
+-- the clocks are the program's, the flows stand in order, each application has a body that fits it, and the rows suffice
 pub record IsReady (run : Run) : Type 0 where
   pub until : run.until < 2 ^ 31
   pub clocks : AreClocks run.flat run.clocks.of
   pub ordered : IsOrdered run.flat
   pub rows : HasRows run.flat run.clocks.of run.sensors run.until
-  pub bodies : HaveBodies run.flat []
+  pub bodies : HaveBodies run.flat run.bodies
   pub types : HasTypedRows run.flat run.sensors
 
 -- the flow of main's output of number k, with its name and clock
@@ -33,9 +54,11 @@ abbrev pub out_flows : Run → List (List Value) → ℕ → List FlowNo → Lis
 out_flows run flows k [] = []
 out_flows run flows k (flow ∷ rest) = out_flow run flows k flow ∷ out_flows run flows (k + 1) rest
 
--- The program has one solution for the rows, and the text is that of its actuators.
-pub record IsFlowsText (run : Run) (text : List ℕ) : Type 0 where
+-- The program has one solution for the bodies and the rows, and the text is that of its actuators.
+pub record IsFlowsText (c : Computation) (text : List ℕ) : Type 0 where
+  pub run : Run
+  pub computed : computation_of run ≡ c
   pub flows : List (List Value)
-  pub solution : Solves run.flat run.clocks.of [] run.sensors run.until flows
-  pub only : (others : List (List Value)) → Solves run.flat run.clocks.of [] run.sensors run.until others → others ≡ flows
+  pub solution : Solves run.flat run.clocks.of run.bodies run.sensors run.until flows
+  pub only : (others : List (List Value)) → Solves run.flat run.clocks.of run.bodies run.sensors run.until others → others ≡ flows
   pub rows : text ≡ actuator_text run.until (out_flows run flows 0 run.flat.outs)

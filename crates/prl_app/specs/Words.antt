@@ -33,16 +33,24 @@ abbrev pub at_end : {A : Type 0} → A → List (List ℕ) → Option A
 at_end x [] = Some x
 at_end x (word ∷ words) = None
 
--- `--program NAME --sensors NAME --until N`, and no more
+-- nothing, or an option of this name at the end: its value
+abbrev pub last_option : List ℕ → List (List ℕ) → Option (Option (List ℕ))
+last_option name [] = Some None
+last_option name (word ∷ words) = do
+  given ← option_at name (word ∷ words)
+  at_end (Some given.0) given.1
+
+-- `--program NAME --sensors NAME --until N`, and `--bodies NAME` or nothing
 unfoldable pub flows_at : List (List ℕ) → Option Command
 flows_at words = do
   program ← option_at (codes "--program") words
   sensors ← option_at (codes "--sensors") program.1
   until ← option_at (codes "--until") sensors.1
   number ← number_up_to 2147483647 until.0
-  at_end (record { mode = modes.Flows; program = Some program.0; sensors = Some sensors.0; schedule = None; until = number }) until.1
+  bodies ← last_option (codes "--bodies") until.1
+  Some (record { mode = modes.Flows; program = Some program.0; bodies = bodies; sensors = Some sensors.0; schedule = None; until = number })
 
--- `--program NAME --sensors NAME --schedule NAME --until N`, and no more
+-- `--program NAME --sensors NAME --schedule NAME --until N`, and `--bodies NAME` or nothing
 unfoldable pub replay_at : List (List ℕ) → Option Command
 replay_at words = do
   program ← option_at (codes "--program") words
@@ -50,13 +58,14 @@ replay_at words = do
   schedule ← option_at (codes "--schedule") sensors.1
   until ← option_at (codes "--until") schedule.1
   number ← number_up_to 2147483647 until.0
-  at_end (record { mode = modes.Replay; program = Some program.0; sensors = Some sensors.0; schedule = Some schedule.0; until = number }) until.1
+  bodies ← last_option (codes "--bodies") until.1
+  Some (record { mode = modes.Replay; program = Some program.0; bodies = bodies; sensors = Some sensors.0; schedule = Some schedule.0; until = number })
 
 -- `--program NAME`, and no more
 unfoldable pub print_at : List (List ℕ) → Option Command
 print_at words = do
   program ← option_at (codes "--program") words
-  at_end (record { mode = modes.Print; program = Some program.0; sensors = None; schedule = None; until = 0 }) program.1
+  at_end (record { mode = modes.Print; program = Some program.0; bodies = None; sensors = None; schedule = None; until = 0 }) program.1
 
 -- what stands behind the name of a mode
 abbrev pub mode_at : List ℕ → List (List ℕ) → Option Command

@@ -18,6 +18,9 @@ use std::alloc::Global;
 /// The most bytes that a program may have.
 const MAX_PROGRAM: u64 = 1_048_576;
 
+/// The most bytes that a text of bodies may have.
+const MAX_BODIES: u64 = 1_048_576;
+
 /// The most bytes that sensor rows may have.
 const MAX_SENSORS: u64 = 33_554_432;
 
@@ -59,24 +62,26 @@ fn read_part<F: Files>(
     }
 }
 
-/// The text that the stages of a mode make of the bytes of a program, of its rows and of a schedule.
+/// The text that the stages of a mode make of the bytes of a program, of bodies, of sensor rows and of a schedule.
 fn stages(
     alloc: Global,
     mode: Mode,
     program: &[u8],
+    bodies: &[u8],
     sensors: &[u8],
     schedule: &[u8],
     until: u32,
 ) -> Result<Vec<u8>, Refusal>
     requires program { length program.now < 2 ^ 32 }
+    requires bodies { length bodies.now < 2 ^ 32 }
     requires until { until < 2 ^ 31 }
-    ensures { MatchResult result (λ text. IsTextBy (IsModeOutcome mode program.now sensors.now schedule.now until) text.items)
-        (IsRefusalBy (IsModeOutcome mode program.now sensors.now schedule.now until)) }
+    ensures { MatchResult result (λ text. IsTextBy (IsModeOutcome mode program.now bodies.now sensors.now schedule.now until) text.items)
+        (IsRefusalBy (IsModeOutcome mode program.now bodies.now sensors.now schedule.now until)) }
 {
     match mode {
-        Mode::Flows => flows(alloc, program, sensors, until),
+        Mode::Flows => flows(alloc, program, bodies, sensors, until),
         Mode::Print => printed(alloc, program),
-        Mode::Replay => replay(alloc, program, sensors, schedule, until),
+        Mode::Replay => replay(alloc, program, bodies, sensors, schedule, until),
     }
 }
 
@@ -91,6 +96,10 @@ pub fn answer<F: Files>(alloc: Global, files: &mut F, command: &Command) -> Resu
 {
     let program = match read_part(alloc, files, Part::Program, &command.program, MAX_PROGRAM) {
         Ok(program) => program,
+        Err(stop) => return Err(stop),
+    };
+    let bodies = match read_part(alloc, files, Part::Bodies, &command.bodies, MAX_BODIES) {
+        Ok(bodies) => bodies,
         Err(stop) => return Err(stop),
     };
     let sensors = match read_part(alloc, files, Part::Sensors, &command.sensors, MAX_SENSORS) {
@@ -111,6 +120,7 @@ pub fn answer<F: Files>(alloc: Global, files: &mut F, command: &Command) -> Resu
         alloc,
         command.mode,
         &program,
+        &bodies,
         &sensors,
         &schedule,
         command.until,

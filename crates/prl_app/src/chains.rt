@@ -7,10 +7,10 @@ ghost use Rattle.prl_base.specs.Reading.{Gives};
 ghost use Rattle.prl_ast.specs.Trees.{program_tree};
 ghost use Rattle.prl_flow.specs.Counts.{dates_before};
 ghost use Rattle.prl_flow.specs.Programs.{name_of};
-ghost use Rattle.prl_chains.specs.Facts.{IsChain};
+ghost use Rattle.prl_chains.specs.Facts.{AppliesImports, IsChain};
 ghost use Rattle.prl_relays.specs.Relays.{input_clock, HasValues};
 ghost use Rattle.prl_app.specs.Outcomes.{chain_stage, enough_rows, or_refuse, refusal_of, values_stage};
-ghost use Rattle.prl_app.specs.Rows.{rows_of};
+ghost use Rattle.prl_app.specs.Rows.{rows_of, AreNumbers};
 
 use crate::refusals::{Part, Refusal};
 use crate::rows::rows_of;
@@ -24,6 +24,7 @@ use std::alloc::Global;
 pub fn chain_of_program(alloc: Global, program: &Program) -> Result<Chain, Refusal>
     ensures exact { Gives (λ chain. chain) refusal_of result (chain_stage (program_tree program.now)) }
     ensures sound { IfOk result IsChain }
+    ensures imports { IfOk result (AppliesImports program.now.imports) }
 {
     match chain_of(alloc, program) {
         Ok(Some(chain)) => Ok(chain),
@@ -50,6 +51,7 @@ fn enough_values(
 ) -> Result<Vec<Value>, Refusal>
     requires { IsChain chain.now }
     ensures exact { Gives vec_items refusal_of result (enough_rows chain.now values.items until) }
+    ensures same { IfOk result (λ given. given.items ≡ values.items) }
     ensures enough { IfOk result (λ values. HasValues chain.now values.items until) }
 {
     let need = rows_needed(chain, until);
@@ -64,7 +66,8 @@ fn enough_values(
 /// The values of the rows of the chain's sensor.
 fn read_values(alloc: Global, chain: &Chain, text: &[u8]) -> Result<Vec<Value>, Refusal>
     requires { IsChain chain.now }
-    ensures { Gives vec_items refusal_of result (or_refuse (Refusal.NotBuilt Part.Sensors) (rows_of (name_of chain.now.flat.in_devices 0) text.now)) }
+    ensures exact { Gives vec_items refusal_of result (or_refuse (Refusal.NotBuilt Part.Sensors) (rows_of (name_of chain.now.flat.in_devices 0) text.now)) }
+    ensures numbers { IfOk result (λ values. AreNumbers values.items) }
 {
     match rows_of(alloc, chain.flat.in_name(0).bytes(), text) {
         Ok(Some(values)) => Ok(values),
@@ -84,6 +87,7 @@ pub fn values_of(
     requires { IsChain chain.now }
     ensures exact { Gives vec_items refusal_of result (values_stage chain.now text.now until) }
     ensures enough { IfOk result (λ values. HasValues chain.now values.items until) }
+    ensures numbers { IfOk result (λ values. AreNumbers values.items) }
 {
     match read_values(alloc, chain, text) {
         Ok(values) => enough_values(alloc, chain, values, until),

@@ -3,6 +3,7 @@
 #![tactic(auto)]
 
 mod answers;
+mod bodies;
 mod chains;
 mod endings;
 mod flows;
@@ -22,6 +23,8 @@ pub use runs::Run;
 pub use top::{Status, prelude, prelude_alone};
 pub use words::{Command, Mode, WordsFault, read_words};
 
+#[cfg(test)]
+mod bodies_tests;
 #[cfg(test)]
 mod flows_tests;
 #[cfg(test)]

@@ -2,13 +2,14 @@
 
 ghost use Rattle.std.specs.Prelude.{◌≡◌, ◌<◌, ◌≤◌, [], unwrap_or, OnErr};
 ghost use Rattle.prl_io.specs.Growth.{IsWritten};
-ghost use Rattle.prl_app.specs.Endings.{file_name, named_line, placed_line, grammar_line, type_text, mismatch_line, type_free_line, types_line, short_line, limit_line, illegal_line, unfinished_line, schedule_line, refusal_line, line_of};
+ghost use Rattle.prl_app.specs.Endings.{file_name, named_line, placed_line, grammar_line, type_text, mismatch_line, type_free_line, types_line, limit_line, bodies_line, short_line, illegal_line, unfinished_line, schedule_line, refusal_line, line_of};
 
 use crate::endings::Ending;
 use crate::refusals::{GrammarFault, Part, Refusal, RunFault};
 use crate::words::Command;
 use itoa::Buffer;
 use prl_base::{Label, Limit, Ty};
+use prl_body::BodyFault;
 use prl_io::{Failed, Sink, write_all, write_pieces};
 use prl_plan::Rule;
 use prl_types::TypeFault;
@@ -30,6 +31,7 @@ fn file_name(command: &Option<Command>, part: Part) -> &[u8]
         None => &[],
         Some(command) => match part {
             Part::Program => label_bytes(&command.program),
+            Part::Bodies => label_bytes(&command.bodies),
             Part::Sensors => label_bytes(&command.sensors),
             Part::Schedule => label_bytes(&command.schedule),
         },
@@ -167,6 +169,23 @@ fn write_limit<E: Sink>(err: &mut E, limit: Limit) -> Result<(), Failed>
     )
 }
 
+/// Writes the line of a fault of bodies.
+fn write_bodies<E: Sink>(err: &mut E, fault: &BodyFault) -> Result<(), Failed>
+    ensures grown { IsWritten (E.written err.old) (E.written err.new) (bodies_line fault.now) result }
+    ensures counted { E.faults err.old ≤ E.faults err.new }
+    ensures failed { OnErr result (E.faults err.old < E.faults err.new) }
+{
+    match fault {
+        BodyFault::Syntax(at) => write_placed(err, b"23 body syntax at ", *at as u64),
+        BodyFault::Limit(limit) => write_limit(err, *limit),
+        BodyFault::BodyName(at) => write_placed(err, b"24 body name at ", *at as u64),
+        BodyFault::BodyType(at) => write_placed(err, b"22 body type at ", *at as u64),
+        BodyFault::BodyArity(at) => write_placed(err, b"21 body arity at ", *at as u64),
+        BodyFault::Missing(name) => write_two(err, b"20 body missing ", name.bytes()),
+        BodyFault::Memory => write_all(err, b"memory\n"),
+    }
+}
+
 /// Writes the line of an event that breaks a rule.
 fn write_illegal<E: Sink>(err: &mut E, line: u64, rule: Rule) -> Result<(), Failed>
     ensures grown { IsWritten (E.written err.old) (E.written err.new) (illegal_line line rule) result }
@@ -223,6 +242,7 @@ fn write_refusal<E: Sink>(
         Refusal::TooLong(part) => write_two(err, b"too long ", file_name(command, *part)),
         Refusal::Grammar(fault) => write_grammar(err, *fault),
         Refusal::Types(fault) => write_types(err, fault),
+        Refusal::Bodies(fault) => write_bodies(err, fault),
         Refusal::NotBuilt(part) => write_two(err, b"9 not built ", file_name(command, *part)),
         Refusal::Short { name, have, need } => write_short(err, name.bytes(), *have, *need),
         Refusal::Limit(limit) => write_limit(err, *limit),

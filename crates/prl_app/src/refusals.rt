@@ -1,6 +1,7 @@
 //! Why a command does not end with its text.
 
 use prl_base::{Limit, Name};
+use prl_body::BodyFault;
 use prl_plan::Rule;
 use prl_types::TypeFault;
 use std::alloc::AllocError;
@@ -9,6 +10,7 @@ use std::alloc::AllocError;
 #[derive(Clone, Copy, Debug, PartialEq, Eq)]
 pub enum Part {
     Program,
+    Bodies,
     Sensors,
     Schedule,
 }
@@ -46,6 +48,8 @@ pub enum Refusal {
     Grammar(GrammarFault),
     /// The names or the types of the program are not right.
     Types(TypeFault),
+    /// The bodies of imported nodes are not of their grammar, do not fit, or lack one.
+    Bodies(BodyFault),
     /// The file is not of the form that is built so far.
     NotBuilt(Part),
     /// The sensor has fewer rows than its flow has dates.

@@ -1,16 +1,17 @@
-//! Mode `replay`: from the bytes of a program, of its rows and of a schedule to what the jobs read and the actuator's rows.
+//! Mode `replay`: from the bytes of a program, of bodies, of sensor rows and of a schedule to what the jobs read and the actuator's rows.
 
 ghost use Rattle.std.specs.Prelude.{◌≡◌, ◌≢◌, ◌<◌, ◌^◌, IfOk, IsTrue, MatchOption, MatchResult, length};
 ghost use Rattle.prl_base.specs.declared.limits.Limit.{Limit as AnyLimit};
 ghost use Rattle.prl_base.specs.Reading.{Gives};
 ghost use Rattle.prl_ast.specs.Trees.{program_tree};
-ghost use Rattle.prl_chains.specs.Facts.{IsChain};
+ghost use Rattle.prl_chains.specs.Facts.{AppliesImports, IsChain};
 ghost use Rattle.prl_plan.specs.declared.horizons.Horizon.{Horizon as AnyHorizon};
 ghost use Rattle.prl_plan.specs.Horizons.{IsPastLimit};
 ghost use Rattle.prl_relays.specs.Relays.{is_in_time, relay_plan, HasValues, IsHorizonUpTo};
-ghost use Rattle.prl_app.specs.Outcomes.{refusal_of, Then, IsTextBy, IsRefusalBy};
-ghost use Rattle.prl_app.specs.Replays.{device_name, of_relay, in_time, relay_stage, IsScheduleOutcome, IsValuesOutcome, IsRelayOutcome, IsReplayOutcome};
+ghost use Rattle.prl_app.specs.Outcomes.{bodies_stage, refusal_of, Then, IsTextBy, IsRefusalBy};
+ghost use Rattle.prl_app.specs.Replays.{device_name, of_relay, in_time, relay_stage, IsScheduleOutcome, IsValuesOutcome, IsRelayOutcome, IsProgramReplay, IsReplayOutcome};
 
+use crate::bodies::bodies_of;
 use crate::chains::{chain_of_program, values_of};
 use crate::programs::{check_program, program_of};
 use crate::refusals::{Part, Refusal, RunFault};
@@ -53,6 +54,7 @@ fn of_relay(alloc: Global, chain: &Chain, fault: RelayFault) -> Refusal
 fn relay_of_program(alloc: Global, program: &Program) -> Result<Chain, Refusal>
     ensures exact { Gives (λ chain. chain) refusal_of result (relay_stage (program_tree program.now)) }
     ensures sound { IfOk result IsChain }
+    ensures imports { IfOk result (AppliesImports program.now.imports) }
     ensures in_time { IfOk result (λ chain. IsTrue (is_in_time chain)) }
 {
     let chain = match chain_of_program(alloc, program) {
@@ -139,42 +141,70 @@ fn chain_replayed(
     }
 }
 
-/// The text of the replay of a schedule for a program whose names and types are right.
-fn program_replayed(
+/// The text of the replay of a schedule for the chain of a program, from its bodies on, of which none is used.
+fn bodies_replayed(
     alloc: Global,
     program: &Program,
+    chain: &Chain,
+    texts: &[u8],
     sensors: &[u8],
     schedule: &[u8],
     until: u32,
 ) -> Result<Vec<u8>, Refusal>
-    ensures { MatchResult result (λ text. IsTextBy (Then (relay_stage (program_tree program.now)) (λ chain. IsRelayOutcome chain sensors.now schedule.now until)) text.items)
-        (IsRefusalBy (Then (relay_stage (program_tree program.now)) (λ chain. IsRelayOutcome chain sensors.now schedule.now until))) }
+    requires chain { IsChain chain.now }
+    requires imports { AppliesImports program.now.imports chain.now }
+    requires in_time { IsTrue (is_in_time chain.now) }
+    requires texts { length texts.now < 2 ^ 32 }
+    ensures { MatchResult result
+        (λ text. IsTextBy (Then (bodies_stage (program_tree program.now) chain.now texts.now) (λ trees. IsRelayOutcome chain.now sensors.now schedule.now until)) text.items)
+        (IsRefusalBy (Then (bodies_stage (program_tree program.now) chain.now texts.now) (λ trees. IsRelayOutcome chain.now sensors.now schedule.now until))) }
 {
-    match relay_of_program(alloc, program) {
-        Ok(chain) => chain_replayed(alloc, &chain, sensors, schedule, until),
+    match bodies_of(alloc, program, chain, texts) {
+        Ok(_) => chain_replayed(alloc, chain, sensors, schedule, until),
         Err(refusal) => Err(refusal),
     }
 }
 
-/// The text of the replay of a schedule for a program, both as bytes, with its rows, below the date `until` in ticks: a line
-/// for each read, and then the actuator's rows.
+/// The text of the replay of a schedule for a program whose names and types are right.
+fn program_replayed(
+    alloc: Global,
+    program: &Program,
+    texts: &[u8],
+    sensors: &[u8],
+    schedule: &[u8],
+    until: u32,
+) -> Result<Vec<u8>, Refusal>
+    requires { length texts.now < 2 ^ 32 }
+    ensures { MatchResult result (λ text. IsTextBy (IsProgramReplay (program_tree program.now) texts.now sensors.now schedule.now until) text.items)
+        (IsRefusalBy (IsProgramReplay (program_tree program.now) texts.now sensors.now schedule.now until)) }
+{
+    match relay_of_program(alloc, program) {
+        Ok(chain) => bodies_replayed(alloc, program, &chain, texts, sensors, schedule, until),
+        Err(refusal) => Err(refusal),
+    }
+}
+
+/// The text of the replay of a schedule for a program with bodies and rows, all as bytes, below the date `until` in ticks: a
+/// line for each read, and then the actuator's rows.
 pub fn replay(
     alloc: Global,
     text: &[u8],
+    texts: &[u8],
     sensors: &[u8],
     schedule: &[u8],
     until: u32,
 ) -> Result<Vec<u8>, Refusal>
     requires text { length text.now < 2 ^ 32 }
-    ensures { MatchResult result (λ replay. IsTextBy (IsReplayOutcome text.now sensors.now schedule.now until) replay.items)
-        (IsRefusalBy (IsReplayOutcome text.now sensors.now schedule.now until)) }
+    requires texts { length texts.now < 2 ^ 32 }
+    ensures { MatchResult result (λ replay. IsTextBy (IsReplayOutcome text.now texts.now sensors.now schedule.now until) replay.items)
+        (IsRefusalBy (IsReplayOutcome text.now texts.now sensors.now schedule.now until)) }
 {
     let program = match program_of(alloc, text) {
         Ok(program) => program,
         Err(refusal) => return Err(refusal),
     };
     match check_program(alloc, &program) {
-        Ok(()) => program_replayed(alloc, &program, sensors, schedule, until),
+        Ok(()) => program_replayed(alloc, &program, texts, sensors, schedule, until),
         Err(refusal) => Err(refusal),
     }
 }

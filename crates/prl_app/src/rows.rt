@@ -1,9 +1,9 @@
 //! Sensor rows of the form that is built so far: lines `NAME,INSTANCE,VALUE` of one sensor, each ended by a
 //! line feed. The instances count from 0 and have no leading zeros, and the values are integers.
 
-ghost use Rattle.std.specs.Prelude.{◌≡◌, IfOk};
+ghost use Rattle.std.specs.Prelude.{◌≡◌, IfOk, IfSome};
 ghost use Rattle.std.specs.Option.{option_map};
-ghost use Rattle.prl_app.specs.Rows.{after_front, row_value, rows_of};
+ghost use Rattle.prl_app.specs.Rows.{after_front, row_value, rows_of, AreNumbers};
 ghost use Rattle.std.specs.Vec.{vec_items};
 
 use itoa::Buffer;
@@ -33,7 +33,8 @@ fn row_value(name: &[u8], instance: u64, line: &[u8]) -> Option<Value>
 
 /// The values of the sensor's rows, in order of their instance; None where the text is not of the form.
 pub fn rows_of(alloc: Global, name: &[u8], text: &[u8]) -> Result<Option<Vec<Value>>, AllocError>
-    ensures { IfOk result (λ rows. option_map vec_items rows ≡ rows_of name.now text.now) }
+    ensures exact { IfOk result (λ rows. option_map vec_items rows ≡ rows_of name.now text.now) }
+    ensures numbers { IfOk result (λ rows. IfSome rows (λ values. AreNumbers values.items)) }
 {
     let lines = text.iter().filter(|byte| **byte == b'\n').count();
     let mut values = Vec::with_capacity(alloc, lines)?;

@@ -5,7 +5,7 @@ ghost use Rattle.std.specs.Vec.{vec_items};
 ghost use Rattle.prl_base.specs.Clocks.{IsClock};
 ghost use Rattle.prl_flow.specs.Programs.{IsFlat};
 ghost use Rattle.prl_flow.specs.Solutions.{AreClocks};
-ghost use Rattle.prl_app.specs.Runs.{chain_run, IsReady, out_flow, out_flows};
+ghost use Rattle.prl_app.specs.Runs.{chain_run, computation_of, IsReady, out_flow, out_flows};
 ghost use Rattle.prl_app.specs.Outcomes.{within_limit, IsTextFor, IsRefusalOf};
 
 use crate::refusals::Refusal;
@@ -16,11 +16,12 @@ use prl_flow::{Clocks, Flat, FlowFault, FlowTable, OutFlow, Sensors, evaluate};
 use prl_sensors::actuator_text;
 use std::alloc::{AllocError, Global};
 
-/// A flat program with its clocks, the rows of its sensors, and the date up to which it runs.
+/// A flat program with its clocks, its checked bodies, the rows of its sensors, and the date up to which it runs.
 #[derive(Debug, Drop)]
 pub struct Run {
     pub flat: Flat,
     pub clocks: Clocks,
+    pub bodies: Bodies,
     pub sensors: Sensors,
     /// In ticks.
     pub until: u32,
@@ -38,15 +39,17 @@ fn one<T: Drop>(alloc: Global, item: T) -> Result<Vec<T>, AllocError>
 pub fn chain_run(
     alloc: Global,
     chain: Chain,
+    bodies: Bodies,
     values: Vec<Value>,
     until: u32,
 ) -> Result<Run, AllocError>
-    ensures { IfOk result (λ run. run ≡ chain_run chain values.items until) }
+    ensures { IfOk result (λ run. run ≡ chain_run chain bodies values.items until) }
 {
     let sensors = Sensors::new(one(alloc, Seq::new(values))?);
     Ok(Run {
         flat: chain.flat,
         clocks: chain.clocks,
+        bodies,
         sensors,
         until,
     })
@@ -97,11 +100,17 @@ fn out_flows(alloc: Global, run: &Run, table: &FlowTable) -> Result<Vec<OutFlow>
 pub fn run_text(alloc: Global, run: &Run) -> Result<Vec<u8>, Refusal>
     requires ready { IsReady run.now }
     requires few { length run.now.flat.outs < 2 ^ 32 }
-    ensures { MatchResult result (λ text. IsTextFor (within_limit run.now) text.items) (IsRefusalOf (within_limit run.now)) }
+    ensures { MatchResult result (λ text. IsTextFor (within_limit (computation_of run.now)) text.items) (IsRefusalOf (within_limit (computation_of run.now))) }
 {
     let until = run.until as u64;
-    let bodies = Bodies::none(alloc);
-    let table = match evaluate(alloc, &run.flat, &run.clocks, &bodies, &run.sensors, until) {
+    let table = match evaluate(
+        alloc,
+        &run.flat,
+        &run.clocks,
+        &run.bodies,
+        &run.sensors,
+        until,
+    ) {
         Ok(table) => table,
         Err(FlowFault::Limit(limit)) => return Err(Refusal::Limit(limit)),
         Err(FlowFault::Memory) => return Err(Refusal::Memory),

@@ -22,7 +22,7 @@ use std::thread::Threads;
 /// How a call of the command ended, as its process tells it.
 #[derive(Clone, Copy, Debug, PartialEq, Eq)]
 pub struct Status {
-    /// 0: all done and all written. 1: the program is refused. 2: the words are no command. 3: a
+    /// 0: all done and all written. 1: the program or its bodies are refused. 2: the words are no command. 3: a
     /// reading failed. 4: a writing failed. 6: memory ran out. 7: a file is absent or too long. 8: the
     /// schedule is refused. 9: the sensor rows are refused.
     pub code: u8,
@@ -33,6 +33,7 @@ fn status_of_part(part: Part) -> u8
 {
     match part {
         Part::Program => 1,
+        Part::Bodies => 1,
         Part::Sensors => 9,
         Part::Schedule => 8,
     }
@@ -55,7 +56,7 @@ fn status_of_refusal(refusal: &Refusal) -> u8
 {
     match refusal {
         Refusal::Absent(_) | Refusal::TooLong(_) => 7,
-        Refusal::Grammar(_) | Refusal::Types(_) => 1,
+        Refusal::Grammar(_) | Refusal::Types(_) | Refusal::Bodies(_) => 1,
         Refusal::NotBuilt(part) => status_of_part(*part),
         Refusal::Short { .. } => 9,
         Refusal::Limit(_) => 1,

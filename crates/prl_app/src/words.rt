@@ -4,7 +4,7 @@ ghost use Rattle.std.specs.Prelude.{◌≡◌, ◌<◌, ◌≤◌, ◌^◌, map,
 ghost use Rattle.std.specs.Option.{option_map};
 ghost use Rattle.std.specs.String.{string_bytes};
 ghost use Rattle.prl_base.specs.Reading.{Gives};
-ghost use Rattle.prl_app.specs.Words.{is_value, number_up_to, option_at, at_end, flows_at, print_at, replay_at, mode_at, command_of, meaning_of, words_fault};
+ghost use Rattle.prl_app.specs.Words.{is_value, number_up_to, option_at, at_end, last_option, flows_at, print_at, replay_at, mode_at, command_of, meaning_of, words_fault};
 ghost use Rattle.prl_app.specs.OptionViews.{named};
 
 use prl_base::{Label, decimal_of};
@@ -31,6 +31,8 @@ pub struct Command {
     pub mode: Mode,
     /// The file of the program.
     pub program: Option<Label>,
+    /// The file of the bodies of imported nodes.
+    pub bodies: Option<Label>,
     /// The file of the sensor rows.
     pub sensors: Option<Label>,
     /// The file of the schedule.
@@ -108,6 +110,7 @@ fn option_at<'a>(name: &[u8], words: &'a [String]) -> Option<Taken<'a>>
 struct Options<'a> {
     mode: Mode,
     program: &'a [u8],
+    bodies: Option<&'a [u8]>,
     sensors: Option<&'a [u8]>,
     schedule: Option<&'a [u8]>,
     until: u32,
@@ -124,6 +127,20 @@ fn at_end<'a>(options: Options<'a>, rest: &[String]) -> Option<Options<'a>>
     }
 }
 
+/// The value of the option of this name, where it is all that the words are; None where there are none.
+fn last_option<'a>(name: &[u8], words: &'a [String]) -> Option<Option<&'a [u8]>>
+    ensures { option_map (option_map (λ bytes. bytes.now)) result ≡ last_option name.now (map string_bytes words.now) }
+{
+    if words.is_empty() {
+        return Some(None);
+    }
+    match option_at(name, words) {
+        Some((value, [])) => Some(Some(value)),
+        Some((_, [_, ..])) => None,
+        None => None,
+    }
+}
+
 #[tactic(auto, unfolding(crate::specs::Words::flows_at))]
 fn flows_at<'a>(words: &'a [String]) -> Option<Options<'a>>
     ensures exact { option_map named result ≡ flows_at (map string_bytes words.now) }
@@ -133,16 +150,15 @@ fn flows_at<'a>(words: &'a [String]) -> Option<Options<'a>>
     let (sensors, rest) = option_at(b"--sensors", rest)?;
     let (until, rest) = option_at(b"--until", rest)?;
     let until = number_up_to(MAX_UNTIL, until)?;
-    at_end(
-        Options {
-            mode: Mode::Flows,
-            program,
-            sensors: Some(sensors),
-            schedule: None,
-            until,
-        },
-        rest,
-    )
+    let bodies = last_option(b"--bodies", rest)?;
+    Some(Options {
+        mode: Mode::Flows,
+        program,
+        bodies,
+        sensors: Some(sensors),
+        schedule: None,
+        until,
+    })
 }
 
 #[tactic(auto, unfolding(crate::specs::Words::replay_at))]
@@ -155,16 +171,15 @@ fn replay_at<'a>(words: &'a [String]) -> Option<Options<'a>>
     let (schedule, rest) = option_at(b"--schedule", rest)?;
     let (until, rest) = option_at(b"--until", rest)?;
     let until = number_up_to(MAX_UNTIL, until)?;
-    at_end(
-        Options {
-            mode: Mode::Replay,
-            program,
-            sensors: Some(sensors),
-            schedule: Some(schedule),
-            until,
-        },
-        rest,
-    )
+    let bodies = last_option(b"--bodies", rest)?;
+    Some(Options {
+        mode: Mode::Replay,
+        program,
+        bodies,
+        sensors: Some(sensors),
+        schedule: Some(schedule),
+        until,
+    })
 }
 
 #[tactic(auto, unfolding(crate::specs::Words::print_at))]
@@ -177,6 +192,7 @@ fn print_at<'a>(words: &'a [String]) -> Option<Options<'a>>
         Options {
             mode: Mode::Print,
             program,
+            bodies: None,
             sensors: None,
             schedule: None,
             until: 0,
@@ -223,8 +239,9 @@ fn label_of(alloc: Global, name: Option<&[u8]>) -> Result<Option<Label>, AllocEr
 
 /// The command that the words ask for. The first word is the program's own name and is not read. The
 /// others are `flows --program NAME --sensors NAME --until N`, `print --program NAME` or
-/// `replay --program NAME --sensors NAME --schedule NAME --until N`, in this order: a NAME is not empty and does
-/// not begin with `-`, and N has 1 to 20 digits and is at most 2147483647.
+/// `replay --program NAME --sensors NAME --schedule NAME --until N`, in this order, and behind `flows` or `replay`
+/// may stand `--bodies NAME`: a NAME is not empty and does not begin with `-`, and N has 1 to 20 digits and is at
+/// most 2147483647.
 pub fn read_words(alloc: Global, words: &[String]) -> Result<Command, WordsFault>
     ensures exact { Gives (λ c. c) words_fault result (meaning_of (command_of (map string_bytes words.now))) }
     ensures until { IfOk result (λ c. c.until < 2 ^ 31) }
@@ -236,6 +253,7 @@ pub fn read_words(alloc: Global, words: &[String]) -> Result<Command, WordsFault
     Ok(Command {
         mode: options.mode,
         program: Some(Label::new(alloc, options.program)?),
+        bodies: label_of(alloc, options.bodies)?,
         sensors: label_of(alloc, options.sensors)?,
         schedule: label_of(alloc, options.schedule)?,
         until: options.until,

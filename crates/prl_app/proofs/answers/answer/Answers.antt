@@ -1,7 +1,7 @@
-use Rattle.std.proofs.Common.{Option, Err, ◌<◌, subst, arith}
+use Rattle.std.proofs.Common.{ℕ, List, Option, Ok, Err, ◌<◌, ◌∙◌, subst, arith}
 use Rattle.prl_app.specs.declared.refusals.Part.TheVariants as parts
 use Rattle.prl_app.specs.Endings.{Folder, IsContent, IsStop, ComesTo}
-use Rattle.prl_app.proofs.Contents.{IsStop-map, ComesTo-program, ComesTo-sensors}
+use Rattle.prl_app.proofs.Contents.{IsStop-map, ComesTo-program, ComesTo-bodies, ComesTo-sensors}
 use Rattle.prl_app.proofs.answers.answer.Goals as goal
 
 pub returns-in-Err-clause-answered : goal.returns-in-Err-clause-answered
@@ -15,10 +15,10 @@ pub returns-in-Err-read_part-clause-answered : goal.returns-in-Err-read_part-cla
 returns-in-Err-read_part-clause-answered g c =
     let told = g.F.Files.folder c.args.files.now in
     let later = g.F.Files.faults c.read_part.new.files < g.F.Files.faults c.read_part-2.new.files in
-    let content = subst (λ (t : Option Folder). IsStop later (λ refusal. IsContent t parts.Sensors c.args.command.now.sensors 33554432 (Err refusal)) c.in-Err-read_part.stop)
-    c.in-Ok.ensures.kept c.in-Err-read_part.ensures.content in
+    let content = subst (λ (t : Option Folder). IsStop later (λ refusal. IsContent t parts.Bodies c.args.command.now.bodies 1048576 (Err refusal)) c.in-Err-read_part.stop)
+      c.in-Ok.ensures.kept c.in-Err-read_part.ensures.content in
     let counted = c.in-Ok.ensures.counted in
     IsStop-map later (g.F.Files.faults c.args.files.now < g.F.Files.faults c.read_part-2.new.files)
-    (λ refusal. IsContent told parts.Sensors c.args.command.now.sensors 33554432 (Err refusal)) (λ refusal. ComesTo told c.args.command.now (Err refusal))
-    (λ h. omega (arith, h, counted)) (λ refusal. ComesTo-sensors told c.args.command.now c.in-Ok.program.items refusal c.in-Ok.ensures.content)
+    (λ refusal. IsContent told parts.Bodies c.args.command.now.bodies 1048576 (Err refusal)) (λ refusal. ComesTo told c.args.command.now (Err refusal))
+    (λ h. omega (arith, h, counted)) (λ refusal. ComesTo-bodies told c.args.command.now c.in-Ok.program.items refusal c.in-Ok.ensures.content)
     c.in-Err-read_part.stop content

@@ -7,10 +7,10 @@ use Rattle.prl_app.proofs.flows.flows.Goals as goal
 pub returns-in-Err : goal.returns-in-Err
 returns-in-Err c =
     stage_refused c.in-Err.refusal (program_outcome c.args.text.now)
-    (λ program. WithTypes program (λ outcome. chain_outcome program c.args.sensors.now c.args.until ≡ outcome)) c.in-Err.ensures
+    (λ program. WithTypes program (λ outcome. chain_outcome program c.args.texts.now c.args.sensors.now c.args.until ≡ outcome)) c.in-Err.ensures
 
 pub returns-in-Ok-check_program : goal.returns-in-Ok-check_program
 returns-in-Ok-check_program c =
-    program_typed (λ rows. rows.items) c.args.text.now (λ program outcome. chain_outcome program c.args.sensors.now c.args.until ≡ outcome)
+    program_typed (λ rows. rows.items) c.args.text.now (λ program outcome. chain_outcome program c.args.texts.now c.args.sensors.now c.args.until ≡ outcome)
     (program_tree c.in-Ok.program) c.chain_flows.result c.in-Ok.ensures c.in-Ok-check_program.ensures
-    (answers_by (λ rows. rows.items) (chain_outcome (program_tree c.in-Ok.program) c.args.sensors.now c.args.until) c.chain_flows.result c.chain_flows.ensures)
+    (answers_by (λ rows. rows.items) (chain_outcome (program_tree c.in-Ok.program) c.args.texts.now c.args.sensors.now c.args.until) c.chain_flows.result c.chain_flows.ensures)

@@ -11,7 +11,7 @@ returns c =
         clocks = chain.clocks;
         ordered = chain.ordered;
         rows = c.one_sensor_suffices.ensures c.args.chain chain c.args.values.items c.args.until c.requires.values;
-        bodies = c.chains_want_no_body.ensures.bodies c.args.chain chain [];
-        types = c.chains_want_no_body.ensures.rows c.args.chain chain (c.args.values.items ∷ []);
+        bodies = c.requires.bodies;
+        types = c.numbers_are_rows.ensures c.args.chain chain c.args.values.items c.requires.numbers;
       }),
     )
