@@ -23,4 +23,6 @@ pub use words::{Command, Mode, WordsFault, read_words};
 #[cfg(test)]
 mod flows_tests;
 #[cfg(test)]
+mod prefix_tests;
+#[cfg(test)]
 mod tests;
