@@ -28,4 +28,6 @@ mod bodies_tests;
 #[cfg(test)]
 mod flows_tests;
 #[cfg(test)]
+mod prefix_tests;
+#[cfg(test)]
 mod tests;

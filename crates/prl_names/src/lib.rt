@@ -13,7 +13,7 @@ mod tables;
 mod unknowns;
 
 pub use checks::{NameFault, check_names};
-pub use laws::{place_has_the_name, reaching_is_found};
+pub use laws::{place_has_the_name, reaching_is_found, right_names_stand_for_something};
 pub use lookups::{Callee, Names};
 
 #[cfg(test)]

@@ -4,6 +4,7 @@ use super::*;
 use prl_base::Label;
 use prl_syntax::parse;
 use std::alloc::Global;
+use std::process::Abort;
 use std::test::Fail;
 
 /// The number of a fault, and its name.
@@ -110,5 +111,117 @@ fn recursive_and_main(rt: HostRuntime) -> Result<(), Fail> {
     assert_eq!(rt; main_named(alloc, two, b"a")?, Some(0));
     assert_eq!(rt; main_named(alloc, two, b"F")?, None);
     assert!(rt; refuses(alloc, two, 10, b"j")?);
+    Ok(())
+}
+
+/// Checks that each text is refused with this number and name, where no main is named.
+fn check_refused(rt: &impl Abort, alloc: Global, cases: &[(u32, &str, &str)]) -> Result<(), Fail> {
+    for (number, name, text) in cases {
+        let text = text.as_bytes();
+        assert!(rt; text.len() < 10_000);
+        assert!(rt;
+            refuses(alloc, text, *number, name.as_bytes())?,
+            "{number} {name}"
+        );
+    }
+    Ok(())
+}
+
+#[test]
+fn each_space_of_names(rt: HostRuntime) -> Result<(), Fail> {
+    let cases = [
+        (
+            11,
+            "F",
+            "imported node F (x: int) returns (y: int) wcet 1; imported node F (x: int) returns (y: int) wcet 1;",
+        ),
+        (
+            11,
+            "f",
+            "node f (i) returns (o) let o = i; tel node f (i) returns (o) let o = i; tel",
+        ),
+        (11, "a", "actuator a wcet 1; actuator a wcet 1;"),
+        (
+            11,
+            "x",
+            "imported node F (x, x: int) returns (y: int) wcet 1;",
+        ),
+        (
+            11,
+            "y",
+            "imported node F (x: int) returns (y, y: int) wcet 1;",
+        ),
+        (11, "i", "node f (i, i) returns (o) let o = i; tel"),
+        (11, "i", "node f (i) returns (i) let tel"),
+        (11, "o", "node f (i) returns (o, o) let o = i; tel"),
+        (11, "v", "node f (i) returns (o) var v, v; let o = i; tel"),
+        (11, "o", "node f (i) returns (o) let (o, o) = (i, i); tel"),
+    ];
+    check_refused(&rt, rt.alloc(), &cases)?;
+    // Sensors, actuators, nodes and flows have names of their own.
+    let shared =
+        b"sensor a wcet 1; actuator a wcet 1; actuator o wcet 1; node a (a) returns (o) let o = a; tel";
+    assert_eq!(rt; main_named(rt.alloc(), shared, b"a")?, Some(0));
+    Ok(())
+}
+
+#[test]
+fn rows_and_their_order(rt: HostRuntime) -> Result<(), Fail> {
+    let cases = [
+        // Within a row the first of the text is told.
+        (10, "z", "node f (i) returns (o) let z = k; o = i; tel"),
+        (
+            10,
+            "k",
+            "node f (i) returns (o) let o = (i, f((i, (k)), j)); tel",
+        ),
+        (10, "k", "node f (i) returns (o) let o = k; v = j; tel"),
+        (15, "o", "node f (i) returns (o) var v; let tel"),
+        (
+            15,
+            "v",
+            "node f (i) returns (o) var v; let o = i; tel node g (i) returns (o) let tel",
+        ),
+        (16, "f", "node f (i) returns (o) let o = f(i); tel"),
+        (
+            16,
+            "f",
+            "node f (i) returns (o) let o = g(i); tel node g (i) returns (o) let o = f(i); tel",
+        ),
+        // Each row before the next one.
+        (11, "v", "node f (i) returns (o) var v, v; let o = k; tel"),
+        (10, "k", "node f (i) returns (o) var v; let o = k; tel"),
+        (15, "v", "node f (i) returns (o) var v; let o = f(i); tel"),
+        (
+            14,
+            "",
+            "sensor i wcet 1; imported node F (x: int) returns (y: int) wcet 1;",
+        ),
+    ];
+    check_refused(&rt, rt.alloc(), &cases)
+}
+
+/// The number of the fault where this main is named; none where names are right.
+fn fault_at(alloc: Global, text: &[u8], main: &[u8]) -> Result<Option<u32>, Fail>
+    requires { length text.now < 2 ^ 32 }
+{
+    let program = parse(alloc, text)?;
+    let names = Names::new(alloc, &program)?;
+    let label = Label::new(alloc, main)?;
+    match check_names(alloc, &names, Some(&label)) {
+        Ok(_) => Ok(None),
+        Err(fault) => Ok(Some(shown(&fault).0)),
+    }
+}
+
+#[test]
+fn a_main_that_is_not_there(rt: HostRuntime) -> Result<(), Fail> {
+    let alloc = rt.alloc();
+    // A cycle is told before that, and a missing device behind it.
+    let cycle = b"node f (i) returns (o) let o = f(i); tel";
+    assert_eq!(rt; fault_at(alloc, cycle, b"g")?, Some(16));
+    let right = b"node f (i) returns (o) let o = i; tel";
+    assert_eq!(rt; fault_at(alloc, right, b"g")?, Some(14));
+    assert_eq!(rt; fault_at(alloc, right, b"f")?, Some(10));
     Ok(())
 }

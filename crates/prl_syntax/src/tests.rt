@@ -1,6 +1,8 @@
 use super::*;
 use prl_ast::Base;
-use prl_base::{Op, Span, Ty, Value};
+use prl_base::{Limit, Op, Span, Ty, Value, What};
+use std::alloc::Global;
+use std::process::Abort;
 use std::test::*;
 
 const SAMPLING: &[u8] = b"imported node F(i, j: int) returns (o, p: int) wcet 2;
@@ -121,6 +123,228 @@ fn ranges(rt: HostRuntime) -> Result<(), Fail> {
             parse(alloc, b"node n () returns (o) let o = 2147483648; tel",),
             Err(ParseFault::NumberRange(30))
         )
+    );
+    Ok(())
+}
+
+/// Texts longer than any of these tests.
+const LONG: usize = 100_000;
+
+/// The fault of a text, if it has one.
+fn fault(alloc: Global, text: &[u8]) -> Option<ParseFault> {
+    if text.len() > LONG {
+        return Some(ParseFault::Memory);
+    }
+    match parse(alloc, text) {
+        Ok(_) => None,
+        Err(fault) => Some(fault),
+    }
+}
+
+#[test]
+fn productions(rt: HostRuntime) -> Result<(), Fail> {
+    let texts = [
+        "sensor s wcet 1; actuator a wcet 1; imported node F () returns (o: int) wcet 1;",
+        "imported node F (a, b: int, c: bool; d: int) returns (o: int, p: bool; q: int) wcet 1;",
+        "node n () returns (o) let tel",
+        "node n () returns (o) let tel; node m () returns (o) let tel",
+        "node n (a, b; c: int, d: rate (5, 1/2); e: due 3, f: int rate (5, 0) due 3; g: bool due 0, h: rate (5, 0) due 3, i: int rate (1, 0)) returns (o) let tel",
+        "node n () returns (o; p: int) var v, w: int; x; y: bool, z; let tel",
+        "node n () returns (o) let o = 1; (o) = true; (o, p) = false; o = -1; tel",
+        "node n () returns (o) let o = f(); o = f(i, 1); o = (i); o = (i, 1); o = ((f((i)))); tel",
+        "node n () returns (o) let o = 0 fby -1 :: true fby tail i *^ 1 /^ 2 ~> 1/2 ~> 3; o = 0 fby 1; tel",
+    ];
+    for text in texts {
+        assert_eq!(rt; fault(rt.alloc(), text.as_bytes()), None, "{text}");
+    }
+    Ok(())
+}
+
+#[test]
+fn unexpected_tokens(rt: HostRuntime) -> Result<(), Fail> {
+    let texts = [
+        (9, "imported F"),
+        (18, "imported node F (a) returns (o: int) wcet 1;"),
+        (28, "imported node F () returns () wcet 1;"),
+        (43, "imported node F () returns (o: int) wcet 1 sensor"),
+        (8, "sensor s"),
+        (14, "sensor s wcet x;"),
+        (5, "node let () returns (o) let tel"),
+        (19, "node n () returns () let tel"),
+        (15, "node n (a: int b) returns (o) let tel"),
+        (10, "node n (a b) returns (o) let tel"),
+        (10, "node n (a,: int) returns (o) let tel"),
+        (10, "node n (a:) returns (o) let tel"),
+        (17, "node n (a: due 3 rate (1, 0)) returns (o) let tel"),
+        (16, "node n (a: rate 5) returns (o) let tel"),
+        (18, "node n (a: rate (5)) returns (o) let tel"),
+        (26, "node n () returns (o) var let tel"),
+        (28, "node n () returns (o) var v let tel"),
+        (27, "node n () returns (o) let () = i; tel"),
+        (28, "node n () returns (o) let o i; tel"),
+        (31, "node n () returns (o) let o = (); tel"),
+        (34, "node n () returns (o) let o = f(i,); tel"),
+        (31, "node n () returns (o) let o = -true; tel"),
+        (32, "node n () returns (o) let o = i fby 1; tel"),
+        (32, "node n () returns (o) let o = i * 3; tel"),
+        (34, "node n () returns (o) let o = tail; tel"),
+        (35, "node n () returns (o) let o = i *^ x; tel"),
+        (37, "node n () returns (o) let o = i ~> 1/; tel"),
+        (31, "node n () returns (o) let o = i"),
+        (37, "node n () returns (o) let o = i; tel tel"),
+        (37, "node n () returns (o) let o = i; tel;;"),
+    ];
+    for (at, text) in texts {
+        assert_eq!(rt;
+            fault(rt.alloc(), text.as_bytes()),
+            Some(ParseFault::Unexpected(at)),
+            "{text}"
+        );
+    }
+    Ok(())
+}
+
+/// What is in front of a number and behind it.
+type Around = (&'static str, &'static str);
+
+/// Where numbers from 1 to 2^31 - 1 stand.
+const FROM_ONE: [Around; 8] = [
+    ("imported node F () returns (o: int) wcet ", ";"),
+    ("sensor s wcet ", ";"),
+    ("actuator a wcet ", ";"),
+    ("node n (i: rate (", ", 0)) returns (o) let tel"),
+    ("node n (i: rate (10, 1/", ")) returns (o) let tel"),
+    ("node n () returns (o) let o = i *^ ", "; tel"),
+    ("node n () returns (o) let o = i /^ ", "; tel"),
+    ("node n () returns (o) let o = i ~> 1/", "; tel"),
+];
+
+/// Where numbers from 0 to 2^31 - 1 stand.
+const FROM_ZERO: [Around; 6] = [
+    ("node n (i: rate (10, ", ")) returns (o) let tel"),
+    ("node n (i: due ", ") returns (o) let tel"),
+    ("node n () returns (o) let o = i ~> ", "; tel"),
+    ("node n () returns (o) let o = ", "; tel"),
+    ("node n () returns (o) let o = ", " fby i; tel"),
+    ("node n () returns (o) let o = ", " :: i; tel"),
+];
+
+/// Where digits behind a minus stand.
+const BEHIND_MINUS: [Around; 3] = [
+    ("node n () returns (o) let o = -", "; tel"),
+    ("node n () returns (o) let o = -", " fby i; tel"),
+    ("node n () returns (o) let o = -", " :: i; tel"),
+];
+
+/// Whether the text is read with the number in its place. None where it is refused for another reason than this
+/// number's range.
+fn takes(alloc: Global, around: Around, number: &str) -> Result<Option<bool>, Fail> {
+    let (front, back) = around;
+    let text = format!(in alloc; "{front}{number}{back}")?;
+    match fault(alloc, text.as_bytes()) {
+        None => Ok(Some(true)),
+        Some(ParseFault::NumberRange(at)) => {
+            if at as usize == front.len() {
+                Ok(Some(false))
+            } else {
+                Ok(None)
+            }
+        }
+        Some(_) => Ok(None),
+    }
+}
+
+/// Tries each number at each place.
+fn check_range(
+    rt: &impl Abort,
+    alloc: Global,
+    places: &[Around],
+    numbers: &[(&str, bool)],
+) -> Result<(), Fail> {
+    for around in places {
+        for (number, taken) in numbers {
+            let front = around.0;
+            assert_eq!(rt;
+                takes(alloc, *around, number)?,
+                Some(*taken),
+                "{front}{number}"
+            );
+        }
+    }
+    Ok(())
+}
+
+#[test]
+fn edges_of_ranges(rt: HostRuntime) -> Result<(), Fail> {
+    let alloc = rt.alloc();
+    let from_one = [
+        ("0", false),
+        ("1", true),
+        ("2147483647", true),
+        ("2147483648", false),
+    ];
+    check_range(&rt, alloc, &FROM_ONE, &from_one)?;
+    let from_zero = [("0", true), ("2147483647", true), ("2147483648", false)];
+    check_range(&rt, alloc, &FROM_ZERO, &from_zero)?;
+    let behind_minus = [("0", true), ("2147483648", true), ("2147483649", false)];
+    check_range(&rt, alloc, &BEHIND_MINUS, &behind_minus)
+}
+
+#[test]
+fn order_of_the_faults(rt: HostRuntime) -> Result<(), Fail> {
+    // A number past 2^64 - 1 is no token, and so comes before what is unexpected; others come behind it.
+    let texts = [
+        (
+            "sensor sensor 18446744073709551616",
+            ParseFault::NumberRange(14),
+        ),
+        (
+            "sensor sensor 18446744073709551615",
+            ParseFault::Unexpected(7),
+        ),
+        ("sensor sensor ?", ParseFault::BadToken(14)),
+        (
+            "sensor s wcet 0; sensor t wcet 2147483648;",
+            ParseFault::NumberRange(14),
+        ),
+    ];
+    for (text, told) in texts {
+        assert_eq!(rt; fault(rt.alloc(), text.as_bytes()), Some(told), "{text}");
+    }
+    Ok(())
+}
+
+/// A text of so many nodes, with this WCET of a sensor behind them.
+fn nodes(alloc: Global, count: u32, wcet: &str) -> Result<Vec<u8>, Fail> {
+    let mut text = Vec::new(alloc);
+    for _ in 0..count {
+        text.extend_from_slice(b"node n () returns (o) let tel ")?;
+    }
+    text.extend_from_slice(b"sensor s wcet ")?;
+    text.extend_from_slice(wcet.as_bytes())?;
+    text.push(b';')?;
+    Ok(text)
+}
+
+#[test]
+fn limit_of_nodes(rt: HostRuntime) -> Result<(), Fail> {
+    let alloc = rt.alloc();
+    let most = nodes(alloc, 256, "1")?;
+    assert_eq!(rt; fault(alloc, most.as_slice()), None);
+    let past = nodes(alloc, 257, "1")?;
+    let limit = Limit {
+        what: What::Nodes,
+        found: 257,
+    };
+    assert_eq!(rt;
+        fault(alloc, past.as_slice()),
+        Some(ParseFault::Limit(limit))
+    );
+    // A number's range comes before the limit: 257 nodes of 30 bytes, and 14 bytes up to the number.
+    let both = nodes(alloc, 257, "0")?;
+    assert_eq!(rt;
+        fault(alloc, both.as_slice()),
+        Some(ParseFault::NumberRange(7724))
     );
     Ok(())
 }

@@ -20,6 +20,11 @@ pub record IsTyped (p : ProgramTree) (main : Option (List ℕ)) (node : ℕ) (ty
   pub arity : arity_faults p ≡ []
   pub only : AreTypes (rules_of p) (count_of p) types
 
+-- nothing is wrong, whichever way main was asked for
+pub record IsRight (p : ProgramTree) (node : ℕ) (types : List Ty) : Type 0 where
+  pub main : Option (List ℕ)
+  pub typed : IsTyped p main node types
+
 -- the names are right, and this is the first place with another number of flows than is needed
 pub record HasArityFault (p : ProgramTree) (main : Option (List ℕ)) (at : ℕ) : Type 0 where
   pub node : ℕ

@@ -2,9 +2,10 @@ ghost use Rattle.std.specs.Prelude.{◌<◌, ◌^◌, length};
 
 use super::*;
 use prl_ast::Program;
-use prl_base::{Label, Ty};
+use prl_base::{Label, Name, Ty};
 use prl_syntax::parse;
 use std::alloc::{AllocError, Global};
+use std::process::Abort;
 use std::test::*;
 
 /// What is wrong with the program of the text, as far as these tests ask.
@@ -17,6 +18,10 @@ enum Seen {
     Free(u8, u8),
     /// The first byte of the name.
     Unknown(u8),
+    Twice(u8),
+    Undefined(u8),
+    Recursive(u8),
+    NoMain,
     Other,
 }
 
@@ -29,19 +34,25 @@ fn fault_of(alloc: Global, program: &Program) -> Result<Option<TypeFault>, Alloc
     }
 }
 
+/// The first byte of the name; 0 where it has none.
+fn first_of(name: &Name) -> u8 {
+    match name.bytes() {
+        [first, ..] => *first,
+        [] => 0,
+    }
+}
+
 fn shown(fault: &TypeFault) -> Seen {
     match fault {
         TypeFault::Arity(at) => Seen::Arity(*at),
         TypeFault::Mismatch { at, wanted, found } => Seen::Mismatch(*at, *wanted, *found),
-        TypeFault::TypeFree { node, name } => match (node.bytes(), name.bytes()) {
-            ([n, ..], [f, ..]) => Seen::Free(*n, *f),
-            _ => Seen::Other,
-        },
-        TypeFault::Unknown(name) => match name.bytes() {
-            [n, ..] => Seen::Unknown(*n),
-            [] => Seen::Other,
-        },
-        _ => Seen::Other,
+        TypeFault::TypeFree { node, name } => Seen::Free(first_of(node), first_of(name)),
+        TypeFault::Unknown(name) => Seen::Unknown(first_of(name)),
+        TypeFault::Twice(name) => Seen::Twice(first_of(name)),
+        TypeFault::Undefined(name) => Seen::Undefined(first_of(name)),
+        TypeFault::Recursive(name) => Seen::Recursive(first_of(name)),
+        TypeFault::NoMain => Seen::NoMain,
+        TypeFault::Memory => Seen::Other,
     }
 }
 
@@ -161,5 +172,163 @@ fn rules_of_types(rt: HostRuntime) -> Result<(), Fail> {
         b"sensor i wcet 1; actuator o wcet 1; node g (x: bool) returns (y: int) let y = x; tel node main (i: int) returns (o) let o = i; tel",
     )?;
     assert_eq!(rt; unused, Seen::Mismatch(74, Ty::Int, Ty::Bool));
+    Ok(())
+}
+
+/// What stands before the equations of the programs below: 267 bytes.
+const DECLARED: &str =
+    "imported node F(x: int) returns (a, b: int) wcet 1; imported node G(x, y: int; z: bool) returns (c: int) wcet 1; imported node Z() returns (c: bool) wcet 1; sensor i wcet 1; actuator o wcet 1; node h (x: int) returns (y) let y = x; tel node main (i: int) returns (o) ";
+
+/// Checks the outcome of each program, of which the text behind `front` is given.
+fn check_outcomes(
+    rt: &impl Abort,
+    alloc: Global,
+    front: &str,
+    cases: &[(Seen, &str)],
+) -> Result<(), Fail> {
+    for (seen, rest) in cases {
+        let text = format!(in alloc; "{front}{rest}")?;
+        let bytes = text.as_bytes();
+        assert!(rt; bytes.len() < 10_000);
+        assert_eq!(rt; outcome(alloc, bytes)?, *seen, "{rest}");
+    }
+    Ok(())
+}
+
+#[test]
+fn several_flows(rt: HostRuntime) -> Result<(), Fail> {
+    let cases = [
+        // Groups, applications with several outputs, and applications in applications.
+        (Seen::Nothing, "var p; let (o, p) = F(i); tel"),
+        (Seen::Nothing, "var p; let (o, p) = F(G(F(i), Z())); tel"),
+        (
+            Seen::Nothing,
+            "var p, q; let (o, p, q) = ((F(i)), h((h((i))))); tel",
+        ),
+        (Seen::Nothing, "let o = G((i, i), Z() ~> 1); tel"),
+        // An application is told at its name,
+        (Seen::Arity(275), "let o = G(F(i), i, Z()); tel"),
+        (Seen::Arity(275), "let o = G(); tel"),
+        (Seen::Arity(275), "let o = Z(i); tel"),
+        (Seen::Arity(275), "let o = h((i, i)); tel"),
+        // an operator at its own place, the innermost first,
+        (Seen::Arity(280), "let o = F(i) *^ 3; tel"),
+        (Seen::Arity(280), "let o = F(i) /^ 3 *^ 3; tel"),
+        (Seen::Arity(286), "let o = 0 fby true :: (i, i); tel"),
+        (Seen::Arity(287), "let o = tail (i, i) /^ 1; tel"),
+        // and an equation at its first token.
+        (Seen::Arity(278), "var p; let (o, p) = i; tel"),
+        (Seen::Arity(278), "var p; let (o, p) = (F(i), i); tel"),
+    ];
+    check_outcomes(&rt, rt.alloc(), DECLARED, &cases)
+}
+
+#[test]
+fn places_of_types(rt: HostRuntime) -> Result<(), Fail> {
+    let wants_int = |at| Seen::Mismatch(at, Ty::Int, Ty::Bool);
+    let wants_bool = |at| Seen::Mismatch(at, Ty::Bool, Ty::Int);
+    let cases = [
+        (wants_int(290), "let o = h((0 fby (true fby i))); tel"),
+        (wants_bool(283), "let o = G(F(i), i); tel"),
+        (wants_bool(280), "let o = G(i, F(i)); tel"),
+        (wants_int(280), "let o = G(i, true, i); tel"),
+        (wants_bool(288), "var p: bool; let (o, p) = F(i); tel"),
+        (wants_bool(291), "var p: bool; let o = i; p = i /^ 3; tel"),
+        // The first rule that contradicts the earlier ones.
+        (
+            wants_bool(287),
+            "var p: bool, q; let p = i; q = true fby i; o = i; tel",
+        ),
+        // A local that is a copy of its own past has any type.
+        (
+            Seen::Free(b'm', b'p'),
+            "var p, q; let o = i; p = q; q = p ~> 1; tel",
+        ),
+    ];
+    check_outcomes(&rt, rt.alloc(), DECLARED, &cases)
+}
+
+#[test]
+fn each_row_before_the_next(rt: HostRuntime) -> Result<(), Fail> {
+    let cases = [
+        (Seen::Twice(b'p'), "var p, p; let o = k; tel"),
+        (Seen::Unknown(b'k'), "var p; let o = k; tel"),
+        (Seen::Undefined(b'p'), "var p; let o = main(i); tel"),
+        (Seen::Recursive(b'm'), "let o = main(i); tel"),
+    ];
+    check_outcomes(&rt, rt.alloc(), DECLARED, &cases)?;
+    let whole = [
+        (
+            Seen::Recursive(b'h'),
+            "node h (x) returns (y) let y = h(x); tel",
+        ),
+        (
+            Seen::Recursive(b'm'),
+            "node main (x) returns (y) let y = main(x); tel",
+        ),
+        (Seen::NoMain, "node h (x) returns (y) let y = (x, x); tel"),
+    ];
+    check_outcomes(&rt, rt.alloc(), "", &whole)
+}
+
+/// The type of a parameter, where its node has one of this number.
+fn type_at(typed: &Typed<'_>, node: u32, param: u32) -> Option<Ty> {
+    let nodes = typed.program().nodes.as_slice();
+    if node as usize >= nodes.len() {
+        return None;
+    }
+    let owner = &nodes[node as usize];
+    let count = owner
+        .ins
+        .len()
+        .checked_add(owner.outs.len())?
+        .checked_add(owner.locals.len())?;
+    if param as usize >= count {
+        return None;
+    }
+    Some(typed.ty(node, param))
+}
+
+/// The place of main and the type of a parameter; none where the program is refused.
+fn typing(
+    alloc: Global,
+    program: &Program,
+    main: Option<&Label>,
+    node: u32,
+    param: u32,
+) -> Option<(u32, Option<Ty>)> {
+    match check_names_types(alloc, program, main) {
+        Ok(typed) => Some((typed.main(), type_at(&typed, node, param))),
+        Err(_) => None,
+    }
+}
+
+#[test]
+fn types_by_place(rt: HostRuntime) -> Result<(), Fail> {
+    let alloc = rt.alloc();
+    let program = parse(
+        alloc,
+        b"sensor i wcet 1; actuator o wcet 1; actuator z wcet 1; node h (x: bool) returns (y) var v, w; let w = 1; y = v; v = x; tel node main (i: int) returns (o) let o = 0 fby i; tel node last () returns (z) let z = true; tel",
+    )?;
+    let main = Label::new(alloc, b"main")?;
+    // Inputs, outputs and locals, one behind the other.
+    let types = [
+        (0, 0, Some(Ty::Bool)),
+        (0, 1, Some(Ty::Bool)),
+        (0, 2, Some(Ty::Bool)),
+        (0, 3, Some(Ty::Int)),
+        (0, 4, None),
+        (1, 0, Some(Ty::Int)),
+        (1, 1, Some(Ty::Int)),
+        (2, 0, Some(Ty::Bool)),
+        (3, 0, None),
+    ];
+    for (node, param, ty) in types {
+        assert_eq!(rt;
+            typing(alloc, &program, Some(&main), node, param),
+            Some((1, ty))
+        );
+        assert_eq!(rt; typing(alloc, &program, None, node, param), Some((2, ty)));
+    }
     Ok(())
 }

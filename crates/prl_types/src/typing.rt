@@ -8,7 +8,7 @@ ghost use Rattle.prl_types.specs.Rules.{rules_of};
 ghost use Rattle.prl_types.specs.Arity.{arity_faults};
 ghost use Rattle.prl_types.specs.Solutions.{AreTypes, Explains};
 ghost use Rattle.prl_names.specs.Checks.{names_of};
-ghost use Rattle.prl_types.specs.Typing.{IsTyped, IsFault, HasParameter, IsTypeOf, IsOpen, of_names};
+ghost use Rattle.prl_types.specs.Typing.{IsTyped, IsRight, IsFault, HasParameter, IsTypeOf, IsOpen, of_names};
 ghost use Rattle.std.specs.Prelude.{Ok};
 
 use crate::arities::arity_fault;
@@ -40,6 +40,7 @@ impl<'a> Model for Typed<'a> {
     ghost use Rattle.prl_ast.specs.contracts.expressions.Base as base;
     ghost use Rattle.prl_types.specs.Contexts.{AreFirsts};
     ghost use Rattle.prl_types.specs.Parameters.{count_of};
+    ghost use Rattle.prl_types.specs.Typing.{IsRight};
     ghost use Rattle.prl_types.specs.Typings.{Typing};
 
     ghost Value = { Typing };
@@ -48,7 +49,7 @@ impl<'a> Model for Typed<'a> {
 
     ghost view = { λ t. record { program = t.program.now; main = t.main; types = t.types.items } };
 
-    ghost invariant = { λ t. AreFirsts t.firsts.items (program_tree t.program.now) × (length t.types.items ≡ count_of (program_tree t.program.now)) };
+    ghost invariant = { λ t. AreFirsts t.firsts.items (program_tree t.program.now) × (length t.types.items ≡ count_of (program_tree t.program.now)) × IsRight (program_tree t.program.now) t.main t.types.items };
 }
 
 impl<'a> Typed<'a> {
@@ -61,7 +62,9 @@ impl<'a> Typed<'a> {
 
     /// The place of the main node in the list of nodes, counted from 0.
     pub fn main(&self) -> u32
-        ensures { result ≡ self.now.main }
+        ensures main { result ≡ self.now.main }
+        // Nothing is wrong with the program, and these are the only types that its rules leave.
+        ensures right { IsRight (program_tree self.now.program) self.now.main self.now.types }
     {
         self.main
     }
