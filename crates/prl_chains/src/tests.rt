@@ -1,11 +1,13 @@
-ghost use Rattle.std.specs.Prelude.{◌≡◌, ◌<◌, ◌^◌, ℕ, Some, length, slice_get, IfOk};
+ghost use Rattle.std.specs.Prelude.{◌≡◌, ◌<◌, ◌^◌, ℕ, [], ◌∷◌, Some, length, slice_get, IfOk};
 ghost use Rattle.prl_base.specs.Values.{type_of};
 ghost use Rattle.prl_base.specs.declared.values.Ty.TheVariants as types;
 ghost use Rattle.prl_base.specs.declared.values.Value.{Value as AnyValue};
+ghost use Rattle.prl_flow.specs.Applications.{HaveBodies};
+ghost use Rattle.prl_chains.specs.Facts.{IsChain};
 
 use super::*;
 use prl_base::{Clock, FlowNo, Op, Seq, Value};
-use prl_body::check_bodies;
+use prl_body::{Bodies, check_bodies};
 use prl_bodytext::parse_bodies;
 use prl_flow::{Def, Sensors, dates_before, evaluate};
 use prl_syntax::parse;
@@ -161,6 +163,44 @@ fn ints(alloc: Global, values: &[i32]) -> Result<Vec<Value>, Fail>
     Ok(ints)
 }
 
+/// The rows of the one sensor.
+fn sensors_of(alloc: Global, values: Vec<Value>) -> Result<Sensors, Fail>
+    ensures { IfOk result (λ sensors. sensors ≡ values.items ∷ []) }
+{
+    let mut rows = Vec::with_capacity(alloc, 1)?;
+    rows.push(Seq::new(values))?;
+    Ok(Sensors::new(rows))
+}
+
+/// The flow of the actuator.
+fn output_of(chain: &Chain) -> FlowNo
+    requires { IsChain chain.now }
+    ensures { result.0 < length chain.now.flat.flows }
+{
+    chain.flat.outs()[0]
+}
+
+/// The values of the actuator of a chain with these bodies on these rows.
+fn values_of(
+    alloc: Global,
+    chain: &Chain,
+    bodies: &Bodies,
+    rows: &[i32],
+) -> Result<Vec<Value>, Fail>
+    requires chain { IsChain chain.now }
+    requires bodies { HaveBodies chain.now.flat bodies.now }
+{
+    one_sensor_suffices();
+    numbers_are_rows();
+    if (rows.len() as u64) < dates_before(60, chain.input_clock()) {
+        return Err(Fail::from("short"));
+    }
+    let values = ints(alloc, rows)?;
+    let sensors = sensors_of(alloc, values)?;
+    let table = evaluate(alloc, &chain.flat, &chain.clocks, bodies, &sensors, 60)?;
+    Ok(table.values(output_of(chain)).to_vec(alloc)?)
+}
+
 /// The values of the actuator of a program with these bodies on these rows.
 fn outputs(alloc: Global, text: &[u8], bodies: &[u8], rows: &[i32]) -> Result<Vec<Value>, Fail>
     requires text { length text.now < 2 ^ 32 }
@@ -172,25 +212,28 @@ fn outputs(alloc: Global, text: &[u8], bodies: &[u8], rows: &[i32]) -> Result<Ve
     let used = used_imports(alloc, imports, &chain)?;
     let texts = parse_bodies(alloc, bodies)?;
     let bodies = check_bodies(alloc, &texts, imports, &used)?;
-    one_sensor_suffices();
-    numbers_are_rows();
     applied_imports_have_bodies();
-    if (rows.len() as u64) < dates_before(60, chain.input_clock()) {
-        return Err(Fail::from("short"));
-    }
-    let sensors = Sensors::new(vec![in alloc; Seq::new(ints(alloc, rows)?)]?);
-    let table = evaluate(alloc, &chain.flat, &chain.clocks, &bodies, &sensors, 60)?;
-    Ok(table.values(chain.flat.outs()[0]).to_vec(alloc)?)
+    values_of(alloc, &chain, &bodies, rows)
 }
 
 #[test]
 fn applications(rt: HostRuntime) -> Result<(), Fail> {
     let alloc = rt.alloc();
     let rows: [i32; 6] = [1, 2, 3, 4, 5, 6];
-    let sums = outputs(alloc, SUM, b"body G { reg a = 0; y = a + x; a = a + x; }", &rows)?;
+    let sums = outputs(
+        alloc,
+        SUM,
+        b"body G { reg a = 0; y = a + x; a = a + x; }",
+        &rows,
+    )?;
     assert_eq!(rt; sums, ints(alloc, &[1, 3, 6, 10, 15, 21])?);
     // 1 - 10, and then each input less the one before.
-    let differences = outputs(alloc, DIFFERENCE, b"body F { d = a - b; s = a + b; }", &rows)?;
+    let differences = outputs(
+        alloc,
+        DIFFERENCE,
+        b"body F { d = a - b; s = a + b; }",
+        &rows,
+    )?;
     assert_eq!(rt; differences, ints(alloc, &[-9, 1, 1, 1, 1, 1])?);
     Ok(())
 }
