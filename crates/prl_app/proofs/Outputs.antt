@@ -23,7 +23,6 @@ use Rattle.prl_ast.specs.Trees.{ProgramTree}
 use Rattle.prl_chains.specs.declared.chains.Chain.{Chain}
 use Rattle.prl_app.specs.Outcomes.{bodies_stage, chain_outcome, chain_stage, values_stage, within_limit}
 
-
 -- what holds at each place holds of each
 all_by_places : {A : Type 0} (P : A → Type 0) (xs : List A) → ((k : ℕ) (x : A) → slice_get xs k ≡ Some x → P x) → AllByRecursion P xs
 all_by_places P [] h = tt

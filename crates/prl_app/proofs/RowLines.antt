@@ -1,5 +1,5 @@
 -- Rows line by line.
-use Rattle.std.specs.Prelude.{codes, ℤ, slice_get}
+use Rattle.std.specs.Prelude.{codes, ℤ}
 use Rattle.std.specs.Fmt.{decimal}
 use Rattle.prl_base.specs.Decimals.{integer_of}
 use Rattle.prl_base.specs.Values.{type_of}

@@ -11,5 +11,5 @@ pub returns : goal.returns
 returns c =
     subst (λ (outcome : Result Asked Refusal). MatchResult c.run_text.result (λ text. IsTextFor outcome text.items) (IsRefusalOf outcome))
     (sym (chain_outcome-run c.args.texts.now c.args.sensors.now c.args.until (program_tree c.args.program.now) c.in-Ok.chain c.in-Ok-bodies_of.bodies
-      c.in-Ok-values_of.values.items c.in-Ok-run_of.run' c.in-Ok.ensures.exact c.in-Ok-bodies_of.ensures.exact c.in-Ok-values_of.ensures.exact c.in-Ok-run_of.ensures.0))
+    c.in-Ok-values_of.values.items c.in-Ok-run_of.run' c.in-Ok.ensures.exact c.in-Ok-bodies_of.ensures.exact c.in-Ok-values_of.ensures.exact c.in-Ok-run_of.ensures.0))
     c.run_text.ensures

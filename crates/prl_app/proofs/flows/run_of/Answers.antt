@@ -1,4 +1,4 @@
-use Rattle.std.proofs.Common.{[], ◌∷◌, sym, subst}
+use Rattle.std.proofs.Common.{sym, subst}
 use Rattle.prl_app.specs.Runs.{IsReady}
 use Rattle.prl_app.proofs.flows.run_of.Goals as goal
 
