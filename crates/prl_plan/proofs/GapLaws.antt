@@ -8,7 +8,7 @@ use Rattle.std.proofs.lemmas.List.Sums.{sum_by-cons, sum_by-take-le}
 use Rattle.prl_plan.specs.CellSearch.{ListsGaps}
 use Rattle.prl_plan.proofs.UsedLaws.{sum-all, sum-up-to}
 
-sum-push : (xs : List ℕ) (g : ℕ) → sum (xs ++ g ∷ []) ≡ sum xs + g
+pub sum-push : (xs : List ℕ) (g : ℕ) → sum (xs ++ g ∷ []) ≡ sum xs + g
 sum-push [] g = (let e : sum (g ∷ []) ≡ g + sum [] = sum_by-cons (λ y. y) g [] in omega (arith, e))
 sum-push (x ∷ xs) g =
     let rest = sum-push xs g in
@@ -168,10 +168,30 @@ module _ (R : ℕ → Type 0) (span : ℕ) (gaps : List ℕ) (some : 1 ≤ span)
       let e : y + q * span ≡ x = (let a : span * (x / span) + x % span ≡ x = omega arith in let f : span * (x / span) ≡ x / span * span = omega arith in omega (arith, a, f)) in
       let low = lists.all y (omega (arith, small)) (down-again q y (subst R (sym e) is)) in
       elim (cases_lt low.0 (length gaps)) [
-        | inl below ↦ (q * length gaps + low.0, at-pair q low.0 below ∙ (let l = low.2 in omega (arith, l, e)))
+        | inl below ↦ (q * length gaps + low.0, (let a = at-pair q low.0 below in let l = low.2 in omega (arith, a, l, e)))
         | inr above ↦ absurd
             (let t : take low.0 gaps ≡ gaps = take_all low.0 gaps above in
             let l : sum gaps ≡ y = sym (ap sum t) ∙ low.2 in
             let f = full in
             omega (arith, l, f, small))
       ]
+
+-- one number more that has R, or that has not
+pub gaps-more : (R : ℕ → Type 0) (x last next : ℕ) (gaps more : List ℕ) → last ≡ sum gaps → last ≤ x → (R 0 → ListsGaps R x gaps) → R (x + 1) → next ≡ x + 1 →
+    more ≡ gaps ++ (x + 1 - last) ∷ [] → (next ≡ sum more) × (next ≤ x + 1) × (R 0 → ListsGaps R (x + 1) more)
+gaps-more R x last next gaps more adds small lists here at is =
+    let s = sum-push gaps (x + 1 - last) in
+    let m = ap sum is in (
+      omega (arith, s, m, adds, small, at),
+      omega (arith, at),
+      (λ first. subst (λ (l : List ℕ). ListsGaps R (x + 1) l) (sym is) (found R x gaps (x + 1 - last) (lists first) here (omega (arith, adds, small)))),
+    )
+
+pub gaps-same : (R : ℕ → Type 0) (x last next : ℕ) (gaps more : List ℕ) → last ≡ sum gaps → last ≤ x → (R 0 → ListsGaps R x gaps) → (R (x + 1) → ⊥) → next ≡ last →
+    more ≡ gaps → (next ≡ sum more) × (next ≤ x + 1) × (R 0 → ListsGaps R (x + 1) more)
+gaps-same R x last next gaps more adds small lists not at is =
+    let m = ap sum is in (
+      omega (arith, m, adds, at),
+      omega (arith, small, at),
+      (λ first. subst (λ (l : List ℕ). ListsGaps R (x + 1) l) (sym is) (passed R x gaps (lists first) not)),
+    )

@@ -24,3 +24,5 @@ pub mod JobTableLaws
 pub mod ReaderLaws
 pub mod GapLaws
 pub mod CellPeriods
+pub mod CellSteps
+pub mod CellTables

@@ -1,0 +1,183 @@
+-- From the search over one hyperperiod to the cells of an edge and of a graph.
+use Rattle.std.proofs.Common.{◌≡◌, ◌+◌, ◌*◌, ◌<◌, ◌≤◌, ◌++◌, ◌^◌, ℕ, zero, suc, List, [], ◌∷◌, length, take, sum, Some, inl, inr, refl, sym, ◌∙◌, ap, subst, arith, eqb, cond}
+use Rattle.std.specs.Prelude.{ℤ, pos, ◌+ℤ◌, ◌≤ℤ◌, MatchOption, Option, slice_get, slice_index, slice_index_or, if◌then◌else◌, ◌==◌}
+use Rattle.std.proofs.lemmas.Bool.{cases_lt}
+use Rattle.std.proofs.lemmas.Int.{ints}
+use Rattle.std.proofs.lemmas.List.{take_all, take-append-le, length_push, get_or_push, get_or_append_left}
+use Rattle.prl_base.specs.declared.numbers.TaskNo.{TaskNo}
+use Rattle.prl_base.specs.declared.values.Value.{Value}
+use Rattle.prl_base.specs.declared.operators.Op.{Op}
+use Rattle.prl_plan.specs.declared.graphs.Edge.{Edge}
+use Rattle.prl_plan.specs.declared.graphs.TaskGraph.{TaskGraph}
+use Rattle.prl_plan.specs.declared.graphs.Producer.{Producer}
+use Rattle.prl_plan.specs.declared.graphs.Producer.TheVariants as producers
+use Rattle.prl_plan.specs.declared.tables.Used.{Used}
+use Rattle.prl_plan.specs.declared.tables.Window.{Window}
+use Rattle.prl_plan.specs.Precedence.{ComesFrom}
+use Rattle.prl_plan.specs.Graphs.{IsWellFormed, IsEdge}
+use Rattle.prl_plan.specs.Dates.{Family, AreLeastReleases, AreGreatestDeadlines, AreEncodedDates, encoded_release, encoded_deadline}
+use Rattle.prl_plan.specs.Rounds.{releases_after}
+use Rattle.prl_plan.specs.Deadlines.{deadlines_after}
+use Rattle.prl_plan.specs.Cells.{used_at, EnumeratesUsed, Fits, IsLeastCount, HasCells, AreLeastCells, no_used}
+use Rattle.prl_plan.specs.FirstReaders.{first_reader, first_instance}
+use Rattle.prl_plan.specs.CellSearch.{IsAskedBehind, ListsGaps, IsUsedList, IsLeastFrom1, FitAfter, span_of, base_of, AreEdgeCells, HaveCellsUpTo}
+use Rattle.prl_plan.proofs.RoundLaws.{source-inside}
+use Rattle.prl_plan.proofs.RoundPeriods.{task-is, releases-shift, deadlines-shift}
+use Rattle.prl_plan.proofs.ReaderLaws.{first-precedes}
+use Rattle.prl_plan.proofs.CellPeriods.{spans, enumerates, fits-in-period, fits-over-period}
+
+pub used-list : (graph : TaskGraph) (edge : Edge) (ops : List Op) (first : ℕ) (items gaps : List ℕ) → ops ≡ edge.ops → first ≡ first_instance ops →
+    (IsAskedBehind ops first 0 → ListsGaps (IsAskedBehind ops first) (span_of graph edge) items) → gaps ≡ items →
+    IsAskedBehind edge.ops (first_instance edge.ops) 0 → IsUsedList graph edge (record { first = first; gaps = gaps })
+used-list graph edge ops first items gaps same at lists is here =
+    let place : first ≡ first_instance edge.ops = at ∙ ap first_instance same in
+    let asked : IsAskedBehind ops first 0 =
+    subst (λ (x : ℕ). IsAskedBehind ops x 0) (sym place) (subst (λ (l : List Op). IsAskedBehind l (first_instance edge.ops) 0) (sym same) here) in
+    record {
+      first = place;
+      gaps = subst (λ (l : List ℕ). ListsGaps (IsAskedBehind edge.ops (first_instance edge.ops)) (span_of graph edge) l) (sym is)
+          (subst (λ (x : ℕ). ListsGaps (IsAskedBehind edge.ops x) (span_of graph edge) items) place
+          (subst (λ (l : List Op). ListsGaps (IsAskedBehind l first) (span_of graph edge) items) same (lists asked)));
+    }
+
+-- the first instance is asked for
+pub first-asked : (edge : Edge) (graph : TaskGraph) → IsEdge graph edge → IsAskedBehind edge.ops (first_instance edge.ops) 0
+first-asked edge graph is = (pos (first_reader edge.ops), (let e = first-precedes edge.ty edge.ops is.operators in omega (arith, ints, e)))
+
+module _ (graph : TaskGraph) (good : IsWellFormed graph) (rounds : ℕ) (edge : Edge) (is : IsEdge graph edge) (i : ℕ) (comes : ComesFrom edge.from i) where
+  abbrev plain : List ℕ → Used
+  plain gaps = record { first = first_instance edge.ops; gaps = gaps }
+
+  least-plain : (gaps : List ℕ) → ListsGaps (IsAskedBehind edge.ops (first_instance edge.ops)) (span_of graph edge) gaps → (count : ℕ) →
+      IsLeastFrom1 (FitAfter graph rounds edge i (plain gaps)) count →
+      EnumeratesUsed edge (plain gaps) × IsLeastCount edge i (releases_after graph rounds) (deadlines_after graph rounds) (plain gaps) count
+  least-plain gaps lists count least = (
+    enumerates graph good edge is i comes gaps lists,
+    record {
+      some = least.some;
+      fits = fits-in-period graph good edge is i comes gaps lists (releases_after graph rounds) (deadlines_after graph rounds) releases deadlines count least.holds;
+      least = λ fewer some fit. least.least fewer some
+          (fits-over-period graph good edge is i comes gaps lists (releases_after graph rounds) (deadlines_after graph rounds) releases deadlines fewer fit);
+    },
+  )
+    where
+      releases : (m : ℤ) → releases_after graph rounds i (m +ℤ pos (span_of graph edge)) ≡ releases_after graph rounds i m +ℤ pos graph.hyper
+      releases = releases-shift graph good rounds i (span_of graph edge) (source-inside graph edge is edge.from refl i comes) (spans graph good edge is i comes)
+      deadlines : (n : ℤ) → deadlines_after graph rounds edge.to.0 (n +ℤ pos (task-is graph good edge.to.0 is.to).divides.0)
+          ≡ deadlines_after graph rounds edge.to.0 n +ℤ pos graph.hyper
+      deadlines = deadlines-shift graph good rounds edge.to.0 (task-is graph good edge.to.0 is.to).divides.0 is.to (task-is graph good edge.to.0 is.to).divides.1
+
+  pub least-cells : (used : Used) → IsUsedList graph edge used → (count : ℕ) → IsLeastFrom1 (FitAfter graph rounds edge i used) count →
+      EnumeratesUsed edge used × IsLeastCount edge i (releases_after graph rounds) (deadlines_after graph rounds) used count
+  least-cells used list count least =
+      let same : plain used.gaps ≡ used = ap (λ (x : ℕ). (let u : Used = record { first = x; gaps = used.gaps } in u)) (sym list.first) in
+      subst (λ (u : Used). EnumeratesUsed edge u × IsLeastCount edge i (releases_after graph rounds) (deadlines_after graph rounds) u count) same
+      (least-plain used.gaps list.gaps count (subst (λ (u : Used). IsLeastFrom1 (FitAfter graph rounds edge i u) count) (sym same) least))
+
+-- the cells of an edge, by where it comes from
+pub constant-cells : (graph : TaskGraph) (rounds : ℕ) (edge : Edge) (value : Value) (gaps : List ℕ) → edge.from ≡ producers.Constant value → gaps ≡ [] →
+    AreEdgeCells graph rounds edge 0 (record { first = 0; gaps = gaps })
+constant-cells graph rounds edge value gaps from none = λ before.
+    subst (λ (f : Producer). HasCells edge f (releases_after graph rounds) (deadlines_after graph rounds) before 0 0 (record { first = 0; gaps = gaps })) (sym from)
+    (refl, refl, refl, none)
+
+pub port-cells : (graph : TaskGraph) (good : IsWellFormed graph) (rounds : ℕ) (edge : Edge) (is : IsEdge graph edge) (task : TaskNo) (out : ℕ) →
+    edge.from ≡ producers.Port task out → (used : Used) (count : ℕ) →
+    IsUsedList graph edge used × IsLeastFrom1 (FitAfter graph rounds edge task.0 used) count → AreEdgeCells graph rounds edge count used
+port-cells graph good rounds edge is task out from used zero h = absurd (let s = h.1.some in omega (arith, s))
+port-cells graph good rounds edge is task out from used (suc count) h = λ before.
+    (let comes : ComesFrom edge.from task.0 = subst (λ (f : Producer). ComesFrom f task.0) (sym from) refl in
+    let cells = least-cells graph good rounds edge is task.0 comes used h.0 (suc count) h.1 in
+    subst (λ (f : Producer). HasCells edge f (releases_after graph rounds) (deadlines_after graph rounds) before before (suc count) used) (sym from)
+    (refl, cells.0, cells.1))
+
+-- one edge more
+pub more-cells : (graph : TaskGraph) (rounds index : ℕ) (bases counts : List ℕ) (used : List Used) (base count : ℕ) (one : Used) →
+    length bases ≡ index → length counts ≡ index → length used ≡ index → base ≡ base_of count (sum counts) →
+    HaveCellsUpTo graph rounds index bases counts used → ((edge : Edge) → slice_get graph.edges index ≡ Some edge → AreEdgeCells graph rounds edge count one) →
+    HaveCellsUpTo graph rounds (index + 1) (bases ++ base ∷ []) (counts ++ count ∷ []) (used ++ one ∷ [])
+more-cells graph rounds index bases counts used base count one in_bases in_counts in_used at before new e edge inside is =
+    elim (cases_lt e index) [
+      | inl below ↦
+          (let a = get_or_append_left bases (base ∷ []) 0 e (omega (arith, below, in_bases)) in
+          let b = get_or_append_left counts (count ∷ []) 0 e (omega (arith, below, in_counts)) in
+          let c = get_or_append_left used (one ∷ []) no_used e (omega (arith, below, in_used)) in
+          let t = ap sum (take-append-le e counts (count ∷ []) (omega (arith, below, in_counts))) in
+          has e edge (sum (take e counts)) (slice_index bases e) (slice_index counts e) (slice_index_or used e no_used) (sym t) (sym a) (sym b) (sym c) (before e edge below is))
+      | inr above ↦
+          (let same : e ≡ index = omega (arith, inside, above) in
+          let a : slice_index (bases ++ base ∷ []) e ≡ base = get_or_push bases base 0 e (in_bases ∙ sym same) in
+          let b : slice_index (counts ++ count ∷ []) e ≡ count = get_or_push counts count 0 e (in_counts ∙ sym same) in
+          let c : slice_index_or (used ++ one ∷ []) e no_used ≡ one = get_or_push used one no_used e (in_used ∙ sym same) in
+          let long : length counts ≤ e = omega (arith, in_counts, same) in
+          let short : e ≤ length counts = omega (arith, in_counts, same) in
+          let t : sum (take e (counts ++ count ∷ [])) ≡ sum counts = ap sum (take-append-le e counts (count ∷ []) short ∙ take_all e counts long) in
+          has e edge (sum counts) base count one (sym t) (sym a) (sym b) (sym c)
+          (subst (λ (x : ℕ). HasCells edge edge.from (releases_after graph rounds) (deadlines_after graph rounds) (sum counts) x count one) (sym at)
+          (new edge (subst (λ (x : ℕ). slice_get graph.edges x ≡ Some edge) same is) (sum counts))))
+    ]
+  where
+    has : (e : ℕ) (edge : Edge) (before base1 count1 : ℕ) (used1 : Used) → before ≡ sum (take e (counts ++ count ∷ [])) → base1 ≡ slice_index (bases ++ base ∷ []) e →
+        count1 ≡ slice_index (counts ++ count ∷ []) e → used1 ≡ slice_index_or (used ++ one ∷ []) e no_used →
+        HasCells edge edge.from (releases_after graph rounds) (deadlines_after graph rounds) before base1 count1 used1 →
+        HasCells edge edge.from (releases_after graph rounds) (deadlines_after graph rounds) (sum (take e (counts ++ count ∷ []))) (slice_index (bases ++ base ∷ []) e)
+        (slice_index (counts ++ count ∷ []) e) (slice_index_or (used ++ one ∷ []) e no_used)
+    has e edge before base1 count1 used1 s a b c h =
+        subst (λ (u : Used). HasCells edge edge.from (releases_after graph rounds) (deadlines_after graph rounds) (sum (take e (counts ++ count ∷ [])))
+        (slice_index (bases ++ base ∷ []) e) (slice_index (counts ++ count ∷ []) e) u) c
+        (subst (λ (x : ℕ). HasCells edge edge.from (releases_after graph rounds) (deadlines_after graph rounds) (sum (take e (counts ++ count ∷ [])))
+        (slice_index (bases ++ base ∷ []) e) x used1) b
+        (subst (λ (x : ℕ). HasCells edge edge.from (releases_after graph rounds) (deadlines_after graph rounds) (sum (take e (counts ++ count ∷ []))) x count1 used1) a
+        (subst (λ (x : ℕ). HasCells edge edge.from (releases_after graph rounds) (deadlines_after graph rounds) x base1 count1 used1) s h)))
+
+-- the least releases are one family, and so are the greatest deadlines
+between : (a b : ℤ) → a ≤ℤ b → b ≤ℤ a → a ≡ b
+between a b h k = omega (arith, ints, h, k)
+
+one-release : (graph : TaskGraph) (date other : Family) → AreLeastReleases graph date → AreLeastReleases graph other → (i : ℕ) (m : ℤ) → i < length graph.tasks → date i m ≡ other i m
+one-release graph date other a b i m inside = between (date i m) (other i m) (a.least other b.releases i m inside) (b.least date a.releases i m inside)
+
+one-deadline : (graph : TaskGraph) (date other : Family) → AreGreatestDeadlines graph date → AreGreatestDeadlines graph other → (i : ℕ) (m : ℤ) → i < length graph.tasks →
+    date i m ≡ other i m
+one-deadline graph date other a b i m inside = between (date i m) (other i m) (b.greatest date a.deadlines i m inside) (a.greatest other b.deadlines i m inside)
+
+-- cells over one family are cells over another that agrees with it
+same-cells : (edge : Edge) (from : Producer) (release deadline release1 deadline1 : Family) → ((i : ℕ) → ComesFrom from i → (m : ℤ) → release i m ≡ release1 i m) →
+    ((n : ℤ) → deadline edge.to.0 n ≡ deadline1 edge.to.0 n) → (before base count : ℕ) (used : Used) →
+    HasCells edge from release deadline before base count used → HasCells edge from release1 deadline1 before base count used
+same-cells edge (producers.Constant value) release deadline release1 deadline1 r d before base count used h = h
+same-cells edge (producers.Port task out) release deadline release1 deadline1 r d before base count used h = (
+  h.0,
+  h.1,
+  record {
+    some = h.2.some;
+    fits = λ k n reads. subst (λ (z : ℤ). z ≤ℤ release1 task.0 (pos (used_at used (k + count)))) (d (pos n))
+        (subst (λ (z : ℤ). deadline edge.to.0 (pos n) ≤ℤ z) (r task.0 refl (pos (used_at used (k + count)))) (h.2.fits k n reads));
+    least = λ fewer some fit. h.2.least fewer some
+        (λ k n reads. subst (λ (z : ℤ). z ≤ℤ release task.0 (pos (used_at used (k + fewer)))) (sym (d (pos n)))
+        (subst (λ (z : ℤ). deadline1 edge.to.0 (pos n) ≤ℤ z) (sym (r task.0 refl (pos (used_at used (k + fewer))))) (fit k n reads)));
+  },
+)
+
+inside-list : (xs : List Edge) (e : ℕ) (edge : Edge) → slice_get xs e ≡ Some edge → e < length xs
+inside-list [] e edge h = cc
+inside-list (x ∷ xs) zero edge h = omega arith
+inside-list (x ∷ xs) (suc e) edge h = (let g = inside-list xs e edge h in omega (arith, g))
+
+-- the cells of all edges, over the encoded dates
+pub table-is : (graph : TaskGraph) (rounds index : ℕ) (bases counts : List ℕ) (used : List Used) → IsWellFormed graph → length graph.edges ≡ index →
+    length bases ≡ index → length counts ≡ index → length used ≡ index → HaveCellsUpTo graph rounds index bases counts used →
+    AreLeastReleases graph (releases_after graph rounds) → AreGreatestDeadlines graph (deadlines_after graph rounds) → (windows : List (List Window)) →
+    AreEncodedDates graph windows → AreLeastCells graph windows bases counts used
+table-is graph rounds index bases counts used good all in_bases in_counts in_used cells least greatest windows dates = record {
+  lengths = (in_bases ∙ sym all, in_counts ∙ sym all, in_used ∙ sym all);
+  cells = λ e edge is.
+      (let at = good.edges e edge is in
+      let inside = inside-list graph.edges e edge is in
+      same-cells edge edge.from (releases_after graph rounds) (deadlines_after graph rounds) (encoded_release graph windows) (encoded_deadline graph windows)
+      (λ i comes m. one-release graph (releases_after graph rounds) (encoded_release graph windows) least dates.releases i m
+      (source-inside graph edge at edge.from refl i comes))
+      (λ n. one-deadline graph (deadlines_after graph rounds) (encoded_deadline graph windows) greatest dates.deadlines edge.to.0 n at.to)
+      (sum (take e counts)) (slice_index bases e) (slice_index counts e) (slice_index_or used e no_used)
+      (cells e edge (omega (arith, inside, all)) is));
+}
