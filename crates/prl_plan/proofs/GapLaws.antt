@@ -16,6 +16,9 @@ sum-push (x ∷ xs) g =
     let b : sum (x ∷ xs) ≡ x + sum xs = sum_by-cons (λ y. y) x xs in
     omega (arith, rest, a, b)
 
+whole : (xs : List ℕ) (j : ℕ) → length xs ≤ j → sum (take j xs) ≡ sum xs
+whole xs j above = ap sum (take_all j xs above)
+
 module _ (R : ℕ → Type 0) where
   pub none-yet : R 0 → ListsGaps R 0 []
   none-yet here = record {
@@ -170,10 +173,10 @@ module _ (R : ℕ → Type 0) (span : ℕ) (gaps : List ℕ) (some : 1 ≤ span)
       elim (cases_lt low.0 (length gaps)) [
         | inl below ↦ (q * length gaps + low.0, (let a = at-pair q low.0 below in let l = low.2 in omega (arith, a, l, e)))
         | inr above ↦ absurd
-            (let t : take low.0 gaps ≡ gaps = take_all low.0 gaps above in
-            let l : sum gaps ≡ y = sym (ap sum t) ∙ low.2 in
+            (let l = whole gaps low.0 above in
+            let at = low.2 in
             let f = full in
-            omega (arith, l, f, small))
+            omega (arith, l, at, f, small))
       ]
 
 -- one number more that has R, or that has not

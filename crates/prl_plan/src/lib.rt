@@ -14,9 +14,9 @@ mod limits;
 mod plans;
 mod rounds;
 mod tables;
-mod trials;
 #[cfg(test)]
 mod tests;
+mod trials;
 mod walks;
 
 pub use deadlines::{
@@ -38,5 +38,5 @@ pub use limits::{MAX_CELLS, MAX_EDGES, MAX_EVENTS, MAX_JOBS, MAX_PERIOD_JOBS, MA
 pub use plans::Plan;
 pub use rounds::{AnyJob, preceding_job, release_after, rounds_reach_the_least_releases};
 pub use tables::{Used, Window};
-pub use trials::hyperperiod_shows_cells;
+pub use trials::{CellTable, first_job, hyperperiod_shows_cells, least_cells};
 pub use walks::{Operand, operand_by_walk, walk_back};
