@@ -13,13 +13,13 @@ use Rattle.prl_plan.specs.Jobs.{task_at}
 use Rattle.prl_plan.specs.Precedence.{preceding, ComesFrom}
 use Rattle.prl_plan.specs.Graphs.{IsWellFormed, IsEdge, IsSource}
 use Rattle.prl_plan.specs.Dates.{Family}
-use Rattle.prl_plan.specs.Cells.{Reads, used_at, EnumeratesUsed, IsOverBy, Fits}
+use Rattle.prl_plan.specs.Cells.{used_at, EnumeratesUsed, Fits}
 use Rattle.prl_plan.specs.FirstReaders.{first_reader, first_instance}
-use Rattle.prl_plan.specs.CellSearch.{IsAsked, IsAskedBehind, ListsGaps, FitsInPeriod, span_of}
+use Rattle.prl_plan.specs.CellTurns.{IsAsked, IsAskedBehind, ListsGaps, FitsInPeriod, span_of}
 use Rattle.prl_plan.proofs.RoundPeriods.{task-is, edge-precedes}
 use Rattle.prl_plan.proofs.RoundLaws.{source-inside}
 use Rattle.prl_plan.proofs.ReaderLaws.{first-precedes, reads-is, used-is}
-use Rattle.prl_plan.proofs.GapLaws.{offset, full, some-gaps, split, inside, offset-shift, offset-rises, offset-each, offset-all}
+use Rattle.prl_plan.proofs.GapLaws.{offset, split, inside, offset-shift, offset-rises, offset-each, offset-all}
 
 module _ (graph : TaskGraph) (good : IsWellFormed graph) (edge : Edge) (is : IsEdge graph edge) (i : ℕ) (comes : ComesFrom edge.from i) where
   abbrev span : ℕ

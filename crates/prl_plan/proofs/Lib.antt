@@ -24,5 +24,3 @@ pub mod JobTableLaws
 pub mod ReaderLaws
 pub mod GapLaws
 pub mod CellPeriods
-pub mod CellSteps
-pub mod CellTables

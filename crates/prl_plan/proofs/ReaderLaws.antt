@@ -1,11 +1,11 @@
 -- Which jobs read an instance: those from the first reader on, by the periodic precedence.
-use Rattle.std.proofs.Common.{◌≡◌, ◌+◌, ◌-◌, ◌*◌, ◌/◌, ◌%◌, ◌<◌, ◌≤◌, ◌↔◌, ℕ, zero, suc, List, [], ◌∷◌, Some, inl, inr, refl, sym, ◌∙◌, ap, subst, arith}
+use Rattle.std.proofs.Common.{◌≡◌, ◌+◌, ◌*◌, ◌/◌, ◌%◌, ◌<◌, ◌≤◌, ◌↔◌, ℕ, zero, suc, List, [], ◌∷◌, Some, inl, inr, refl, sym, ◌∙◌, ap, arith}
 use Rattle.std.specs.Prelude.{ℤ, pos, negsuc, ◌*ℤ◌, ◌≤ℤ◌, slice_get}
 use Rattle.std.specs.Int.{div_ceil}
 use Rattle.std.proofs.Math.Nat.{mul-le-mul_left}
 use Rattle.std.proofs.lemmas.Nat.{le-div}
 use Rattle.std.proofs.lemmas.Bool.{cases_lt}
-use Rattle.std.proofs.lemmas.Int.{ints, by_lt_z}
+use Rattle.std.proofs.lemmas.Int.{ints}
 use Rattle.prl_base.specs.declared.values.Ty.{Ty}
 use Rattle.prl_base.specs.declared.operators.Op.{Op}
 use Rattle.prl_base.specs.declared.operators.Op.TheVariants as operators
@@ -15,12 +15,12 @@ use Rattle.prl_plan.specs.declared.graphs.Producer.TheVariants as producers
 use Rattle.prl_plan.specs.declared.walks.Operand.{Operand}
 use Rattle.prl_plan.specs.declared.walks.Operand.TheVariants as operands
 use Rattle.prl_plan.specs.Graphs.{IsOperatorFor}
-use Rattle.prl_plan.specs.Operands.{walk, operand_from, operand_of}
+use Rattle.prl_plan.specs.Operands.{walk, operand_from}
 use Rattle.prl_plan.specs.Precedence.{floor_div, preceding, ComesFrom}
 use Rattle.prl_plan.specs.Intervals.{natural}
 use Rattle.prl_plan.specs.Cells.{Reads, IsUsed}
 use Rattle.prl_plan.specs.FirstReaders.{IsFirstReader, first_reader, first_instance}
-use Rattle.prl_plan.specs.CellSearch.{IsAsked}
+use Rattle.prl_plan.specs.CellTurns.{IsAsked, IsAskedBehind}
 use Rattle.prl_plan.proofs.Floors.{floor-least, mono, suc-is, pred-is}
 use Rattle.prl_plan.proofs.WalkLaws.{walk-preceding, operand-walks}
 
@@ -140,6 +140,9 @@ first-precedes ty ops are =
     let e : preceding ops (pos (first_reader ops)) ≡ pos r.0 = walk-preceding ops (first_reader ops) r.0 r.1 in
     let f : first_instance ops ≡ r.0 = ap natural e in
     e ∙ ap (λ (x : ℕ). pos x) (sym f)
+
+pub first-asked : (ty : Ty) (ops : List Op) → AreOperators ty ops → IsAskedBehind ops (first_instance ops) 0
+first-asked ty ops are = (pos (first_reader ops), (let e = first-precedes ty ops are in omega (arith, ints, e)))
 
 module _ (edge : Edge) (i : ℕ) (comes : ComesFrom edge.from i) (are : AreOperators edge.ty edge.ops) where
   from-walk : (from : Producer) → ComesFrom from i → (o : Operand) → operand_from from o ≡ o

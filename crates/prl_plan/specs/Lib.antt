@@ -19,4 +19,4 @@ pub mod Deadlines
 pub mod Ranges
 pub mod FixedPoints
 pub mod FirstReaders
-pub mod CellSearch
+pub mod CellTurns

@@ -16,7 +16,7 @@ use crate::rounds::{floor_div, release_of_job, task_in};
 use crate::{AnyJob, Edge, Producer, Task, TaskGraph};
 use prl_base::{Op, TaskNo};
 
-/// A interval of whole numbers. There is none in it where the highest is below the lowest.
+/// An interval of whole numbers. There is none in it where the highest is below the lowest.
 #[derive(Clone, Copy, Debug, PartialEq, Eq)]
 pub struct Interval {
     pub lowest: i64,
@@ -73,7 +73,7 @@ pub fn following_jobs(ops: &[Op], m: i64) -> Option<Interval>
 }
 
 /// How many numbers are in the interval, or `None` where that does not fit.
-pub(crate) fn count_of(interval: Interval) -> Option<u64>
+pub fn count_of(interval: Interval) -> Option<u64>
     ensures exact { MatchOption result (¬ (CountFits interval)) (λ n. n ≡ count_in interval) }
     ensures small { IfSome result (λ n. n < 2 ^ 63) }
 {
