@@ -28,7 +28,7 @@ use Rattle.prl_core.specs.TableValues.{source_from, source_on, job_row, role_of,
 
 -- a list, at one of its places
 parted : (plan : PlanView) (table : List TableRow) (k : ℕ) (row : TableRow) → slice_get table k ≡ Some row →
-    map (job_row plan) table ≡ map (job_row plan) (take k table) ++ job_row plan row ∷ map (job_row plan) (drop (k + 1) table)
+    map (job_row plan) table ≡ map (job_row plan) (take k table) ++ job_row plan row ∷ map (job_row plan) (drop (suc k) table)
 parted plan [] k row at = cc
 parted plan (x ∷ table) zero row at = (let e : x ≡ row = cc in ap (λ (y : TableRow). job_row plan y ∷ map (job_row plan) table) e)
 parted plan (x ∷ table) (suc k) row at = ap (λ (l : List JobRow). job_row plan x ∷ l) (parted plan table k row at)
@@ -75,11 +75,11 @@ once plan until table made k l row later before at stands = go (is_job (job_row 
         ])
 
 pub others : (plan : PlanView) (until : ℕ) (table : List TableRow) → IsJobTable plan until table → (k : ℕ) (row : TableRow) → slice_get table k ≡ Some row →
-    (j : ℕ) (later : JobRow) → slice_get (map (job_row plan) (drop (k + 1) table)) j ≡ Some later → is_job later row.task row.job ≡ false
+    (j : ℕ) (later : JobRow) → slice_get (map (job_row plan) (drop (suc k) table)) j ≡ Some later → is_job later row.task row.job ≡ false
 others plan until table made k row at j later stands =
-    let from = mapped plan (drop (k + 1) table) j later stands in
-    let place : slice_get table (k + 1 + j) ≡ Some from.0 = sym (dropped table (k + 1) j) ∙ from.1 in
-    ap (λ (x : JobRow). is_job x row.task row.job) from.2 ∙ once plan until table made k (k + 1 + j) row from.0 (omega arith) at place
+    let from = mapped plan (drop (suc k) table) j later stands in
+    let place : slice_get table (suc k + j) ≡ Some from.0 = sym (dropped table (suc k) j) ∙ from.1 in
+    ap (λ (x : JobRow). is_job x row.task row.job) from.2 ∙ once plan until table made k (suc k + j) row from.0 (omega arith) at place
 
 pub step-at : (plan : PlanView) (until : ℕ) (table : List TableRow) → IsJobTable plan until table → (bodies : ℕ → Parts) (rows : Rows) (k : ℕ) (row : TableRow) →
     slice_get table k ≡ Some row →
@@ -89,7 +89,7 @@ pub step-at : (plan : PlanView) (until : ℕ) (table : List TableRow) → IsJobT
     ≡ (step_of rows (roles_of plan bodies) (values_by_instance plan bodies rows (take k table)) (job_row plan row)).outputs
 step-at plan until table made bodies rows k row at law =
     ap (λ (l : List JobRow). (given_by rows (roles_of plan bodies) l).outputs row.task row.job) (parted plan table k row at)
-    ∙ law (map (job_row plan) (take k table)) (map (job_row plan) (drop (k + 1) table)) (job_row plan row) (others plan until table made k row at)
+    ∙ law (map (job_row plan) (take k table)) (map (job_row plan) (drop (suc k) table)) (job_row plan row) (others plan until table made k row at)
 
 first-of : (o : Option Value) → slice_get (at_most_one o) 0 ≡ o
 first-of None = refl

@@ -1,9 +1,13 @@
 -- Laws of values by instance.
-use Rattle.std.proofs.Common.{◌≡◌, ◌++◌, ℕ, zero, suc, Bool, true, false, List, [], ◌∷◌, Some, refl, ◌∙◌, ap, cond, eqb, arith}
+use Rattle.std.proofs.Common.{◌≡◌, ◌++◌, ℕ, zero, suc, Bool, true, false, List, [], ◌∷◌, length, Some, refl, sym, ◌∙◌, ap, subst, cond, eqb, arith}
 use Rattle.std.specs.Prelude.{slice_get, ◌&&◌}
 use Rattle.std.proofs.lemmas.Bool.Decides.{nat_tests}
+use Rattle.prl_base.specs.declared.values.Value.{Value}
+use Rattle.prl_body.specs.declared.bodies.Parts.{Parts}
+use Rattle.prl_body.specs.Bodies.{body_step, first_values}
 use Rattle.prl_flow.specs.Rows.{Rows, rows_of}
-use Rattle.prl_flow.specs.JobValues.{Role, Tells, JobRow, Given, nothing_given, at_most_one, is_job, job_step, step_of, read_by, after_job, after_jobs, given_by}
+use Rattle.prl_flow.specs.Applications.{registers_before}
+use Rattle.prl_flow.specs.JobValues.{Role, Tells, Steps, JobRow, Given, nothing_given, at_most_one, is_job, job_step, step_of, read_by, after_job, after_jobs, given_by, first_registers, inputs_along, nth_inputs}
 
 pub in-parts : (rows : Rows) (roles : ℕ → Role) (given : Given) (front back : List JobRow) →
     after_jobs rows roles given (front ++ back) ≡ after_jobs rows roles (after_jobs rows roles given front) back
@@ -75,3 +79,52 @@ module _ (rows : Rows) (roles : ℕ → Role) (i n sensor : ℕ) (tells : roles 
 pub rows-given : (rows : Rows) (roles : ℕ → Role) (table : List JobRow) (l sensor : ℕ) (row : JobRow) → slice_get table l ≡ Some row → roles row.task ≡ Tells sensor →
     (given_by rows roles table).outputs row.task row.job ≡ at_most_one (slice_get (rows_of rows sensor) row.job)
 rows-given rows roles table l sensor row at tells = gives-row rows roles row.task row.job sensor tells (nothing_given roles) table l row at (is-itself row)
+
+-- The registers of a task that runs a body, by what its jobs have read.
+module _ (body : Parts) where
+  -- so many steps from these registers
+  abbrev steps_from : List Value → (ℕ → List Value) → ℕ → List Value
+  steps_from registers inputs zero = registers
+  steps_from registers inputs (suc n) = (body_step body (inputs n) (steps_from registers inputs n)).registers
+
+  are-steps : (inputs : ℕ → List Value) (n : ℕ) → steps_from (first_values body) inputs n ≡ registers_before body inputs n
+  are-steps inputs zero = refl
+  are-steps inputs (suc n) = ap (λ (r : List Value). (body_step body (inputs n) r).registers) (are-steps inputs n)
+
+  one-first : (registers : List Value) (inputs : ℕ → List Value) (n : ℕ) →
+      steps_from registers inputs (suc n) ≡ steps_from (body_step body (inputs 0) registers).registers (λ k. inputs (suc k)) n
+  one-first registers inputs zero = refl
+  one-first registers inputs (suc n) = ap (λ (r : List Value). (body_step body (inputs (suc n)) r).registers) (one-first registers inputs n)
+
+  along : (rows : Rows) (roles : ℕ → Role) (i : ℕ) → roles i ≡ Steps body → (given : Given) (table : List JobRow) →
+      (after_jobs rows roles given table).registers i ≡ steps_from (given.registers i) (nth_inputs (inputs_along rows roles given table i)) (length (inputs_along rows roles given table i))
+  along rows roles i runs given [] = refl
+  along rows roles i runs given (row ∷ table) = along rows roles i runs (after_job rows roles given row) table ∙ go (eqb row.task i) refl
+    where
+      rest : List (List Value)
+      rest = inputs_along rows roles (after_job rows roles given row) table i
+
+      go : (b : Bool) → eqb row.task i ≡ b →
+          steps_from (cond (eqb row.task i) (step_of rows roles given row).registers (given.registers i)) (nth_inputs rest) (length rest)
+          ≡ steps_from (given.registers i) (nth_inputs (cond (eqb row.task i) (read_by given row ∷ rest) rest)) (length (cond (eqb row.task i) (read_by given row ∷ rest) rest))
+      go false is =
+          subst (λ (b : Bool). steps_from (cond b (step_of rows roles given row).registers (given.registers i)) (nth_inputs rest) (length rest)
+          ≡ steps_from (given.registers i) (nth_inputs (cond b (read_by given row ∷ rest) rest)) (length (cond b (read_by given row ∷ rest) rest))) (sym is) refl
+      go true is =
+          let at = equal row.task i is in
+          let step : (step_of rows roles given row).registers ≡ (body_step body (read_by given row) (given.registers i)).registers =
+          ap (λ (r : Role). (job_step rows r row.job (read_by given row) (given.registers row.task)).registers) (ap roles at ∙ runs)
+          ∙ ap (λ (x : ℕ). (body_step body (read_by given row) (given.registers x)).registers) at in
+          subst (λ (b : Bool). steps_from (cond b (step_of rows roles given row).registers (given.registers i)) (nth_inputs rest) (length rest)
+          ≡ steps_from (given.registers i) (nth_inputs (cond b (read_by given row ∷ rest) rest)) (length (cond b (read_by given row ∷ rest) rest))) (sym is)
+          (ap (λ (r : List Value). steps_from r (nth_inputs rest) (length rest)) step
+          ∙ sym (one-first (given.registers i) (nth_inputs (read_by given row ∷ rest)) (length rest)))
+
+  pub registers-along : (rows : Rows) (roles : ℕ → Role) (i : ℕ) → roles i ≡ Steps body → (table : List JobRow) →
+      (given_by rows roles table).registers i
+      ≡ registers_before body (nth_inputs (inputs_along rows roles (nothing_given roles) table i)) (length (inputs_along rows roles (nothing_given roles) table i))
+  registers-along rows roles i runs table =
+      along rows roles i runs (nothing_given roles) table
+      ∙ ap (λ (r : List Value). steps_from r (nth_inputs (inputs_along rows roles (nothing_given roles) table i)) (length (inputs_along rows roles (nothing_given roles) table i)))
+      (ap first_registers runs)
+      ∙ are-steps (nth_inputs (inputs_along rows roles (nothing_given roles) table i)) (length (inputs_along rows roles (nothing_given roles) table i))

@@ -1,5 +1,5 @@
 -- Values by instance: what jobs give, one job of a table after another.
-use Rattle.std.specs.Prelude.{ℕ, pos, Bool, List, [], ◌∷◌, map, Option, Some, None, slice_get, unwrap_or, ◌==◌, ◌&&◌, if◌then◌else◌}
+use Rattle.std.specs.Prelude.{ℕ, pos, Bool, List, [], ◌∷◌, map, Option, Some, None, slice_get, slice_index_or, unwrap_or, ◌==◌, ◌&&◌, if◌then◌else◌}
 use Rattle.prl_base.specs.declared.values.Value.{Value}
 use Rattle.prl_base.specs.declared.values.Value.TheVariants as values
 use Rattle.prl_body.specs.declared.bodies.Parts.{Parts}
@@ -78,3 +78,13 @@ after_jobs rows roles given (row ∷ table) = after_jobs rows roles (after_job r
 -- what the jobs of a table give
 abbrev pub given_by : Rows → (ℕ → Role) → List JobRow → Given
 given_by rows roles table = after_jobs rows roles (nothing_given roles) table
+
+-- what the jobs of task i read along a table, in order
+abbrev pub inputs_along : Rows → (ℕ → Role) → Given → List JobRow → ℕ → List (List Value)
+inputs_along rows roles given [] i = []
+inputs_along rows roles given (row ∷ table) i =
+    if row.task == i then read_by given row ∷ inputs_along rows roles (after_job rows roles given row) table i
+    else inputs_along rows roles (after_job rows roles given row) table i
+
+abbrev pub nth_inputs : List (List Value) → ℕ → List Value
+nth_inputs inputs n = slice_index_or inputs n []

@@ -17,6 +17,6 @@ mod tests;
 
 pub use dates::dates_before;
 pub use evaluation::{FlowFault, FlowTable, evaluate};
-pub use jobs::{jobs_give_once, sensors_give_rows};
+pub use jobs::{jobs_give_once, jobs_keep_registers, sensors_give_rows};
 pub use programs::{App, Arg, Clocks, Def, Flat, Flow, OutFlow};
 pub use rows::Sensors;
