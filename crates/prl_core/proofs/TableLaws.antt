@@ -1,26 +1,24 @@
 -- Values by instance along the job table of a plan.
-use Rattle.std.proofs.Common.{◌≡◌, ◌+◌, ◌<◌, ◌++◌, ℕ, zero, suc, Bool, true, false, List, [], ◌∷◌, length, map, take, drop, Option, Some, None, inl, inr, refl, sym, ◌∙◌, ap, subst, cond, eqb, arith}
+use Rattle.std.proofs.Common.{◌≡◌, ◌+◌, ◌<◌, ◌++◌, ℕ, zero, suc, Bool, true, false, List, [], ◌∷◌, length, map, take, drop, Option, Some, None, inl, inr, refl, sym, ◌∙◌, ap, subst, eqb, arith}
 use Rattle.std.specs.Prelude.{slice_get, ◌&&◌}
 use Rattle.std.proofs.lemmas.Option.{slice_get-get_or}
 use Rattle.std.proofs.lemmas.Bool.Decides.{nat_tests}
 use Rattle.prl_base.specs.declared.values.Value.{Value}
 use Rattle.prl_body.specs.declared.bodies.Parts.{Parts}
 use Rattle.prl_flow.specs.Rows.{Rows, rows_of}
-use Rattle.prl_flow.specs.JobValues.{Role, Tells, JobRow, Given, Source, value_of, at_most_one, is_job, step_of, given_by}
+use Rattle.prl_flow.specs.JobValues.{Tells, JobRow, value_of, at_most_one, is_job, step_of, given_by}
 use Rattle.prl_plan.specs.declared.graphs.Edge.{Edge}
-use Rattle.prl_plan.specs.declared.graphs.Task.{Task}
 use Rattle.prl_plan.specs.declared.graphs.Kind.{Kind}
 use Rattle.prl_plan.specs.declared.graphs.Kind.TheVariants as kinds
-use Rattle.prl_plan.specs.declared.graphs.TaskGraph.{TaskGraph}
 use Rattle.prl_plan.specs.declared.graphs.Producer.{Producer}
 use Rattle.prl_plan.specs.declared.graphs.Producer.TheVariants as producers
 use Rattle.prl_plan.specs.declared.walks.Operand.{Operand}
 use Rattle.prl_plan.specs.declared.walks.Operand.TheVariants as operands
-use Rattle.prl_plan.specs.Graphs.{IsWellFormed, IsEdge, IsSource, is_sensor}
+use Rattle.prl_plan.specs.Graphs.{IsEdge, IsSource, is_sensor}
 use Rattle.prl_plan.specs.Jobs.{task_at, IsHorizonJob}
 use Rattle.prl_plan.specs.Operands.{operand_of, operand_from, walk}
 use Rattle.prl_plan.specs.Precedence.{ComesFrom}
-use Rattle.prl_plan.specs.JobTables.{TableRow, ComesBefore, IsJobTable}
+use Rattle.prl_plan.specs.JobTables.{TableRow, IsJobTable}
 use Rattle.prl_plan.specs.Plans.{PlanView, IsPlan, edge_at, no_edge, release_at}
 use Rattle.prl_plan.specs.Devices.{LinksDevices}
 use Rattle.prl_core.specs.Values.{value_of_job, value_from, operand_value}
