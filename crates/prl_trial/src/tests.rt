@@ -150,3 +150,32 @@ fn cells_behind_operators(rt: HostRuntime) -> Result<(), Fail> {
     assert_eq!(rt; first_job(&[Op::Tail, Op::Cons(Value::Int(9))]), Some(0));
     Ok(())
 }
+
+/// Whether the used instances of edge `e` are this first one and those behind these differences, repeated.
+fn has_used(
+    rt: &HostRuntime,
+    graph: &TaskGraph,
+    rounds: u32,
+    e: usize,
+    first: u64,
+    gaps: &[u64],
+) -> Result<bool, AllocError> {
+    let Some(table) = least_cells(rt.alloc(), graph, rounds)? else {
+        return Ok(false);
+    };
+    match table.used.as_slice().get(e) {
+        Some(used) => Ok(used.first == first && used.gaps.as_slice() == gaps),
+        None => Ok(false),
+    }
+}
+
+// The slow task reads each third value of the fast one, and each of its own values is read.
+#[test]
+fn used_instances_of_a_fast_and_a_slow_task(rt: HostRuntime) -> Result<(), Fail> {
+    let graph = fast_and_slow(&rt, 10)?;
+    assert!(rt; has_used(&rt, &graph, 3, 1, 0, &[1])?);
+    assert!(rt; has_used(&rt, &graph, 3, 2, 0, &[3])?);
+    let held = vec![in rt.alloc(); Op::Up(3), Op::Down(3)]?;
+    assert!(rt; has_used(&rt, &sensor_and_actuator(&rt, held, 0)?, 2, 0, 0, &[3])?);
+    Ok(())
+}
