@@ -13,20 +13,11 @@ use Rattle.prl_plan.specs.Intervals.{IsIn, natural, count_in, successors}
 use Rattle.prl_trial.specs.Searches.{IsLeastFrom1, FitAfter}
 use Rattle.prl_trial.specs.Ranges.{JobsFit, LifeFits, CellsFit, LeastFits}
 
-natural-below : (z : ℤ) (k : ℕ) → k < natural z → (pos k +ℤ pos 1) ≤ℤ z
-natural-below (pos n) k h = omega (arith, ints, h)
-natural-below (negsuc n) k h = absurd (omega (arith, h))
-
 natural-above : (z : ℤ) (k : ℕ) → (pos k +ℤ pos 1) ≤ℤ z → k < natural z
 natural-above (pos n) k h = omega (arith, ints, h)
 natural-above (negsuc n) k h = absurd (omega (arith, ints, h))
 
 -- the numbers of an interval, counted
-pub counted-in : (s : Interval) (k : ℕ) → k < count_in s → IsIn (s.lowest +ℤ pos k) s
-counted-in s k h =
-    let g = natural-below ((s.highest -ℤ s.lowest) +ℤ pos 1) k h in
-    ((omega (arith, ints)), (omega (arith, ints, g)))
-
 pub in-counted : (s : Interval) (n : ℤ) → IsIn n s → (k : ℕ) × (k < count_in s) × (n ≡ s.lowest +ℤ pos k)
 in-counted s n is = go (n -ℤ s.lowest) refl
   where
@@ -35,14 +26,7 @@ in-counted s n is = go (n -ℤ s.lowest) refl
         (k, natural-above ((s.highest -ℤ s.lowest) +ℤ pos 1) k (let h = is.1 in omega (arith, ints, h, at)), (omega (arith, ints, at)))
     go (negsuc k) at = absurd (let l = is.0 in omega (arith, ints, l, at))
 
--- a test that fails at one of them
-pub not-all : (P : ℤ → Type 0) (s : Interval) (k : ℕ) (b : Bool) → k < count_in s → (IsTrue b ↔ P (s.lowest +ℤ pos k)) → b ≡ false →
-    (IsTrue false → (n : ℤ) → IsIn n s → P n) × (((n : ℤ) → IsIn n s → P n) → IsTrue false)
-not-all P s k b below test fails = (
-  (λ h. absurd cc),
-  (λ all. sym fails ∙ test.1 (all (s.lowest +ℤ pos k) (counted-in s k below))),
-)
-
+-- what holds of each number that is counted holds of all in the interval
 pub all-of : (P : ℤ → Type 0) (s : Interval) → ((k : ℕ) → k < count_in s → P (s.lowest +ℤ pos k)) →
     (IsTrue true → (n : ℤ) → IsIn n s → P n) × (((n : ℤ) → IsIn n s → P n) → IsTrue true)
 all-of P s all = (

@@ -1,5 +1,5 @@
 -- Differences between numbers, one number more at a time.
-use Rattle.std.proofs.Common.{◌≡◌, ◌+◌, ◌-◌, ◌≤◌, ◌++◌, ℕ, zero, suc, List, [], ◌∷◌, length, take, sum, inl, inr, refl, sym, ◌∙◌, ap, subst, arith}
+use Rattle.std.proofs.Common.{◌≡◌, ◌+◌, ◌-◌, ◌≤◌, ◌++◌, ℕ, List, [], ◌∷◌, length, take, sum, inl, inr, refl, sym, ◌∙◌, ap, subst, arith}
 use Rattle.std.specs.Prelude.{slice_index}
 use Rattle.std.proofs.lemmas.Bool.{cases_lt}
 use Rattle.std.proofs.lemmas.List.{take_all, take-append-le, length_push, get_or_push, get_or_append_left}
@@ -15,18 +15,6 @@ sum-push (x ∷ xs) g =
     omega (arith, rest, a, b)
 
 module _ (R : ℕ → Type 0) where
-  pub none-yet : R 0 → ListsGaps R 0 []
-  none-yet here = record {
-    positive = λ j inside. absurd (omega (arith, inside));
-    each = λ j inside. subst R (let e : sum (take j []) ≡ 0 = no-sum j in sym e) here;
-    all = λ x small is. (0, omega arith, (omega (arith, small)));
-    within = omega arith;
-  }
-    where
-      no-sum : (j : ℕ) → sum (take j []) ≡ 0
-      no-sum zero = refl
-      no-sum (suc j) = refl
-
   pub passed : (upto : ℕ) (gaps : List ℕ) → ListsGaps R upto gaps → (R (upto + 1) → ⊥) → ListsGaps R (upto + 1) gaps
   passed upto gaps lists not = record {
     positive = lists.positive;
