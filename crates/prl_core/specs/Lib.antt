@@ -3,3 +3,4 @@ pub mod Machine
 pub mod Columns
 pub mod Inside
 pub mod Tests
+pub mod TableValues

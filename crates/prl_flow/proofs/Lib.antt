@@ -9,3 +9,4 @@ pub mod Progressed
 pub mod Callers
 pub mod Chains
 pub mod Sums
+pub mod JobLaws

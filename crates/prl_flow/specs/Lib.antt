@@ -8,3 +8,4 @@ pub mod Counts
 pub mod Faults
 pub mod Instances
 pub mod Progress
+pub mod JobValues

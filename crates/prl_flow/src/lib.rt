@@ -7,6 +7,7 @@ mod applications;
 mod dates;
 mod evaluation;
 mod instances;
+mod jobs;
 mod programs;
 mod rows;
 #[cfg(test)]
@@ -16,5 +17,6 @@ mod tests;
 
 pub use dates::dates_before;
 pub use evaluation::{FlowFault, FlowTable, evaluate};
+pub use jobs::{jobs_give_once, jobs_keep_registers, sensors_give_rows};
 pub use programs::{App, Arg, Clocks, Def, Flat, Flow, OutFlow};
 pub use rows::Sensors;

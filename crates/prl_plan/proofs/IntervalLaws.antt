@@ -1,6 +1,6 @@
 -- The interval that an operator list pulls back is right.
 use Rattle.std.proofs.Common.{length, get_or, drop, ◌≡◌, ◌≤◌, ◌↔◌, ℕ, suc, List, [], ◌∷◌, Option, Some, None, refl, sym, ◌∙◌, subst, arith}
-use Rattle.std.specs.Prelude.{ℤ, pos, ◌*ℤ◌, IfSome, MatchOption, slice_get}
+use Rattle.std.specs.Prelude.{ℤ, IfSome, MatchOption, slice_get}
 use Rattle.std.proofs.lemmas.Int.{ints}
 use lib.IntN.{suc_ℤ, pred_ℤ}
 use Rattle.prl_base.specs.declared.values.Ty.{Ty}

@@ -21,3 +21,6 @@ pub mod ReadPlaces
 pub mod Periods
 pub mod RoundPeriods
 pub mod JobTableLaws
+pub mod ReaderLaws
+pub mod GapLaws
+pub mod CellPeriods

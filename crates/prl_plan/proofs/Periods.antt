@@ -10,7 +10,7 @@ use Rattle.prl_base.specs.declared.values.Ty.{Ty}
 use Rattle.prl_base.specs.declared.operators.Clock.{Clock}
 use Rattle.prl_base.specs.declared.operators.Op.{Op}
 use Rattle.prl_base.specs.declared.operators.Op.TheVariants as operators
-use Rattle.prl_plan.specs.Graphs.{Divides, TakesClock, TakeClock, IsOperatorFor}
+use Rattle.prl_plan.specs.Graphs.{Divides, TakeClock, IsOperatorFor}
 use Rattle.prl_plan.specs.Precedence.{floor_div, preceding}
 use Rattle.prl_plan.specs.declared.deadlines.Interval.{Interval}
 use Rattle.prl_plan.specs.Intervals.{preimage, successors}

@@ -1,6 +1,6 @@
 -- The facts of every plan, from what a plan is.
-use Rattle.std.proofs.Common.{◌≡◌, ◌+◌, ◌*◌, ◌/◌, ◌%◌, ◌<◌, ◌≤◌, ℕ, zero, suc, Bool, true, false, List, [], length, get_or, take, sum, Option, Some, None, inl, inr, refl, sym, ◌∙◌, ap, subst, arith}
-use Rattle.std.specs.Prelude.{ℤ, pos, ◌+ℤ◌, ◌≤ℤ◌, is_some, IsSome, unwrap_or, slice_get, slice_index, slice_index_or}
+use Rattle.std.proofs.Common.{◌≡◌, ◌+◌, ◌*◌, ◌/◌, ◌%◌, ◌<◌, ◌≤◌, ℕ, Bool, true, false, length, take, sum, Option, Some, None, inl, inr, refl, sym, ◌∙◌, ap, subst, arith}
+use Rattle.std.specs.Prelude.{pos, ◌≤ℤ◌, is_some, IsSome, unwrap_or, slice_get, slice_index, slice_index_or}
 use Rattle.std.proofs.Math.Nat.{div-add-mod, mod-lt, mul-le-mul_left, mul-le-mul_right}
 use Rattle.std.proofs.lemmas.Bool.{cases_lt}
 use Rattle.std.proofs.lemmas.Int.{ints}
@@ -22,7 +22,7 @@ use Rattle.prl_plan.specs.Graphs.{IsWellFormed, IsTask, IsEdge}
 use Rattle.prl_plan.specs.Dates.{encoded_release, encoded_deadline}
 use Rattle.prl_plan.specs.Cells.{HasCells, EnumeratesUsed, IsLeastCount, used_at, no_used}
 use Rattle.prl_plan.specs.Plans.{PlanView, IsPlan, edge_at, no_edge, release_at, deadline_at, place_on, cell_of, actions_of, IsActionOf}
-use Rattle.prl_plan.specs.Facts.{IsJob, ReadsAt, WritesAt, Provides, HasPlanFacts}
+use Rattle.prl_plan.specs.Facts.{ReadsAt, WritesAt, Provides, HasPlanFacts}
 use Rattle.prl_plan.specs.Horizons.{IsHorizon, constants_of}
 use Rattle.prl_plan.proofs.Actions.{actions-fit}
 use Rattle.prl_plan.proofs.ActionPlaces.{WritesTo, Stands, once-on, ends-last, write-stands, length-actions}

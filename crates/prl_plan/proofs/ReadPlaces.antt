@@ -1,8 +1,8 @@
 -- A job reads each of its ports at the place of the port's number.
-use Rattle.std.proofs.Common.{◌≡◌, ◌+◌, ◌<◌, ◌≤◌, ◌++◌, ◌⊎◌, ℕ, zero, suc, Bool, true, false, List, [], ◌∷◌, length, Some, inl, inr, refl, sym, ◌∙◌, ap, subst, arith, cond, eqb}
-use Rattle.std.specs.Prelude.{is_some, IsSome, slice_get}
+use Rattle.std.proofs.Common.{◌≡◌, ◌+◌, ◌<◌, ◌≤◌, ◌++◌, ℕ, zero, suc, Bool, List, [], ◌∷◌, length, Some, inl, inr, refl, sym, ◌∙◌, ap, subst, arith, cond}
+use Rattle.std.specs.Prelude.{IsSome, slice_get}
 use Rattle.std.proofs.lemmas.Bool.{cases_eq, cases_lt}
-use Rattle.std.proofs.lemmas.Option.{slice_get-get_or, slice_get_read}
+use Rattle.std.proofs.lemmas.Option.{slice_get-get_or}
 use Rattle.prl_plan.specs.declared.events.Action.{Action}
 use Rattle.prl_plan.specs.declared.events.Action.TheVariants as actions
 use Rattle.prl_plan.specs.declared.graphs.Edge.{Edge}
@@ -10,7 +10,7 @@ use Rattle.prl_plan.specs.Graphs.{IsWellFormed, PortsFollow, AreInOrder}
 use Rattle.prl_plan.specs.Operands.{operand_of}
 use Rattle.prl_plan.specs.Precedence.{ComesFrom}
 use Rattle.prl_plan.specs.Plans.{PlanView, edge_at, no_edge, place_on, cell_of, reading, reads_of, writes_of, actions_of}
-use Rattle.prl_plan.proofs.ActionPlaces.{Stands, write-stands}
+use Rattle.prl_plan.proofs.ActionPlaces.{write-stands}
 use Rattle.prl_plan.proofs.UsedLaws.{test-same, test-differs}
 
 get-first : (xs ys : List Action) (k : ℕ) (x : Action) → slice_get xs k ≡ Some x → slice_get (xs ++ ys) k ≡ Some x

@@ -1,6 +1,6 @@
 -- The dates of rounds repeat with the hyperperiod; so where they stand still over one, they stand still.
-use Rattle.std.proofs.Common.{◌≡◌, ◌+◌, ◌*◌, ◌/◌, ◌<◌, ◌≤◌, ℕ, zero, suc, Bool, true, false, List, [], ◌∷◌, length, Some, refl, sym, ◌∙◌, ap, subst, arith, cond, eqb}
-use Rattle.std.specs.Prelude.{ℤ, pos, ◌+ℤ◌, ◌-ℤ◌, ◌*ℤ◌, ◌≤ℤ◌, slice_get}
+use Rattle.std.proofs.Common.{◌≡◌, ◌*◌, ◌/◌, ◌<◌, ◌≤◌, ℕ, zero, suc, Bool, true, false, List, [], ◌∷◌, length, Some, refl, sym, ◌∙◌, ap, subst, arith, cond, eqb}
+use Rattle.std.specs.Prelude.{ℤ, pos, ◌+ℤ◌, ◌-ℤ◌, slice_get}
 use Rattle.std.specs.Int.{int_max, int_min}
 use Rattle.std.proofs.Math.Nat.{mul-div_cancel}
 use Rattle.std.proofs.lemmas.Int.{ints, clamps}
@@ -55,7 +55,7 @@ module _ (graph : TaskGraph) (good : IsWellFormed graph) where
   abbrev AreEdges : List Edge → Type 0
   AreEdges edges = (k : ℕ) (edge : Edge) → slice_get edges k ≡ Some edge → IsEdge graph edge
 
-  task-is : (i : ℕ) → i < length graph.tasks → IsTask graph.hyper (task_at graph i)
+  pub task-is : (i : ℕ) → i < length graph.tasks → IsTask graph.hyper (task_at graph i)
   task-is i inside = good.tasks i (task_at graph i) (slice_get-get_or graph.tasks i no_task inside)
 
   release-shift : (i c : ℕ) → Repeats i c → (m : ℤ) → release_of (task_at graph i) (m +ℤ pos c) ≡ release_of (task_at graph i) m +ℤ H
@@ -66,7 +66,7 @@ module _ (graph : TaskGraph) (good : IsWellFormed graph) where
   deadline-shift : (i c : ℕ) → Repeats i c → (m : ℤ) → deadline_of (task_at graph i) (m +ℤ pos c) ≡ deadline_of (task_at graph i) m +ℤ H
   deadline-shift i c repeats m = (let e = release-shift i c repeats m in omega (arith, ints, e))
 
-  edge-precedes : (edge : Edge) → IsEdge graph edge → (i c d : ℕ) → ComesFrom edge.from i → Repeats edge.to.0 c → Repeats i d → (n : ℤ) →
+  pub edge-precedes : (edge : Edge) → IsEdge graph edge → (i c d : ℕ) → ComesFrom edge.from i → Repeats edge.to.0 c → Repeats i d → (n : ℤ) →
       preceding edge.ops (n +ℤ pos c) ≡ preceding edge.ops n +ℤ pos d
   edge-precedes edge is i c d comes to from n =
       preceding-shift edge.ty graph.hyper edge.ops is.operators (task_at graph i).clock (task_at graph edge.to.0).clock

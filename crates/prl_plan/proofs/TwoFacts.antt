@@ -1,25 +1,17 @@
 -- What the jobs of two tasks do.
-use Rattle.std.proofs.Common.{◌^◌, length, ◌≡◌, ◌+◌, ◌-◌, ◌*◌, ◌%◌, ◌<◌, ◌≤◌, ℕ, zero, suc, true, List, [], ◌∷◌, get_or, Option, Some, refl, sym, ◌∙◌, ap, subst, arith, eqb, lit<, cond}
+use Rattle.std.proofs.Common.{◌≡◌, ◌+◌, ◌-◌, ◌*◌, ◌%◌, ◌<◌, ℕ, zero, suc, true, List, [], ◌∷◌, Option, Some, refl, sym, ◌∙◌, ap, subst, arith, eqb, cond}
 use Rattle.std.specs.Prelude.{pos, is_some, unwrap_or, ◌++◌, if◌then◌else◌}
 use Rattle.std.proofs.lemmas.Bool.Decides.{nat_tests}
-use Rattle.std.proofs.Math.Nat.{mul-le-mul_right}
-use Rattle.prl_base.specs.declared.numbers.CellNo.{CellNo}
-use Rattle.prl_base.specs.declared.numbers.EdgeNo.{EdgeNo}
-use Rattle.prl_plan.specs.declared.events.Action.{Action}
 use Rattle.prl_plan.specs.declared.events.Action.TheVariants as actions
-use Rattle.prl_plan.specs.declared.horizons.Horizon.{Horizon}
 use Rattle.prl_plan.specs.declared.tables.Window.{Window}
 use Rattle.prl_plan.specs.Cells.{used_at, place_up_to, place_of}
-use Rattle.prl_plan.specs.Jobs.{task_at, job_count}
+use Rattle.prl_plan.specs.Jobs.{task_at}
 use Rattle.prl_plan.specs.declared.graphs.Kind.TheVariants as kinds
 use Rattle.prl_plan.specs.Operands.{operand_of}
 use Rattle.prl_plan.specs.Precedence.{ComesFrom}
 use Rattle.prl_plan.specs.Devices.{LinksDevices}
 use Rattle.prl_plan.specs.Plans.{edge_at, reading, release_at, deadline_at, actions_of, cell_of}
-use Rattle.prl_plan.specs.Facts.{ReadsAt, WritesAt, Provides, HasPlanFacts}
-use Rattle.prl_plan.specs.Horizons.{constants_of, IsHorizon}
 use Rattle.prl_plan.specs.TwoTasks.{AreInPeriod, AreTwoNames, two_plan}
-use Rattle.prl_plan.proofs.Counts.{IsHorizonJob-count}
 use Rattle.prl_plan.proofs.TwoTasks.{used-all, window-one}
 
 -- where the instances follow each other, each stands at its own number

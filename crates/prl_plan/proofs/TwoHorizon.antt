@@ -2,11 +2,9 @@
 use Rattle.std.proofs.Common.{◌≡◌, ◌+◌, ◌*◌, ◌<◌, ◌≤◌, ◌⊎◌, ℕ, zero, suc, List, length, inl, inr, refl, sym, ◌∙◌, ap, subst, arith, lit<}
 use Rattle.std.proofs.Math.Nat.{mul-le-mul_right}
 use Rattle.prl_plan.specs.declared.events.Action.{Action}
-use Rattle.prl_plan.specs.declared.horizons.Horizon.{Horizon}
 use Rattle.prl_plan.specs.Jobs.{task_at, job_count, IsHorizonJob}
 use Rattle.prl_plan.specs.Plans.{PlanView, deadline_at, actions_of}
-use Rattle.prl_plan.specs.Facts.{HasPlanFacts}
-use Rattle.prl_plan.specs.Horizons.{IsEnd, IsHorizon, constants_of, sum_below, jobs_up_to, actions_up_to}
+use Rattle.prl_plan.specs.Horizons.{IsEnd, sum_below, jobs_up_to, actions_up_to}
 use Rattle.prl_plan.specs.TwoTasks.{AreInPeriod, AreTwoNames, two_plan, IsTwo}
 use Rattle.prl_plan.proofs.Counts.{IsHorizonJob-count, job_count-horizon}
 use Rattle.prl_plan.proofs.TwoFacts.{deadline-two-0, deadline-two-1, actions-two-0, actions-two-1, links-two}

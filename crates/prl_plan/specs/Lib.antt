@@ -18,3 +18,5 @@ pub mod Intervals
 pub mod Deadlines
 pub mod Ranges
 pub mod FixedPoints
+pub mod FirstReaders
+pub mod CellTurns

@@ -1,7 +1,6 @@
 -- When the numbers fit 64 bits that the plain computations of dates meet.
-use Rattle.std.specs.Prelude.{◌≡◌, ◌+◌, ◌-◌, ◌<◌, ◌≤◌, ◌^◌, ℕ, zero, suc, ℤ, pos, ◌+ℤ◌, ◌-ℤ◌, ◌*ℤ◌, neg_ℤ, List, [], ◌∷◌, length, Some, slice_get, FitsSigned}
+use Rattle.std.specs.Prelude.{◌≡◌, ◌-◌, ◌<◌, ◌≤◌, ◌^◌, ℕ, zero, suc, ℤ, pos, ◌+ℤ◌, ◌-ℤ◌, ◌*ℤ◌, neg_ℤ, List, [], ◌∷◌, length, Some, slice_get, FitsSigned}
 use Rattle.std.specs.Int.{w64}
-use lib.IntN.{suc_ℤ, pred_ℤ}
 use Rattle.prl_base.specs.declared.operators.Op.{Op}
 use Rattle.prl_base.specs.declared.operators.Op.TheVariants as operators
 use Rattle.prl_plan.specs.declared.deadlines.Interval.{Interval}
@@ -10,7 +9,7 @@ use Rattle.prl_plan.specs.declared.graphs.Task.{Task}
 use Rattle.prl_plan.specs.declared.graphs.TaskGraph.{TaskGraph}
 use Rattle.prl_plan.specs.Jobs.{task_at, release_of, deadline_of}
 use Rattle.prl_plan.specs.Precedence.{floor_div, preceding, ComesFrom}
-use Rattle.prl_plan.specs.Intervals.{IsIn, preimage, successors, count_in}
+use Rattle.prl_plan.specs.Intervals.{successors, count_in}
 use Rattle.prl_plan.specs.Rounds.{releases_after}
 use Rattle.prl_plan.specs.Deadlines.{deadlines_after}
 

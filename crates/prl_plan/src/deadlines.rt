@@ -1,6 +1,6 @@
 //! Encoded deadlines of small graphs, by a plain and slow recursion over rounds.
 
-ghost use Rattle.std.specs.Prelude.{◌≡◌, ◌<◌, ◌↔◌, ℕ, ℤ, pos, ◌+ℤ◌, ◌-ℤ◌, ◌≤ℤ◌, length, drop, IfSome, IsSome, MatchOption};
+ghost use Rattle.std.specs.Prelude.{◌≡◌, ◌<◌, ◌^◌, ◌↔◌, ℕ, ℤ, pos, ◌+ℤ◌, ◌-ℤ◌, ◌≤ℤ◌, length, drop, IfSome, IsSome, MatchOption};
 ghost use Rattle.std.specs.Bool.{OnTrue, OnFalse};
 ghost use Rattle.std.specs.Int.{int_min};
 ghost use Rattle.prl_plan.specs.declared.graphs.TaskGraph.{TaskGraph};
@@ -16,7 +16,7 @@ use crate::rounds::{floor_div, release_of_job, task_in};
 use crate::{AnyJob, Edge, Producer, Task, TaskGraph};
 use prl_base::{Op, TaskNo};
 
-/// A interval of whole numbers. There is none in it where the highest is below the lowest.
+/// An interval of whole numbers. There is none in it where the highest is below the lowest.
 #[derive(Clone, Copy, Debug, PartialEq, Eq)]
 pub struct Interval {
     pub lowest: i64,
@@ -73,8 +73,9 @@ pub fn following_jobs(ops: &[Op], m: i64) -> Option<Interval>
 }
 
 /// How many numbers are in the interval, or `None` where that does not fit.
-fn count_of(interval: Interval) -> Option<u64>
-    ensures { MatchOption result (¬ (CountFits interval)) (λ n. n ≡ count_in interval) }
+pub fn count_of(interval: Interval) -> Option<u64>
+    ensures exact { MatchOption result (¬ (CountFits interval)) (λ n. n ≡ count_in interval) }
+    ensures small { IfSome result (λ n. n < 2 ^ 63) }
 {
     let count = interval
         .highest

@@ -16,10 +16,11 @@ mod rounds;
 mod tables;
 #[cfg(test)]
 mod tests;
+mod turns;
 mod walks;
 
 pub use deadlines::{
-    Interval, deadline_after, following_jobs, rounds_reach_the_greatest_deadlines,
+    Interval, count_of, deadline_after, following_jobs, rounds_reach_the_greatest_deadlines,
 };
 pub use events::{Action, Event, Rule};
 pub use facts::{
@@ -37,4 +38,5 @@ pub use limits::{MAX_CELLS, MAX_EDGES, MAX_EVENTS, MAX_JOBS, MAX_PERIOD_JOBS, MA
 pub use plans::Plan;
 pub use rounds::{AnyJob, preceding_job, release_after, rounds_reach_the_least_releases};
 pub use tables::{Used, Window};
+pub use turns::hyperperiod_shows_cells;
 pub use walks::{Operand, operand_by_walk, walk_back};

@@ -1,4 +1,4 @@
-use Rattle.std.proofs.Common.{◌<◌, ◌≤◌, length, arith}
+use Rattle.std.proofs.Common.{arith}
 use Rattle.prl_plan.specs.FixedPoints.{AreFixed}
 use Rattle.prl_plan.proofs.fixed_points.rounds_reach_dates.Goals as goal
 

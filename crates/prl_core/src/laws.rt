@@ -1,0 +1,46 @@
+//! Laws of values by instance along the job table of a plan, as functions that do nothing: the contract of each is the law.
+
+ghost use Rattle.std.specs.Prelude.{◌≡◌, ◌<◌, ◌↔◌, ℕ, List, Some, length, map, take, slice_get};
+ghost use Rattle.prl_body.specs.declared.bodies.Parts.{Parts};
+ghost use Rattle.prl_base.specs.declared.operators.Clock.{Clock};
+ghost use Rattle.prl_base.specs.declared.operators.Op.{Op};
+ghost use Rattle.prl_flow.specs.Flows.{IsResultClock};
+ghost use Rattle.prl_flow.specs.Rows.{Rows};
+ghost use Rattle.prl_flow.specs.JobValues.{value_of, step_of, given_by};
+ghost use Rattle.prl_plan.specs.Graphs.{TakesClock};
+ghost use Rattle.prl_plan.specs.Jobs.{IsHorizonJob};
+ghost use Rattle.prl_plan.specs.Operands.{operand_of};
+ghost use Rattle.prl_plan.specs.JobTables.{TableRow, IsJobTable};
+ghost use Rattle.prl_plan.specs.Plans.{PlanView, IsPlan, edge_at};
+ghost use Rattle.prl_plan.specs.Devices.{LinksDevices};
+ghost use Rattle.prl_core.specs.Values.{operand_value};
+ghost use Rattle.prl_core.specs.TableValues.{source_on, job_row, roles_of, values_by_instance};
+
+use prl_flow::{jobs_give_once, sensors_give_rows};
+use prl_plan::operands_are_of_horizon_jobs;
+
+/// What a job of the job table gives is its step behind the jobs before it: it depends on these alone.
+pub fn job_values_are_steps()
+    ensures { (plan : PlanView) (until : ℕ) (table : List TableRow) → IsJobTable plan until table → (bodies : ℕ → Parts) (rows : Rows) →
+        (k : ℕ) (row : TableRow) → slice_get table k ≡ Some row →
+        (values_by_instance plan bodies rows table).outputs row.task row.job
+        ≡ (step_of rows (roles_of plan bodies) (values_by_instance plan bodies rows (take k table)) (job_row plan row)).outputs }
+{
+    jobs_give_once();
+}
+
+/// Where all tasks are sensors and actuators, the values by instance are the rows of the sensors.
+pub fn device_values_are_rows()
+    ensures { (plan : PlanView) → IsPlan plan → LinksDevices plan → (until : ℕ) (table : List TableRow) → IsJobTable plan until table →
+        (bodies : ℕ → Parts) (rows : Rows) (e n : ℕ) → e < length plan.graph.edges → IsHorizonJob plan.graph until (edge_at plan.graph e).to.0 n →
+        value_of (values_by_instance plan bodies rows table) (source_on (edge_at plan.graph e) n)
+        ≡ operand_value plan.graph rows (edge_at plan.graph e) (operand_of (edge_at plan.graph e) n) }
+{
+    operands_are_of_horizon_jobs();
+    sensors_give_rows();
+}
+
+/// The clock of an operator's result is the same for the flows of programs and for the edges of task graphs.
+pub fn operator_clocks_agree()
+    ensures { (op : Op) (x y : Clock) → TakesClock op x y ↔ IsResultClock op x y }
+{}

@@ -1,0 +1,192 @@
+-- Which jobs read an instance: those from the first reader on, by the periodic precedence.
+use Rattle.std.proofs.Common.{◌≡◌, ◌+◌, ◌*◌, ◌/◌, ◌%◌, ◌<◌, ◌≤◌, ◌↔◌, ℕ, zero, suc, List, [], ◌∷◌, Some, inl, inr, refl, sym, ◌∙◌, ap, arith}
+use Rattle.std.specs.Prelude.{ℤ, pos, negsuc, ◌*ℤ◌, ◌≤ℤ◌, slice_get}
+use Rattle.std.specs.Int.{div_ceil}
+use Rattle.std.proofs.Math.Nat.{mul-le-mul_left}
+use Rattle.std.proofs.lemmas.Nat.{le-div}
+use Rattle.std.proofs.lemmas.Bool.{cases_lt}
+use Rattle.std.proofs.lemmas.Int.{ints}
+use Rattle.prl_base.specs.declared.values.Ty.{Ty}
+use Rattle.prl_base.specs.declared.operators.Op.{Op}
+use Rattle.prl_base.specs.declared.operators.Op.TheVariants as operators
+use Rattle.prl_plan.specs.declared.graphs.Edge.{Edge}
+use Rattle.prl_plan.specs.declared.graphs.Producer.{Producer}
+use Rattle.prl_plan.specs.declared.graphs.Producer.TheVariants as producers
+use Rattle.prl_plan.specs.declared.walks.Operand.{Operand}
+use Rattle.prl_plan.specs.declared.walks.Operand.TheVariants as operands
+use Rattle.prl_plan.specs.Graphs.{IsOperatorFor}
+use Rattle.prl_plan.specs.Operands.{walk, operand_from}
+use Rattle.prl_plan.specs.Precedence.{floor_div, preceding, ComesFrom}
+use Rattle.prl_plan.specs.Intervals.{natural}
+use Rattle.prl_plan.specs.Cells.{Reads, IsUsed}
+use Rattle.prl_plan.specs.FirstReaders.{IsFirstReader, first_reader, first_instance}
+use Rattle.prl_plan.specs.CellTurns.{IsAsked, IsAskedBehind}
+use Rattle.prl_plan.proofs.Floors.{floor-least, mono, suc-is, pred-is}
+use Rattle.prl_plan.proofs.WalkLaws.{walk-preceding, operand-walks}
+
+-- the operators of an edge of this type
+abbrev pub AreOperators : Ty → List Op → Type 0
+AreOperators ty ops = (k : ℕ) (op : Op) → slice_get ops k ≡ Some op → IsOperatorFor ty op
+
+le-self : (a : ℤ) → a ≤ℤ a
+le-self a = omega (arith, ints)
+
+floor-rises : (a b : ℤ) (k : ℕ) → 1 ≤ k → a ≤ℤ b → floor_div a k ≤ℤ floor_div b k
+floor-rises a b k some h =
+    let low : (pos k *ℤ floor_div a k) ≤ℤ a = (floor-least a (floor_div a k) k some).0 (le-self (floor_div a k)) in
+    (floor-least b (floor_div a k) k some).1 (omega (arith, ints, low, h))
+
+-- a later job is preceded by no earlier one
+pub preceding-rises : (ty : Ty) (ops : List Op) → AreOperators ty ops → (a b : ℤ) → a ≤ℤ b → preceding ops a ≤ℤ preceding ops b
+preceding-rises ty [] are a b h = h
+preceding-rises ty (operators.Up k ∷ ops) are a b h =
+    preceding-rises ty ops (λ j o is. are (suc j) o is) (floor_div a k) (floor_div b k) (floor-rises a b k (are 0 (operators.Up k) refl).0 h)
+preceding-rises ty (operators.Down k ∷ ops) are a b h =
+    preceding-rises ty ops (λ j o is. are (suc j) o is) (pos k *ℤ a) (pos k *ℤ b) (mono k a b h)
+preceding-rises ty (operators.Shift q ∷ ops) are a b h = preceding-rises ty ops (λ j o is. are (suc j) o is) a b h
+preceding-rises ty (operators.Tail ∷ ops) are a b h =
+    let x = suc-is a in
+    let y = suc-is b in
+    preceding-rises ty ops (λ j o is. are (suc j) o is) _ _ (omega (arith, ints, h, x, y))
+preceding-rises ty (operators.Cons c ∷ ops) are a b h =
+    let x = pred-is a in
+    let y = pred-is b in
+    preceding-rises ty ops (λ j o is. are (suc j) o is) _ _ (omega (arith, ints, h, x, y))
+preceding-rises ty (operators.Fby c ∷ ops) are a b h =
+    let x = pred-is a in
+    let y = pred-is b in
+    preceding-rises ty ops (λ j o is. are (suc j) o is) _ _ (omega (arith, ints, h, x, y))
+
+-- the quotient rounded up
+ceil-most : (p n k : ℕ) → 1 ≤ k → p ≤ k * n → div_ceil p k ≤ n
+ceil-most p n k some h =
+    let e : k * (p / k) + p % k ≡ p = omega arith in
+    elim (cases_lt n (p / k)) [
+      | inl below ↦ absurd
+          (let up : k * (n + 1) ≤ k * (p / k) = mul-le-mul_left k (let g : n + 1 ≤ p / k = omega arith in g) in
+          let d : k * (n + 1) ≡ k * n + k = omega arith in
+          omega (arith, e, up, d, some, h))
+      | inr above ↦
+          elim (cases_lt (p / k) n) [
+            | inl under ↦ omega (arith, under)
+            | inr over ↦
+                (let same : p / k ≡ n = omega (arith, above, over) in
+                let f : k * (p / k) ≡ k * n = ap (λ (x : ℕ). k * x) same in
+                omega (arith, e, f, h, same))
+          ]
+    ]
+
+ceil-least : (p n k : ℕ) → 1 ≤ k → div_ceil p k ≤ n → p ≤ k * n
+ceil-least p n k some h =
+    let e : k * (p / k) + p % k ≡ p = omega arith in
+    let b : p % k < k = omega (arith, some) in
+    elim (cases_lt (p / k) n) [
+      | inl below ↦
+          (let up : k * (p / k + 1) ≤ k * n = mul-le-mul_left k (let g : p / k + 1 ≤ n = omega arith in g) in
+          let d : k * (p / k + 1) ≡ k * (p / k) + k = omega arith in
+          omega (arith, e, b, up, d))
+      | inr above ↦
+          (let same : p / k ≡ n = omega (arith, above, h) in
+          let none : p % k ≡ 0 = omega (arith, above, h) in
+          let f : k * (p / k) ≡ k * n = ap (λ (x : ℕ). k * x) same in
+          omega (arith, e, f, none))
+    ]
+
+up-most : (p n k : ℕ) → 1 ≤ k → k * p ≤ n → p ≤ n / k
+up-most p n k some h = le-div p n k some (let e : p * k ≡ k * p = omega arith in omega (arith, e, h))
+
+up-least : (p n k : ℕ) → p ≤ n / k → k * p ≤ n
+up-least p n k h =
+    let up : k * p ≤ k * (n / k) = mul-le-mul_left k h in
+    let e : k * (n / k) + n % k ≡ n = omega arith in
+    omega (arith, up, e)
+
+reads-from : (ty : Ty) (ops : List Op) → AreOperators ty ops → (n : ℕ) → first_reader ops ≤ n → (m : ℕ) × (walk ops n ≡ operands.From m)
+reads-from ty [] are n h = (n, refl)
+reads-from ty (operators.Up k ∷ ops) are n h =
+    reads-from ty ops (λ j o is. are (suc j) o is) (n / k) (up-most (first_reader ops) n k (are 0 (operators.Up k) refl).0 h)
+reads-from ty (operators.Down k ∷ ops) are n h =
+    reads-from ty ops (λ j o is. are (suc j) o is) (k * n) (ceil-least (first_reader ops) n k (are 0 (operators.Down k) refl).0 h)
+reads-from ty (operators.Shift q ∷ ops) are n h = reads-from ty ops (λ j o is. are (suc j) o is) n h
+reads-from ty (operators.Tail ∷ ops) are n h = reads-from ty ops (λ j o is. are (suc j) o is) (n + 1) (omega (arith, h))
+reads-from ty (operators.Cons c ∷ ops) are zero h = absurd (omega (arith, h))
+reads-from ty (operators.Cons c ∷ ops) are (suc n) h = reads-from ty ops (λ j o is. are (suc j) o is) n (omega (arith, h))
+reads-from ty (operators.Fby c ∷ ops) are zero h = absurd (omega (arith, h))
+reads-from ty (operators.Fby c ∷ ops) are (suc n) h = reads-from ty ops (λ j o is. are (suc j) o is) n (omega (arith, h))
+
+not-before : (ty : Ty) (ops : List Op) → AreOperators ty ops → (n m : ℕ) → walk ops n ≡ operands.From m → first_reader ops ≤ n
+not-before ty [] are n m h = omega arith
+not-before ty (operators.Up k ∷ ops) are n m h =
+    up-least (first_reader ops) n k (not-before ty ops (λ j o is. are (suc j) o is) (n / k) m h)
+not-before ty (operators.Down k ∷ ops) are n m h =
+    ceil-most (first_reader ops) n k (are 0 (operators.Down k) refl).0 (not-before ty ops (λ j o is. are (suc j) o is) (k * n) m h)
+not-before ty (operators.Shift q ∷ ops) are n m h = not-before ty ops (λ j o is. are (suc j) o is) n m h
+not-before ty (operators.Tail ∷ ops) are n m h =
+    (let g = not-before ty ops (λ j o is. are (suc j) o is) (n + 1) m h in omega (arith, g))
+not-before ty (operators.Cons c ∷ ops) are zero m h = cc
+not-before ty (operators.Cons c ∷ ops) are (suc n) m h =
+    (let g = not-before ty ops (λ j o is. are (suc j) o is) n m h in omega (arith, g))
+not-before ty (operators.Fby c ∷ ops) are zero m h = cc
+not-before ty (operators.Fby c ∷ ops) are (suc n) m h =
+    (let g = not-before ty ops (λ j o is. are (suc j) o is) n m h in omega (arith, g))
+
+pub first-reader : (ty : Ty) (ops : List Op) → AreOperators ty ops → IsFirstReader ops (first_reader ops)
+first-reader ty ops are = record { reads = reads-from ty ops are; first = not-before ty ops are }
+
+-- what the first reader reads is the first instance
+pub first-precedes : (ty : Ty) (ops : List Op) → AreOperators ty ops → preceding ops (pos (first_reader ops)) ≡ pos (first_instance ops)
+first-precedes ty ops are =
+    let r = reads-from ty ops are (first_reader ops) (omega arith) in
+    let e : preceding ops (pos (first_reader ops)) ≡ pos r.0 = walk-preceding ops (first_reader ops) r.0 r.1 in
+    let f : first_instance ops ≡ r.0 = ap natural e in
+    e ∙ ap (λ (x : ℕ). pos x) (sym f)
+
+pub first-asked : (ty : Ty) (ops : List Op) → AreOperators ty ops → IsAskedBehind ops (first_instance ops) 0
+first-asked ty ops are = (pos (first_reader ops), (let e = first-precedes ty ops are in omega (arith, ints, e)))
+
+module _ (edge : Edge) (i : ℕ) (comes : ComesFrom edge.from i) (are : AreOperators edge.ty edge.ops) where
+  from-walk : (from : Producer) → ComesFrom from i → (o : Operand) → operand_from from o ≡ o
+  from-walk (producers.Port task out) h o = refl
+  from-walk (producers.Constant value) h o = absurd h
+
+  -- a job reads the instance that precedes it, from the first reader on
+  pub reads-is : (n m : ℕ) → Reads edge n m ↔ ((first_reader edge.ops ≤ n) × (preceding edge.ops (pos n) ≡ pos m))
+  reads-is n m = (
+    (λ h. (let w = operand-walks edge n m h in (not-before edge.ty edge.ops are n m w.2, walk-preceding edge.ops n m w.2))),
+    (λ h.
+        (let r = reads-from edge.ty edge.ops are n h.0 in
+        let e : pos r.0 ≡ pos m = sym (walk-preceding edge.ops n r.0 r.1) ∙ h.1 in
+        let same : r.0 ≡ m = cc in
+        from-walk edge.from comes (walk edge.ops n) ∙ r.1 ∙ ap (λ (x : ℕ). operands.From x) same)),
+  )
+
+  -- the used instances are those from the first on that precede some job
+  pub used-is : (m : ℕ) → IsUsed edge m ↔ ((first_instance edge.ops ≤ m) × IsAsked edge.ops (pos m))
+  used-is m = (
+    (λ h.
+        (let r = (reads-is h.0 m).0 h.1 in
+        let up = preceding-rises edge.ty edge.ops are (pos (first_reader edge.ops)) (pos h.0) (let g = r.0 in omega (arith, ints, g)) in
+        let e = first-precedes edge.ty edge.ops are in
+        let at = r.1 in
+        (omega (arith, ints, up, e, at), (pos h.0, r.1)))),
+    (λ h. go h.0 h.1.0 h.1.1),
+  )
+    where
+      go : first_instance edge.ops ≤ m → (n : ℤ) → preceding edge.ops n ≡ pos m → IsUsed edge m
+      go late (negsuc k) at = early late (negsuc k) at (omega (arith, ints))
+        where
+          early : first_instance edge.ops ≤ m → (n : ℤ) → preceding edge.ops n ≡ pos m → n ≤ℤ pos (first_reader edge.ops) → IsUsed edge m
+          early late n at before =
+              let up = preceding-rises edge.ty edge.ops are n (pos (first_reader edge.ops)) before in
+              let e = first-precedes edge.ty edge.ops are in
+              let same : first_instance edge.ops ≡ m = omega (arith, ints, up, e, at, late) in
+              (first_reader edge.ops, (reads-is (first_reader edge.ops) m).1 (omega arith, e ∙ ap (λ (x : ℕ). pos x) same))
+      go late (pos k) at =
+          elim (cases_lt k (first_reader edge.ops)) [
+            | inl below ↦
+                (let up = preceding-rises edge.ty edge.ops are (pos k) (pos (first_reader edge.ops)) (omega (arith, ints, below)) in
+                let e = first-precedes edge.ty edge.ops are in
+                let same : first_instance edge.ops ≡ m = omega (arith, ints, up, e, at, late) in
+                (first_reader edge.ops, (reads-is (first_reader edge.ops) m).1 (omega arith, e ∙ ap (λ (x : ℕ). pos x) same)))
+            | inr above ↦ (k, (reads-is k m).1 (above, at))
+          ]

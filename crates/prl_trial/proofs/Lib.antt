@@ -1,0 +1,3 @@
+pub mod GapSteps
+pub mod CellSteps
+pub mod CellTables

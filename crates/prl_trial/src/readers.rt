@@ -1,0 +1,51 @@
+//! Which instances of an edge are read, and from which job on.
+
+ghost use Rattle.std.specs.Prelude.{◌≡◌, ◌+◌, ◌↔◌, IsTrue, MatchOption};
+ghost use Rattle.prl_plan.specs.FirstReaders.{reader_before, first_reader, first_instance};
+ghost use Rattle.prl_plan.specs.CellTurns.{IsAskedBehind};
+ghost use Rattle.prl_trial.specs.Ranges.{StepFits, ReaderFits, InstanceFits, AskedFits};
+
+use prl_base::Op;
+use prl_plan::{following_jobs, preceding_job};
+
+/// The first number that the operator takes to `p` or higher. `None` exactly where it does not fit, or a factor is 0.
+fn reader_through(op: Op, p: u64) -> Option<u64>
+    ensures { MatchOption result (¬ (StepFits op p)) (λ r. r ≡ reader_before op p) }
+{
+    match op {
+        Op::Up(k) if k > 0 => u64::from(k).checked_mul(p),
+        Op::Down(k) if k > 0 => Some(p.div_ceil(u64::from(k))),
+        Op::Up(_) | Op::Down(_) => None,
+        Op::Shift(_) => Some(p),
+        Op::Tail => Some(p.saturating_sub(1)),
+        Op::Cons(_) | Op::Fby(_) => p.checked_add(1),
+    }
+}
+
+/// The number of the first job that reads an instance through the operators; the jobs before it read constants. `None`
+/// exactly where a number on the way does not fit, or a factor is 0.
+pub fn first_job(ops: &[Op]) -> Option<u64>
+    ensures { MatchOption result (¬ (ReaderFits ops.now)) (λ p. p ≡ first_reader ops.now) }
+{
+    match ops {
+        [] => Some(0),
+        [op, rest @ ..] => reader_through(*op, first_job(rest)?),
+    }
+}
+
+/// The first instance that is read through the operators.
+pub(crate) fn first_used(ops: &[Op]) -> Option<u64>
+    ensures { MatchOption result (¬ (InstanceFits ops.now)) (λ m. m ≡ first_instance ops.now) }
+{
+    let reader = i64::try_from(first_job(ops)?).ok()?;
+    u64::try_from(preceding_job(ops, reader)?).ok()
+}
+
+/// Whether instance `first + x` precedes some job.
+pub(crate) fn is_asked(ops: &[Op], first: u64, x: u64) -> Option<bool>
+    ensures { MatchOption result (¬ (AskedFits ops.now (first + x))) (λ asked. IsTrue asked ↔ IsAskedBehind ops.now first x) }
+{
+    let m = i64::try_from(first.checked_add(x)?).ok()?;
+    let jobs = following_jobs(ops, m)?;
+    Some(jobs.lowest <= jobs.highest)
+}
