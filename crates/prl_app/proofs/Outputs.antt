@@ -21,6 +21,7 @@ use Rattle.prl_ast.specs.Trees.{ProgramTree}
 use Rattle.prl_flow.specs.Programs.{name_of}
 use Rattle.prl_chains.specs.declared.chains.Chain.{Chain}
 use Rattle.prl_chains.specs.Chains.{chain_of}
+use Rattle.prl_chains.specs.Relays.{without_applications}
 use Rattle.prl_app.specs.declared.refusals.Part.TheVariants as parts
 use Rattle.prl_app.specs.declared.refusals.Refusal.TheVariants as refusals
 use Rattle.prl_app.specs.Rows.{rows_of}
@@ -62,7 +63,7 @@ within_limit-few run few = rw (le-ltb 4000000 (values_before run.until run.clock
 
 -- the outcome where each stage before the last one goes well
 pub chain_outcome-run : (sensors : List ℕ) (until : ℕ) (program : ProgramTree) (chain : Chain) (values : List Value) (run : Run)
-    → or_refuse (refusals.NotBuilt parts.Program) (chain_of program) ≡ Ok chain
+    → or_refuse (refusals.NotBuilt parts.Program) (without_applications (chain_of program)) ≡ Ok chain
     → or_refuse (refusals.NotBuilt parts.Sensors) (rows_of (name_of chain.flat.in_devices 0) sensors) ≡ Ok values
     → enough_rows chain values until ≡ Ok values → run ≡ chain_run chain values until
     → chain_outcome program sensors until ≡ within_limit run

@@ -19,6 +19,7 @@ use Rattle.prl_app.specs.declared.refusals.Refusal.TheVariants as refusals
 use Rattle.prl_app.specs.declared.runs.Run.{Run}
 use Rattle.prl_chains.specs.declared.chains.Chain.{Chain}
 use Rattle.prl_chains.specs.Chains.{chain_of}
+use Rattle.prl_chains.specs.Relays.{without_applications}
 use Rattle.prl_flow.specs.Programs.{name_of}
 use Rattle.prl_app.specs.Rows.{rows_of}
 use Rattle.prl_app.specs.declared.words.Mode.{Mode}
@@ -93,10 +94,10 @@ WithTypes program next outcome =
     ((node : ℕ) × (types : List Ty) × IsTyped program None node types × next outcome)
     ⊎ ((fault : TypeFault) × IsFault program None fault × (fault ≢ typing.Memory) × (outcome ≡ Err (of_types fault)))
 
--- the run of a chain of equations on its rows
+-- the run of a chain of equations on its rows; chains that apply an import are not built
 unfoldable pub chain_outcome : ProgramTree → List ℕ → ℕ → Result Asked Refusal
 chain_outcome program sensors until = do
-  chain ← or_refuse (refusals.NotBuilt parts.Program) (chain_of program)
+  chain ← or_refuse (refusals.NotBuilt parts.Program) (without_applications (chain_of program))
   read ← or_refuse (refusals.NotBuilt parts.Sensors) (rows_of (name_of chain.flat.in_devices 0) sensors)
   values ← enough_rows chain read until
   within_limit (chain_run chain values until)

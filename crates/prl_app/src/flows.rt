@@ -1,6 +1,6 @@
 //! Mode `flows`: from the bytes of a program and of its rows to the actuators' text.
 
-ghost use Rattle.std.specs.Prelude.{◌≡◌, ◌<◌, ◌≤◌, ◌^◌, ℕ, MatchResult, IfOk, length};
+ghost use Rattle.std.specs.Prelude.{◌≡◌, ◌<◌, ◌≤◌, ◌^◌, ℕ, MatchResult, IfOk, IsTrue, length};
 ghost use Rattle.std.specs.Vec.{vec_items};
 ghost use Rattle.prl_base.specs.Clocks.{date_at};
 ghost use Rattle.prl_base.specs.Reading.{FailsAs, Gives};
@@ -9,6 +9,7 @@ ghost use Rattle.prl_flow.specs.Counts.{dates_before};
 ghost use Rattle.prl_flow.specs.Programs.{name_of};
 ghost use Rattle.prl_chains.specs.Chains.{chain_of};
 ghost use Rattle.prl_chains.specs.Facts.{IsChain};
+ghost use Rattle.prl_chains.specs.Relays.{has_no_application, without_applications};
 ghost use Rattle.prl_app.specs.Outcomes.{chain_outcome, enough_rows, or_refuse, refusal_of, IsFlowsOutcome, IsTextFor, IsRefusalOf, IsTextBy, IsRefusalBy};
 ghost use Rattle.prl_app.specs.Rows.{rows_of};
 ghost use Rattle.prl_app.specs.Runs.{IsReady, chain_run, input_clock};
@@ -35,6 +36,7 @@ fn rows_needed(chain: &Chain, until: u32) -> u64
 /// A chain and the values of its input, as what is to be computed.
 fn chain_run_of(alloc: Global, chain: Chain, values: Vec<Value>, until: u32) -> Result<Run, Refusal>
     requires chain { IsChain chain }
+    requires plain { IsTrue (has_no_application chain) }
     requires until { until < 2 ^ 31 }
     ensures { MatchResult result
         (λ run. (enough_rows chain values.items until ≡ Ok values.items) × (run ≡ chain_run chain values.items until) × IsReady run)
@@ -51,13 +53,20 @@ fn chain_run_of(alloc: Global, chain: Chain, values: Vec<Value>, until: u32) -> 
     Ok(chain_run(alloc, chain, values, until)?)
 }
 
-/// The chain of the program.
+/// The chain of the program, which applies no import.
 fn chain_of_program(alloc: Global, program: &Program) -> Result<Chain, Refusal>
-    ensures exact { Gives (λ chain. chain) refusal_of result (or_refuse (Refusal.NotBuilt Part.Program) (chain_of (program_tree program.now))) }
+    ensures exact { Gives (λ chain. chain) refusal_of result (or_refuse (Refusal.NotBuilt Part.Program) (without_applications (chain_of (program_tree program.now)))) }
     ensures sound { IfOk result IsChain }
+    ensures plain { IfOk result (λ chain. IsTrue (has_no_application chain)) }
 {
     match chain_of(alloc, program) {
-        Ok(Some(chain)) => Ok(chain),
+        Ok(Some(chain)) => {
+            if chain.has_no_application() {
+                Ok(chain)
+            } else {
+                Err(Refusal::NotBuilt(Part::Program))
+            }
+        }
         Ok(None) => Err(Refusal::NotBuilt(Part::Program)),
         Err(_) => Err(Refusal::Memory),
     }

@@ -15,7 +15,7 @@ returns c =
         clocks = chain.clocks;
         ordered = chain.ordered;
         rows = c.one_sensor_suffices.ensures c.args.chain chain c.args.values.items c.args.until rows;
-        bodies = c.chains_want_no_body.ensures.bodies c.args.chain chain [];
-        types = c.chains_want_no_body.ensures.rows c.args.chain chain (c.args.values.items ∷ []);
+        bodies = c.chains_want_no_body.ensures.bodies c.args.chain chain c.requires.plain [];
+        types = c.chains_want_no_body.ensures.rows c.args.chain chain c.requires.plain (c.args.values.items ∷ []);
       }),
     )
