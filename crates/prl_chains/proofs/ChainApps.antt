@@ -1,5 +1,5 @@
 -- An application of an import stands behind the flows that it is made of.
-use Rattle.std.proofs.Common.{◌≡◌, ◌==◌, ◌&&◌, ℕ, ◌+◌, ◌<◌, ◌≤◌, ◌^◌, zero, suc, Bool, true, false, List, [], ◌∷◌, ◌++◌, length, map, Option, Some, None, slice_get, refl, sym, ap, ◌∙◌, subst, arith, length-append, nat_le, nat_lt}
+use Rattle.std.proofs.Common.{◌≡◌, ◌==◌, ◌&&◌, ℕ, ◌+◌, ◌<◌, ◌≤◌, ◌^◌, zero, suc, Bool, true, false, List, [], ◌∷◌, ◌++◌, length, map, Option, Some, None, slice_get, refl, sym, ap, ◌∙◌, subst, arith, length-append, nat_le}
 use Rattle.std.specs.Prelude.{if◌then◌else◌}
 use Rattle.std.specs.Str.{bytes_eq}
 use Rattle.std.proofs.lemmas.Bool.{leb-true, eqb-true}
@@ -15,7 +15,7 @@ use Rattle.prl_flow.specs.declared.programs.App.{App}
 use Rattle.prl_flow.specs.declared.programs.Arg.{Arg}
 use Rattle.prl_flow.specs.declared.programs.Def.TheVariants as definitions
 use Rattle.prl_flow.specs.Programs.{IsFactor}
-use Rattle.prl_flow.proofs.Lists.{slice_get-append_left, slice_get-push}
+use Rattle.prl_flow.proofs.Lists.{slice_get-push}
 use Rattle.prl_chains.specs.declared.links.Link.{Link}
 use Rattle.prl_chains.specs.Links.{flow_named, link_clock, made_link, IsLink, IsLinked, IsOutputOf}
 use Rattle.prl_chains.specs.Applications.{Applied, bare_name, named_flow, argument_of, arguments_of, first_period, are_ints, takes, fits, may_define_all, have_numbers, place_of, output_links, numbers_from, made_app, app_of, IsOfImport, HasPeriod, IsMade, IsAmong}

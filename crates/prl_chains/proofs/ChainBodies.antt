@@ -1,10 +1,9 @@
 -- Chains over bodies that fit their imports.
-use Rattle.std.proofs.Common.{◌≡◌, ℕ, ◌<◌, zero, suc, Bool, true, false, ◌||◌, List, [], ◌∷◌, length, map, Some, IsTrue, refl, sym, ap, ◌∙◌, subst, arith}
+use Rattle.std.proofs.Common.{◌≡◌, ℕ, ◌<◌, zero, suc, Bool, true, false, ◌||◌, List, [], ◌∷◌, length, map, Some, refl, sym, ap, ◌∙◌, subst, arith}
 use Rattle.std.specs.Prelude.{slice_get}
 use Rattle.std.specs.Str.{bytes_eq}
 use Rattle.std.proofs.lemmas.Slice.Eq.{bytes_eq-Decides}
 use Rattle.std.proofs.lemmas.List.{length-map}
-use Rattle.std.proofs.lemmas.Option.{slice_get-map}
 use Rattle.prl_base.specs.declared.numbers.FlowNo.{FlowNo}
 use Rattle.prl_base.specs.declared.values.Ty.{Ty}
 use Rattle.prl_base.specs.declared.values.Ty.TheVariants as types
@@ -14,7 +13,7 @@ use Rattle.prl_ast.specs.declared.declarations.Import.{Import}
 use Rattle.prl_ast.specs.declared.declarations.Port.{Port}
 use Rattle.prl_body.specs.declared.bodies.Parts.{Parts}
 use Rattle.prl_body.specs.Checks.{import_named}
-use Rattle.prl_body.specs.Used.{HasBodyOf, HaveBodiesOf}
+use Rattle.prl_body.specs.Used.{HaveBodiesOf}
 use Rattle.prl_flow.specs.declared.programs.App.{App}
 use Rattle.prl_flow.specs.declared.programs.Arg.{Arg}
 use Rattle.prl_flow.specs.Applications.{HaveTypes, HaveBodies, argument_numbers}
@@ -23,10 +22,10 @@ use Rattle.prl_flow.specs.Rows.{rows_of}
 use Rattle.prl_flow.specs.Solutions.{HasTypedRows}
 use Rattle.prl_flow.proofs.Lists.{element_at}
 use Rattle.prl_chains.specs.declared.chains.Chain.{Chain}
-use Rattle.prl_chains.specs.Applications.{is_int, are_ints, IsOfImport}
+use Rattle.prl_chains.specs.Applications.{is_int, are_ints}
 use Rattle.prl_chains.specs.Facts.{AppliesImports, IsChain}
 use Rattle.prl_chains.specs.Used.{is_applied, used_imports}
-use Rattle.prl_chains.proofs.ChainApps.{some_inner, bytes_same}
+use Rattle.prl_chains.proofs.ChainApps.{some_inner}
 use Rattle.prl_chains.proofs.Truths.{both_true}
 
 int_type : (ty : Ty) → is_int ty ≡ true → ty ≡ types.Int

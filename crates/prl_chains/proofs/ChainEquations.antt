@@ -1,17 +1,15 @@
 -- Equations, one behind the other.
-use Rattle.std.proofs.Common.{◌≡◌, ℕ, ◌+◌, ◌<◌, ◌≤◌, ◌^◌, suc, List, [], ◌∷◌, ◌++◌, length, map, Option, Some, None, refl, sym, ap, ◌∙◌, subst, arith, length-append, drop, get_or, drop-cons, add-one}
+use Rattle.std.proofs.Common.{◌≡◌, ℕ, ◌+◌, ◌<◌, ◌≤◌, ◌^◌, suc, List, [], ◌∷◌, ◌++◌, length, map, Option, Some, None, sym, ap, ◌∙◌, subst, arith, length-append, drop, get_or, drop-cons, add-one}
 use Rattle.std.specs.Option.{option_map}
 use Rattle.prl_ast.specs.declared.declarations.Equation.{Equation}
 use Rattle.prl_ast.specs.declared.declarations.Import.{Import}
 use Rattle.prl_ast.specs.declared.declarations.Placed.{Placed}
 use Rattle.prl_ast.specs.Trees.{NodeTree, EquationTree, equation_tree}
-use Rattle.prl_flow.specs.declared.programs.App.{App}
-use Rattle.prl_flow.specs.Programs.{IsFactor}
 use Rattle.prl_chains.specs.declared.links.Link.{Link}
 use Rattle.prl_chains.specs.Options.{◌>>=◌}
 use Rattle.prl_chains.specs.Links.{link_of, HavePeriods}
 use Rattle.prl_chains.specs.Applications.{Applied, applied_of, app_of, output_links}
-use Rattle.prl_chains.specs.Equations.{Definitions, with_link, with_app, with_right, with_equation, with_equations, AreDefined}
+use Rattle.prl_chains.specs.Equations.{Definitions, with_app, with_right, with_equation, with_equations, AreDefined}
 use Rattle.prl_chains.proofs.ChainApps.{AreDefined-app, IsTaken-made, outputs_length}
 use Rattle.prl_chains.proofs.SomeParts.{both_some, mapped_some}
 

@@ -1,10 +1,10 @@
 -- What an application tells as an expression.
-use Rattle.std.proofs.Common.{◌≡◌, ◌==◌, ◌&&◌, ℕ, true, List, [], ◌∷◌, length, map, Option, Some, None, Result, Ok, Err, IfOk, IfSome, refl, sym, ap, ◌∙◌, subst}
+use Rattle.std.proofs.Common.{◌≡◌, ◌==◌, ◌&&◌, ℕ, true, List, [], ◌∷◌, length, Option, Some, None, Result, Ok, Err, IfOk, IfSome, refl, sym, ap, ◌∙◌}
 use Rattle.prl_base.specs.declared.places.Span.{Span}
 use Rattle.prl_ast.specs.declared.expressions.PlacedOp.{PlacedOp}
 use Rattle.prl_ast.specs.Trees.{Tree, tree, Root, apply, tree_list}
 use Rattle.prl_syntax.specs.Trees.{trees_from}
-use Rattle.prl_chains.specs.Applications.{Applied, applied_of}
+use Rattle.prl_chains.specs.Applications.{applied_of}
 
 list_back : (ts : List Tree) → tree_list (trees_from ts) ≡ ts
 list_back [] = refl

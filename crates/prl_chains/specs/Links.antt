@@ -1,5 +1,5 @@
 -- The flow that an equation over one earlier flow defines.
-use Rattle.std.specs.Prelude.{◌≡◌, ◌&&◌, ◌||◌, ◌<◌, ◌++◌, ℕ, Bool, not, List, [], ◌∷◌, length, map, Option, Some, None, nat_lt, slice_get, if◌then◌else◌}
+use Rattle.std.specs.Prelude.{◌≡◌, ◌&&◌, ◌||◌, ◌<◌, ℕ, Bool, not, List, length, map, Option, Some, None, nat_lt, slice_get, if◌then◌else◌}
 use Rattle.std.specs.List.{position_or_len, list_any}
 use Rattle.std.specs.Str.{bytes_eq}
 use Rattle.prl_base.specs.declared.operators.Clock.{Clock}

@@ -1,7 +1,6 @@
 //! Applications of imported nodes as the right sides of equations.
 
 ghost use Rattle.std.specs.Prelude.{◌≡◌, ◌==◌, ◌&&◌, ◌<◌, ◌≤◌, ◌+◌, ◌++◌, ◌^◌, length, map, IfOk, IfSome, OnOk};
-ghost use Rattle.std.specs.List.{list_all};
 ghost use Rattle.std.specs.Option.{option_map};
 ghost use Rattle.std.specs.Vec.{vec_items};
 ghost use Rattle.prl_ast.specs.Trees.{tree_of, node_tree};

@@ -1,6 +1,6 @@
 //! Chains: which programs are of the form, and their flat programs.
 
-ghost use Rattle.std.specs.Prelude.{◌≡◌, ◌<◌, ◌≤◌, [], ◌∷◌, List, map, IfOk, IfSome};
+ghost use Rattle.std.specs.Prelude.{◌≡◌, ◌<◌, [], ◌∷◌, List, map, IfOk, IfSome};
 ghost use Rattle.std.specs.List.{list_all};
 ghost use Rattle.std.specs.Option.{option_map};
 ghost use Rattle.std.specs.Vec.{vec_items};
@@ -195,7 +195,7 @@ fn node_defined(
         None => return Ok(None),
         Some(ends) => ends,
     };
-    // First the number of equations, which bounds the names that are compared.
+    // First the number of equations, before names are compared.
     if !are_few(node) {
         return Ok(None);
     }

@@ -1,8 +1,5 @@
-use Rattle.std.proofs.Common.{map}
-use Rattle.std.specs.Option.{option_map}
-use Rattle.prl_ast.specs.Trees.{tree_of, node_tree}
-use Rattle.prl_chains.specs.Equations.{AreDefined, with_app}
-use Rattle.prl_chains.specs.Applications.{app_of}
+use Rattle.prl_ast.specs.Trees.{node_tree}
+use Rattle.prl_chains.specs.Equations.{AreDefined}
 use Rattle.prl_chains.proofs.ChainEquations.{AreDefined-applied}
 use Rattle.prl_chains.proofs.SomeApplied.{holds-of}
 use Rattle.prl_chains.proofs.equations.with_equation.Goals as goal
