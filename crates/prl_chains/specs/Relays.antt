@@ -1,5 +1,5 @@
 -- Chains that hand the input on as it is, and chains without applications.
-use Rattle.std.specs.Prelude.{◌≡◌, ◌==◌, ◌<◌, ℕ, Bool, true, false, List, [], ◌∷◌, length, Option, Some, None, slice_get, if◌then◌else◌}
+use Rattle.std.specs.Prelude.{◌≡◌, ◌==◌, ◌<◌, ℕ, Bool, true, false, List, [], ◌∷◌, length, Some, slice_get}
 use Rattle.std.specs.List.{list_all}
 use Rattle.prl_base.specs.declared.numbers.FlowNo.{FlowNo}
 use Rattle.prl_base.specs.declared.values.Value.{Value}
@@ -29,11 +29,6 @@ is_relay c = are_copies c.flat.flows
 -- the chain applies no import
 abbrev pub has_no_application : Chain → Bool
 has_no_application c = length c.flat.apps == 0
-
--- the chain of a program, if it applies no import
-abbrev pub without_applications : Option Chain → Option Chain
-without_applications None = None
-without_applications (Some c) = if has_no_application c then Some c else None
 
 -- all flows have the clock of the input, and in each solution its values
 pub record HandsOn (c : Chain) : Type 0 where
