@@ -6,7 +6,7 @@ use Rattle.std.proofs.lemmas.Bool.Decides.{nat_tests}
 use Rattle.prl_base.specs.declared.values.Value.{Value}
 use Rattle.prl_body.specs.declared.bodies.Parts.{Parts}
 use Rattle.prl_flow.specs.Rows.{Rows, rows_of}
-use Rattle.prl_flow.specs.JobValues.{Tells, JobRow, value_of, at_most_one, is_job, step_of, given_by}
+use Rattle.prl_flow.specs.JobValues.{Tells, JobRow, Source, value_of, at_most_one, is_job, step_of, given_by}
 use Rattle.prl_plan.specs.declared.graphs.Edge.{Edge}
 use Rattle.prl_plan.specs.declared.graphs.Kind.{Kind}
 use Rattle.prl_plan.specs.declared.graphs.Kind.TheVariants as kinds
@@ -152,3 +152,66 @@ module _ (plan : PlanView) (good : IsPlan plan) (devices : LinksDevices plan) (u
           to-go (producers.Port task out) (operands.From m) f w
           (ap (λ (l : List Value). slice_get l out) value ∙ ap (λ (x : ℕ). slice_get (at_most_one (slice_get (rows_of rows sensor.0) m)) x) none
           ∙ first-of (slice_get (rows_of rows sensor.0) m) ∙ sym mine)
+
+taken : (table : List TableRow) (k x : ℕ) (row : TableRow) → slice_get (take k table) x ≡ Some row → slice_get table x ≡ Some row
+taken table zero x row at = cc
+taken [] (suc k) x row at = at
+taken (t ∷ table) (suc k) zero row at = at
+taken (t ∷ table) (suc k) (suc x) row at = taken table k x row at
+
+taken-at : (table : List TableRow) (k l : ℕ) → l < k → slice_get (take k table) l ≡ slice_get table l
+taken-at table zero l before = absurd (omega (arith, before))
+taken-at [] (suc k) l before = refl
+taken-at (t ∷ table) (suc k) zero before = refl
+taken-at (t ∷ table) (suc k) (suc l) before = taken-at table k l (omega (arith, before))
+
+shorter : (table : List TableRow) (k l : ℕ) → l < k → take l (take k table) ≡ take l table
+shorter table k zero before = refl
+shorter table zero (suc l) before = absurd (omega (arith, before))
+shorter [] (suc k) (suc l) before = refl
+shorter (t ∷ table) (suc k) (suc l) before = ap (λ (rest : List TableRow). t ∷ rest) (shorter table k l (omega (arith, before)))
+
+module _ (plan : PlanView) (until : ℕ) (table : List TableRow) (made : IsJobTable plan until table) (bodies : ℕ → Parts) (rows : Rows)
+    (law : (front back : List JobRow) (job : JobRow) → ((j : ℕ) (later : JobRow) → slice_get back j ≡ Some later → is_job later job.task job.job ≡ false) →
+    (given_by rows (roles_of plan bodies) (front ++ job ∷ back)).outputs job.task job.job ≡ (step_of rows (roles_of plan bodies) (given_by rows (roles_of plan bodies) front) job).outputs) where
+  -- what a job gives stands from its place on
+  settled : (k l : ℕ) (row : TableRow) → l < k → slice_get table l ≡ Some row →
+      (values_by_instance plan bodies rows (take k table)).outputs row.task row.job ≡ (values_by_instance plan bodies rows table).outputs row.task row.job
+  settled k l row before at =
+      let here : slice_get (take k table) l ≡ Some row = taken-at table k l before ∙ at in
+      ap (λ (jobs : List JobRow). (given_by rows (roles_of plan bodies) jobs).outputs row.task row.job) (parted plan (take k table) l row here)
+      ∙ law (map (job_row plan) (take l (take k table))) (map (job_row plan) (drop (suc l) (take k table))) (job_row plan row) rest
+      ∙ ap (λ (front : List TableRow). (step_of rows (roles_of plan bodies) (values_by_instance plan bodies rows front) (job_row plan row)).outputs) (shorter table k l before)
+      ∙ sym (step-at plan until table made bodies rows l row at law)
+    where
+      rest : (j : ℕ) (later : JobRow) → slice_get (map (job_row plan) (drop (suc l) (take k table))) j ≡ Some later → is_job later row.task row.job ≡ false
+      rest j later stands =
+          let from = mapped plan (drop (suc l) (take k table)) j later stands in
+          let place = taken table k (suc l + j) from.0 (sym (dropped (take k table) (suc l) j) ∙ from.1) in
+          ap (λ (x : JobRow). is_job x row.task row.job) from.2 ∙ once plan until table made l (suc l + j) row from.0 (omega arith) at place
+
+  pub reads-stand : (k : ℕ) (row : TableRow) → (edge : Edge) →
+      ((i m : ℕ) → ComesFrom edge.from i → operand_of edge row.job ≡ operands.From m →
+      (l : ℕ) × (earlier : TableRow) × (l < k) × (slice_get table l ≡ Some earlier) × (earlier.task ≡ i) × (earlier.job ≡ m)) →
+      value_of (values_by_instance plan bodies rows (take k table)) (source_on edge row.job) ≡ value_of (values_by_instance plan bodies rows table) (source_on edge row.job)
+  reads-stand k row edge stands = go edge.from refl (operand_of edge row.job) refl
+    where
+      same : (from : Producer) (o : Operand) → edge.from ≡ from → operand_of edge row.job ≡ o →
+          value_of (values_by_instance plan bodies rows (take k table)) (source_from from o) ≡ value_of (values_by_instance plan bodies rows table) (source_from from o) →
+          value_of (values_by_instance plan bodies rows (take k table)) (source_on edge row.job) ≡ value_of (values_by_instance plan bodies rows table) (source_on edge row.job)
+      same from o f w h =
+          subst (λ (x : Source). value_of (values_by_instance plan bodies rows (take k table)) x ≡ value_of (values_by_instance plan bodies rows table) x)
+          (sym (ap (λ (x : Operand). source_from edge.from x) w ∙ ap (λ (y : Producer). source_from y o) f)) h
+
+      go : (from : Producer) → edge.from ≡ from → (o : Operand) → operand_of edge row.job ≡ o →
+          value_of (values_by_instance plan bodies rows (take k table)) (source_on edge row.job) ≡ value_of (values_by_instance plan bodies rows table) (source_on edge row.job)
+      go from f (operands.Const c) w = same from (operands.Const c) f w refl
+      go (producers.Constant value) f (operands.From m) w = same (producers.Constant value) (operands.From m) f w refl
+      go (producers.Port task out) f (operands.From m) w =
+          let comes : ComesFrom edge.from task.0 = subst (λ (y : Producer). ComesFrom y task.0) (sym f) refl in
+          let found = stands task.0 m comes w in
+          let kept = settled k found.0 found.1 found.2 found.3 in
+          let outputs : (values_by_instance plan bodies rows (take k table)).outputs task.0 m ≡ (values_by_instance plan bodies rows table).outputs task.0 m =
+          subst (λ (i : ℕ). (values_by_instance plan bodies rows (take k table)).outputs i m ≡ (values_by_instance plan bodies rows table).outputs i m) found.4
+          (subst (λ (n : ℕ). (values_by_instance plan bodies rows (take k table)).outputs found.1.task n ≡ (values_by_instance plan bodies rows table).outputs found.1.task n) found.5 kept) in
+          same (producers.Port task out) (operands.From m) f w (ap (λ (l : List Value). slice_get l out) outputs)

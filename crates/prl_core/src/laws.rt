@@ -17,7 +17,7 @@ ghost use Rattle.prl_core.specs.Values.{operand_value};
 ghost use Rattle.prl_core.specs.TableValues.{source_on, job_row, roles_of, values_by_instance};
 
 use prl_flow::{jobs_give_once, sensors_give_rows};
-use prl_plan::operands_are_of_horizon_jobs;
+use prl_plan::{operands_are_of_horizon_jobs, operands_stand_earlier};
 
 /// What a job of the job table gives is its step behind the jobs before it: it depends on these alone.
 pub fn job_values_are_steps()
@@ -27,6 +27,17 @@ pub fn job_values_are_steps()
         ≡ (step_of rows (roles_of plan bodies) (values_by_instance plan bodies rows (take k table)) (job_row plan row)).outputs }
 {
     jobs_give_once();
+}
+
+/// What a job of the job table reads is a value by instance: what its producers have given stands before its place.
+pub fn job_reads_stand()
+    ensures { (plan : PlanView) → IsPlan plan → (until : ℕ) (table : List TableRow) → IsJobTable plan until table → (bodies : ℕ → Parts) (rows : Rows) →
+        (k : ℕ) (row : TableRow) → slice_get table k ≡ Some row → (e : ℕ) → e < length plan.graph.edges → (edge_at plan.graph e).to.0 ≡ row.task →
+        value_of (values_by_instance plan bodies rows (take k table)) (source_on (edge_at plan.graph e) row.job)
+        ≡ value_of (values_by_instance plan bodies rows table) (source_on (edge_at plan.graph e) row.job) }
+{
+    jobs_give_once();
+    operands_stand_earlier();
 }
 
 /// Where all tasks are sensors and actuators, the values by instance are the rows of the sensors.

@@ -10,6 +10,8 @@ mod seen;
 mod tests;
 
 pub use cores::Core;
-pub use laws::{device_values_are_rows, job_values_are_steps, operator_clocks_agree};
+pub use laws::{
+    device_values_are_rows, job_reads_stand, job_values_are_steps, operator_clocks_agree,
+};
 pub use prl_plan::{Event, Rule};
 pub use seen::{Illegal, Seen, Unfinished};
