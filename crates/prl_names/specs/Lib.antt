@@ -8,3 +8,4 @@ pub mod Named
 pub mod Repeats
 pub mod Tables
 pub mod Unknowns
+pub mod Uses
