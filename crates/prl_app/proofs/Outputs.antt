@@ -55,12 +55,12 @@ pub within_limit-few : (c : Computation) → values_before c.until c.clocks.of �
 within_limit-few c few = rw (le-ltb 4000000 (values_before c.until c.clocks.of) few) refl
 
 -- the outcome where each stage before the last one goes well
-pub chain_outcome-run : (texts sensors : List ℕ) (until : ℕ) (program : ProgramTree) (chain : Chain) (bodies : List Parts) (values : List Value) (run : Run)
-    → chain_stage program ≡ Ok chain → bodies_stage program chain texts ≡ Ok (map body_tree bodies) → values_stage chain sensors until ≡ Ok values
-    → run ≡ chain_run chain bodies values until → chain_outcome program texts sensors until ≡ within_limit (computation_of run)
+pub chain_outcome-run : (texts sensors : List ℕ) (until : ℕ) (program : ProgramTree) (main : ℕ) (chain : Chain) (bodies : List Parts) (values : List Value) (run : Run)
+    → bodies_stage program main texts ≡ Ok (map body_tree bodies) → chain_stage program ≡ Ok chain → values_stage chain sensors until ≡ Ok values
+    → run ≡ chain_run chain bodies values until → chain_outcome program main texts sensors until ≡ within_limit (computation_of run)
 unfolding chain_outcome
-chain_outcome-run texts sensors until program chain bodies values run read checked rows is =
-    ap (λ r. r >>= λ c. bodies_stage program c texts >>= λ trees. values_stage c sensors until >>= λ values. within_limit (chain_computation c trees values until)) read
-    ∙ ap (λ r. r >>= λ trees. values_stage chain sensors until >>= λ values. within_limit (chain_computation chain trees values until)) checked
+chain_outcome-run texts sensors until program main chain bodies values run checked read rows is =
+    ap (λ r. r >>= λ trees. chain_stage program >>= λ c. values_stage c sensors until >>= λ values. within_limit (chain_computation c trees values until)) checked
+    ∙ ap (λ r. r >>= λ c. values_stage c sensors until >>= λ values. within_limit (chain_computation c (map body_tree bodies) values until)) read
     ∙ ap (λ r. r >>= λ values. within_limit (chain_computation chain (map body_tree bodies) values until)) rows
     ∙ ap (λ r. within_limit (computation_of r)) (sym is)

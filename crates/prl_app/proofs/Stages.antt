@@ -63,7 +63,7 @@ stage_passed {A} view first next x result passed h =
     subst (λ (f : Result A Refusal). MatchResult result (λ y. IsTextBy (Then f next) (view y)) (IsRefusalBy (Then f next))) (sym passed) h
 
 -- names or types are refused
-pub program_untyped : (text : List ℕ) (next : ProgramTree → Result Asked Refusal → Type 0) (program : ProgramTree) (refusal : Refusal) → program_outcome text ≡ Ok program
+pub program_untyped : (text : List ℕ) (next : ProgramTree → ℕ → Result Asked Refusal → Type 0) (program : ProgramTree) (refusal : Refusal) → program_outcome text ≡ Ok program
     → MatchOption (refusal_of refusal) (Unit {0}) (λ r. (fault : TypeFault) × IsFault program None fault × (fault ≢ typing.Memory) × (r ≡ of_types fault))
     → IsRefusalBy (WithProgram text next) refusal
 program_untyped text next program refusal parsed h =
@@ -72,13 +72,13 @@ program_untyped text next program refusal parsed h =
     (λ r. WithTypes program (next program) (Err r)) (λ r k. inr (k.0, k.1, k.2, ap Err k.3)) h)
 
 -- they are right
-pub program_typed : {X : Type 0} (view : X → List ℕ) (text : List ℕ) (next : ProgramTree → Result Asked Refusal → Type 0) (program : ProgramTree) (result : Result X Refusal)
-    → program_outcome text ≡ Ok program → ((node : ℕ) × (types : List Ty) × IsTyped program None node types)
-    → MatchResult result (λ x. IsTextBy (next program) (view x)) (IsRefusalBy (next program))
+pub program_typed : {X : Type 0} (view : X → List ℕ) (text : List ℕ) (next : ProgramTree → ℕ → Result Asked Refusal → Type 0) (program : ProgramTree) (main : ℕ) (result : Result X Refusal)
+    → program_outcome text ≡ Ok program → ((types : List Ty) × IsTyped program None main types)
+    → MatchResult result (λ x. IsTextBy (next program main) (view x)) (IsRefusalBy (next program main))
     → MatchResult result (λ x. IsTextBy (WithProgram text next) (view x)) (IsRefusalBy (WithProgram text next))
-program_typed view text next program result parsed typed h =
+program_typed view text next program main result parsed typed h =
     stage_passed view (program_outcome text) (λ p. WithTypes p (next p)) program result parsed
-    (answers_map view (next program) (WithTypes program (next program)) (λ o e. inl (typed.0, typed.1, typed.2, e)) result h)
+    (answers_map view (next program main) (WithTypes program (next program)) (λ o e. inl (main, typed.0, typed.1, e)) result h)
 
 -- the horizon passes a limit
 pub horizon_refused : (chain : Chain) (until : ℕ) (next : Result Asked Refusal → Type 0) (refusal : Refusal)
@@ -112,6 +112,9 @@ typed_as t = Ok t
 err_same : (a b : TypeFault) → failed a ≡ failed b → a ≡ b
 err_same a b e = cc
 
+ok_main : (a b : ℕ × List Ty) → typed_as a ≡ typed_as b → a.0 ≡ b.0
+ok_main a b e = cc
+
 ok_err : (t : ℕ × List Ty) (fault : TypeFault) → typed_as t ≡ failed fault → ⊥
 ok_err t fault e = cc
 
@@ -143,10 +146,14 @@ one_then (Ok x) next one a b ha hb = one x a b ha hb
 one_then (Err refusal) next one a b ha hb = ha ∙ sym hb
 
 module _ (law : StagesAreOne) where
-  one_typed : (program : ProgramTree) (next : Result Asked Refusal → Type 0) → IsOne next → IsOne (WithTypes program next)
+  one_main : (program : ProgramTree) (a b : ℕ) (s t : List Ty) → IsTyped program None a s → IsTyped program None b t → b ≡ a
+  one_main program a b s t ha hb =
+      ok_main (b, t) (a, s) (law.one program None (Ok (b, t)) (Ok (a, s)) (λ m. ok_err (b, t) typing.Memory m) (λ m. ok_err (a, s) typing.Memory m) hb ha)
+
+  one_typed : (program : ProgramTree) (next : ℕ → Result Asked Refusal → Type 0) → ((main : ℕ) → IsOne (next main)) → IsOne (WithTypes program next)
   one_typed program next one a b ha hb = elim ha [
     | inl h ↦ elim hb [
-      | inl k ↦ one a b h.3 k.3
+      | inl k ↦ one h.0 a b h.3 (subst (λ (main : ℕ). next main b) (one_main program h.0 k.0 h.1 k.1 h.2 k.2) k.3)
       | inr k ↦ absurd (typed_is_no_fault law program h.0 h.1 k.0 h.2 k.1 k.2)
     ]
     | inr h ↦ elim hb [
@@ -179,21 +186,21 @@ module _ (law : StagesAreOne) where
       (one_then (values_stage chain sensors until) (λ values. IsScheduleOutcome (record { chain = chain; values = values; until = until }) schedule)
       (λ values. one_schedule (record { chain = chain; values = values; until = until }) schedule))
 
-  one_program : (text : List ℕ) (next : ProgramTree → Result Asked Refusal → Type 0) → ((program : ProgramTree) → IsOne (next program)) → IsOne (WithProgram text next)
+  one_program : (text : List ℕ) (next : ProgramTree → ℕ → Result Asked Refusal → Type 0) → ((program : ProgramTree) (main : ℕ) → IsOne (next program main)) → IsOne (WithProgram text next)
   one_program text next one =
       one_then (program_outcome text) (λ program. WithTypes program (next program)) (λ program. one_typed program (next program) (one program))
 
-  one_replay : (program : ProgramTree) (bodies sensors schedule : List ℕ) (until : ℕ) → IsOne (IsProgramReplay program bodies sensors schedule until)
-  one_replay program bodies sensors schedule until =
-      one_then (relay_stage program) (λ chain. Then (bodies_stage program chain bodies) (λ trees. IsRelayOutcome chain sensors schedule until))
-      (λ chain. one_then (bodies_stage program chain bodies) (λ trees. IsRelayOutcome chain sensors schedule until) (λ trees. one_relay chain sensors schedule until))
+  one_replay : (program : ProgramTree) (main : ℕ) (bodies sensors schedule : List ℕ) (until : ℕ) → IsOne (IsProgramReplay program main bodies sensors schedule until)
+  one_replay program main bodies sensors schedule until =
+      one_then (bodies_stage program main bodies) (λ trees. Then (relay_stage program) (λ chain. IsRelayOutcome chain sensors schedule until))
+      (λ trees. one_then (relay_stage program) (λ chain. IsRelayOutcome chain sensors schedule until) (λ chain. one_relay chain sensors schedule until))
 
   one_mode : (mode : Mode) (program bodies sensors schedule : List ℕ) (until : ℕ) → IsOne (IsModeOutcome mode program bodies sensors schedule until)
   one_mode modes.Flows text bodies sensors schedule until =
-      one_program text (λ program outcome. chain_outcome program bodies sensors until ≡ outcome) (λ program a b ha hb. sym ha ∙ hb)
+      one_program text (λ program main outcome. chain_outcome program main bodies sensors until ≡ outcome) (λ program main a b ha hb. sym ha ∙ hb)
   one_mode modes.Print text bodies sensors schedule until = λ a b ha hb. sym ha ∙ hb
   one_mode modes.Replay text bodies sensors schedule until =
-      one_program text (λ program. IsProgramReplay program bodies sensors schedule until) (λ program. one_replay program bodies sensors schedule until)
+      one_program text (λ program main. IsProgramReplay program main bodies sensors schedule until) (λ program main. one_replay program main bodies sensors schedule until)
 
   -- a command comes to one outcome on what its files give
   pub one_command_outcome : (command : Command) (program bodies sensors schedule : Result (List ℕ) Refusal) → IsOne (IsCommandOutcome command program bodies sensors schedule)

@@ -9,6 +9,7 @@ use Rattle.prl_ast.specs.Trees.{ProgramTree}
 use Rattle.prl_syntax.specs.declared.parsing.ParseFault.{ParseFault}
 use Rattle.prl_syntax.specs.declared.parsing.ParseFault.TheVariants as parsing
 use Rattle.prl_syntax.specs.Parsing.{parse_of}
+use Rattle.prl_names.specs.Uses.{used_imports}
 use Rattle.prl_types.specs.declared.faults.TypeFault.{TypeFault}
 use Rattle.prl_types.specs.declared.faults.TypeFault.TheVariants as typing
 use Rattle.prl_types.specs.Typing.{IsTyped, IsFault}
@@ -18,7 +19,6 @@ use Rattle.prl_app.specs.declared.refusals.Refusal.{Refusal}
 use Rattle.prl_app.specs.declared.refusals.Refusal.TheVariants as refusals
 use Rattle.prl_chains.specs.declared.chains.Chain.{Chain}
 use Rattle.prl_chains.specs.Chains.{chain_of}
-use Rattle.prl_chains.specs.Used.{used_imports}
 use Rattle.prl_body.specs.declared.faults.BodyFault.{BodyFault}
 use Rattle.prl_body.specs.declared.faults.BodyFault.TheVariants as body_faults
 use Rattle.prl_body.specs.Checks.{BodyTree, checked}
@@ -106,25 +106,25 @@ abbrev pub Then : {A : Type 0} → Result A Refusal → (A → Result Asked Refu
 Then (Ok x) next outcome = next x outcome
 Then (Err refusal) next outcome = outcome ≡ Err refusal
 
--- names and types are right, and what follows comes to the outcome; or they have a fault
-abbrev pub WithTypes : ProgramTree → (Result Asked Refusal → Type 0) → Result Asked Refusal → Type 0
+-- names and types are right, and what follows, with the place of the main node, comes to the outcome; or they have a fault
+abbrev pub WithTypes : ProgramTree → (ℕ → Result Asked Refusal → Type 0) → Result Asked Refusal → Type 0
 WithTypes program next outcome =
-    ((node : ℕ) × (types : List Ty) × IsTyped program None node types × next outcome)
+    ((main : ℕ) × (types : List Ty) × IsTyped program None main types × next main outcome)
     ⊎ ((fault : TypeFault) × IsFault program None fault × (fault ≢ typing.Memory) × (outcome ≡ Err (of_types fault)))
 
 -- The grammar and the types of a program are right, and what follows comes to the outcome; or they are refused.
-abbrev pub WithProgram : List ℕ → (ProgramTree → Result Asked Refusal → Type 0) → Result Asked Refusal → Type 0
+abbrev pub WithProgram : List ℕ → (ProgramTree → ℕ → Result Asked Refusal → Type 0) → Result Asked Refusal → Type 0
 WithProgram text next = Then (program_outcome text) (λ program. WithTypes program (next program))
 
 -- the chain of equations that the program is
 abbrev pub chain_stage : ProgramTree → Result Chain Refusal
 chain_stage program = or_refuse (refusals.NotBuilt parts.Program) (chain_of program)
 
--- the bodies of the text, which fit the program's imports, and one for each import that the chain applies
-unfoldable pub bodies_stage : ProgramTree → Chain → List ℕ → Result (List BodyTree) Refusal
-bodies_stage program chain text = do
+-- the bodies of the text, which fit the program's imports, and one for each import that main's expansion applies
+unfoldable pub bodies_stage : ProgramTree → ℕ → List ℕ → Result (List BodyTree) Refusal
+bodies_stage program main text = do
   texts ← or_body_fault (bodies_of text)
-  or_body_fault (checked program.imports (used_imports program.imports chain.flat.apps) texts)
+  or_body_fault (checked program.imports (used_imports program main) texts)
 
 -- the values of the sensor's rows, as many as are wanted or more
 unfoldable pub values_stage : Chain → List ℕ → ℕ → Result (List Value) Refusal
@@ -133,16 +133,16 @@ values_stage chain sensors until = do
   enough_rows chain read until
 
 -- the run of a chain of equations with its bodies on its rows
-unfoldable pub chain_outcome : ProgramTree → List ℕ → List ℕ → ℕ → Result Asked Refusal
-chain_outcome program texts sensors until = do
+unfoldable pub chain_outcome : ProgramTree → ℕ → List ℕ → List ℕ → ℕ → Result Asked Refusal
+chain_outcome program main texts sensors until = do
+  trees ← bodies_stage program main texts
   chain ← chain_stage program
-  trees ← bodies_stage program chain texts
   values ← values_stage chain sensors until
   within_limit (chain_computation chain trees values until)
 
 -- the stages of mode `flows` on the bytes of a program, of bodies and of rows
 abbrev pub IsFlowsOutcome : List ℕ → List ℕ → List ℕ → ℕ → Result Asked Refusal → Type 0
-IsFlowsOutcome text texts sensors until = WithProgram text (λ program outcome. chain_outcome program texts sensors until ≡ outcome)
+IsFlowsOutcome text texts sensors until = WithProgram text (λ program main outcome. chain_outcome program main texts sensors until ≡ outcome)
 
 -- the stages of mode `print` on the bytes of a program
 abbrev pub print_outcome : List ℕ → Result Asked Refusal

@@ -59,11 +59,11 @@ IsValuesOutcome chain sensors schedule until =
 abbrev pub IsRelayOutcome : Chain → List ℕ → List ℕ → ℕ → Result Asked Refusal → Type 0
 IsRelayOutcome chain sensors schedule until = WithHorizon chain until (IsValuesOutcome chain sensors schedule until)
 
--- the chain of a program, its bodies, of which none is used, and then the horizon, the rows and the schedule
-abbrev pub IsProgramReplay : ProgramTree → List ℕ → List ℕ → List ℕ → ℕ → Result Asked Refusal → Type 0
-IsProgramReplay program bodies sensors schedule until =
-    Then (relay_stage program) (λ chain. Then (bodies_stage program chain bodies) (λ trees. IsRelayOutcome chain sensors schedule until))
+-- the bodies of a program, then its chain, and then the horizon, the rows and the schedule
+abbrev pub IsProgramReplay : ProgramTree → ℕ → List ℕ → List ℕ → List ℕ → ℕ → Result Asked Refusal → Type 0
+IsProgramReplay program main bodies sensors schedule until =
+    Then (bodies_stage program main bodies) (λ trees. Then (relay_stage program) (λ chain. IsRelayOutcome chain sensors schedule until))
 
 -- the stages of mode `replay` on the bytes of a program, of bodies, of sensor rows and of a schedule
 abbrev pub IsReplayOutcome : List ℕ → List ℕ → List ℕ → List ℕ → ℕ → Result Asked Refusal → Type 0
-IsReplayOutcome text bodies sensors schedule until = WithProgram text (λ program. IsProgramReplay program bodies sensors schedule until)
+IsReplayOutcome text bodies sensors schedule until = WithProgram text (λ program main. IsProgramReplay program main bodies sensors schedule until)

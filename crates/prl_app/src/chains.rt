@@ -7,7 +7,7 @@ ghost use Rattle.prl_base.specs.Reading.{Gives};
 ghost use Rattle.prl_ast.specs.Trees.{program_tree};
 ghost use Rattle.prl_flow.specs.Counts.{dates_before};
 ghost use Rattle.prl_flow.specs.Programs.{name_of};
-ghost use Rattle.prl_chains.specs.Facts.{AppliesImports, IsChain};
+ghost use Rattle.prl_chains.specs.Facts.{IsChain};
 ghost use Rattle.prl_relays.specs.Relays.{input_clock, HasValues};
 ghost use Rattle.prl_app.specs.Outcomes.{chain_stage, enough_rows, or_refuse, refusal_of, values_stage};
 ghost use Rattle.prl_app.specs.Rows.{rows_of, AreNumbers};
@@ -24,7 +24,6 @@ use std::alloc::Global;
 pub fn chain_of_program(alloc: Global, program: &Program) -> Result<Chain, Refusal>
     ensures exact { Gives (λ chain. chain) refusal_of result (chain_stage (program_tree program.now)) }
     ensures sound { IfOk result IsChain }
-    ensures imports { IfOk result (AppliesImports program.now.imports) }
 {
     match chain_of(alloc, program) {
         Ok(Some(chain)) => Ok(chain),

@@ -17,7 +17,9 @@ use crate::runs::{Run, chain_run, run_text};
 use prl_ast::Program;
 use prl_base::Value;
 use prl_body::Bodies;
-use prl_chains::{Chain, numbers_are_rows, one_sensor_suffices};
+use prl_chains::{
+    Chain, applied_imports_have_bodies, numbers_are_rows, one_sensor_suffices,
+};
 use std::alloc::{AllocError, Global};
 
 /// A chain, its bodies and the values of its input, as what is to be computed.
@@ -45,21 +47,24 @@ fn run_of(
 fn chain_flows(
     alloc: Global,
     program: &Program,
+    main: u32,
     texts: &[u8],
     sensors: &[u8],
     until: u32,
 ) -> Result<Vec<u8>, Refusal>
+    requires main { main < length (program_tree program.now).nodes }
     requires texts { length texts.now < 2 ^ 32 }
     requires until { until < 2 ^ 31 }
-    ensures { MatchResult result (λ rows. IsTextFor (chain_outcome (program_tree program.now) texts.now sensors.now until) rows.items)
-        (IsRefusalOf (chain_outcome (program_tree program.now) texts.now sensors.now until)) }
+    ensures { MatchResult result (λ rows. IsTextFor (chain_outcome (program_tree program.now) main texts.now sensors.now until) rows.items)
+        (IsRefusalOf (chain_outcome (program_tree program.now) main texts.now sensors.now until)) }
 {
-    let chain = match chain_of_program(alloc, program) {
-        Ok(chain) => chain,
+    applied_imports_have_bodies();
+    let bodies = match bodies_of(alloc, program, main, texts) {
+        Ok(bodies) => bodies,
         Err(refusal) => return Err(refusal),
     };
-    let bodies = match bodies_of(alloc, program, &chain, texts) {
-        Ok(bodies) => bodies,
+    let chain = match chain_of_program(alloc, program) {
+        Ok(chain) => chain,
         Err(refusal) => return Err(refusal),
     };
     let values = match values_of(alloc, &chain, sensors, until) {
@@ -92,7 +97,7 @@ pub fn flows(
         Err(refusal) => return Err(refusal),
     };
     match check_program(alloc, &program) {
-        Ok(()) => chain_flows(alloc, &program, texts, sensors, until),
+        Ok(main) => chain_flows(alloc, &program, main, texts, sensors, until),
         Err(refusal) => Err(refusal),
     }
 }

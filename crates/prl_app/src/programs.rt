@@ -1,7 +1,7 @@
 //! The first stages, which modes share: from the bytes of a program to the program, with its names and types
 //! checked.
 
-ghost use Rattle.std.specs.Prelude.{◌≡◌, ◌≢◌, ◌<◌, ◌^◌, ℕ, List, None, MatchOption, MatchResult, length};
+ghost use Rattle.std.specs.Prelude.{◌≡◌, ◌≢◌, ◌<◌, ◌^◌, ℕ, List, None, MatchOption, MatchResult, IfOk, length};
 ghost use Rattle.prl_base.specs.Reading.{Gives};
 ghost use Rattle.prl_ast.specs.Trees.{program_tree};
 ghost use Rattle.prl_app.specs.Outcomes.{of_parse, of_types, program_outcome, refusal_of};
@@ -11,6 +11,7 @@ ghost use Rattle.prl_types.specs.declared.faults.TypeFault.{TypeFault as AnyFaul
 
 use crate::refusals::{GrammarFault, Refusal};
 use prl_ast::Program;
+use prl_names::right_names_stand_for_something;
 use prl_syntax::{ParseFault, parse};
 use prl_types::{TypeFault, check_names_types};
 use std::alloc::Global;
@@ -56,14 +57,16 @@ fn of_types(fault: TypeFault) -> Refusal
     }
 }
 
-/// Refused where names or types of the program are not right.
-pub fn check_program(alloc: Global, program: &Program) -> Result<(), Refusal>
-    ensures { MatchResult result (λ _. (node : ℕ) × (types : List AnyTy) × IsTyped (program_tree program.now) None node types)
+/// The place of the main node, where the names and the types of the program are right.
+pub fn check_program(alloc: Global, program: &Program) -> Result<u32, Refusal>
+    ensures below { IfOk result (λ main. main < length (program_tree program.now).nodes) }
+    ensures typed { MatchResult result (λ main. (types : List AnyTy) × IsTyped (program_tree program.now) None main types)
         (λ refusal. MatchOption (refusal_of refusal) (Unit {0})
         (λ r. (fault : AnyFault) × IsFault (program_tree program.now) None fault × (fault ≢ TypeFault.Memory) × (r ≡ of_types fault))) }
 {
+    right_names_stand_for_something();
     match check_names_types(alloc, program, None) {
-        Ok(_) => Ok(()),
+        Ok(typed) => Ok(typed.main()),
         Err(fault) => Err(of_types(fault)),
     }
 }

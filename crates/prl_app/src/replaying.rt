@@ -4,11 +4,11 @@ ghost use Rattle.std.specs.Prelude.{◌≡◌, ◌≢◌, ◌<◌, ◌^◌, IfOk
 ghost use Rattle.prl_base.specs.declared.limits.Limit.{Limit as AnyLimit};
 ghost use Rattle.prl_base.specs.Reading.{Gives};
 ghost use Rattle.prl_ast.specs.Trees.{program_tree};
-ghost use Rattle.prl_chains.specs.Facts.{AppliesImports, IsChain};
+ghost use Rattle.prl_chains.specs.Facts.{IsChain};
 ghost use Rattle.prl_plan.specs.declared.horizons.Horizon.{Horizon as AnyHorizon};
 ghost use Rattle.prl_plan.specs.Horizons.{IsPastLimit};
 ghost use Rattle.prl_relays.specs.Relays.{is_in_time, relay_plan, HasValues, IsHorizonUpTo};
-ghost use Rattle.prl_app.specs.Outcomes.{bodies_stage, refusal_of, Then, IsTextBy, IsRefusalBy};
+ghost use Rattle.prl_app.specs.Outcomes.{refusal_of, Then, IsTextBy, IsRefusalBy};
 ghost use Rattle.prl_app.specs.Replays.{device_name, of_relay, in_time, relay_stage, IsScheduleOutcome, IsValuesOutcome, IsRelayOutcome, IsProgramReplay, IsReplayOutcome};
 
 use crate::bodies::bodies_of;
@@ -54,7 +54,6 @@ fn of_relay(alloc: Global, chain: &Chain, fault: RelayFault) -> Refusal
 fn relay_of_program(alloc: Global, program: &Program) -> Result<Chain, Refusal>
     ensures exact { Gives (λ chain. chain) refusal_of result (relay_stage (program_tree program.now)) }
     ensures sound { IfOk result IsChain }
-    ensures imports { IfOk result (AppliesImports program.now.imports) }
     ensures in_time { IfOk result (λ chain. IsTrue (is_in_time chain)) }
 {
     let chain = match chain_of_program(alloc, program) {
@@ -141,45 +140,40 @@ fn chain_replayed(
     }
 }
 
-/// The text of the replay of a schedule for the chain of a program, from its bodies on, of which none is used.
-fn bodies_replayed(
+/// The text of the replay of a schedule for a program whose bodies are right.
+fn program_replayed(
     alloc: Global,
     program: &Program,
-    chain: &Chain,
-    texts: &[u8],
     sensors: &[u8],
     schedule: &[u8],
     until: u32,
 ) -> Result<Vec<u8>, Refusal>
-    requires chain { IsChain chain.now }
-    requires imports { AppliesImports program.now.imports chain.now }
-    requires in_time { IsTrue (is_in_time chain.now) }
-    requires texts { length texts.now < 2 ^ 32 }
-    ensures { MatchResult result
-        (λ text. IsTextBy (Then (bodies_stage (program_tree program.now) chain.now texts.now) (λ trees. IsRelayOutcome chain.now sensors.now schedule.now until)) text.items)
-        (IsRefusalBy (Then (bodies_stage (program_tree program.now) chain.now texts.now) (λ trees. IsRelayOutcome chain.now sensors.now schedule.now until))) }
+    ensures { MatchResult result (λ text. IsTextBy (Then (relay_stage (program_tree program.now)) (λ chain. IsRelayOutcome chain sensors.now schedule.now until)) text.items)
+        (IsRefusalBy (Then (relay_stage (program_tree program.now)) (λ chain. IsRelayOutcome chain sensors.now schedule.now until))) }
 {
-    match bodies_of(alloc, program, chain, texts) {
-        Ok(_) => chain_replayed(alloc, chain, sensors, schedule, until),
+    match relay_of_program(alloc, program) {
+        Ok(chain) => chain_replayed(alloc, &chain, sensors, schedule, until),
         Err(refusal) => Err(refusal),
     }
 }
 
-/// The text of the replay of a schedule for a program whose names and types are right.
-fn program_replayed(
+/// The text of the replay of a schedule for a program whose names and types are right. It uses no body, but they are checked.
+fn bodies_replayed(
     alloc: Global,
     program: &Program,
+    main: u32,
     texts: &[u8],
     sensors: &[u8],
     schedule: &[u8],
     until: u32,
 ) -> Result<Vec<u8>, Refusal>
-    requires { length texts.now < 2 ^ 32 }
-    ensures { MatchResult result (λ text. IsTextBy (IsProgramReplay (program_tree program.now) texts.now sensors.now schedule.now until) text.items)
-        (IsRefusalBy (IsProgramReplay (program_tree program.now) texts.now sensors.now schedule.now until)) }
+    requires main { main < length (program_tree program.now).nodes }
+    requires texts { length texts.now < 2 ^ 32 }
+    ensures { MatchResult result (λ text. IsTextBy (IsProgramReplay (program_tree program.now) main texts.now sensors.now schedule.now until) text.items)
+        (IsRefusalBy (IsProgramReplay (program_tree program.now) main texts.now sensors.now schedule.now until)) }
 {
-    match relay_of_program(alloc, program) {
-        Ok(chain) => bodies_replayed(alloc, program, &chain, texts, sensors, schedule, until),
+    match bodies_of(alloc, program, main, texts) {
+        Ok(_) => program_replayed(alloc, program, sensors, schedule, until),
         Err(refusal) => Err(refusal),
     }
 }
@@ -204,7 +198,7 @@ pub fn replay(
         Err(refusal) => return Err(refusal),
     };
     match check_program(alloc, &program) {
-        Ok(()) => program_replayed(alloc, &program, texts, sensors, schedule, until),
+        Ok(main) => bodies_replayed(alloc, &program, main, texts, sensors, schedule, until),
         Err(refusal) => Err(refusal),
     }
 }
