@@ -114,3 +114,30 @@ fn numbers_wrap_and_division_is_total(rt: HostRuntime) -> Result<(), Fail> {
     }
     Ok(())
 }
+
+/// A program with an imported node `G`, a node that applies it, and a main node whose one equation has this right side.
+fn with_another_node(alloc: Global, right: &str) -> Result<String, Fail> {
+    Ok(format!(in alloc;
+        "imported node G(x: int) returns (y: int) wcet 1; sensor i wcet 1; actuator o wcet 1;
+node other (x: int) returns (y) let y = G(x); tel
+node main (i: int rate (10, 0)) returns (o) let o = {right}; tel"
+    )?)
+}
+
+#[test]
+fn bodies_come_before_the_form(rt: HostRuntime) -> Result<(), Fail> {
+    let alloc = rt.alloc();
+    let cases = [
+        ("tail G(i)", "", "20 body missing G\n"),
+        ("tail G(i)", "body G { y = x; }", "9 not built p.prl\n"),
+        ("other(i)", "", "20 body missing G\n"),
+        ("i", "", "9 not built p.prl\n"),
+        ("i", "body G { }", "21 body arity at 5\n"),
+    ];
+    for (right, body, line) in cases {
+        let program = with_another_node(alloc, right)?;
+        let files = files(alloc, program.as_str(), SIX, body)?;
+        check(&rt, alloc, &words("10"), files, (1, "", line))?;
+    }
+    Ok(())
+}
