@@ -142,7 +142,7 @@ fn all_led_through(
 }
 
 /// Which node reaches which: a row for each node.
-fn closed_rows(alloc: Global, names: &Names<'_>) -> Result<Vec<Seq<bool>>, AllocError>
+pub fn closed_rows(alloc: Global, names: &Names<'_>) -> Result<Vec<Seq<bool>>, AllocError>
     ensures rows { IfOk result (λ rows. AreRows (program_tree names.now) (length names.now.nodes) 0 rows.items) }
     ensures len { IfOk result (λ rows. length rows.items ≡ length names.now.nodes) }
 {

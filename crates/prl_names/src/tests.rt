@@ -225,3 +225,36 @@ fn a_main_that_is_not_there(rt: HostRuntime) -> Result<(), Fail> {
     assert_eq!(rt; fault_at(alloc, right, b"f")?, Some(10));
     Ok(())
 }
+
+/// Whether the node at the place `main` of the program of the text applies just the imports of these names.
+fn uses(alloc: Global, text: &[u8], main: usize, expected: &[&str]) -> Result<bool, Fail>
+    requires { length text.now < 2 ^ 32 }
+{
+    let program = parse(alloc, text)?;
+    let names = Names::new(alloc, &program)?;
+    if main >= program.nodes.len() {
+        return Ok(false);
+    }
+    let used = used_imports(alloc, &names, main)?;
+    if used.len() != expected.len() {
+        return Ok(false);
+    }
+    for (k, name) in used.iter().enumerate() {
+        if name.bytes() != expected[k].as_bytes() {
+            return Ok(false);
+        }
+    }
+    Ok(true)
+}
+
+#[test]
+fn imports_that_main_uses(rt: HostRuntime) -> Result<(), Fail> {
+    let alloc = rt.alloc();
+    // Main applies B and n, and n applies A within arguments; nothing that main reaches applies C.
+    let text =
+        b"imported node A (x: int) returns (y: int) wcet 1; imported node B (x: int) returns (y: int) wcet 1; imported node C (x: int) returns (y: int) wcet 1; node n (i) returns (o) let o = n2((i, A(i))); tel node n2 (i, j) returns (o) let o = i; tel node c (i) returns (o) let o = C(n(i)); tel node main (i) returns (o) let o = n(B(i)); tel";
+    assert!(rt; uses(alloc, text, 3, &["A", "B"])?);
+    assert!(rt; uses(alloc, text, 2, &["A", "C"])?);
+    assert!(rt; uses(alloc, text, 1, &[])?);
+    Ok(())
+}
