@@ -97,7 +97,7 @@ front_of (x ∷ xs) (y ∷ ys) (suc n) long few same =
     let head : x ≡ y = cc in
     ap (λ z. z ∷ xs) head ∙ ap (λ zs. y ∷ zs) (front_of xs ys n (omega (arith, long)) (omega (arith, few)) (λ k below. same (suc k) (omega (arith, below))))
 
-actuator_one : (c : Chain) (i : ℕ) → Drives (relay_plan c) i 0 → i ≡ 1
+pub actuator_one : (c : Chain) (i : ℕ) → Drives (relay_plan c) i 0 → i ≡ 1
 actuator_one c zero drives = let e = drives.1 in cc
 actuator_one c (suc zero) drives = refl
 actuator_one c (suc (suc i)) drives = let small = drives.0 in absurd (omega (arith, small))

@@ -1,5 +1,6 @@
 pub mod Solutions
 pub mod Handed
+pub mod Operands
 pub mod TwoNames
 pub mod Legality
 pub mod HorizonLimits

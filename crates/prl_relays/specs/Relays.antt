@@ -1,5 +1,5 @@
 -- The replay of a schedule on the plan of a sensor and an actuator, for a chain that only hands its input on.
-use Rattle.std.specs.Prelude.{◌≡◌, ◌&&◌, ◌+◌, ◌++◌, ◌<◌, ℕ, Bool, List, [], ◌∷◌, length, Ok, Err, IsTrue, nat_le, slice_index_or}
+use Rattle.std.specs.Prelude.{◌≡◌, ◌&&◌, ◌+◌, ◌++◌, ◌<◌, ℕ, Bool, List, [], ◌∷◌, length, All, Some, Ok, Err, IsTrue, nat_le, slice_get, slice_index_or}
 use Rattle.std.specs.List.{flat_map}
 use Rattle.prl_base.specs.Clocks.{date_at}
 use Rattle.prl_base.specs.declared.operators.Clock.{Clock}
@@ -18,6 +18,7 @@ use Rattle.prl_plan.specs.TwoTasks.{two_plan}
 use Rattle.prl_plan.specs.Horizons.{IsHorizon, IsPastLimit, constants_of}
 use Rattle.prl_plan.specs.Runs.{opening}
 use Rattle.prl_core.specs.declared.seen.Seen.{Seen}
+use Rattle.prl_core.specs.declared.seen.Seen.TheVariants as sights
 use Rattle.prl_core.specs.Machine.{CoreView}
 use Rattle.prl_replay.specs.declared.schedules.ScheduleFault.TheVariants as lines
 use Rattle.prl_replay.specs.declared.replays.ReplayFault.{ReplayFault}
@@ -94,12 +95,29 @@ machine r horizon = record {
   state = opening (constants_of (relay_plan r.chain) horizon);
 }
 
+-- job n of the actuator, which is task 1, reads value n of its flow
+abbrev pub IsValueOfJob : List Value → ℕ → ℕ → Value → Type 0
+IsValueOfJob outputs task n value = (task ≡ 1) × (slice_get outputs n ≡ Some value)
+
+-- what is seen reads a value of the actuator's flow, if it reads any
+abbrev pub IsOperand : List Value → Seen → Type 0
+IsOperand outputs (sights.Ticked tick) = Unit {0}
+IsOperand outputs (sights.Read task job port edge instance cell value) = IsValueOfJob outputs task.0 job value
+IsOperand outputs (sights.ReadConst task job port value) = IsValueOfJob outputs task.0 job value
+IsOperand outputs (sights.Wrote task job edge cell) = Unit {0}
+IsOperand outputs (sights.Ended task job) = Unit {0}
+
+-- each read tells a value of the actuator's flow: that of its job
+abbrev pub AreOperands : List Value → List Seen → Type 0
+AreOperands outputs = All (IsOperand outputs)
+
 -- a line for each read, in order, and then the rows of the actuator by date
 abbrev pub replay_lines : Relay → List Seen → List Value → List ℕ
 replay_lines r reads outputs = flat_map (read_line (task_names r.chain)) reads ++ actuator_text r.until (out_flow r.chain outputs ∷ [])
 
 -- The schedule's events are a whole run of the plan. The text has a line for each read, in the order of the events, with the
--- instance, the cell and the value that the definitions give; and then the rows of the program's one solution.
+-- instance and the cell that the definitions give, and the value of the program's one solution; and then the rows of that
+-- solution.
 pub record IsReplayText (r : Relay) (schedule text : List ℕ) : Type 0 where
   pub horizon : Horizon
   pub of_plan : IsHorizonOf r horizon
@@ -109,6 +127,7 @@ pub record IsReplayText (r : Relay) (schedule text : List ℕ) : Type 0 where
   pub replayed : IsReplay (machine r horizon) events reads
   pub outputs : List Value
   pub solved : IsOutput r outputs
+  pub operands : AreOperands outputs reads
   pub text_is : text ≡ replay_lines r reads outputs
 
 -- the schedule's events are no whole run, for this reason

@@ -4,7 +4,7 @@ ghost use Rattle.std.specs.Prelude.{◌≡◌, ◌∷◌, [], All, IfOk, MatchRe
 ghost use Rattle.prl_plan.specs.Horizons.{IsHorizon};
 ghost use Rattle.prl_replay.specs.Replays.{IsReplay, IsReplayFault};
 ghost use Rattle.prl_replay.specs.Schedules.{IsOfTasks};
-ghost use Rattle.prl_relays.specs.Relays.{relay_plan, machine, IsReady, IsOutput};
+ghost use Rattle.prl_relays.specs.Relays.{relay_plan, machine, IsReady, IsOutput, AreOperands};
 
 use prl_base::{Seq, Value};
 use prl_chains::{Chain, copies_hand_on};
@@ -47,6 +47,7 @@ pub(crate) fn replayed(
     ensures run { MatchResult result (λ run. IsReplay (machine (record { chain = chain.now; values = values.items; until = horizon.until }) horizon) events.now run.reads.items)
         (IsReplayFault (machine (record { chain = chain.now; values = values.items; until = horizon.until }) horizon) events.now) }
     ensures solved { IfOk result (λ run. IsOutput (record { chain = chain.now; values = values.items; until = horizon.until }) run.outputs.items) }
+    ensures operands { IfOk result (λ run. AreOperands run.outputs.items run.reads.items) }
 {
     copies_hand_on();
     legal_list_is_gated();

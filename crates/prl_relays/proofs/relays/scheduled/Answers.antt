@@ -25,6 +25,7 @@ returns c =
       replayed = rw c.deref-2.ensures.value at c.in-Ok-replayed.ensures.run;
       outputs = out;
       solved = c.in-Ok-replayed.ensures.solved;
+      operands = c.in-Ok-replayed.ensures.operands;
       text_is = lines_are r c.deref-3.result.now c.deref-4.result.now c.in-Ok-replayed.run'.reads.items out c.deref-5.result.now c.in_ok-rows.rows.items c.in_ok-reads_text.field-0.items
           c.in_ok-reads_text.ensures (c.deref-3.ensures.value ∙ c.in_ok-names.ensures) c.deref-4.ensures.value c.deref-5.ensures.value
           (c.in_ok-rows.ensures c.args.horizon.until (outputs_up_to r out c.requires.ready c.in-Ok-replayed.ensures.solved));

@@ -1,12 +1,14 @@
-use Rattle.std.proofs.Common.{◌≡◌, refl, sym, ap, ◌∙◌, subst}
+use Rattle.std.proofs.Common.{◌≡◌, List, refl, sym, ap, ◌∙◌, subst}
 use Rattle.std.specs.Prelude.{nat_le, ◌+◌}
+use Rattle.prl_base.specs.declared.values.Value.{Value}
 use Rattle.prl_flow.specs.Programs.{wcet_of}
 use Rattle.prl_chains.specs.Relays.{is_relay}
 use Rattle.prl_core.specs.Machine.{CoreView}
 use Rattle.prl_replay.specs.Replays.{IsReplay, behind}
-use Rattle.prl_relays.specs.Relays.{Relay, machine, input_clock, IsOutput}
+use Rattle.prl_relays.specs.Relays.{Relay, machine, input_clock, IsOutput, AreOperands}
 use Rattle.prl_relays.proofs.Solutions.{both}
 use Rattle.prl_relays.proofs.Handed.{core_rows, core_is, solved_behind}
+use Rattle.prl_relays.proofs.Operands.{operands_behind}
 use Rattle.prl_relays.proofs.runs.replayed.Goals as goal
 
 pub new-requires-clause-rows : goal.new-requires-clause-rows
@@ -27,3 +29,14 @@ returns-in-Ok-from_slice-clause-solved c =
     (solved_behind r c.args.horizon c.args.events.now c.in_ok-reads.reads.items c.replay.new.core c.args.plan.now c.output.result.now
     c.requires.ready (c.copies_hand_on.ensures c.args.chain.now c.requires.ready.chain relay) refl c.requires.plan
     c.legal_list_is_gated.ensures c.gated_list_keeps_cells.ensures.counted c.plan_facts.ensures run left c.output.ensures)
+
+pub returns-in-Ok-from_slice-clause-operands : goal.returns-in-Ok-from_slice-clause-operands
+returns-in-Ok-from_slice-clause-operands c =
+    let r : Relay = record { chain = c.args.chain.now; values = c.args.values.items; until = c.args.horizon.until } in
+    let is : c.in-Ok-new.core ≡ machine r c.args.horizon =
+    core_is r c.args.horizon c.in-Ok-new.core c.args.plan.now c.in-Ok.sensors c.in-Ok-new.ensures c.requires.plan c.in-Ok.ensures in
+    let run : IsReplay (machine r c.args.horizon) c.args.events.now c.in_ok-reads.reads.items =
+    subst (λ (m : CoreView). IsReplay m c.args.events.now c.in_ok-reads.reads.items) is c.in_ok-reads.ensures.run in
+    let left = c.in_ok-reads.ensures.state ∙ ap (λ (m : CoreView). behind m c.args.events.now) is in
+    subst (λ (out : List Value). AreOperands out c.in_ok-reads.reads.items) (sym c.in-Ok-from_slice.ensures.items)
+    (operands_behind r c.args.horizon c.args.events.now c.in_ok-reads.reads.items c.replay.new.core c.output.result.now run left c.output.ensures)
