@@ -1,7 +1,6 @@
 //! The imports that the expansion of a node applies.
 
-ghost use Rattle.std.specs.Prelude.{◌≡◌, ◌<◌, ◌++◌, IfOk, OnOk, length, map};
-ghost use Rattle.std.specs.List.{flat_map};
+ghost use Rattle.std.specs.Prelude.{◌≡◌, ◌<◌, ◌++◌, IfOk, OnOk, length};
 ghost use Rattle.std.specs.Vec.{vec_items};
 ghost use Rattle.prl_ast.specs.Trees.{tree_of, node_tree, program_tree};
 ghost use Rattle.prl_names.specs.ExprLists.{all_trees};
