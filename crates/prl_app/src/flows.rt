@@ -17,9 +17,7 @@ use crate::runs::{Run, chain_run, run_text};
 use prl_ast::Program;
 use prl_base::Value;
 use prl_body::Bodies;
-use prl_chains::{
-    Chain, applied_imports_have_bodies, numbers_are_rows, one_sensor_suffices,
-};
+use prl_chains::{Chain, applied_imports_have_bodies, numbers_are_rows, one_sensor_suffices};
 use std::alloc::{AllocError, Global};
 
 /// A chain, its bodies and the values of its input, as what is to be computed.

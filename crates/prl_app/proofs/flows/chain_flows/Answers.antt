@@ -22,5 +22,5 @@ pub returns : goal.returns
 returns c =
     subst (λ (outcome : Result Asked Refusal). MatchResult c.run_text.result (λ text. IsTextFor outcome text.items) (IsRefusalOf outcome))
     (sym (chain_outcome-run c.args.texts.now c.args.sensors.now c.args.until (program_tree c.args.program.now) c.args.main c.in-Ok-chain_of_program.chain c.in-Ok.bodies
-      c.in-Ok-values_of.values.items c.in-Ok-run_of.run' c.in-Ok.ensures c.in-Ok-chain_of_program.ensures.exact c.in-Ok-values_of.ensures.exact c.in-Ok-run_of.ensures.0))
+    c.in-Ok-values_of.values.items c.in-Ok-run_of.run' c.in-Ok.ensures c.in-Ok-chain_of_program.ensures.exact c.in-Ok-values_of.ensures.exact c.in-Ok-run_of.ensures.0))
     c.run_text.ensures
