@@ -213,6 +213,21 @@ IsTaken-made imports n links lefts a made is =
     (taken_app imports links lefts a.name a.at of.first args.first period.first (length a.args) of.is two.0 one.1
     (period_there links a.args period.first period.is) (arguments_there links period.first a.args args.first args.is))
 
+-- an application that is taken has the name that is applied
+pub app_of-name : (imports : List Import) (n : NodeTree) (links : List Link) (lefts : List Placed) (a : Applied) (made : App × ℕ) → app_of imports n links lefts a ≡ Some made
+    → made.0.name ≡ a.name
+unfolding app_of
+app_of-name imports n links lefts a made is =
+    let last : Import → ℕ → List Arg → App × ℕ = λ of period args. (made_app of a.at args (numbers_from (length links) lefts), period) in
+    let from_args : Import → ℕ → List Arg → Option (App × ℕ) = λ of period args. (if fits of n links lefts a then Some (last of period args) else None) in
+    let from_period : Import → ℕ → Option (App × ℕ) = λ of period. (arguments_of links period a.args >>= from_args of period) in
+    let from_import : Import → Option (App × ℕ) = λ of. (first_period links a.args >>= from_period of) in
+    let of = both_some (import_named imports a.name) from_import made is in
+    let period = both_some (first_period links a.args) (from_period of.first) made of.rest in
+    let args = both_some (arguments_of links period.first a.args) (from_args of.first period.first) made period.rest in
+    let taken = taken_some (fits of.first n links lefts a) (last of.first period.first args.first) made args.rest in
+    ap (λ (m : App × ℕ). m.0.name) (sym taken.1) ∙ bytes_same imports a.name of.first of.is
+
 -- the flows before the application and its outputs
 out_link : (imports : List Import) (d : Definitions) (lefts : List Placed) (app : App) (period : ℕ) → AreDefined imports d → IsTaken imports d.links lefts app period
     → (j : ℕ) (l : Link) → slice_get (output_links (length d.apps) period 0 lefts) j ≡ Some l → (i : ℕ) → i ≡ length d.links + j
@@ -261,7 +276,7 @@ new_among imports d lefts app period taken = record {
 }
 
 -- what holds of the one element of a list, at its place behind others
-at_last : {A : Type 0} (P : ℕ → A → Type 0) (n : ℕ) (x : A) → P n x → (j : ℕ) (y : A) → slice_get (x ∷ []) j ≡ Some y → (i : ℕ) → i ≡ n + j → P i y
+pub at_last : {A : Type 0} (P : ℕ → A → Type 0) (n : ℕ) (x : A) → P n x → (j : ℕ) (y : A) → slice_get (x ∷ []) j ≡ Some y → (i : ℕ) → i ≡ n + j → P i y
 at_last P n x h zero y found i at =
     let place : n ≡ i = omega (arith, at) in
     subst (P i) (some_inner x y found) (subst (λ k. P k x) place h)

@@ -1,8 +1,6 @@
 -- Chains over bodies that fit their imports.
-use Rattle.std.proofs.Common.{◌≡◌, ℕ, ◌<◌, zero, suc, Bool, true, false, ◌||◌, List, [], ◌∷◌, length, map, Some, refl, sym, ap, ◌∙◌, subst, arith}
+use Rattle.std.proofs.Common.{◌≡◌, ℕ, ◌<◌, zero, suc, true, List, [], ◌∷◌, length, map, Some, refl, sym, ap, ◌∙◌, subst, arith}
 use Rattle.std.specs.Prelude.{slice_get}
-use Rattle.std.specs.Str.{bytes_eq}
-use Rattle.std.proofs.lemmas.Slice.Eq.{bytes_eq-Decides}
 use Rattle.std.proofs.lemmas.List.{length-map}
 use Rattle.prl_base.specs.declared.numbers.FlowNo.{FlowNo}
 use Rattle.prl_base.specs.declared.values.Ty.{Ty}
@@ -12,7 +10,6 @@ use Rattle.prl_base.specs.Values.{type_of}
 use Rattle.prl_ast.specs.declared.declarations.Import.{Import}
 use Rattle.prl_ast.specs.declared.declarations.Port.{Port}
 use Rattle.prl_body.specs.declared.bodies.Parts.{Parts}
-use Rattle.prl_body.specs.Checks.{import_named}
 use Rattle.prl_body.specs.Used.{HaveBodiesOf}
 use Rattle.prl_flow.specs.declared.programs.App.{App}
 use Rattle.prl_flow.specs.declared.programs.Arg.{Arg}
@@ -24,8 +21,8 @@ use Rattle.prl_flow.proofs.Lists.{element_at}
 use Rattle.prl_chains.specs.declared.chains.Chain.{Chain}
 use Rattle.prl_chains.specs.Applications.{is_int, are_ints}
 use Rattle.prl_chains.specs.Facts.{AppliesImports, IsChain}
-use Rattle.prl_chains.specs.Used.{is_applied, used_imports}
 use Rattle.prl_chains.proofs.ChainApps.{some_inner}
+use Rattle.prl_chains.proofs.ChainNames.{IsUsed}
 use Rattle.prl_chains.proofs.Truths.{both_true}
 
 int_type : (ty : Ty) → is_int ty ≡ true → ty ≡ types.Int
@@ -62,46 +59,15 @@ out_number c h k app at j flow found =
     let (f, there, is) = (h.flat.apps k app at).outs j flow found in
     (f, there, h.types_are flow.0 f there)
 
--- an import that is applied is among the used ones
-record IsUsed (used : List (List ℕ)) (name : List ℕ) : Type 0 where
-  at : ℕ
-  found : slice_get used at ≡ Some name
+-- each application is of one of these names
+abbrev pub AreUsed : List (List ℕ) → List App → Type 0
+AreUsed used apps = (k : ℕ) (app : App) → slice_get apps k ≡ Some app → IsUsed used app.name
 
-applied_later : (first rest : Bool) → rest ≡ true → (first || rest) ≡ true
-applied_later true rest is = refl
-applied_later false rest is = is
-
-applied_from : (apps : List App) (k : ℕ) (app : App) → slice_get apps k ≡ Some app → is_applied apps app.name ≡ true
-applied_from [] k app found = absurd (cc)
-applied_from (a ∷ apps) zero app found =
-    let same : bytes_eq a.name app.name ≡ true = (bytes_eq-Decides a.name app.name).1 (ap (λ (x : App). x.name) (some_inner a app found)) in
-    rw same refl
-applied_from (a ∷ apps) (suc k) app found = applied_later (bytes_eq a.name app.name) (is_applied apps app.name) (applied_from apps k app found)
-
-used_behind : (i : Import) (is : List Import) (apps : List App) (name : List ℕ) (applied : Bool) → is_applied apps i.name ≡ applied → IsUsed (used_imports is apps) name
-    → IsUsed (used_imports (i ∷ is) apps) name
-used_behind i is apps name true e h = record { at = suc h.at; found = rw e h.found }
-used_behind i is apps name false e h = record { at = h.at; found = rw e h.found }
-
-used_first : (i : Import) (is : List Import) (apps : List App) (name : List ℕ) (of : Import) (same : Bool) → bytes_eq i.name name ≡ same → is_applied apps name ≡ true
-    → import_named (i ∷ is) name ≡ Some of → (import_named is name ≡ Some of → IsUsed (used_imports is apps) name) → IsUsed (used_imports (i ∷ is) apps) name
-used_first i is apps name of true same applied found others =
-    let equal : i.name ≡ name = (bytes_eq-Decides i.name name).0 same in
-    let first : is_applied apps i.name ≡ true = ap (is_applied apps) equal ∙ applied in
-    record { at = 0; found = rw first (ap (λ (x : List ℕ). Some x) equal) }
-used_first i is apps name of false same applied found others =
-    used_behind i is apps name (is_applied apps i.name) refl (others (rw same at found))
-
-used : (imports : List Import) (apps : List App) (name : List ℕ) (of : Import) → import_named imports name ≡ Some of → is_applied apps name ≡ true → IsUsed (used_imports imports apps) name
-used [] apps name of found applied = absurd (cc)
-used (i ∷ is) apps name of found applied =
-    used_first i is apps name of (bytes_eq i.name name) refl applied found (λ rest. used is apps name of rest applied)
-
-pub HaveBodies-chain : (c : Chain) (imports : List Import) (bodies : List Parts) → IsChain c → AppliesImports imports c
-    → HaveBodiesOf imports (used_imports imports c.flat.apps) bodies → HaveBodies c.flat bodies
-HaveBodies-chain c imports bodies h applies have k app found =
+pub HaveBodies-chain : (c : Chain) (imports : List Import) (used : List (List ℕ)) (bodies : List Parts) → IsChain c → AppliesImports imports c
+    → AreUsed used c.flat.apps → HaveBodiesOf imports used bodies → HaveBodies c.flat bodies
+HaveBodies-chain c imports used bodies h applies are have k app found =
     let fits = applies k app found in
-    let there = used imports c.flat.apps app.name fits.of fits.declared (applied_from c.flat.apps k app found) in
+    let there = are k app found in
     let has = have there.at app.name there.found in
     let same : has.of ≡ fits.of = some_inner has.of fits.of (sym has.declared ∙ fits.declared) in
     let ins : has.body.ins ≡ fits.of.ins = has.ins ∙ ap (λ (i : Import). i.ins) same in

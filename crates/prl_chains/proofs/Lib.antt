@@ -6,5 +6,8 @@ pub mod ChainApps
 pub mod ChainEquations
 pub mod ChainFlats
 pub mod Relayed
+pub mod ChainNames
 pub mod ChainBodies
+pub mod ChainRights
+pub mod ChainMade
 pub mod SomeApplied

@@ -17,6 +17,10 @@ pub taken_some : {A : Type 0} (b : Bool) (x y : A) → (if b then Some x else No
 taken_some true x y is = (refl, cc)
 taken_some false x y is = absurd (cc)
 
+pub tested_some : {A : Type 0} (b : Bool) (o : Option A) (y : A) → (if b then o else None) ≡ Some y → (b ≡ true) × (o ≡ Some y)
+tested_some true o y is = (refl, is)
+tested_some false o y is = absurd (cc)
+
 pub record Mapped {A B : Type 0} (f : A → B) (o : Option A) (y : B) : Type 0 where
   pub first : A
   pub is : o ≡ Some first

@@ -6,4 +6,3 @@ pub mod Equations
 pub mod Chains
 pub mod Facts
 pub mod Relays
-pub mod Used

@@ -11,14 +11,12 @@ mod links;
 mod options;
 mod relays;
 mod rights;
-mod used;
 
 pub use chains::{Chain, chain_of};
 pub use relays::{
     applied_imports_have_bodies, chains_want_no_body, copies_apply_nothing, copies_hand_on,
     numbers_are_rows, one_sensor_suffices,
 };
-pub use used::used_imports;
 
 #[cfg(test)]
 mod tests;

@@ -5,7 +5,7 @@ ghost use Rattle.prl_base.specs.Clocks.{date_at};
 ghost use Rattle.prl_base.specs.Values.{type_of};
 ghost use Rattle.prl_base.specs.declared.values.Ty.TheVariants as types;
 ghost use Rattle.prl_base.specs.declared.values.Value.{Value};
-ghost use Rattle.prl_ast.specs.declared.declarations.Import.{Import};
+ghost use Rattle.prl_ast.specs.Trees.{ProgramTree};
 ghost use Rattle.prl_body.specs.Checks.{body_tree, checked};
 ghost use Rattle.prl_body.specs.Texts.{TextTree};
 ghost use Rattle.prl_body.specs.declared.bodies.Parts.{Parts};
@@ -13,9 +13,10 @@ ghost use Rattle.prl_flow.specs.Applications.{HaveBodies};
 ghost use Rattle.prl_flow.specs.Rows.{Rows};
 ghost use Rattle.prl_flow.specs.Solutions.{HasRows, HasTypedRows, clock_of};
 ghost use Rattle.prl_chains.specs.declared.chains.Chain.{Chain};
-ghost use Rattle.prl_chains.specs.Facts.{AppliesImports, IsChain};
+ghost use Rattle.prl_chains.specs.Chains.{chain_of};
+ghost use Rattle.prl_chains.specs.Facts.{IsChain};
 ghost use Rattle.prl_chains.specs.Relays.{has_no_application, is_relay, HandsOn};
-ghost use Rattle.prl_chains.specs.Used.{used_imports};
+ghost use Rattle.prl_names.specs.Uses.{used_imports};
 
 /// Where each flow but the input's is a copy, all flows have the input's clock, and in each solution its values.
 pub fn copies_hand_on()
@@ -40,12 +41,11 @@ pub fn chains_want_no_body()
     ensures rows { (c : Chain) → IsChain c → IsTrue (has_no_application c) → (rows : Rows) → HasTypedRows c.flat rows }
 {}
 
-/// A chain of a program with these imports has its bodies, where `check_bodies` gave them for these imports, and its used
-/// imports are those that the chain applies.
+/// The chain of a program has its bodies, where `check_bodies` gave them for the imports of the program and its used imports
+/// are those that the one node, which is main, applies.
 pub fn applied_imports_have_bodies()
-    ensures { (c : Chain) (imports : List Import) → IsChain c → AppliesImports imports c
-        → (texts : List TextTree) (bodies : List Parts) → checked imports (used_imports imports c.flat.apps) texts ≡ Ok (map body_tree bodies)
-        → HaveBodies c.flat bodies }
+    ensures { (p : ProgramTree) (c : Chain) → chain_of p ≡ Some c → (texts : List TextTree) (bodies : List Parts)
+        → checked p.imports (used_imports p 0) texts ≡ Ok (map body_tree bodies) → HaveBodies c.flat bodies }
 {}
 
 /// Numbers are rows of a chain's sensor.

@@ -1,15 +1,17 @@
-ghost use Rattle.std.specs.Prelude.{◌≡◌, ◌<◌, ◌^◌, ℕ, [], ◌∷◌, Some, length, slice_get, IfOk};
+ghost use Rattle.std.specs.Prelude.{◌≡◌, ◌<◌, ◌^◌, ℕ, [], ◌∷◌, Some, length, map, slice_get, IfOk};
+ghost use Rattle.std.specs.Vec.{vec_items};
 ghost use Rattle.prl_base.specs.Values.{type_of};
 ghost use Rattle.prl_base.specs.declared.values.Ty.TheVariants as types;
 ghost use Rattle.prl_base.specs.declared.values.Value.{Value as AnyValue};
 ghost use Rattle.prl_flow.specs.Applications.{HaveBodies};
-ghost use Rattle.prl_chains.specs.Facts.{IsChain};
+ghost use Rattle.prl_chains.specs.Facts.{AppliesImports, IsChain};
 
 use super::*;
-use prl_base::{Clock, FlowNo, Op, Seq, Value};
+use prl_ast::Program;
+use prl_base::{Clock, FlowNo, Name, Op, Seq, Value};
 use prl_body::{Bodies, check_bodies};
 use prl_bodytext::parse_bodies;
-use prl_flow::{Def, Sensors, dates_before, evaluate};
+use prl_flow::{App, Def, Sensors, dates_before, evaluate};
 use prl_syntax::parse;
 use std::alloc::Global;
 use std::test::*;
@@ -201,6 +203,30 @@ fn values_of(
     Ok(table.values(output_of(chain)).to_vec(alloc)?)
 }
 
+/// The names of the imports that the chain applies, one for each application.
+fn applied_names(alloc: Global, apps: &[App]) -> Result<Vec<Name>, Fail>
+    ensures { IfOk result (λ names. vec_items names ≡ map (λ app. app.name) apps.now) }
+{
+    let mut names = Vec::with_capacity(alloc, apps.len())?;
+    for app in apps {
+        names.push(app.name.copy(alloc)?)?;
+    }
+    Ok(names)
+}
+
+/// The checked bodies of the imports that the chain of a program applies.
+fn bodies_of(alloc: Global, program: &Program, chain: &Chain, text: &[u8]) -> Result<Bodies, Fail>
+    requires chain { IsChain chain.now }
+    requires imports { AppliesImports program.now.imports chain.now }
+    requires text { length text.now < 2 ^ 32 }
+    ensures { IfOk result (HaveBodies chain.now.flat) }
+{
+    let texts = parse_bodies(alloc, text)?;
+    let used = applied_names(alloc, chain.flat.apps())?;
+    let bodies = check_bodies(alloc, &texts, program.imports.as_slice(), &used)?;
+    Ok(bodies)
+}
+
 /// The values of the actuator of a program with these bodies on these rows.
 fn outputs(alloc: Global, text: &[u8], bodies: &[u8], rows: &[i32]) -> Result<Vec<Value>, Fail>
     requires text { length text.now < 2 ^ 32 }
@@ -208,11 +234,7 @@ fn outputs(alloc: Global, text: &[u8], bodies: &[u8], rows: &[i32]) -> Result<Ve
 {
     let program = parse(alloc, text)?;
     let chain = chain_of(alloc, &program)?.ok_or("not of the form")?;
-    let imports = program.imports.as_slice();
-    let used = used_imports(alloc, imports, &chain)?;
-    let texts = parse_bodies(alloc, bodies)?;
-    let bodies = check_bodies(alloc, &texts, imports, &used)?;
-    applied_imports_have_bodies();
+    let bodies = bodies_of(alloc, &program, &chain, bodies)?;
     values_of(alloc, &chain, &bodies, rows)
 }
 

@@ -1,8 +1,8 @@
 use Rattle.prl_body.proofs.UsedBodies.{HaveBodiesOf-checked}
-use Rattle.prl_chains.specs.Used.{used_imports}
-use Rattle.prl_chains.proofs.ChainBodies.{HaveBodies-chain}
+use Rattle.prl_names.specs.Uses.{used_imports}
+use Rattle.prl_chains.proofs.ChainMade.{HaveBodies-used}
 use Rattle.prl_chains.proofs.relays.applied_imports_have_bodies.Goals as goal
 
 pub returns : goal.returns
-returns c = λ chain imports h applies texts bodies is.
-    HaveBodies-chain chain imports bodies h applies (HaveBodiesOf-checked imports (used_imports imports chain.flat.apps) texts bodies is)
+returns c = λ p chain is texts bodies checks.
+    HaveBodies-used p chain bodies is (HaveBodiesOf-checked p.imports (used_imports p 0) texts bodies checks)
