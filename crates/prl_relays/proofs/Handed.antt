@@ -78,7 +78,7 @@ pub all_of_plan : (c : Chain) (plan : PlanView) (list : List Event) → plan ≡
 all_of_plan c plan list is each = subst (λ (p : PlanView). All (IsOfPlan p) list) (sym is) (λ k d small. of_plan c _ (each k d small))
 
 -- the chain hands its values over
-hands_over : (r : Relay) → IsReady r → HandsOn r.chain → HandsOver r.chain r.values r.until (jobs_of r.chain r.until)
+pub hands_over : (r : Relay) → IsReady r → HandsOn r.chain → HandsOver r.chain r.values r.until (jobs_of r.chain r.until)
 hands_over r ready hands = record {
   chain = ready.chain;
   relay = (both (is_relay r.chain) (nat_le (wcet_of r.chain.flat.in_devices 0 + wcet_of r.chain.flat.out_devices 0) (input_clock r.chain).period) ready.in_time).0;
@@ -138,20 +138,24 @@ output_inside c h =
     let (flow, found) = at_first c.flat.outs (let one = h.outs in omega (arith, one)) in
     subst (λ (f : FlowNo). f.0 < length c.flat.flows) (sym (index_found c.flat.outs flow found)) (h.flat.outs 0 flow found)
 
--- so these are the values of the output in the one solution
-pub solved_by : (r : Relay) (horizon : Horizon) (s : ExecState) (out : List Value) → IsReady r → HandsOn r.chain → horizon.until ≡ r.until
-    → IsComplete (constants (machine r horizon)) s → slice_index s.ended 1 ≤ jobs_of r.chain horizon.until
-    → (i : ℕ) → Drives (relay_plan r.chain) i 0 → AreOutputs (machine_in r horizon s) i out → IsOutput r out
-solved_by r horizon s out ready hands same complete counted i drives outputs =
+-- the front of the values is the output of the one solution
+pub front_is_output : (r : Relay) → IsReady r → HandsOn r.chain → IsOutput r (take (jobs_of r.chain r.until) r.values)
+front_is_output r ready hands =
     let n : ℕ = jobs_of r.chain r.until in
     let over : HandsOver r.chain r.values r.until n = hands_over r ready hands in
     record {
       flows = replicate (length r.chain.flat.flows) (take n r.values);
       solution = relay_solves r.chain r.values r.until n over;
       only = relay_only r.chain r.values r.until n over;
-      output = outputs_of r horizon s out ready same complete counted i drives outputs
-          ∙ sym (each_column r.chain r.values r.until n over (output_of r.chain) (output_inside r.chain ready.chain));
+      output = sym (each_column r.chain r.values r.until n over (output_of r.chain) (output_inside r.chain ready.chain));
     }
+
+-- so these are the values of the output in the one solution
+pub solved_by : (r : Relay) (horizon : Horizon) (s : ExecState) (out : List Value) → IsReady r → HandsOn r.chain → horizon.until ≡ r.until
+    → IsComplete (constants (machine r horizon)) s → slice_index s.ended 1 ≤ jobs_of r.chain horizon.until
+    → (i : ℕ) → Drives (relay_plan r.chain) i 0 → AreOutputs (machine_in r horizon s) i out → IsOutput r out
+solved_by r horizon s out ready hands same complete counted i drives outputs =
+    subst (IsOutput r) (sym (outputs_of r horizon s out ready same complete counted i drives outputs)) (front_is_output r ready hands)
 
 -- the machine of the chain's plan and values
 pub core_is : (r : Relay) (horizon : Horizon) (core : CoreView) (plan : PlanView) (rows : Rows)

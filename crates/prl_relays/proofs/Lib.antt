@@ -1,6 +1,7 @@
 pub mod Solutions
 pub mod Handed
 pub mod Operands
+pub mod WholeRuns
 pub mod TwoNames
 pub mod Legality
 pub mod HorizonLimits

@@ -20,7 +20,7 @@ use Rattle.prl_relays.specs.Relays.{Relay, relay_plan, machine, IsOperand, AreOp
 use Rattle.prl_relays.proofs.Handed.{jobs_of, machine_in, actuator_one}
 
 -- a read of the two tasks is the actuator's, on their one edge, of the instance of its own number
-abbrev IsOfTwo : ℕ → ℕ → Action → Type 0
+abbrev pub IsOfTwo : ℕ → ℕ → Action → Type 0
 IsOfTwo i n (actions.ReadConst port value) = ⊥
 IsOfTwo i n (actions.Read port edge instance cell) = (i ≡ 1) × (edge.0 ≡ 0) × (instance ≡ n)
 IsOfTwo i n (actions.Write edge instance cell) = Unit {0}
@@ -34,7 +34,7 @@ sensor_action n cell (suc (suc place)) true = tt
 sensor_action n cell zero false = tt
 sensor_action n cell (suc place) false = tt
 
-action_of_two : (r : Relay) (horizon : Horizon) (i n place : ℕ) → i < 2 → IsOfTwo i n (action_at (constants (machine r horizon)) i n place)
+pub action_of_two : (r : Relay) (horizon : Horizon) (i n place : ℕ) → i < 2 → IsOfTwo i n (action_at (constants (machine r horizon)) i n place)
 action_of_two r horizon zero n place small =
     sensor_action n (cell_of (relay_plan r.chain) 0 n) place (is_some (place_on (relay_plan r.chain) 0 n))
 action_of_two r horizon (suc zero) n zero small = (refl, refl, refl)
@@ -43,7 +43,7 @@ action_of_two r horizon (suc zero) n (suc (suc place)) small = tt
 action_of_two r horizon (suc (suc i)) n place small = absurd (omega (arith, small))
 
 -- the values of the output are the front of the sensor's
-abbrev AreFront : Relay → Horizon → List Value → Type 0
+abbrev pub AreFront : Relay → Horizon → List Value → Type 0
 AreFront r horizon out = (k : ℕ) → k < jobs_of r.chain horizon.until → slice_get out k ≡ slice_get r.values k
 
 module _ (r : Relay) (horizon : Horizon) (out : List Value) (front : AreFront r horizon out) where
@@ -66,7 +66,7 @@ module _ (r : Relay) (horizon : Horizon) (out : List Value) (front : AreFront r 
       sight_is s task (first_unfinished s task.0) (next_action (constants (machine r horizon)) s task.0) seen
       (action_of_two r horizon task.0 (first_unfinished s task.0) _ keeps.0.task) keeps.0.job h
 
-  list_is : (s : ExecState) (list : List Event) (seens : List Seen) → IsLegal (constants (machine r horizon)) s list
+  pub list_is : (s : ExecState) (list : List Event) (seens : List Seen) → IsLegal (constants (machine r horizon)) s list
       → TellsAll (machine_in r horizon s) list seens → AreOperands out seens
   list_is s [] [] legal told = All-nil (IsOperand out)
   list_is s [] (seen ∷ seens) legal told = absurd told

@@ -1,13 +1,21 @@
 //! Laws of replays, each as a function that does nothing: its contract is the law.
 
-ghost use Rattle.std.specs.Prelude.{◌≡◌, ◌≢◌, ℕ, List};
+ghost use Rattle.std.specs.Prelude.{◌≡◌, ◌≢◌, ℕ, List, Ok};
 ghost use Rattle.prl_base.specs.declared.limits.Limit.{Limit};
 ghost use Rattle.prl_chains.specs.declared.chains.Chain.{Chain};
+ghost use Rattle.prl_plan.specs.declared.events.Event.{Event};
 ghost use Rattle.prl_plan.specs.declared.horizons.Horizon.{Horizon};
 ghost use Rattle.prl_plan.specs.Horizons.{IsPastLimit};
+ghost use Rattle.prl_plan.specs.Rules.{IsLegal, IsComplete};
+ghost use Rattle.prl_core.specs.Machine.{constants};
+ghost use Rattle.prl_replay.specs.Schedules.{schedule_of};
+ghost use Rattle.prl_replay.specs.Replays.{behind};
 ghost use Rattle.prl_relays.specs.declared.relays.RelayFault.{RelayFault};
 ghost use Rattle.prl_relays.specs.declared.relays.RelayFault.TheVariants as faults;
-ghost use Rattle.prl_relays.specs.Relays.{Relay, relay_plan, IsHorizonUpTo, IsReplayText, IsRelayFault};
+ghost use Rattle.prl_relays.specs.Relays.{Relay, relay_plan, machine, task_names, IsReady, IsHorizonOf, IsHorizonUpTo, IsReplayText, IsRelayFault};
+
+use prl_chains::copies_hand_on;
+use prl_plan::{legal_list_is_gated, plans_keep_facts, run_of_two_lists, write_finds_cell_free};
 
 /// A replay comes to one end, want of memory aside: it has one text and is not refused, or it is refused for one reason.
 pub fn replays_end_one_way()
@@ -24,3 +32,16 @@ pub fn horizons_end_one_way()
     ensures one_limit { (chain : Chain) (until : ℕ) (a b : Limit) → IsPastLimit (relay_plan chain) until a → IsPastLimit (relay_plan chain) until b
         → a ≡ b }
 {}
+
+/// A schedule whose events are legal and complete in a horizon has a text.
+pub fn whole_runs_are_replayed()
+    ensures { (r : Relay) (horizon : Horizon) (schedule : List ℕ) (events : List Event) → IsReady r → IsHorizonOf r horizon
+        → schedule_of (task_names r.chain) schedule ≡ Ok events → IsLegal (constants (machine r horizon)) (machine r horizon).state events
+        → IsComplete (constants (machine r horizon)) (behind (machine r horizon) events).state → (text : List ℕ) × IsReplayText r schedule text }
+{
+    copies_hand_on();
+    plans_keep_facts();
+    legal_list_is_gated();
+    run_of_two_lists();
+    write_finds_cell_free();
+}
