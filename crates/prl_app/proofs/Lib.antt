@@ -1,5 +1,5 @@
 pub mod RowLines
-pub mod Bodies
+pub mod BodyStages
 pub mod Outputs
 pub mod Contents
 pub mod Stages

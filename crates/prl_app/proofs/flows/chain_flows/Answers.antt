@@ -6,7 +6,7 @@ use Rattle.prl_names.specs.Uses.{used_imports}
 use Rattle.prl_app.specs.declared.refusals.Refusal.{Refusal}
 use Rattle.prl_app.specs.Asked.{Asked}
 use Rattle.prl_app.specs.Outcomes.{IsTextFor, IsRefusalOf}
-use Rattle.prl_app.proofs.Bodies.{stage_checked, stage_chain, chain_main}
+use Rattle.prl_app.proofs.BodyStages.{stage_checked, stage_chain, chain_main}
 use Rattle.prl_app.proofs.Outputs.{chain_outcome-run}
 use Rattle.prl_app.proofs.flows.chain_flows.Goals as goal
 
