@@ -195,38 +195,56 @@ taken_app imports links lefts name at of args period count declared takes_it few
       outs = refl;
     }
 
+-- what an application that is taken is made of
+record IsMadeOf (imports : List Import) (n : NodeTree) (links : List Link) (lefts : List Placed) (a : Applied) (made : App × ℕ) : Type 0 where
+  of : Import
+  period : ℕ
+  args : List Arg
+  declared : import_named imports a.name ≡ Some of
+  first : first_period links a.args ≡ Some period
+  read : arguments_of links period a.args ≡ Some args
+  fit : fits of n links lefts a ≡ true
+  is : (made_app of a.at args (numbers_from (length links) lefts), period) ≡ made
+
+made_of : (imports : List Import) (n : NodeTree) (links : List Link) (lefts : List Placed) (a : Applied) (made : App × ℕ) → app_of imports n links lefts a ≡ Some made
+    → IsMadeOf imports n links lefts a made
+unfolding app_of
+made_of imports n links lefts a made is =
+    let last : Import → ℕ → List Arg → App × ℕ = λ of period args. (made_app of a.at args (numbers_from (length links) lefts), period) in
+    let from_args : Import → ℕ → List Arg → Option (App × ℕ) = λ of period args. (if fits of n links lefts a then Some (last of period args) else None) in
+    let from_period : Import → ℕ → Option (App × ℕ) = λ of period. (arguments_of links period a.args >>= from_args of period) in
+    let from_import : Import → Option (App × ℕ) = λ of. (first_period links a.args >>= from_period of) in
+    let of = both_some (import_named imports a.name) from_import made is in
+    let period = both_some (first_period links a.args) (from_period of.first) made of.rest in
+    let args = both_some (arguments_of links period.first a.args) (from_args of.first period.first) made period.rest in
+    let taken = taken_some (fits of.first n links lefts a) (last of.first period.first args.first) made args.rest in
+    record {
+      of = of.first;
+      period = period.first;
+      args = args.first;
+      declared = of.is;
+      first = period.is;
+      read = args.is;
+      fit = taken.0;
+      is = taken.1;
+    }
+
 pub IsTaken-made : (imports : List Import) (n : NodeTree) (links : List Link) (lefts : List Placed) (a : Applied) (made : App × ℕ) → app_of imports n links lefts a ≡ Some made
     → IsTaken imports links lefts made.0 made.1
-unfolding app_of
 IsTaken-made imports n links lefts a made is =
-    let last : Import → ℕ → List Arg → App × ℕ = λ of period args. (made_app of a.at args (numbers_from (length links) lefts), period) in
-    let from_args : Import → ℕ → List Arg → Option (App × ℕ) = λ of period args. (if fits of n links lefts a then Some (last of period args) else None) in
-    let from_period : Import → ℕ → Option (App × ℕ) = λ of period. (arguments_of links period a.args >>= from_args of period) in
-    let from_import : Import → Option (App × ℕ) = λ of. (first_period links a.args >>= from_period of) in
-    let of = both_some (import_named imports a.name) from_import made is in
-    let period = both_some (first_period links a.args) (from_period of.first) made of.rest in
-    let args = both_some (arguments_of links period.first a.args) (from_args of.first period.first) made period.rest in
-    let taken = taken_some (fits of.first n links lefts a) (last of.first period.first args.first) made args.rest in
-    let one = both_true (takes of.first (length a.args) (length lefts) && may_define_all n links lefts) (have_numbers links lefts) taken.0 in
-    let two = both_true (takes of.first (length a.args) (length lefts)) (may_define_all n links lefts) one.0 in
-    subst (λ (m : App × ℕ). IsTaken imports links lefts m.0 m.1) taken.1
-    (taken_app imports links lefts a.name a.at of.first args.first period.first (length a.args) of.is two.0 one.1
-    (period_there links a.args period.first period.is) (arguments_there links period.first a.args args.first args.is))
+    let h = made_of imports n links lefts a made is in
+    let one = both_true (takes h.of (length a.args) (length lefts) && may_define_all n links lefts) (have_numbers links lefts) h.fit in
+    let two = both_true (takes h.of (length a.args) (length lefts)) (may_define_all n links lefts) one.0 in
+    subst (λ (m : App × ℕ). IsTaken imports links lefts m.0 m.1) h.is
+    (taken_app imports links lefts a.name a.at h.of h.args h.period (length a.args) h.declared two.0 one.1
+    (period_there links a.args h.period h.first) (arguments_there links h.period a.args h.args h.read))
 
--- an application that is taken has the name that is applied
+-- it has the name that is applied
 pub app_of-name : (imports : List Import) (n : NodeTree) (links : List Link) (lefts : List Placed) (a : Applied) (made : App × ℕ) → app_of imports n links lefts a ≡ Some made
     → made.0.name ≡ a.name
-unfolding app_of
 app_of-name imports n links lefts a made is =
-    let last : Import → ℕ → List Arg → App × ℕ = λ of period args. (made_app of a.at args (numbers_from (length links) lefts), period) in
-    let from_args : Import → ℕ → List Arg → Option (App × ℕ) = λ of period args. (if fits of n links lefts a then Some (last of period args) else None) in
-    let from_period : Import → ℕ → Option (App × ℕ) = λ of period. (arguments_of links period a.args >>= from_args of period) in
-    let from_import : Import → Option (App × ℕ) = λ of. (first_period links a.args >>= from_period of) in
-    let of = both_some (import_named imports a.name) from_import made is in
-    let period = both_some (first_period links a.args) (from_period of.first) made of.rest in
-    let args = both_some (arguments_of links period.first a.args) (from_args of.first period.first) made period.rest in
-    let taken = taken_some (fits of.first n links lefts a) (last of.first period.first args.first) made args.rest in
-    ap (λ (m : App × ℕ). m.0.name) (sym taken.1) ∙ bytes_same imports a.name of.first of.is
+    let h = made_of imports n links lefts a made is in
+    ap (λ (m : App × ℕ). m.0.name) (sym h.is) ∙ bytes_same imports a.name h.of h.declared
 
 -- the flows before the application and its outputs
 out_link : (imports : List Import) (d : Definitions) (lefts : List Placed) (app : App) (period : ℕ) → AreDefined imports d → IsTaken imports d.links lefts app period

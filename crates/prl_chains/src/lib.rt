@@ -1,7 +1,7 @@
 //! The form of programs that is built so far: a chain of equations over one sensor, with applications of imported
 //! nodes. `chain_of` makes of such a program its flat program with the clocks of its flows, and tells any other
-//! apart. The form itself is `chain_of` of `specs/Chains.antt`. The crate stands on the syntax tree, on bodies and on
-//! flat programs.
+//! apart. The form itself is `chain_of` of `specs/Chains.antt`. The crate stands on the syntax tree, on its names,
+//! on bodies and on flat programs.
 #![tactic(auto)]
 
 mod applications;

@@ -41,8 +41,8 @@ pub fn chains_want_no_body()
     ensures rows { (c : Chain) → IsChain c → IsTrue (has_no_application c) → (rows : Rows) → HasTypedRows c.flat rows }
 {}
 
-/// The chain of a program has its bodies, where `check_bodies` gave them for the imports of the program and its used imports
-/// are those that the one node, which is main, applies.
+/// The chain of a program has its bodies, where `check_bodies` gave them for the program's imports, of which the used ones
+/// are those that main applies. Main is the one node.
 pub fn applied_imports_have_bodies()
     ensures { (p : ProgramTree) (c : Chain) → chain_of p ≡ Some c → (texts : List TextTree) (bodies : List Parts)
         → checked p.imports (used_imports p 0) texts ≡ Ok (map body_tree bodies) → HaveBodies c.flat bodies }
