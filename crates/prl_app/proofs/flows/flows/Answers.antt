@@ -1,18 +1,13 @@
 use Rattle.std.proofs.Common.{◌≡◌}
 use Rattle.prl_ast.specs.Trees.{program_tree}
 use Rattle.prl_app.specs.Outcomes.{WithTypes, chain_outcome, program_outcome}
-use Rattle.prl_app.proofs.Stages.{stage_refused, program_untyped, program_typed, answers_by}
+use Rattle.prl_app.proofs.Stages.{stage_refused, program_typed, answers_by}
 use Rattle.prl_app.proofs.flows.flows.Goals as goal
 
 pub returns-in-Err : goal.returns-in-Err
 returns-in-Err c =
     stage_refused c.in-Err.refusal (program_outcome c.args.text.now)
     (λ program. WithTypes program (λ main outcome. chain_outcome program main c.args.texts.now c.args.sensors.now c.args.until ≡ outcome)) c.in-Err.ensures
-
-pub returns-in-Err-check_program : goal.returns-in-Err-check_program
-returns-in-Err-check_program c =
-    program_untyped c.args.text.now (λ program main outcome. chain_outcome program main c.args.texts.now c.args.sensors.now c.args.until ≡ outcome)
-    (program_tree c.in-Ok.program) c.in-Err-check_program.refusal c.in-Ok.ensures c.in-Err-check_program.ensures.typed
 
 pub returns-in-Ok-check_program : goal.returns-in-Ok-check_program
 returns-in-Ok-check_program c =
