@@ -1,3 +1,4 @@
 pub mod GapSteps
 pub mod CellSteps
 pub mod CellTables
+pub mod FirstJobs

@@ -1,16 +1,19 @@
 //! Which instances of an edge are read, and from which job on.
 
-ghost use Rattle.std.specs.Prelude.{◌≡◌, ◌+◌, ◌↔◌, IsTrue, MatchOption};
-ghost use Rattle.prl_plan.specs.FirstReaders.{reader_before, first_reader, first_instance};
+ghost use Rattle.std.specs.Prelude.{◌≡◌, ◌+◌, ◌↔◌, ℕ, Some, slice_get, IfSome, IsTrue, MatchOption};
+ghost use Rattle.prl_plan.specs.declared.graphs.Edge.{Edge};
+ghost use Rattle.prl_plan.specs.declared.graphs.TaskGraph.{TaskGraph};
+ghost use Rattle.prl_plan.specs.Graphs.{IsWellFormed};
+ghost use Rattle.prl_plan.specs.FirstReaders.{reader_before, first_reader, first_instance, IsFirstReader};
 ghost use Rattle.prl_plan.specs.CellTurns.{IsAskedBehind};
 ghost use Rattle.prl_trial.specs.Ranges.{StepFits, ReaderFits, InstanceFits, AskedFits};
 
 use prl_base::Op;
-use prl_plan::{following_jobs, preceding_job};
+use prl_plan::{following_jobs, hyperperiod_shows_cells, preceding_job};
 
 /// The first number that the operator takes to `p` or higher. `None` exactly where it does not fit, or a factor is 0.
 fn reader_through(op: Op, p: u64) -> Option<u64>
-    ensures { MatchOption result (¬ (StepFits op p)) (λ r. r ≡ reader_before op p) }
+    ensures { MatchOption result (¬ (StepFits op p)) (λ r. StepFits op p × (r ≡ reader_before op p)) }
 {
     match op {
         Op::Up(k) if k > 0 => u64::from(k).checked_mul(p),
@@ -22,22 +25,34 @@ fn reader_through(op: Op, p: u64) -> Option<u64>
     }
 }
 
-/// The number of the first job that reads an instance through the operators; the jobs before it read constants. `None`
-/// exactly where a number on the way does not fit, or a factor is 0.
-pub fn first_job(ops: &[Op]) -> Option<u64>
-    ensures { MatchOption result (¬ (ReaderFits ops.now)) (λ p. p ≡ first_reader ops.now) }
+/// The number that the walk over the operators reaches from 0. `None` exactly where a number on the way does not fit, or
+/// a factor is 0.
+fn reader_behind(ops: &[Op]) -> Option<u64>
+    ensures { MatchOption result (¬ (ReaderFits ops.now)) (λ p. ReaderFits ops.now × (p ≡ first_reader ops.now)) }
 {
     match ops {
         [] => Some(0),
-        [op, rest @ ..] => reader_through(*op, first_job(rest)?),
+        [op, rest @ ..] => reader_through(*op, reader_behind(rest)?),
     }
+}
+
+/// The number of the first job that reads an instance through the operators; the jobs before it read constants. `None`
+/// exactly where a number on the way does not fit, or a factor is 0.
+pub fn first_job(ops: &[Op]) -> Option<u64>
+    ensures exact { MatchOption result (¬ (ReaderFits ops.now)) (λ p. ReaderFits ops.now × (p ≡ first_reader ops.now)) }
+    // On an edge of a well-formed graph the jobs from this number on read instances, and no other does.
+    ensures first { (graph : TaskGraph) (e : ℕ) (edge : Edge) → IsWellFormed graph → slice_get graph.edges e ≡ Some edge → edge.ops ≡ ops.now →
+        IfSome result (IsFirstReader ops.now) }
+{
+    hyperperiod_shows_cells();
+    reader_behind(ops)
 }
 
 /// The first instance that is read through the operators.
 pub(crate) fn first_used(ops: &[Op]) -> Option<u64>
     ensures { MatchOption result (¬ (InstanceFits ops.now)) (λ m. m ≡ first_instance ops.now) }
 {
-    let reader = i64::try_from(first_job(ops)?).ok()?;
+    let reader = i64::try_from(reader_behind(ops)?).ok()?;
     u64::try_from(preceding_job(ops, reader)?).ok()
 }
 
