@@ -22,6 +22,3 @@ mod values;
 mod words;
 
 pub use parsing::parse_bodies;
-
-#[cfg(test)]
-mod tests;

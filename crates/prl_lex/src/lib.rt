@@ -9,6 +9,3 @@ mod tokens;
 
 pub use lexing::lex;
 pub use tokens::{Kind, LexFault, Token, token_text};
-
-#[cfg(test)]
-mod tests;

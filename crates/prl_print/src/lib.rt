@@ -9,6 +9,3 @@ mod numbers;
 mod printing;
 
 pub use printing::print;
-
-#[cfg(test)]
-mod tests;

@@ -24,6 +24,3 @@ mod values;
 mod words;
 
 pub use parsing::{ParseFault, parse};
-
-#[cfg(test)]
-mod tests;

@@ -1,19 +1,18 @@
+//! Bodies.
+
 ghost use Rattle.std.specs.Prelude.{◌<◌, ◌^◌, length};
 
-use super::*;
 use prl_ast::{Import, Port};
 use prl_base::{Limit, Name, Seq, Span, Ty, Value, What};
 use prl_body::{BodyFault, Expr, Operator, Prefix, check_bodies};
+use prl_bodytext::parse_bodies;
+use samples::SAMPLING_BODIES;
 use std::alloc::Global;
 use std::test::*;
 
-const SAMPLING: &[u8] = b"body F { o = i + j; p = i; }
-body S { o = 2 * i; }
-";
-
 #[test]
 fn sampling(rt: HostRuntime) -> Result<(), Fail> {
-    let texts = parse_bodies(rt.alloc(), SAMPLING)?;
+    let texts = parse_bodies(rt.alloc(), SAMPLING_BODIES)?;
     match texts.bodies.as_slice() {
         [f, s] => {
             assert_eq!(rt; f.at, Span { at: 5, len: 1 });

@@ -1,30 +1,9 @@
-use super::*;
+//! The printed form.
+
+use prl_print::print;
 use prl_syntax::parse;
+use samples::{SAMPLING, SAMPLING_PRINTED};
 use std::test::*;
-
-const SAMPLING: &[u8] = b"imported node F(i, j: int) returns (o, p: int) wcet 2;
-imported node S(i: int) returns (o: int) wcet 10;
-sensor i wcet 1;
-actuator o wcet 1;
-node sampling (i: rate (10, 0)) returns (o)
-  var vf, vs;
-let
-  (o, vf) = F(i, (0 fby vs) *^ 3);
-  vs = S(vf /^ 3);
-tel
-";
-
-const SAMPLING_PRINTED: &[u8] = b"imported node F(i: int; j: int) returns (o: int; p: int) wcet 2;
-imported node S(i: int) returns (o: int) wcet 10;
-sensor i wcet 1;
-actuator o wcet 1;
-node sampling(i: rate (10, 0)) returns (o)
-var vf; vs;
-let
-  (o, vf) = F(i, (0 fby vs) *^ 3);
-  vs = S(vf /^ 3);
-tel
-";
 
 #[test]
 fn sampling(rt: HostRuntime) -> Result<(), Fail> {

@@ -1,21 +1,12 @@
-use super::*;
+//! Programs.
+
 use prl_ast::Base;
 use prl_base::{Limit, Op, Span, Ty, Value, What};
+use prl_syntax::{ParseFault, parse};
+use samples::SAMPLING;
 use std::alloc::Global;
 use std::process::Abort;
 use std::test::*;
-
-const SAMPLING: &[u8] = b"imported node F(i, j: int) returns (o, p: int) wcet 2;
-imported node S(i: int) returns (o: int) wcet 10;
-sensor i wcet 1;
-actuator o wcet 1;
-node sampling (i: rate (10, 0)) returns (o)
-  var vf, vs;
-let
-  (o, vf) = F(i, (0 fby vs) *^ 3);
-  vs = S(vf /^ 3);
-tel
-";
 
 #[test]
 fn sampling(rt: HostRuntime) -> Result<(), Fail> {

@@ -1,6 +1,7 @@
-use super::*;
+//! Tokens.
+
 use prl_base::{Limit, Span, What};
-use std::alloc::AllocError;
+use prl_lex::{Kind, LexFault, Token, lex};
 use std::test::*;
 
 fn token(kind: Kind, at: u32, len: u32, number: u64) -> Token {
