@@ -8,7 +8,7 @@ use Rattle.prl_base.specs.declared.values.Value.TheVariants as kinds
 use Rattle.std.proofs.Common.{◌≡◌, ◌≢◌, ℕ, zero, suc, ◌+◌, ◌<◌, List, [], ◌∷◌, ◌++◌, length, Option, Some, None, refl, sym, ap, subst, ◌∙◌, arith, append_assoc, append-nil}
 use Rattle.prl_base.specs.Lines.{cut_line, lines_of}
 use Rattle.prl_base.specs.declared.values.Value.{Value}
-use Rattle.prl_base.proofs.LineCuts.{lines_of-cut, lines_of-end, length-lines_of}
+use Rattle.prl_base.proofs.LineCuts.{lines_of_cut, lines_of_end, length_lines_of}
 use Rattle.prl_app.specs.Words.{◌>>=◌}
 use Rattle.prl_app.specs.Rows.{after_front, row_value, values_from, AreNumbers}
 
@@ -35,7 +35,7 @@ values_from-cons name k (b ∷ bs) (next ∷ lines) h = refl
 left_in-cut : (name : List ℕ) (k : ℕ) (text line behind : List ℕ) → cut_line text ≡ Some (line, behind)
     → left_in name k text ≡ (row_value name k line >>= λ v. then_values (left_in name (k + 1) behind) v)
 left_in-cut name k text line behind cut =
-    ap (values_from name k) (lines_of-cut text line behind cut) ∙ values_from-cons name k line (lines_of behind) (length-lines_of behind)
+    ap (values_from name k) (lines_of_cut text line behind cut) ∙ values_from-cons name k line (lines_of behind) (length_lines_of behind)
 
 regroup : (front : List Value) (v : Value) (read : Option (List Value))
     → with_front (front ++ v ∷ []) read ≡ with_front front (then_values read v)
@@ -62,14 +62,14 @@ with_front-no_row name k front text line behind cut row =
 pub with_front-end : (name : List ℕ) (k : ℕ) (front : List Value) (text : List ℕ) → cut_line text ≡ None → length text ≡ 0
     → with_front front (left_in name k text) ≡ Some front
 with_front-end name k front [] e none =
-    ap (λ lines. with_front front (values_from name k lines)) (lines_of-end [] e) ∙ ap Some (append-nil front)
+    ap (λ lines. with_front front (values_from name k lines)) (lines_of_end [] e) ∙ ap Some (append-nil front)
 with_front-end name k front (b ∷ bs) e none = absurd (omega arith)
 
 -- where more is left, there are no values
 pub with_front-open : (name : List ℕ) (k : ℕ) (front : List Value) (text : List ℕ) → cut_line text ≡ None → length text ≢ 0
     → with_front front (left_in name k text) ≡ None
 with_front-open name k front [] e some = absurd (some refl)
-with_front-open name k front (b ∷ bs) e some = ap (λ lines. with_front front (values_from name k lines)) (lines_of-end (b ∷ bs) e)
+with_front-open name k front (b ∷ bs) e some = ap (λ lines. with_front front (values_from name k lines)) (lines_of_end (b ∷ bs) e)
 
 some_inner : {A : Type 0} (x y : A) → Some x ≡ Some y → x ≡ y
 some_inner x y e = cc

@@ -12,8 +12,8 @@ record Scaled (a b : ℕ) : Type 0 where
   here : IsGcd a b gcd
   times : (k : ℕ) → IsGcd (a * k) (b * k) (gcd * k)
 
-sub-mul : (a b k : ℕ) → (a - b) * k ≡ a * k - b * k
-sub-mul a b k = rw (mul_comm (a - b) k, mul_comm a k, mul_comm b k) (mul-sub k a b)
+sub_mul : (a b k : ℕ) → (a - b) * k ≡ a * k - b * k
+sub_mul a b k = rw (mul_comm (a - b) k, mul_comm a k, mul_comm b k) (mul-sub k a b)
 
 swapped : (a b : ℕ) → Scaled a b → Scaled b a
 swapped a b s =
@@ -29,7 +29,7 @@ after_sub a b below s =
     record {
       gcd = s.gcd;
       here = IsGcd-from_sub a b s.gcd below s.here;
-      times = λ k. IsGcd-from_sub (a * k) (b * k) (s.gcd * k) (mul-le-mul_right k below) (rw sub-mul at (s.times k));
+      times = λ k. IsGcd-from_sub (a * k) (b * k) (s.gcd * k) (mul-le-mul_right k below) (rw sub_mul at (s.times k));
     }
 
 with_zero : (a : ℕ) → Scaled a 0

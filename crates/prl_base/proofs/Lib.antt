@@ -1,4 +1,5 @@
 pub mod Coprime
 pub mod Signs
 pub mod Lowest
+-- for the crates above: lines cut one after another
 pub mod LineCuts

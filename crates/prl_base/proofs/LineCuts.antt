@@ -15,9 +15,9 @@ none_cases true p e = cc
 none_cases false p e = refl
 
 -- a text that has a line feed has its first line in front of those of the rest
-pub lines_of-cut : (text line behind : List ℕ) → cut_line text ≡ Some (line, behind) → lines_of text ≡ line ∷ lines_of behind
-lines_of-cut text line behind e =
-    let cut = cut_cases (nat_lt (position_or_len is_line_feed text) (length text)) (line, behind) (before_first is_line_feed text, after_first is_line_feed text) (sym e) in
+pub lines_of_cut : (text line after : List ℕ) → cut_line text ≡ Some (line, after) → lines_of text ≡ line ∷ lines_of after
+lines_of_cut text line after e =
+    let cut = cut_cases (nat_lt (position_or_len is_line_feed text) (length text)) (line, after) (before_first is_line_feed text, after_first is_line_feed text) (sym e) in
     let first = ap (λ (p : List ℕ × List ℕ). p.0) cut.1 in
     let second = ap (λ (p : List ℕ × List ℕ). p.1) cut.1 in
     let small : position_or_len is_line_feed text < length text = ltb-true _ _ cut.0 in
@@ -25,10 +25,10 @@ lines_of-cut text line behind e =
     ∙ ap (λ (l : List ℕ). l ∷ lines_of (after_first is_line_feed text)) (sym first)
     ∙ ap (λ (b : List ℕ). line ∷ lines_of b) (sym second)
 
--- what stands behind a line is shorter than the text
-pub length-cut : (text line behind : List ℕ) → cut_line text ≡ Some (line, behind) → length behind < length text
-length-cut text line behind e =
-    let cut = cut_cases (nat_lt (position_or_len is_line_feed text) (length text)) (line, behind) (before_first is_line_feed text, after_first is_line_feed text) (sym e) in
+-- what stands after a line is shorter than the text
+pub length_cut : (text line after : List ℕ) → cut_line text ≡ Some (line, after) → length after < length text
+length_cut text line after e =
+    let cut = cut_cases (nat_lt (position_or_len is_line_feed text) (length text)) (line, after) (before_first is_line_feed text, after_first is_line_feed text) (sym e) in
     let same = ap (λ (p : List ℕ × List ℕ). length p.1) cut.1 in
     let small : position_or_len is_line_feed text < length text = ltb-true _ _ cut.0 in
     omega (arith, same, small, length-drop (position_or_len is_line_feed text + 1) text)
@@ -39,20 +39,20 @@ one_more : (feed : Bool) (x : ℕ) (xs : List ℕ) → length (x ∷ xs) ≤ con
 one_more true x xs h ih = absurd (omega arith)
 one_more false x xs h ih = ap (onto_first x) (ih (omega arith))
 
-lines_of-no_feed : (text : List ℕ) → length text ≤ position_or_len is_line_feed text → lines_of text ≡ text ∷ []
-lines_of-no_feed [] h = refl
-lines_of-no_feed (x ∷ xs) h = one_more (is_line_feed x) x xs h (lines_of-no_feed xs)
+lines_of_no_feed : (text : List ℕ) → length text ≤ position_or_len is_line_feed text → lines_of text ≡ text ∷ []
+lines_of_no_feed [] h = refl
+lines_of_no_feed (x ∷ xs) h = one_more (is_line_feed x) x xs h (lines_of_no_feed xs)
 
--- a text without a line feed is the one thing behind the last
-pub lines_of-end : (text : List ℕ) → cut_line text ≡ None → lines_of text ≡ text ∷ []
-lines_of-end text e =
-    lines_of-no_feed text (ltb-false _ _ (none_cases (nat_lt (position_or_len is_line_feed text) (length text)) _ (sym e)))
+-- a text without a line feed is the one thing after the last
+pub lines_of_end : (text : List ℕ) → cut_line text ≡ None → lines_of text ≡ text ∷ []
+lines_of_end text e =
+    lines_of_no_feed text (ltb-false _ _ (none_cases (nat_lt (position_or_len is_line_feed text) (length text)) _ (sym e)))
 
 -- there is always something
-pub length-lines_of : (text : List ℕ) → 0 < length (lines_of text)
-length-lines_of text = omega (arith, length-slice_split is_line_feed text)
+pub length_lines_of : (text : List ℕ) → 0 < length (lines_of text)
+length_lines_of text = omega (arith, length-slice_split is_line_feed text)
 
 -- what is no `Some` is seen as None
-pub option_map-none : {A B : Type 0} (f : A → B) (r : Option A) (m : Option B) → option_map f r ≡ m → ((x : A) → r ≡ Some x → ⊥) → m ≡ None
-option_map-none f None m e other = sym e
-option_map-none f (Some x) m e other = absurd (other x refl)
+pub option_map_none : {A B : Type 0} (f : A → B) (r : Option A) (m : Option B) → option_map f r ≡ m → ((x : A) → r ≡ Some x → ⊥) → m ≡ None
+option_map_none f None m e other = sym e
+option_map_none f (Some x) m e other = absurd (other x refl)

@@ -1,5 +1,5 @@
 -- Decimal numbers as texts spell them.
-use Rattle.std.specs.Prelude.{◌≡◌, ◌==◌, ◌*◌, ◌+◌, ◌-◌, ◌^◌, ◌<◌, ◌&&◌, ℕ, zero, suc, ℤ, pos, negsuc, Bool, true, false, not, List, [], ◌∷◌, length, Option, Some, None, nat_lt, nat_le, if◌then◌else◌}
+use Rattle.std.specs.Prelude.{◌==◌, ◌^◌, ◌&&◌, ℕ, zero, suc, ℤ, pos, negsuc, Bool, false, List, [], ◌∷◌, Option, Some, None, nat_lt, if◌then◌else◌}
 use Rattle.std.specs.Char.{is_ascii_digit}
 use Rattle.std.specs.List.{list_all}
 use Rattle.std.specs.Option.{option_and_then}
@@ -14,15 +14,15 @@ are_digits (b ∷ bs) = is_ascii_digit b && list_all is_ascii_digit bs
 abbrev pub decimal_of : List ℕ → Option ℕ
 decimal_of text = if are_digits text && nat_lt (digits_value 10 text) (2 ^ 64) then Some (digits_value 10 text) else None
 
--- the integer of 32 bits with this sign and size
+-- the integer of 64 bits with this sign and size
 abbrev pub positive : ℕ → Option ℤ
-positive size = if nat_lt size (2 ^ 31) then Some (pos size) else None
+positive size = if nat_lt size (2 ^ 63) then Some (pos size) else None
 
 abbrev pub negative : ℕ → Option ℤ
 negative zero = Some (pos 0)
-negative (suc n) = if nat_lt n (2 ^ 31) then Some (negsuc n) else None
+negative (suc n) = if nat_lt n (2 ^ 63) then Some (negsuc n) else None
 
--- the integer of 32 bits that a text spells: digits, behind at most one `-`
+-- the integer of 64 bits that a text spells: digits, after at most one `-`
 abbrev pub integer_of : List ℕ → Option ℤ
 integer_of [] = None
 integer_of (b ∷ bs) = if b == 45 then option_and_then negative (decimal_of bs) else option_and_then positive (decimal_of (b ∷ bs))

@@ -4,6 +4,9 @@ pub mod Clocks
 pub mod Ratios
 pub mod Reductions
 pub mod Reading
+pub mod Options
+pub mod Operators
+pub mod Texts
 pub mod Decimals
 pub mod Limits
 pub mod Lines

@@ -27,10 +27,7 @@ fn next_value(number: u64, digit: u8) -> Option<u64>
     requires { IsTrue (is_ascii_digit digit) }
     ensures { SomeIff result (number * 10 + digit_value digit < 2 ^ 64) (number * 10 + digit_value digit) }
 {
-    match number.checked_mul(10) {
-        None => None,
-        Some(tens) => tens.checked_add(u64::from(digit - b'0')),
-    }
+    number.checked_mul(10)?.checked_add(u64::from(digit - b'0'))
 }
 
 /// The number that digits spell, where it is below 2^64.
@@ -40,10 +37,7 @@ fn value_of(digits: &[u8]) -> Option<u64>
 {
     let mut number: u64 = 0;
     for digit in digits {
-        match next_value(number, *digit) {
-            None => return None,
-            Some(next) => number = next,
-        }
+        number = next_value(number, *digit)?;
     }
     Some(number)
 }
@@ -60,33 +54,33 @@ pub fn decimal_of(text: &[u8]) -> Option<u64>
     }
 }
 
-/// The integer of 32 bits of this size. None where it is above 2^31 - 1.
-pub fn positive(size: u64) -> Option<i32>
+/// The integer of 64 bits of this size. None where it is above 2^63 - 1.
+pub fn positive(size: u64) -> Option<i64>
     ensures { result ≡ positive size }
 {
-    if size < 1 << 31 {
-        Some(size as i32)
+    if size < 1 << 63 {
+        Some(size as i64)
     } else {
         None
     }
 }
 
-/// The negative of this size as an integer of 32 bits. None where the size is above 2^31.
-pub fn negative(size: u64) -> Option<i32>
+/// The negative of this size as an integer of 64 bits. None where the size is above 2^63.
+pub fn negative(size: u64) -> Option<i64>
     ensures { result ≡ negative size }
 {
     if size == 0 {
         Some(0)
-    } else if size <= 1 << 31 {
-        Some(-(size as i64) as i32)
+    } else if size <= 1 << 63 {
+        Some(-((size - 1) as i64) - 1)
     } else {
         None
     }
 }
 
-/// The integer of 32 bits that a text spells: digits, leading zeros allowed, behind at most one `-`. None
+/// The integer of 64 bits that a text spells: digits, leading zeros allowed, after at most one `-`. None
 /// for any other text, and where the integer is out of range.
-pub fn integer_of(text: &[u8]) -> Option<i32>
+pub fn integer_of(text: &[u8]) -> Option<i64>
     ensures { result ≡ integer_of text.now }
 {
     match text.split_first() {

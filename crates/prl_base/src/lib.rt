@@ -1,6 +1,6 @@
 //! What every layer of the compiler speaks of: values and their types, names, places in a text,
-//! ratios, strictly periodic clocks, the operators on flows, limits, and the numbers by which the
-//! layers name tasks, edges, cells and flows. It stands on nothing but `std`.
+//! ratios, strictly periodic clocks, the operators on flows, limits, how all these are written, and
+//! the numbers by which the layers name tasks, edges, cells and flows. It stands on `std` and `itoa`.
 #![tactic(auto)]
 
 mod decimals;
@@ -12,6 +12,7 @@ mod operators;
 mod places;
 mod ratios;
 mod seqs;
+mod texts;
 mod values;
 
 pub use decimals::{are_digits, decimal_of, integer_of, negative, positive};
@@ -19,8 +20,9 @@ pub use limits::{Limit, What};
 pub use lines::{cut_line, line_len};
 pub use names::{Label, Name, NameFault, is_word, is_word_byte, is_word_start};
 pub use numbers::{CellNo, EdgeNo, FlowNo, TaskNo};
-pub use operators::{Clock, Op};
+pub use operators::{Clock, MAX_FACTOR, Op};
 pub use places::Span;
-pub use ratios::{Past, Ratio};
+pub use ratios::{MAX_PART, Past, Ratio, gcd};
 pub use seqs::Seq;
+pub use texts::{push_integer, push_number, push_ratio, push_type, push_value};
 pub use values::{Ty, Value};

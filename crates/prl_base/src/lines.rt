@@ -18,7 +18,7 @@ pub fn line_len(text: &[u8]) -> usize
     text.len()
 }
 
-/// The first line of the text, and what stands behind its line feed; None where there is no line feed.
+/// The first line of the text, and what stands after its line feed; None where there is no line feed.
 pub fn cut_line(text: &[u8]) -> Option<(&[u8], &[u8])>
     ensures { option_map (λ cut. (cut.0.now, cut.1.now)) result ≡ cut_line text.now }
 {

@@ -2,6 +2,9 @@
 
 use crate::{Ratio, Value};
 
+/// The greatest factor of `*^` and `/^`: 2^31 - 1.
+pub const MAX_FACTOR: u64 = 2_147_483_647;
+
 /// A strictly periodic clock, in ticks: the dates `start`, `start + period`, `start + 2 * period`
 /// and so on. A clock of the language has a period of at least 1 (`IsClock` in contracts).
 #[derive(Clone, Copy, Debug, PartialEq, Eq)]
@@ -12,7 +15,8 @@ pub struct Clock {
 
 /// An operator on one flow. Pagetti, Forget, Boniol, Cordovil and Lesens, "Multi-task implementation
 /// of multi-periodic synchronous programs" (2011), has the operators; the dates that each of them reads
-/// are `OperatorByDate` in the crate of flows.
+/// are `OperatorByDate` in the crate of flows, the clocks of their results `IsResultClock`, their ranges
+/// `IsOperatorFor`.
 #[derive(Clone, Copy, Debug, PartialEq, Eq)]
 pub enum Op {
     /// `c fby x`: one period late, the constant first.

@@ -106,8 +106,8 @@ impl Ratio {
     {}
 }
 
-/// The greatest common divisor.
-fn gcd(a: u64, b: u64) -> u64
+/// The greatest common divisor; of 0 and 0 it is 0.
+pub fn gcd(a: u64, b: u64) -> u64
     ensures { IsGcd a b result }
 {
     let mut x = a;
@@ -160,7 +160,7 @@ fn product(a: i64, b: i64) -> i64
 
 /// As `3/2`, and as `-10` where the denominator is 1.
 impl fmt::Display for Ratio {
-    ghost use Rattle.prl_base.specs.Reductions.{fraction_text};
+    ghost use Rattle.prl_base.specs.Texts.{fraction_text};
 
     ghost output = { λ ratio. Some (fraction_text ratio) };
 

@@ -2,7 +2,7 @@
 use Rattle.std.proofs.Common.{◌≡◌, ℕ, ◌+◌, ◌<◌, List, [], ◌∷◌, ◌++◌, length, Option, Some, None, Result, Ok, Err, refl, sym, ap, ◌∙◌, arith, append_assoc, append-nil}
 use Rattle.prl_base.specs.Lines.{cut_line, lines_of}
 use Rattle.prl_base.specs.Reading.{◌>>=◌}
-use Rattle.prl_base.proofs.LineCuts.{lines_of-cut, lines_of-end, length-lines_of}
+use Rattle.prl_base.proofs.LineCuts.{lines_of_cut, lines_of_end, length_lines_of}
 use Rattle.prl_plan.specs.declared.events.Event.{Event}
 use Rattle.prl_replay.specs.declared.schedules.ScheduleFault.{ScheduleFault}
 use Rattle.prl_replay.specs.Schedules.{or_line, event_of, without_return, last_line, events_from}
@@ -28,7 +28,7 @@ regroup front event (Ok events) = ap Ok (append_assoc front (event ∷ []) event
 left_in-cut : (names : List (List ℕ)) (k : ℕ) (text line behind : List ℕ) → cut_line text ≡ Some (line, behind)
     → events_from names k (lines_of text) ≡ (or_line k (event_of names (without_return line)) >>= then_events (events_from names (k + 1) (lines_of behind)))
 left_in-cut names k text line behind cut =
-    ap (events_from names k) (lines_of-cut text line behind cut) ∙ events_from-cons names k line (lines_of behind) (length-lines_of behind)
+    ap (events_from names k) (lines_of_cut text line behind cut) ∙ events_from-cons names k line (lines_of behind) (length_lines_of behind)
 
 -- a line that is an event puts it behind those in front
 pub with_front-event : (names : List (List ℕ)) (k : ℕ) (front : List Event) (text line behind : List ℕ) (event : Event) → cut_line text ≡ Some (line, behind)
@@ -49,7 +49,7 @@ with_front-fault names k front text line behind fault cut read =
 -- where nothing is left, the events in front are all
 pub with_front-end : (names : List (List ℕ)) (k : ℕ) (front : List Event) (text : List ℕ) → cut_line text ≡ None → length text ≡ 0
     → with_front front (events_from names k (lines_of text)) ≡ Ok front
-with_front-end names k front [] e none = ap (λ l. with_front front (events_from names k l)) (lines_of-end [] e) ∙ ap Ok (append-nil front)
+with_front-end names k front [] e none = ap (λ l. with_front front (events_from names k l)) (lines_of_end [] e) ∙ ap Ok (append-nil front)
 with_front-end names k front (b ∷ bs) e none = absurd (omega arith)
 
 -- where more is left, it is a line
@@ -57,7 +57,7 @@ pub with_front-last : (names : List (List ℕ)) (k : ℕ) (front : List Event) (
     → with_front front (events_from names k (lines_of text)) ≡ (or_line k (event_of names text) >>= λ event. Ok (front ++ event ∷ []))
 with_front-last names k front [] e some = absurd (some refl)
 with_front-last names k front (b ∷ bs) e some =
-    ap (λ l. with_front front (events_from names k l)) (lines_of-end (b ∷ bs) e) ∙ regroup_last front (or_line k (event_of names (b ∷ bs)))
+    ap (λ l. with_front front (events_from names k l)) (lines_of_end (b ∷ bs) e) ∙ regroup_last front (or_line k (event_of names (b ∷ bs)))
   where
     regroup_last : (front : List Event) (read : Result Event ScheduleFault)
         → with_front front (read >>= λ event. Ok (event ∷ [])) ≡ (read >>= λ event. Ok (front ++ event ∷ []))

@@ -1,7 +1,7 @@
 use Rattle.std.proofs.Common.{◌≡◌, ap, sym, ◌∙◌, vec_items, vec_len, ◌++◌, [], ◌∷◌, length, ℕ}
 use Rattle.prl_app.proofs.RowLines.{with_front, left_in, with_front-row, with_front-no_row, with_front-end, with_front-open, values_from-numbers}
 use Rattle.prl_base.specs.Lines.{lines_of}
-use Rattle.prl_base.proofs.LineCuts.{option_map-none}
+use Rattle.prl_base.proofs.LineCuts.{option_map_none}
 use borrow.Author.Tests.{eqb-true, eqb-false}
 use Rattle.prl_app.specs.Rows.{row_value}
 use Rattle.prl_app.proofs.rows.rows_of.Goals as goal
@@ -22,19 +22,19 @@ loop-line-preserved c =
 
 pub returns-then-is_empty-clause-exact : goal.returns-then-is_empty-clause-exact
 returns-then-is_empty-clause-exact c =
-    let cut = option_map-none _ c.cut_line.result _ c.cut_line.ensures c.in_default.not-Some in
+    let cut = option_map_none _ c.cut_line.result _ c.cut_line.ensures c.in_default.not-Some in
     let none : length c.loop-line.rest.now ≡ 0 = eqb-true _ _ (sym c.is_empty.ensures ∙ c.if-is_empty.true) in
     sym (with_front-end c.args.name.now (vec_len c.loop-line.values) (vec_items c.loop-line.values) c.loop-line.rest.now cut none) ∙ c.loop-line.invariant
 
 pub returns-then-is_empty-clause-numbers : goal.returns-then-is_empty-clause-numbers
 returns-then-is_empty-clause-numbers c =
-    let cut = option_map-none _ c.cut_line.result _ c.cut_line.ensures c.in_default.not-Some in
+    let cut = option_map_none _ c.cut_line.result _ c.cut_line.ensures c.in_default.not-Some in
     let none : length c.loop-line.rest.now ≡ 0 = eqb-true _ _ (sym c.is_empty.ensures ∙ c.if-is_empty.true) in
     values_from-numbers c.args.name.now 0 (lines_of c.args.text.now) (vec_items c.loop-line.values)
     (sym c.loop-line.invariant ∙ with_front-end c.args.name.now (vec_len c.loop-line.values) (vec_items c.loop-line.values) c.loop-line.rest.now cut none)
 
 pub returns-else-is_empty-clause-exact : goal.returns-else-is_empty-clause-exact
 returns-else-is_empty-clause-exact c =
-    let cut = option_map-none _ c.cut_line.result _ c.cut_line.ensures c.in_default.not-Some in
+    let cut = option_map_none _ c.cut_line.result _ c.cut_line.ensures c.in_default.not-Some in
     let some : length c.loop-line.rest.now ≡ 0 → ⊥ = eqb-false _ _ (sym c.is_empty.ensures ∙ c.if-is_empty.false) in
     sym (with_front-open c.args.name.now (vec_len c.loop-line.values) (vec_items c.loop-line.values) c.loop-line.rest.now cut some) ∙ c.loop-line.invariant

@@ -4,7 +4,7 @@ use Rattle.std.proofs.lemmas.List.Elements.{All-push}
 use borrow.Author.Tests.{eqb-true, eqb-false}
 use Rattle.prl_base.specs.Lines.{lines_of}
 use Rattle.prl_base.specs.Reading.{FailsAs, ◌>>=◌}
-use Rattle.prl_base.proofs.LineCuts.{option_map-none, length-cut}
+use Rattle.prl_base.proofs.LineCuts.{option_map_none, length_cut}
 use Rattle.prl_plan.specs.declared.events.Event.{Event}
 use Rattle.prl_replay.specs.declared.schedules.ScheduleFault.{ScheduleFault}
 use Rattle.prl_replay.specs.declared.schedules.ScheduleFault.TheVariants as faults
@@ -28,7 +28,7 @@ returns-in-Err-clause-exact c =
 pub loop-line-preserved : goal.loop-line-preserved
 loop-line-preserved c =
     let read = ap (λ (line : List ℕ). or_line c.loop-line.number (event_of c.args.names.now line)) (sym c.without_return.ensures) ∙ c.in-Ok.ensures.exact in
-    let shorter = length-cut c.loop-line.rest.now c.in-Some.line.now c.in-Some.behind.now (sym c.in-Some.ensures) in
+    let shorter = length_cut c.loop-line.rest.now c.in-Some.line.now c.in-Some.behind.now (sym c.in-Some.ensures) in
     record {
       told = ap (λ front. with_front front (events_from c.args.names.now (c.loop-line.number + 1) (lines_of c.in-Some.behind.now))) c.in_ok-push-in-Ok.ensures.items
           ∙ with_front-event c.args.names.now c.loop-line.number (vec_items c.loop-line.events) c.loop-line.rest.now c.in-Some.line.now c.in-Some.behind.now c.in-Ok.event (sym c.in-Some.ensures) read
@@ -40,7 +40,7 @@ loop-line-preserved c =
 
 pub returns-in-Err-event_at-clause-exact : goal.returns-in-Err-event_at-clause-exact
 returns-in-Err-event_at-clause-exact c =
-    let cut = option_map-none _ c.cut_line.result _ c.cut_line.ensures c.in_default.not-Some in
+    let cut = option_map_none _ c.cut_line.result _ c.cut_line.ensures c.in_default.not-Some in
     let some : length c.loop-line.rest.now ≡ 0 → ⊥ = eqb-false _ _ (sym c.is_empty.ensures ∙ c.if-is_empty.false) in
     fails c.in-Err-event_at.fault (or_line c.loop-line.number (event_of c.args.names.now c.loop-line.rest.now)) (schedule_of c.args.names.now c.args.text.now) c.in-Err-event_at.ensures.exact
     (λ f e. sym c.loop-line.invariant.told
@@ -49,7 +49,7 @@ returns-in-Err-event_at-clause-exact c =
 
 pub returns-clause-exact : goal.returns-clause-exact
 returns-clause-exact c =
-    let cut = option_map-none _ c.cut_line.result _ c.cut_line.ensures c.in_default.not-Some in
+    let cut = option_map_none _ c.cut_line.result _ c.cut_line.ensures c.in_default.not-Some in
     let some : length c.loop-line.rest.now ≡ 0 → ⊥ = eqb-false _ _ (sym c.is_empty.ensures ∙ c.if-is_empty.false) in
     sym c.loop-line.invariant.told
     ∙ with_front-last c.args.names.now c.loop-line.number (vec_items c.loop-line.events) c.loop-line.rest.now cut some
