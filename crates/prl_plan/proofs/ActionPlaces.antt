@@ -12,21 +12,21 @@ use Rattle.prl_plan.specs.declared.walks.Operand.{Operand}
 use Rattle.prl_plan.specs.declared.walks.Operand.TheVariants as operands
 use Rattle.prl_plan.specs.Operands.{operand_of}
 use Rattle.prl_plan.specs.Precedence.{ComesFrom}
-use Rattle.prl_plan.specs.Plans.{PlanView, place_on, cell_of, reading, reads_of, writing, writes_of, actions_of}
+use Rattle.prl_plan.specs.Plans.{PlanView, place_on, cell_of, low, high, both_writes, IsHalfOf, reading, reads_of, writing, writes_of, actions_of}
 use Rattle.prl_plan.proofs.UsedLaws.{test-same}
 
--- the action is no end; it is a write to edge f
+-- the action is no end; it is a write to edge f and slot h
 abbrev pub GoesOn : Action → Type 0
 GoesOn (actions.ReadConst port value) = Unit {0}
 GoesOn (actions.Read port edge m cell) = Unit {0}
 GoesOn (actions.Write edge m cell) = Unit {0}
 GoesOn actions.End = ⊥
 
-abbrev pub WritesTo : ℕ → Action → Type 0
-WritesTo f (actions.ReadConst port value) = ⊥
-WritesTo f (actions.Read port edge m cell) = ⊥
-WritesTo f (actions.Write edge m cell) = edge.0 ≡ f
-WritesTo f actions.End = ⊥
+abbrev pub WritesTo : ℕ → ℕ → Action → Type 0
+WritesTo f h (actions.ReadConst port value) = ⊥
+WritesTo f h (actions.Read port edge m slot) = ⊥
+WritesTo f h (actions.Write edge m slot) = (edge.0 ≡ f) × (slot.0 ≡ h)
+WritesTo f h actions.End = ⊥
 
 abbrev pub Each : (Action → Type 0) → List Action → Type 0
 Each P xs = (k : ℕ) → k < length xs → P (get_or xs k actions.End)
@@ -106,40 +106,66 @@ stands-second xs ys x s = record {
   is = get_or-append-add xs ys s.place actions.End ∙ s.is;
 }
 
-length-test : (b : Bool) (x : Action) → length (cond b (x ∷ []) []) ≤ 1
-length-test true x = omega arith
-length-test false x = omega arith
+length-test : (b : Bool) (xs : List Action) → length (cond b xs []) ≤ length xs
+length-test true xs = omega arith
+length-test false xs = omega arith
+
+each-pair : (P : Action → Type 0) → (x y : Action) → P x → P y → Each P (x ∷ y ∷ [])
+each-pair P x y is is' zero inside = is
+each-pair P x y is is' (suc zero) inside = is'
+each-pair P x y is is' (suc (suc k)) inside = absurd (omega arith)
+
+-- under a test, at most as much holds as of the list itself
+unique-if : (P : Action → Type 0) → (P actions.End → ⊥) → (b : Bool) (xs : List Action) → Unique P xs → Unique P (cond b xs [])
+unique-if P end true xs unique k l h g = unique k l h g
+unique-if P end false xs unique k l h g = absurd (end h)
+
+none-if : (P : Action → Type 0) → (P actions.End → ⊥) → (b : Bool) (xs : List Action) → NoneOf P xs → NoneOf P (cond b xs [])
+none-if P end true xs none k h = none k h
+none-if P end false xs none k h = end h
+
+pub stands-if : (b : Bool) → b ≡ true → (xs : List Action) (x : Action) → Stands xs x → Stands (cond b xs []) x
+stands-if true is xs x s = s
+stands-if false is xs x s = cc
 
 module _ (plan : PlanView) (i n : ℕ) where
-  reading-on : (e : ℕ) (edge : Edge) (operand : Operand) → GoesOn (reading plan e edge operand)
-  reading-on e edge (operands.Const c) = tt
-  reading-on e edge (operands.From m) = tt
+  reading-on : (e : ℕ) (edge : Edge) (operand : Operand) → Each GoesOn (reading plan e edge operand)
+  reading-on e edge (operands.Const c) = each-single GoesOn (actions.ReadConst edge.port c) tt
+  reading-on e edge (operands.From m) =
+      each-pair GoesOn (actions.Read edge.port (record { 0 = e }) m (record { 0 = low (cell_of plan e m) }))
+      (actions.Read edge.port (record { 0 = e }) m (record { 0 = high (cell_of plan e m) })) tt tt
 
-  reading-no-write : (f e : ℕ) (edge : Edge) (operand : Operand) → WritesTo f (reading plan e edge operand) → ⊥
-  reading-no-write f e edge (operands.Const c) h = h
-  reading-no-write f e edge (operands.From m) h = h
+  reading-no-write : (f h e : ℕ) (edge : Edge) (operand : Operand) → NoneOf (WritesTo f h) (reading plan e edge operand)
+  reading-no-write f h e edge (operands.Const c) zero x = x
+  reading-no-write f h e edge (operands.Const c) (suc k) x = x
+  reading-no-write f h e edge (operands.From m) zero x = x
+  reading-no-write f h e edge (operands.From m) (suc zero) x = x
+  reading-no-write f h e edge (operands.From m) (suc (suc k)) x = x
 
   reads-on : (e : ℕ) (edges : List Edge) → Each GoesOn (reads_of plan i n e edges)
   reads-on e [] k inside = absurd (omega arith)
   reads-on e (edge ∷ edges) k inside =
-      each-both GoesOn (cond (eqb edge.to.0 i) (reading plan e edge (operand_of edge n) ∷ []) []) (reads_of plan i n (e + 1) edges)
-      (each-test GoesOn (eqb edge.to.0 i) (reading plan e edge (operand_of edge n) ∷ [])
-      (each-single GoesOn (reading plan e edge (operand_of edge n)) (reading-on e edge (operand_of edge n))))
+      each-both GoesOn (cond (eqb edge.to.0 i) (reading plan e edge (operand_of edge n)) []) (reads_of plan i n (e + 1) edges)
+      (each-test GoesOn (eqb edge.to.0 i) (reading plan e edge (operand_of edge n)) (reading-on e edge (operand_of edge n)))
       (reads-on (e + 1) edges) k inside
 
-  reads-no-write : (f e : ℕ) (edges : List Edge) → NoneOf (WritesTo f) (reads_of plan i n e edges)
-  reads-no-write f e [] k h = h
-  reads-no-write f e (edge ∷ edges) k h =
-      none-test (WritesTo f) (λ x. x) (eqb edge.to.0 i) (reading plan e edge (operand_of edge n)) (reading-no-write f e edge (operand_of edge n)) k
-      (none-second (WritesTo f) (cond (eqb edge.to.0 i) (reading plan e edge (operand_of edge n) ∷ []) []) (reads_of plan i n (e + 1) edges)
-      (reads-no-write f (e + 1) edges) k h)
+  reads-no-write : (f h e : ℕ) (edges : List Edge) → NoneOf (WritesTo f h) (reads_of plan i n e edges)
+  reads-no-write f h e [] k x = x
+  reads-no-write f h e (edge ∷ edges) k x =
+      none-if (WritesTo f h) (λ y. y) (eqb edge.to.0 i) (reading plan e edge (operand_of edge n)) (reading-no-write f h e edge (operand_of edge n)) k
+      (none-second (WritesTo f h) (cond (eqb edge.to.0 i) (reading plan e edge (operand_of edge n)) []) (reads_of plan i n (e + 1) edges)
+      (reads-no-write f h (e + 1) edges) k x)
+
+  both-on : (e : ℕ) → Each GoesOn (both_writes plan e n)
+  both-on e =
+      each-pair GoesOn (actions.Write (record { 0 = e }) n (record { 0 = low (cell_of plan e n) }))
+      (actions.Write (record { 0 = e }) n (record { 0 = high (cell_of plan e n) })) tt tt
 
   writing-on : (e : ℕ) (from : Producer) → Each GoesOn (writing plan i n e from)
   writing-on e (producers.Constant value) k inside = absurd (omega arith)
   writing-on e (producers.Port task out) k inside =
-      each-test GoesOn (eqb task.0 i) (cond (is_some (place_on plan e n)) (actions.Write (record { 0 = e }) n (record { 0 = cell_of plan e n }) ∷ []) [])
-      (each-test GoesOn (is_some (place_on plan e n)) (actions.Write (record { 0 = e }) n (record { 0 = cell_of plan e n }) ∷ [])
-      (each-single GoesOn (actions.Write (record { 0 = e }) n (record { 0 = cell_of plan e n })) tt)) k inside
+      each-test GoesOn (eqb task.0 i) (cond (is_some (place_on plan e n)) (both_writes plan e n) [])
+      (each-test GoesOn (is_some (place_on plan e n)) (both_writes plan e n) (both-on e)) k inside
 
   writes-on : (e : ℕ) (edges : List Edge) → Each GoesOn (writes_of plan i n e edges)
   writes-on e [] k inside = absurd (omega arith)
@@ -147,49 +173,59 @@ module _ (plan : PlanView) (i n : ℕ) where
       each-both GoesOn (writing plan i n e edge.from) (writes_of plan i n (e + 1) edges) (writing-on e edge.from) (writes-on (e + 1) edges) k inside
 
   -- the writes of edge e on are to edge e and later ones
-  writing-else : (f e : ℕ) → (e ≡ f → ⊥) → (from : Producer) → NoneOf (WritesTo f) (writing plan i n e from)
-  writing-else f e other (producers.Constant value) k h = h
-  writing-else f e other (producers.Port task out) k h = go (eqb task.0 i) h
-    where
-      go : (b : Bool) → WritesTo f (get_or (cond b (cond (is_some (place_on plan e n)) (actions.Write (record { 0 = e }) n (record { 0 = cell_of plan e n }) ∷ []) []) []) k actions.End) → ⊥
-      go true g = none-test (WritesTo f) (λ x. x) (is_some (place_on plan e n)) (actions.Write (record { 0 = e }) n (record { 0 = cell_of plan e n })) other k g
-      go false g = g
+  both-else : (f h e : ℕ) → (e ≡ f → ⊥) → NoneOf (WritesTo f h) (both_writes plan e n)
+  both-else f h e other zero x = other x.0
+  both-else f h e other (suc zero) x = other x.0
+  both-else f h e other (suc (suc k)) x = x
 
-  writes-later : (f e : ℕ) (edges : List Edge) → f < e → NoneOf (WritesTo f) (writes_of plan i n e edges)
-  writes-later f e [] before k h = h
-  writes-later f e (edge ∷ edges) before k h =
-      writing-else f e (λ same. omega (arith, same, before)) edge.from k
-      (none-second (WritesTo f) (writing plan i n e edge.from) (writes_of plan i n (e + 1) edges) (writes-later f (e + 1) edges (omega arith)) k h)
+  writing-else : (f h e : ℕ) → (e ≡ f → ⊥) → (from : Producer) → NoneOf (WritesTo f h) (writing plan i n e from)
+  writing-else f h e other (producers.Constant value) k x = x
+  writing-else f h e other (producers.Port task out) k x =
+      none-if (WritesTo f h) (λ y. y) (eqb task.0 i) (cond (is_some (place_on plan e n)) (both_writes plan e n) [])
+      (none-if (WritesTo f h) (λ y. y) (is_some (place_on plan e n)) (both_writes plan e n) (both-else f h e other)) k x
 
-  writing-once : (f e : ℕ) (from : Producer) → Unique (WritesTo f) (writing plan i n e from)
-  writing-once f e (producers.Constant value) k l h g = absurd h
-  writing-once f e (producers.Port task out) k l h g = go (eqb task.0 i) h g
-    where
-      go : (b : Bool) → WritesTo f (get_or (cond b (cond (is_some (place_on plan e n)) (actions.Write (record { 0 = e }) n (record { 0 = cell_of plan e n }) ∷ []) []) []) k actions.End) →
-          WritesTo f (get_or (cond b (cond (is_some (place_on plan e n)) (actions.Write (record { 0 = e }) n (record { 0 = cell_of plan e n }) ∷ []) []) []) l actions.End) → k ≡ l
-      go true x y = unique-test (WritesTo f) (λ z. z) (is_some (place_on plan e n)) (actions.Write (record { 0 = e }) n (record { 0 = cell_of plan e n })) k l x y
-      go false x y = absurd x
+  writes-later : (f h e : ℕ) (edges : List Edge) → f < e → NoneOf (WritesTo f h) (writes_of plan i n e edges)
+  writes-later f h e [] before k x = x
+  writes-later f h e (edge ∷ edges) before k x =
+      writing-else f h e (λ same. omega (arith, same, before)) edge.from k
+      (none-second (WritesTo f h) (writing plan i n e edge.from) (writes_of plan i n (e + 1) edges) (writes-later f h (e + 1) edges (omega arith)) k x)
 
-  writes-once : (f e : ℕ) (edges : List Edge) → Unique (WritesTo f) (writes_of plan i n e edges)
-  writes-once f e [] k l h g = absurd h
-  writes-once f e (edge ∷ edges) k l h g =
+  -- the two writes are to different halves
+  both-once : (f h e : ℕ) → Unique (WritesTo f h) (both_writes plan e n)
+  both-once f h e zero zero x y = refl
+  both-once f h e zero (suc zero) x y = absurd (let a : 2 * cell_of plan e n ≡ h = x.1 in let b : 2 * cell_of plan e n + 1 ≡ h = y.1 in omega (arith, a, b))
+  both-once f h e zero (suc (suc l)) x y = absurd y
+  both-once f h e (suc zero) zero x y = absurd (let a : 2 * cell_of plan e n + 1 ≡ h = x.1 in let b : 2 * cell_of plan e n ≡ h = y.1 in omega (arith, a, b))
+  both-once f h e (suc zero) (suc zero) x y = refl
+  both-once f h e (suc zero) (suc (suc l)) x y = absurd y
+  both-once f h e (suc (suc k)) l x y = absurd x
+
+  writing-once : (f h e : ℕ) (from : Producer) → Unique (WritesTo f h) (writing plan i n e from)
+  writing-once f h e (producers.Constant value) k l x y = absurd x
+  writing-once f h e (producers.Port task out) k l x y =
+      unique-if (WritesTo f h) (λ z. z) (eqb task.0 i) (cond (is_some (place_on plan e n)) (both_writes plan e n) [])
+      (unique-if (WritesTo f h) (λ z. z) (is_some (place_on plan e n)) (both_writes plan e n) (both-once f h e)) k l x y
+
+  writes-once : (f h e : ℕ) (edges : List Edge) → Unique (WritesTo f h) (writes_of plan i n e edges)
+  writes-once f h e [] k l x y = absurd x
+  writes-once f h e (edge ∷ edges) k l x y =
       elim (cases_eq e f) [
-        | inl same ↦ unique-first (WritesTo f) (writing plan i n e edge.from) (writes_of plan i n (e + 1) edges)
-            (writing-once f e edge.from) (writes-later f (e + 1) edges (omega (arith, same))) k l h g
-        | inr other ↦ unique-second (WritesTo f) (writing plan i n e edge.from) (writes_of plan i n (e + 1) edges)
-            (writing-else f e other edge.from) (writes-once f (e + 1) edges) k l h g
+        | inl same ↦ unique-first (WritesTo f h) (writing plan i n e edge.from) (writes_of plan i n (e + 1) edges)
+            (writing-once f h e edge.from) (writes-later f h (e + 1) edges (omega (arith, same))) k l x y
+        | inr other ↦ unique-second (WritesTo f h) (writing plan i n e edge.from) (writes_of plan i n (e + 1) edges)
+            (writing-else f h e other edge.from) (writes-once f h (e + 1) edges) k l x y
       ]
 
-  no-end : (f : ℕ) → NoneOf (WritesTo f) (actions.End ∷ [])
-  no-end f zero h = h
-  no-end f (suc k) h = h
+  no-end : (f h : ℕ) → NoneOf (WritesTo f h) (actions.End ∷ [])
+  no-end f h zero x = x
+  no-end f h (suc k) x = x
 
-  -- a job writes to each edge at most once
-  pub once-on : (f : ℕ) → Unique (WritesTo f) (actions_of plan i n)
-  once-on f =
-      unique-first (WritesTo f) (reads_of plan i n 0 plan.graph.edges ++ writes_of plan i n 0 plan.graph.edges) (actions.End ∷ [])
-      (unique-second (WritesTo f) (reads_of plan i n 0 plan.graph.edges) (writes_of plan i n 0 plan.graph.edges)
-      (reads-no-write f 0 plan.graph.edges) (writes-once f 0 plan.graph.edges)) (no-end f)
+  -- a job writes to each half on an edge at most once
+  pub once-on : (f h : ℕ) → Unique (WritesTo f h) (actions_of plan i n)
+  once-on f h =
+      unique-first (WritesTo f h) (reads_of plan i n 0 plan.graph.edges ++ writes_of plan i n 0 plan.graph.edges) (actions.End ∷ [])
+      (unique-second (WritesTo f h) (reads_of plan i n 0 plan.graph.edges) (writes_of plan i n 0 plan.graph.edges)
+      (reads-no-write f h 0 plan.graph.edges) (writes-once f h 0 plan.graph.edges)) (no-end f h)
 
   pub ends-last : (place later : ℕ) → get_or (actions_of plan i n) place actions.End ≡ actions.End → place < later →
       get_or (actions_of plan i n) later actions.End ≡ actions.End
@@ -198,54 +234,52 @@ module _ (plan : PlanView) (i n : ℕ) where
       (each-both GoesOn (reads_of plan i n 0 plan.graph.edges) (writes_of plan i n 0 plan.graph.edges)
       (reads-on 0 plan.graph.edges) (writes-on 0 plan.graph.edges)) place later ends before
 
-  writing-stands : (e : ℕ) (from : Producer) → ComesFrom from i → is_some (place_on plan e n) ≡ true →
-      Stands (writing plan i n e from) (actions.Write (record { 0 = e }) n (record { 0 = cell_of plan e n }))
-  writing-stands e (producers.Constant value) comes used = absurd comes
-  writing-stands e (producers.Port task out) comes used =
-      subst (λ (b : Bool). Stands (cond b (cond (is_some (place_on plan e n)) (actions.Write (record { 0 = e }) n (record { 0 = cell_of plan e n }) ∷ []) []) [])
-      (actions.Write (record { 0 = e }) n (record { 0 = cell_of plan e n }))) (sym (test-same task.0 i comes))
-      (subst (λ (b : Bool). Stands (cond b (actions.Write (record { 0 = e }) n (record { 0 = cell_of plan e n }) ∷ []) [])
-      (actions.Write (record { 0 = e }) n (record { 0 = cell_of plan e n }))) (sym used)
-      (record { place = 0; inside = (let z : 0 < 1 = omega arith in z); is = refl }))
+  writing-stands : (e : ℕ) (from : Producer) → ComesFrom from i → is_some (place_on plan e n) ≡ true → (x : Action) → Stands (both_writes plan e n) x →
+      Stands (writing plan i n e from) x
+  writing-stands e (producers.Constant value) comes used x s = absurd comes
+  writing-stands e (producers.Port task out) comes used x s =
+      stands-if (eqb task.0 i) (test-same task.0 i comes) (cond (is_some (place_on plan e n)) (both_writes plan e n) []) x
+      (stands-if (is_some (place_on plan e n)) used (both_writes plan e n) x s)
 
   writes-stand : (e : ℕ) (edges : List Edge) (k : ℕ) (edge : Edge) → slice_get edges k ≡ Some edge → ComesFrom edge.from i →
-      is_some (place_on plan (e + k) n) ≡ true →
-      Stands (writes_of plan i n e edges) (actions.Write (record { 0 = e + k }) n (record { 0 = cell_of plan (e + k) n }))
-  writes-stand e [] k edge is comes used = cc
-  writes-stand e (x ∷ edges) zero edge is comes used =
+      is_some (place_on plan (e + k) n) ≡ true → (x : Action) → Stands (both_writes plan (e + k) n) x →
+      Stands (writes_of plan i n e edges) x
+  writes-stand e [] k edge is comes used a s = cc
+  writes-stand e (x ∷ edges) zero edge is comes used a s =
       let one : x ≡ edge = cc in
       let at : e + 0 ≡ e = omega arith in
-      subst (λ (f : ℕ). Stands (writes_of plan i n e (x ∷ edges)) (actions.Write (record { 0 = f }) n (record { 0 = cell_of plan f n }))) (sym at)
-      (stands-first (writing plan i n e x.from) (writes_of plan i n (e + 1) edges) (actions.Write (record { 0 = e }) n (record { 0 = cell_of plan e n }))
+      stands-first (writing plan i n e x.from) (writes_of plan i n (e + 1) edges) a
       (writing-stands e x.from (subst (λ (y : Edge). ComesFrom y.from i) (sym one) comes)
-      (subst (λ (f : ℕ). is_some (place_on plan f n) ≡ true) at used)))
-  writes-stand e (x ∷ edges) (suc k) edge is comes used =
+      (subst (λ (f : ℕ). is_some (place_on plan f n) ≡ true) at used) a (subst (λ (f : ℕ). Stands (both_writes plan f n) a) at s))
+  writes-stand e (x ∷ edges) (suc k) edge is comes used a s =
       let at : e + 1 + k ≡ e + suc k = omega arith in
-      stands-second (writing plan i n e x.from) (writes_of plan i n (e + 1) edges) (actions.Write (record { 0 = e + suc k }) n (record { 0 = cell_of plan (e + suc k) n }))
-      (subst (λ (f : ℕ). Stands (writes_of plan i n (e + 1) edges) (actions.Write (record { 0 = f }) n (record { 0 = cell_of plan f n }))) at
-      (writes-stand (e + 1) edges k edge is comes (subst (λ (f : ℕ). is_some (place_on plan f n) ≡ true) (sym at) used)))
+      stands-second (writing plan i n e x.from) (writes_of plan i n (e + 1) edges) a
+      (writes-stand (e + 1) edges k edge is comes (subst (λ (f : ℕ). is_some (place_on plan f n) ≡ true) (sym at) used) a
+      (subst (λ (f : ℕ). Stands (both_writes plan f n) a) (sym at) s))
 
-  -- to each edge from its task whose instance is used, a job writes
+  -- to each edge from its task whose instance is used, a job writes both halves
   pub write-stands : (e : ℕ) (edge : Edge) → slice_get plan.graph.edges e ≡ Some edge → ComesFrom edge.from i → is_some (place_on plan e n) ≡ true →
-      Stands (actions_of plan i n) (actions.Write (record { 0 = e }) n (record { 0 = cell_of plan e n }))
-  write-stands e edge is comes used =
+      (x : Action) → Stands (both_writes plan e n) x → Stands (actions_of plan i n) x
+  write-stands e edge is comes used x s =
       let at : 0 + e ≡ e = omega arith in
-      stands-first (reads_of plan i n 0 plan.graph.edges ++ writes_of plan i n 0 plan.graph.edges) (actions.End ∷ [])
-      (actions.Write (record { 0 = e }) n (record { 0 = cell_of plan e n }))
-      (stands-second (reads_of plan i n 0 plan.graph.edges) (writes_of plan i n 0 plan.graph.edges)
-      (actions.Write (record { 0 = e }) n (record { 0 = cell_of plan e n }))
-      (subst (λ (f : ℕ). Stands (writes_of plan i n 0 plan.graph.edges) (actions.Write (record { 0 = f }) n (record { 0 = cell_of plan f n }))) at
-      (writes-stand 0 plan.graph.edges e edge is comes (subst (λ (f : ℕ). is_some (place_on plan f n) ≡ true) (sym at) used))))
+      stands-first (reads_of plan i n 0 plan.graph.edges ++ writes_of plan i n 0 plan.graph.edges) (actions.End ∷ []) x
+      (stands-second (reads_of plan i n 0 plan.graph.edges) (writes_of plan i n 0 plan.graph.edges) x
+      (writes-stand 0 plan.graph.edges e edge is comes (subst (λ (f : ℕ). is_some (place_on plan f n) ≡ true) (sym at) used) x
+      (subst (λ (f : ℕ). Stands (both_writes plan f n) x) (sym at) s)))
 
-  length-writing : (e : ℕ) (from : Producer) → length (writing plan i n e from) ≤ 1
+  -- a half of the cell is one of the two that are written
+  pub half-stands : (e slot : ℕ) → IsHalfOf (cell_of plan e n) slot → Stands (both_writes plan e n) (actions.Write (record { 0 = e }) n (record { 0 = slot }))
+  half-stands e slot (inl is) = record { place = 0; inside = (let z : 0 < 2 = omega arith in z); is = ap (λ (x : ℕ). actions.Write (record { 0 = e }) n (record { 0 = x })) (sym is) }
+  half-stands e slot (inr is) = record { place = 1; inside = (let z : 1 < 2 = omega arith in z); is = ap (λ (x : ℕ). actions.Write (record { 0 = e }) n (record { 0 = x })) (sym is) }
+
+  length-writing : (e : ℕ) (from : Producer) → length (writing plan i n e from) ≤ 2
   length-writing e (producers.Constant value) = omega arith
-  length-writing e (producers.Port task out) = go (eqb task.0 i)
-    where
-      go : (b : Bool) → length (cond b (cond (is_some (place_on plan e n)) (actions.Write (record { 0 = e }) n (record { 0 = cell_of plan e n }) ∷ []) []) []) ≤ 1
-      go true = length-test (is_some (place_on plan e n)) (actions.Write (record { 0 = e }) n (record { 0 = cell_of plan e n }))
-      go false = omega arith
+  length-writing e (producers.Port task out) =
+      let a = length-test (eqb task.0 i) (cond (is_some (place_on plan e n)) (both_writes plan e n) []) in
+      let b = length-test (is_some (place_on plan e n)) (both_writes plan e n) in
+      omega (arith, a, b)
 
-  length-writes : (e : ℕ) (edges : List Edge) → length (writes_of plan i n e edges) ≤ length edges
+  length-writes : (e : ℕ) (edges : List Edge) → length (writes_of plan i n e edges) ≤ 2 * length edges
   length-writes e [] = omega arith
   length-writes e (edge ∷ edges) =
       let a = length-append (writing plan i n e edge.from) (writes_of plan i n (e + 1) edges) in
@@ -253,15 +287,20 @@ module _ (plan : PlanView) (i n : ℕ) where
       let c = length-writes (e + 1) edges in
       omega (arith, a, b, c)
 
-  length-reads : (e : ℕ) (edges : List Edge) → length (reads_of plan i n e edges) ≤ length edges
+  length-reading : (e : ℕ) (edge : Edge) (operand : Operand) → length (reading plan e edge operand) ≤ 2
+  length-reading e edge (operands.Const c) = omega arith
+  length-reading e edge (operands.From m) = omega arith
+
+  length-reads : (e : ℕ) (edges : List Edge) → length (reads_of plan i n e edges) ≤ 2 * length edges
   length-reads e [] = omega arith
   length-reads e (edge ∷ edges) =
-      let a = length-append (cond (eqb edge.to.0 i) (reading plan e edge (operand_of edge n) ∷ []) []) (reads_of plan i n (e + 1) edges) in
+      let a = length-append (cond (eqb edge.to.0 i) (reading plan e edge (operand_of edge n)) []) (reads_of plan i n (e + 1) edges) in
       let b = length-test (eqb edge.to.0 i) (reading plan e edge (operand_of edge n)) in
+      let d = length-reading e edge (operand_of edge n) in
       let c = length-reads (e + 1) edges in
-      omega (arith, a, b, c)
+      omega (arith, a, b, c, d)
 
-  pub length-actions : length (actions_of plan i n) ≤ 2 * length plan.graph.edges + 1
+  pub length-actions : length (actions_of plan i n) ≤ 4 * length plan.graph.edges + 1
   length-actions =
       let r = reads_of plan i n 0 plan.graph.edges in
       let w = writes_of plan i n 0 plan.graph.edges in

@@ -1,5 +1,5 @@
 -- The actions of a job are what the definitions of operands and cells say.
-use Rattle.std.proofs.Common.{◌≡◌, ◌+◌, ◌<◌, ◌++◌, ℕ, zero, suc, Bool, true, false, List, [], ◌∷◌, length, get_or, refl, sym, ◌∙◌, ap, subst, arith, cond, eqb}
+use Rattle.std.proofs.Common.{◌≡◌, ◌+◌, ◌<◌, ◌++◌, ℕ, zero, suc, Bool, true, false, List, [], ◌∷◌, length, get_or, inl, inr, refl, sym, ◌∙◌, ap, subst, arith, cond, eqb}
 use Rattle.std.specs.Prelude.{is_some}
 use Rattle.std.proofs.lemmas.Bool.Decides.{nat_tests}
 use Rattle.prl_plan.specs.declared.events.Action.{Action}
@@ -11,7 +11,7 @@ use Rattle.prl_plan.specs.declared.walks.Operand.{Operand}
 use Rattle.prl_plan.specs.declared.walks.Operand.TheVariants as operands
 use Rattle.prl_plan.specs.Operands.{operand_of}
 use Rattle.prl_plan.specs.Precedence.{ComesFrom}
-use Rattle.prl_plan.specs.Plans.{PlanView, edge_at, no_edge, place_on, cell_of, reading, reads_of, writing, writes_of, actions_of, IsActionOf}
+use Rattle.prl_plan.specs.Plans.{PlanView, edge_at, no_edge, place_on, cell_of, low, high, both_writes, reading, reads_of, writing, writes_of, actions_of, IsActionOf}
 
 -- what holds of the end and of each element of two lists holds of what stands in one after the other
 each-append : (P : Action → Type 0) → (xs ys : List Action) → P actions.End → ((k : ℕ) → P (get_or xs k actions.End)) → ((k : ℕ) → P (get_or ys k actions.End)) →
@@ -19,6 +19,11 @@ each-append : (P : Action → Type 0) → (xs ys : List Action) → P actions.En
 each-append P [] ys end first second k = second k
 each-append P (x ∷ xs) ys end first second zero = first 0
 each-append P (x ∷ xs) ys end first second (suc k) = each-append P xs ys end (λ n. first (suc n)) second k
+
+each-two : (P : Action → Type 0) → (x y : Action) → P actions.End → P x → P y → (k : ℕ) → P (get_or (x ∷ y ∷ []) k actions.End)
+each-two P x y end is is' zero = is
+each-two P x y end is is' (suc zero) = is'
+each-two P x y end is is' (suc (suc k)) = end
 
 each-one : (P : Action → Type 0) → (x : Action) → P actions.End → P x → (k : ℕ) → P (get_or (x ∷ []) k actions.End)
 each-one P x end is zero = is
@@ -42,11 +47,15 @@ module _ (plan : PlanView) (i n : ℕ) where
   Stands e edges = (k : ℕ) → k < length edges → (e + k < length plan.graph.edges) × (edge_at plan.graph (e + k) ≡ get_or edges k no_edge)
 
   reading-fits : (e : ℕ) (edge : Edge) → e < length plan.graph.edges → edge_at plan.graph e ≡ edge → edge.to.0 ≡ i → (operand : Operand) →
-      operand_of edge n ≡ operand → IsActionOf plan i n (reading plan e edge operand)
-  reading-fits e edge inside is to (operands.Const c) reads =
-      (e, inside, ap (λ (x : Edge). x.to.0) is ∙ to, ap (λ (x : Edge). x.port) is, ap (λ (x : Edge). operand_of x n) is ∙ reads)
-  reading-fits e edge inside is to (operands.From m) reads =
-      (inside, ap (λ (x : Edge). x.to.0) is ∙ to, ap (λ (x : Edge). x.port) is, ap (λ (x : Edge). operand_of x n) is ∙ reads, refl)
+      operand_of edge n ≡ operand → (k : ℕ) → IsActionOf plan i n (get_or (reading plan e edge operand) k actions.End)
+  reading-fits e edge inside is to (operands.Const c) reads k =
+      each-one (IsActionOf plan i n) (actions.ReadConst edge.port c) tt
+      (e, inside, ap (λ (x : Edge). x.to.0) is ∙ to, ap (λ (x : Edge). x.port) is, ap (λ (x : Edge). operand_of x n) is ∙ reads) k
+  reading-fits e edge inside is to (operands.From m) reads k =
+      each-two (IsActionOf plan i n) (actions.Read edge.port (record { 0 = e }) m (record { 0 = low (cell_of plan e m) }))
+      (actions.Read edge.port (record { 0 = e }) m (record { 0 = high (cell_of plan e m) })) tt
+      (inside, ap (λ (x : Edge). x.to.0) is ∙ to, ap (λ (x : Edge). x.port) is, ap (λ (x : Edge). operand_of x n) is ∙ reads, inl refl)
+      (inside, ap (λ (x : Edge). x.to.0) is ∙ to, ap (λ (x : Edge). x.port) is, ap (λ (x : Edge). operand_of x n) is ∙ reads, inr refl) k
 
   here : (e : ℕ) (edge : Edge) (edges : List Edge) → Stands e (edge ∷ edges) → (e < length plan.graph.edges) × (edge_at plan.graph e ≡ edge)
   here e edge edges stands =
@@ -63,10 +72,9 @@ module _ (plan : PlanView) (i n : ℕ) where
   reads-fit : (e : ℕ) (edges : List Edge) → Stands e edges → (k : ℕ) → IsActionOf plan i n (get_or (reads_of plan i n e edges) k actions.End)
   reads-fit e [] stands k = each-none (IsActionOf plan i n) tt k
   reads-fit e (edge ∷ edges) stands k =
-      each-append (IsActionOf plan i n) (cond (eqb edge.to.0 i) (reading plan e edge (operand_of edge n) ∷ []) []) (reads_of plan i n (e + 1) edges) tt
-      (each-if (IsActionOf plan i n) (eqb edge.to.0 i) (reading plan e edge (operand_of edge n) ∷ []) tt
-      (λ test. each-one (IsActionOf plan i n) (reading plan e edge (operand_of edge n)) tt
-      (reading-fits e edge (here e edge edges stands).0 (here e edge edges stands).1 (equal edge.to.0 i test) (operand_of edge n) refl)))
+      each-append (IsActionOf plan i n) (cond (eqb edge.to.0 i) (reading plan e edge (operand_of edge n)) []) (reads_of plan i n (e + 1) edges) tt
+      (each-if (IsActionOf plan i n) (eqb edge.to.0 i) (reading plan e edge (operand_of edge n)) tt
+      (λ test. reading-fits e edge (here e edge edges stands).0 (here e edge edges stands).1 (equal edge.to.0 i test) (operand_of edge n) refl))
       (reads-fit (e + 1) edges (behind e edge edges stands)) k
 
   writing-fits : (e : ℕ) → e < length plan.graph.edges → (from : Producer) → (edge_at plan.graph e).from ≡ from → (k : ℕ) →
@@ -74,10 +82,12 @@ module _ (plan : PlanView) (i n : ℕ) where
   writing-fits e inside (producers.Constant value) is k = each-none (IsActionOf plan i n) tt k
   writing-fits e inside (producers.Port task out) is k =
       each-if (IsActionOf plan i n) (eqb task.0 i)
-      (cond (is_some (place_on plan e n)) (actions.Write (record { 0 = e }) n (record { 0 = cell_of plan e n }) ∷ []) []) tt
-      (λ own. each-if (IsActionOf plan i n) (is_some (place_on plan e n)) (actions.Write (record { 0 = e }) n (record { 0 = cell_of plan e n }) ∷ []) tt
-      (λ used. each-one (IsActionOf plan i n) (actions.Write (record { 0 = e }) n (record { 0 = cell_of plan e n })) tt
-      (inside, subst (λ (p : Producer). ComesFrom p i) (sym is) (equal task.0 i own), refl, used, refl))) k
+      (cond (is_some (place_on plan e n)) (both_writes plan e n) []) tt
+      (λ own. each-if (IsActionOf plan i n) (is_some (place_on plan e n)) (both_writes plan e n) tt
+      (λ used. each-two (IsActionOf plan i n) (actions.Write (record { 0 = e }) n (record { 0 = low (cell_of plan e n) }))
+      (actions.Write (record { 0 = e }) n (record { 0 = high (cell_of plan e n) })) tt
+      (inside, subst (λ (p : Producer). ComesFrom p i) (sym is) (equal task.0 i own), refl, used, inl refl)
+      (inside, subst (λ (p : Producer). ComesFrom p i) (sym is) (equal task.0 i own), refl, used, inr refl))) k
 
   writes-fit : (e : ℕ) (edges : List Edge) → Stands e edges → (k : ℕ) → IsActionOf plan i n (get_or (writes_of plan i n e edges) k actions.End)
   writes-fit e [] stands k = each-none (IsActionOf plan i n) tt k

@@ -33,7 +33,7 @@ module _ (c : RunConstants) (facts : HasPlanFacts c) where
       let early : c.release j k ≤ s.now = (let a : c.release j k < c.release i n = provides.release in let b : c.release i n ≤ s.now = released in omega (arith, a, b)) in
       elim (cases_lt k (get_or s.ended j 0)) [
         | inl ended ↦
-            (let lower : m + 1 ≤ get_or s.tags cell 0 = sound.written j k (before.2) m cell provides.writes (inl ended) in omega (arith, upper, lower))
+            (let lower : m + 1 ≤ get_or s.tags cell 0 = sound.tagged.written j k (before.2) m cell provides.writes (inl ended) in omega (arith, upper, lower))
         | inr left ↦ absurd
             (let unfinished : IsUnfinished c s j k = record { task = provides.writes.job.task; job = provides.writes.job.job; unfinished = left } in
             let not_after : c.deadline i n ≤ c.deadline j k = first j k unfinished early in
@@ -66,6 +66,6 @@ module _ (c : RunConstants) (facts : HasPlanFacts c) where
       let here : ℕ = get_or s.places i 0 in
       let job : IsJob c i n = record { task = has.task; job = has.job } in
       let writes : WritesAt c i n here m cell = record { job = job; action = (e, is) } in
-      let below : get_or s.tags cell 0 ≤ m = sound.ahead i n here m cell writes (inr (refl, (let z : get_or s.places i 0 ≤ get_or s.places i 0 = omega arith in z))) in
+      let below : get_or s.tags cell 0 ≤ m = sound.tagged.ahead i n here m cell writes (inr (refl, (let z : get_or s.places i 0 ≤ get_or s.places i 0 = omega arith in z))) in
       let over : c.deadline j k ≤ c.release i n = facts.over j k place l i n here m cell reads writes (omega (arith, below, holds)) in
       sound.kept j k reads.job (let r : c.release i n ≤ s.now = released in omega (arith, over, r))

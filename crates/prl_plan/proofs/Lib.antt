@@ -1,4 +1,7 @@
 pub mod Places
+pub mod Halves
+pub mod Ports
+pub mod Tagged
 pub mod Sound
 pub mod Legal
 pub mod Runs
@@ -24,3 +27,7 @@ pub mod JobTableLaws
 pub mod ReaderLaws
 pub mod GapLaws
 pub mod CellPeriods
+pub mod LastTags
+mod Progress
+-- for the crates above: lemmas over public definitions
+pub mod StateLaws

@@ -21,11 +21,15 @@ use Rattle.prl_plan.specs.Precedence.{ComesFrom, Precedes}
 use Rattle.prl_plan.specs.Graphs.{IsWellFormed, IsTask, IsEdge}
 use Rattle.prl_plan.specs.Dates.{encoded_release, encoded_deadline}
 use Rattle.prl_plan.specs.Cells.{HasCells, EnumeratesUsed, IsLeastCount, used_at, no_used}
-use Rattle.prl_plan.specs.Plans.{PlanView, IsPlan, edge_at, no_edge, release_at, deadline_at, place_on, cell_of, actions_of, IsActionOf}
+use Rattle.prl_plan.specs.Plans.{PlanView, IsPlan, edge_at, no_edge, release_at, deadline_at, place_on, cell_of, IsHalfOf, actions_of, IsActionOf}
 use Rattle.prl_plan.specs.Facts.{ReadsAt, WritesAt, Provides, HasPlanFacts}
 use Rattle.prl_plan.specs.Horizons.{IsHorizon, constants_of}
+use Rattle.prl_plan.specs.Runs.{ExecState, next_action}
+use Rattle.prl_plan.specs.Rules.{HasJob}
+use Rattle.prl_plan.specs.States.{IsTagged}
 use Rattle.prl_plan.proofs.Actions.{actions-fit}
-use Rattle.prl_plan.proofs.ActionPlaces.{WritesTo, Stands, once-on, ends-last, write-stands, length-actions}
+use Rattle.prl_plan.proofs.Halves.{actions-paired}
+use Rattle.prl_plan.proofs.ActionPlaces.{WritesTo, Stands, once-on, ends-last, write-stands, half-stands, length-actions}
 use Rattle.prl_plan.proofs.Counts.{count-below, below-count, IsHorizonJob-count, job_count-horizon}
 use Rattle.prl_plan.proofs.RoundLaws.{source-inside}
 use Rattle.prl_plan.proofs.UsedLaws.{sum-up-to, sum-all, rising-to, place-found, place-stands}
@@ -74,6 +78,17 @@ mod-apart a b k before same =
           (let up : k * (b / k) ≤ k * (a / k) = mul-le-mul_left k above in
           omega (arith, up, x, y, same, before))
     ]
+
+-- a half of a cell below a number is below its double; the cell is known by its half
+half-below : (cell slot n : ℕ) → IsHalfOf cell slot → cell < n → slot < 2 * n
+half-below cell slot n (inl is) below = (let e : slot ≡ 2 * cell = is in omega (arith, e, below))
+half-below cell slot n (inr is) below = (let e : slot ≡ 2 * cell + 1 = is in omega (arith, e, below))
+
+half-cell : (a b slot : ℕ) → IsHalfOf a slot → IsHalfOf b slot → a ≡ b
+half-cell a b slot (inl x) (inl y) = (let e : slot ≡ 2 * a = x in let f : slot ≡ 2 * b = y in omega (arith, e, f))
+half-cell a b slot (inl x) (inr y) = (let e : slot ≡ 2 * a = x in let f : slot ≡ 2 * b + 1 = y in omega (arith, e, f))
+half-cell a b slot (inr x) (inl y) = (let e : slot ≡ 2 * a + 1 = x in let f : slot ≡ 2 * b = y in omega (arith, e, f))
+half-cell a b slot (inr x) (inr y) = (let e : slot ≡ 2 * a + 1 = x in let f : slot ≡ 2 * b + 1 = y in omega (arith, e, f))
 
 module _ (plan : PlanView) (is : IsPlan plan) where
   task-fact : (i : ℕ) → i < length plan.graph.tasks → IsTask plan.graph.hyper (task_at plan.graph i)
@@ -216,6 +231,23 @@ module _ (plan : PlanView) (is : IsPlan plan) where
       let late = later-at i (used_at u (a + count)) l task next in
       omega (arith, ints, fits, late)
 
+  -- instances in one cell take turns
+  pub instances-take-turns : (e i l m k : ℕ) → e < length plan.graph.edges → ComesFrom (edge_at plan.graph e).from i →
+      IsSome (place_on plan e l) → IsSome (place_on plan e m) → cell_of plan e l ≡ cell_of plan e m → l < m →
+      operand_of (edge_at plan.graph e) k ≡ operands.From l → deadline_at plan (edge_at plan.graph e).to.0 k ≤ release_at plan i m
+  instances-take-turns e i l m k inside comes first second same before operand = turns (place_on plan e l) (place_on plan e m) refl refl
+    where
+      turns : (o p : Option ℕ) → place_on plan e l ≡ o → place_on plan e m ≡ p → deadline_at plan (edge_at plan.graph e).to.0 k ≤ release_at plan i m
+      turns (Some a) (Some b) at_l at_m =
+          let one : cell_of plan e l ≡ slice_index plan.bases e + a % slice_index plan.counts e =
+          ap (λ (o : Option ℕ). slice_index plan.bases e + unwrap_or o 0 % slice_index plan.counts e) at_l in
+          let two : cell_of plan e m ≡ slice_index plan.bases e + b % slice_index plan.counts e =
+          ap (λ (o : Option ℕ). slice_index plan.bases e + unwrap_or o 0 % slice_index plan.counts e) at_m in
+          over-at e i k l m inside comes operand a b (place-stands (slice_index_or plan.used e no_used) l a at_l) (place-stands (slice_index_or plan.used e no_used) m b at_m)
+          (omega (arith, one, two, same)) before
+      turns None p at_l at_m = absurd (let z : ◌≡◌ {A = Bool} false true = subst (λ (o : Option ℕ). IsSome o) at_l first in cc)
+      turns (Some a) None at_l at_m = absurd (let z : ◌≡◌ {A = Bool} false true = subst (λ (o : Option ℕ). IsSome o) at_m second in cc)
+
 module _ (plan : PlanView) (is : IsPlan plan) (h : Horizon) (horizon : IsHorizon plan h) where
   read-fits : (i n place m cell : ℕ) (reads : ReadsAt (constants_of plan h) i n place m cell) →
       IsActionOf plan i n (actions.Read reads.action.0 reads.action.1 m (record { 0 = cell }))
@@ -225,25 +257,25 @@ module _ (plan : PlanView) (is : IsPlan plan) (h : Horizon) (horizon : IsHorizon
       IsActionOf plan i n (actions.Write writes.action.0 m (record { 0 = cell }))
   write-fits i n place m cell writes = subst (λ (a : Action). IsActionOf plan i n a) writes.action.1 (actions-fit plan i n place)
 
-  read-in : (i n place m cell : ℕ) → ReadsAt (constants_of plan h) i n place m cell → cell < sum plan.counts
+  read-in : (i n place m cell : ℕ) → ReadsAt (constants_of plan h) i n place m cell → cell < 2 * sum plan.counts
   read-in i n place m cell reads =
       let r = read-fits i n place m cell reads in
       let w = operand-walks (edge_at plan.graph reads.action.1.0) n m r.3 in
       let c = in-cells plan is reads.action.1.0 w.0 m r.0 w.1 in
-      omega (arith, c, r.4)
+      half-below (cell_of plan reads.action.1.0 m) cell (sum plan.counts) r.4 c
 
-  write-in : (i n place m cell : ℕ) → WritesAt (constants_of plan h) i n place m cell → cell < sum plan.counts
+  write-in : (i n place m cell : ℕ) → WritesAt (constants_of plan h) i n place m cell → cell < 2 * sum plan.counts
   write-in i n place m cell writes =
       let w = write-fits i n place m cell writes in
       let c = in-cells plan is writes.action.0.0 i n w.0 w.1 in
-      omega (arith, c, w.4)
+      half-below (cell_of plan writes.action.0.0 n) cell (sum plan.counts) w.4 c
 
   one-edge : (i n place m j k other l cell : ℕ) (first : WritesAt (constants_of plan h) i n place m cell) (second : WritesAt (constants_of plan h) j k other l cell) →
       first.action.0.0 ≡ second.action.0.0
   one-edge i n place m j k other l cell first second =
       let a = write-fits i n place m cell first in
       let b = write-fits j k other l cell second in
-      same-edge plan is first.action.0.0 second.action.0.0 i j n k a.0 b.0 a.1 b.1 (sym a.4 ∙ b.4)
+      same-edge plan is first.action.0.0 second.action.0.0 i j n k a.0 b.0 a.1 b.1 (half-cell (cell_of plan first.action.0.0 n) (cell_of plan second.action.0.0 k) cell a.4 b.4)
 
   read-edge : (j k place m i n written l cell : ℕ) (reads : ReadsAt (constants_of plan h) j k place m cell) (writes : WritesAt (constants_of plan h) i n written l cell) →
       reads.action.1.0 ≡ writes.action.0.0
@@ -251,7 +283,7 @@ module _ (plan : PlanView) (is : IsPlan plan) (h : Horizon) (horizon : IsHorizon
       let a = read-fits j k place m cell reads in
       let b = write-fits i n written l cell writes in
       let w = operand-walks (edge_at plan.graph reads.action.1.0) k m a.3 in
-      same-edge plan is reads.action.1.0 writes.action.0.0 w.0 i m n a.0 b.0 w.1 b.1 (sym a.4 ∙ b.4)
+      same-edge plan is reads.action.1.0 writes.action.0.0 w.0 i m n a.0 b.0 w.1 b.1 (half-cell (cell_of plan reads.action.1.0 m) (cell_of plan writes.action.0.0 n) cell a.4 b.4)
 
   one-writer : (i n place m j k other l cell : ℕ) → WritesAt (constants_of plan h) i n place m cell → WritesAt (constants_of plan h) j k other l cell → i ≡ j
   one-writer i n place m j k other l cell first second =
@@ -263,9 +295,9 @@ module _ (plan : PlanView) (is : IsPlan plan) (h : Horizon) (horizon : IsHorizon
   one-place : (i n place m other l cell : ℕ) → WritesAt (constants_of plan h) i n place m cell → WritesAt (constants_of plan h) i n other l cell → place ≡ other
   one-place i n place m other l cell first second =
       let e = one-edge i n place m i n other l cell first second in
-      once-on plan i n second.action.0.0 place other
-      (subst (λ (a : Action). WritesTo second.action.0.0 a) (sym first.action.1) e)
-      (subst (λ (a : Action). WritesTo second.action.0.0 a) (sym second.action.1) refl)
+      once-on plan i n second.action.0.0 cell place other
+      (subst (λ (a : Action). WritesTo second.action.0.0 cell a) (sym first.action.1) (e, refl))
+      (subst (λ (a : Action). WritesTo second.action.0.0 cell a) (sym second.action.1) (refl, refl))
 
   provider : (j k place m cell : ℕ) → ReadsAt (constants_of plan h) j k place m cell →
       (i : ℕ) × (n : ℕ) × (written : ℕ) × Provides (constants_of plan h) m cell j k i n written
@@ -280,8 +312,9 @@ module _ (plan : PlanView) (is : IsPlan plan) (h : Horizon) (horizon : IsHorizon
       let c = cells-of plan is e i r.0 w.1 in
       let used = c.1.all m (k, r.3) in
       let at : place_on plan e m ≡ Some used.0 = place-found edge (slice_index_or plan.used e no_used) c.1 m used.0 used.1 in
-      let stands : Stands (actions_of plan i m) (actions.Write (record { 0 = e }) m (record { 0 = cell_of plan e m })) =
-      write-stands plan i m e edge (edge-stands plan is e r.0) w.1 (ap (λ (o : Option ℕ). is_some o) at) in
+      let stands : Stands (actions_of plan i m) (actions.Write (record { 0 = e }) m (record { 0 = cell })) =
+      write-stands plan i m e edge (edge-stands plan is e r.0) w.1 (ap (λ (o : Option ℕ). is_some o) at)
+      (actions.Write (record { 0 = e }) m (record { 0 = cell })) (half-stands plan i m e cell r.4) in
       let dates = along-at plan is e i k m r.0 w.1 w.2 in (
         i,
         m,
@@ -289,7 +322,7 @@ module _ (plan : PlanView) (is : IsPlan plan) (h : Horizon) (horizon : IsHorizon
         record {
           writes = record {
             job = record { task = job.0; job = job.1 };
-            action = (record { 0 = e }, stands.is ∙ ap (λ (x : ℕ). actions.Write (record { 0 = e }) m (record { 0 = x })) (sym r.4));
+            action = (record { 0 = e }, stands.is);
           };
           release = subst (λ (x : ℕ). release_at plan i m < release_at plan x k) r.1 dates.0;
           deadline = subst (λ (x : ℕ). deadline_at plan i m < deadline_at plan x k) r.1 dates.1;
@@ -306,7 +339,8 @@ module _ (plan : PlanView) (is : IsPlan plan) (h : Horizon) (horizon : IsHorizon
       let operand : operand_of (edge_at plan.graph e) k ≡ operands.From m =
       subst (λ (x : ℕ). operand_of (edge_at plan.graph x) k ≡ operands.From m) same r.3 in
       let to : (edge_at plan.graph e).to.0 ≡ j = subst (λ (x : ℕ). (edge_at plan.graph x).to.0 ≡ j) same r.1 in
-      let read_cell : cell ≡ cell_of plan e m = subst (λ (x : ℕ). cell ≡ cell_of plan x m) same r.4 in
+      let read_cell : cell_of plan e m ≡ cell_of plan e n =
+      half-cell (cell_of plan e m) (cell_of plan e n) cell (subst (λ (x : ℕ). IsHalfOf (cell_of plan x m) cell) same r.4) w.4 in
       let c = cells-of plan is e i w.0 w.1 in
       let a = c.1.all m (k, operand) in
       let at : place_on plan e m ≡ Some a.0 = place-found (edge_at plan.graph e) (slice_index_or plan.used e no_used) c.1 m a.0 a.1 in
@@ -315,7 +349,7 @@ module _ (plan : PlanView) (is : IsPlan plan) (h : Horizon) (horizon : IsHorizon
       ap (λ (o : Option ℕ). slice_index plan.bases e + unwrap_or o 0 % slice_index plan.counts e) at in
       let second : cell_of plan e n ≡ slice_index plan.bases e + b % slice_index plan.counts e =
       ap (λ (o : Option ℕ). slice_index plan.bases e + unwrap_or o 0 % slice_index plan.counts e) at_b in
-      let equal : a.0 % slice_index plan.counts e ≡ b % slice_index plan.counts e = omega (arith, first, second, read_cell, w.4) in
+      let equal : a.0 % slice_index plan.counts e ≡ b % slice_index plan.counts e = omega (arith, first, second, read_cell) in
       let over = over-at plan is e i k m n w.0 w.1 operand a.0 b a.1 (place-stands (slice_index_or plan.used e no_used) n b at_b) equal
       (let own : l ≡ n = w.2 in omega (arith, own, before)) in
       subst (λ (x : ℕ). deadline_at plan x k ≤ release_at plan i n) to over)
@@ -354,8 +388,34 @@ module _ (plan : PlanView) (is : IsPlan plan) (h : Horizon) (horizon : IsHorizon
     own = λ i n place m cell writes. (write-fits i n place m cell writes).2;
     writer = one-writer;
     once = one-place;
+    paired = λ i n place job is. actions-paired plan i n place is;
     edge = λ j k place m i n written l cell reads writes.
         edge-no reads.action.1 writes.action.0 (read-edge j k place m i n written l cell reads writes);
     provided = provider;
     over = is-over;
   }
+
+  -- What a write replaces is over: no reader, of the horizon or not, is due after the writer's release.
+  pub replaced-over : (s : ExecState) → IsTagged (constants_of plan h) s → (i e n slot l k : ℕ) → HasJob (constants_of plan h) s i →
+      next_action (constants_of plan h) s i ≡ actions.Write (record { 0 = e }) n (record { 0 = slot }) → slice_index s.tags slot ≡ l + 1 →
+      operand_of (edge_at plan.graph e) k ≡ operands.From l → deadline_at plan (edge_at plan.graph e).to.0 k ≤ release_at plan i n
+  replaced-over s tagged i e n slot l k has acts holds operand =
+      let here : WritesAt (constants_of plan h) i (slice_index s.ended i) (slice_index s.places i) n slot = record { job = record { task = has.task; job = has.job }; action = (record { 0 = e }, acts) } in
+      let w = write-fits i (slice_index s.ended i) (slice_index s.places i) n slot here in
+      let own : n ≡ slice_index s.ended i = w.2 in
+      let below : slice_index s.tags slot ≤ n = tagged.ahead i (slice_index s.ended i) (slice_index s.places i) n slot here (inr (refl, (let z : slice_index s.places i ≤ slice_index s.places i = omega arith in z))) in
+      let before : l < n = omega (arith, below, holds) in
+      elim (tagged.origin slot) [
+        | inl none ↦ absurd (omega (arith, none, holds))
+        | inr from ↦
+            (let from_holds : slice_index s.tags slot ≡ from.instance + 1 = from.holds in
+            let same : from.instance ≡ l = omega (arith, from_holds, holds) in
+            let v = write-fits from.task from.job from.place from.instance slot from.writes in
+            let edge : from.writes.action.0.0 ≡ e = one-edge from.task from.job from.place from.instance i (slice_index s.ended i) (slice_index s.places i) n slot from.writes here in
+            let was : from.job ≡ l = sym v.2 ∙ same in
+            let first : IsSome (place_on plan e l) = subst (λ (x : ℕ). IsSome (place_on plan e x)) was (subst (λ (x : ℕ). IsSome (place_on plan x from.job)) edge v.3) in
+            let half : IsHalfOf (cell_of plan e l) slot = subst (λ (x : ℕ). IsHalfOf (cell_of plan e x) slot) was (subst (λ (x : ℕ). IsHalfOf (cell_of plan x from.job) slot) edge v.4) in
+            let second : IsSome (place_on plan e n) = subst (λ (x : ℕ). IsSome (place_on plan e x)) (sym own) w.3 in
+            let mine : IsHalfOf (cell_of plan e n) slot = subst (λ (x : ℕ). IsHalfOf (cell_of plan e x) slot) (sym own) w.4 in
+            instances-take-turns plan is e i l n k w.0 w.1 first second (half-cell (cell_of plan e l) (cell_of plan e n) slot half mine) before operand)
+      ]

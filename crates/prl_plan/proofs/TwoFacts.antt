@@ -40,13 +40,13 @@ module _ (p q : List ℕ) (named : AreTwoNames p q) (T a b : ℕ) (fits : AreInP
   pub deadline-two-1 : (n : ℕ) → deadline_at (two_plan p q T a b) 1 n ≡ n * T + T
   deadline-two-1 n = (let w = ap (λ (w : Window). w.tail) (window-one (record { lead = a; tail = T }) (pos n)) in omega (arith, w))
 
-  pub actions-two-0 : (n : ℕ) → actions_of (two_plan p q T a b) 0 n ≡ actions.Write (record { 0 = 0 }) n (record { 0 = 0 }) ∷ actions.End ∷ []
+  pub actions-two-0 : (n : ℕ) → actions_of (two_plan p q T a b) 0 n ≡ actions.Write (record { 0 = 0 }) n (record { 0 = 0 }) ∷ actions.Write (record { 0 = 0 }) n (record { 0 = 1 }) ∷ actions.End ∷ []
   actions-two-0 n =
-      ap (λ (p : Option ℕ). (if is_some p then actions.Write (record { 0 = 0 }) n (record { 0 = 0 + unwrap_or p 0 % 1 }) ∷ [] else []) ++ [] ++ actions.End ∷ []) (place-two n)
-      ∙ ap (λ (k : ℕ). actions.Write (record { 0 = 0 }) n (record { 0 = k }) ∷ actions.End ∷ []) (let z : 0 + n % 1 ≡ 0 = omega arith in z)
+      ap (λ (p : Option ℕ). (if is_some p then actions.Write (record { 0 = 0 }) n (record { 0 = 2 * (0 + unwrap_or p 0 % 1) }) ∷ actions.Write (record { 0 = 0 }) n (record { 0 = 2 * (0 + unwrap_or p 0 % 1) + 1 }) ∷ [] else []) ++ [] ++ actions.End ∷ []) (place-two n)
+      ∙ ap (λ (k : ℕ). actions.Write (record { 0 = 0 }) n (record { 0 = 2 * k }) ∷ actions.Write (record { 0 = 0 }) n (record { 0 = 2 * k + 1 }) ∷ actions.End ∷ []) (let z : 0 + n % 1 ≡ 0 = omega arith in z)
 
-  pub actions-two-1 : (n : ℕ) → actions_of (two_plan p q T a b) 1 n ≡ actions.Read 0 (record { 0 = 0 }) n (record { 0 = 0 }) ∷ actions.End ∷ []
-  actions-two-1 n = ap (λ (k : ℕ). actions.Read 0 (record { 0 = 0 }) n (record { 0 = k }) ∷ actions.End ∷ []) (cell-two n)
+  pub actions-two-1 : (n : ℕ) → actions_of (two_plan p q T a b) 1 n ≡ actions.Read 0 (record { 0 = 0 }) n (record { 0 = 0 }) ∷ actions.Read 0 (record { 0 = 0 }) n (record { 0 = 1 }) ∷ actions.End ∷ []
+  actions-two-1 n = ap (λ (k : ℕ). actions.Read 0 (record { 0 = 0 }) n (record { 0 = 2 * k }) ∷ actions.Read 0 (record { 0 = 0 }) n (record { 0 = 2 * k + 1 }) ∷ actions.End ∷ []) (cell-two n)
 
   pub links-two : LinksDevices (two_plan p q T a b)
   links-two = record { sensor = sensor; actuator = actuator; port = port }
@@ -60,6 +60,6 @@ module _ (p q : List ℕ) (named : AreTwoNames p q) (T a b : ℕ) (fits : AreInP
       actuator (suc e) inside = absurd (omega arith)
 
       port : (e n : ℕ) → e < 1 → actions_of (two_plan p q T a b) (edge_at (two_plan p q T a b).graph e).to.0 n
-          ≡ reading (two_plan p q T a b) e (edge_at (two_plan p q T a b).graph e) (operand_of (edge_at (two_plan p q T a b).graph e) n) ∷ actions.End ∷ []
+          ≡ reading (two_plan p q T a b) e (edge_at (two_plan p q T a b).graph e) (operand_of (edge_at (two_plan p q T a b).graph e) n) ++ actions.End ∷ []
       port zero n inside = refl
       port (suc e) n inside = absurd (omega arith)

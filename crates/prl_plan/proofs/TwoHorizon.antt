@@ -11,17 +11,17 @@ use Rattle.prl_plan.proofs.TwoFacts.{deadline-two-0, deadline-two-1, actions-two
 use Rattle.prl_plan.specs.Devices.{LinksDevices}
 
 -- a sum of twos
-sum-twos : (f : ℕ → ℕ) → ((n : ℕ) → f n ≡ 2) → (n : ℕ) → sum_below f n ≡ n * 2
+sum-twos : (f : ℕ → ℕ) → ((n : ℕ) → f n ≡ 3) → (n : ℕ) → sum_below f n ≡ n * 3
 sum-twos f each zero = refl
-sum-twos f each (suc n) = (let h : sum_below f n ≡ n * 2 = sum-twos f each n in let g : f n ≡ 2 = each n in omega (arith, h, g))
+sum-twos f each (suc n) = (let h : sum_below f n ≡ n * 3 = sum-twos f each n in let g : f n ≡ 3 = each n in omega (arith, h, g))
 
 module _ (p q : List ℕ) (named : AreTwoNames p q) (T a b : ℕ) (fits : AreInPeriod T a b) where
-  two-actions : (u : ℕ) → actions_up_to (two_plan p q T a b) u ≡ 4 * job_count (task_at (two_plan p q T a b).graph 0) u
+  two-actions : (u : ℕ) → actions_up_to (two_plan p q T a b) u ≡ 6 * job_count (task_at (two_plan p q T a b).graph 0) u
   two-actions u =
       let J : ℕ = job_count (task_at (two_plan p q T a b).graph 0) u in
-      let first : sum_below (λ n. length (actions_of (two_plan p q T a b) 0 n)) J ≡ J * 2 =
+      let first : sum_below (λ n. length (actions_of (two_plan p q T a b) 0 n)) J ≡ J * 3 =
       sum-twos (λ n. length (actions_of (two_plan p q T a b) 0 n)) (λ n. ap (λ (xs : List Action). length xs) (actions-two-0 p q named T a b fits n)) J in
-      let second : sum_below (λ n. length (actions_of (two_plan p q T a b) 1 n)) J ≡ J * 2 =
+      let second : sum_below (λ n. length (actions_of (two_plan p q T a b) 1 n)) J ≡ J * 3 =
       sum-twos (λ n. length (actions_of (two_plan p q T a b) 1 n)) (λ n. ap (λ (xs : List Action). length xs) (actions-two-1 p q named T a b fits n)) J in
       omega (arith, first, second)
 
@@ -58,7 +58,7 @@ module _ (p q : List ℕ) (named : AreTwoNames p q) (T a b : ℕ) (fits : AreInP
 -- what is counted in a plan of two tasks
 pub record IsCounted (p : PlanView) (u each last : ℕ) : Type 0 where
   pub jobs : jobs_up_to p u ≡ 2 * each
-  pub actions : actions_up_to p u ≡ 4 * each
+  pub actions : actions_up_to p u ≡ 6 * each
   pub end : IsEnd p u last
 
 pub two-counted : (plan : PlanView) → IsTwo plan → (u each end : ℕ) → each ≡ job_count (task_at plan.graph 0) u →
@@ -73,7 +73,7 @@ two-counted plan two u =
     (sym two.7)
     (λ each end is_each is_end. record {
       jobs = omega (arith, is_each);
-      actions = (let e : actions_up_to (two_plan p q T a b) u ≡ 4 * job_count (task_at (two_plan p q T a b).graph 0) u = two-actions p q two.2 T a b two.6 u in omega (arith, e, is_each));
+      actions = (let e : actions_up_to (two_plan p q T a b) u ≡ 6 * job_count (task_at (two_plan p q T a b).graph 0) u = two-actions p q two.2 T a b two.6 u in omega (arith, e, is_each));
       end = subst (λ (x : ℕ). IsEnd (two_plan p q T a b) u x) (ap (λ (x : ℕ). x * T) (sym is_each) ∙ sym is_end) (two-end p q two.2 T a b two.6 u);
     })
 

@@ -1,5 +1,5 @@
 -- Plans whose tasks are sensors and actuators alone.
-use Rattle.std.specs.Prelude.{◌≡◌, ◌<◌, ℕ, [], ◌∷◌, length}
+use Rattle.std.specs.Prelude.{◌≡◌, ◌<◌, ◌++◌, ℕ, [], ◌∷◌, length}
 use Rattle.prl_plan.specs.declared.events.Action.TheVariants as actions
 use Rattle.prl_plan.specs.declared.graphs.Kind.TheVariants as kinds
 use Rattle.prl_plan.specs.Jobs.{task_at}
@@ -14,4 +14,4 @@ pub record LinksDevices (plan : PlanView) : Type 0 where
   pub actuator : (e : ℕ) → e < length plan.graph.edges →
       (k : ℕ) × ((task_at plan.graph (edge_at plan.graph e).to.0).kind ≡ kinds.Actuator k)
   pub port : (e n : ℕ) → e < length plan.graph.edges →
-      actions_of plan (edge_at plan.graph e).to.0 n ≡ reading plan e (edge_at plan.graph e) (operand_of (edge_at plan.graph e) n) ∷ actions.End ∷ []
+      actions_of plan (edge_at plan.graph e).to.0 n ≡ reading plan e (edge_at plan.graph e) (operand_of (edge_at plan.graph e) n) ++ actions.End ∷ []

@@ -1,7 +1,8 @@
 -- What holds of the jobs of every plan, as an executive needs it.
-use Rattle.std.specs.Prelude.{◌≡◌, ◌<◌, ◌≤◌, ◌^◌, ℕ, length}
+use Rattle.std.specs.Prelude.{◌≡◌, ◌+◌, ◌<◌, ◌≤◌, ◌^◌, ℕ, length}
 use Rattle.prl_base.specs.declared.numbers.EdgeNo.{EdgeNo}
 use Rattle.prl_plan.specs.declared.events.Action.TheVariants as actions
+use Rattle.prl_plan.specs.Plans.{IsHigh, low_of}
 use Rattle.prl_plan.specs.Runs.{RunConstants, action_at}
 
 -- job n of task i is a horizon job
@@ -39,8 +40,8 @@ pub record HasPlanFacts (c : RunConstants) : Type 0 where
   -- a job's end is its last action
   pub last : (i n place later : ℕ) → IsJob c i n → action_at c i n place ≡ actions.End → place < later → action_at c i n later ≡ actions.End
   -- cells are in range, and a job writes its own instance
-  pub read_cell : (i n place m cell : ℕ) → ReadsAt c i n place m cell → cell < c.cells
-  pub write_cell : (i n place m cell : ℕ) → WritesAt c i n place m cell → cell < c.cells
+  pub read_cell : (i n place m cell : ℕ) → ReadsAt c i n place m cell → cell < c.slots
+  pub write_cell : (i n place m cell : ℕ) → WritesAt c i n place m cell → cell < c.slots
   pub own : (i n place m cell : ℕ) → WritesAt c i n place m cell → m ≡ n
   -- one task writes to a cell, and each of its jobs at one place
   pub writer : (i n place m j k other l cell : ℕ) → WritesAt c i n place m cell → WritesAt c j k other l cell → i ≡ j
@@ -48,6 +49,9 @@ pub record HasPlanFacts (c : RunConstants) : Type 0 where
   -- a cell is of one edge
   pub edge : (j k place m i n written l cell : ℕ) (reads : ReadsAt c j k place m cell) (writes : WritesAt c i n written l cell) →
       reads.action.1 ≡ writes.action.0
+  -- before a high half stands the low half of the same read or write
+  pub paired : (i n place : ℕ) → IsJob c i n → IsHigh (action_at c i n place) →
+      (before : ℕ) × (place ≡ before + 1) × (action_at c i n before ≡ low_of (action_at c i n place))
   -- what is read, a job writes that comes earlier
   pub provided : (j k place m cell : ℕ) → ReadsAt c j k place m cell →
       (i : ℕ) × (n : ℕ) × (written : ℕ) × Provides c m cell j k i n written

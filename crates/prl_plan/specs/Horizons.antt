@@ -1,5 +1,5 @@
 -- The horizon of a run: its jobs, and the constants of the run.
-use Rattle.std.specs.Prelude.{◌≡◌, ◌+◌, ◌<◌, ◌≤◌, ◌^◌, ◌⊎◌, ℕ, zero, suc, length, sum}
+use Rattle.std.specs.Prelude.{◌≡◌, ◌+◌, ◌*◌, ◌<◌, ◌≤◌, ◌^◌, ◌⊎◌, ℕ, zero, suc, length, sum}
 use Rattle.prl_base.specs.declared.limits.Limit.{Limit}
 use Rattle.prl_base.specs.declared.limits.What.{What}
 use Rattle.prl_base.specs.declared.limits.What.TheVariants as whats
@@ -51,7 +51,7 @@ IsPastLimit plan until limit = IsPast plan until limit.what limit.found
 abbrev pub constants_of : PlanView → Horizon → RunConstants
 constants_of plan horizon = record {
   tasks = length plan.graph.tasks;
-  cells = sum plan.counts;
+  slots = 2 * sum plan.counts;
   jobs = λ i. job_count (task_at plan.graph i) horizon.until;
   release = release_at plan;
   deadline = deadline_at plan;

@@ -20,3 +20,4 @@ pub mod Ranges
 pub mod FixedPoints
 pub mod FirstReaders
 pub mod CellTurns
+pub mod LastTags

@@ -8,7 +8,8 @@ use Rattle.prl_plan.specs.declared.events.Event.TheVariants as events
 -- what stays the same over a run
 pub record RunConstants : Type 0 where
   pub tasks : ℕ
-  pub cells : ℕ
+  -- how many halves of cells there are
+  pub slots : ℕ
   -- by task, how many jobs it has in the horizon
   pub jobs : ℕ → ℕ
   -- by task and job, the encoded dates and the actions
@@ -27,7 +28,7 @@ pub record ExecState : Type 0 where
   pub tags : List ℕ
 
 abbrev pub opening : RunConstants → ExecState
-opening c = record { now = 0; ended = replicate c.tasks 0; places = replicate c.tasks 0; tags = replicate c.cells 0 }
+opening c = record { now = 0; ended = replicate c.tasks 0; places = replicate c.tasks 0; tags = replicate c.slots 0 }
 
 -- the action at a place of job n of task i; behind the last one stands the job's end
 abbrev pub action_at : RunConstants → ℕ → ℕ → ℕ → Action

@@ -2,6 +2,30 @@
 
 use prl_base::{CellNo, EdgeNo, TaskNo, Value};
 
+/// A half of a buffer cell: twice the cell's number for its low half, and one more for its high half.
+#[derive(Clone, Copy, Debug, PartialEq, Eq, PartialOrd, Ord)]
+pub struct SlotNo(pub u32);
+
+impl SlotNo {
+    ghost use Rattle.std.specs.Prelude.{◌≡◌, ◌/◌, ◌%◌};
+    ghost use Rattle.std.specs.Bool.{OnTrue, OnFalse};
+
+    /// The cell of which this is a half.
+    pub fn cell(self) -> CellNo
+        ensures { result.0 ≡ self.0 / 2 }
+    {
+        CellNo(self.0 / 2)
+    }
+
+    /// Whether this is the low half of its cell.
+    pub fn is_low(self) -> bool
+        ensures yes { OnTrue result (self.0 % 2 ≡ 0) }
+        ensures no { OnFalse result (self.0 % 2 ≡ 1) }
+    {
+        self.0 % 2 == 0
+    }
+}
+
 /// One event of an executive.
 #[derive(Clone, Copy, Debug, PartialEq, Eq)]
 pub enum Event {
@@ -12,7 +36,8 @@ pub enum Event {
 }
 
 /// One action of a job. A job reads its ports in order, then it writes to the edges that use its instance, in the order
-/// of edges, and then it ends.
+/// of edges, and then it ends. A constant is read at once; an instance is read, and written, by its low half and then by
+/// its high half.
 #[derive(Clone, Copy, Debug, PartialEq, Eq)]
 pub enum Action {
     /// It takes a constant at a port.
@@ -20,18 +45,18 @@ pub enum Action {
         port: u32,
         value: Value,
     },
-    /// It reads an instance of an edge at a port, from a cell.
+    /// It reads a half of an instance of an edge at a port.
     Read {
         port: u32,
         edge: EdgeNo,
         instance: u64,
-        cell: CellNo,
+        slot: SlotNo,
     },
-    /// It writes its instance to an edge, in a cell.
+    /// It writes a half of its instance to an edge.
     Write {
         edge: EdgeNo,
         instance: u64,
-        cell: CellNo,
+        slot: SlotNo,
     },
     /// It ends.
     End,

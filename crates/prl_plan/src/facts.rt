@@ -1,7 +1,8 @@
 //! What holds of plans, as functions that do nothing: the contract of each is the fact.
 
-ghost use Rattle.std.specs.Prelude.{◌≡◌, ◌<◌, ◌↔◌, ℕ, pos, List, length, IsSome, slice_get, slice_index_or};
+ghost use Rattle.std.specs.Prelude.{◌≡◌, ◌+◌, ◌<◌, ◌↔◌, ℕ, pos, List, length, IsSome, slice_get, slice_index_or};
 ghost use Rattle.prl_base.specs.declared.operators.Op.{Op};
+ghost use Rattle.prl_plan.specs.declared.events.Action.{Action};
 ghost use Rattle.prl_plan.specs.declared.events.Action.TheVariants as actions;
 ghost use Rattle.prl_plan.specs.declared.graphs.TaskGraph.{TaskGraph};
 ghost use Rattle.prl_plan.specs.declared.horizons.Horizon.{Horizon};
@@ -10,7 +11,7 @@ ghost use Rattle.prl_plan.specs.Graphs.{IsWellFormed};
 ghost use Rattle.prl_plan.specs.Operands.{walk, operand_of};
 ghost use Rattle.prl_plan.specs.Precedence.{preceding, ComesFrom};
 ghost use Rattle.prl_plan.specs.Jobs.{task_at, job_count, IsHorizonJob};
-ghost use Rattle.prl_plan.specs.Plans.{PlanView, IsPlan, edge_at, place_on, cell_of, reading, actions_of, IsActionOf};
+ghost use Rattle.prl_plan.specs.Plans.{PlanView, IsPlan, edge_at, place_on, cell_of, IsHalfOf, reading, actions_of, reads_before, operands_before, IsAtPort, IsActionOf};
 ghost use Rattle.prl_plan.specs.Facts.{HasPlanFacts};
 ghost use Rattle.prl_plan.specs.JobTables.{TableRow, IsJobTable};
 ghost use Rattle.prl_plan.specs.Devices.{LinksDevices};
@@ -24,16 +25,19 @@ pub fn horizon_jobs_are_counted()
         IsHorizonJob graph until i n ↔ (n < job_count (task_at graph i) until) }
 {}
 
-/// Each action of a job is what the definitions of operands, used instances and cells say. A job reads port `p` at place
-/// `p`, and writes to each edge from its task that uses its instance.
+/// Each action of a job is what the definitions of operands, used instances and cells say. Its reads on an edge stand after
+/// those on the edges before it, a read at a port after as many whole operands, and it writes both halves to each edge from
+/// its task that uses its instance.
 pub fn actions_are_as_defined()
     ensures each { (plan : PlanView) (i n place : ℕ) → IsActionOf plan i n (slice_index_or (actions_of plan i n) place actions.End) }
-    ensures reads { (plan : PlanView) → IsWellFormed plan.graph → (e n : ℕ) → e < length plan.graph.edges →
-        slice_get (actions_of plan (edge_at plan.graph e).to.0 n) (edge_at plan.graph e).port
-        ≡ Some (reading plan e (edge_at plan.graph e) (operand_of (edge_at plan.graph e) n)) }
-    ensures writes { (plan : PlanView) (e i n : ℕ) → e < length plan.graph.edges → ComesFrom (edge_at plan.graph e).from i →
-        IsSome (place_on plan e n) →
-        (place : ℕ) × (slice_get (actions_of plan i n) place ≡ Some (actions.Write (record { 0 = e }) n (record { 0 = cell_of plan e n }))) }
+    ensures reads { (plan : PlanView) (e n j : ℕ) (x : Action) → e < length plan.graph.edges →
+        slice_get (reading plan e (edge_at plan.graph e) (operand_of (edge_at plan.graph e) n)) j ≡ Some x →
+        slice_get (actions_of plan (edge_at plan.graph e).to.0 n) (reads_before plan (edge_at plan.graph e).to.0 n e + j) ≡ Some x }
+    ensures ports { (plan : PlanView) → IsWellFormed plan.graph → (i n place port : ℕ) → IsAtPort port (slice_index_or (actions_of plan i n) place actions.End) →
+        operands_before (actions_of plan i n) place ≡ port }
+    ensures writes { (plan : PlanView) (e i n slot : ℕ) → e < length plan.graph.edges → ComesFrom (edge_at plan.graph e).from i →
+        IsSome (place_on plan e n) → IsHalfOf (cell_of plan e n) slot →
+        (place : ℕ) × (slice_get (actions_of plan i n) place ≡ Some (actions.Write (record { 0 = e }) n (record { 0 = slot }))) }
 {}
 
 /// Each plan is one: its graph is well formed, and its dates and cells are those of the graph.

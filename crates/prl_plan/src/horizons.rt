@@ -35,7 +35,7 @@ impl Horizon {
                 found: jobs,
             });
         }
-        let events = 4 * each + end;
+        let events = 6 * each + end;
         if events > MAX_EVENTS {
             return Err(Limit {
                 what: What::Events,

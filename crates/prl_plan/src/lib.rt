@@ -22,7 +22,7 @@ mod walks;
 pub use deadlines::{
     Interval, count_of, deadline_after, following_jobs, rounds_reach_the_greatest_deadlines,
 };
-pub use events::{Action, Event, Rule};
+pub use events::{Action, Event, Rule, SlotNo};
 pub use facts::{
     actions_are_as_defined, horizon_jobs_are_counted, operands_are_of_horizon_jobs,
     operands_precede, operands_stand_earlier, plan_facts, plan_is_one, plan_links_devices,
@@ -32,7 +32,11 @@ pub use fixed_points::{hyperperiod_decides, rounds_reach_dates};
 pub use graphs::{Edge, Kind, Producer, Task, TaskGraph};
 pub use horizons::Horizon;
 pub use laws::{
-    gated_list_keeps_cells, legal_list_is_gated, run_of_two_lists, write_finds_cell_free,
+    act_does_one_action, free_events_keep_tags, free_list_leaves_tags, gated_events_keep_sound,
+    gated_list_finds_halves_free, gated_list_keeps_halves, instances_take_turns,
+    legal_list_is_gated, legal_read_finds_its_tag, replaced_instance_is_over, run_of_two_lists,
+    sound_state_goes_on, sound_state_keeps_halves, tag_is_of_the_latest_instance,
+    write_finds_half_free,
 };
 pub use limits::{MAX_CELLS, MAX_EDGES, MAX_EVENTS, MAX_JOBS, MAX_PERIOD_JOBS, MAX_TASKS};
 pub use plans::Plan;

@@ -9,7 +9,7 @@ ghost use Rattle.prl_plan.specs.Plans.{IsPlan, edge_at, release_at, deadline_at,
 ghost use Rattle.prl_plan.specs.TwoTasks.{AreInPeriod, AreTwoNames, two_plan, IsTwo};
 ghost use Rattle.prl_plan.specs.Jobs.{task_at, job_count};
 
-use crate::{Action, Edge, Kind, Operand, Producer, Task, TaskGraph};
+use crate::{Action, Edge, Kind, Operand, Producer, SlotNo, Task, TaskGraph};
 use prl_base::{CellNo, Clock, EdgeNo, Label, Seq, TaskNo, Ty};
 use std::alloc::{AllocError, Global};
 use std::marker::Model;
@@ -202,21 +202,21 @@ impl Plan {
         ensures { result ≡ slice_index_or (actions_of self.now i.0 n) place actions.End }
     {
         let _ = &self.period;
-        if place > 0 {
+        if place > 1 {
             return Action::End;
         }
         if i.0 == 0 {
             return Action::Write {
                 edge: EdgeNo(0),
                 instance: n,
-                cell: CellNo(0),
+                slot: SlotNo(place),
             };
         }
         Action::Read {
             port: 0,
             edge: EdgeNo(0),
             instance: n,
-            cell: CellNo(0),
+            slot: SlotNo(place),
         }
     }
 

@@ -21,7 +21,7 @@ fn dates_and_cells_of_two_tasks(rt: HostRuntime) -> Result<(), Fail> {
     assert_eq!(rt; plan.count(EdgeNo(0)), 1);
     assert_eq!(rt; plan.total(), 1);
     assert_eq!(rt; plan.graph().edges.len(), 1);
-    assert_eq!(rt; plan.action(TaskNo(1), 3, 1), Action::End);
+    assert_eq!(rt; plan.action(TaskNo(1), 3, 2), Action::End);
     Ok(())
 }
 
@@ -32,7 +32,7 @@ fn horizons_of_two_tasks(rt: HostRuntime) -> Result<(), Fail> {
         until: 20,
         end: 20,
         jobs: 4,
-        events: 28,
+        events: 32,
     };
     assert_eq!(rt; Horizon::new(&plan, 20), Ok(horizon));
     assert_eq!(rt; Horizon::new(&plan, 0).map(|h| h.events), Ok(0));

@@ -5,14 +5,14 @@ use Rattle.prl_plan.proofs.TwoHorizon.{IsCounted, two-counted}
 use Rattle.prl_plan.proofs.horizons.Horizon.new.Goals as goal
 
 -- the horizon that is counted
-made : (p : PlanView) (u from each last : ℕ) → IsCounted p u each last → from ≡ u → u < 2 ^ 32 → 2 * each ≤ 200000 → 4 * each + last ≤ 1000000 →
-    IsHorizon p (record { until = from; end = last; jobs = 2 * each; events = 4 * each + last })
+made : (p : PlanView) (u from each last : ℕ) → IsCounted p u each last → from ≡ u → u < 2 ^ 32 → 2 * each ≤ 200000 → 6 * each + last ≤ 1000000 →
+    IsHorizon p (record { until = from; end = last; jobs = 2 * each; events = 6 * each + last })
 made p u from each last counted is small jobs events =
-    subst (λ x. IsHorizon p (record { until = x; end = last; jobs = 2 * each; events = 4 * each + last })) (sym is) (record {
+    subst (λ x. IsHorizon p (record { until = x; end = last; jobs = 2 * each; events = 6 * each + last })) (sym is) (record {
       until = small;
       end = counted.end;
       jobs = sym counted.jobs;
-      events = (let e : actions_up_to p u ≡ 4 * each = counted.actions in omega (arith, e));
+      events = (let e : actions_up_to p u ≡ 6 * each = counted.actions in omega (arith, e));
       few_jobs = jobs;
       few_events = events;
     })
@@ -23,7 +23,7 @@ returns-then-events-gt-MAX_EVENTS c =
     let counted : IsCounted c.args.plan.now c.args.until e.result.0 e.result.1 =
     two-counted c.args.plan.now c.is_two.ensures c.args.until e.result.0 e.result.1 e.ensures.jobs e.ensures.end in (
       (let j : jobs_up_to c.args.plan.now c.args.until ≡ 2 * e.result.0 = counted.jobs in omega (arith, j, c.if-jobs-gt-MAX_JOBS.false)),
-      (e.result.1, counted.end, (let a : actions_up_to c.args.plan.now c.args.until ≡ 4 * e.result.0 = counted.actions in omega (arith, a))),
+      (e.result.1, counted.end, (let a : actions_up_to c.args.plan.now c.args.until ≡ 6 * e.result.0 = counted.actions in omega (arith, a))),
       c.if-events-gt-MAX_EVENTS.true,
     )
 

@@ -1,7 +1,7 @@
 use Rattle.prl_plan.specs.Runs.{opening, after_events}
 use Rattle.prl_plan.proofs.Sound.{sound-opening}
 use Rattle.prl_plan.proofs.Legal.{IsGated-sound, write_finds_free}
-use Rattle.prl_plan.proofs.laws.write_finds_cell_free.Goals as goal
+use Rattle.prl_plan.proofs.laws.gated_list_finds_halves_free.Goals as goal
 
 pub returns : goal.returns
 returns c = λ k facts list gated i e m cell has released is j n place l reads holds.

@@ -1,0 +1,88 @@
+-- Before each high half stands the low half of the same read or write.
+use Rattle.std.proofs.Common.{◌≡◌, ◌+◌, ◌-◌, ◌*◌, ◌++◌, ℕ, zero, suc, Bool, true, false, List, [], ◌∷◌, length, get_or, inl, inr, sym, ◌∙◌, ap, subst, arith, cond, eqb}
+use Rattle.std.specs.Prelude.{is_some}
+use Rattle.std.proofs.lemmas.Bool.{cases_lt}
+use Rattle.std.proofs.lemmas.List.{get_or_append_left, get_or-append-add}
+use Rattle.prl_plan.specs.declared.events.Action.{Action}
+use Rattle.prl_plan.specs.declared.events.Action.TheVariants as actions
+use Rattle.prl_plan.specs.declared.graphs.Edge.{Edge}
+use Rattle.prl_plan.specs.declared.graphs.Producer.{Producer}
+use Rattle.prl_plan.specs.declared.graphs.Producer.TheVariants as producers
+use Rattle.prl_plan.specs.declared.walks.Operand.{Operand}
+use Rattle.prl_plan.specs.declared.walks.Operand.TheVariants as operands
+use Rattle.prl_plan.specs.Operands.{operand_of}
+use Rattle.prl_plan.specs.Plans.{PlanView, place_on, cell_of, low, high, both_writes, IsHigh, low_of, reading, reads_of, writing, writes_of, actions_of}
+
+abbrev pub IsPaired : List Action → Type 0
+IsPaired xs = (k : ℕ) → IsHigh (get_or xs k actions.End) → (j : ℕ) × (k ≡ j + 1) × (get_or xs j actions.End ≡ low_of (get_or xs k actions.End))
+
+pub paired-both : (xs ys : List Action) → IsPaired xs → IsPaired ys → IsPaired (xs ++ ys)
+paired-both xs ys first second k is =
+    elim (cases_lt k (length xs)) [
+      | inl below ↦
+          (let e : get_or (xs ++ ys) k actions.End ≡ get_or xs k actions.End = get_or_append_left xs ys actions.End k below in
+          let r = first k (subst (λ (a : Action). IsHigh a) e is) in
+          let at : k ≡ r.0 + 1 = r.1 in
+          (r.0, r.1, get_or_append_left xs ys actions.End r.0 (omega (arith, at, below)) ∙ r.2 ∙ ap (λ (a : Action). low_of a) (sym e)))
+      | inr above ↦
+          (let m : ℕ = k - length xs in
+          let same : length xs + (k - length xs) ≡ k = omega (arith, above) in
+          let e : get_or (xs ++ ys) k actions.End ≡ get_or ys (k - length xs) actions.End =
+          subst (λ (x : ℕ). get_or (xs ++ ys) x actions.End ≡ get_or ys (k - length xs) actions.End) same (get_or-append-add xs ys (k - length xs) actions.End) in
+          let r = second (k - length xs) (subst (λ (a : Action). IsHigh a) e is) in
+          let at : k - length xs ≡ r.0 + 1 = r.1 in
+          (length xs + r.0, omega (arith, at, above), get_or-append-add xs ys r.0 actions.End ∙ r.2 ∙ ap (λ (a : Action). low_of a) (sym e)))
+    ]
+
+paired-none : IsPaired []
+paired-none k is = absurd is
+
+paired-one : (x : Action) → (IsHigh x → ⊥) → IsPaired (x ∷ [])
+paired-one x not zero is = absurd (not is)
+paired-one x not (suc k) is = absurd is
+
+paired-two : (x y : Action) → (IsHigh x → ⊥) → x ≡ low_of y → IsPaired (x ∷ y ∷ [])
+paired-two x y not of zero is = absurd (not is)
+paired-two x y not of (suc zero) is = (0, (let e : 1 ≡ 0 + 1 = omega arith in e), of)
+paired-two x y not of (suc (suc k)) is = absurd is
+
+paired-if : (b : Bool) (xs : List Action) → IsPaired xs → IsPaired (cond b xs [])
+paired-if true xs is = is
+paired-if false xs is = paired-none
+
+not-odd : (cell : ℕ) → (other : ℕ) × (low cell ≡ high other) → ⊥
+not-odd cell is = (let e : 2 * cell ≡ 2 * is.0 + 1 = is.1 in omega (arith, e))
+
+module _ (plan : PlanView) (i n : ℕ) where
+  paired-reading : (e : ℕ) (edge : Edge) (operand : Operand) → IsPaired (reading plan e edge operand)
+  paired-reading e edge (operands.Const c) = paired-one (actions.ReadConst edge.port c) (λ x. x)
+  paired-reading e edge (operands.From m) =
+      paired-two (actions.Read edge.port (record { 0 = e }) m (record { 0 = low (cell_of plan e m) }))
+      (actions.Read edge.port (record { 0 = e }) m (record { 0 = high (cell_of plan e m) })) (not-odd (cell_of plan e m))
+      (ap (λ (x : ℕ). actions.Read edge.port (record { 0 = e }) m (record { 0 = x })) (let z : low (cell_of plan e m) ≡ high (cell_of plan e m) - 1 = omega arith in z))
+
+  paired-reads : (e : ℕ) (edges : List Edge) → IsPaired (reads_of plan i n e edges)
+  paired-reads e [] = paired-none
+  paired-reads e (edge ∷ edges) =
+      paired-both (cond (eqb edge.to.0 i) (reading plan e edge (operand_of edge n)) []) (reads_of plan i n (e + 1) edges)
+      (paired-if (eqb edge.to.0 i) (reading plan e edge (operand_of edge n)) (paired-reading e edge (operand_of edge n))) (paired-reads (e + 1) edges)
+
+  paired-writing : (e : ℕ) (from : Producer) → IsPaired (writing plan i n e from)
+  paired-writing e (producers.Constant value) = paired-none
+  paired-writing e (producers.Port task out) =
+      paired-if (eqb task.0 i) (cond (is_some (place_on plan e n)) (both_writes plan e n) [])
+      (paired-if (is_some (place_on plan e n)) (both_writes plan e n)
+      (paired-two (actions.Write (record { 0 = e }) n (record { 0 = low (cell_of plan e n) }))
+      (actions.Write (record { 0 = e }) n (record { 0 = high (cell_of plan e n) })) (not-odd (cell_of plan e n))
+      (ap (λ (x : ℕ). actions.Write (record { 0 = e }) n (record { 0 = x })) (let z : low (cell_of plan e n) ≡ high (cell_of plan e n) - 1 = omega arith in z))))
+
+  paired-writes : (e : ℕ) (edges : List Edge) → IsPaired (writes_of plan i n e edges)
+  paired-writes e [] = paired-none
+  paired-writes e (edge ∷ edges) =
+      paired-both (writing plan i n e edge.from) (writes_of plan i n (e + 1) edges) (paired-writing e edge.from) (paired-writes (e + 1) edges)
+
+  pub actions-paired : IsPaired (actions_of plan i n)
+  actions-paired =
+      paired-both (reads_of plan i n 0 plan.graph.edges ++ writes_of plan i n 0 plan.graph.edges) (actions.End ∷ [])
+      (paired-both (reads_of plan i n 0 plan.graph.edges) (writes_of plan i n 0 plan.graph.edges)
+      (paired-reads 0 plan.graph.edges) (paired-writes 0 plan.graph.edges)) (paired-one actions.End (λ x. x))

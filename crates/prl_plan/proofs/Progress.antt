@@ -1,0 +1,191 @@
+-- A sound state in which some job has not ended goes on.
+use Rattle.std.proofs.Common.{◌≡◌, ◌+◌, ◌<◌, ◌≤◌, ◌⊎◌, ℕ, zero, suc, get_or, inl, inr, refl, ap, subst, arith}
+use Rattle.std.proofs.lemmas.Bool.{cases_lt}
+use Rattle.prl_plan.specs.declared.events.Action.{Action}
+use Rattle.prl_plan.specs.declared.events.Action.TheVariants as actions
+use Rattle.prl_plan.specs.declared.events.Event.TheVariants as events
+use Rattle.prl_plan.specs.Runs.{RunConstants, ExecState, next_action}
+use Rattle.prl_plan.specs.Rules.{IsUnfinished, HasJob, ActsReleased, MayTick, FindsTag, KeepsGated, first_unfinished}
+use Rattle.prl_plan.specs.Facts.{IsJob, ReadsAt, Provides, HasPlanFacts}
+use Rattle.prl_plan.specs.States.{IsSound, IsLeastReleased}
+
+module _ (c : RunConstants) (facts : HasPlanFacts c) where
+  -- the first unfinished job of a task is released no later than the others
+  first-earlier : (s : ExecState) (j n : ℕ) → IsUnfinished c s j n → c.release j (first_unfinished s j) ≤ c.release j n
+  first-earlier s j n left =
+      elim (cases_lt (get_or s.ended j 0) n) [
+        | inl before ↦
+            (let first : IsJob c j (get_or s.ended j 0) = record { task = left.task; job = (let h = left.job in omega (arith, h, before)) } in
+            let wide : c.release j (get_or s.ended j 0) < c.deadline j (get_or s.ended j 0) = facts.window j (get_or s.ended j 0) first in
+            let after : c.deadline j (get_or s.ended j 0) ≤ c.release j n = facts.apart j (get_or s.ended j 0) n (record { task = left.task; job = left.job }) before in
+            omega (arith, wide, after))
+        | inr not_before ↦
+            (let u : get_or s.ended j 0 ≤ n = left.unfinished in
+            let same : get_or s.ended j 0 ≡ n = omega (arith, u, not_before) in
+            let e : c.release j (get_or s.ended j 0) ≡ c.release j n = ap (λ x. c.release j x) same in
+            omega (arith, e))
+      ]
+
+  first-left : (s : ExecState) (j n : ℕ) → IsUnfinished c s j n → HasJob c s j
+  first-left s j n left = record {
+    task = left.task;
+    job = (let h = left.job in let u : get_or s.ended j 0 ≤ n = left.unfinished in let z : get_or s.ended j 0 < c.jobs j = omega (arith, h, u) in z);
+    unfinished = (let z : get_or s.ended j 0 ≤ get_or s.ended j 0 = omega arith in z);
+  }
+
+  -- of the released jobs that have not ended, the one that is released first finds its tag
+  finds : (s : ExecState) → IsSound c s → (i : ℕ) → IsLeastReleased c s i → (action : Action) → next_action c s i ≡ action → FindsTag s action
+  finds s sound i least (actions.ReadConst port value) is = tt
+  finds s sound i least (actions.Write e m slot) is = tt
+  finds s sound i least actions.End is = tt
+  finds s sound i least (actions.Read port e m in_slot) is =
+      let slot : ℕ = in_slot.0 in
+      let n : ℕ = get_or s.ended i 0 in
+      let place : ℕ = get_or s.places i 0 in
+      let has : HasJob c s i = least.job in
+      let reads : ReadsAt c i n place m slot = record { job = record { task = has.task; job = has.job }; action = (port, e, is) } in
+      let upper : get_or s.tags slot 0 ≤ m + 1 = sound.held i n place m slot reads has in
+      let before = facts.provided i n place m slot reads in
+      let j : ℕ = before.0 in
+      let k : ℕ = before.1 in
+      let provides : Provides c m slot i n j k (before.2) = before.3 in
+      let earlier : c.release j k < c.release i n = provides.release in
+      let now : c.release i n ≤ s.now = least.released in
+      elim (cases_lt k (get_or s.ended j 0)) [
+        | inl ended ↦
+            (let lower : m + 1 ≤ get_or s.tags slot 0 = sound.tagged.written j k (before.2) m slot provides.writes (inl ended) in omega (arith, upper, lower))
+        | inr left ↦ absurd
+            (let unfinished : IsUnfinished c s j k = record { task = provides.writes.job.task; job = provides.writes.job.job; unfinished = left } in
+            let first : c.release j (first_unfinished s j) ≤ c.release j k = first-earlier s j k unfinished in
+            let not_before : c.release i n ≤ c.release j (first_unfinished s j) =
+            least.least j (first-left s j k unfinished) (omega (arith, first, earlier, now)) in
+            omega (arith, first, not_before, earlier))
+      ]
+
+  pub least_release_may_act : (s : ExecState) → IsSound c s → (i : ℕ) → IsLeastReleased c s i → KeepsGated c s (events.Act (record { 0 = i }))
+  least_release_may_act s sound i least = (least.job, least.released, finds s sound i least (next_action c s i) refl)
+
+  -- where no unfinished job is released, and some job is unfinished, the tick may come
+  pub tick_may_come : (s : ExecState) → ((i : ℕ) → HasJob c s i → s.now < c.release i (first_unfinished s i)) → (j n : ℕ) → IsUnfinished c s j n → MayTick c s
+  tick_may_come s none j n left = record { within = within; ended = ended }
+    where
+      ended : (i k : ℕ) → IsUnfinished c s i k → s.now + 1 < c.deadline i k
+      ended i k unfinished =
+          let early : s.now < c.release i (first_unfinished s i) = none i (first-left s i k unfinished) in
+          let first : c.release i (first_unfinished s i) ≤ c.release i k = first-earlier s i k unfinished in
+          let wide : c.release i k < c.deadline i k = facts.window i k (record { task = unfinished.task; job = unfinished.job }) in
+          omega (arith, early, first, wide)
+
+      within : s.now + 1 ≤ c.end
+      within =
+          let due : s.now + 1 < c.deadline j n = ended j n left in
+          let last : c.deadline j n ≤ c.end = facts.within j n (record { task = left.task; job = left.job }) in
+          omega (arith, due, last)
+
+  -- task i may act, as far as the tasks below k are looked at
+  record LeastBelow (s : ExecState) (k i : ℕ) : Type 0 where
+    job : HasJob c s i
+    released : ActsReleased c s i
+    least : (j : ℕ) → j < k → HasJob c s j → ActsReleased c s j → c.release i (first_unfinished s i) ≤ c.release j (first_unfinished s j)
+
+  -- the job of task k is unfinished and released, or it is not
+  abbrev Ready : ExecState → ℕ → Type 0
+  Ready s k = HasJob c s k × ActsReleased c s k
+
+  ready-or : (s : ExecState) (k : ℕ) → k < c.tasks → Ready s k ⊎ (Ready s k → ⊥)
+  ready-or s k inside =
+      elim (cases_lt (get_or s.ended k 0) (c.jobs k)) [
+        | inr over ↦ inr (λ ready. let h : get_or s.ended k 0 < c.jobs k = ready.0.job in omega (arith, over, h))
+        | inl some ↦
+            (elim (cases_lt s.now (c.release k (get_or s.ended k 0))) [
+              | inl early ↦ inr (λ ready. let h : c.release k (get_or s.ended k 0) ≤ s.now = ready.1 in omega (arith, early, h))
+              | inr now ↦ inl (
+                record { task = inside; job = some; unfinished = (let z : get_or s.ended k 0 ≤ get_or s.ended k 0 = omega arith in z) },
+                (let z : c.release k (get_or s.ended k 0) ≤ s.now = omega (arith, now) in z),
+              )
+            ])
+      ]
+
+  below-or-at : (j k : ℕ) → j < suc k → (j < k) ⊎ (j ≡ k)
+  below-or-at j k below = elim (cases_lt j k) [ inl less ↦ inl less | inr not_less ↦ inr (omega (arith, below, not_less)) ]
+
+  search : (s : ExecState) (k : ℕ) → k ≤ c.tasks → ((i : ℕ) × LeastBelow s k i) ⊎ ((j : ℕ) → j < k → Ready s j → ⊥)
+  search s zero within = inr (λ j below ready. omega (arith, below))
+  search s (suc k) within =
+      elim (ready-or s k (omega (arith, within))) [
+        | inr idle ↦
+            (elim (search s k (omega (arith, within))) [
+              | inl found ↦ inl (
+                found.0,
+                record {
+                  job = found.1.job;
+                  released = found.1.released;
+                  least = λ j below has now. elim (below-or-at j k below) [
+                    | inl less ↦ found.1.least j less has now
+                    | inr at ↦ absurd (idle (subst (λ x. HasJob c s x) at has, subst (λ x. ActsReleased c s x) at now))
+                  ];
+                },
+              )
+              | inr none ↦ inr (λ j below ready. elim (below-or-at j k below) [
+                | inl less ↦ none j less ready
+                | inr at ↦ idle (subst (λ x. Ready s x) at ready)
+              ])
+            ])
+        | inl ready ↦
+            (elim (search s k (omega (arith, within))) [
+              | inr none ↦ inl (
+                k,
+                record {
+                  job = ready.0;
+                  released = ready.1;
+                  least = λ j below has now. elim (below-or-at j k below) [
+                    | inl less ↦ absurd (none j less (has, now))
+                    | inr at ↦ (let e : c.release j (get_or s.ended j 0) ≡ c.release k (get_or s.ended k 0) = ap (λ x. c.release x (get_or s.ended x 0)) at in omega (arith, e))
+                  ];
+                },
+              )
+              | inl found ↦
+                  (elim (cases_lt (c.release k (get_or s.ended k 0)) (c.release found.0 (get_or s.ended found.0 0))) [
+                    | inl earlier ↦ inl (
+                      k,
+                      record {
+                        job = ready.0;
+                        released = ready.1;
+                        least = λ j below has now. elim (below-or-at j k below) [
+                          | inl less ↦ (let h : c.release found.0 (get_or s.ended found.0 0) ≤ c.release j (get_or s.ended j 0) = found.1.least j less has now in omega (arith, h, earlier))
+                          | inr at ↦ (let e : c.release j (get_or s.ended j 0) ≡ c.release k (get_or s.ended k 0) = ap (λ x. c.release x (get_or s.ended x 0)) at in omega (arith, e))
+                        ];
+                      },
+                    )
+                    | inr not_earlier ↦ inl (
+                      found.0,
+                      record {
+                        job = found.1.job;
+                        released = found.1.released;
+                        least = λ j below has now. elim (below-or-at j k below) [
+                          | inl less ↦ found.1.least j less has now
+                          | inr at ↦ (let e : c.release j (get_or s.ended j 0) ≡ c.release k (get_or s.ended k 0) = ap (λ x. c.release x (get_or s.ended x 0)) at in omega (arith, e, not_earlier))
+                        ];
+                      },
+                    )
+                  ])
+            ])
+      ]
+
+  -- some job may act, or the tick may come
+  pub sound_state_goes_on : (s : ExecState) → IsSound c s → (j n : ℕ) → IsUnfinished c s j n →
+      ((i : ℕ) × IsLeastReleased c s i × KeepsGated c s (events.Act (record { 0 = i }))) ⊎ KeepsGated c s events.Tick
+  sound_state_goes_on s sound j n left =
+      elim (search s c.tasks (let z : c.tasks ≤ c.tasks = omega arith in z)) [
+        | inl found ↦
+            (let least : IsLeastReleased c s found.0 = record {
+              job = found.1.job;
+              released = found.1.released;
+              least = λ k has now. found.1.least k has.task has now;
+            } in
+            inl (found.0, least, least_release_may_act s sound found.0 least))
+        | inr none ↦ inr (tick_may_come s (λ i has. elim (cases_lt s.now (c.release i (get_or s.ended i 0))) [
+          | inl early ↦ early
+          | inr now ↦ absurd (none i has.task (has, (let z : c.release i (get_or s.ended i 0) ≤ s.now = omega (arith, now) in z)))
+        ]) j n left)
+      ]

@@ -1,0 +1,399 @@
+-- Each event that a free list allows keeps the tags.
+use Rattle.std.proofs.Common.{◌≡◌, ◌+◌, ◌-◌, ◌<◌, ◌≤◌, ◌⊎◌, ℕ, List, [], ◌∷◌, length, get_or, set, replicate, inl, inr, refl, sym, ◌∙◌, ap, subst, arith}
+use Rattle.std.proofs.lemmas.Bool.{cases_eq, cases_lt, cases_order}
+use Rattle.std.proofs.lemmas.List.{get_or_past, length-set, length-replicate, get_or-replicate, get_or-set_other}
+use Rattle.std.proofs.lemmas.Grind.{get_or-set_at}
+use Rattle.prl_base.specs.declared.values.Value.{Value}
+use Rattle.prl_plan.specs.declared.events.SlotNo.{SlotNo}
+use Rattle.prl_base.specs.declared.numbers.EdgeNo.{EdgeNo}
+use Rattle.prl_plan.specs.declared.events.Action.{Action}
+use Rattle.prl_plan.specs.declared.events.Action.TheVariants as actions
+use Rattle.prl_plan.specs.declared.events.Event.{Event}
+use Rattle.prl_plan.specs.declared.events.Event.TheVariants as events
+use Rattle.prl_plan.specs.Runs.{RunConstants, ExecState, opening, action_at, next_action, moved, after_action, after_event, after_events}
+use Rattle.prl_plan.specs.Plans.{low, high, IsHigh, low_of}
+use Rattle.prl_plan.specs.Rules.{HasJob, ActsReleased, KeepsGated, KeepsFree, IsFree}
+use Rattle.prl_plan.specs.Facts.{IsJob, WritesAt, HasPlanFacts}
+use Rattle.prl_plan.specs.States.{IsDone, IsAhead, IsOrigin, IsTagged}
+use Rattle.prl_plan.proofs.Places.{get-set}
+
+-- a write is no other action
+pub write-not-finish : (e : EdgeNo) (m : ℕ) (cell : SlotNo) → actions.Write e m cell ≡ actions.End → ⊥
+write-not-finish e m cell h = cc
+
+constant-not-write : (port : ℕ) (value : Value) (e : EdgeNo) (m : ℕ) (cell : SlotNo) → actions.ReadConst port value ≡ actions.Write e m cell → ⊥
+constant-not-write port value e m cell h = cc
+
+read-not-write : (port : ℕ) (e : EdgeNo) (m : ℕ) (cell : SlotNo) (e' : EdgeNo) (m' : ℕ) (cell' : SlotNo) → actions.Read port e m cell ≡ actions.Write e' m' cell' → ⊥
+read-not-write port e m cell e' m' cell' h = cc
+
+-- equal writes are to one cell
+same-cell : (e : EdgeNo) (m cell : ℕ) (e' : EdgeNo) (m' cell' : ℕ) → actions.Write e m (record { 0 = cell }) ≡ actions.Write e' m' (record { 0 = cell' }) → cell ≡ cell'
+same-cell e m cell e' m' cell' h =
+    let here : SlotNo = record { 0 = cell } in
+    let there : SlotNo = record { 0 = cell' } in
+    let same : here ≡ there = cc in
+    ap (λ (x : SlotNo). x.0) same
+
+-- what a gated event allows, a free one does
+pub gated_free : (c : RunConstants) (s : ExecState) (event : Event) → KeepsGated c s event → KeepsFree c s event
+gated_free c s events.Tick keeps = keeps.within
+gated_free c s (events.Act task) keeps = keeps
+
+module _ (c : RunConstants) (facts : HasPlanFacts c) where
+  -- a tick moves the clock alone, past no deadline of an unfinished job
+  tagged-tick : (s : ExecState) → IsTagged c s → IsTagged c (record s { now = s.now + 1 })
+  tagged-tick s tagged = record {
+    ended = tagged.ended;
+    places = tagged.places;
+    tags = tagged.tags;
+    counted = tagged.counted;
+    written = tagged.written;
+    ahead = tagged.ahead;
+    origin = λ slot. elim (tagged.origin slot) [
+      | inl none ↦ inl none
+      | inr from ↦ inr (record { task = from.task; job = from.job; place = from.place; instance = from.instance; writes = from.writes; done = from.done; holds = from.holds })
+    ];
+  }
+
+  -- done behind a move of task i: done before it, or what the move did
+  pub done-moved : (s : ExecState) (i : ℕ) → i < length s.places → (j n place : ℕ) → IsDone (moved s i) j n place →
+      IsDone s j n place ⊎ ((j ≡ i) × (n ≡ get_or s.ended i 0) × (place ≡ get_or s.places i 0))
+  done-moved s i h j n place (inl below) = inl (inl below)
+  done-moved s i h j n place (inr here) =
+      elim (get-set s.places i (get_or s.places i 0 + 1) j h) [
+        | inl same ↦
+            (let at : get_or s.ended j 0 ≡ get_or s.ended i 0 = ap (λ x. get_or s.ended x 0) same.0 in
+            let now_at : place < get_or s.places i 0 + 1 = omega (arith, here.1, same.1) in
+            elim (cases_lt place (get_or s.places i 0)) [
+              | inl before ↦ inl (inr (here.0, (let p : get_or s.places j 0 ≡ get_or s.places i 0 = ap (λ x. get_or s.places x 0) same.0 in omega (arith, p, before))))
+              | inr not_before ↦ inr (same.0, (omega (arith, at, here.0)), (omega (arith, now_at, not_before)))
+            ])
+        | inr other ↦ inl (inr (here.0, (omega (arith, here.1, other.1))))
+      ]
+
+  -- ahead behind a move of task i: ahead before it
+  ahead-moved : (s : ExecState) (i : ℕ) → i < length s.places → (j n place : ℕ) → IsAhead (moved s i) j n place → IsAhead s j n place
+  ahead-moved s i h j n place (inl later) = inl later
+  ahead-moved s i h j n place (inr here) =
+      elim (get-set s.places i (get_or s.places i 0 + 1) j h) [
+        | inl same ↦ inr (here.0, (let p : get_or s.places j 0 ≡ get_or s.places i 0 = ap (λ x. get_or s.places x 0) same.0 in omega (arith, p, here.1, same.1)))
+        | inr other ↦ inr (here.0, (omega (arith, here.1, other.1)))
+      ]
+
+  -- what is done stays done
+  pub done-stays : (s : ExecState) (i : ℕ) → i < length s.places → (j n place : ℕ) → IsDone s j n place → IsDone (moved s i) j n place
+  done-stays s i h j n place (inl below) = inl below
+  done-stays s i h j n place (inr here) =
+      inr (
+        here.0,
+        elim (get-set s.places i (get_or s.places i 0 + 1) j h) [
+          | inl same ↦ (let p : get_or s.places j 0 ≡ get_or s.places i 0 = ap (λ x. get_or s.places x 0) same.0 in omega (arith, p, here.1, same.1))
+          | inr other ↦ omega (arith, here.1, other.1)
+        ],
+      )
+
+  origin-moved : (s : ExecState) (i slot : ℕ) → i < length s.places → (get_or s.tags slot 0 ≡ 0) ⊎ IsOrigin c s slot → (get_or s.tags slot 0 ≡ 0) ⊎ IsOrigin c (moved s i) slot
+  origin-moved s i slot inside (inl none) = inl none
+  origin-moved s i slot inside (inr from) = inr (record {
+    task = from.task;
+    job = from.job;
+    place = from.place;
+    instance = from.instance;
+    writes = from.writes;
+    done = done-stays s i inside from.task from.job from.place from.done;
+    holds = from.holds;
+  })
+
+  -- a place moves past an action that writes nothing
+  tagged-moved : (s : ExecState) → IsTagged c s → (i : ℕ) → i < c.tasks →
+      ((e : EdgeNo) (m cell : ℕ) → next_action c s i ≡ actions.Write e m (record { 0 = cell }) → ⊥) → IsTagged c (moved s i)
+  tagged-moved s tagged i task no_write =
+      let inside : i < length s.places = omega (arith, tagged.places) in
+      record {
+        ended = tagged.ended;
+        places = length-set s.places i (get_or s.places i 0 + 1) ∙ tagged.places;
+        tags = tagged.tags;
+        counted = tagged.counted;
+        written = λ j n place m cell writes done.
+            elim (done-moved s i inside j n place done) [
+              | inl before ↦ tagged.written j n place m cell writes before
+              | inr here ↦ absurd (no_write (writes.action.0) m cell
+                  (sym (ap (λ x. action_at c x (get_or s.ended i 0) (get_or s.places i 0)) here.0)
+                  ∙ sym (ap (λ x. action_at c j x (get_or s.places i 0)) here.1)
+                  ∙ sym (ap (λ x. action_at c j n x) here.2)
+                  ∙ writes.action.1))
+            ];
+        ahead = λ j n place m cell writes ahead.
+            tagged.ahead j n place m cell writes (ahead-moved s i inside j n place ahead);
+        origin = λ slot. origin-moved s i slot inside (tagged.origin slot);
+      }
+
+  origin-written : (s : ExecState) (i cell m slot : ℕ) → i < length s.places → cell < length s.tags →
+      WritesAt c i (get_or s.ended i 0) (get_or s.places i 0) m cell → (get_or s.tags slot 0 ≡ 0) ⊎ IsOrigin c s slot →
+      (get_or (set s.tags cell (m + 1)) slot 0 ≡ 0) ⊎ IsOrigin c (record (moved s i) { tags = set s.tags cell (m + 1) }) slot
+  origin-written s i cell m slot inside in_tags writes before =
+      elim (get-set s.tags cell (m + 1) slot in_tags) [
+        | inl same ↦ inr (record {
+          task = i;
+          job = get_or s.ended i 0;
+          place = get_or s.places i 0;
+          instance = m;
+          writes = subst (λ x. WritesAt c i (get_or s.ended i 0) (get_or s.places i 0) m x) (sym same.0) writes;
+          done = inr (refl, (let e : get_or (set s.places i (get_or s.places i 0 + 1)) i 0 ≡ get_or s.places i 0 + 1 = get_or-set_at s.places i i (get_or s.places i 0 + 1) 0 refl inside in omega (arith, e)));
+          holds = same.1;
+        })
+        | inr other ↦ (elim before [
+          | inl none ↦ inl (other.1 ∙ none)
+          | inr from ↦ inr (record {
+            task = from.task;
+            job = from.job;
+            place = from.place;
+            instance = from.instance;
+            writes = from.writes;
+            done = done-stays s i inside from.task from.job from.place from.done;
+            holds = other.1 ∙ from.holds;
+          })
+        ])
+      ]
+
+  -- a job writes its instance to a cell
+  tagged-write : (s : ExecState) → IsTagged c s → (i : ℕ) (e : EdgeNo) (m cell : ℕ) → HasJob c s i → ActsReleased c s i →
+      next_action c s i ≡ actions.Write e m (record { 0 = cell }) → IsTagged c (record (moved s i) { tags = set s.tags cell (m + 1) })
+  tagged-write s tagged i e m cell has released is =
+      let n : ℕ = get_or s.ended i 0 in
+      let job : IsJob c i n = record { task = has.task; job = has.job } in
+      let now_written : WritesAt c i n (get_or s.places i 0) m cell = record { job = job; action = (e, is) } in
+      let own : m ≡ get_or s.ended i 0 = facts.own i n (get_or s.places i 0) m cell now_written in
+      let in_cells : cell < c.slots = facts.write_cell i n (get_or s.places i 0) m cell now_written in
+      let in_tags : cell < length s.tags = omega (arith, tagged.tags, in_cells) in
+      let inside : i < length s.places = omega (arith, tagged.places, has.task) in
+      record {
+        ended = tagged.ended;
+        places = length-set s.places i (get_or s.places i 0 + 1) ∙ tagged.places;
+        tags = length-set s.tags cell (m + 1) ∙ tagged.tags;
+        counted = tagged.counted;
+        written = λ j k place l other writes done.
+            elim (get-set s.tags cell (m + 1) other in_tags) [
+              | inl same ↦
+                  (let here : WritesAt c j k place l cell = subst (λ x. WritesAt c j k place l x) same.0 writes in
+                  let one : j ≡ i = facts.writer j k place l i n (get_or s.places i 0) m cell here now_written in
+                  let its : l ≡ k = facts.own j k place l cell here in
+                  let at : get_or s.ended j 0 ≡ get_or s.ended i 0 = ap (λ x. get_or s.ended x 0) one in
+                  elim done [
+                    | inl below ↦ omega (arith, same.1, its, at, own, below)
+                    | inr present ↦ omega (arith, same.1, its, at, own, present.0)
+                  ])
+              | inr differs ↦
+                  elim (done-moved s i inside j k place done) [
+                    | inl before ↦ (let h : l + 1 ≤ get_or s.tags other 0 = tagged.written j k place l other writes before in omega (arith, differs.1, h))
+                    | inr present ↦ absurd (differs.0 (same-cell (writes.action.0) l other e m cell
+                        (sym (writes.action.1) ∙ ap (λ x. action_at c j k x) present.2 ∙ ap (λ x. action_at c j x (get_or s.places i 0)) present.1
+                        ∙ ap (λ x. action_at c x (get_or s.ended i 0) (get_or s.places i 0)) present.0 ∙ is)))
+                  ]
+            ];
+        ahead = λ j k place l other writes ahead.
+            elim (get-set s.tags cell (m + 1) other in_tags) [
+              | inl same ↦
+                  (let here : WritesAt c j k place l cell = subst (λ x. WritesAt c j k place l x) same.0 writes in
+                  let one : j ≡ i = facts.writer j k place l i n (get_or s.places i 0) m cell here now_written in
+                  let its : l ≡ k = facts.own j k place l cell here in
+                  let at : get_or s.ended j 0 ≡ get_or s.ended i 0 = ap (λ x. get_or s.ended x 0) one in
+                  elim ahead [
+                    | inl later ↦ omega (arith, same.1, its, at, own, later)
+                    | inr present ↦
+                        (let there : WritesAt c i n place l cell =
+                        subst (λ x. WritesAt c i x place l cell) (present.0 ∙ at) (subst (λ x. WritesAt c x k place l cell) one here) in
+                        let where_now : place ≡ get_or s.places i 0 = facts.once i n place l (get_or s.places i 0) m cell there now_written in
+                        let moved_on : get_or (set s.places i (get_or s.places i 0 + 1)) j 0 ≡ get_or s.places i 0 + 1 = get_or-set_at s.places i j (get_or s.places i 0 + 1) 0 one inside in
+                        absurd (let p : get_or (set s.places i (get_or s.places i 0 + 1)) j 0 ≤ place = present.1 in omega (arith, p, moved_on, where_now)))
+                  ])
+              | inr differs ↦
+                  (let h : get_or s.tags other 0 ≤ l = tagged.ahead j k place l other writes (ahead-moved s i inside j k place ahead) in
+                  omega (arith, differs.1, h))
+            ];
+        origin = λ slot. origin-written s i cell m slot inside in_tags now_written (tagged.origin slot);
+      }
+
+  -- done behind the end of a job of task i: done before it
+  done-finished : (s : ExecState) (i : ℕ) → HasJob c s i → next_action c s i ≡ actions.End → i < length s.ended → i < length s.places →
+      (j k place m cell : ℕ) → WritesAt c j k place m cell →
+      IsDone (record s { ended = set s.ended i (get_or s.ended i 0 + 1); places = set s.places i 0 }) j k place → IsDone s j k place
+  done-finished s i has is inside inside_places j k place m cell writes done =
+      elim (cases_eq j i) [
+        | inl same ↦
+            (let at : get_or s.ended j 0 ≡ get_or s.ended i 0 = ap (λ x. get_or s.ended x 0) same in
+            let at_place : get_or s.places j 0 ≡ get_or s.places i 0 = ap (λ x. get_or s.places x 0) same in
+            let counted : get_or (set s.ended i (get_or s.ended i 0 + 1)) j 0 ≡ get_or s.ended i 0 + 1 = get_or-set_at s.ended i j (get_or s.ended i 0 + 1) 0 same inside in
+            let cleared : get_or (set s.places i 0) j 0 ≡ 0 = get_or-set_at s.places i j 0 0 same inside_places in
+            elim done [
+              | inl below ↦
+                  (elim (cases_lt k (get_or s.ended i 0)) [
+                    | inl earlier ↦ inl (omega (arith, earlier, at))
+                    | inr not_earlier ↦
+                        (let now : k ≡ get_or s.ended i 0 = omega (arith, below, counted, not_earlier) in
+                        let its : action_at c i (get_or s.ended i 0) place ≡ actions.Write (writes.action.0) m (record { 0 = cell }) =
+                        sym (ap (λ x. action_at c x (get_or s.ended i 0) place) same) ∙ sym (ap (λ x. action_at c j x place) now) ∙ writes.action.1 in
+                        elim (cases_order place (get_or s.places i 0)) [
+                          | inl here ↦ absurd (write-not-finish (writes.action.0) m (record { 0 = cell }) (sym its ∙ ap (λ x. action_at c i (get_or s.ended i 0) x) here ∙ is))
+                          | inr apart ↦
+                              (elim apart [
+                                | inl before ↦ inr ((omega (arith, now, at)), (omega (arith, before, at_place)))
+                                | inr behind ↦ absurd (write-not-finish (writes.action.0) m (record { 0 = cell }) (sym its ∙ facts.last i (get_or s.ended i 0) (get_or s.places i 0) place (record { task = has.task; job = has.job }) is behind))
+                              ])
+                        ])
+                  ])
+              | inr present ↦ absurd (let p : place < get_or (set s.places i 0) j 0 = present.1 in omega (arith, p, cleared))
+            ])
+        | inr other ↦
+            (let counted : get_or (set s.ended i (get_or s.ended i 0 + 1)) j 0 ≡ get_or s.ended j 0 = get_or-set_other s.ended i j (get_or s.ended i 0 + 1) 0 other in
+            let placed : get_or (set s.places i 0) j 0 ≡ get_or s.places j 0 = get_or-set_other s.places i j 0 0 other in
+            elim done [
+              | inl below ↦ inl (omega (arith, below, counted))
+              | inr present ↦ inr ((omega (arith, present.0, counted)), (omega (arith, present.1, placed)))
+            ])
+      ]
+
+  -- ahead behind the end of a job of task i: ahead before it
+  ahead-finished : (s : ExecState) (i : ℕ) → i < length s.ended → i < length s.places → (j k place : ℕ) →
+      IsAhead (record s { ended = set s.ended i (get_or s.ended i 0 + 1); places = set s.places i 0 }) j k place → IsAhead s j k place
+  ahead-finished s i inside inside_places j k place ahead =
+      elim (cases_eq j i) [
+        | inl same ↦
+            (let at : get_or s.ended j 0 ≡ get_or s.ended i 0 = ap (λ x. get_or s.ended x 0) same in
+            let counted : get_or (set s.ended i (get_or s.ended i 0 + 1)) j 0 ≡ get_or s.ended i 0 + 1 = get_or-set_at s.ended i j (get_or s.ended i 0 + 1) 0 same inside in
+            elim ahead [
+              | inl later ↦ inl (omega (arith, later, counted, at))
+              | inr present ↦ inl (omega (arith, present.0, counted, at))
+            ])
+        | inr other ↦
+            (let counted : get_or (set s.ended i (get_or s.ended i 0 + 1)) j 0 ≡ get_or s.ended j 0 = get_or-set_other s.ended i j (get_or s.ended i 0 + 1) 0 other in
+            let placed : get_or (set s.places i 0) j 0 ≡ get_or s.places j 0 = get_or-set_other s.places i j 0 0 other in
+            elim ahead [
+              | inl later ↦ inl (omega (arith, later, counted))
+              | inr present ↦ inr ((omega (arith, present.0, counted)), (omega (arith, present.1, placed)))
+            ])
+      ]
+
+  done-stays-finished : (s : ExecState) (i : ℕ) → i < length s.ended → i < length s.places → (j n place : ℕ) → IsDone s j n place →
+      IsDone (record s { ended = set s.ended i (get_or s.ended i 0 + 1); places = set s.places i 0 }) j n place
+  done-stays-finished s i inside inside_places j n place done =
+      elim (get-set s.ended i (get_or s.ended i 0 + 1) j inside) [
+        | inl same ↦
+            (let at : get_or s.ended j 0 ≡ get_or s.ended i 0 = ap (λ x. get_or s.ended x 0) same.0 in
+            elim done [
+              | inl below ↦ inl (omega (arith, below, same.1, at))
+              | inr here ↦ inl (let e : n ≡ get_or s.ended j 0 = here.0 in omega (arith, e, same.1, at))
+            ])
+        | inr other ↦
+            elim done [
+              | inl below ↦ inl (omega (arith, below, other.1))
+              | inr here ↦ inr (here.0 ∙ sym other.1, (let p : get_or (set s.places i 0) j 0 ≡ get_or s.places j 0 = get_or-set_other s.places i j 0 0 other.0 in let h : place < get_or s.places j 0 = here.1 in omega (arith, h, p)))
+            ]
+      ]
+
+  -- a job ends
+  tagged-finish : (s : ExecState) → IsTagged c s → (i : ℕ) → HasJob c s i → next_action c s i ≡ actions.End →
+      IsTagged c (record s { ended = set s.ended i (get_or s.ended i 0 + 1); places = set s.places i 0 })
+  tagged-finish s tagged i has is =
+      let n : ℕ = get_or s.ended i 0 in
+      let job : IsJob c i n = record { task = has.task; job = has.job } in
+      let inside : i < length s.ended = omega (arith, tagged.ended, has.task) in
+      let inside_places : i < length s.places = omega (arith, tagged.places, has.task) in
+      let grows : (j : ℕ) → get_or s.ended j 0 ≤ get_or (set s.ended i (n + 1)) j 0 =
+      λ j. elim (get-set s.ended i (n + 1) j inside) [
+        | inl same ↦ (let at : get_or s.ended j 0 ≡ get_or s.ended i 0 = ap (λ x. get_or s.ended x 0) same.0 in omega (arith, same.1, at))
+        | inr other ↦ omega (arith, other.1)
+      ] in
+      record {
+        ended = length-set s.ended i (n + 1) ∙ tagged.ended;
+        places = length-set s.places i 0 ∙ tagged.places;
+        tags = tagged.tags;
+        counted = λ j task.
+            elim (get-set s.ended i (n + 1) j inside) [
+              | inl same ↦ (let jobs : c.jobs j ≡ c.jobs i = ap (λ x. c.jobs x) same.0 in let below : n < c.jobs i = has.job in omega (arith, same.1, jobs, below))
+              | inr other ↦ (let h : get_or s.ended j 0 ≤ c.jobs j = tagged.counted j task in omega (arith, other.1, h))
+            ];
+        written = λ j k place m cell writes done. tagged.written j k place m cell writes (done-finished s i has is inside inside_places j k place m cell writes done);
+        ahead = λ j k place m cell writes ahead. tagged.ahead j k place m cell writes (ahead-finished s i inside inside_places j k place ahead);
+        origin = λ slot. elim (tagged.origin slot) [
+          | inl none ↦ inl none
+          | inr from ↦ inr (record {
+            task = from.task;
+            job = from.job;
+            place = from.place;
+            instance = from.instance;
+            writes = from.writes;
+            done = done-stays-finished s i inside inside_places from.task from.job from.place from.done;
+            holds = from.holds;
+          })
+        ];
+      }
+
+  -- an act does its next action
+  tagged-action : (s : ExecState) → IsTagged c s → (i : ℕ) → HasJob c s i → ActsReleased c s i → (action : Action) →
+      next_action c s i ≡ action → IsTagged c (after_action s i action)
+  tagged-action s tagged i has released (actions.ReadConst port value) is = tagged-moved s tagged i has.task (λ x y z h. constant-not-write port value x y (record { 0 = z }) (sym is ∙ h))
+  tagged-action s tagged i has released (actions.Read port e m cell) is = tagged-moved s tagged i has.task (λ x y z h. read-not-write port e m cell x y (record { 0 = z }) (sym is ∙ h))
+  tagged-action s tagged i has released (actions.Write e m cell) is = tagged-write s tagged i e m cell.0 has released is
+  tagged-action s tagged i has released actions.End is = tagged-finish s tagged i has is
+
+  -- an event that a gated list allows keeps a tagged state
+  pub tagged-event : (s : ExecState) → IsTagged c s → (event : Event) → KeepsFree c s event → IsTagged c (after_event c s event)
+  tagged-event s tagged events.Tick keeps = tagged-tick s tagged
+  tagged-event s tagged (events.Act task) keeps = tagged-action s tagged task.0 keeps.0 keeps.1 (next_action c s task.0) refl
+
+  -- the opening state is sound
+  pub tagged-opening : IsTagged c (opening c)
+  tagged-opening = record {
+    ended = length-replicate c.tasks 0;
+    places = length-replicate c.tasks 0;
+    tags = length-replicate c.slots 0;
+    counted = λ i task. (let z : ◌≡◌ {A = ℕ} (get_or (replicate c.tasks 0) i 0) 0 = get_or-replicate c.tasks i 0 0 task in omega (arith, z));
+    written = λ i n place m cell writes done.
+        (let e : ◌≡◌ {A = ℕ} (get_or (replicate c.tasks 0) i 0) 0 = get_or-replicate c.tasks i 0 0 writes.job.task in
+        elim done [
+          | inl below ↦ absurd (omega (arith, below, e))
+          | inr here ↦ absurd (omega (arith, here.1, e))
+        ]);
+    ahead = λ i n place m cell writes ahead. (let z : ◌≡◌ {A = ℕ} (get_or (replicate c.slots 0) cell 0) 0 = get_or-replicate c.slots cell 0 0 (facts.write_cell i n place m cell writes) in omega (arith, z));
+    origin = λ slot. inl (empty slot);
+  }
+    where
+      empty : (slot : ℕ) → ◌≡◌ {A = ℕ} (get_or (replicate c.slots 0) slot 0) 0
+      empty slot = elim (cases_lt slot c.slots) [
+        | inl inside ↦ get_or-replicate c.slots slot 0 0 inside
+        | inr beyond ↦ get_or_past (replicate {A = ℕ} c.slots 0) slot 0 (let zeros : List ℕ = replicate c.slots 0 in let l : length zeros ≡ c.slots = length-replicate c.slots 0 in omega (arith, l, beyond))
+      ]
+
+  -- the high half of a cell holds no later instance than the low half
+  pub high-not-later : (s : ExecState) → IsTagged c s → (cell : ℕ) → get_or s.tags (high cell) 0 ≤ get_or s.tags (low cell) 0
+  high-not-later s tagged cell =
+      elim (tagged.origin (high cell)) [
+        | inl none ↦ omega (arith, none)
+        | inr from ↦
+            (let is : IsHigh (action_at c from.task from.job from.place) = subst (λ (a : Action). IsHigh a) (sym from.writes.action.1) (cell, refl) in
+            let pair = facts.paired from.task from.job from.place from.writes.job is in
+            let at : from.place ≡ pair.0 + 1 = pair.1 in
+            let first : WritesAt c from.task from.job pair.0 from.instance (low cell) = record {
+              job = from.writes.job;
+              action = (
+                from.writes.action.0,
+                pair.2 ∙ ap (λ (a : Action). low_of a) from.writes.action.1
+                    ∙ ap (λ (x : ℕ). actions.Write from.writes.action.0 from.instance (record { 0 = x })) (let z : high cell - 1 ≡ low cell = omega arith in z),
+              );
+            } in
+            let done : IsDone s from.task from.job pair.0 =
+            (elim from.done [
+              | inl below ↦ inl below
+              | inr here ↦ inr (here.0, (let h : from.place < get_or s.places from.task 0 = here.1 in omega (arith, h, at)))
+            ]) in
+            let up : from.instance + 1 ≤ get_or s.tags (low cell) 0 = tagged.written from.task from.job pair.0 from.instance (low cell) first done in
+            let holds : get_or s.tags (high cell) 0 ≡ from.instance + 1 = from.holds in
+            omega (arith, up, holds))
+      ]
+
+  -- so it is for lists
+  pub IsFree-tagged : (s : ExecState) → IsTagged c s → (list : List Event) → IsFree c s list → IsTagged c (after_events c s list)
+  IsFree-tagged s tagged [] free = tagged
+  IsFree-tagged s tagged (event ∷ list) free = IsFree-tagged (after_event c s event) (tagged-event s tagged event free.0) list free.1
