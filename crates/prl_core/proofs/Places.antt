@@ -1,5 +1,5 @@
 -- Lists with a place set, read by place.
-use Rattle.std.proofs.Common.{◌≡◌, ◌≢◌, ◌<◌, ℕ, zero, suc, List, [], ◌∷◌, length, set, Some, refl, arith, ap}
+use Rattle.std.proofs.Common.{◌≡◌, ◌≢◌, ◌<◌, ℕ, zero, suc, List, [], ◌∷◌, length, set, take, Some, refl, arith, ap}
 use Rattle.std.specs.Prelude.{slice_get}
 
 pub slice_get-set_same : {A : Type 0} (xs : List A) (i : ℕ) (v : A) → i < length xs → slice_get (set xs i v) i ≡ Some v
@@ -13,3 +13,11 @@ slice_get-set_other (x ∷ xs) zero zero v h = absurd (h refl)
 slice_get-set_other (x ∷ xs) zero (suc j) v h = refl
 slice_get-set_other (x ∷ xs) (suc i) zero v h = refl
 slice_get-set_other (x ∷ xs) (suc i) (suc j) v h = slice_get-set_other xs i j v (λ e. h (ap (λ n. suc n) e))
+
+-- the front of a list has its elements
+pub slice_get-take : {A : Type 0} (xs : List A) (n i : ℕ) → i < n → slice_get (take n xs) i ≡ slice_get xs i
+slice_get-take [] zero i h = refl
+slice_get-take [] (suc n) i h = refl
+slice_get-take (x ∷ xs) zero i h = absurd (omega arith)
+slice_get-take (x ∷ xs) (suc n) zero h = refl
+slice_get-take (x ∷ xs) (suc n) (suc i) h = slice_get-take xs n i (omega arith)

@@ -1,6 +1,6 @@
 -- Which tasks write, and where.
 use Rattle.std.proofs.Common.{◌≡◌, ◌<◌, ℕ, get_or, subst}
-use Rattle.prl_base.specs.declared.numbers.CellNo.{CellNo}
+use Rattle.prl_plan.specs.declared.events.SlotNo.{SlotNo}
 use Rattle.prl_base.specs.declared.numbers.EdgeNo.{EdgeNo}
 use Rattle.prl_base.specs.declared.numbers.TaskNo.{TaskNo}
 use Rattle.prl_plan.specs.declared.events.Action.{Action}
@@ -13,20 +13,20 @@ use Rattle.prl_plan.specs.Facts.{HasPlanFacts}
 use Rattle.prl_plan.specs.Devices.{LinksDevices}
 use Rattle.prl_plan.specs.Runs.{next_action}
 use Rattle.prl_plan.specs.Rules.{HasJob, KeepsLegal}
-use Rattle.prl_plan.proofs.Actions.{actions-fit}
+use Rattle.prl_plan.proofs.StateLaws.{action_is_as_defined}
 use Rattle.prl_core.specs.Machine.{CoreView, constants}
 
-pub writer-is-sensor : (core : CoreView) → LinksDevices core.plan → (i : ℕ) (edge : EdgeNo) (n : ℕ) (cell : CellNo) →
-    next_action (constants core) core.state i ≡ actions.Write edge n cell → (k : ℕ) × ((task_at core.plan.graph i).kind ≡ kinds.Sensor k)
-writer-is-sensor core links i edge n cell is =
-    let fits : IsActionOf core.plan i (get_or core.state.ended i 0) (actions.Write edge n cell) =
+pub writer-is-sensor : (core : CoreView) → LinksDevices core.plan → (i : ℕ) (edge : EdgeNo) (n : ℕ) (slot : SlotNo) →
+    next_action (constants core) core.state i ≡ actions.Write edge n slot → (k : ℕ) × ((task_at core.plan.graph i).kind ≡ kinds.Sensor k)
+writer-is-sensor core links i edge n slot is =
+    let fits : IsActionOf core.plan i (get_or core.state.ended i 0) (actions.Write edge n slot) =
     subst (λ (a : Action). IsActionOf core.plan i (get_or core.state.ended i 0) a) is
-    (actions-fit core.plan i (get_or core.state.ended i 0) (get_or core.state.places i 0)) in
+    (action_is_as_defined core.plan i (get_or core.state.ended i 0) (get_or core.state.places i 0)) in
     links.sensor edge.0 i fits.0 fits.1
 
 pub written-in-range : (core : CoreView) → HasPlanFacts (constants core) → (task : TaskNo) → KeepsLegal (constants core) core.state (events.Act task) →
-    (edge : EdgeNo) (n : ℕ) (cell : CellNo) → next_action (constants core) core.state task.0 ≡ actions.Write edge n cell → cell.0 < (constants core).cells
-written-in-range core facts task keeps edge n cell is =
+    (edge : EdgeNo) (n : ℕ) (slot : SlotNo) → next_action (constants core) core.state task.0 ≡ actions.Write edge n slot → slot.0 < (constants core).slots
+written-in-range core facts task keeps edge n slot is =
     let has : HasJob (constants core) core.state task.0 = keeps.0 in
-    facts.write_cell task.0 (get_or core.state.ended task.0 0) (get_or core.state.places task.0 0) n cell.0
+    facts.write_cell task.0 (get_or core.state.ended task.0 0) (get_or core.state.places task.0 0) n slot.0
     (record { job = record { task = has.task; job = has.job }; action = (edge, is) })

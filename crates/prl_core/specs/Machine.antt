@@ -1,10 +1,13 @@
 -- What is seen of the machine, and what it tells.
-use Rattle.std.specs.Prelude.{◌≡◌, ◌+◌, ◌<◌, ℕ, List, length, Some, slice_get, slice_index}
+use Rattle.std.specs.Prelude.{◌≡◌, ◌+◌, ◌/◌, ◌%◌, ◌<◌, ℕ, zero, suc, List, length, Some, slice_get, slice_index}
+use Rattle.prl_base.specs.declared.numbers.CellNo.{CellNo}
+use Rattle.prl_base.specs.declared.numbers.EdgeNo.{EdgeNo}
 use Rattle.prl_base.specs.declared.numbers.TaskNo.{TaskNo}
 use Rattle.prl_base.specs.declared.values.Value.{Value}
 use Rattle.prl_flow.specs.Rows.{Rows}
 use Rattle.prl_plan.specs.declared.events.Action.{Action}
 use Rattle.prl_plan.specs.declared.events.Action.TheVariants as actions
+use Rattle.prl_plan.specs.declared.events.SlotNo.{SlotNo}
 use Rattle.prl_plan.specs.declared.events.Event.{Event}
 use Rattle.prl_plan.specs.declared.events.Event.TheVariants as events
 use Rattle.prl_plan.specs.declared.horizons.Horizon.{Horizon}
@@ -31,20 +34,34 @@ pub record CoreView : Type 0 where
 abbrev pub constants : CoreView → RunConstants
 constants core = constants_of core.plan core.horizon
 
--- the cell is empty, or each horizon job that reads the instance in it has ended
-abbrev pub IsCellFree : CoreView → ℕ → Type 0
-IsCellFree core cell =
-    (i n place m : ℕ) → ReadsAt (constants core) i n place m cell → slice_index core.state.tags cell ≡ m + 1 → n < slice_index core.state.ended i
+-- the slot is empty, or each horizon job that reads the instance in it has ended
+abbrev pub IsSlotFree : CoreView → ℕ → Type 0
+IsSlotFree core slot =
+    (i n place m : ℕ) → ReadsAt (constants core) i n place m slot → slice_index core.state.tags slot ≡ m + 1 → n < slice_index core.state.ended i
 
--- What is told of an action of job n of a task. A read finds its instance in the cell, and tells the value by instance. A
--- write finds its cell free.
+-- the cell of which the slot is a half
+abbrev pub cell_no : SlotNo → CellNo
+cell_no slot = record { 0 = slot.0 / 2 }
+
+-- What is told of a read of a half: of a low half that it is read, of a high half the value by instance.
+abbrev pub IsSightOfRead : CoreView → TaskNo → ℕ → ℕ → EdgeNo → ℕ → CellNo → ℕ → Seen → Type 0
+IsSightOfRead core task n port edge instance cell zero seen = seen ≡ sights.Half task n edge cell
+IsSightOfRead core task n port edge instance cell (suc half) seen =
+    (value : Value) × (seen ≡ sights.Read task n port edge instance cell value)
+    × (instance_value core.plan.graph core.rows (edge_at core.plan.graph edge.0) instance ≡ Some value)
+
+-- what is told of a write of a half
+abbrev pub sight_of_write : TaskNo → ℕ → EdgeNo → CellNo → ℕ → Seen
+sight_of_write task n edge cell zero = sights.Half task n edge cell
+sight_of_write task n edge cell (suc half) = sights.Wrote task n edge cell
+
+-- What is told of an action of job n of a task. A read of a half finds its instance there, and a write finds its half free.
 abbrev pub IsSightOf : CoreView → TaskNo → ℕ → Action → Seen → Type 0
 IsSightOf core task n (actions.ReadConst port value) seen = seen ≡ sights.ReadConst task n port value
-IsSightOf core task n (actions.Read port edge instance cell) seen =
-    (slice_index core.state.tags cell.0 ≡ instance + 1)
-    × ((value : Value) × (seen ≡ sights.Read task n port edge instance cell value)
-    × (instance_value core.plan.graph core.rows (edge_at core.plan.graph edge.0) instance ≡ Some value))
-IsSightOf core task n (actions.Write edge instance cell) seen = IsCellFree core cell.0 × (seen ≡ sights.Wrote task n edge cell)
+IsSightOf core task n (actions.Read port edge instance slot) seen =
+    (slice_index core.state.tags slot.0 ≡ instance + 1) × IsSightOfRead core task n port edge instance (cell_no slot) (slot.0 % 2) seen
+IsSightOf core task n (actions.Write edge instance slot) seen =
+    IsSlotFree core slot.0 × (seen ≡ sight_of_write task n edge (cell_no slot) (slot.0 % 2))
 IsSightOf core task n actions.End seen = seen ≡ sights.Ended task n
 
 -- what is told of an event

@@ -1,6 +1,6 @@
 //! The machine.
 
-ghost use Rattle.std.specs.Prelude.{◌≡◌, ◌+◌, ◌<◌, ◌≤◌, ℕ, map, length, slice_index, IfOk, IfErr, MatchOption, MatchResult};
+ghost use Rattle.std.specs.Prelude.{◌≡◌, ◌+◌, ◌%◌, ◌<◌, ◌≤◌, ℕ, map, length, slice_index, IfOk, IfErr, MatchOption, MatchResult};
 ghost use Rattle.std.specs.Bool.{OnTrue, OnFalse};
 ghost use Rattle.prl_plan.specs.Facts.{IsJob};
 ghost use Rattle.prl_plan.specs.Horizons.{IsHorizon, constants_of};
@@ -8,6 +8,7 @@ ghost use Rattle.prl_plan.specs.Rules.{first_unfinished, IsUnfinished, IsComplet
 ghost use Rattle.prl_base.specs.declared.numbers.EdgeNo.{EdgeNo};
 ghost use Rattle.prl_plan.specs.declared.events.Action.TheVariants as actions;
 ghost use Rattle.prl_plan.specs.Runs.{opening, moved, next_action, after_action, after_event};
+ghost use Rattle.prl_core.specs.Machine.{cell_no, sight_of_write};
 ghost use Rattle.prl_core.specs.Tests.{Overtakes, StaysBehind, IsDueFirst, IsInTime};
 ghost use Rattle.prl_plan.specs.Jobs.{task_at};
 ghost use Rattle.prl_plan.specs.declared.graphs.Kind.TheVariants as kinds;
@@ -15,9 +16,11 @@ ghost use Rattle.prl_core.specs.Values.{HasRows, HasRoom, value_of_job};
 
 use crate::columns::put;
 use crate::{Illegal, Seen, Unfinished};
-use prl_base::{CellNo, TaskNo, Value};
+use prl_base::{EdgeNo, TaskNo, Value};
 use prl_flow::Sensors;
-use prl_plan::{Action, Event, Horizon, Kind, Plan, Rule, plan_facts, plan_links_devices};
+use prl_plan::{
+    Action, Event, Horizon, Kind, Plan, Rule, SlotNo, plan_facts, plan_links_devices,
+};
 use std::alloc::{AllocError, Global};
 use std::marker::Model;
 
@@ -31,7 +34,7 @@ pub struct Core<'a> {
     /// By task, how many jobs have ended, and the place of the next job's next action.
     ended: Vec<u64>,
     places: Vec<u32>,
-    /// By cell, the instance in it plus 1, or 0, and its value.
+    /// By half of a cell, the instance in it plus 1, or 0, and the value of which it is a half.
     tags: Vec<u64>,
     values: Vec<Value>,
     /// By task with a port, what its jobs have read.
@@ -52,8 +55,8 @@ impl<'a> Model for Core<'a> {
 }
 
 impl<'a> Core<'a> {
-    ghost use Rattle.prl_core.specs.Machine.{constants, Tells, IsOfPlan, Drives, AreOutputs};
-    ghost use Rattle.prl_core.specs.Tests.{ReadsValue};
+    ghost use Rattle.prl_core.specs.Machine.{constants, Tells, IsSightOf, IsOfPlan, Drives, AreOutputs};
+    ghost use Rattle.prl_core.specs.Tests.{ReadsValue, ReadsLow};
 
     /// The machine before the first event. The horizon is one of the plan, and each sensor has a row for each horizon
     /// job.
@@ -68,12 +71,12 @@ impl<'a> Core<'a> {
         ensures { IfOk result (λ core. core ≡ record { plan = plan.now; rows = sensors.now; horizon = horizon; state = opening (constants_of plan.now horizon) }) }
     {
         let tasks = plan.graph().tasks.len();
-        let cells = plan.total() as usize;
+        let slots = 2 * plan.total() as usize;
         let columns = room_for_reads(alloc, plan, horizon)?;
         let ended = vec![in alloc; 0; tasks]?;
         let places = vec![in alloc; 0; tasks]?;
-        let tags = vec![in alloc; 0; cells]?;
-        let values = vec![in alloc; Value::Int(0); cells]?;
+        let tags = vec![in alloc; 0; slots]?;
+        let values = vec![in alloc; Value::Int(0); slots]?;
         plan_facts(plan, horizon);
         plan_links_devices(plan);
         Ok(Core {
@@ -232,7 +235,7 @@ impl<'a> Core<'a> {
         Ok(Seen::Ticked(self.now))
     }
 
-    /// The job of the task reads a value.
+    /// The job of the task completes the read of a value.
     fn take(&mut self, task: TaskNo, job: u64, value: Value)
         requires allowed { KeepsLegal (constants self.old) self.old.state (Event.Act task) }
         requires job { job ≡ first_unfinished self.old.state task.0 }
@@ -244,6 +247,50 @@ impl<'a> Core<'a> {
         let i = task.0 as usize;
         put(&mut self.columns, i, job as usize, value);
         self.places[i] += 1;
+    }
+
+    /// The job of the task reads a low half.
+    fn pass(&mut self, task: TaskNo)
+        requires allowed { KeepsLegal (constants self.old) self.old.state (Event.Act task) }
+        requires reads { ReadsLow self.old task.0 }
+        ensures { self.exit.now ≡ record self.entry.now { state = moved self.entry.now.state task.0 } }
+    {
+        plan_facts(self.plan, self.horizon);
+        plan_links_devices(self.plan);
+        let i = task.0 as usize;
+        self.places[i] += 1;
+    }
+
+    /// The job of the task reads a half of an instance, and tells of it.
+    fn read(&mut self, task: TaskNo, job: u64, port: u32, edge: EdgeNo, instance: u64, slot: SlotNo) -> Seen
+        requires allowed { KeepsLegal (constants self.old) self.old.state (Event.Act task) }
+        requires job { job ≡ first_unfinished self.old.state task.0 }
+        requires reads { next_action (constants self.old) self.old.state task.0 ≡ actions.Read port edge instance slot }
+        ensures state { self.exit.now ≡ record self.entry.now { state = moved self.entry.now.state task.0 } }
+        ensures tells { IsSightOf self.entry.now task job (actions.Read port edge instance slot) result }
+    {
+        plan_facts(self.plan, self.horizon);
+        let cell = slot.cell();
+        if slot.is_low() {
+            self.pass(task);
+            return Seen::Half {
+                task,
+                job,
+                edge,
+                cell,
+            };
+        }
+        let value = self.values[slot.0 as usize];
+        self.take(task, job, value);
+        Seen::Read {
+            task,
+            job,
+            port,
+            edge,
+            instance,
+            cell,
+            value,
+        }
     }
 
     /// What a job of a sensor task gives: its row.
@@ -258,11 +305,11 @@ impl<'a> Core<'a> {
         }
     }
 
-    /// The job of the task writes its instance to a cell.
-    fn write(&mut self, task: TaskNo, job: u64, cell: CellNo)
+    /// The job of the task writes a half of its instance.
+    fn write(&mut self, task: TaskNo, job: u64, slot: SlotNo)
         requires allowed { KeepsLegal (constants self.old) self.old.state (Event.Act task) }
         requires job { job ≡ first_unfinished self.old.state task.0 }
-        requires writes { (edge : EdgeNo) × (next_action (constants self.old) self.old.state task.0 ≡ actions.Write edge job cell) }
+        requires writes { (edge : EdgeNo) × (next_action (constants self.old) self.old.state task.0 ≡ actions.Write edge job slot) }
         ensures { self.exit.now ≡ record self.entry.now { state = after_action self.entry.now.state task.0 (next_action (constants self.entry.now) self.entry.now.state task.0) } }
     {
         plan_facts(self.plan, self.horizon);
@@ -270,8 +317,8 @@ impl<'a> Core<'a> {
         let i = task.0 as usize;
         let value = self.sensed(task, job);
         self.places[i] += 1;
-        self.tags[cell.0 as usize] = job + 1;
-        self.values[cell.0 as usize] = value;
+        self.tags[slot.0 as usize] = job + 1;
+        self.values[slot.0 as usize] = value;
     }
 
     /// The job of the task ends.
@@ -312,28 +359,11 @@ impl<'a> Core<'a> {
                 port,
                 edge,
                 instance,
-                cell,
-            } => {
-                let value = self.values[cell.0 as usize];
-                self.take(task, job, value);
-                Seen::Read {
-                    task,
-                    job,
-                    port,
-                    edge,
-                    instance,
-                    cell,
-                    value,
-                }
-            }
-            Action::Write { edge, cell, .. } => {
-                self.write(task, job, cell);
-                Seen::Wrote {
-                    task,
-                    job,
-                    edge,
-                    cell,
-                }
+                slot,
+            } => self.read(task, job, port, edge, instance, slot),
+            Action::Write { edge, slot, .. } => {
+                self.write(task, job, slot);
+                sight_of_write(task, job, edge, slot)
             }
             Action::End => {
                 self.end(task, job);
@@ -387,6 +417,8 @@ impl<'a> Core<'a> {
         requires { (i : ℕ) × Drives self.now.plan i actuator }
         ensures { (i : ℕ) × Drives self.entry.now.plan i actuator × AreOutputs self.entry.now i result.now }
     {
+        plan_facts(self.plan, self.horizon);
+        plan_links_devices(self.plan);
         let i = self.task_of(actuator);
         &self.columns[i].as_slice()[..self.ended[i] as usize]
     }
@@ -408,4 +440,26 @@ fn room_for_reads(
         columns.push(vec![in alloc; Value::Int(0); jobs as usize]?)?;
     }
     Ok(columns)
+}
+
+/// What is told of a write of a half.
+fn sight_of_write(task: TaskNo, job: u64, edge: EdgeNo, slot: SlotNo) -> Seen
+    ensures { result ≡ sight_of_write task job edge (cell_no slot) (slot.0 % 2) }
+{
+    let cell = slot.cell();
+    if slot.is_low() {
+        Seen::Half {
+            task,
+            job,
+            edge,
+            cell,
+        }
+    } else {
+        Seen::Wrote {
+            task,
+            job,
+            edge,
+            cell,
+        }
+    }
 }

@@ -8,7 +8,7 @@ use prl_plan::Rule;
 pub enum Seen {
     /// The clock shows this tick.
     Ticked(u64),
-    /// A job read an instance from a cell.
+    /// A job read the high half of a cell, and with it an instance.
     Read {
         task: TaskNo,
         job: u64,
@@ -25,7 +25,14 @@ pub enum Seen {
         port: u32,
         value: Value,
     },
-    /// A job wrote its instance to a cell.
+    /// A job read or wrote the low half of a cell.
+    Half {
+        task: TaskNo,
+        job: u64,
+        edge: EdgeNo,
+        cell: CellNo,
+    },
+    /// A job wrote the high half of a cell, and with it its instance.
     Wrote {
         task: TaskNo,
         job: u64,

@@ -57,8 +57,8 @@ fn illegal_events(rt: HostRuntime) -> Result<(), Fail> {
     assert_eq!(rt; outcome_of(&rt, b"to")?.seen, Err((2, Rule::L3)));
     assert_eq!(rt; outcome_of(&rt, b"ttttttttt")?.seen, Err((9, Rule::L4)));
     assert_eq!(rt;
-        outcome_of(&rt, b"iitootttttttttiitooo")?.seen,
-        Err((20, Rule::L2))
+        outcome_of(&rt, b"iiitoootttttttttiiitoooo")?.seen,
+        Err((24, Rule::L2))
     );
     Ok(())
 }
@@ -74,13 +74,13 @@ fn reads_of_a_run(rt: HostRuntime) -> Result<(), Fail> {
         cell: CellNo(0),
         value: Value::Int(1),
     };
-    assert_eq!(rt; outcome_of(&rt, b"iito")?.seen, Ok(Some(read)));
+    assert_eq!(rt; outcome_of(&rt, b"iiitoo")?.seen, Ok(Some(read)));
     let left = Unfinished {
         task: TaskNo(0),
         job: 0,
     };
     assert_eq!(rt; outcome_of(&rt, b"")?.finished, Err(left));
-    let whole = outcome_of(&rt, b"iitootttttttttiitoo")?;
+    let whole = outcome_of(&rt, b"iiitoootttttttttiiitooo")?;
     assert_eq!(rt; whole.finished, Ok(()));
     assert_eq!(rt;
         whole.output.as_slice(),

@@ -1,3 +1,4 @@
+-- for the crates above: lists of numbers with a place set
 pub mod Places
 pub mod Halves
 pub mod Ports

@@ -1,7 +1,9 @@
 -- What the machine tells of a read is a value of the output in the one solution.
-use Rattle.std.proofs.Common.{◌≡◌, ℕ, ◌<◌, ◌++◌, zero, suc, Bool, true, false, List, [], ◌∷◌, Some, refl, sym, ◌∙◌, subst, arith}
+use Rattle.std.proofs.Common.{◌≡◌, ℕ, ◌%◌, ◌<◌, ◌++◌, zero, suc, Bool, true, false, List, [], ◌∷◌, Some, refl, sym, ◌∙◌, subst, arith}
 use Rattle.std.specs.Prelude.{slice_get, slice_index_or, is_some, if◌then◌else◌}
 use Rattle.std.proofs.lemmas.List.Elements.{All-nil, All-cons, All-filter}
+use Rattle.prl_base.specs.declared.numbers.CellNo.{CellNo}
+use Rattle.prl_base.specs.declared.numbers.EdgeNo.{EdgeNo}
 use Rattle.prl_base.specs.declared.numbers.TaskNo.{TaskNo}
 use Rattle.prl_base.specs.declared.values.Value.{Value}
 use Rattle.prl_plan.specs.declared.events.Action.{Action}
@@ -9,12 +11,12 @@ use Rattle.prl_plan.specs.declared.events.Action.TheVariants as actions
 use Rattle.prl_plan.specs.declared.events.Event.{Event}
 use Rattle.prl_plan.specs.declared.events.Event.TheVariants as events
 use Rattle.prl_plan.specs.declared.horizons.Horizon.{Horizon}
-use Rattle.prl_plan.specs.Plans.{edge_at, place_on, cell_of}
+use Rattle.prl_plan.specs.Plans.{edge_at, place_on, both_writes}
 use Rattle.prl_plan.specs.Runs.{ExecState, action_at, next_action, after_event}
 use Rattle.prl_plan.specs.Rules.{IsLegal, KeepsLegal, first_unfinished}
 use Rattle.prl_core.specs.declared.seen.Seen.{Seen}
 use Rattle.prl_core.specs.Values.{instance_value}
-use Rattle.prl_core.specs.Machine.{CoreView, constants, Tells, IsSightOf, Drives, AreOutputs}
+use Rattle.prl_core.specs.Machine.{CoreView, constants, cell_no, sight_of_write, Tells, IsSightOf, IsSightOfRead, Drives, AreOutputs}
 use Rattle.prl_replay.specs.Replays.{IsReplay, TellsAll, behind, is_read}
 use Rattle.prl_relays.specs.Relays.{Relay, relay_plan, machine, IsOperand, AreOperands}
 use Rattle.prl_relays.proofs.Handed.{jobs_of, machine_in, actuator_one}
@@ -22,24 +24,26 @@ use Rattle.prl_relays.proofs.Handed.{jobs_of, machine_in, actuator_one}
 -- a read of the two tasks is the actuator's, on their one edge, of the instance of its own number
 abbrev pub IsOfTwo : ℕ → ℕ → Action → Type 0
 IsOfTwo i n (actions.ReadConst port value) = ⊥
-IsOfTwo i n (actions.Read port edge instance cell) = (i ≡ 1) × (edge.0 ≡ 0) × (instance ≡ n)
-IsOfTwo i n (actions.Write edge instance cell) = Unit {0}
+IsOfTwo i n (actions.Read port edge instance slot) = (i ≡ 1) × (edge.0 ≡ 0) × (instance ≡ n)
+IsOfTwo i n (actions.Write edge instance slot) = Unit {0}
 IsOfTwo i n actions.End = Unit {0}
 
-sensor_action : (n cell place : ℕ) (used : Bool)
-    → IsOfTwo 0 n (slice_index_or (((if used then actions.Write (record { 0 = 0 }) n (record { 0 = cell }) ∷ [] else []) ++ []) ++ actions.End ∷ []) place actions.End)
-sensor_action n cell zero true = tt
-sensor_action n cell (suc zero) true = tt
-sensor_action n cell (suc (suc place)) true = tt
-sensor_action n cell zero false = tt
-sensor_action n cell (suc place) false = tt
+sensor_action : (r : Relay) (n place : ℕ) (used : Bool)
+    → IsOfTwo 0 n (slice_index_or (((if used then both_writes (relay_plan r.chain) 0 n else []) ++ []) ++ actions.End ∷ []) place actions.End)
+sensor_action r n zero true = tt
+sensor_action r n (suc zero) true = tt
+sensor_action r n (suc (suc zero)) true = tt
+sensor_action r n (suc (suc (suc place))) true = tt
+sensor_action r n zero false = tt
+sensor_action r n (suc place) false = tt
 
 pub action_of_two : (r : Relay) (horizon : Horizon) (i n place : ℕ) → i < 2 → IsOfTwo i n (action_at (constants (machine r horizon)) i n place)
 action_of_two r horizon zero n place small =
-    sensor_action n (cell_of (relay_plan r.chain) 0 n) place (is_some (place_on (relay_plan r.chain) 0 n))
+    sensor_action r n place (is_some (place_on (relay_plan r.chain) 0 n))
 action_of_two r horizon (suc zero) n zero small = (refl, refl, refl)
-action_of_two r horizon (suc zero) n (suc zero) small = tt
-action_of_two r horizon (suc zero) n (suc (suc place)) small = tt
+action_of_two r horizon (suc zero) n (suc zero) small = (refl, refl, refl)
+action_of_two r horizon (suc zero) n (suc (suc zero)) small = tt
+action_of_two r horizon (suc zero) n (suc (suc (suc place))) small = tt
 action_of_two r horizon (suc (suc i)) n place small = absurd (omega (arith, small))
 
 -- the values of the output are the front of the sensor's
@@ -47,16 +51,29 @@ abbrev pub AreFront : Relay → Horizon → List Value → Type 0
 AreFront r horizon out = (k : ℕ) → k < jobs_of r.chain horizon.until → slice_get out k ≡ slice_get r.values k
 
 module _ (r : Relay) (horizon : Horizon) (out : List Value) (front : AreFront r horizon out) where
+  -- a low half tells of no value, a high half of the actuator's
+  read_is : (s : ExecState) (task : TaskNo) (n port : ℕ) (edge : EdgeNo) (instance : ℕ) (cell : CellNo) (half : ℕ) (seen : Seen)
+      → (task.0 ≡ 1) × (edge.0 ≡ 0) × (instance ≡ n) → n < (constants (machine r horizon)).jobs task.0
+      → IsSightOfRead (machine_in r horizon s) task n port edge instance cell half seen → IsOperand out seen
+  read_is s task n port edge instance cell zero seen of below h = subst (IsOperand out) (sym h) tt
+  read_is s task n port edge instance cell (suc half) seen of below h =
+      let job : n < jobs_of r.chain horizon.until = subst (λ (i : ℕ). n < (constants (machine r horizon)).jobs i) of.0 below in
+      let on : instance_value (relay_plan r.chain).graph (r.values ∷ []) (edge_at (relay_plan r.chain).graph 0) instance ≡ Some h.0 =
+      subst (λ (e : ℕ). instance_value (relay_plan r.chain).graph (r.values ∷ []) (edge_at (relay_plan r.chain).graph e) instance ≡ Some h.0) of.1 h.2 in
+      let row : slice_get r.values n ≡ Some h.0 = subst (λ (m : ℕ). slice_get r.values m ≡ Some h.0) of.2 on in
+      subst (IsOperand out) (sym h.1) (of.0, front n job ∙ row)
+
+  write_is : (task : TaskNo) (n : ℕ) (edge : EdgeNo) (cell : CellNo) (half : ℕ) → IsOperand out (sight_of_write task n edge cell half)
+  write_is task n edge cell zero = tt
+  write_is task n edge cell (suc half) = tt
+
   sight_is : (s : ExecState) (task : TaskNo) (n : ℕ) (action : Action) (seen : Seen) → IsOfTwo task.0 n action
       → n < (constants (machine r horizon)).jobs task.0 → IsSightOf (machine_in r horizon s) task n action seen → IsOperand out seen
   sight_is s task n (actions.ReadConst port value) seen of below h = absurd of
-  sight_is s task n (actions.Read port edge instance cell) seen of below h =
-      let job : n < jobs_of r.chain horizon.until = subst (λ (i : ℕ). n < (constants (machine r horizon)).jobs i) of.0 below in
-      let on : instance_value (relay_plan r.chain).graph (r.values ∷ []) (edge_at (relay_plan r.chain).graph 0) instance ≡ Some h.1.0 =
-      subst (λ (e : ℕ). instance_value (relay_plan r.chain).graph (r.values ∷ []) (edge_at (relay_plan r.chain).graph e) instance ≡ Some h.1.0) of.1 h.1.2 in
-      let row : slice_get r.values n ≡ Some h.1.0 = subst (λ (m : ℕ). slice_get r.values m ≡ Some h.1.0) of.2 on in
-      subst (IsOperand out) (sym h.1.1) (of.0, front n job ∙ row)
-  sight_is s task n (actions.Write edge instance cell) seen of below h = subst (IsOperand out) (sym h.1) tt
+  sight_is s task n (actions.Read port edge instance slot) seen of below h =
+      read_is s task n port edge instance (cell_no slot) (slot.0 % 2) seen of below h.1
+  sight_is s task n (actions.Write edge instance slot) seen of below h =
+      subst (IsOperand out) (sym h.1) (write_is task n edge (cell_no slot) (slot.0 % 2))
   sight_is s task n actions.End seen of below h = subst (IsOperand out) (sym h) tt
 
   event_is : (s : ExecState) (event : Event) (seen : Seen) → KeepsLegal (constants (machine r horizon)) s event → Tells (machine_in r horizon s) event seen

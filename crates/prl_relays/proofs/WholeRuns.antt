@@ -1,9 +1,10 @@
 -- A whole run of the plan of a chain that hands its input on has a text: the machine tells something of each of its events.
-use Rattle.std.proofs.Common.{◌≡◌, ◌↔◌, ℕ, ◌+◌, ◌<◌, ◌≤◌, ◌++◌, zero, suc, List, [], ◌∷◌, length, take, Some, refl, sym, ap, ◌∙◌, inl, inr, subst, arith, lit≤}
+use Rattle.std.proofs.Common.{◌≡◌, ◌↔◌, ℕ, ◌+◌, ◌%◌, ◌<◌, ◌≤◌, ◌++◌, zero, suc, List, [], ◌∷◌, length, take, Some, refl, sym, ap, ◌∙◌, inl, inr, subst, arith, lit≤}
 use Rattle.std.specs.Prelude.{Ok, codes, filter, slice_get, slice_index, nat_le}
 use Rattle.std.proofs.Math.Path.{fun_ext}
 use Rattle.std.proofs.lemmas.Bool.{leb-true}
 use Rattle.std.proofs.lemmas.List.Elements.{All-filter}
+use Rattle.prl_base.specs.declared.numbers.CellNo.{CellNo}
 use Rattle.prl_base.specs.declared.numbers.EdgeNo.{EdgeNo}
 use Rattle.prl_base.specs.declared.numbers.TaskNo.{TaskNo}
 use Rattle.prl_base.specs.declared.values.Value.{Value}
@@ -25,7 +26,7 @@ use Rattle.prl_plan.proofs.TwoTasks.{two-plan}
 use Rattle.prl_core.specs.declared.seen.Seen.{Seen}
 use Rattle.prl_core.specs.declared.seen.Seen.TheVariants as sights
 use Rattle.prl_core.specs.Values.{instance_value}
-use Rattle.prl_core.specs.Machine.{constants, Tells, IsSightOf, IsCellFree}
+use Rattle.prl_core.specs.Machine.{constants, cell_no, sight_of_write, Tells, IsSightOf, IsSightOfRead, IsSlotFree}
 use Rattle.prl_replay.specs.Replays.{TellsAll, behind, is_read}
 use Rattle.prl_replay.specs.Schedules.{schedule_of}
 use Rattle.prl_relays.specs.Relays.{Relay, relay_plan, machine, input_clock, task_names, replay_lines, IsReady, IsOperand, IsHorizonOf, IsReplayText}
@@ -54,9 +55,9 @@ GatedOfTwo =
 abbrev pub WritesFree : Type 0
 WritesFree =
     (c : RunConstants) → HasPlanFacts c → (list : List Event) → IsGated c (opening c) list
-    → (i : ℕ) (edge : EdgeNo) (m cell : ℕ) → HasJob c (after_events c (opening c) list) i → ActsReleased c (after_events c (opening c) list) i
-    → next_action c (after_events c (opening c) list) i ≡ actions.Write edge m (record { 0 = cell }) → (j n place l : ℕ) → ReadsAt c j n place l cell
-    → slice_index (after_events c (opening c) list).tags cell ≡ l + 1 → n < slice_index (after_events c (opening c) list).ended j
+    → (i : ℕ) (edge : EdgeNo) (m slot : ℕ) → HasJob c (after_events c (opening c) list) i → ActsReleased c (after_events c (opening c) list) i
+    → next_action c (after_events c (opening c) list) i ≡ actions.Write edge m (record { 0 = slot }) → (j n place l : ℕ) → ReadsAt c j n place l slot
+    → slice_index (after_events c (opening c) list).tags slot ≡ l + 1 → n < slice_index (after_events c (opening c) list).ended j
 
 -- The names of the tasks are none of the facts, so those of a plan with other names serve.
 some_names : AreTwoNames (codes "a") (codes "ab")
@@ -159,26 +160,31 @@ module _ (r : Relay) (horizon : Horizon) (enough : jobs_of r.chain horizon.until
   abbrev state_behind : List Event → ExecState
   state_behind = after_events c (opening c)
 
-  sight : (s : ExecState) (task : TaskNo) (n : ℕ) (action : Action) → IsOfTwo task.0 n action → n < c.jobs task.0 → FindsTag s action
-      → ((edge : EdgeNo) (m cell : ℕ) → action ≡ actions.Write edge m (record { 0 = cell }) → IsCellFree (machine_in r horizon s) cell)
-      → (seen : Seen) × IsSightOf (machine_in r horizon s) task n action seen
-  sight s task n (actions.ReadConst port value) of below tag free = absurd of
-  sight s task n (actions.Read port edge instance cell) of below tag free =
+  read_sight : (s : ExecState) (task : TaskNo) (n port : ℕ) (edge : EdgeNo) (instance : ℕ) (cell : CellNo) (half : ℕ)
+      → (task.0 ≡ 1) × (edge.0 ≡ 0) × (instance ≡ n) → n < c.jobs task.0
+      → (seen : Seen) × IsSightOfRead (machine_in r horizon s) task n port edge instance cell half seen
+  read_sight s task n port edge instance cell zero of below = (sights.Half task n edge cell, refl)
+  read_sight s task n port edge instance cell (suc half) of below =
       let job : n < jobs_of r.chain horizon.until = subst (λ (i : ℕ). n < c.jobs i) of.0 below in
       let (value, row) = element_at r.values n (omega (arith, job, enough)) in
       let on : instance_value (relay_plan r.chain).graph (r.values ∷ []) (edge_at (relay_plan r.chain).graph 0) instance ≡ Some value =
       subst (λ (m : ℕ). slice_get r.values m ≡ Some value) (sym of.2) row in (
         sights.Read task n port edge instance cell value,
         (
-          tag,
-          (
-            value,
-            refl,
-            subst (λ (e : ℕ). instance_value (relay_plan r.chain).graph (r.values ∷ []) (edge_at (relay_plan r.chain).graph e) instance ≡ Some value) (sym of.1) on,
-          ),
+          value,
+          refl,
+          subst (λ (e : ℕ). instance_value (relay_plan r.chain).graph (r.values ∷ []) (edge_at (relay_plan r.chain).graph e) instance ≡ Some value) (sym of.1) on,
         ),
       )
-  sight s task n (actions.Write edge instance cell) of below tag free = (sights.Wrote task n edge cell, (free edge instance cell.0 refl, refl))
+
+  sight : (s : ExecState) (task : TaskNo) (n : ℕ) (action : Action) → IsOfTwo task.0 n action → n < c.jobs task.0 → FindsTag s action
+      → ((edge : EdgeNo) (m slot : ℕ) → action ≡ actions.Write edge m (record { 0 = slot }) → IsSlotFree (machine_in r horizon s) slot)
+      → (seen : Seen) × IsSightOf (machine_in r horizon s) task n action seen
+  sight s task n (actions.ReadConst port value) of below tag free = absurd of
+  sight s task n (actions.Read port edge instance slot) of below tag free =
+      let (seen, told) = read_sight s task n port edge instance (cell_no slot) (slot.0 % 2) of below in (seen, (tag, told))
+  sight s task n (actions.Write edge instance slot) of below tag free =
+      (sight_of_write task n edge (cell_no slot) (slot.0 % 2), (free edge instance slot.0 refl, refl))
   sight s task n actions.End of below tag free = (sights.Ended task n, refl)
 
   module _ (facts : HasPlanFacts c) (gate : LegalIsGated) (state : StateOfTwo) (legal_two : LegalOfTwo) (gated_two : GatedOfTwo) (free : WritesFree) where
@@ -189,7 +195,7 @@ module _ (r : Relay) (horizon : Horizon) (enough : jobs_of r.chain horizon.until
         let n : ℕ = first_unfinished (state_behind done) task.0 in
         let parts = (gated_two c (opening c) done (events.Act task ∷ [])).0 gated in
         sight (state_behind done) task n (next_action c (state_behind done) task.0) (action_of_two r horizon task.0 n _ keeps.0.task) keeps.0.job
-        parts.1.0.2 (λ edge m cell is. free c facts done parts.0 task.0 edge m cell keeps.0 keeps.1 is)
+        parts.1.0.2 (λ edge m slot is. free c facts done parts.0 task.0 edge m slot keeps.0 keeps.1 is)
 
     told_from : (done rest : List Event) → IsLegal c (opening c) done → IsLegal c (state_behind done) rest
         → (seens : List Seen) × TellsAll (machine_in r horizon (state_behind done)) rest seens

@@ -15,7 +15,8 @@ name_at names i = slice_index_or names i []
 abbrev pub value_line : Value → List ℕ
 value_line value = value_text value ++ codes "\n"
 
--- The line of a read of an instance: `read TASK JOB PORT INSTANCE CELL VALUE`. What else is seen has no line.
+-- The line of a read of an instance, told with its high half: `read TASK JOB PORT INSTANCE CELL VALUE`. What else is seen has
+-- no line.
 abbrev pub read_line : List (List ℕ) → Seen → List ℕ
 read_line names (sights.Read task job port edge instance cell value) =
     concat (codes "read " ∷ name_at names task.0 ∷ codes " " ∷ decimal job ∷ codes " " ∷ decimal port ∷ codes " " ∷ decimal instance
@@ -23,5 +24,6 @@ read_line names (sights.Read task job port edge instance cell value) =
     ++ value_line value
 read_line names (sights.ReadConst task job port value) = []
 read_line names (sights.Ticked tick) = []
+read_line names (sights.Half task job edge cell) = []
 read_line names (sights.Wrote task job edge cell) = []
 read_line names (sights.Ended task job) = []

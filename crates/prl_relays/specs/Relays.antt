@@ -104,6 +104,7 @@ abbrev pub IsOperand : List Value → Seen → Type 0
 IsOperand outputs (sights.Ticked tick) = Unit {0}
 IsOperand outputs (sights.Read task job port edge instance cell value) = IsValueOfJob outputs task.0 job value
 IsOperand outputs (sights.ReadConst task job port value) = IsValueOfJob outputs task.0 job value
+IsOperand outputs (sights.Half task job edge cell) = Unit {0}
 IsOperand outputs (sights.Wrote task job edge cell) = Unit {0}
 IsOperand outputs (sights.Ended task job) = Unit {0}
 

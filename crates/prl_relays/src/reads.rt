@@ -80,6 +80,7 @@ fn push_read(text: &mut Vec<u8>, names: &[Label], seen: &Seen) -> Result<(), All
         }
         Seen::ReadConst { .. } => Ok(()),
         Seen::Ticked(_) => Ok(()),
+        Seen::Half { .. } => Ok(()),
         Seen::Wrote { .. } => Ok(()),
         Seen::Ended { .. } => Ok(()),
     }

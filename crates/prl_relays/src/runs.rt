@@ -10,7 +10,7 @@ use prl_base::{Seq, Value};
 use prl_chains::{Chain, copies_hand_on};
 use prl_core::{Core, Seen};
 use prl_flow::Sensors;
-use prl_plan::{Event, Horizon, Plan, gated_list_keeps_cells, legal_list_is_gated, plan_facts};
+use prl_plan::{Event, Horizon, Plan, gated_list_keeps_halves, legal_list_is_gated, plan_facts};
 use prl_replay::{ReplayFault, replay};
 use std::alloc::{AllocError, Global};
 
@@ -51,7 +51,7 @@ pub(crate) fn replayed(
 {
     copies_hand_on();
     legal_list_is_gated();
-    gated_list_keeps_cells();
+    gated_list_keeps_halves();
     plan_facts(plan, horizon);
     let sensors = match sensors_of(alloc, values) {
         Ok(sensors) => sensors,

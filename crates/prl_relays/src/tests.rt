@@ -17,7 +17,7 @@ const PROGRAM: &[u8] =
     b"sensor i wcet 1; actuator o wcet 1; node main (i: int rate (10, 0)) returns (o) let o = i; tel";
 
 const WHOLE: &str =
-    "act i\nact i\ntick\nact o\nact o\ntick\ntick\ntick\ntick\ntick\ntick\ntick\ntick\ntick\nact i\nact i\ntick\nact o\nact o";
+    "act i\nact i\nact i\ntick\nact o\nact o\nact o\ntick\ntick\ntick\ntick\ntick\ntick\ntick\ntick\ntick\nact i\nact i\nact i\ntick\nact o\nact o\nact o";
 
 fn chain(alloc: Global) -> Result<Chain, Fail>
     ensures { IfOk result IsChain }

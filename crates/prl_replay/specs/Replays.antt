@@ -14,6 +14,7 @@ abbrev pub is_read : Seen → Bool
 is_read (sights.Ticked tick) = false
 is_read (sights.Read task job port edge instance cell value) = true
 is_read (sights.ReadConst task job port value) = true
+is_read (sights.Half task job edge cell) = false
 is_read (sights.Wrote task job edge cell) = false
 is_read (sights.Ended task job) = false
 

@@ -41,6 +41,7 @@ fn is_read(seen: &Seen) -> bool
         Seen::Read { .. } => true,
         Seen::ReadConst { .. } => true,
         Seen::Ticked(_) => false,
+        Seen::Half { .. } => false,
         Seen::Wrote { .. } => false,
         Seen::Ended { .. } => false,
     }

@@ -49,7 +49,7 @@ fn outcome_of(alloc: Global, text: &str) -> Result<Result<Vec<Seen>, ReplayFault
 }
 
 const WHOLE: &str =
-    "act i\nact i\ntick\nact o\nact o\ntick\ntick\ntick\ntick\ntick\ntick\ntick\ntick\ntick\nact i\nact i\ntick\nact o\nact o";
+    "act i\nact i\nact i\ntick\nact o\nact o\nact o\ntick\ntick\ntick\ntick\ntick\ntick\ntick\ntick\ntick\nact i\nact i\nact i\ntick\nact o\nact o\nact o";
 
 fn read(job: u64, value: i32) -> Seen {
     Seen::Read {

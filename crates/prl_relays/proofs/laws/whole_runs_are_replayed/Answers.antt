@@ -10,4 +10,4 @@ pub returns : goal.returns
 returns c = λ r horizon schedule list ready.
     let relay = (both (is_relay r.chain) (nat_le (wcet_of r.chain.flat.in_devices 0 + wcet_of r.chain.flat.out_devices 0) (input_clock r.chain).period) ready.in_time).0 in
     whole_text r horizon schedule list (c.copies_hand_on.ensures r.chain ready.chain relay) c.plans_keep_facts.ensures c.legal_list_is_gated.ensures
-    c.run_of_two_lists.ensures.state c.run_of_two_lists.ensures.legal c.run_of_two_lists.ensures.gated c.write_finds_cell_free.ensures ready
+    c.run_of_two_lists.ensures.state c.run_of_two_lists.ensures.legal c.run_of_two_lists.ensures.gated c.gated_list_finds_halves_free.ensures ready

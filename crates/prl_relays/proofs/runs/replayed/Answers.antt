@@ -28,7 +28,7 @@ returns-in-Ok-from_slice-clause-solved c =
     subst (IsOutput r) (sym c.in-Ok-from_slice.ensures.items)
     (solved_behind r c.args.horizon c.args.events.now c.in_ok-reads.reads.items c.replay.new.core c.args.plan.now c.output.result.now
     c.requires.ready (c.copies_hand_on.ensures c.args.chain.now c.requires.ready.chain relay) refl c.requires.plan
-    c.legal_list_is_gated.ensures c.gated_list_keeps_cells.ensures.counted c.plan_facts.ensures run left c.output.ensures)
+    c.legal_list_is_gated.ensures c.gated_list_keeps_halves.ensures.counted c.plan_facts.ensures run left c.output.ensures)
 
 pub returns-in-Ok-from_slice-clause-operands : goal.returns-in-Ok-from_slice-clause-operands
 returns-in-Ok-from_slice-clause-operands c =

@@ -1,4 +1,4 @@
-use Rattle.std.proofs.Common.{◌≡◌, ◌<◌, ℕ, List, length, map, get_or, Some, Vec, Global, arith, sym, ◌∙◌, ap, subst}
+use Rattle.std.proofs.Common.{◌≡◌, ◌%◌, ◌<◌, ℕ, List, length, map, get_or, Some, Vec, Global, arith, sym, ◌∙◌, ap, subst}
 use Rattle.std.proofs.lemmas.Grind.{get_or_default_zero}
 use Rattle.std.proofs.lemmas.Option.{slice_get-get_or}
 use Rattle.prl_base.specs.declared.values.Value.{Value}
@@ -9,10 +9,10 @@ use Rattle.prl_plan.specs.Plans.{edge_at}
 use Rattle.prl_plan.specs.Runs.{next_action}
 use Rattle.prl_plan.specs.Rules.{KeepsLegal, first_unfinished}
 use Rattle.prl_core.specs.Values.{instance_value}
-use Rattle.prl_core.specs.Machine.{CoreView, constants, IsSightOf}
+use Rattle.prl_core.specs.Machine.{CoreView, constants, cell_no, sight_of_write, IsSightOf}
 use Rattle.prl_core.specs.Tests.{ReadsValue}
 use Rattle.prl_core.specs.declared.seen.Seen.TheVariants as sights
-use Rattle.prl_plan.proofs.Legal.{legal_finds, write_finds_free}
+use Rattle.prl_plan.proofs.StateLaws.{write_finds_half_free}
 use Rattle.prl_core.proofs.LegalReads.{read-in-range, read-value, read-reads, const-reads, next-is, writes-own}
 use Rattle.prl_core.proofs.cores.Core.proceed.Goals as goal
 
@@ -32,14 +32,14 @@ take-requires-clause-reads c =
     let now : c.args.job ≡ first_unfinished core.state c.args.task.0 =
     subst (λ (v : CoreView). c.args.job ≡ first_unfinished v.state c.args.task.0) (sym seen) c.requires.job in
     let place : c.index-place.result.now ≡ get_or core.state.places c.args.task.0 0 =
-    c.index-place.ensures ∙ get_or_default_zero core.state.places c.args.task.0 c.index-place.result.now (let l = c.self.invariant.sound.places in let t = keeps.0.task in omega (arith, l, t)) in
+    c.index-place.ensures ∙ get_or_default_zero core.state.places c.args.task.0 c.index-place.result.now (let l = c.self.invariant.sound.tagged.places in let t = keeps.0.task in omega (arith, l, t)) in
     let is : next_action (constants core) core.state c.args.task.0 ≡ actions.ReadConst c.in-ReadConst.port c.in-ReadConst.value =
     next-is core c.args.task.0 c.args.job c.index-place.result.now (actions.ReadConst c.in-ReadConst.port c.in-ReadConst.value) now place c.in-ReadConst.ensures in
     subst (λ (v : CoreView). ReadsValue v c.args.task.0 c.args.job (get_or v.state.places c.args.task.0 0) c.in-ReadConst.value) seen
     (const-reads core c.plan_facts.ensures c.self.inside.values.items columns c.self.invariant c.args.task keeps c.in-ReadConst.port c.args.job c.in-ReadConst.value now is)
 
-pub index-value-requires : goal.index-value-requires
-index-value-requires c =
+pub read-requires-clause-reads : goal.read-requires-clause-reads
+read-requires-clause-reads c =
     let core : CoreView = record {
       plan = c.self.inside.plan.now;
       rows = c.self.inside.sensors.now;
@@ -47,45 +47,15 @@ index-value-requires c =
       state = record { now = c.self.inside.now; ended = c.self.inside.ended.items; places = c.self.inside.places.items; tags = c.self.inside.tags.items };
     } in
     let seen : core ≡ c.args.self.now = c.self.view_is in
-    let items : Vec Value Global → List Value = λ v. v.items in
-    let columns : List (List Value) = map items c.self.inside.columns.items in
     let keeps : KeepsLegal (constants core) core.state (events.Act c.args.task) =
     subst (λ (v : CoreView). KeepsLegal (constants v) v.state (events.Act c.args.task)) (sym seen) c.requires.allowed in
     let now : c.args.job ≡ first_unfinished core.state c.args.task.0 =
     subst (λ (v : CoreView). c.args.job ≡ first_unfinished v.state c.args.task.0) (sym seen) c.requires.job in
     let place : c.index-place.result.now ≡ get_or core.state.places c.args.task.0 0 =
-    c.index-place.ensures ∙ get_or_default_zero core.state.places c.args.task.0 c.index-place.result.now (let l = c.self.invariant.sound.places in let t = keeps.0.task in omega (arith, l, t)) in
-    let is : next_action (constants core) core.state c.args.task.0 ≡ actions.Read c.in-Read.port c.in-Read.edge c.in-Read.instance c.in-Read.cell =
-    next-is core c.args.task.0 c.args.job c.index-place.result.now (actions.Read c.in-Read.port c.in-Read.edge c.in-Read.instance c.in-Read.cell) now place c.in-Read.ensures in
-    let inside : c.in-Read.cell.0 < length c.self.inside.values.items = read-in-range core c.plan_facts.ensures c.self.inside.values.items columns c.self.invariant c.args.task keeps c.in-Read.port c.in-Read.edge c.in-Read.instance c.in-Read.cell is in
-    let v = c.self.inside.values.ok.0 in
-    omega (arith, inside, v)
-
-pub take-requires-in-Read-clause-reads : goal.take-requires-in-Read-clause-reads
-take-requires-in-Read-clause-reads c =
-    let core : CoreView = record {
-      plan = c.self.inside.plan.now;
-      rows = c.self.inside.sensors.now;
-      horizon = c.self.inside.horizon;
-      state = record { now = c.self.inside.now; ended = c.self.inside.ended.items; places = c.self.inside.places.items; tags = c.self.inside.tags.items };
-    } in
-    let seen : core ≡ c.args.self.now = c.self.view_is in
-    let items : Vec Value Global → List Value = λ v. v.items in
-    let columns : List (List Value) = map items c.self.inside.columns.items in
-    let keeps : KeepsLegal (constants core) core.state (events.Act c.args.task) =
-    subst (λ (v : CoreView). KeepsLegal (constants v) v.state (events.Act c.args.task)) (sym seen) c.requires.allowed in
-    let now : c.args.job ≡ first_unfinished core.state c.args.task.0 =
-    subst (λ (v : CoreView). c.args.job ≡ first_unfinished v.state c.args.task.0) (sym seen) c.requires.job in
-    let place : c.index-place.result.now ≡ get_or core.state.places c.args.task.0 0 =
-    c.index-place.ensures ∙ get_or_default_zero core.state.places c.args.task.0 c.index-place.result.now (let l = c.self.invariant.sound.places in let t = keeps.0.task in omega (arith, l, t)) in
-    let is : next_action (constants core) core.state c.args.task.0 ≡ actions.Read c.in-Read.port c.in-Read.edge c.in-Read.instance c.in-Read.cell =
-    next-is core c.args.task.0 c.args.job c.index-place.result.now (actions.Read c.in-Read.port c.in-Read.edge c.in-Read.instance c.in-Read.cell) now place c.in-Read.ensures in
-    let inside : c.in-Read.cell.0 < length c.self.inside.values.items = read-in-range core c.plan_facts.ensures c.self.inside.values.items columns c.self.invariant c.args.task keeps c.in-Read.port c.in-Read.edge c.in-Read.instance c.in-Read.cell is in
-    let has : instance_value core.plan.graph core.rows (edge_at core.plan.graph c.in-Read.edge.0) c.in-Read.instance ≡ Some c.index-value.result.now =
-    sym (read-value core c.plan_facts.ensures c.self.inside.values.items columns c.self.invariant c.args.task keeps c.in-Read.port c.in-Read.edge c.in-Read.instance c.in-Read.cell is)
-    ∙ slice_get-get_or c.self.inside.values.items c.in-Read.cell.0 c.index-value.result.now inside ∙ ap (λ (x : Value). Some x) (sym c.index-value.ensures) in
-    subst (λ (v : CoreView). ReadsValue v c.args.task.0 c.args.job (get_or v.state.places c.args.task.0 0) c.index-value.result.now) seen
-    (read-reads core c.plan_facts.ensures c.self.inside.values.items columns c.self.invariant c.args.task keeps c.in-Read.port c.in-Read.edge c.in-Read.instance c.in-Read.cell c.args.job c.index-value.result.now now is has)
+    c.index-place.ensures ∙ get_or_default_zero core.state.places c.args.task.0 c.index-place.result.now (let l = c.self.invariant.sound.tagged.places in let t = keeps.0.task in omega (arith, l, t)) in
+    let is : next_action (constants core) core.state c.args.task.0 ≡ actions.Read c.in-Read.port c.in-Read.edge c.in-Read.instance c.in-Read.slot =
+    next-is core c.args.task.0 c.args.job c.index-place.result.now (actions.Read c.in-Read.port c.in-Read.edge c.in-Read.instance c.in-Read.slot) now place c.in-Read.ensures in
+    subst (λ (v : CoreView). next_action (constants v) v.state c.args.task.0 ≡ actions.Read c.in-Read.port c.in-Read.edge c.in-Read.instance c.in-Read.slot) seen is
 
 pub write-requires-clause-writes : goal.write-requires-clause-writes
 write-requires-clause-writes c =
@@ -103,12 +73,12 @@ write-requires-clause-writes c =
     let now : c.args.job ≡ first_unfinished core.state c.args.task.0 =
     subst (λ (v : CoreView). c.args.job ≡ first_unfinished v.state c.args.task.0) (sym seen) c.requires.job in
     let place : c.index-place.result.now ≡ get_or core.state.places c.args.task.0 0 =
-    c.index-place.ensures ∙ get_or_default_zero core.state.places c.args.task.0 c.index-place.result.now (let l = c.self.invariant.sound.places in let t = keeps.0.task in omega (arith, l, t)) in
-    let is : next_action (constants core) core.state c.args.task.0 ≡ actions.Write c.in-Write.edge c.in-Write.instance c.in-Write.cell =
-    next-is core c.args.task.0 c.args.job c.index-place.result.now (actions.Write c.in-Write.edge c.in-Write.instance c.in-Write.cell) now place c.in-Write.ensures in (
+    c.index-place.ensures ∙ get_or_default_zero core.state.places c.args.task.0 c.index-place.result.now (let l = c.self.invariant.sound.tagged.places in let t = keeps.0.task in omega (arith, l, t)) in
+    let is : next_action (constants core) core.state c.args.task.0 ≡ actions.Write c.in-Write.edge c.in-Write.instance c.in-Write.slot =
+    next-is core c.args.task.0 c.args.job c.index-place.result.now (actions.Write c.in-Write.edge c.in-Write.instance c.in-Write.slot) now place c.in-Write.ensures in (
       c.in-Write.edge,
-      subst (λ (v : CoreView). next_action (constants v) v.state c.args.task.0 ≡ actions.Write c.in-Write.edge c.args.job c.in-Write.cell) seen
-          (writes-own core c.args.task.0 c.args.job c.in-Write.edge c.in-Write.instance c.in-Write.cell now is),
+      subst (λ (v : CoreView). next_action (constants v) v.state c.args.task.0 ≡ actions.Write c.in-Write.edge c.args.job c.in-Write.slot) seen
+          (writes-own core c.args.task.0 c.args.job c.in-Write.edge c.in-Write.instance c.in-Write.slot now is),
     )
 
 pub returns-in-Read-clause-tells : goal.returns-in-Read-clause-tells
@@ -120,33 +90,19 @@ returns-in-Read-clause-tells c =
       state = record { now = c.self.inside.now; ended = c.self.inside.ended.items; places = c.self.inside.places.items; tags = c.self.inside.tags.items };
     } in
     let seen : core ≡ c.args.self.now = c.self.view_is in
-    let items : Vec Value Global → List Value = λ v. v.items in
-    let columns : List (List Value) = map items c.self.inside.columns.items in
     let keeps : KeepsLegal (constants core) core.state (events.Act c.args.task) =
     subst (λ (v : CoreView). KeepsLegal (constants v) v.state (events.Act c.args.task)) (sym seen) c.requires.allowed in
     let now : c.args.job ≡ first_unfinished core.state c.args.task.0 =
     subst (λ (v : CoreView). c.args.job ≡ first_unfinished v.state c.args.task.0) (sym seen) c.requires.job in
     let place : c.index-place.result.now ≡ get_or core.state.places c.args.task.0 0 =
-    c.index-place.ensures ∙ get_or_default_zero core.state.places c.args.task.0 c.index-place.result.now (let l = c.self.invariant.sound.places in let t = keeps.0.task in omega (arith, l, t)) in
-    let is : next_action (constants core) core.state c.args.task.0 ≡ actions.Read c.in-Read.port c.in-Read.edge c.in-Read.instance c.in-Read.cell =
-    next-is core c.args.task.0 c.args.job c.index-place.result.now (actions.Read c.in-Read.port c.in-Read.edge c.in-Read.instance c.in-Read.cell) now place c.in-Read.ensures in
-    let inside : c.in-Read.cell.0 < length c.self.inside.values.items = read-in-range core c.plan_facts.ensures c.self.inside.values.items columns c.self.invariant c.args.task keeps c.in-Read.port c.in-Read.edge c.in-Read.instance c.in-Read.cell is in
-    let has : instance_value core.plan.graph core.rows (edge_at core.plan.graph c.in-Read.edge.0) c.in-Read.instance ≡ Some c.index-value.result.now =
-    sym (read-value core c.plan_facts.ensures c.self.inside.values.items columns c.self.invariant c.args.task keeps c.in-Read.port c.in-Read.edge c.in-Read.instance c.in-Read.cell is)
-    ∙ slice_get-get_or c.self.inside.values.items c.in-Read.cell.0 c.index-value.result.now inside ∙ ap (λ (x : Value). Some x) (sym c.index-value.ensures) in
-    let told : IsSightOf core c.args.task (first_unfinished core.state c.args.task.0) (actions.Read c.in-Read.port c.in-Read.edge c.in-Read.instance c.in-Read.cell)
-    (sights.Read c.args.task c.args.job c.in-Read.port c.in-Read.edge c.in-Read.instance c.in-Read.cell c.index-value.result.now) = (
-      legal_finds (constants core) c.plan_facts.ensures core.state c.self.invariant.sound c.args.task.0 keeps.0 keeps.1 keeps.2 (actions.Read c.in-Read.port c.in-Read.edge c.in-Read.instance c.in-Read.cell) is,
-      (
-        c.index-value.result.now,
-        ap (λ (x : ℕ). sights.Read c.args.task x c.in-Read.port c.in-Read.edge c.in-Read.instance c.in-Read.cell c.index-value.result.now) now,
-        has,
-      ),
-    ) in
-    subst (λ (v : CoreView). IsSightOf v c.args.task (first_unfinished v.state c.args.task.0) (next_action (constants v) v.state c.args.task.0)
-    (sights.Read c.args.task c.args.job c.in-Read.port c.in-Read.edge c.in-Read.instance c.in-Read.cell c.index-value.result.now)) seen
-    (subst (λ (a : Action). IsSightOf core c.args.task (first_unfinished core.state c.args.task.0) a
-    (sights.Read c.args.task c.args.job c.in-Read.port c.in-Read.edge c.in-Read.instance c.in-Read.cell c.index-value.result.now)) (sym is) told)
+    c.index-place.ensures ∙ get_or_default_zero core.state.places c.args.task.0 c.index-place.result.now (let l = c.self.invariant.sound.tagged.places in let t = keeps.0.task in omega (arith, l, t)) in
+    let is : next_action (constants core) core.state c.args.task.0 ≡ actions.Read c.in-Read.port c.in-Read.edge c.in-Read.instance c.in-Read.slot =
+    next-is core c.args.task.0 c.args.job c.index-place.result.now (actions.Read c.in-Read.port c.in-Read.edge c.in-Read.instance c.in-Read.slot) now place c.in-Read.ensures in
+    let told : IsSightOf c.args.self.now c.args.task c.args.job (actions.Read c.in-Read.port c.in-Read.edge c.in-Read.instance c.in-Read.slot) c.read.result = c.read.ensures.tells in
+    subst (λ (v : CoreView). IsSightOf v c.args.task (first_unfinished v.state c.args.task.0) (next_action (constants v) v.state c.args.task.0) c.read.result) seen
+    (subst (λ (a : Action). IsSightOf core c.args.task (first_unfinished core.state c.args.task.0) a c.read.result) (sym is)
+    (subst (λ (n : ℕ). IsSightOf core c.args.task n (actions.Read c.in-Read.port c.in-Read.edge c.in-Read.instance c.in-Read.slot) c.read.result) now
+    (subst (λ (v : CoreView). IsSightOf v c.args.task c.args.job (actions.Read c.in-Read.port c.in-Read.edge c.in-Read.instance c.in-Read.slot) c.read.result) (sym seen) told)))
 
 pub returns-in-Write-clause-tells : goal.returns-in-Write-clause-tells
 returns-in-Write-clause-tells c =
@@ -164,15 +120,13 @@ returns-in-Write-clause-tells c =
     let now : c.args.job ≡ first_unfinished core.state c.args.task.0 =
     subst (λ (v : CoreView). c.args.job ≡ first_unfinished v.state c.args.task.0) (sym seen) c.requires.job in
     let place : c.index-place.result.now ≡ get_or core.state.places c.args.task.0 0 =
-    c.index-place.ensures ∙ get_or_default_zero core.state.places c.args.task.0 c.index-place.result.now (let l = c.self.invariant.sound.places in let t = keeps.0.task in omega (arith, l, t)) in
-    let is : next_action (constants core) core.state c.args.task.0 ≡ actions.Write c.in-Write.edge c.in-Write.instance c.in-Write.cell =
-    next-is core c.args.task.0 c.args.job c.index-place.result.now (actions.Write c.in-Write.edge c.in-Write.instance c.in-Write.cell) now place c.in-Write.ensures in
-    let told : IsSightOf core c.args.task (first_unfinished core.state c.args.task.0) (actions.Write c.in-Write.edge c.in-Write.instance c.in-Write.cell)
-    (sights.Wrote c.args.task c.args.job c.in-Write.edge c.in-Write.cell) = (
-      write_finds_free (constants core) c.plan_facts.ensures core.state c.self.invariant.sound c.args.task.0 c.in-Write.edge c.in-Write.instance c.in-Write.cell.0 keeps.0 keeps.1 is,
-      ap (λ (x : ℕ). sights.Wrote c.args.task x c.in-Write.edge c.in-Write.cell) now,
+    c.index-place.ensures ∙ get_or_default_zero core.state.places c.args.task.0 c.index-place.result.now (let l = c.self.invariant.sound.tagged.places in let t = keeps.0.task in omega (arith, l, t)) in
+    let is : next_action (constants core) core.state c.args.task.0 ≡ actions.Write c.in-Write.edge c.in-Write.instance c.in-Write.slot =
+    next-is core c.args.task.0 c.args.job c.index-place.result.now (actions.Write c.in-Write.edge c.in-Write.instance c.in-Write.slot) now place c.in-Write.ensures in
+    let told : IsSightOf core c.args.task (first_unfinished core.state c.args.task.0) (actions.Write c.in-Write.edge c.in-Write.instance c.in-Write.slot)
+    c.sight_of_write.result = (
+      write_finds_half_free (constants core) c.plan_facts.ensures core.state c.self.invariant.sound c.args.task.0 c.in-Write.edge c.in-Write.instance c.in-Write.slot.0 keeps.0 keeps.1 is,
+      c.sight_of_write.ensures ∙ ap (λ (x : ℕ). sight_of_write c.args.task x c.in-Write.edge (cell_no c.in-Write.slot) (c.in-Write.slot.0 % 2)) now,
     ) in
-    subst (λ (v : CoreView). IsSightOf v c.args.task (first_unfinished v.state c.args.task.0) (next_action (constants v) v.state c.args.task.0)
-    (sights.Wrote c.args.task c.args.job c.in-Write.edge c.in-Write.cell)) seen
-    (subst (λ (a : Action). IsSightOf core c.args.task (first_unfinished core.state c.args.task.0) a
-    (sights.Wrote c.args.task c.args.job c.in-Write.edge c.in-Write.cell)) (sym is) told)
+    subst (λ (v : CoreView). IsSightOf v c.args.task (first_unfinished v.state c.args.task.0) (next_action (constants v) v.state c.args.task.0) c.sight_of_write.result) seen
+    (subst (λ (a : Action). IsSightOf core c.args.task (first_unfinished core.state c.args.task.0) a c.sight_of_write.result) (sym is) told)

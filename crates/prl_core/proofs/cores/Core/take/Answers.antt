@@ -28,7 +28,7 @@ invariant_of-self c =
     let reads : ReadsValue core c.args.task.0 c.args.job (get_or core.state.places c.args.task.0 0) c.args.value =
     subst (λ (v : CoreView). ReadsValue v c.args.task.0 c.args.job (get_or v.state.places c.args.task.0 0) c.args.value) (sym seen) c.requires.reads in
     let place : c.index_mut.result.now ≡ get_or core.state.places c.args.task.0 0 =
-    c.index_mut.ensures.value ∙ get_or_default_zero core.state.places c.args.task.0 c.index_mut.result.now (let l = c.self.invariant.sound.places in let t = keeps.0.task in omega (arith, l, t)) in
+    c.index_mut.ensures.value ∙ get_or_default_zero core.state.places c.args.task.0 c.index_mut.result.now (let l = c.self.invariant.sound.tagged.places in let t = keeps.0.task in omega (arith, l, t)) in
     subst (λ (xs : List (List Value)). IsWhole (record core { state = record core.state { places = set core.state.places c.args.task.0 (c.index_mut.result.now + 1) } })
     c.self.inside.values.items xs) (sym c.put.ensures)
     (subst (λ (p : ℕ). IsWhole (record core { state = record core.state { places = set core.state.places c.args.task.0 (p + 1) } })

@@ -27,10 +27,10 @@ sensed-value-requires-clause-sensor c =
     subst (λ (v : CoreView). KeepsLegal (constants v) v.state (events.Act c.args.task)) (sym seen) c.requires.allowed in
     let now : c.args.job ≡ first_unfinished core.state c.args.task.0 =
     subst (λ (v : CoreView). c.args.job ≡ first_unfinished v.state c.args.task.0) (sym seen) c.requires.job in
-    let is : next_action (constants core) core.state c.args.task.0 ≡ actions.Write c.requires.writes.0 c.args.job c.args.cell =
-    subst (λ (v : CoreView). next_action (constants v) v.state c.args.task.0 ≡ actions.Write c.requires.writes.0 c.args.job c.args.cell) (sym seen) c.requires.writes.1 in
+    let is : next_action (constants core) core.state c.args.task.0 ≡ actions.Write c.requires.writes.0 c.args.job c.args.slot =
+    subst (λ (v : CoreView). next_action (constants v) v.state c.args.task.0 ≡ actions.Write c.requires.writes.0 c.args.job c.args.slot) (sym seen) c.requires.writes.1 in
     subst (λ (v : CoreView). (k : ℕ) × ((task_at v.plan.graph c.args.task.0).kind ≡ kinds.Sensor k)) seen
-    (writer-is-sensor core c.plan_links_devices.ensures c.args.task.0 c.requires.writes.0 c.args.job c.args.cell is)
+    (writer-is-sensor core c.plan_links_devices.ensures c.args.task.0 c.requires.writes.0 c.args.job c.args.slot is)
 
 pub index_mut-requires-2 : goal.index_mut-requires-2
 index_mut-requires-2 c =
@@ -45,10 +45,10 @@ index_mut-requires-2 c =
     subst (λ (v : CoreView). KeepsLegal (constants v) v.state (events.Act c.args.task)) (sym seen) c.requires.allowed in
     let now : c.args.job ≡ first_unfinished core.state c.args.task.0 =
     subst (λ (v : CoreView). c.args.job ≡ first_unfinished v.state c.args.task.0) (sym seen) c.requires.job in
-    let is : next_action (constants core) core.state c.args.task.0 ≡ actions.Write c.requires.writes.0 c.args.job c.args.cell =
-    subst (λ (v : CoreView). next_action (constants v) v.state c.args.task.0 ≡ actions.Write c.requires.writes.0 c.args.job c.args.cell) (sym seen) c.requires.writes.1 in
-    let inside : c.args.cell.0 < (constants core).cells = written-in-range core c.plan_facts.ensures c.args.task keeps c.requires.writes.0 c.args.job c.args.cell is in
-    let l = c.self.invariant.sound.tags in
+    let is : next_action (constants core) core.state c.args.task.0 ≡ actions.Write c.requires.writes.0 c.args.job c.args.slot =
+    subst (λ (v : CoreView). next_action (constants v) v.state c.args.task.0 ≡ actions.Write c.requires.writes.0 c.args.job c.args.slot) (sym seen) c.requires.writes.1 in
+    let inside : c.args.slot.0 < (constants core).slots = written-in-range core c.plan_facts.ensures c.args.task keeps c.requires.writes.0 c.args.job c.args.slot is in
+    let l = c.self.invariant.sound.tagged.tags in
     let v = c.self.inside.tags.ok.0 in
     omega (arith, inside, l, v)
 
@@ -65,10 +65,10 @@ index_mut-requires-3 c =
     subst (λ (v : CoreView). KeepsLegal (constants v) v.state (events.Act c.args.task)) (sym seen) c.requires.allowed in
     let now : c.args.job ≡ first_unfinished core.state c.args.task.0 =
     subst (λ (v : CoreView). c.args.job ≡ first_unfinished v.state c.args.task.0) (sym seen) c.requires.job in
-    let is : next_action (constants core) core.state c.args.task.0 ≡ actions.Write c.requires.writes.0 c.args.job c.args.cell =
-    subst (λ (v : CoreView). next_action (constants v) v.state c.args.task.0 ≡ actions.Write c.requires.writes.0 c.args.job c.args.cell) (sym seen) c.requires.writes.1 in
-    let inside : c.args.cell.0 < (constants core).cells = written-in-range core c.plan_facts.ensures c.args.task keeps c.requires.writes.0 c.args.job c.args.cell is in
-    let l = c.self.invariant.cells in
+    let is : next_action (constants core) core.state c.args.task.0 ≡ actions.Write c.requires.writes.0 c.args.job c.args.slot =
+    subst (λ (v : CoreView). next_action (constants v) v.state c.args.task.0 ≡ actions.Write c.requires.writes.0 c.args.job c.args.slot) (sym seen) c.requires.writes.1 in
+    let inside : c.args.slot.0 < (constants core).slots = written-in-range core c.plan_facts.ensures c.args.task keeps c.requires.writes.0 c.args.job c.args.slot is in
+    let l = c.self.invariant.slots in
     let v = c.self.inside.values.ok.0 in
     omega (arith, inside, l, v)
 
@@ -87,14 +87,13 @@ invariant_of-self c =
     subst (λ (v : CoreView). KeepsLegal (constants v) v.state (events.Act c.args.task)) (sym seen) c.requires.allowed in
     let now : c.args.job ≡ first_unfinished core.state c.args.task.0 =
     subst (λ (v : CoreView). c.args.job ≡ first_unfinished v.state c.args.task.0) (sym seen) c.requires.job in
-    let is : next_action (constants core) core.state c.args.task.0 ≡ actions.Write c.requires.writes.0 c.args.job c.args.cell =
-    subst (λ (v : CoreView). next_action (constants v) v.state c.args.task.0 ≡ actions.Write c.requires.writes.0 c.args.job c.args.cell) (sym seen) c.requires.writes.1 in
+    let is : next_action (constants core) core.state c.args.task.0 ≡ actions.Write c.requires.writes.0 c.args.job c.args.slot =
+    subst (λ (v : CoreView). next_action (constants v) v.state c.args.task.0 ≡ actions.Write c.requires.writes.0 c.args.job c.args.slot) (sym seen) c.requires.writes.1 in
     let place : c.index_mut.result.now ≡ get_or core.state.places c.args.task.0 0 =
-    c.index_mut.ensures.value ∙ get_or_default_zero core.state.places c.args.task.0 c.index_mut.result.now (let l = c.self.invariant.sound.places in let t = keeps.0.task in omega (arith, l, t)) in
-    let sensor = writer-is-sensor core c.plan_links_devices.ensures c.args.task.0 c.requires.writes.0 c.args.job c.args.cell is in
+    c.index_mut.ensures.value ∙ get_or_default_zero core.state.places c.args.task.0 c.index_mut.result.now (let l = c.self.invariant.sound.tagged.places in let t = keeps.0.task in omega (arith, l, t)) in
     let has : value_of_job core.rows (task_at core.plan.graph c.args.task.0).kind c.args.job ≡ Some c.sensed-value.result =
     subst (λ (v : CoreView). value_of_job v.rows (task_at v.plan.graph c.args.task.0).kind c.args.job ≡ Some c.sensed-value.result) (sym seen) c.sensed-value.ensures in
-    subst (λ (p : ℕ). IsWhole (record core { state = record core.state { places = set core.state.places c.args.task.0 (p + 1); tags = set core.state.tags c.args.cell.0 (c.args.job + 1) } })
-    (set c.self.inside.values.items c.args.cell.0 c.sensed-value.result) columns) (sym place)
-    (kept-write core c.plan_facts.ensures c.plan_links_devices.ensures c.self.inside.values.items columns c.self.invariant c.args.task keeps c.requires.writes.0 c.args.job c.args.cell
-    now is c.sensed-value.result has sensor.0 sensor.1)
+    subst (λ (p : ℕ). IsWhole (record core { state = record core.state { places = set core.state.places c.args.task.0 (p + 1); tags = set core.state.tags c.args.slot.0 (c.args.job + 1) } })
+    (set c.self.inside.values.items c.args.slot.0 c.sensed-value.result) columns) (sym place)
+    (kept-write core c.plan_facts.ensures c.plan_links_devices.ensures c.self.inside.values.items columns c.self.invariant c.args.task keeps c.requires.writes.0 c.args.job c.args.slot
+    now is c.sensed-value.result has)
