@@ -1,7 +1,9 @@
 -- A replay comes to one end.
-use Rattle.std.proofs.Common.{◌≡◌, ◌≢◌, ℕ, List, [], ◌∷◌, Option, Some, Result, Ok, Err, refl, sym, ap, ◌∙◌, subst, arith}
+use Rattle.std.proofs.Common.{◌≡◌, ◌≢◌, ◌%◌, ℕ, zero, suc, List, [], ◌∷◌, Option, Some, Result, Ok, Err, refl, sym, ap, ◌∙◌, subst, arith}
 use Rattle.std.specs.Prelude.{filter}
 use Rattle.prl_base.specs.declared.limits.Limit.{Limit}
+use Rattle.prl_base.specs.declared.numbers.CellNo.{CellNo}
+use Rattle.prl_base.specs.declared.numbers.EdgeNo.{EdgeNo}
 use Rattle.prl_base.specs.declared.numbers.TaskNo.{TaskNo}
 use Rattle.prl_base.specs.declared.values.Value.{Value}
 use Rattle.prl_flow.specs.Solutions.{values_of}
@@ -15,7 +17,7 @@ use Rattle.prl_plan.specs.Runs.{next_action}
 use Rattle.prl_plan.specs.Rules.{first_unfinished}
 use Rattle.prl_core.specs.declared.seen.Seen.{Seen}
 use Rattle.prl_core.specs.declared.seen.Seen.TheVariants as sights
-use Rattle.prl_core.specs.Machine.{CoreView, constants, Tells, IsSightOf}
+use Rattle.prl_core.specs.Machine.{CoreView, constants, cell_no, Tells, IsSightOf, IsSightOfRead}
 use Rattle.prl_replay.specs.declared.schedules.ScheduleFault.{ScheduleFault}
 use Rattle.prl_replay.specs.declared.schedules.ScheduleFault.TheVariants as lines
 use Rattle.prl_replay.specs.declared.replays.ReplayFault.{ReplayFault}
@@ -143,11 +145,17 @@ one_relay_fault r s (faults.Unfinished task job) faults.Memory h k p q = absurd 
 same_value : (at : Option Value) (a b : Value) → at ≡ Some a → at ≡ Some b → a ≡ b
 same_value at a b h k = cc
 
+one_read : (core : CoreView) (task : TaskNo) (n port : ℕ) (edge : EdgeNo) (instance : ℕ) (cell : CellNo) (half : ℕ) (a b : Seen)
+    → IsSightOfRead core task n port edge instance cell half a → IsSightOfRead core task n port edge instance cell half b → a ≡ b
+one_read core task n port edge instance cell zero a b h k = h ∙ sym k
+one_read core task n port edge instance cell (suc half) a b h k =
+    h.1 ∙ ap (λ (v : Value). sights.Read task n port edge instance cell v) (same_value _ h.0 k.0 h.2 k.2) ∙ sym k.1
+
 one_sight : (core : CoreView) (task : TaskNo) (n : ℕ) (action : Action) (a b : Seen) → IsSightOf core task n action a → IsSightOf core task n action b → a ≡ b
 one_sight core task n (actions.ReadConst port value) a b h k = h ∙ sym k
-one_sight core task n (actions.Read port edge instance cell) a b h k =
-    h.1.1 ∙ ap (λ (v : Value). sights.Read task n port edge instance cell v) (same_value _ h.1.0 k.1.0 h.1.2 k.1.2) ∙ sym k.1.1
-one_sight core task n (actions.Write edge instance cell) a b h k = h.1 ∙ sym k.1
+one_sight core task n (actions.Read port edge instance slot) a b h k =
+    one_read core task n port edge instance (cell_no slot) (slot.0 % 2) a b h.1 k.1
+one_sight core task n (actions.Write edge instance slot) a b h k = h.1 ∙ sym k.1
 one_sight core task n actions.End a b h k = h ∙ sym k
 
 one_seen : (core : CoreView) (event : Event) (a b : Seen) → Tells core event a → Tells core event b → a ≡ b

@@ -1,9 +1,9 @@
-use Rattle.std.proofs.Common.{◌≡◌, List, refl, sym, ap, ◌∙◌, subst}
+use Rattle.std.proofs.Common.{◌≡◌, ℕ, List, lit≤, refl, sym, ap, ◌∙◌, subst}
 use Rattle.std.specs.Prelude.{nat_le, ◌+◌}
 use Rattle.prl_base.specs.declared.values.Value.{Value}
 use Rattle.prl_flow.specs.Programs.{wcet_of}
 use Rattle.prl_chains.specs.Relays.{is_relay}
-use Rattle.prl_core.specs.Machine.{CoreView}
+use Rattle.prl_core.specs.Machine.{CoreView, Drives}
 use Rattle.prl_replay.specs.Replays.{IsReplay, behind}
 use Rattle.prl_relays.specs.Relays.{Relay, machine, input_clock, IsOutput, AreOperands}
 use Rattle.prl_relays.proofs.Solutions.{both}
@@ -15,6 +15,22 @@ pub new-requires-clause-rows : goal.new-requires-clause-rows
 new-requires-clause-rows c =
     core_rows (record { chain = c.args.chain.now; values = c.args.values.items; until = c.args.horizon.until }) c.args.plan.now c.in-Ok.sensors
     c.requires.ready c.requires.plan c.in-Ok.ensures
+
+pub output-requires : goal.output-requires
+output-requires c =
+    let r : Relay = record { chain = c.args.chain.now; values = c.args.values.items; until = c.args.horizon.until } in
+    let is : c.in-Ok-new.core ≡ machine r c.args.horizon =
+    core_is r c.args.horizon c.in-Ok-new.core c.args.plan.now c.in-Ok.sensors c.in-Ok-new.ensures c.requires.plan c.in-Ok.ensures in
+    let left : c.replay.new.core ≡ behind (machine r c.args.horizon) c.args.events.now =
+    c.in_ok-reads.ensures.state ∙ ap (λ (m : CoreView). behind m c.args.events.now) is in
+    subst (λ (m : CoreView). (i : ℕ) × Drives m.plan i 0) (sym left) (1, (lit≤ tt, refl))
+
+pub returns-in-Ok-from_slice-clause-run : goal.returns-in-Ok-from_slice-clause-run
+returns-in-Ok-from_slice-clause-run c =
+    let r : Relay = record { chain = c.args.chain.now; values = c.args.values.items; until = c.args.horizon.until } in
+    let is : c.in-Ok-new.core ≡ machine r c.args.horizon =
+    core_is r c.args.horizon c.in-Ok-new.core c.args.plan.now c.in-Ok.sensors c.in-Ok-new.ensures c.requires.plan c.in-Ok.ensures in
+    subst (λ (m : CoreView). IsReplay m c.args.events.now c.in_ok-reads.reads.items) is c.in_ok-reads.ensures.run
 
 pub returns-in-Ok-from_slice-clause-solved : goal.returns-in-Ok-from_slice-clause-solved
 returns-in-Ok-from_slice-clause-solved c =
