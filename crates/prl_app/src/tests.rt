@@ -418,6 +418,10 @@ fn check_replay(
 }
 
 const WHOLE: &str =
+    "act i\nact i\nact i\ntick\nact o\nact o\nact o\ntick\ntick\ntick\ntick\ntick\ntick\ntick\ntick\ntick\nact i\nact i\nact i\ntick\nact o\nact o\nact o\n";
+
+/// With one act too few for each instance: the sensor's job has not ended where the actuator's acts.
+const WHOLE_CELLS: &str =
     "act i\nact i\ntick\nact o\nact o\ntick\ntick\ntick\ntick\ntick\ntick\ntick\ntick\ntick\nact i\nact i\ntick\nact o\nact o\n";
 
 #[test]
@@ -425,6 +429,11 @@ fn replays(rt: HostRuntime) -> Result<(), Fail> {
     let read = "read o 0 0 0 0 1\nread o 1 0 1 0 2\no,0,0,1\no,1,10,2\n";
     let cases = [
         (WHOLE, "20", (0, read, "")),
+        (
+            WHOLE_CELLS,
+            "20",
+            (8, "", "71 illegal line 4 rule L3\n"),
+        ),
         ("act o", "20", (8, "", "71 illegal line 1 rule L1\n")),
         ("tick\nact o", "20", (8, "", "71 illegal line 2 rule L3\n")),
         (
