@@ -8,8 +8,8 @@ use Rattle.prl_body.specs.Texts.{TextTree}
 use Rattle.prl_bodytext.specs.Parsing.{bodies_of}
 use Rattle.prl_chains.specs.declared.chains.Chain.{Chain}
 use Rattle.prl_chains.specs.Chains.{chain_of, parts_of, node_defined, flat_chain}
-use Rattle.prl_chains.specs.Options.{the_one}
-use Rattle.prl_chains.specs.Options.{◌>>=◌ as ◌>>?◌}
+use Rattle.prl_base.specs.Options.{the_one}
+use Rattle.prl_base.specs.Options.{◌>>=◌ as ◌>>?◌}
 use Rattle.prl_names.specs.Uses.{used_imports}
 use Rattle.prl_app.specs.declared.refusals.Part.TheVariants as parts
 use Rattle.prl_app.specs.declared.refusals.Refusal.{Refusal}

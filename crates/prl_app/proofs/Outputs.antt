@@ -15,7 +15,7 @@ use Rattle.prl_flow.specs.Actuators.{AreUpTo}
 use Rattle.prl_flow.specs.Counts.{values_before}
 use Rattle.prl_app.specs.declared.runs.Run.{Run}
 use Rattle.prl_app.specs.Asked.{ToCompute}
-use Rattle.prl_body.specs.declared.bodies.Parts.{Parts}
+use Rattle.prl_body.specs.declared.bodies.CheckedBody.{CheckedBody}
 use Rattle.prl_body.specs.Checks.{body_tree}
 use Rattle.prl_app.specs.Runs.{Computation, computation_of, chain_computation, out_flows, chain_run}
 use Rattle.prl_base.specs.Reading.{◌>>=◌}
@@ -55,7 +55,7 @@ pub within_limit-few : (c : Computation) → values_before c.until c.clocks.of �
 within_limit-few c few = rw (le-ltb 4000000 (values_before c.until c.clocks.of) few) refl
 
 -- the outcome where each stage before the last one goes well
-pub chain_outcome-run : (texts sensors : List ℕ) (until : ℕ) (program : ProgramTree) (main : ℕ) (chain : Chain) (bodies : List Parts) (values : List Value) (run : Run)
+pub chain_outcome-run : (texts sensors : List ℕ) (until : ℕ) (program : ProgramTree) (main : ℕ) (chain : Chain) (bodies : List CheckedBody) (values : List Value) (run : Run)
     → bodies_stage program main texts ≡ Ok (map body_tree bodies) → chain_stage program ≡ Ok chain → values_stage chain sensors until ≡ Ok values
     → run ≡ chain_run chain bodies values until → chain_outcome program main texts sensors until ≡ within_limit (computation_of run)
 unfolding chain_outcome

@@ -1,6 +1,6 @@
 -- What a program, its bodies and its rows ask to be computed, and the text that they mean.
 use Rattle.std.specs.Prelude.{◌≡◌, ◌+◌, ◌<◌, ◌^◌, ℕ, List, [], ◌∷◌, map}
-use Rattle.prl_body.specs.declared.bodies.Parts.{Parts}
+use Rattle.prl_body.specs.declared.bodies.CheckedBody.{CheckedBody}
 use Rattle.prl_body.specs.Checks.{BodyTree, body_tree}
 use Rattle.prl_flow.specs.declared.programs.Clocks.{Clocks}
 use Rattle.prl_flow.specs.Programs.{FlatProgram}
@@ -32,7 +32,7 @@ abbrev pub computation_of : Run → Computation
 computation_of run = record { flat = run.flat; clocks = run.clocks; bodies = map body_tree run.bodies; sensors = run.sensors; until = run.until }
 
 -- a run of a chain
-abbrev pub chain_run : Chain → List Parts → List Value → ℕ → Run
+abbrev pub chain_run : Chain → List CheckedBody → List Value → ℕ → Run
 chain_run c bodies values until = record { flat = c.flat; clocks = c.clocks; bodies = bodies; sensors = values ∷ []; until = until }
 
 -- the clocks are the program's, the flows stand in order, each application has a body that fits it, and the rows suffice

@@ -6,7 +6,7 @@ use Rattle.prl_body.specs.declared.faults.BodyFault.{BodyFault}
 use Rattle.prl_body.specs.declared.texts.BodyText.{BodyText}
 use Rattle.prl_body.specs.Checks.{BodyTree, import_named, has_text, checked_body, checked_bodies}
 use Rattle.prl_body.specs.Texts.{TextTree, text_tree}
-use Rattle.prl_body.proofs.Lists.{behind, behind-push}
+use Rattle.prl_body.proofs.Lists.{added_to, added_to_push}
 
 pub taken_with : (texts : List BodyText) (k : ℕ) (t : BodyText) → k < length texts → t ≡ get_or texts k t →
     map text_tree (take (suc k) texts) ≡ map text_tree (take k texts) ++ text_tree t ∷ []
@@ -22,18 +22,18 @@ left_from (x ∷ xs) (suc k) t below item = left_from xs k t (omega arith) item
 
 -- a body of no import is passed over
 pub passed_over : (imports : List Import) (done : List BodyTree) (earlier rest : List TextTree) (b : TextTree) (whole : Result (List BodyTree) BodyFault) →
-    import_named imports b.name ≡ None → behind done (checked_bodies imports earlier (b ∷ rest)) ≡ whole →
-    behind done (checked_bodies imports (earlier ++ b ∷ []) rest) ≡ whole
+    import_named imports b.name ≡ None → added_to done (checked_bodies imports earlier (b ∷ rest)) ≡ whole →
+    added_to done (checked_bodies imports (earlier ++ b ∷ []) rest) ≡ whole
 passed_over imports done earlier rest b whole none before =
     let same : checked_bodies imports earlier (b ∷ rest) ≡ checked_bodies imports (earlier ++ b ∷ []) rest = rw none refl in
-    sym (ap (behind done) same) ∙ before
+    sym (ap (added_to done) same) ∙ before
 
 -- a body of an import is taken
 pub taken_in : (imports : List Import) (done : List BodyTree) (earlier rest : List TextTree) (b : TextTree) (import : Import) (t : BodyTree) (whole : Result (List BodyTree) BodyFault) →
     import_named imports b.name ≡ Some import → has_text earlier b.name ≡ false → checked_body import b ≡ Ok t →
-    behind done (checked_bodies imports earlier (b ∷ rest)) ≡ whole →
-    behind (done ++ t ∷ []) (checked_bodies imports (earlier ++ b ∷ []) rest) ≡ whole
+    added_to done (checked_bodies imports earlier (b ∷ rest)) ≡ whole →
+    added_to (done ++ t ∷ []) (checked_bodies imports (earlier ++ b ∷ []) rest) ≡ whole
 taken_in imports done earlier rest b import t whole some first ok before =
     let others = checked_bodies imports (earlier ++ b ∷ []) rest in
     let same : checked_bodies imports earlier (b ∷ rest) ≡ (others >>= λ xs. Ok (t ∷ xs)) = rw (some, first, ok) refl in
-    behind-push done t others ∙ sym (ap (behind done) same) ∙ before
+    added_to_push done t others ∙ sym (ap (added_to done) same) ∙ before

@@ -6,9 +6,9 @@ use Rattle.prl_base.specs.Values.{type_of}
 use Rattle.prl_base.specs.declared.values.Ty.{Ty}
 use Rattle.prl_ast.specs.declared.declarations.Import.{Import}
 use Rattle.prl_ast.specs.declared.declarations.Port.{Port}
-use Rattle.prl_body.specs.declared.bodies.Parts.{Parts}
+use Rattle.prl_body.specs.declared.bodies.CheckedBody.{CheckedBody}
 use Rattle.prl_body.specs.declared.bodies.Register.{Register}
-use Rattle.prl_body.specs.declared.codes.Place.TheVariants as places
+use Rattle.prl_body.specs.declared.codes.Variable.TheVariants as variables
 use Rattle.prl_body.specs.declared.faults.BodyFault.{BodyFault}
 use Rattle.prl_body.specs.declared.faults.BodyFault.TheVariants as faults
 use Rattle.prl_body.specs.declared.texts.RegisterText.{RegisterText}
@@ -66,7 +66,7 @@ next_value_sound : (ins : List Port) (registers : List RegisterText) (k : ℕ) (
     slice_get (text_types registers) k ≡ Some ty → next_value ins registers k ty s ≡ Ok e → HasType (port_types ins) (text_types registers) e ty
 next_value_sound ins registers k ty None e at is =
     let Typed : Expression → Type 0 = λ x. HasType (port_types ins) (text_types registers) x ty in
-    let same : name (places.Register k) ≡ e = cc in
+    let same : name (variables.Register k) ≡ e = cc in
     subst Typed same at
 next_value_sound ins registers k ty (Some s) e at is = typed_as_sound ins registers ty s e is
 
@@ -115,18 +115,18 @@ checked_sound import body t is =
     let resolved = resolved_sound ins body.registers body.statements 0 body.registers registers.first (λ j. ap (slice_get (text_types body.registers)) (omega arith)) registers.is in
     subst IsTypedTree same (record { outputs = rw resolved.types outputs; registers = rw resolved.types resolved.nexts })
 
-types-tree : (rs : List Register) → tree_types (map register_tree rs) ≡ map type_of (map (λ (r : Register). r.first) rs)
-types-tree [] = refl
-types-tree (r ∷ rs) = ap (λ (l : List Ty). type_of r.first ∷ l) (types-tree rs)
+types_tree : (rs : List Register) → tree_types (map register_tree rs) ≡ map type_of (map (λ (r : Register). r.first) rs)
+types_tree [] = refl
+types_tree (r ∷ rs) = ap (λ (l : List Ty). type_of r.first ∷ l) (types_tree rs)
 
-nexts-tree : (rs : List Register) → tree_nexts (map register_tree rs) ≡ map (λ (r : Register). expression_of r.next) rs
-nexts-tree [] = refl
-nexts-tree (r ∷ rs) = ap (λ (l : List Expression). expression_of r.next ∷ l) (nexts-tree rs)
+nexts_tree : (rs : List Register) → tree_nexts (map register_tree rs) ≡ map (λ (r : Register). expression_of r.next) rs
+nexts_tree [] = refl
+nexts_tree (r ∷ rs) = ap (λ (l : List Expression). expression_of r.next ∷ l) (nexts_tree rs)
 
-pub IsWellTyped-checked : (import : Import) (body : TextTree) (parts : Parts) → checked_body import body ≡ Ok (body_tree parts) → IsWellTyped parts
-IsWellTyped-checked import body parts is =
+pub IsWellTyped_checked : (import : Import) (body : TextTree) (parts : CheckedBody) → checked_body import body ≡ Ok (body_tree parts) → IsWellTyped parts
+IsWellTyped_checked import body parts is =
     let typed_tree = checked_sound import body (body_tree parts) is in
     record {
-      outputs = rw (types-tree parts.registers) at typed_tree.outputs;
-      registers = rw (types-tree parts.registers, nexts-tree parts.registers) at typed_tree.registers;
+      outputs = rw (types_tree parts.registers) at typed_tree.outputs;
+      registers = rw (types_tree parts.registers, nexts_tree parts.registers) at typed_tree.registers;
     }

@@ -16,20 +16,20 @@ along inputs registers left [] = left
 along inputs registers left (link ∷ links) =
     along inputs registers (result_of link.operator left (value inputs registers (expression_of link.right))) links
 
-pub value_along-row : (inputs registers : List Value) (left : Value) (n : _) (row : Row_of-Link n) →
+pub value_along_row : (inputs registers : List Value) (left : Value) (n : _) (row : Row_of-Link n) →
     value_along inputs registers left (links_of row) ≡ along inputs registers left (items-the_row-Link n row)
-value_along-row inputs registers left n end_of-Link = refl
-value_along-row inputs registers left n (more_of-Link operator right rest) =
-    value_along-row inputs registers (result_of operator left (value inputs registers (expression_of right))) _ rest
+value_along_row inputs registers left n end_of-Link = refl
+value_along_row inputs registers left n (more_of-Link operator right rest) =
+    value_along_row inputs registers (result_of operator left (value inputs registers (expression_of right))) _ rest
 
 abbrev row_of : Code → (n : Count) × Row_of-Link n
 row_of (Chain' p first shape links) = (_, links)
 row_of _ = (_, end_of-Link)
 
-pub value-Chain : (inputs registers : List Value) (first : Box Code Global) (links : Vec Link Global) →
+pub value_Chain : (inputs registers : List Value) (first : Box Code Global) (links : Vec Link Global) →
     value inputs registers (expression_of (Chain first links))
     ≡ along inputs registers (value inputs registers (expression_of first.value)) links.items
-value-Chain inputs registers first links =
+value_Chain inputs registers first links =
     let row = row_of (Chain first links) in
-    value_along-row inputs registers (value inputs registers (expression_of first.value)) row.0 row.1
+    value_along_row inputs registers (value inputs registers (expression_of first.value)) row.0 row.1
     ∙ ap (along inputs registers (value inputs registers (expression_of first.value))) (items_hidden-the_row-Link-0 links)

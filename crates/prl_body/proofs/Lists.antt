@@ -3,16 +3,16 @@ use Rattle.std.proofs.Common.{◌≡◌, List, [], ◌∷◌, ◌++◌, refl, ap
 use Rattle.prl_base.specs.Reading.{◌>>=◌}
 use Rattle.prl_body.specs.declared.faults.BodyFault.{BodyFault}
 
--- a list, if there is one, behind another list
-abbrev pub behind : {A : Type 0} → List A → Result (List A) BodyFault → Result (List A) BodyFault
-behind front (Ok xs) = Ok (front ++ xs)
-behind front (Err e) = Err e
+-- a list, if there is one, after another list
+abbrev pub added_to : {A : Type 0} → List A → Result (List A) BodyFault → Result (List A) BodyFault
+added_to front (Ok xs) = Ok (front ++ xs)
+added_to front (Err e) = Err e
 
-pub behind-none : {A : Type 0} (r : Result (List A) BodyFault) → behind [] r ≡ r
-behind-none (Ok xs) = refl
-behind-none (Err e) = refl
+pub added_to_none : {A : Type 0} (r : Result (List A) BodyFault) → added_to [] r ≡ r
+added_to_none (Ok xs) = refl
+added_to_none (Err e) = refl
 
-pub behind-push : {A : Type 0} (front : List A) (x : A) (r : Result (List A) BodyFault) →
-    behind (front ++ x ∷ []) r ≡ behind front (r >>= λ xs. Ok (x ∷ xs))
-behind-push front x (Ok xs) = ap (λ l. Ok l) (append_assoc front (x ∷ []) xs)
-behind-push front x (Err e) = refl
+pub added_to_push : {A : Type 0} (front : List A) (x : A) (r : Result (List A) BodyFault) →
+    added_to (front ++ x ∷ []) r ≡ added_to front (r >>= λ xs. Ok (x ∷ xs))
+added_to_push front x (Ok xs) = ap (λ l. Ok l) (append_assoc front (x ∷ []) xs)
+added_to_push front x (Err e) = refl

@@ -2,22 +2,23 @@
 use Rattle.std.proofs.Common.{◌≡◌, ◌+◌, ℕ, suc, Bool, true, false, List, [], ◌∷◌, length, map, slice_get, Option, Some, None, Result, Ok, Err, refl, sym, ◌∙◌, ap, subst, arith}
 use Rattle.std.specs.Prelude.{if◌then◌else◌, ◌&&◌}
 use Rattle.std.specs.Str.{bytes_eq}
+use Rattle.std.proofs.lemmas.Bool.{and_parts}
 use Rattle.prl_base.specs.Reading.{◌>>=◌}
 use Rattle.prl_base.specs.Values.{type_of}
 use Rattle.prl_base.specs.declared.places.Span.{Span}
 use Rattle.prl_base.specs.declared.values.Ty.{Ty}
 use Rattle.prl_base.specs.declared.values.Ty.TheVariants as types
 use Rattle.prl_ast.specs.declared.declarations.Port.{Port}
-use Rattle.prl_body.specs.declared.codes.Place.{Place}
-use Rattle.prl_body.specs.declared.codes.Place.TheVariants as places
+use Rattle.prl_body.specs.declared.codes.Variable.{Variable}
+use Rattle.prl_body.specs.declared.codes.Variable.TheVariants as variables
 use Rattle.prl_body.specs.declared.faults.BodyFault.{BodyFault}
 use Rattle.prl_body.specs.declared.faults.BodyFault.TheVariants as faults
 use Rattle.prl_body.specs.declared.texts.RegisterText.{RegisterText}
 use Rattle.prl_body.specs.Expressions.{Expression, Links}
 use Rattle.prl_body.specs.Expressions as expressions
 use Rattle.prl_body.specs.Texts.{Tree, constant, name, run, chain, choice, TreeLinks, none, more}
-use Rattle.prl_body.specs.TypeChecks.{input_named, register_named, either_place, named, typed_name, last_place, typed, typed_links}
-use Rattle.prl_body.specs.Types.{is_same_type, are_allowed, operand_type, result_type, prefix_type, type_at, HasType, LinksHaveType}
+use Rattle.prl_body.specs.TypeChecks.{input_named, register_named, either_variable, named, typed_name, last_at, typed, typed_links}
+use Rattle.prl_body.specs.Types.{is_same_type, are_allowed, operand_type, result_type, prefix_type, variable_type, HasType, LinksHaveType}
 use Rattle.prl_body.proofs.Inversion.{both_ok, passed_ok}
 
 abbrev pub port_types : List Port → List Ty
@@ -32,77 +33,69 @@ same_type types.Int types.Bool same = cc
 same_type types.Bool types.Int same = cc
 same_type types.Bool types.Bool same = refl
 
-and_left : (a b : Bool) → (a && b) ≡ true → a ≡ true
-and_left true b both = refl
-and_left false b both = both
-
-and_right : (a b : Bool) → (a && b) ≡ true → b ≡ true
-and_right true b both = both
-and_right false b both = cc
-
--- the place x.0 is the input of this number behind the first k, and x.1 is its type
-record AtInput (k : ℕ) (ports : List Port) (x : Place × Ty) : Type 0 where
+-- x.0 is the input of this number after the first k, and x.1 is its type
+record AtInput (k : ℕ) (ports : List Port) (x : Variable × Ty) : Type 0 where
   number : ℕ
-  place : x.0 ≡ places.Input (k + number)
+  variable : x.0 ≡ variables.Input (k + number)
   type : slice_get (port_types ports) number ≡ Some x.1
 
-input_step : (b : Bool) (k : ℕ) (p : Port) (ps : List Port) (x : Place × Ty) (rest : Option (Place × Ty)) → (rest ≡ Some x → AtInput (k + 1) ps x) →
-    (if b then Some (places.Input k, p.ty) else rest) ≡ Some x → AtInput k (p ∷ ps) x
+input_step : (b : Bool) (k : ℕ) (p : Port) (ps : List Port) (x : Variable × Ty) (rest : Option (Variable × Ty)) → (rest ≡ Some x → AtInput (k + 1) ps x) →
+    (if b then Some (variables.Input k, p.ty) else rest) ≡ Some x → AtInput k (p ∷ ps) x
 input_step true k p ps x rest later is =
-    let same : (places.Input k, p.ty) ≡ x = cc in
+    let same : (variables.Input k, p.ty) ≡ x = cc in
     let sum : k ≡ k + 0 = omega arith in
-    record { number = 0; place = sym (ap (λ (y : Place × Ty). y.0) same) ∙ ap (λ (n : ℕ). places.Input n) sum; type = ap (λ (y : Place × Ty). Some y.1) same }
+    record { number = 0; variable = sym (ap (λ (y : Variable × Ty). y.0) same) ∙ ap (λ (n : ℕ). variables.Input n) sum; type = ap (λ (y : Variable × Ty). Some y.1) same }
 input_step false k p ps x rest later is =
     let tail = later is in
     let sum : k + 1 + tail.number ≡ k + suc tail.number = omega arith in
-    record { number = suc tail.number; place = tail.place ∙ ap (λ (n : ℕ). places.Input n) sum; type = tail.type }
+    record { number = suc tail.number; variable = tail.variable ∙ ap (λ (n : ℕ). variables.Input n) sum; type = tail.type }
 
-input_found : (k : ℕ) (ports : List Port) (n : List ℕ) (x : Place × Ty) → input_named k ports n ≡ Some x → AtInput k ports x
+input_found : (k : ℕ) (ports : List Port) (n : List ℕ) (x : Variable × Ty) → input_named k ports n ≡ Some x → AtInput k ports x
 input_found k [] n x found = absurd (cc)
 input_found k (p ∷ ps) n x found = input_step (bytes_eq p.name n) k p ps x (input_named (k + 1) ps n) (input_found (k + 1) ps n x) found
 
-record AtRegister (k : ℕ) (registers : List RegisterText) (x : Place × Ty) : Type 0 where
+record AtRegister (k : ℕ) (registers : List RegisterText) (x : Variable × Ty) : Type 0 where
   number : ℕ
-  place : x.0 ≡ places.Register (k + number)
+  variable : x.0 ≡ variables.Register (k + number)
   type : slice_get (text_types registers) number ≡ Some x.1
 
-register_step : (b : Bool) (k : ℕ) (r : RegisterText) (rs : List RegisterText) (x : Place × Ty) (rest : Option (Place × Ty)) → (rest ≡ Some x → AtRegister (k + 1) rs x) →
-    (if b then Some (places.Register k, type_of r.first) else rest) ≡ Some x → AtRegister k (r ∷ rs) x
+register_step : (b : Bool) (k : ℕ) (r : RegisterText) (rs : List RegisterText) (x : Variable × Ty) (rest : Option (Variable × Ty)) → (rest ≡ Some x → AtRegister (k + 1) rs x) →
+    (if b then Some (variables.Register k, type_of r.first) else rest) ≡ Some x → AtRegister k (r ∷ rs) x
 register_step true k r rs x rest later is =
-    let same : (places.Register k, type_of r.first) ≡ x = cc in
+    let same : (variables.Register k, type_of r.first) ≡ x = cc in
     let sum : k ≡ k + 0 = omega arith in
-    record { number = 0; place = sym (ap (λ (y : Place × Ty). y.0) same) ∙ ap (λ (n : ℕ). places.Register n) sum; type = ap (λ (y : Place × Ty). Some y.1) same }
+    record { number = 0; variable = sym (ap (λ (y : Variable × Ty). y.0) same) ∙ ap (λ (n : ℕ). variables.Register n) sum; type = ap (λ (y : Variable × Ty). Some y.1) same }
 register_step false k r rs x rest later is =
     let tail = later is in
     let sum : k + 1 + tail.number ≡ k + suc tail.number = omega arith in
-    record { number = suc tail.number; place = tail.place ∙ ap (λ (n : ℕ). places.Register n) sum; type = tail.type }
+    record { number = suc tail.number; variable = tail.variable ∙ ap (λ (n : ℕ). variables.Register n) sum; type = tail.type }
 
-register_found : (k : ℕ) (registers : List RegisterText) (n : List ℕ) (x : Place × Ty) → register_named k registers n ≡ Some x → AtRegister k registers x
+register_found : (k : ℕ) (registers : List RegisterText) (n : List ℕ) (x : Variable × Ty) → register_named k registers n ≡ Some x → AtRegister k registers x
 register_found k [] n x found = absurd (cc)
 register_found k (r ∷ rs) n x found = register_step (bytes_eq r.name n) k r rs x (register_named (k + 1) rs n) (register_found (k + 1) rs n x) found
 
-type_at-input : (ins : List Port) (registers : List RegisterText) (x : Place × Ty) → AtInput 0 ins x → type_at (port_types ins) (text_types registers) x.0 ≡ Some x.1
-type_at-input ins registers x found =
-    let place : x.0 ≡ places.Input found.number = found.place ∙ ap (λ (n : ℕ). places.Input n) (omega arith) in
-    ap (type_at (port_types ins) (text_types registers)) place ∙ found.type
+type_of_input : (ins : List Port) (registers : List RegisterText) (x : Variable × Ty) → AtInput 0 ins x → variable_type (port_types ins) (text_types registers) x.0 ≡ Some x.1
+type_of_input ins registers x found =
+    let variable : x.0 ≡ variables.Input found.number = found.variable ∙ ap (λ (n : ℕ). variables.Input n) (omega arith) in
+    ap (variable_type (port_types ins) (text_types registers)) variable ∙ found.type
 
-type_at-register : (ins : List Port) (registers : List RegisterText) (x : Place × Ty) → AtRegister 0 registers x → type_at (port_types ins) (text_types registers) x.0 ≡ Some x.1
-type_at-register ins registers x found =
-    let place : x.0 ≡ places.Register found.number = found.place ∙ ap (λ (n : ℕ). places.Register n) (omega arith) in
-    ap (type_at (port_types ins) (text_types registers)) place ∙ found.type
+type_of_register : (ins : List Port) (registers : List RegisterText) (x : Variable × Ty) → AtRegister 0 registers x → variable_type (port_types ins) (text_types registers) x.0 ≡ Some x.1
+type_of_register ins registers x found =
+    let variable : x.0 ≡ variables.Register found.number = found.variable ∙ ap (λ (n : ℕ). variables.Register n) (omega arith) in
+    ap (variable_type (port_types ins) (text_types registers)) variable ∙ found.type
 
-either_found : {P : Type 0} (a b : Option (Place × Ty)) (x : Place × Ty) → (a ≡ Some x → P) → (b ≡ Some x → P) → either_place a b ≡ Some x → P
+either_found : {P : Type 0} (a b : Option (Variable × Ty)) (x : Variable × Ty) → (a ≡ Some x → P) → (b ≡ Some x → P) → either_variable a b ≡ Some x → P
 either_found None b x left right found = right found
 either_found (Some y) b x left right found = left found
 
-named_found : (ins : List Port) (registers : List RegisterText) (n : List ℕ) (x : Place × Ty) → named ins registers n ≡ Some x →
-    type_at (port_types ins) (text_types registers) x.0 ≡ Some x.1
+named_found : (ins : List Port) (registers : List RegisterText) (n : List ℕ) (x : Variable × Ty) → named ins registers n ≡ Some x →
+    variable_type (port_types ins) (text_types registers) x.0 ≡ Some x.1
 named_found ins registers n x found =
     either_found (input_named 0 ins n) (register_named 0 registers n) x
-    (λ is. type_at-input ins registers x (input_found 0 ins n x is)) (λ is. type_at-register ins registers x (register_found 0 registers n x is)) found
+    (λ is. type_of_input ins registers x (input_found 0 ins n x is)) (λ is. type_of_register ins registers x (register_found 0 registers n x is)) found
 
-name_sound : (ins : List Port) (registers : List RegisterText) (at : Span) (o : Option (Place × Ty)) (x : Expression × Ty) →
-    ((y : Place × Ty) → o ≡ Some y → type_at (port_types ins) (text_types registers) y.0 ≡ Some y.1) →
+name_sound : (ins : List Port) (registers : List RegisterText) (at : Span) (o : Option (Variable × Ty)) (x : Expression × Ty) →
+    ((y : Variable × Ty) → o ≡ Some y → variable_type (port_types ins) (text_types registers) y.0 ≡ Some y.1) →
     typed_name at o ≡ Ok x → HasType (port_types ins) (text_types registers) x.0 x.1
 name_sound ins registers at None x each is = absurd (cc)
 name_sound ins registers at (Some y) x each is =
@@ -119,9 +112,9 @@ mutual
       subst Typed same refl
   typed_sound ins registers (name n at) x is = name_sound ins registers at (named ins registers n) x (named_found ins registers n) is
   typed_sound ins registers (run prefix ats of) x is =
-      let after : Expression × Ty → Result (Expression × Ty) BodyFault = λ y. (if is_same_type y.1 (prefix_type prefix) then Ok (expressions.run prefix (length ats) y.0, y.1) else Err (faults.BodyType (last_place ats))) in
+      let after : Expression × Ty → Result (Expression × Ty) BodyFault = λ y. (if is_same_type y.1 (prefix_type prefix) then Ok (expressions.run prefix (length ats) y.0, y.1) else Err (faults.BodyType (last_at ats))) in
       let both = both_ok (typed ins registers of) after x is in
-      let passed = passed_ok (is_same_type both.first.1 (prefix_type prefix)) (Ok (expressions.run prefix (length ats) both.first.0, both.first.1)) x (faults.BodyType (last_place ats)) both.rest in
+      let passed = passed_ok (is_same_type both.first.1 (prefix_type prefix)) (Ok (expressions.run prefix (length ats) both.first.0, both.first.1)) x (faults.BodyType (last_at ats)) both.rest in
       let type = same_type both.first.1 (prefix_type prefix) passed.0 in
       let same : (expressions.run prefix (length ats) both.first.0, both.first.1) ≡ x = cc (passed.1) in
       let inner = typed_sound ins registers of both.first both.is in
@@ -148,8 +141,8 @@ mutual
       let three = both_ok (typed ins registers other) last x two.rest in
       let fit = is_same_type one.first.1 types.Bool && is_same_type two.first.1 three.first.1 in
       let passed = passed_ok fit (Ok (expressions.choice one.first.0 two.first.0 three.first.0, two.first.1)) x (faults.BodyType at.at) three.rest in
-      let test_type = same_type one.first.1 types.Bool (and_left (is_same_type one.first.1 types.Bool) (is_same_type two.first.1 three.first.1) passed.0) in
-      let other_type = same_type two.first.1 three.first.1 (and_right (is_same_type one.first.1 types.Bool) (is_same_type two.first.1 three.first.1) passed.0) in
+      let test_type = same_type one.first.1 types.Bool (and_parts (is_same_type one.first.1 types.Bool) (is_same_type two.first.1 three.first.1) passed.0).0 in
+      let other_type = same_type two.first.1 three.first.1 (and_parts (is_same_type one.first.1 types.Bool) (is_same_type two.first.1 three.first.1) passed.0).1 in
       let same : (expressions.choice one.first.0 two.first.0 three.first.0, two.first.1) ≡ x = cc (passed.1) in
       let Typed : Expression × Ty → Type 0 = λ z. HasType (port_types ins) (text_types registers) z.0 z.1 in
       let Test : Ty → Type 0 = λ s. HasType (port_types ins) (text_types registers) one.first.0 s in

@@ -5,7 +5,7 @@ use Rattle.std.specs.Str.{bytes_eq}
 use Rattle.std.proofs.lemmas.Slice.Eq.{bytes_eq-Decides}
 use Rattle.prl_base.specs.Reading.{◌>>=◌}
 use Rattle.prl_ast.specs.declared.declarations.Import.{Import}
-use Rattle.prl_body.specs.declared.bodies.Parts.{Parts}
+use Rattle.prl_body.specs.declared.bodies.CheckedBody.{CheckedBody}
 use Rattle.prl_body.specs.declared.faults.BodyFault.{BodyFault}
 use Rattle.prl_body.specs.declared.faults.BodyFault.TheVariants as faults
 use Rattle.prl_body.specs.Bodies.{body_named}
@@ -59,7 +59,7 @@ refused_ok : {A F : Type 0} (b : Bool) (r : Result A F) (y : A) (e : F) → (if 
 refused_ok true r y e is = absurd (cc)
 refused_ok false r y e is = is
 
--- the body of a text, and those behind it
+-- the body of a text, and those after it
 checked_next : (imports : List Import) (earlier : List TextTree) (b : TextTree) (rest : Result (List BodyTree) BodyFault) (ts : List BodyTree) (o : Option Import) →
     import_named imports b.name ≡ o → ((xs : List BodyTree) → rest ≡ Ok xs → AreTreesOf imports xs) →
     checked_one earlier o b (λ x. (rest >>= λ xs. Ok (x ∷ xs))) rest ≡ Ok ts → AreTreesOf imports ts
@@ -84,14 +84,14 @@ checked_trees imports earlier (b ∷ bs) ts is =
     (checked_trees imports (earlier ++ b ∷ []) bs) is
 
 -- a name that a tree has is that of a body
-record Found (bodies : List Parts) (name : List ℕ) : Type 0 where
-  body : Parts
+record Found (bodies : List CheckedBody) (name : List ℕ) : Type 0 where
+  body : CheckedBody
   at : ℕ
   tree : slice_get (map body_tree bodies) at ≡ Some (body_tree body)
   named : body_named bodies name ≡ Some body
   name_is : body.name ≡ name
 
-found_first : (b : Parts) (bs : List Parts) (name : List ℕ) (same : Bool) → bytes_eq b.name name ≡ same →
+found_first : (b : CheckedBody) (bs : List CheckedBody) (name : List ℕ) (same : Bool) → bytes_eq b.name name ≡ same →
     (has_body (map body_tree bs) name ≡ true → Found bs name) → has_body (map body_tree (b ∷ bs)) name ≡ true → Found (b ∷ bs) name
 found_first b bs name true is others has = record {
   body = b;
@@ -101,8 +101,8 @@ found_first b bs name true is others has = record {
   name_is = (bytes_eq-Decides b.name name).0 is;
 }
 found_first b bs name false is others has =
-    let behind : has_body (map body_tree bs) name ≡ true = rw is at has in
-    let rest = others behind in
+    let later : has_body (map body_tree bs) name ≡ true = rw is at has in
+    let rest = others later in
     record {
       body = rest.body;
       at = suc rest.at;
@@ -111,7 +111,7 @@ found_first b bs name false is others has =
       name_is = rest.name_is;
     }
 
-found : (bodies : List Parts) (name : List ℕ) → has_body (map body_tree bodies) name ≡ true → Found bodies name
+found : (bodies : List CheckedBody) (name : List ℕ) → has_body (map body_tree bodies) name ≡ true → Found bodies name
 found [] name has = absurd (cc)
 found (b ∷ bs) name has = found_first b bs name (bytes_eq b.name name) refl (found bs name) has
 
@@ -126,9 +126,9 @@ each_there trees (n ∷ ns) u is (suc k) name at =
     let passed = passed_ok (has_body trees n) (all_there trees ns) u (faults.Missing n) is in
     each_there trees ns u passed.1 k name at
 
-pub HaveBodiesOf-checked : (imports : List Import) (used : List (List ℕ)) (texts : List TextTree) (bodies : List Parts) →
+pub HaveBodiesOf_checked : (imports : List Import) (used : List (List ℕ)) (texts : List TextTree) (bodies : List CheckedBody) →
     checked imports used texts ≡ Ok (map body_tree bodies) → HaveBodiesOf imports used bodies
-HaveBodiesOf-checked imports used texts bodies is k name at =
+HaveBodiesOf_checked imports used texts bodies is k name at =
     let trees = map body_tree bodies in
     let last : List BodyTree → Unit {0} → Result (List BodyTree) BodyFault = λ ts u. Ok ts in
     let from_trees : List BodyTree → Result (List BodyTree) BodyFault = λ ts. (all_there ts used >>= last ts) in

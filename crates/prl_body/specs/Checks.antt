@@ -8,9 +8,9 @@ use Rattle.prl_base.specs.declared.values.Ty.{Ty}
 use Rattle.prl_base.specs.declared.values.Value.{Value}
 use Rattle.prl_ast.specs.declared.declarations.Import.{Import}
 use Rattle.prl_ast.specs.declared.declarations.Port.{Port}
-use Rattle.prl_body.specs.declared.bodies.Parts.{Parts}
+use Rattle.prl_body.specs.declared.bodies.CheckedBody.{CheckedBody}
 use Rattle.prl_body.specs.declared.bodies.Register.{Register}
-use Rattle.prl_body.specs.declared.codes.Place.TheVariants as places
+use Rattle.prl_body.specs.declared.codes.Variable.TheVariants as variables
 use Rattle.prl_body.specs.declared.faults.BodyFault.{BodyFault}
 use Rattle.prl_body.specs.declared.faults.BodyFault.TheVariants as faults
 use Rattle.prl_body.specs.declared.texts.RegisterText.{RegisterText}
@@ -41,7 +41,7 @@ pub record BodyTree : Type 0 where
 abbrev pub register_tree : Register → RegisterTree
 register_tree r = record { name = r.name; first = r.first; next = expression_of r.next }
 
-abbrev pub body_tree : Parts → BodyTree
+abbrev pub body_tree : CheckedBody → BodyTree
 body_tree p = record { name = p.name; ins = p.ins; outs = p.outs; registers = map register_tree p.registers; values = map expression_of p.values }
 
 -- the right side of a statement whose left name has this type
@@ -83,7 +83,7 @@ abbrev pub output_value : List Port → List RegisterText → ℕ → Ty → Opt
 output_value ins registers at ty None = Err (faults.BodyArity at)
 output_value ins registers at ty (Some s) = typed_as ins registers ty s
 
--- the value of each output, for a body whose name stands at this place
+-- the value of each output, for a body whose name stands at this byte
 abbrev pub output_values : List Port → List RegisterText → ℕ → List StatementTree → List Port → Result (List Expression) BodyFault
 output_values ins registers at statements [] = Ok []
 output_values ins registers at statements (p ∷ ps) = do
@@ -93,7 +93,7 @@ output_values ins registers at statements (p ∷ ps) = do
 
 -- the next value of the register k
 abbrev pub next_value : List Port → List RegisterText → ℕ → Ty → Option StatementTree → Result Expression BodyFault
-next_value ins registers k ty None = Ok (name (places.Register k))
+next_value ins registers k ty None = Ok (name (variables.Register k))
 next_value ins registers k ty (Some s) = typed_as ins registers ty s
 
 -- the registers, counted from k

@@ -7,7 +7,7 @@ use Rattle.prl_body.specs.Expressions.{Expression, constant, name, run, chain, c
 abbrev mutual
   pub expression_of : Code → Expression
   expression_of (Const value) = constant value
-  expression_of (Name place) = name place
+  expression_of (Name variable) = name variable
   expression_of (Run' prefix times p of) = run prefix times (expression_of of)
   expression_of (Chain' p first shape links) = chain (expression_of first) (links_of links)
   expression_of (If' p test q chosen r other) = choice (expression_of test) (expression_of chosen) (expression_of other)

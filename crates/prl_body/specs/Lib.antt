@@ -1,13 +1,13 @@
 pub mod Operators
 pub mod Expressions
 pub mod Codes
+pub mod Faults
 pub mod Values
 pub mod Types
 pub mod Bodies
 pub mod Machines
 pub mod Texts
 pub mod NameChecks
-pub mod Faults
 pub mod TypeChecks
 pub mod Checks
 pub mod Used

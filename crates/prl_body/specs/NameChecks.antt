@@ -50,7 +50,7 @@ statement_fault ins outs registers earlier (s ∷ ss) =
     then either_fault (unknown_name ins registers s.right) (statement_fault ins outs registers (earlier ++ s ∷ []) ss)
     else Some s.at.at
 
--- the place of the first name that a body may not have there, for an import with these inputs and outputs
+-- where the first name stands that a body may not have there, for an import with these inputs and outputs
 abbrev pub name_fault : List Port → List Port → TextTree → Option ℕ
 name_fault ins outs body =
     either_fault (register_fault ins outs [] body.registers) (statement_fault ins outs body.registers [] body.statements)

@@ -1,7 +1,7 @@
--- The values of operators. Integers wrap in 32 bits. A value of a wrong type, which no checked body has, counts as
+-- The values of operators. Integers wrap in 64 bits. A value of a wrong type, which no checked body has, counts as
 -- 0 or as false.
 use Rattle.std.specs.Prelude.{zero, suc, ℤ, pos, negsuc, neg_ℤ, ◌+ℤ◌, ◌-ℤ◌, ◌*ℤ◌, Bool, true, false, not, ◌&&◌, ◌||◌, int_div, int_lt, int_le}
-use Rattle.std.specs.Int.{w32, int_wrap}
+use Rattle.std.specs.Int.{w64, int_wrap}
 use Rattle.std.specs.Ordering.{int_eq}
 use Rattle.prl_base.specs.declared.values.Value.{Value}
 use Rattle.prl_base.specs.declared.values.Value.TheVariants as values
@@ -18,9 +18,9 @@ abbrev pub truth_of : Value → Bool
 truth_of (values.Int number) = false
 truth_of (values.Bool truth) = truth
 
--- what is left of a number in 32 bits
+-- what is left of a number in 64 bits
 abbrev pub wrapped : ℤ → ℤ
-wrapped z = int_wrap w32 z
+wrapped z = int_wrap w64 z
 
 -- toward zero; 0 where the divisor is 0
 abbrev pub quotient : ℤ → ℤ → ℤ

@@ -1,4 +1,4 @@
--- The trees of bodies as definitions see them, with the places of their names and operators.
+-- The trees of bodies as definitions see them, with where their names and operators stand.
 use Rattle.std.specs.Prelude.{ℕ, List, [], ◌∷◌, map}
 use Rattle.prl_base.specs.declared.places.Span.{Span}
 use Rattle.prl_base.specs.declared.values.Value.{Value}

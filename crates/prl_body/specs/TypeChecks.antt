@@ -7,8 +7,8 @@ use Rattle.prl_base.specs.declared.places.Span.{Span}
 use Rattle.prl_base.specs.declared.values.Ty.{Ty}
 use Rattle.prl_base.specs.declared.values.Ty.TheVariants as types
 use Rattle.prl_ast.specs.declared.declarations.Port.{Port}
-use Rattle.prl_body.specs.declared.codes.Place.{Place}
-use Rattle.prl_body.specs.declared.codes.Place.TheVariants as places
+use Rattle.prl_body.specs.declared.codes.Variable.{Variable}
+use Rattle.prl_body.specs.declared.codes.Variable.TheVariants as variables
 use Rattle.prl_body.specs.declared.faults.BodyFault.{BodyFault}
 use Rattle.prl_body.specs.declared.faults.BodyFault.TheVariants as faults
 use Rattle.prl_body.specs.declared.texts.RegisterText.{RegisterText}
@@ -17,24 +17,24 @@ use Rattle.prl_body.specs.Expressions as expressions
 use Rattle.prl_body.specs.Texts.{Tree, constant, name, run, chain, choice, TreeLinks, none, more}
 use Rattle.prl_body.specs.Types.{is_same_type, are_allowed, operand_type, result_type, prefix_type}
 
--- the place and the type of the first input of this name; the inputs are counted from k
-abbrev pub input_named : ℕ → List Port → List ℕ → Option (Place × Ty)
+-- the first input of this name and its type; the inputs are counted from k
+abbrev pub input_named : ℕ → List Port → List ℕ → Option (Variable × Ty)
 input_named k [] n = None
-input_named k (p ∷ ps) n = if bytes_eq p.name n then Some (places.Input k, p.ty) else input_named (k + 1) ps n
+input_named k (p ∷ ps) n = if bytes_eq p.name n then Some (variables.Input k, p.ty) else input_named (k + 1) ps n
 
-abbrev pub register_named : ℕ → List RegisterText → List ℕ → Option (Place × Ty)
+abbrev pub register_named : ℕ → List RegisterText → List ℕ → Option (Variable × Ty)
 register_named k [] n = None
-register_named k (r ∷ rs) n = if bytes_eq r.name n then Some (places.Register k, type_of r.first) else register_named (k + 1) rs n
+register_named k (r ∷ rs) n = if bytes_eq r.name n then Some (variables.Register k, type_of r.first) else register_named (k + 1) rs n
 
-abbrev pub either_place : Option (Place × Ty) → Option (Place × Ty) → Option (Place × Ty)
-either_place None other = other
-either_place (Some place) other = Some place
+abbrev pub either_variable : Option (Variable × Ty) → Option (Variable × Ty) → Option (Variable × Ty)
+either_variable None other = other
+either_variable (Some variable) other = Some variable
 
 -- what a name of an expression stands for
-abbrev pub named : List Port → List RegisterText → List ℕ → Option (Place × Ty)
-named ins registers n = either_place (input_named 0 ins n) (register_named 0 registers n)
+abbrev pub named : List Port → List RegisterText → List ℕ → Option (Variable × Ty)
+named ins registers n = either_variable (input_named 0 ins n) (register_named 0 registers n)
 
-abbrev pub typed_name : Span → Option (Place × Ty) → Result (Expression × Ty) BodyFault
+abbrev pub typed_name : Span → Option (Variable × Ty) → Result (Expression × Ty) BodyFault
 typed_name at None = Err (faults.BodyName at.at)
 typed_name at (Some x) = Ok (expressions.name x.0, x.1)
 
@@ -43,21 +43,21 @@ at_of None = 0
 at_of (Some span) = span.at
 
 -- the operator next to the operand
-abbrev pub last_place : List Span → ℕ
-last_place ats = at_of (slice_get ats (length ats - 1))
+abbrev pub last_at : List Span → ℕ
+last_at ats = at_of (slice_get ats (length ats - 1))
 
 abbrev mutual
   pub typed : List Port → List RegisterText → Tree → Result (Expression × Ty) BodyFault
   typed ins registers (constant v) = Ok (expressions.constant v, type_of v)
   typed ins registers (name n at) = typed_name at (named ins registers n)
   typed ins registers (run prefix ats of) = typed ins registers of >>= λ x.
-      if is_same_type x.1 (prefix_type prefix) then Ok (expressions.run prefix (length ats) x.0, x.1) else Err (faults.BodyType (last_place ats))
+      if is_same_type x.1 (prefix_type prefix) then Ok (expressions.run prefix (length ats) x.0, x.1) else Err (faults.BodyType (last_at ats))
   typed ins registers (chain first links) = typed ins registers first >>= λ x. (typed_links ins registers x.1 links >>= λ y.
       Ok (expressions.chain x.0 y.0, y.1))
   typed ins registers (choice at test chosen other) = typed ins registers test >>= λ t. (typed ins registers chosen >>= λ x. (typed ins registers other >>= λ y.
       if is_same_type t.1 types.Bool && is_same_type x.1 y.1 then Ok (expressions.choice t.0 x.0 y.0, x.1) else Err (faults.BodyType at.at)))
 
-  -- behind a left operand of this type
+  -- after a left operand of this type
   pub typed_links : List Port → List RegisterText → Ty → TreeLinks → Result (Links × Ty) BodyFault
   typed_links ins registers left none = Ok (expressions.none, left)
   typed_links ins registers left (more operator at right links) = typed ins registers right >>= λ x.

@@ -3,18 +3,18 @@ use Rattle.std.specs.Prelude.{◌≡◌, ◌&&◌, Bool, true, false, List, Opti
 use Rattle.prl_base.specs.declared.values.Ty.{Ty}
 use Rattle.prl_base.specs.declared.values.Ty.TheVariants as types
 use Rattle.prl_base.specs.Values.{type_of}
-use Rattle.prl_body.specs.declared.codes.Place.{Place}
-use Rattle.prl_body.specs.declared.codes.Place.TheVariants as places
+use Rattle.prl_body.specs.declared.codes.Variable.{Variable}
+use Rattle.prl_body.specs.declared.codes.Variable.TheVariants as variables
 use Rattle.prl_body.specs.declared.operators.Operator.{Operator}
 use Rattle.prl_body.specs.declared.operators.Operator.TheVariants as operators
 use Rattle.prl_body.specs.declared.operators.Prefix.{Prefix}
 use Rattle.prl_body.specs.declared.operators.Prefix.TheVariants as prefixes
 use Rattle.prl_body.specs.Expressions.{Expression, constant, name, run, chain, choice, Links, none, more}
 
--- the type of what stands at a place, where there is such a place
-abbrev pub type_at : List Ty → List Ty → Place → Option Ty
-type_at ins regs (places.Input k) = slice_get ins k
-type_at ins regs (places.Register k) = slice_get regs k
+-- the type of an input or a register, where there is one of this number
+abbrev pub variable_type : List Ty → List Ty → Variable → Option Ty
+variable_type ins regs (variables.Input k) = slice_get ins k
+variable_type ins regs (variables.Register k) = slice_get regs k
 
 -- the type of the operands, where only one is allowed; `=` and `<>` take two of any one type
 abbrev pub operand_type : Operator → Option Ty
@@ -69,12 +69,12 @@ abbrev mutual
   -- for inputs and registers of these types
   pub HasType : List Ty → List Ty → Expression → Ty → Type 0
   HasType ins regs (constant v) t = type_of v ≡ t
-  HasType ins regs (name place) t = type_at ins regs place ≡ Some t
+  HasType ins regs (name variable) t = variable_type ins regs variable ≡ Some t
   HasType ins regs (run prefix times of) t = HasType ins regs of (prefix_type prefix) × (prefix_type prefix ≡ t)
   HasType ins regs (chain first links) t = (s : Ty) × HasType ins regs first s × LinksHaveType ins regs s links t
   HasType ins regs (choice test chosen other) t = HasType ins regs test types.Bool × HasType ins regs chosen t × HasType ins regs other t
 
-  -- behind a left operand of this type
+  -- after a left operand of this type
   pub LinksHaveType : List Ty → List Ty → Ty → Links → Ty → Type 0
   LinksHaveType ins regs left none t = left ≡ t
   LinksHaveType ins regs left (more operator right links) t =

@@ -2,16 +2,16 @@
 use Rattle.std.specs.Prelude.{ℕ, zero, suc, pos, List, slice_index_or, if◌then◌else◌}
 use Rattle.prl_base.specs.declared.values.Value.{Value}
 use Rattle.prl_base.specs.declared.values.Value.TheVariants as values
-use Rattle.prl_body.specs.declared.codes.Place.{Place}
-use Rattle.prl_body.specs.declared.codes.Place.TheVariants as places
+use Rattle.prl_body.specs.declared.codes.Variable.{Variable}
+use Rattle.prl_body.specs.declared.codes.Variable.TheVariants as variables
 use Rattle.prl_body.specs.declared.operators.Prefix.{Prefix}
 use Rattle.prl_body.specs.Expressions.{Expression, constant, name, run, chain, choice, Links, none, more}
 use Rattle.prl_body.specs.Operators.{truth_of, prefixed, result_of}
 
--- a place that is not there, which no checked body has, counts as 0
-abbrev pub at_place : List Value → List Value → Place → Value
-at_place inputs registers (places.Input k) = slice_index_or inputs k (values.Int (pos 0))
-at_place inputs registers (places.Register k) = slice_index_or registers k (values.Int (pos 0))
+-- an input or a register that is not there, which no checked body names, counts as 0
+abbrev pub variable_value : List Value → List Value → Variable → Value
+variable_value inputs registers (variables.Input k) = slice_index_or inputs k (values.Int (pos 0))
+variable_value inputs registers (variables.Register k) = slice_index_or registers k (values.Int (pos 0))
 
 abbrev pub prefixed_times : Prefix → ℕ → Value → Value
 prefixed_times prefix zero v = v
@@ -21,7 +21,7 @@ abbrev mutual
   -- for these inputs and registers
   pub value : List Value → List Value → Expression → Value
   value inputs registers (constant v) = v
-  value inputs registers (name place) = at_place inputs registers place
+  value inputs registers (name variable) = variable_value inputs registers variable
   value inputs registers (run prefix times of) = prefixed_times prefix times (value inputs registers of)
   value inputs registers (chain first links) = value_along inputs registers (value inputs registers first) links
   value inputs registers (choice test chosen other) =

@@ -17,7 +17,7 @@ pub struct Register {
 
 /// The parts of a checked body.
 #[derive(Debug, Drop)]
-pub struct Parts {
+pub struct CheckedBody {
     /// The import's name.
     pub name: Name,
     /// The import's inputs, in order.
@@ -34,16 +34,16 @@ pub struct Parts {
 /// of the import's ports.
 #[derive(Debug, Drop)]
 pub struct Body {
-    parts: Parts,
+    parts: CheckedBody,
 }
 
 impl Model for Body {
     ghost use Rattle.prl_body.specs.Bodies.{IsWellTyped};
-    ghost use Rattle.prl_body.specs.declared.bodies.Parts.{Parts};
+    ghost use Rattle.prl_body.specs.declared.bodies.CheckedBody.{CheckedBody};
     ghost use Rattle.prl_body.specs.contracts.codes.Code as code;
     ghost use Rattle.std.specs.Coded.{codes};
 
-    ghost Value = { Parts };
+    ghost Value = { CheckedBody };
 
     ghost coded = { Prim.hlevel (codes, code.the_row.coded) };
 
@@ -57,7 +57,7 @@ impl Body {
     ghost use Rattle.prl_body.specs.Bodies.{IsWellTyped};
 
     /// The body that these parts are.
-    pub fn new(parts: Parts) -> Self
+    pub fn new(parts: CheckedBody) -> Self
         requires { IsWellTyped parts }
         ensures { result ≡ parts }
     {
@@ -65,7 +65,7 @@ impl Body {
     }
 
     /// Its parts.
-    pub fn parts(&self) -> &Parts
+    pub fn parts(&self) -> &CheckedBody
         ensures parts { result.now ≡ self.now }
         ensures well_typed { IsWellTyped self.now }
     {

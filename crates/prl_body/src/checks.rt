@@ -2,15 +2,14 @@
 
 ghost use Rattle.std.specs.Prelude.{◌≡◌, ◌++◌, [], map, IfOk, OnOk};
 ghost use Rattle.std.specs.Option.{option_copied, option_map};
-ghost use Rattle.prl_base.specs.Reading.{Gives};
+ghost use Rattle.prl_base.specs.Reading.{GivesBut};
 ghost use Rattle.prl_base.specs.Values.{type_of};
 ghost use Rattle.prl_body.specs.Checks.{body_tree, register_tree, typed_as, port_type, register_type, left_type, typed_statement, typed_statements, statement_named, output_value, output_values, next_value, resolved_registers, checked_body};
 ghost use Rattle.prl_body.specs.Codes.{expression_of};
-ghost use Rattle.prl_body.specs.Faults.{fault_of};
 ghost use Rattle.prl_body.specs.Texts.{statement_tree, text_tree};
 
-use crate::bodies::{Body, Parts, Register};
-use crate::codes::{Code, Place};
+use crate::bodies::{Body, CheckedBody, Register};
+use crate::codes::{Code, Variable};
 use crate::faults::BodyFault;
 use crate::names::name_fault;
 use crate::texts::{BodyText, RegisterText, Statement};
@@ -27,7 +26,7 @@ fn typed_as(
     ty: Ty,
     statement: &Statement,
 ) -> Result<Code, BodyFault>
-    ensures { Gives expression_of fault_of result (typed_as ins.now registers.now ty (statement_tree statement.now)) }
+    ensures { GivesBut BodyFault.Memory expression_of result (typed_as ins.now registers.now ty (statement_tree statement.now)) }
 {
     let (code, found) = typed(alloc, ins, registers, &statement.right)?;
     if !is_same_type(found, ty) {
@@ -76,7 +75,7 @@ fn check_statement(
     registers: &[RegisterText],
     statement: &Statement,
 ) -> Result<Code, BodyFault>
-    ensures { Gives expression_of fault_of result (typed_statement ins.now registers.now (left_type outs.now registers.now statement.now.left) (statement_tree statement.now)) }
+    ensures { GivesBut BodyFault.Memory expression_of result (typed_statement ins.now registers.now (left_type outs.now registers.now statement.now.left) (statement_tree statement.now)) }
 {
     match left_type(outs, registers, &statement.left) {
         None => Err(BodyFault::BodyName(statement.at.at)),
@@ -92,7 +91,7 @@ fn check_statements(
     registers: &[RegisterText],
     statements: &[Statement],
 ) -> Result<(), BodyFault>
-    ensures { Gives (λ x. x) fault_of result (typed_statements ins.now outs.now registers.now (map statement_tree statements.now)) }
+    ensures { GivesBut BodyFault.Memory (λ x. x) result (typed_statements ins.now outs.now registers.now (map statement_tree statements.now)) }
 {
     for statement in statements {
         let _code = check_statement(alloc, ins, outs, registers, statement)?;
@@ -112,7 +111,7 @@ fn statement_named<'a>(statements: &'a [Statement], name: &Name) -> Option<&'a S
     None
 }
 
-/// The value of an output of this name and type, for a body whose name stands at this place.
+/// The value of an output of this name and type, for a body whose name stands at this byte.
 fn output_value(
     alloc: Global,
     ins: &[Port],
@@ -121,7 +120,7 @@ fn output_value(
     statements: &[Statement],
     port: &Port,
 ) -> Result<Code, BodyFault>
-    ensures { Gives expression_of fault_of result (output_value ins.now registers.now at port.now.ty (statement_named (map statement_tree statements.now) port.now.name)) }
+    ensures { GivesBut BodyFault.Memory expression_of result (output_value ins.now registers.now at port.now.ty (statement_named (map statement_tree statements.now) port.now.name)) }
 {
     match statement_named(statements, &port.name) {
         None => Err(BodyFault::BodyArity(at)),
@@ -138,7 +137,7 @@ fn output_values(
     statements: &[Statement],
     outs: &[Port],
 ) -> Result<Vec<Code>, BodyFault>
-    ensures { Gives (λ v. map expression_of v.items) fault_of result (output_values ins.now registers.now at (map statement_tree statements.now) outs.now) }
+    ensures { GivesBut BodyFault.Memory (λ v. map expression_of v.items) result (output_values ins.now registers.now at (map statement_tree statements.now) outs.now) }
 {
     let mut values = Vec::new(alloc);
     for port in outs {
@@ -157,10 +156,10 @@ fn next_value(
     k: usize,
     register: &RegisterText,
 ) -> Result<Code, BodyFault>
-    ensures { Gives expression_of fault_of result (let s = statement_named (map statement_tree statements.now) register.now.name in next_value ins.now registers.now k (type_of register.now.first) s) }
+    ensures { GivesBut BodyFault.Memory expression_of result (let s = statement_named (map statement_tree statements.now) register.now.name in next_value ins.now registers.now k (type_of register.now.first) s) }
 {
     match statement_named(statements, &register.name) {
-        None => Ok(Code::Name(Place::Register(k))),
+        None => Ok(Code::Name(Variable::Register(k))),
         Some(statement) => typed_as(alloc, ins, registers, register.first.ty(), statement),
     }
 }
@@ -172,7 +171,7 @@ fn resolved_registers(
     registers: &[RegisterText],
     statements: &[Statement],
 ) -> Result<Vec<Register>, BodyFault>
-    ensures { Gives (λ v. map register_tree v.items) fault_of result (resolved_registers ins.now registers.now (map statement_tree statements.now) 0 registers.now) }
+    ensures { GivesBut BodyFault.Memory (λ v. map register_tree v.items) result (resolved_registers ins.now registers.now (map statement_tree statements.now) 0 registers.now) }
 {
     let mut resolved = Vec::new(alloc);
     for (k, register) in registers.iter().enumerate() {
@@ -204,8 +203,8 @@ fn copied(alloc: Global, ports: &[Port]) -> Result<Vec<Port>, AllocError>
 }
 
 /// The parts of the checked body.
-fn checked_parts(alloc: Global, import: &Import, body: &BodyText) -> Result<Parts, BodyFault>
-    ensures { Gives body_tree fault_of result (checked_body import.now (text_tree body.now)) }
+fn checked_parts(alloc: Global, import: &Import, body: &BodyText) -> Result<CheckedBody, BodyFault>
+    ensures { GivesBut BodyFault.Memory body_tree result (checked_body import.now (text_tree body.now)) }
 {
     let ins = import.ins.as_slice();
     let outs = import.outs.as_slice();
@@ -220,7 +219,7 @@ fn checked_parts(alloc: Global, import: &Import, body: &BodyText) -> Result<Part
     let name = body.name.copy(alloc)?;
     let ins = copied(alloc, ins)?;
     let outs = copied(alloc, outs)?;
-    Ok(Parts {
+    Ok(CheckedBody {
         name,
         ins: Seq::new(ins),
         outs: Seq::new(outs),
@@ -232,7 +231,7 @@ fn checked_parts(alloc: Global, import: &Import, body: &BodyText) -> Result<Part
 /// The body, checked against its import: its names first, then its types, then that each output has a
 /// statement.
 pub fn checked_body(alloc: Global, import: &Import, body: &BodyText) -> Result<Body, BodyFault>
-    ensures { Gives body_tree fault_of result (checked_body import.now (text_tree body.now)) }
+    ensures { GivesBut BodyFault.Memory body_tree result (checked_body import.now (text_tree body.now)) }
 {
     let parts = checked_parts(alloc, import, body)?;
     Ok(Body::new(parts))

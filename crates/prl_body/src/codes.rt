@@ -1,11 +1,11 @@
-//! Expressions whose names are resolved to places.
+//! Expressions whose names are resolved to inputs and registers.
 
 use crate::operators::{Operator, Prefix};
 use prl_base::{Seq, Value};
 
 /// What a name of an expression stands for.
 #[derive(Clone, Copy, Debug, PartialEq, Eq)]
-pub enum Place {
+pub enum Variable {
     /// The input of this number, from 0.
     Input(usize),
     /// The register of this number, from 0.
@@ -17,7 +17,7 @@ pub enum Place {
 #[cycle(tree)]
 pub enum Code {
     Const(Value),
-    Name(Place),
+    Name(Variable),
     /// The operator so many times before the operand.
     Run {
         prefix: Prefix,

@@ -2,13 +2,13 @@
 
 ghost use Rattle.std.specs.Prelude.{◌≡◌, ℕ, List, Ok, map};
 ghost use Rattle.prl_ast.specs.declared.declarations.Import.{Import};
-ghost use Rattle.prl_body.specs.declared.bodies.Parts.{Parts};
+ghost use Rattle.prl_body.specs.declared.bodies.CheckedBody.{CheckedBody};
 ghost use Rattle.prl_body.specs.Checks.{body_tree, checked};
 ghost use Rattle.prl_body.specs.Texts.{TextTree};
 ghost use Rattle.prl_body.specs.Used.{HaveBodiesOf};
 
 /// Behind `check_bodies` each used import has a body, which has exactly the ports of the import.
 pub fn used_imports_have_bodies()
-    ensures { (imports : List Import) (used : List (List ℕ)) (texts : List TextTree) (bodies : List Parts)
+    ensures { (imports : List Import) (used : List (List ℕ)) (texts : List TextTree) (bodies : List CheckedBody)
         → checked imports used texts ≡ Ok (map body_tree bodies) → HaveBodiesOf imports used bodies }
 {}

@@ -15,14 +15,11 @@ mod texts;
 mod types;
 mod values;
 
-pub use bodies::{Body, Parts, Register};
-pub use codes::{Code, Link, Place};
+pub use bodies::{Body, CheckedBody, Register};
+pub use codes::{Code, Link, Variable};
 pub use faults::BodyFault;
 pub use laws::used_imports_have_bodies;
 pub use machines::Machine;
 pub use operators::{Operator, Prefix};
 pub use program_bodies::{Bodies, check_bodies, import_named};
 pub use texts::{BodyText, BodyTexts, Expr, ExprLink, RegisterText, Statement};
-
-#[cfg(test)]
-mod tests;

@@ -4,7 +4,7 @@ ghost use Rattle.std.specs.Prelude.{◌≡◌, ◌<◌, ◌+◌, ◌^◌, length
 ghost use Rattle.prl_base.specs.Values.{type_of};
 ghost use Rattle.prl_body.specs.Bodies.{body_step, first_values, input_types, output_types, register_types};
 
-use crate::bodies::{Body, Parts};
+use crate::bodies::{Body, CheckedBody};
 use crate::values::value_of;
 use prl_base::Value;
 use std::alloc::{AllocError, Global};
@@ -32,7 +32,7 @@ impl Model for Machine {
 }
 
 /// The registers' first values.
-fn first_values(alloc: Global, body: &Parts) -> Result<Vec<Value>, AllocError>
+fn first_values(alloc: Global, body: &CheckedBody) -> Result<Vec<Value>, AllocError>
     ensures { IfOk result (λ v. v.items ≡ first_values body.now) }
 {
     let registers = body.registers.as_slice();
@@ -44,7 +44,7 @@ fn first_values(alloc: Global, body: &Parts) -> Result<Vec<Value>, AllocError>
 }
 
 /// Writes the value of each output.
-fn write_outputs(body: &Parts, inputs: &[Value], registers: &[Value], outputs: &mut [Value])
+fn write_outputs(body: &CheckedBody, inputs: &[Value], registers: &[Value], outputs: &mut [Value])
     requires { length outputs.old ≡ length body.now.values }
     ensures { outputs.new ≡ (body_step body.now inputs.now registers.now).outputs }
 {
@@ -54,7 +54,7 @@ fn write_outputs(body: &Parts, inputs: &[Value], registers: &[Value], outputs: &
 }
 
 /// Writes the next value of each register.
-fn write_registers(body: &Parts, inputs: &[Value], registers: &[Value], next: &mut [Value])
+fn write_registers(body: &CheckedBody, inputs: &[Value], registers: &[Value], next: &mut [Value])
     requires { length next.old ≡ length body.now.registers }
     ensures { next.new ≡ (body_step body.now inputs.now registers.now).registers }
 {

@@ -36,7 +36,7 @@ pub fn has_statement(statements: &[Statement], name: &Name) -> bool
     false
 }
 
-/// The place of the first register with the name of an input, an output or an earlier register.
+/// Where the first register stands with the name of an input, an output or an earlier register.
 fn register_fault(ins: &[Port], outs: &[Port], registers: &[RegisterText]) -> Option<u32>
     ensures { result ≡ register_fault ins.now outs.now [] registers.now }
 {
@@ -49,7 +49,7 @@ fn register_fault(ins: &[Port], outs: &[Port], registers: &[RegisterText]) -> Op
     None
 }
 
-/// The place of the first name that is no input or register.
+/// Where the first name stands that is no input or register.
 fn unknown_name(ins: &[Port], registers: &[RegisterText], expr: &Expr) -> Option<u32>
     ensures { result ≡ unknown_name ins.now registers.now (tree_of expr.now) }
 {
@@ -91,8 +91,8 @@ fn unknown_name(ins: &[Port], registers: &[RegisterText], expr: &Expr) -> Option
     }
 }
 
-/// The place of the first left name that is no output or register or has an earlier statement, or name on
-/// the right that is no input or register.
+/// Where the first left name stands that is no output or register or has an earlier statement, or the first
+/// name on the right that is no input or register.
 fn statement_fault(
     ins: &[Port],
     outs: &[Port],
@@ -114,7 +114,7 @@ fn statement_fault(
     None
 }
 
-/// The place of the first name that the body may not have there.
+/// Where the first name stands that the body may not have there.
 pub fn name_fault(ins: &[Port], outs: &[Port], body: &BodyText) -> Option<u32>
     ensures { result ≡ name_fault ins.now outs.now (text_tree body.now) }
 {

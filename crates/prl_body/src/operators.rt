@@ -48,7 +48,7 @@ pub enum Prefix {
 }
 
 /// The number; 0 for a truth value.
-fn number_of(value: Value) -> i32
+fn number_of(value: Value) -> i64
     ensures { result ≡ number_of value }
 {
     match value {
@@ -67,39 +67,39 @@ pub fn truth_of(value: Value) -> bool
     }
 }
 
-fn sum(a: i32, b: i32) -> i32
+fn sum(a: i64, b: i64) -> i64
     ensures { result ≡ wrapped (a +ℤ b) }
 {
     a.wrapping_add(b)
 }
 
-fn difference(a: i32, b: i32) -> i32
+fn difference(a: i64, b: i64) -> i64
     ensures { result ≡ wrapped (a -ℤ b) }
 {
     a.wrapping_sub(b)
 }
 
-fn product(a: i32, b: i32) -> i32
+fn product(a: i64, b: i64) -> i64
     ensures { result ≡ wrapped (a *ℤ b) }
 {
     a.wrapping_mul(b)
 }
 
-fn negation(a: i32) -> i32
+fn negation(a: i64) -> i64
     ensures { result ≡ wrapped (neg_ℤ a) }
 {
     a.wrapping_neg()
 }
 
 /// The quotient, toward zero; 0 where the divisor is 0. The least number by -1 is the least number.
-fn quotient(a: i32, b: i32) -> i32
+fn quotient(a: i64, b: i64) -> i64
     ensures { result ≡ quotient a b }
 {
     if b == 0 { 0 } else { a.wrapping_div(b) }
 }
 
 /// What the quotient leaves.
-fn remainder(a: i32, b: i32) -> i32
+fn remainder(a: i64, b: i64) -> i64
     ensures { result ≡ remainder a b }
 {
     difference(a, product(quotient(a, b), b))

@@ -2,10 +2,9 @@
 
 ghost use Rattle.std.specs.Prelude.{◌≡◌, [], map};
 ghost use Rattle.std.specs.Option.{option_copied};
-ghost use Rattle.prl_base.specs.Reading.{Gives};
+ghost use Rattle.prl_base.specs.Reading.{GivesBut};
 ghost use Rattle.prl_body.specs.Bodies.{body_named};
 ghost use Rattle.prl_body.specs.Checks.{body_tree, import_named, has_text, has_body, checked_bodies, all_there, checked};
-ghost use Rattle.prl_body.specs.Faults.{fault_of};
 ghost use Rattle.prl_body.specs.Texts.{text_tree, text_trees};
 
 use crate::bodies::Body;
@@ -25,11 +24,11 @@ pub struct Bodies {
 
 impl Model for Bodies {
     ghost use Rattle.std.specs.Prelude.{List};
-    ghost use Rattle.prl_body.specs.declared.bodies.Parts.{Parts};
+    ghost use Rattle.prl_body.specs.declared.bodies.CheckedBody.{CheckedBody};
     ghost use Rattle.prl_body.specs.contracts.codes.Code as code;
     ghost use Rattle.std.specs.Coded.{codes};
 
-    ghost Value = { List Parts };
+    ghost Value = { List CheckedBody };
 
     ghost coded = { Prim.hlevel (codes, code.the_row.coded) };
 
@@ -108,7 +107,7 @@ fn checked_bodies(
     texts: &[BodyText],
     imports: &[Import],
 ) -> Result<Vec<Body>, BodyFault>
-    ensures { Gives (λ v. map body_tree v.items) fault_of result (checked_bodies imports.now [] (map text_tree texts.now)) }
+    ensures { GivesBut BodyFault.Memory (λ v. map body_tree v.items) result (checked_bodies imports.now [] (map text_tree texts.now)) }
 {
     let mut bodies = Vec::new(alloc);
     for (k, text) in texts.iter().enumerate() {
@@ -128,7 +127,7 @@ fn checked_bodies(
 
 /// Checks that each used import has a body.
 fn all_there(alloc: Global, bodies: &[Body], used: &[Name]) -> Result<(), BodyFault>
-    ensures { Gives (λ x. x) fault_of result (all_there (map body_tree bodies.now) used.now) }
+    ensures { GivesBut BodyFault.Memory (λ x. x) result (all_there (map body_tree bodies.now) used.now) }
 {
     for name in used {
         if !has_body(bodies, name) {
@@ -150,7 +149,7 @@ pub fn check_bodies(
     imports: &[Import],
     used: &[Name],
 ) -> Result<Bodies, BodyFault>
-    ensures { Gives (λ bodies. map body_tree bodies) fault_of result (checked imports.now used.now (text_trees texts.now)) }
+    ensures { GivesBut BodyFault.Memory (λ bodies. map body_tree bodies) result (checked imports.now used.now (text_trees texts.now)) }
 {
     let bodies = checked_bodies(alloc, texts.bodies.as_slice(), imports)?;
     all_there(alloc, bodies.as_slice(), used)?;

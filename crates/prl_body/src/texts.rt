@@ -57,7 +57,7 @@ pub enum Expr {
         first: Box<Expr>,
         links: Vec<ExprLink>,
     },
-    /// `if(test, chosen, other)`; the place is that of the word `if`.
+    /// `if(test, chosen, other)`; where the keyword `if` stands.
     If {
         at: Span,
         test: Box<Expr>,

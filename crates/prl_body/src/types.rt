@@ -1,14 +1,13 @@
-//! The types of expressions, and the places of their names.
+//! The types of expressions, and what their names stand for.
 
 ghost use Rattle.std.specs.Prelude.{◌≡◌};
-ghost use Rattle.prl_base.specs.Reading.{Gives};
+ghost use Rattle.prl_base.specs.Reading.{GivesBut};
 ghost use Rattle.prl_body.specs.Codes.{expression_of, link_expressions};
-ghost use Rattle.prl_body.specs.Faults.{fault_of};
 ghost use Rattle.prl_body.specs.Texts.{tree_of, link_trees};
-ghost use Rattle.prl_body.specs.TypeChecks.{input_named, register_named, named, last_place, typed, typed_links};
+ghost use Rattle.prl_body.specs.TypeChecks.{input_named, register_named, named, last_at, typed, typed_links};
 ghost use Rattle.prl_body.specs.Types.{is_same_type, are_allowed, operand_type, result_type, prefix_type};
 
-use crate::codes::{Code, Link, Place};
+use crate::codes::{Code, Link, Variable};
 use crate::faults::BodyFault;
 use crate::operators::{Operator, Prefix};
 use crate::texts::{Expr, ExprLink, RegisterText};
@@ -80,43 +79,43 @@ pub fn is_same_type(a: Ty, b: Ty) -> bool
     a == b
 }
 
-/// The place and the type of the input of this name.
-fn input_named(ins: &[Port], name: &Name) -> Option<(Place, Ty)>
+/// The input of this name, and its type.
+fn input_named(ins: &[Port], name: &Name) -> Option<(Variable, Ty)>
     ensures { result ≡ input_named 0 ins.now name.now }
 {
     for (k, port) in ins.iter().enumerate() {
         if port.name.bytes() == name.bytes() {
-            return Some((Place::Input(k), port.ty));
+            return Some((Variable::Input(k), port.ty));
         }
     }
     None
 }
 
-/// The place and the type of the register of this name.
-fn register_named(registers: &[RegisterText], name: &Name) -> Option<(Place, Ty)>
+/// The register of this name, and its type.
+fn register_named(registers: &[RegisterText], name: &Name) -> Option<(Variable, Ty)>
     ensures { result ≡ register_named 0 registers.now name.now }
 {
     for (k, register) in registers.iter().enumerate() {
         if register.name.bytes() == name.bytes() {
-            return Some((Place::Register(k), register.first.ty()));
+            return Some((Variable::Register(k), register.first.ty()));
         }
     }
     None
 }
 
 /// What a name of an expression stands for.
-fn named(ins: &[Port], registers: &[RegisterText], name: &Name) -> Option<(Place, Ty)>
+fn named(ins: &[Port], registers: &[RegisterText], name: &Name) -> Option<(Variable, Ty)>
     ensures { result ≡ named ins.now registers.now name.now }
 {
     match input_named(ins, name) {
-        Some(place) => Some(place),
+        Some(variable) => Some(variable),
         None => register_named(registers, name),
     }
 }
 
-/// The place of the operator next to the operand.
-fn last_place(ats: &[Span]) -> u32
-    ensures { result ≡ last_place ats.now }
+/// Where the operator next to the operand stands, in bytes.
+fn last_at(ats: &[Span]) -> u32
+    ensures { result ≡ last_at ats.now }
 {
     match ats.last() {
         Some(span) => span.at,
@@ -124,7 +123,7 @@ fn last_place(ats: &[Span]) -> u32
     }
 }
 
-/// The links with their names resolved, behind a left operand of this type, and the type of the chain.
+/// The links with their names resolved, after a left operand of this type, and the type of the chain.
 #[cycle(typing)]
 fn typed_links(
     alloc: Global,
@@ -133,7 +132,7 @@ fn typed_links(
     left: Ty,
     links: &[ExprLink],
 ) -> Result<(Vec<Link>, Ty), BodyFault>
-    ensures { Gives (λ x. (link_expressions x.0.items, x.1)) fault_of result (typed_links ins.now registers.now left (link_trees links.now)) }
+    ensures { GivesBut BodyFault.Memory (λ x. (link_expressions x.0.items, x.1)) result (typed_links ins.now registers.now left (link_trees links.now)) }
 {
     let mut ty = left;
     let mut typed_ones = Vec::new(alloc);
@@ -151,8 +150,7 @@ fn typed_links(
     Ok((typed_ones, ty))
 }
 
-/// The expression with its names resolved, and its type; or the place of its first fault, parts before the
-/// whole.
+/// The expression with its names resolved, and its type; or its first fault, parts before the whole.
 #[cycle(typing)]
 pub fn typed(
     alloc: Global,
@@ -160,18 +158,18 @@ pub fn typed(
     registers: &[RegisterText],
     expr: &Expr,
 ) -> Result<(Code, Ty), BodyFault>
-    ensures { Gives (λ x. (expression_of x.0, x.1)) fault_of result (typed ins.now registers.now (tree_of expr.now)) }
+    ensures { GivesBut BodyFault.Memory (λ x. (expression_of x.0, x.1)) result (typed ins.now registers.now (tree_of expr.now)) }
 {
     match expr {
         Expr::Const(value) => Ok((Code::Const(*value), value.ty())),
         Expr::Name { name, at } => match named(ins, registers, name) {
-            Some((place, ty)) => Ok((Code::Name(place), ty)),
+            Some((variable, ty)) => Ok((Code::Name(variable), ty)),
             None => Err(BodyFault::BodyName(at.at)),
         },
         Expr::Run { prefix, ats, of } => {
             let (code, ty) = typed(alloc, ins, registers, of)?;
             if !is_same_type(ty, prefix.ty()) {
-                return Err(BodyFault::BodyType(last_place(ats.as_slice())));
+                return Err(BodyFault::BodyType(last_at(ats.as_slice())));
             }
             let of = Box::new(alloc, code)?;
             let times = ats.len();

@@ -3,19 +3,19 @@
 ghost use Rattle.std.specs.Prelude.{◌≡◌};
 ghost use Rattle.prl_body.specs.Codes.{expression_of};
 ghost use Rattle.prl_body.specs.Operators.{truth_of};
-ghost use Rattle.prl_body.specs.Values.{at_place, prefixed_times, value};
+ghost use Rattle.prl_body.specs.Values.{variable_value, prefixed_times, value};
 
-use crate::codes::{Code, Place};
+use crate::codes::{Code, Variable};
 use crate::operators::{Prefix, truth_of};
 use prl_base::Value;
 
-/// What stands at the place; 0 where nothing does.
-fn at_place(inputs: &[Value], registers: &[Value], place: Place) -> Value
-    ensures { result ≡ at_place inputs.now registers.now place }
+/// The value of the input or the register; 0 where there is none of this number.
+fn variable_value(inputs: &[Value], registers: &[Value], variable: Variable) -> Value
+    ensures { result ≡ variable_value inputs.now registers.now variable }
 {
-    let (values, at) = match place {
-        Place::Input(at) => (inputs, at),
-        Place::Register(at) => (registers, at),
+    let (values, at) = match variable {
+        Variable::Input(at) => (inputs, at),
+        Variable::Register(at) => (registers, at),
     };
     match values.get(at) {
         Some(value) => *value,
@@ -40,7 +40,7 @@ pub fn value_of(code: &Code, inputs: &[Value], registers: &[Value]) -> Value
 {
     match code {
         Code::Const(value) => *value,
-        Code::Name(place) => at_place(inputs, registers, *place),
+        Code::Name(variable) => variable_value(inputs, registers, *variable),
         Code::Run { prefix, times, of } => {
             prefixed_times(*prefix, *times, value_of(of, inputs, registers))
         }

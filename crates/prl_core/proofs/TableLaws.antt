@@ -4,7 +4,7 @@ use Rattle.std.specs.Prelude.{slice_get, ◌&&◌}
 use Rattle.std.proofs.lemmas.Option.{slice_get-get_or}
 use Rattle.std.proofs.lemmas.Bool.Decides.{nat_tests}
 use Rattle.prl_base.specs.declared.values.Value.{Value}
-use Rattle.prl_body.specs.declared.bodies.Parts.{Parts}
+use Rattle.prl_body.specs.declared.bodies.CheckedBody.{CheckedBody}
 use Rattle.prl_flow.specs.Rows.{Rows, rows_of}
 use Rattle.prl_flow.specs.JobValues.{Tells, JobRow, Source, value_of, at_most_one, is_job, step_of, given_by}
 use Rattle.prl_plan.specs.declared.graphs.Edge.{Edge}
@@ -79,7 +79,7 @@ others plan until table made k row at j later stands =
     let place : slice_get table (suc k + j) ≡ Some from.0 = sym (dropped table (suc k) j) ∙ from.1 in
     ap (λ (x : JobRow). is_job x row.task row.job) from.2 ∙ once plan until table made k (suc k + j) row from.0 (omega arith) at place
 
-pub step-at : (plan : PlanView) (until : ℕ) (table : List TableRow) → IsJobTable plan until table → (bodies : ℕ → Parts) (rows : Rows) (k : ℕ) (row : TableRow) →
+pub step-at : (plan : PlanView) (until : ℕ) (table : List TableRow) → IsJobTable plan until table → (bodies : ℕ → CheckedBody) (rows : Rows) (k : ℕ) (row : TableRow) →
     slice_get table k ≡ Some row →
     ((front back : List JobRow) (job : JobRow) → ((j : ℕ) (later : JobRow) → slice_get back j ≡ Some later → is_job later job.task job.job ≡ false) →
     (given_by rows (roles_of plan bodies) (front ++ job ∷ back)).outputs job.task job.job ≡ (step_of rows (roles_of plan bodies) (given_by rows (roles_of plan bodies) front) job).outputs) →
@@ -94,7 +94,7 @@ first-of None = refl
 first-of (Some v) = refl
 
 module _ (plan : PlanView) (good : IsPlan plan) (devices : LinksDevices plan) (until : ℕ) (table : List TableRow) (made : IsJobTable plan until table)
-    (bodies : ℕ → Parts) (rows : Rows)
+    (bodies : ℕ → CheckedBody) (rows : Rows)
     (inside : (e i n m : ℕ) → e < length plan.graph.edges → ComesFrom (edge_at plan.graph e).from i → IsHorizonJob plan.graph until (edge_at plan.graph e).to.0 n →
     operand_of (edge_at plan.graph e) n ≡ operands.From m → IsHorizonJob plan.graph until i m)
     (given : (l sensor : ℕ) (row : JobRow) → slice_get (map (job_row plan) table) l ≡ Some row → roles_of plan bodies row.task ≡ Tells sensor →
@@ -171,7 +171,7 @@ shorter table zero (suc l) before = absurd (omega (arith, before))
 shorter [] (suc k) (suc l) before = refl
 shorter (t ∷ table) (suc k) (suc l) before = ap (λ (rest : List TableRow). t ∷ rest) (shorter table k l (omega (arith, before)))
 
-module _ (plan : PlanView) (until : ℕ) (table : List TableRow) (made : IsJobTable plan until table) (bodies : ℕ → Parts) (rows : Rows)
+module _ (plan : PlanView) (until : ℕ) (table : List TableRow) (made : IsJobTable plan until table) (bodies : ℕ → CheckedBody) (rows : Rows)
     (law : (front back : List JobRow) (job : JobRow) → ((j : ℕ) (later : JobRow) → slice_get back j ≡ Some later → is_job later job.task job.job ≡ false) →
     (given_by rows (roles_of plan bodies) (front ++ job ∷ back)).outputs job.task job.job ≡ (step_of rows (roles_of plan bodies) (given_by rows (roles_of plan bodies) front) job).outputs) where
   -- what a job gives stands from its place on

@@ -1,6 +1,6 @@
 -- Values by instance along the job table of a plan.
 use Rattle.std.specs.Prelude.{ℕ, List, [], ◌∷◌, map, ◌==◌, if◌then◌else◌}
-use Rattle.prl_body.specs.declared.bodies.Parts.{Parts}
+use Rattle.prl_body.specs.declared.bodies.CheckedBody.{CheckedBody}
 use Rattle.prl_flow.specs.Rows.{Rows}
 use Rattle.prl_flow.specs.JobValues.{Role, Tells, Steps, Drives, Source, Constant, Output, JobRow, Given, given_by}
 use Rattle.prl_plan.specs.declared.graphs.Kind.{Kind}
@@ -35,14 +35,14 @@ abbrev pub job_row : PlanView → TableRow → JobRow
 job_row plan row = record { task = row.task; job = row.job; sources = sources_over plan.graph.edges row.task row.job }
 
 -- what the jobs of a task do, with the body of each application
-abbrev pub role_of : (ℕ → Parts) → Kind → Role
+abbrev pub role_of : (ℕ → CheckedBody) → Kind → Role
 role_of bodies (kinds.Sensor k) = Tells k
 role_of bodies (kinds.Node k) = Steps (bodies k)
 role_of bodies (kinds.Actuator k) = Drives
 
-abbrev pub roles_of : PlanView → (ℕ → Parts) → ℕ → Role
+abbrev pub roles_of : PlanView → (ℕ → CheckedBody) → ℕ → Role
 roles_of plan bodies i = role_of bodies (task_at plan.graph i).kind
 
 -- the values by instance of a plan: what the jobs of its job table give
-abbrev pub values_by_instance : PlanView → (ℕ → Parts) → Rows → List TableRow → Given
+abbrev pub values_by_instance : PlanView → (ℕ → CheckedBody) → Rows → List TableRow → Given
 values_by_instance plan bodies rows table = given_by rows (roles_of plan bodies) (map (job_row plan) table)

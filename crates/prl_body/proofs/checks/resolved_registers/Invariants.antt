@@ -1,10 +1,10 @@
 use Rattle.std.proofs.Common.{◌≡◌, drop, map}
 use Rattle.prl_body.specs.Checks.{resolved_registers, register_tree}
 use Rattle.prl_body.specs.Texts.{statement_tree}
-use Rattle.prl_body.proofs.Lists.{behind}
+use Rattle.prl_body.proofs.Lists.{added_to}
 use Rattle.prl_body.proofs.checks.resolved_registers.Given as goal
 
 abbrev pub invariant-loop-k : goal.invariant-loop-k
 invariant-loop-k l =
-    behind (map register_tree l.resolved.items) (resolved_registers l.ins l.registers (map statement_tree l.statements) l.k (drop l.k l.registers))
+    added_to (map register_tree l.resolved.items) (resolved_registers l.ins l.registers (map statement_tree l.statements) l.k (drop l.k l.registers))
     ≡ resolved_registers l.ins l.registers (map statement_tree l.statements) 0 l.registers

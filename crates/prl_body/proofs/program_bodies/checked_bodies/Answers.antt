@@ -2,7 +2,7 @@ use Rattle.std.proofs.Common.{◌≡◌, suc, List, [], ◌∷◌, ◌++◌, tak
 use Rattle.std.proofs.lemmas.List.{map-append}
 use Rattle.prl_body.specs.Checks.{body_tree, checked_bodies}
 use Rattle.prl_body.specs.Texts.{TextTree, text_tree}
-use Rattle.prl_body.proofs.Lists.{behind}
+use Rattle.prl_body.proofs.Lists.{added_to}
 use Rattle.prl_body.proofs.BodyList.{taken_with, left_from, passed_over, taken_in}
 use Rattle.prl_body.proofs.program_bodies.checked_bodies.Goals as goal
 use Rattle.prl_body.proofs.program_bodies.checked_bodies.Goals.{in-None, in-Some+else-has_text+in_ok-body-in-Some+in_ok-push-in-Some}
@@ -17,7 +17,7 @@ loop-k-preserved c =
     let earlier = map text_tree (take k texts) in
     let rest = map text_tree (drop (suc k) texts) in
     let whole = checked_bodies imports [] (map text_tree texts) in
-    let Before : List TextTree → Type 0 = λ ts. behind done (checked_bodies imports earlier ts) ≡ whole in
+    let Before : List TextTree → Type 0 = λ ts. added_to done (checked_bodies imports earlier ts) ≡ whole in
     let before = subst Before (left_from texts k text c.loop-k-test.true c.index-texts-k.is) c.loop-k.invariant in
     rw (add-one, taken_with texts k text c.loop-k-test.true c.index-texts-k.is)
     (elim c.match-import_named.branch [

@@ -1,10 +1,10 @@
 use Rattle.std.proofs.Common.{◌≡◌, take, drop, map, []}
 use Rattle.prl_body.specs.Checks.{checked_bodies, body_tree}
 use Rattle.prl_body.specs.Texts.{text_tree}
-use Rattle.prl_body.proofs.Lists.{behind}
+use Rattle.prl_body.proofs.Lists.{added_to}
 use Rattle.prl_body.proofs.program_bodies.checked_bodies.Given as goal
 
 abbrev pub invariant-loop-k : goal.invariant-loop-k
 invariant-loop-k l =
-    behind (map body_tree l.bodies.items) (checked_bodies l.imports (map text_tree (take l.k l.texts)) (map text_tree (drop l.k l.texts)))
+    added_to (map body_tree l.bodies.items) (checked_bodies l.imports (map text_tree (take l.k l.texts)) (map text_tree (drop l.k l.texts)))
     ≡ checked_bodies l.imports [] (map text_tree l.texts)

@@ -2,17 +2,15 @@ use Rattle.std.proofs.Common.{◌≡◌, suc, List, ◌+◌, Result, Ok, sym, ap
 use Rattle.std.proofs.lemmas.List.{drop_all}
 use Rattle.std.proofs.lemmas.Result.{err_from_is_err_and}
 use Rattle.prl_base.specs.declared.values.Ty.{Ty}
-use Rattle.prl_base.specs.Reading.{FailsAs}
 use Rattle.prl_body.specs.declared.codes.Code.{Code}
 use Rattle.prl_body.specs.declared.faults.BodyFault.{BodyFault}
 use Rattle.prl_body.specs.declared.texts.ExprLink.{ExprLink}
 use Rattle.prl_body.specs.Codes.{expression_of, link_expressions}
 use Rattle.prl_body.specs.Expressions.{Expression, chain, Links}
-use Rattle.prl_body.specs.Faults.{fault_of}
 use Rattle.prl_body.specs.Texts.{tree_of, link_trees}
 use Rattle.prl_body.specs.TypeChecks.{typed, typed_links}
-use Rattle.prl_body.proofs.TextChains.{tree_of-Chain}
-use Rattle.prl_body.proofs.Typing.{expression_of-Chain, typed-chain, fails-chain, links_step, with_links-none, prepended}
+use Rattle.prl_body.proofs.TextChains.{tree_of_Chain}
+use Rattle.prl_body.proofs.Typing.{expression_of_Chain, typed_chain, fails_chain, links_step, with_links_none, prepended}
 use Rattle.prl_body.proofs.types.+typing.Goals as goal
 
 pub typed-returns-in_err-links-in-Chain : goal.typed-returns-in_err-links-in-Chain
@@ -23,12 +21,11 @@ typed-returns-in_err-links-in-Chain t c =
     let links = link_trees c.in-Chain.links.items in
     let p = err_from_is_err_and c.from_residual-in_err-links-in-Chain.result c.from_residual-in_err-links-in-Chain.ensures.1 in
     let first : typed ins registers tree ≡ Ok (expression_of c.in_ok-code-in-Chain.code, c.in_ok-code-in-Chain.left) = rw c.deref-in-Chain.ensures at c.in_ok-code-in-Chain.ensures in
-    let behind = rw c.deref-in-Chain-2.ensures.value at c.in_err-links-in-Chain.ensures in
-    let whole = ap (typed ins registers) (tree_of-Chain c.in-Chain.first c.in-Chain.links) in
-    let fault = fault_of c.in_err-links-in-Chain.field-0.0 in
-    let Fails : Result (Expression × Ty) BodyFault → Type 0 = λ r. FailsAs fault r in
-    let fails = fails-chain ins registers tree links (expression_of c.in_ok-code-in-Chain.code) c.in_ok-code-in-Chain.left fault first behind in
-    rw (p.1, p.2, c.in-Chain.is) (subst Fails (sym whole) fails)
+    let later = rw c.deref-in-Chain-2.ensures.value at c.in_err-links-in-Chain.ensures in
+    let whole = ap (typed ins registers) (tree_of_Chain c.in-Chain.first c.in-Chain.links) in
+    let fault = c.in_err-links-in-Chain.field-0.0 in
+    let code = expression_of c.in_ok-code-in-Chain.code in
+    rw (p.1, p.2, c.in-Chain.is) (λ other. whole ∙ fails_chain ins registers tree links code c.in_ok-code-in-Chain.left fault first (later other))
 
 pub typed-returns-in_ok-links-in-Chain : goal.typed-returns-in_ok-links-in-Chain
 typed-returns-in_ok-links-in-Chain t c =
@@ -40,12 +37,12 @@ typed-returns-in_ok-links-in-Chain t c =
     let ty = c.in_ok-links-in-Chain.ty in
     let items = c.in_ok-links-in-Chain.links.items in
     let first : typed ins registers tree ≡ Ok (expression_of code, c.in_ok-code-in-Chain.left) = rw c.deref-in-Chain.ensures at c.in_ok-code-in-Chain.ensures in
-    let behind : typed_links ins registers c.in_ok-code-in-Chain.left links ≡ Ok (link_expressions items, ty) = rw c.deref-in-Chain-2.ensures.value at c.in_ok-links-in-Chain.ensures in
-    let whole = ap (typed ins registers) (tree_of-Chain c.in-Chain.first c.in-Chain.links) in
+    let later : typed_links ins registers c.in_ok-code-in-Chain.left links ≡ Ok (link_expressions items, ty) = rw c.deref-in-Chain-2.ensures.value at c.in_ok-links-in-Chain.ensures in
+    let whole = ap (typed ins registers) (tree_of_Chain c.in-Chain.first c.in-Chain.links) in
     let boxed = ap (λ (v : Code). chain (expression_of v) (link_expressions items)) (sym c.in_ok-first-in-Chain.ensures.ok) in
     let finish : Expression → Result (Expression × Ty) BodyFault = λ e. Ok (e, ty) in
-    let done = ap finish (boxed ∙ sym (expression_of-Chain c.in_ok-first-in-Chain.first c.in_ok-links-in-Chain.links)) in
-    rw c.in-Chain.is (whole ∙ typed-chain ins registers tree links (expression_of code) (link_expressions items) c.in_ok-code-in-Chain.left ty first behind ∙ done)
+    let done = ap finish (boxed ∙ sym (expression_of_Chain c.in_ok-first-in-Chain.first c.in_ok-links-in-Chain.links)) in
+    rw c.in-Chain.is (whole ∙ typed_chain ins registers tree links (expression_of code) (link_expressions items) c.in_ok-code-in-Chain.left ty first later ∙ done)
 
 pub typed_links-loop-link-preserved : goal.typed_links-loop-link-preserved
 typed_links-loop-link-preserved t c =
@@ -65,4 +62,4 @@ pub typed_links-returns : goal.typed_links-returns
 typed_links-returns t c =
     let over : drop c.loop-link.link-index c.args.links.now ≡ [] = drop_all c.loop-link.link-index c.args.links.now c.loop-link-test.false in
     let finish : Links → Result (Links × Ty) BodyFault = λ l. Ok (l, c.loop-link.ty) in
-    sym (rw over at c.loop-link.invariant) ∙ ap finish (with_links-none c.loop-link.typed_ones.items)
+    sym (rw over at c.loop-link.invariant) ∙ ap finish (with_links_none c.loop-link.typed_ones.items)
