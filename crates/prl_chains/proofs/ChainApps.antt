@@ -1,4 +1,4 @@
--- An application of an import stands behind the flows that it is made of.
+-- An application of an import stands after the flows that it is made of.
 use Rattle.std.proofs.Common.{◌≡◌, ◌==◌, ◌&&◌, ℕ, ◌+◌, ◌<◌, ◌≤◌, ◌^◌, zero, suc, Bool, true, false, List, [], ◌∷◌, ◌++◌, length, map, Option, Some, None, slice_get, refl, sym, ap, ◌∙◌, subst, arith, length-append, nat_le}
 use Rattle.std.specs.Prelude.{if◌then◌else◌}
 use Rattle.std.specs.Str.{bytes_eq}
@@ -15,16 +15,16 @@ use Rattle.prl_flow.specs.declared.programs.App.{App}
 use Rattle.prl_flow.specs.declared.programs.Arg.{Arg}
 use Rattle.prl_flow.specs.declared.programs.Def.TheVariants as definitions
 use Rattle.prl_flow.specs.Programs.{IsFactor}
-use Rattle.prl_flow.proofs.Lists.{slice_get-push}
+use Rattle.prl_flow.proofs.Lists.{slice_get_push}
 use Rattle.prl_chains.specs.declared.links.Link.{Link}
 use Rattle.prl_chains.specs.Links.{flow_named, link_clock, made_link, IsLink, IsLinked, IsOutputOf}
 use Rattle.prl_chains.specs.Applications.{Applied, bare_name, named_flow, argument_of, arguments_of, first_period, are_ints, takes, fits, may_define_all, have_numbers, place_of, output_links, numbers_from, made_app, app_of, IsOfImport, HasPeriod, IsMade, IsAmong}
 use Rattle.prl_chains.specs.Equations.{Definitions, AreDefined, with_app}
-use Rattle.prl_chains.specs.Options.{◌>>=◌}
+use Rattle.prl_base.specs.Options.{◌>>=◌}
 use Rattle.prl_chains.specs.Rights.{is_factor}
-use Rattle.prl_chains.proofs.ChainLinks.{first-more, HasPeriod-more, IsLink-more, IsAmong-more, at_both, get_behind, within_links}
+use Rattle.prl_chains.proofs.ChainLinks.{first_more, HasPeriod_more, IsLink_more, IsAmong_more, at_both, get_behind, within_links}
 use Rattle.prl_chains.proofs.SomeParts.{both_some, taken_some}
-use Rattle.prl_chains.proofs.Truths.{both_true}
+use Rattle.std.proofs.lemmas.Bool.{and_parts}
 use Rattle.prl_chains.proofs.Variables.{factor_from}
 
 -- numbers of outputs
@@ -173,11 +173,11 @@ taken_app : (imports : List Import) (links : List Link) (lefts : List Placed) (n
     → IsPeriodOf links period → AreArguments links period count args
     → IsTaken imports links lefts (made_app of at args (numbers_from (length links) lefts)) period
 taken_app imports links lefts name at of args period count declared takes_it few period_of are =
-    let one = both_true (is_factor of.wcet && are_ints of.ins && are_ints of.outs && (length of.ins == count) && (length of.outs == length lefts)) (nat_le 1 (length lefts)) takes_it in
-    let two = both_true (is_factor of.wcet && are_ints of.ins && are_ints of.outs && (length of.ins == count)) (length of.outs == length lefts) one.0 in
-    let three = both_true (is_factor of.wcet && are_ints of.ins && are_ints of.outs) (length of.ins == count) two.0 in
-    let four = both_true (is_factor of.wcet && are_ints of.ins) (are_ints of.outs) three.0 in
-    let five = both_true (is_factor of.wcet) (are_ints of.ins) four.0 in
+    let one = and_parts (is_factor of.wcet && are_ints of.ins && are_ints of.outs && (length of.ins == count) && (length of.outs == length lefts)) (nat_le 1 (length lefts)) takes_it in
+    let two = and_parts (is_factor of.wcet && are_ints of.ins && are_ints of.outs && (length of.ins == count)) (length of.outs == length lefts) one.0 in
+    let three = and_parts (is_factor of.wcet && are_ints of.ins && are_ints of.outs) (length of.ins == count) two.0 in
+    let four = and_parts (is_factor of.wcet && are_ints of.ins) (are_ints of.outs) three.0 in
+    let five = and_parts (is_factor of.wcet) (are_ints of.ins) four.0 in
     record {
       imported = record {
         of = of;
@@ -229,20 +229,20 @@ made_of imports n links lefts a made is =
       is = taken.1;
     }
 
-pub IsTaken-made : (imports : List Import) (n : NodeTree) (links : List Link) (lefts : List Placed) (a : Applied) (made : App × ℕ) → app_of imports n links lefts a ≡ Some made
+pub IsTaken_made : (imports : List Import) (n : NodeTree) (links : List Link) (lefts : List Placed) (a : Applied) (made : App × ℕ) → app_of imports n links lefts a ≡ Some made
     → IsTaken imports links lefts made.0 made.1
-IsTaken-made imports n links lefts a made is =
+IsTaken_made imports n links lefts a made is =
     let h = made_of imports n links lefts a made is in
-    let one = both_true (takes h.of (length a.args) (length lefts) && may_define_all n links lefts) (have_numbers links lefts) h.fit in
-    let two = both_true (takes h.of (length a.args) (length lefts)) (may_define_all n links lefts) one.0 in
+    let one = and_parts (takes h.of (length a.args) (length lefts) && may_define_all n links lefts) (have_numbers links lefts) h.fit in
+    let two = and_parts (takes h.of (length a.args) (length lefts)) (may_define_all n links lefts) one.0 in
     subst (λ (m : App × ℕ). IsTaken imports links lefts m.0 m.1) h.is
     (taken_app imports links lefts a.name a.at h.of h.args h.period (length a.args) h.declared two.0 one.1
     (period_there links a.args h.period h.first) (arguments_there links h.period a.args h.args h.read))
 
 -- it has the name that is applied
-pub app_of-name : (imports : List Import) (n : NodeTree) (links : List Link) (lefts : List Placed) (a : Applied) (made : App × ℕ) → app_of imports n links lefts a ≡ Some made
+pub app_of_name : (imports : List Import) (n : NodeTree) (links : List Link) (lefts : List Placed) (a : Applied) (made : App × ℕ) → app_of imports n links lefts a ≡ Some made
     → made.0.name ≡ a.name
-app_of-name imports n links lefts a made is =
+app_of_name imports n links lefts a made is =
     let h = made_of imports n links lefts a made is in
     ap (λ (m : App × ℕ). m.0.name) (sym h.is) ∙ bytes_same imports a.name h.of h.declared
 
@@ -260,7 +260,7 @@ out_link imports d lefts app period h taken j l found i at =
     let has = taken.args k arg there in
     let small = slice_get_within d.links arg.flow.0 has.link has.found in
     omega (arith, small, at) in
-    let is_output : IsOutputOf (d.apps ++ app ∷ []) i (length d.apps) j = record { app = app; applied = slice_get-push d.apps app; place = place; below = below_all } in
+    let is_output : IsOutputOf (d.apps ++ app ∷ []) i (length d.apps) j = record { app = app; applied = slice_get_push d.apps app; place = place; below = below_all } in
     record {
       period = subst IsFactor (sym output.period_is) factor;
       linked = subst (IsLinked (d.apps ++ app ∷ []) (map link_clock (d.links ++ output_links (length d.apps) period 0 lefts)) i (link_clock l)) (sym output.def) is_output;
@@ -289,29 +289,29 @@ new_among imports d lefts app period taken = record {
       let outs = ap (λ (xs : List FlowNo). length xs) taken.outs in
       let some = taken.some_output in
       omega (arith, number, outs, some);
-  args = λ j arg found. HasPeriod-more d.links (output_links (length d.apps) period 0 lefts) arg.flow.0 period (taken.args j arg found);
+  args = λ j arg found. HasPeriod_more d.links (output_links (length d.apps) period 0 lefts) arg.flow.0 period (taken.args j arg found);
   outs = new_outs imports d lefts app period taken;
 }
 
--- what holds of the one element of a list, at its place behind others
+-- what holds of the one element of a list, at its place after others
 pub at_last : {A : Type 0} (P : ℕ → A → Type 0) (n : ℕ) (x : A) → P n x → (j : ℕ) (y : A) → slice_get (x ∷ []) j ≡ Some y → (i : ℕ) → i ≡ n + j → P i y
 at_last P n x h zero y found i at =
     let place : n ≡ i = omega (arith, at) in
     subst (P i) (some_inner x y found) (subst (λ k. P k x) place h)
 at_last P n x h (suc j) y found i at = absurd (cc)
 
-pub AreDefined-app : (imports : List Import) (d : Definitions) (lefts : List Placed) (made : App × ℕ) → AreDefined imports d → IsTaken imports d.links lefts made.0 made.1
+pub AreDefined_app : (imports : List Import) (d : Definitions) (lefts : List Placed) (made : App × ℕ) → AreDefined imports d → IsTaken imports d.links lefts made.0 made.1
     → AreDefined imports (with_app d lefts made)
-AreDefined-app imports d lefts made h taken =
+AreDefined_app imports d lefts made h taken =
     let outs = output_links (length d.apps) made.1 0 lefts in
     record {
       some = let some = h.some in omega (arith, some, length-append d.links outs);
-      first = first-more d.links outs h.some h.first;
+      first = first_more d.links outs h.some h.first;
       each = at_both (λ i l. IsLink (d.apps ++ made.0 ∷ []) (d.links ++ outs) i l) d.links outs
-          (λ i l found. IsLink-more d.apps (made.0 ∷ []) d.links outs i l (within_links d.links i l found) (h.each i l found))
+          (λ i l found. IsLink_more d.apps (made.0 ∷ []) d.links outs i l (within_links d.links i l found) (h.each i l found))
           (out_link imports d lefts made.0 made.1 h taken);
       among = at_both (λ k app. IsAmong (d.links ++ outs) k app) d.apps (made.0 ∷ [])
-          (λ k app found. IsAmong-more d.links outs k app (h.among k app found))
+          (λ k app found. IsAmong_more d.links outs k app (h.among k app found))
           (at_last (λ k app. IsAmong (d.links ++ outs) k app) (length d.apps) made.0 (new_among imports d lefts made.0 made.1 taken));
       imported = at_both (λ k app. IsOfImport imports app) d.apps (made.0 ∷ [])
           h.imported

@@ -9,7 +9,7 @@ use Rattle.prl_base.specs.declared.values.Value.{Value}
 use Rattle.prl_base.specs.Values.{type_of}
 use Rattle.prl_ast.specs.declared.declarations.Import.{Import}
 use Rattle.prl_ast.specs.declared.declarations.Port.{Port}
-use Rattle.prl_body.specs.declared.bodies.Parts.{Parts}
+use Rattle.prl_body.specs.declared.bodies.CheckedBody.{CheckedBody}
 use Rattle.prl_body.specs.Used.{HaveBodiesOf}
 use Rattle.prl_flow.specs.declared.programs.App.{App}
 use Rattle.prl_flow.specs.declared.programs.Arg.{Arg}
@@ -23,7 +23,7 @@ use Rattle.prl_chains.specs.Applications.{is_int, are_ints}
 use Rattle.prl_chains.specs.Facts.{AppliesImports, IsChain}
 use Rattle.prl_chains.proofs.ChainApps.{some_inner}
 use Rattle.prl_chains.proofs.ChainNames.{IsUsed}
-use Rattle.prl_chains.proofs.Truths.{both_true}
+use Rattle.std.proofs.lemmas.Bool.{and_parts}
 
 int_type : (ty : Ty) → is_int ty ≡ true → ty ≡ types.Int
 int_type types.Int is = refl
@@ -36,7 +36,7 @@ have_types p [] [] count ints each = tt
 have_types p [] (port ∷ ports) count ints each = absurd (omega (arith, count))
 have_types p (flow ∷ flows) [] count ints each = absurd (omega (arith, count))
 have_types p (flow ∷ flows) (port ∷ ports) count ints each =
-    let both = both_true (is_int port.ty) (are_ints ports) ints in (
+    let both = and_parts (is_int port.ty) (are_ints ports) ints in (
       subst (λ (ty : Ty). HasType p ty flow) (sym (int_type port.ty both.0)) (each 0 flow refl),
       have_types p flows ports (omega (arith, count)) both.1 (λ j other found. each (suc j) other found),
     )
@@ -63,9 +63,9 @@ out_number c h k app at j flow found =
 abbrev pub AreUsed : List (List ℕ) → List App → Type 0
 AreUsed used apps = (k : ℕ) (app : App) → slice_get apps k ≡ Some app → IsUsed used app.name
 
-pub HaveBodies-chain : (c : Chain) (imports : List Import) (used : List (List ℕ)) (bodies : List Parts) → IsChain c → AppliesImports imports c
+pub HaveBodies_chain : (c : Chain) (imports : List Import) (used : List (List ℕ)) (bodies : List CheckedBody) → IsChain c → AppliesImports imports c
     → AreUsed used c.flat.apps → HaveBodiesOf imports used bodies → HaveBodies c.flat bodies
-HaveBodies-chain c imports used bodies h applies are have k app found =
+HaveBodies_chain c imports used bodies h applies are have k app found =
     let fits = applies k app found in
     let there = are k app found in
     let has = have there.at app.name there.found in
@@ -94,5 +94,5 @@ one_row c h values ints zero flow at n v found =
     subst (λ (f : FlowNo). HasType c.flat (type_of v) f) (sym first) (subst (λ (ty : Ty). HasType c.flat ty (record { 0 = 0 })) (sym (ints n v found)) (number c h (record { 0 = 0 }) some))
 one_row c h values ints (suc k) flow at n v found = absurd (cc)
 
-pub HasTypedRows-numbers : (c : Chain) → IsChain c → (values : List Value) → ((n : ℕ) (v : Value) → slice_get values n ≡ Some v → type_of v ≡ types.Int) → HasTypedRows c.flat (values ∷ [])
-HasTypedRows-numbers c h values ints some = one_row c h values ints
+pub HasTypedRows_numbers : (c : Chain) → IsChain c → (values : List Value) → ((n : ℕ) (v : Value) → slice_get values n ≡ Some v → type_of v ≡ types.Int) → HasTypedRows c.flat (values ∷ [])
+HasTypedRows_numbers c h values ints some = one_row c h values ints

@@ -25,7 +25,7 @@ use Rattle.prl_chains.specs.Equations.{AreDefined, Definitions}
 use Rattle.prl_chains.specs.Links.{link_clock, flow_named, IsLinked, IsOutputOf}
 use Rattle.prl_chains.specs.Chains.{flat_chain, link_flow}
 use Rattle.prl_chains.specs.Facts.{AreBetween, IsChain}
-use Rattle.prl_chains.proofs.ChainLinks.{clock_of-link}
+use Rattle.prl_chains.proofs.ChainLinks.{clock_of_link}
 
 some_inner : {A : Type 0} (x y : A) → Some x ≡ Some y → x ≡ y
 some_inner x y e = cc
@@ -98,8 +98,8 @@ is_application sensor actuator d k app h = record {
   has_output = h.some_output;
 }
 
-pub IsFlat-chain : (imports : List Import) (sensor actuator : Device) (d : Definitions) → AreBetween imports sensor actuator d → IsFlat (flat_chain sensor actuator d).flat
-IsFlat-chain imports sensor actuator d h = record {
+pub IsFlat_chain : (imports : List Import) (sensor actuator : Device) (d : Definitions) → AreBetween imports sensor actuator d → IsFlat (flat_chain sensor actuator d).flat
+IsFlat_chain imports sensor actuator d h = record {
   in_count = refl;
   out_count = refl;
   devices = (
@@ -115,12 +115,12 @@ IsFlat-chain imports sensor actuator d h = record {
 }
 
 -- the same for lists that were made one by one
-pub IsFlat-made : (sensor actuator : Device) (d : Definitions) → (imports : List Import) × AreBetween imports sensor actuator d
+pub IsFlat_made : (sensor actuator : Device) (d : Definitions) → (imports : List Import) × AreBetween imports sensor actuator d
     → (flows : List Flow) (apps : List App) (ins outs : List FlowNo) (sensors actuators : List programs.Device)
     → flows ≡ (flat_chain sensor actuator d).flat.flows → apps ≡ d.apps → ins ≡ (flat_chain sensor actuator d).flat.ins → outs ≡ (flat_chain sensor actuator d).flat.outs
     → sensors ≡ (flat_chain sensor actuator d).flat.in_devices → actuators ≡ (flat_chain sensor actuator d).flat.out_devices
     → IsFlat (record { flows = flows; apps = apps; ins = ins; outs = outs; in_devices = sensors; out_devices = actuators })
-IsFlat-made sensor actuator d h flows apps ins outs sensors actuators e a f g k l = rw (e, a, f, g, k, l) (IsFlat-chain h.0 sensor actuator d h.1)
+IsFlat_made sensor actuator d h flows apps ins outs sensors actuators e a f g k l = rw (e, a, f, g, k, l) (IsFlat_chain h.0 sensor actuator d h.1)
 
 clock_agrees : (apps : List App) (clocks : List Clock) (i : ℕ) (c : Clock) (def : Def) → IsLinked apps clocks i c def → AgreesClock clocks c def
 clock_agrees apps clocks i c (definitions.Sensor k) linked = tt
@@ -147,12 +147,12 @@ each_clock : (imports : List Import) (d : Definitions) → AreDefined imports d 
     → ((l : Link) → IsFactor l.period → P (link_clock l)) → (i : ℕ) → i < length (map link_clock d.links) → P (clock_of (map link_clock d.links) i)
 each_clock imports d h P made i small =
     let (l, found) = element_at d.links i (omega (arith, length-map d.links link_clock)) in
-    rw (clock_of-link d.links i l found) (made l (h.each i l found).period)
+    rw (clock_of_link d.links i l found) (made l (h.each i l found).period)
 
 agrees : (imports : List Import) (d : Definitions) → AreDefined imports d → (i : ℕ) (l : Link) → slice_get d.links i ≡ Some l
     → AgreesClock (map link_clock d.links) (clock_of (map link_clock d.links) i) l.def
 agrees imports d h i l found =
-    subst (λ (x : Clock). AgreesClock (map link_clock d.links) x l.def) (sym (clock_of-link d.links i l found))
+    subst (λ (x : Clock). AgreesClock (map link_clock d.links) x l.def) (sym (clock_of_link d.links i l found))
     (clock_agrees d.apps (map link_clock d.links) i (link_clock l) l.def (h.each i l found).linked)
 
 -- the flows of an application have one clock
@@ -160,14 +160,14 @@ one_clock : (links : List Link) (k : ℕ) (app : App) → IsAmong links k app �
 one_clock links k app h = record {
   clock = record { period = h.period; start = 0 };
   args = λ j arg found. let has = h.args j arg found in
-      clock_of-link links arg.flow.0 has.link has.found ∙ ap (λ (p : ℕ). record { period = p; start = 0 }) has.same;
+      clock_of_link links arg.flow.0 has.link has.found ∙ ap (λ (p : ℕ). record { period = p; start = 0 }) has.same;
   outs = λ j flow found. let made = h.outs j flow found in
-      clock_of-link links flow.0 made.link made.found ∙ ap (λ (p : ℕ). record { period = p; start = 0 }) made.same;
+      clock_of_link links flow.0 made.link made.found ∙ ap (λ (p : ℕ). record { period = p; start = 0 }) made.same;
 }
 
-pub IsChain-flat : (sensor actuator : Device) (d : Definitions) → (imports : List Import) × AreBetween imports sensor actuator d → IsChain (flat_chain sensor actuator d)
-IsChain-flat sensor actuator d (imports, h) = record {
-  flat = IsFlat-chain imports sensor actuator d h;
+pub IsChain_flat : (sensor actuator : Device) (d : Definitions) → (imports : List Import) × AreBetween imports sensor actuator d → IsChain (flat_chain sensor actuator d)
+IsChain_flat sensor actuator d (imports, h) = record {
+  flat = IsFlat_chain imports sensor actuator d h;
   clocks = record {
     count = length-map d.links link_clock ∙ sym (length-map d.links link_flow);
     clock = each_clock imports d h.defined IsClock (λ l factor. factor.0);

@@ -9,7 +9,7 @@ use Rattle.prl_ast.specs.declared.declarations.Import.{Import}
 use Rattle.prl_ast.specs.declared.declarations.Param.{Param}
 use Rattle.prl_ast.specs.declared.declarations.Rate.{Rate}
 use Rattle.prl_ast.specs.Trees.{NodeTree, EquationTree, ProgramTree}
-use Rattle.prl_body.specs.declared.bodies.Parts.{Parts}
+use Rattle.prl_body.specs.declared.bodies.CheckedBody.{CheckedBody}
 use Rattle.prl_body.specs.Used.{HaveBodiesOf}
 use Rattle.prl_flow.specs.Applications.{HaveBodies}
 use Rattle.prl_flow.specs.Programs.{IsFactor}
@@ -21,18 +21,18 @@ use Rattle.prl_chains.specs.Chains.{noted_period, input_period, are_variables, i
 use Rattle.prl_chains.specs.Equations.{Definitions, with_right, with_equation, with_equations, AreDefined}
 use Rattle.prl_chains.specs.Facts.{AreBetween, IsChain}
 use Rattle.prl_chains.specs.Links.{link_of, is_linked}
-use Rattle.prl_chains.specs.Options.{◌>>=◌, the_one}
+use Rattle.prl_base.specs.Options.{◌>>=◌, the_one}
 use Rattle.prl_chains.specs.Rights.{is_factor}
 use Rattle.prl_chains.proofs.ChainApps.{some_inner}
-use Rattle.prl_chains.proofs.ChainBodies.{HaveBodies-chain}
-use Rattle.prl_chains.proofs.ChainEquations.{AreCounted, AreCounted-next, AreDefined-applied, HavePeriods-of}
-use Rattle.prl_chains.proofs.ChainFlats.{IsChain-flat}
-use Rattle.prl_chains.proofs.ChainLinks.{AreDefined-input, AreDefined-push}
-use Rattle.prl_chains.proofs.ChainNames.{AreOf, AreOf-node, IsUsed-node}
-use Rattle.prl_chains.proofs.ChainRights.{IsLink-of}
+use Rattle.prl_chains.proofs.ChainBodies.{HaveBodies_chain}
+use Rattle.prl_chains.proofs.ChainEquations.{AreCounted, AreCounted_next, AreDefined_applied, HavePeriods_of}
+use Rattle.prl_chains.proofs.ChainFlats.{IsChain_flat}
+use Rattle.prl_chains.proofs.ChainLinks.{AreDefined_input, AreDefined_push}
+use Rattle.prl_chains.proofs.ChainNames.{AreOf, AreOf_node, IsUsed_node}
+use Rattle.prl_chains.proofs.ChainRights.{IsLink_of}
 use Rattle.prl_chains.proofs.SomeParts.{both_some, taken_some, tested_some}
-use Rattle.prl_chains.proofs.Truths.{both_true}
-use Rattle.prl_chains.proofs.Variables.{factor_from, AreBetween-made}
+use Rattle.std.proofs.lemmas.Bool.{and_parts}
+use Rattle.prl_chains.proofs.Variables.{factor_from, AreBetween_made}
 
 right_defined : (imports : List Import) (n : NodeTree) (d more : Definitions) (e : EquationTree) (a : Option Applied) → AreDefined imports d
     → with_right imports n d e a ≡ Some more → AreDefined imports more
@@ -40,10 +40,10 @@ right_defined imports n d more e None h is =
     let made : Link → Definitions = λ link. record { links = d.links ++ link ∷ []; apps = d.apps } in
     let one = both_some (link_of n d.links e) (λ link. Some (made link)) more is in
     let same : made one.first ≡ more = some_inner (made one.first) more one.rest in
-    subst (AreDefined imports) same (AreDefined-push imports d one.first h (IsLink-of n d.links e one.first (HavePeriods-of imports d h) one.is))
-right_defined imports n d more e (Some a) h is = AreDefined-applied imports n d more e.lefts a h is
+    subst (AreDefined imports) same (AreDefined_push imports d one.first h (IsLink_of n d.links e one.first (HavePeriods_of imports d h) one.is))
+right_defined imports n d more e (Some a) h is = AreDefined_applied imports n d more e.lefts a h is
 
--- what is known behind `i` equations
+-- what is known after `i` equations
 record AreMade (imports : List Import) (i : ℕ) (d : Definitions) : Type 0 where
   defined : AreDefined imports d
   counted : AreCounted i d
@@ -57,7 +57,7 @@ equations_made imports n (e ∷ es) d more i h is =
     let one = both_some (with_equation imports n d e) (λ (x : Definitions). with_equations imports n x es) more is in
     let next : AreMade imports (i + 1) one.first = record {
       defined = right_defined imports n d one.first e (applied_of e.right) h.defined one.is;
-      counted = AreCounted-next imports n d one.first e i h.counted (sym one.is);
+      counted = AreCounted_next imports n d one.first e i h.counted (sym one.is);
     } in
     let same : i + 1 + length es ≡ i + suc (length es) = omega arith in
     subst (λ k. AreMade imports k more) same (equations_made imports n es one.first more (i + 1) next one.rest)
@@ -66,7 +66,7 @@ equations_made imports n (e ∷ es) d more i h is =
 noted : (ty : Option Ty) (rate : Option Rate) (due : Option ℕ) (period : ℕ) → noted_period ty rate due ≡ Some period → IsFactor period
 noted (Some types.Int) (Some rate) None period is =
     let taken = taken_some (is_factor rate.period && (nat_abs rate.phase.num == 0)) rate.period period is in
-    let both = both_true (is_factor rate.period) (nat_abs rate.phase.num == 0) taken.0 in
+    let both = and_parts (is_factor rate.period) (nat_abs rate.phase.num == 0) taken.0 in
     subst IsFactor taken.1 (factor_from rate.period both.0)
 noted (Some types.Int) (Some rate) (Some due) period is = absurd (cc)
 noted (Some types.Int) None due period is = absurd (cc)
@@ -90,23 +90,23 @@ record IsNode (imports : List Import) (sensor actuator : Device) (n : NodeTree) 
   between : AreBetween imports sensor actuator d
   applied : AreOf (node_applied n) d.apps
 
-IsNode-made : (imports : List Import) (sensor actuator : Device) (n : NodeTree) (input output : Param) (period : ℕ) (d : Definitions) → IsFactor period
+IsNode_made : (imports : List Import) (sensor actuator : Device) (n : NodeTree) (input output : Param) (period : ℕ) (d : Definitions) → IsFactor period
     → are_variables sensor actuator input output n.locals ≡ true → nat_le (length n.eqs) 64 ≡ true
     → with_equations imports n (record { links = input_link input period ∷ []; apps = [] }) n.eqs ≡ Some d
     → have_flows d.links (output ∷ n.locals) ≡ true → IsNode imports sensor actuator n d
-IsNode-made imports sensor actuator n input output period d factor variables few is have =
+IsNode_made imports sensor actuator n input output period d factor variables few is have =
     let first : Definitions = record { links = input_link input period ∷ []; apps = [] } in
     let start : AreMade imports 0 first = record {
-      defined = AreDefined-input imports (input_link input period) factor refl;
+      defined = AreDefined_input imports (input_link input period) factor refl;
       counted = record { links = omega arith; apps = omega arith };
     } in
     let made = equations_made imports n n.eqs first d 0 start is in
     let count = made.counted.links in
     let small = leb-true (length n.eqs) 64 few in
-    let linked = both_true (is_linked d.links output.name) (have_flows d.links n.locals) have in
+    let linked = and_parts (is_linked d.links output.name) (have_flows d.links n.locals) have in
     record {
-      between = AreBetween-made imports sensor actuator input output n.locals d variables made.defined (omega (arith, count, small)) linked.0;
-      applied = AreOf-node imports n (input_link input period ∷ []) d is;
+      between = AreBetween_made imports sensor actuator input output n.locals d variables made.defined (omega (arith, count, small)) linked.0;
+      applied = AreOf_node imports n (input_link input period ∷ []) d is;
     }
 
 node_known : (imports : List Import) (sensor actuator : Device) (n : NodeTree) (d : Definitions) → node_defined imports sensor actuator n ≡ Some d → IsNode imports sensor actuator n d
@@ -121,12 +121,12 @@ node_known imports sensor actuator n d is =
     let variables = tested_some (are_variables sensor actuator ends.first.0 ends.first.2 n.locals) (defined_of imports n ends.first.0 ends.first.1) defined.first defined.is in
     let few = tested_some (nat_le (length n.eqs) 64) (with_equations imports n (record { links = input_link ends.first.0 ends.first.1 ∷ []; apps = [] }) n.eqs) defined.first variables.1 in
     subst (IsNode imports sensor actuator n) have.1
-    (IsNode-made imports sensor actuator n ends.first.0 ends.first.2 ends.first.1 defined.first (ends_factor n ends.first ends.is) variables.0 few.0 few.1 have.0)
+    (IsNode_made imports sensor actuator n ends.first.0 ends.first.2 ends.first.1 defined.first (ends_factor n ends.first ends.is) variables.0 few.0 few.1 have.0)
 
-the_one-list : {A : Type 0} (xs : List A) (x : A) → the_one xs ≡ Some x → xs ≡ x ∷ []
-the_one-list [] x is = absurd (cc)
-the_one-list (y ∷ []) x is = ap (λ z. z ∷ []) (some_inner y x is)
-the_one-list (y ∷ z ∷ rest) x is = absurd (cc)
+the_one_list : {A : Type 0} (xs : List A) (x : A) → the_one xs ≡ Some x → xs ≡ x ∷ []
+the_one_list [] x is = absurd (cc)
+the_one_list (y ∷ []) x is = ap (λ z. z ∷ []) (some_inner y x is)
+the_one_list (y ∷ z ∷ rest) x is = absurd (cc)
 
 parts_node : (p : ProgramTree) (parts : Device × Device × NodeTree) → parts_of p ≡ Some parts → p.nodes ≡ parts.2 ∷ []
 unfolding parts_of
@@ -138,12 +138,12 @@ parts_node p parts is =
     let actuator = both_some (the_one p.actuators) (last sensor.first) parts sensor.rest in
     let node = both_some (the_one p.nodes) (λ node. Some (made sensor.first actuator.first node)) parts actuator.rest in
     let same : made sensor.first actuator.first node.first ≡ parts = some_inner (made sensor.first actuator.first node.first) parts node.rest in
-    the_one-list p.nodes node.first node.is ∙ ap (λ (x : Device × Device × NodeTree). x.2 ∷ []) same
+    the_one_list p.nodes node.first node.is ∙ ap (λ (x : Device × Device × NodeTree). x.2 ∷ []) same
 
 -- a program's chain has the bodies of the imports that main applies
-pub HaveBodies-used : (p : ProgramTree) (c : Chain) (bodies : List Parts) → chain_of p ≡ Some c → HaveBodiesOf p.imports (used_imports p 0) bodies → HaveBodies c.flat bodies
+pub HaveBodies_used : (p : ProgramTree) (c : Chain) (bodies : List CheckedBody) → chain_of p ≡ Some c → HaveBodiesOf p.imports (used_imports p 0) bodies → HaveBodies c.flat bodies
 unfolding chain_of
-HaveBodies-used p c bodies is have =
+HaveBodies_used p c bodies is have =
     let last : Device × Device × NodeTree → Definitions → Chain = λ parts d. flat_chain parts.0 parts.1 d in
     let from_parts : Device × Device × NodeTree → Option Chain = λ parts. (node_defined p.imports parts.0 parts.1 parts.2 >>= λ d. Some (last parts d)) in
     let parts = both_some (parts_of p) from_parts c is in
@@ -153,9 +153,9 @@ HaveBodies-used p c bodies is have =
     let chain = last parts.first d in
     let same : chain ≡ c = some_inner chain c defined.rest in
     let known = node_known p.imports parts.first.0 parts.first.1 node d defined.is in
-    let sound : IsChain chain = IsChain-flat parts.first.0 parts.first.1 d (p.imports, known.between) in
+    let sound : IsChain chain = IsChain_flat parts.first.0 parts.first.1 d (p.imports, known.between) in
     let one : p.nodes ≡ node ∷ [] = parts_node p parts.first parts.is in
     let imported = known.between.defined.imported in
     subst (λ (x : Chain). HaveBodies x.flat bodies) same
-    (HaveBodies-chain chain p.imports (used_imports p 0) bodies sound imported
-    (λ k app found. IsUsed-node p node app.name (imported k app found).of one (known.applied k app found) (imported k app found).declared) have)
+    (HaveBodies_chain chain p.imports (used_imports p 0) bodies sound imported
+    (λ k app found. IsUsed_node p node app.name (imported k app found).of one (known.applied k app found) (imported k app found).declared) have)

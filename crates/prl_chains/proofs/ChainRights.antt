@@ -1,4 +1,4 @@
--- What an equation over one flow makes is a flow behind those before it.
+-- What an equation over one flow makes is a flow after those before it.
 use Rattle.std.proofs.Common.{◌≡◌, ◌==◌, ◌*◌, ◌/◌, ◌%◌, ◌^◌, ◌≤◌, ◌<◌, ℕ, zero, suc, List, [], ◌∷◌, length, Option, Some, None, nat_lt, refl, sym, ◌∙◌, subst, arith, mul_comm, mul-zero, mul-pos, div-add-mod', div-le_self}
 use Rattle.std.specs.Prelude.{slice_get, if◌then◌else◌}
 use Rattle.std.proofs.lemmas.Bool.{ltb-true, eqb-true}
@@ -13,10 +13,10 @@ use Rattle.prl_chains.specs.declared.links.Link.{Link}
 use Rattle.prl_chains.specs.declared.rights.Right.{Right}
 use Rattle.prl_chains.specs.declared.rights.Right.TheVariants.{Copy, Delayed, Faster, Slower}
 use Rattle.prl_chains.specs.Links.{flow_named, may_define, made_link, link_of, HavePeriods, IsLink}
-use Rattle.prl_chains.specs.Options.{◌>>=◌, the_one}
+use Rattle.prl_base.specs.Options.{◌>>=◌, the_one}
 use Rattle.prl_chains.specs.Rights.{is_factor, prefix_right, postfix_right, operator_of, right_of, period_of, def_of, IsRight, IsPeriod}
 use Rattle.prl_chains.proofs.ChainApps.{some_inner}
-use Rattle.prl_chains.proofs.ChainLinks.{IsLink-made}
+use Rattle.prl_chains.proofs.ChainLinks.{IsLink_made}
 use Rattle.prl_chains.proofs.SomeParts.{both_some, taken_some}
 use Rattle.prl_chains.proofs.Variables.{factor_from}
 
@@ -78,16 +78,17 @@ period_is (Faster k) old new right factor is =
     let product : k * (old / k) ≡ old = mul_comm k (old / k) ∙ omega (arith, whole, div-add-mod' old k) in
     let some = factor.0 in
     let few = factor.1 in
-    let small : old / k < 2 ^ 31 = omega (arith, few, div-le_self old k) in
-    subst (λ (n : ℕ). IsPeriod (Faster k) old n) taken.1 ((some_factor k (old / k) old product some, small), product)
+    let small : IsFactor (old / k) = (some_factor k (old / k) old product some, omega (arith, few, div-le_self old k)) in
+    subst (λ (n : ℕ). IsPeriod (Faster k) old n) taken.1 (small, product)
 period_is (Slower k) old new right factor is =
     let taken = taken_some (nat_lt (k * old) (2 ^ 31)) (k * old) new is in
-    let some : 1 ≤ k * old = mul-pos right.0 factor.0 in
-    subst (λ (n : ℕ). IsPeriod (Slower k) old n) taken.1 ((some, ltb-true (k * old) (2 ^ 31) taken.0), refl)
+    let below : k * old < 2 ^ 31 = ltb-true (k * old) (2 ^ 31) taken.0 in
+    let small : IsFactor (k * old) = (mul-pos right.0 factor.0, omega (arith, below)) in
+    subst (λ (n : ℕ). IsPeriod (Slower k) old n) taken.1 (small, refl)
 
-pub IsLink-of : (n : NodeTree) (links : List Link) (e : EquationTree) (l : Link) → HavePeriods links → link_of n links e ≡ Some l → IsLink [] links (length links) l
+pub IsLink_of : (n : NodeTree) (links : List Link) (e : EquationTree) (l : Link) → HavePeriods links → link_of n links e ≡ Some l → IsLink [] links (length links) l
 unfolding link_of
-IsLink-of n links e l periods is =
+IsLink_of n links e l periods is =
     let made : Placed → Right × List ℕ → ℕ → Link = λ left right period. made_link left (def_of right.0 (record { 0 = flow_named links right.1 })) period in
     let last : Placed → Right × List ℕ → ℕ → Option Link = λ left right period. (if may_define n links left.name then Some (made left right period) else None) in
     let from_used : Placed → Right × List ℕ → Link → Option Link = λ left right used. (period_of right.0 used.period >>= last left right) in
@@ -101,5 +102,5 @@ IsLink-of n links e l periods is =
     let known = right_is e.right right.first right.is in
     let factor = periods (flow_named links right.first.1) used.first used.is in
     subst (IsLink [] links (length links)) taken.1
-    (IsLink-made links left.first right.first.0 (flow_named links right.first.1) used.first period.first used.is known
+    (IsLink_made links left.first right.first.0 (flow_named links right.first.1) used.first period.first used.is known
     (period_is right.first.0 used.first.period period.first known factor period.is))

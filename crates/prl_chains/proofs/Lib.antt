@@ -1,4 +1,3 @@
-pub mod Truths
 pub mod SomeParts
 pub mod Variables
 pub mod ChainLinks
@@ -7,7 +6,8 @@ pub mod ChainEquations
 pub mod ChainFlats
 pub mod Relayed
 pub mod ChainNames
-pub mod ChainBodies
 pub mod ChainRights
 pub mod ChainMade
 pub mod SomeApplied
+-- for the crates above: the checked bodies of the imports that a chain applies
+pub mod ChainBodies

@@ -7,7 +7,7 @@ use Rattle.std.proofs.lemmas.Option.{slice_get_within}
 use Rattle.prl_base.specs.declared.numbers.FlowNo.{FlowNo}
 use Rattle.prl_base.specs.declared.values.Value.{Value}
 use Rattle.prl_flow.specs.Rows.{Rows}
-use Rattle.prl_body.specs.declared.bodies.Parts.{Parts}
+use Rattle.prl_body.specs.declared.bodies.CheckedBody.{CheckedBody}
 use Rattle.prl_flow.specs.declared.programs.App.{App}
 use Rattle.prl_flow.specs.Applications.{HaveBodies}
 use Rattle.prl_flow.specs.Programs.{IsOutput}
@@ -18,7 +18,7 @@ use Rattle.prl_flow.specs.declared.programs.Def.{Def}
 use Rattle.prl_flow.proofs.Lists.{element_at}
 use Rattle.prl_chains.specs.declared.chains.Chain.{Chain}
 use Rattle.prl_chains.specs.Facts.{IsChain}
-use Rattle.prl_chains.proofs.Truths.{both_true}
+use Rattle.std.proofs.lemmas.Bool.{and_parts}
 use Rattle.prl_chains.specs.Relays.{is_copy, are_copies, is_relay, has_no_application, HandsOn}
 
 -- each of these flows is a copy
@@ -26,9 +26,9 @@ each_copy : (flows : List Flow) → IsTrue (list_all (λ (f : Flow). is_copy f.d
 each_copy [] h i flow found = cc
 each_copy (f ∷ fs) h zero flow found =
     let e : f ≡ flow = cc in
-    subst (λ (x : Flow). IsTrue (is_copy x.def)) e (both_true (is_copy f.def) (list_all (λ (x : Flow). is_copy x.def) fs) h).0
+    subst (λ (x : Flow). IsTrue (is_copy x.def)) e (and_parts (is_copy f.def) (list_all (λ (x : Flow). is_copy x.def) fs) h).0
 each_copy (f ∷ fs) h (suc i) flow found =
-    each_copy fs (both_true (is_copy f.def) (list_all (λ (x : Flow). is_copy x.def) fs) h).1 i flow found
+    each_copy fs (and_parts (is_copy f.def) (list_all (λ (x : Flow). is_copy x.def) fs) h).1 i flow found
 
 copy_behind : (flows : List Flow) → IsTrue (are_copies flows) → (i : ℕ) (flow : Flow) → slice_get flows (suc i) ≡ Some flow → IsTrue (is_copy flow.def)
 copy_behind [] h i flow found = cc
@@ -70,7 +70,7 @@ same_clock c h relay (suc i) before within =
     subst (AgreesClock c.clocks.of (clock_of c.clocks.of (suc i))) s.def (h.clocks.agree (suc i) s.flow s.at) in
     agrees ∙ before s.of.0 s.below (omega (arith, s.below, within))
 
-same_values : (c : Chain) → IsChain c → IsTrue (is_relay c) → (bodies : List Parts) (rows : Rows) (until : ℕ) (flows : List (List Value)) → Solves c.flat c.clocks.of bodies rows until flows → (i : ℕ)
+same_values : (c : Chain) → IsChain c → IsTrue (is_relay c) → (bodies : List CheckedBody) (rows : Rows) (until : ℕ) (flows : List (List Value)) → Solves c.flat c.clocks.of bodies rows until flows → (i : ℕ)
     → ((j : ℕ) → j < i → j < length flows → values_of flows j ≡ values_of flows 0)
     → i < length flows → values_of flows i ≡ values_of flows 0
 same_values c h relay bodies rows until flows solved zero before within = refl
@@ -80,13 +80,13 @@ same_values c h relay bodies rows until flows solved (suc i) before within =
     subst (MeetsDefinition c.flat c.clocks.of bodies rows until flows (clock_of c.clocks.of (suc i)) (values_of flows (suc i))) s.def (solved.meets (suc i) s.flow s.at) in
     meets ∙ before s.of.0 s.below (omega (arith, s.below, within))
 
-all_values : (c : Chain) → IsChain c → IsTrue (is_relay c) → (bodies : List Parts) (rows : Rows) (until : ℕ) (flows : List (List Value)) → Solves c.flat c.clocks.of bodies rows until flows
+all_values : (c : Chain) → IsChain c → IsTrue (is_relay c) → (bodies : List CheckedBody) (rows : Rows) (until : ℕ) (flows : List (List Value)) → Solves c.flat c.clocks.of bodies rows until flows
     → (i : ℕ) → i < length flows → values_of flows i ≡ values_of flows 0
 all_values c h relay bodies rows until flows solved i within =
     from_below (λ j. j < length flows → values_of flows j ≡ values_of flows 0) (same_values c h relay bodies rows until flows solved) (length flows) i within within
 
-pub HandsOn-copies : (c : Chain) → IsChain c → IsTrue (is_relay c) → HandsOn c
-HandsOn-copies c h relay = record {
+pub HandsOn_copies : (c : Chain) → IsChain c → IsTrue (is_relay c) → HandsOn c
+HandsOn_copies c h relay = record {
   clocks = λ i within. from_below (λ j. j < length c.clocks.of → clock_of c.clocks.of j ≡ clock_of c.clocks.of 0) (same_clock c h relay) (length c.clocks.of) i within within;
   values = all_values c h relay;
   outputs = λ bodies rows until flows solved k flow found.
@@ -99,11 +99,11 @@ no_application c none k app found =
     let empty : length c.flat.apps ≡ 0 = eqb-true (length c.flat.apps) 0 none in
     omega (arith, small, empty)
 
-pub bodies-none : (c : Chain) → IsChain c → IsTrue (has_no_application c) → (bodies : List Parts) → HaveBodies c.flat bodies
-bodies-none c h none bodies k app found = absurd (no_application c none k app found)
+pub bodies_none : (c : Chain) → IsChain c → IsTrue (has_no_application c) → (bodies : List CheckedBody) → HaveBodies c.flat bodies
+bodies_none c h none bodies k app found = absurd (no_application c none k app found)
 
-pub rows-none : (c : Chain) → IsChain c → IsTrue (has_no_application c) → (rows : Rows) → HasTypedRows c.flat rows
-rows-none c h none rows some =
+pub rows_none : (c : Chain) → IsChain c → IsTrue (has_no_application c) → (rows : Rows) → HasTypedRows c.flat rows
+rows_none c h none rows some =
     let empty : length c.flat.apps ≡ 0 = eqb-true (length c.flat.apps) 0 none in
     let wrong : ⊥ = omega (arith, some, empty) in
     absurd wrong
@@ -123,8 +123,8 @@ not_applied c h relay k out (suc i) f found is =
 no_output : (c : Chain) → IsChain c → IsTrue (is_relay c) → (k out : ℕ) (flow : FlowNo) → IsOutput c.flat k out flow → ⊥
 no_output c h relay k out flow (f, found, is) = not_applied c h relay k out flow.0 f found is
 
-pub relay-no_application : (c : Chain) → IsChain c → IsTrue (is_relay c) → IsTrue (has_no_application c)
-relay-no_application c h relay =
+pub relay_no_application : (c : Chain) → IsChain c → IsTrue (is_relay c) → IsTrue (has_no_application c)
+relay_no_application c h relay =
     let none : 0 < length c.flat.apps → ⊥ = λ some.
     let (app, found) = element_at c.flat.apps 0 some in
     let fits = h.flat.apps 0 app found in

@@ -2,7 +2,7 @@
 use Rattle.std.proofs.Common.{◌≡◌, Bool, true, false, Option, Some, None, refl}
 use Rattle.std.specs.Prelude.{if◌then◌else◌}
 use Rattle.std.specs.Option.{option_map}
-use Rattle.prl_chains.specs.Options.{◌>>=◌}
+use Rattle.prl_base.specs.Options.{◌>>=◌}
 
 pub record Both {A B : Type 0} (o : Option A) (f : A → Option B) (y : B) : Type 0 where
   pub first : A

@@ -16,7 +16,7 @@ use Rattle.prl_flow.specs.declared.programs.Arg.{Arg}
 use Rattle.prl_flow.specs.declared.programs.Def.TheVariants as definitions
 use Rattle.prl_flow.specs.Programs.{IsFactor}
 use Rattle.prl_chains.specs.declared.links.Link.{Link}
-use Rattle.prl_chains.specs.Options.{◌>>=◌}
+use Rattle.prl_base.specs.Options.{◌>>=◌}
 use Rattle.prl_chains.specs.Rights.{is_factor}
 use Rattle.prl_chains.specs.Links.{flow_named, may_define, made_link}
 
@@ -111,7 +111,7 @@ made_app import at args outs = record { name = import.name; wcet = import.wcet; 
 abbrev pub fits : Import → NodeTree → List Link → List Placed → Applied → Bool
 fits of n links lefts a = takes of (length a.args) (length lefts) && may_define_all n links lefts && have_numbers links lefts
 
--- The application of an import to earlier flows of one period, whose outputs the left names get, behind these flows;
+-- The application of an import to earlier flows of one period, whose outputs the left names get, after these flows;
 -- and that period.
 unfoldable pub app_of : List Import → NodeTree → List Link → List Placed → Applied → Option (App × ℕ)
 app_of imports n links lefts a = do

@@ -13,7 +13,7 @@ use Rattle.prl_flow.specs.declared.programs.Def.TheVariants as definitions
 use Rattle.prl_flow.specs.declared.programs.Flow.{Flow}
 use Rattle.prl_chains.specs.declared.chains.Chain.{Chain}
 use Rattle.prl_chains.specs.declared.links.Link.{Link}
-use Rattle.prl_chains.specs.Options.{◌>>=◌, the_one}
+use Rattle.prl_base.specs.Options.{◌>>=◌, the_one}
 use Rattle.prl_chains.specs.Rights.{is_factor}
 use Rattle.prl_chains.specs.Links.{link_clock, flow_named, is_linked, has_param}
 use Rattle.prl_chains.specs.Equations.{Definitions, with_equations}

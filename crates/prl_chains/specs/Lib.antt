@@ -1,4 +1,3 @@
-pub mod Options
 pub mod Rights
 pub mod Links
 pub mod Applications

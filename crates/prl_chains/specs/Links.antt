@@ -11,11 +11,11 @@ use Rattle.prl_flow.specs.declared.programs.App.{App}
 use Rattle.prl_flow.specs.declared.programs.Arg.{Arg}
 use Rattle.prl_flow.specs.declared.programs.Def.{Def}
 use Rattle.prl_flow.specs.declared.programs.Def.TheVariants as definitions
-use Rattle.prl_flow.specs.Flows.{IsResultClock}
+use Rattle.prl_base.specs.Operators.{IsResultClock}
 use Rattle.prl_flow.specs.Programs.{IsFactor, FitsType}
 use Rattle.prl_flow.specs.Solutions.{clock_of}
 use Rattle.prl_chains.specs.declared.links.Link.{Link}
-use Rattle.prl_chains.specs.Options.{◌>>=◌, the_one}
+use Rattle.prl_base.specs.Options.{◌>>=◌, the_one}
 use Rattle.prl_chains.specs.Rights.{right_of, period_of, def_of}
 
 -- each flow starts at 0
@@ -40,7 +40,7 @@ may_define n links name = (has_param n.outs name || has_param n.locals name) && 
 abbrev pub made_link : Placed → Def → ℕ → Link
 made_link left def period = record { name = left.name; at = left.at; def = def; period = period }
 
--- the flow of an equation behind the flows of the input and of the equations before it: the flow that it uses is one
+-- the flow of an equation after the flows of the input and of the equations before it: the flow that it uses is one
 -- of those
 unfoldable pub link_of : NodeTree → List Link → EquationTree → Option Link
 link_of n links e = do

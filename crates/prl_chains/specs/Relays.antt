@@ -3,7 +3,7 @@ use Rattle.std.specs.Prelude.{◌≡◌, ◌==◌, ◌<◌, ℕ, Bool, true, fal
 use Rattle.std.specs.List.{list_all}
 use Rattle.prl_base.specs.declared.numbers.FlowNo.{FlowNo}
 use Rattle.prl_base.specs.declared.values.Value.{Value}
-use Rattle.prl_body.specs.declared.bodies.Parts.{Parts}
+use Rattle.prl_body.specs.declared.bodies.CheckedBody.{CheckedBody}
 use Rattle.prl_flow.specs.declared.programs.Def.{Def}
 use Rattle.prl_flow.specs.declared.programs.Def.TheVariants as definitions
 use Rattle.prl_flow.specs.declared.programs.Flow.{Flow}
@@ -33,7 +33,7 @@ has_no_application c = length c.flat.apps == 0
 -- all flows have the clock of the input, and in each solution its values
 pub record HandsOn (c : Chain) : Type 0 where
   pub clocks : (i : ℕ) → i < length c.clocks.of → clock_of c.clocks.of i ≡ clock_of c.clocks.of 0
-  pub values : (bodies : List Parts) (rows : Rows) (until : ℕ) (flows : List (List Value)) → Solves c.flat c.clocks.of bodies rows until flows
+  pub values : (bodies : List CheckedBody) (rows : Rows) (until : ℕ) (flows : List (List Value)) → Solves c.flat c.clocks.of bodies rows until flows
       → (i : ℕ) → i < length flows → values_of flows i ≡ values_of flows 0
-  pub outputs : (bodies : List Parts) (rows : Rows) (until : ℕ) (flows : List (List Value)) → Solves c.flat c.clocks.of bodies rows until flows
+  pub outputs : (bodies : List CheckedBody) (rows : Rows) (until : ℕ) (flows : List (List Value)) → Solves c.flat c.clocks.of bodies rows until flows
       → (k : ℕ) (flow : FlowNo) → slice_get c.flat.outs k ≡ Some flow → values_of flows flow.0 ≡ values_of flows 0

@@ -11,7 +11,7 @@ use Rattle.prl_flow.specs.declared.programs.Def.TheVariants as definitions
 use Rattle.prl_flow.specs.Programs.{IsFactor}
 use Rattle.prl_chains.specs.declared.rights.Right.{Right}
 use Rattle.prl_chains.specs.declared.rights.Right.TheVariants.{Copy, Delayed, Faster, Slower}
-use Rattle.prl_chains.specs.Options.{◌>>=◌}
+use Rattle.prl_base.specs.Options.{◌>>=◌}
 
 -- 1 to 2^31 - 1
 abbrev pub is_factor : ℕ → Bool
@@ -22,7 +22,7 @@ abbrev pub prefix_right : Op → Option Right
 prefix_right (operators.Fby (values.Int number)) = Some (Delayed number)
 prefix_right other = None
 
--- an operator behind a name: `*^ k` or `/^ k`
+-- an operator after a name: `*^ k` or `/^ k`
 abbrev pub postfix_right : Op → Option Right
 postfix_right (operators.Up k) = if is_factor k then Some (Faster k) else None
 postfix_right (operators.Down k) = if is_factor k then Some (Slower k) else None

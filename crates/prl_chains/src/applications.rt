@@ -173,7 +173,7 @@ fn may_define_all(node: &Node, links: &[Link], lefts: &[Placed]) -> bool
     true
 }
 
-/// Whether the flows of the left names have numbers behind these.
+/// Whether the flows of the left names have numbers after these.
 fn have_numbers(links: &[Link], lefts: &[Placed]) -> bool
     ensures { result ≡ have_numbers links.now lefts.now }
 {
@@ -210,7 +210,7 @@ fn made_app(
     })
 }
 
-/// The application of an import to earlier flows of one period, whose outputs the left names get, behind these flows; and
+/// The application of an import to earlier flows of one period, whose outputs the left names get, after these flows; and
 /// that period.
 #[tactic(auto, unfolding(crate::specs::Applications::app_of))]
 pub fn app_of(

@@ -9,7 +9,7 @@ ghost use Rattle.prl_ast.specs.Trees.{node_tree, program_tree};
 ghost use Rattle.prl_flow.specs.Programs.{IsFactor};
 ghost use Rattle.prl_flow.specs.Solutions.{clock_of};
 ghost use Rattle.prl_chains.specs.Chains.{is_bare, whole_period, noted_period, input_period, are_apart, is_device_of, are_variables, flat_chain, ends_of, node_defined, parts_of, chain_of};
-ghost use Rattle.prl_chains.specs.Options.{the_one};
+ghost use Rattle.prl_base.specs.Options.{the_one};
 ghost use Rattle.prl_chains.specs.Facts.{AreBetween, AppliesImports, IsChain};
 ghost use Rattle.prl_chains.specs.Relays.{has_no_application, is_copy, are_copies, is_relay};
 

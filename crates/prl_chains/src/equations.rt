@@ -132,7 +132,7 @@ fn with_equation(
     }
 }
 
-/// The flow of the input, and behind it what the equations define.
+/// The flow of the input, and after it what the equations define.
 fn with_equations(
     alloc: Global,
     imports: &[Import],

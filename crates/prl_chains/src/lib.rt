@@ -17,6 +17,3 @@ pub use relays::{
     applied_imports_have_bodies, chains_want_no_body, copies_apply_nothing, copies_hand_on,
     numbers_are_rows, one_sensor_suffices,
 };
-
-#[cfg(test)]
-mod tests;

@@ -64,7 +64,7 @@ pub fn may_define(node: &Node, links: &[Link], name: &Name) -> bool
         && !is_linked(links, name)
 }
 
-/// What an equation defines behind these flows: the name, the definition and the period.
+/// What an equation defines after these flows: the name, the definition and the period.
 #[tactic(auto, unfolding(crate::specs::Links::link_of))]
 fn definition_of<'a>(
     node: &Node,
@@ -88,7 +88,7 @@ fn definition_of<'a>(
     }
 }
 
-/// The flow of an equation, behind these.
+/// The flow of an equation, after these.
 pub fn link_of(
     alloc: Global,
     node: &Node,

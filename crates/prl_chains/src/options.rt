@@ -2,7 +2,7 @@
 
 ghost use Rattle.std.specs.Prelude.{◌≡◌};
 ghost use Rattle.std.specs.Option.{option_copied};
-ghost use Rattle.prl_chains.specs.Options.{the_one};
+ghost use Rattle.prl_base.specs.Options.{the_one};
 
 /// The item of a list of one.
 pub fn the_one<T>(items: &[T]) -> Option<&T>

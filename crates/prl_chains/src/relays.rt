@@ -8,7 +8,7 @@ ghost use Rattle.prl_base.specs.declared.values.Value.{Value};
 ghost use Rattle.prl_ast.specs.Trees.{ProgramTree};
 ghost use Rattle.prl_body.specs.Checks.{body_tree, checked};
 ghost use Rattle.prl_body.specs.Texts.{TextTree};
-ghost use Rattle.prl_body.specs.declared.bodies.Parts.{Parts};
+ghost use Rattle.prl_body.specs.declared.bodies.CheckedBody.{CheckedBody};
 ghost use Rattle.prl_flow.specs.Applications.{HaveBodies};
 ghost use Rattle.prl_flow.specs.Rows.{Rows};
 ghost use Rattle.prl_flow.specs.Solutions.{HasRows, HasTypedRows, clock_of};
@@ -37,14 +37,14 @@ pub fn copies_apply_nothing()
 
 /// A chain that applies no import wants no body.
 pub fn chains_want_no_body()
-    ensures bodies { (c : Chain) → IsChain c → IsTrue (has_no_application c) → (bodies : List Parts) → HaveBodies c.flat bodies }
+    ensures bodies { (c : Chain) → IsChain c → IsTrue (has_no_application c) → (bodies : List CheckedBody) → HaveBodies c.flat bodies }
     ensures rows { (c : Chain) → IsChain c → IsTrue (has_no_application c) → (rows : Rows) → HasTypedRows c.flat rows }
 {}
 
 /// The chain of a program has its bodies, where `check_bodies` gave them for the program's imports, of which the used ones
 /// are those that main applies. Main is the one node.
 pub fn applied_imports_have_bodies()
-    ensures { (p : ProgramTree) (c : Chain) → chain_of p ≡ Some c → (texts : List TextTree) (bodies : List Parts)
+    ensures { (p : ProgramTree) (c : Chain) → chain_of p ≡ Some c → (texts : List TextTree) (bodies : List CheckedBody)
         → checked p.imports (used_imports p 0) texts ≡ Ok (map body_tree bodies) → HaveBodies c.flat bodies }
 {}
 

@@ -16,7 +16,7 @@ pub enum Right {
     /// The flow itself.
     Copy,
     /// This number `fby` the flow.
-    Delayed(i32),
+    Delayed(i64),
     /// The flow `*^` this factor.
     Faster(u32),
     /// The flow `/^` this factor.
@@ -46,7 +46,7 @@ fn prefix_right(op: Op) -> Option<Right>
     }
 }
 
-/// An operator behind a name: `*^ k` or `/^ k`.
+/// An operator after a name: `*^ k` or `/^ k`.
 fn postfix_right(op: Op) -> Option<Right>
     ensures exact { result ≡ postfix_right op }
     ensures right { IfSome result IsRight }

@@ -6,7 +6,7 @@ use Rattle.prl_base.specs.declared.operators.Clock.{Clock}
 use Rattle.prl_base.specs.declared.numbers.FlowNo.{FlowNo}
 use Rattle.prl_base.specs.declared.values.Value.{Value}
 use Rattle.prl_base.specs.Values.{type_of}
-use Rattle.prl_body.specs.declared.bodies.Parts.{Parts}
+use Rattle.prl_body.specs.declared.bodies.CheckedBody.{CheckedBody}
 use Rattle.prl_body.specs.Bodies.{body_named, input_types, output_types}
 use Rattle.prl_flow.specs.declared.programs.App.{App}
 use Rattle.prl_flow.specs.declared.programs.Arg.{Arg}
@@ -18,12 +18,12 @@ use Rattle.prl_flow.specs.Instances.{AppliesTo, AreFirst, HasArguments, instance
 use Rattle.prl_flow.specs.Programs.{FlatProgram, IsFlat, IsWellDefined}
 use Rattle.prl_flow.specs.Progress.{AreAhead, AreComputed, HasOutput, IsAhead}
 use Rattle.prl_flow.specs.Solutions.{AreClocks, IsOrdered, UsesBelow, argument_flows, clock_of, values_of}
-use Rattle.prl_flow.proofs.Applied.{length-HaveTypes, nth_step-same, type_of-element, types-arguments, values_at-instance}
-use Rattle.prl_flow.proofs.ClockDates.{IsUpTo-from_length, dates_before-place, length-from_IsUpTo, value_at-date}
+use Rattle.prl_flow.proofs.Applied.{length_HaveTypes, nth_step_same, type_of_element, types_arguments, values_at_instance}
+use Rattle.prl_flow.proofs.ClockDates.{IsUpTo_from_length, dates_before_number, length_from_IsUpTo, value_at_date}
 use Rattle.prl_flow.proofs.Types.{same_flow}
 
 -- the flow i is an output of the application of number k, and all before it are computed
-pub record IsReached (p : FlatProgram) (clocks : List Clock) (bodies : List Parts) (until : ℕ) (flows : List (List Value)) (i k : ℕ) (app : App) (body : Parts) : Type 0 where
+pub record IsReached (p : FlatProgram) (clocks : List Clock) (bodies : List CheckedBody) (until : ℕ) (flows : List (List Value)) (i k : ℕ) (app : App) (body : CheckedBody) : Type 0 where
   pub flat : IsFlat p
   pub are_clocks : AreClocks p clocks
   pub computed : AreComputed p clocks until flows
@@ -40,11 +40,11 @@ pub application_of : (p : FlatProgram) (i k out : ℕ) (flow : Flow) → IsFlat 
     → (app : App) × (slice_get p.apps k ≡ Some app) × (slice_get app.outs out ≡ Some (record { 0 = i }))
 application_of p i k out flow flat found is = subst (IsWellDefined p i flow.ty) is (flat.flows i flow found)
 
-pub IsReached-from : (p : FlatProgram) (clocks : List Clock) (bodies : List Parts) (until : ℕ) (flows : List (List Value)) (i k out : ℕ) (app : App) (body : Parts) (flow : Flow)
+pub IsReached_from : (p : FlatProgram) (clocks : List Clock) (bodies : List CheckedBody) (until : ℕ) (flows : List (List Value)) (i k out : ℕ) (app : App) (body : CheckedBody) (flow : Flow)
     → IsFlat p → AreClocks p clocks → HaveBodies p bodies → IsOrdered p → AreComputed p clocks until flows → length flows ≡ i
     → slice_get p.flows i ≡ Some flow → flow.def ≡ definitions.Apply k out → slice_get p.apps k ≡ Some app → body_named bodies app.name ≡ Some body
     → IsReached p clocks bodies until flows i k app body
-IsReached-from p clocks bodies until flows i k out app body flow flat are_clocks have ordered computed number found is applied named =
+IsReached_from p clocks bodies until flows i k out app body flow flat are_clocks have ordered computed number found is applied named =
     let (a, at, here) = application_of p i k out flow flat found is in
     let same : a ≡ app = let e : Some a ≡ Some app = sym at ∙ applied in cc in
     let has = have k app applied in
@@ -65,19 +65,19 @@ IsReached-from p clocks bodies until flows i k out app body flow flat are_clocks
     }
 
 -- the same, as the code reads flow and application
-pub IsReached-read : (p : FlatProgram) (clocks : List Clock) (bodies : List Parts) (until : ℕ) (flows : List (List Value)) (i k out : ℕ) (app : App) (body : Parts) (flow : Flow) (all : List Flow) (apps : List App)
+pub IsReached_read : (p : FlatProgram) (clocks : List Clock) (bodies : List CheckedBody) (until : ℕ) (flows : List (List Value)) (i k out : ℕ) (app : App) (body : CheckedBody) (flow : Flow) (all : List Flow) (apps : List App)
     → IsFlat p → AreClocks p clocks → HaveBodies p bodies → IsOrdered p → AreComputed p clocks until flows → length flows ≡ i → i < length p.flows
     → all ≡ p.flows → flow ≡ slice_index_or all i flow → flow.def ≡ definitions.Apply k out
     → apps ≡ p.apps → app ≡ slice_index_or apps k app → Some body ≡ body_named bodies app.name
     → IsReached p clocks bodies until flows i k app body
-IsReached-read p clocks bodies until flows i k out app body flow all apps flat are_clocks have ordered computed number within all_is read is apps_is app_read named =
+IsReached_read p clocks bodies until flows i k out app body flow all apps flat are_clocks have ordered computed number within all_is read is apps_is app_read named =
     let found : slice_get p.flows i ≡ Some flow = slice_get_read p.flows (length p.flows) i flow refl within (read ∙ ap (λ (xs : List Flow). slice_index_or xs i flow) all_is) in
     let (a, at, here) = application_of p i k out flow flat found is in
     let applied : slice_get p.apps k ≡ Some app = slice_get_read p.apps (length p.apps) k app refl (slice_get_within p.apps k a at) (app_read ∙ ap (λ (xs : List App). slice_index_or xs k app) apps_is) in
-    IsReached-from p clocks bodies until flows i k out app body flow flat are_clocks have ordered computed number found is applied (sym named)
+    IsReached_from p clocks bodies until flows i k out app body flow flat are_clocks have ordered computed number found is applied (sym named)
 
 -- the application's body is there
-pub body_is_there : (p : FlatProgram) (bodies : List Parts) (i k out : ℕ) (app : App) (flow : Flow) (all : List Flow) (apps : List App)
+pub body_is_there : (p : FlatProgram) (bodies : List CheckedBody) (i k out : ℕ) (app : App) (flow : Flow) (all : List Flow) (apps : List App)
     → IsFlat p → HaveBodies p bodies → i < length p.flows
     → all ≡ p.flows → flow ≡ slice_index_or all i flow → flow.def ≡ definitions.Apply k out
     → apps ≡ p.apps → app ≡ slice_index_or apps k app → None ≡ body_named bodies app.name → ⊥
@@ -89,20 +89,20 @@ body_is_there p bodies i k out app flow all apps flat have within all_is read is
     let e : None ≡ Some has.body = missing ∙ has.named in cc
 
 -- where the flow i is no application's output, none is wanted
-pub HasOutput-none : (p : FlatProgram) (i : ℕ) (places : List (Option (List Value))) (flow : Flow) (all : List Flow)
-    → i < length p.flows → all ≡ p.flows → flow ≡ slice_index_or all i flow → ((app out : ℕ) → flow.def ≡ definitions.Apply app out → ⊥) → HasOutput p i places
-HasOutput-none p i places flow all within all_is read no_output other app out found is =
+pub HasOutput_none : (p : FlatProgram) (i : ℕ) (slots : List (Option (List Value))) (flow : Flow) (all : List Flow)
+    → i < length p.flows → all ≡ p.flows → flow ≡ slice_index_or all i flow → ((app out : ℕ) → flow.def ≡ definitions.Apply app out → ⊥) → HasOutput p i slots
+HasOutput_none p i slots flow all within all_is read no_output other app out found is =
     let here : slice_get p.flows i ≡ Some flow = slice_get_read p.flows (length p.flows) i flow refl within (read ∙ ap (λ (xs : List Flow). slice_index_or xs i flow) all_is) in
     absurd (no_output app out (ap (λ (f : Flow). f.def) (same_flow p i flow other here found) ∙ is))
 
 -- an output of the application is a flow of the application's clock
-output_clock : (p : FlatProgram) (clocks : List Clock) (bodies : List Parts) (until : ℕ) (flows : List (List Value)) (i k : ℕ) (app : App) (body : Parts) (j m : ℕ)
+output_clock : (p : FlatProgram) (clocks : List Clock) (bodies : List CheckedBody) (until : ℕ) (flows : List (List Value)) (i k : ℕ) (app : App) (body : CheckedBody) (j m : ℕ)
     → IsReached p clocks bodies until flows i k app body → slice_get app.outs j ≡ Some (record { 0 = m }) → clock_of clocks m ≡ clock_of clocks i
 output_clock p clocks bodies until flows i k app body j m reached at =
     let one = reached.are_clocks.apps k app reached.found in
     one.outs j (record { 0 = m }) at ∙ sym (one.outs reached.out (record { 0 = i }) reached.here)
 
-output_is_flow : (p : FlatProgram) (clocks : List Clock) (bodies : List Parts) (until : ℕ) (flows : List (List Value)) (i k : ℕ) (app : App) (body : Parts) (j : ℕ) (flow : FlowNo)
+output_is_flow : (p : FlatProgram) (clocks : List Clock) (bodies : List CheckedBody) (until : ℕ) (flows : List (List Value)) (i k : ℕ) (app : App) (body : CheckedBody) (j : ℕ) (flow : FlowNo)
     → IsReached p clocks bodies until flows i k app body → slice_get app.outs j ≡ Some flow → flow.0 < length p.flows
 output_is_flow p clocks bodies until flows i k app body j flow reached at =
     let (f, found, is) = (reached.flat.apps k app reached.found).outs j flow at in
@@ -114,43 +114,43 @@ flow_clock p clocks m are_clocks within =
     are_clocks.clock m (omega arith)
 
 -- the arguments are there, for each date of the application
-pub HasArguments-from_reached : (p : FlatProgram) (clocks : List Clock) (bodies : List Parts) (until : ℕ) (flows : List (List Value)) (i k : ℕ) (app : App) (body : Parts) (count : ℕ)
+pub HasArguments_from_reached : (p : FlatProgram) (clocks : List Clock) (bodies : List CheckedBody) (until : ℕ) (flows : List (List Value)) (i k : ℕ) (app : App) (body : CheckedBody) (count : ℕ)
     → IsReached p clocks bodies until flows i k app body → count ≡ dates_before until (clock_of clocks i) → HasArguments flows app count
-HasArguments-from_reached p clocks bodies until flows i k app body count reached is j arg at =
+HasArguments_from_reached p clocks bodies until flows i k app body count reached is j arg at =
     let within : arg.flow.0 < length flows = reached.uses j arg at in
     let few : length flows < length p.flows = reached.few in
     let one = reached.are_clocks.apps k app reached.found in
     let same : clock_of clocks arg.flow.0 ≡ clock_of clocks i = one.args j arg at ∙ sym (one.outs reached.out (record { 0 = i }) reached.here) in
     let long : length (values_of flows arg.flow.0) ≡ dates_before until (clock_of clocks arg.flow.0) =
-    length-from_IsUpTo until (clock_of clocks arg.flow.0) (values_of flows arg.flow.0) (flow_clock p clocks arg.flow.0 reached.are_clocks (omega arith)) (reached.computed.up_to arg.flow.0 within) in
+    length_from_IsUpTo until (clock_of clocks arg.flow.0) (values_of flows arg.flow.0) (flow_clock p clocks arg.flow.0 reached.are_clocks (omega arith)) (reached.computed.up_to arg.flow.0 within) in
     let enough : length (values_of flows arg.flow.0) ≡ count = long ∙ ap (dates_before until) same ∙ sym is in
     (within, omega arith)
 
-pub types-from_reached : (p : FlatProgram) (clocks : List Clock) (bodies : List Parts) (until : ℕ) (flows : List (List Value)) (i k : ℕ) (app : App) (body : Parts) (count : ℕ)
+pub types_from_reached : (p : FlatProgram) (clocks : List Clock) (bodies : List CheckedBody) (until : ℕ) (flows : List (List Value)) (i k : ℕ) (app : App) (body : CheckedBody) (count : ℕ)
     → IsReached p clocks bodies until flows i k app body → count ≡ dates_before until (clock_of clocks i)
     → (n : ℕ) → n < count → map type_of (instance_values (argument_flows flows app) n) ≡ input_types body
-types-from_reached p clocks bodies until flows i k app body count reached is n below =
+types_from_reached p clocks bodies until flows i k app body count reached is n below =
     let some : 0 < length p.apps = let h : k < length p.apps = slice_get_within p.apps k app reached.found in omega arith in
-    types-arguments p flows n app.args (input_types body) reached.fits.inputs (λ j arg at.
-    let enough = (HasArguments-from_reached p clocks bodies until flows i k app body count reached is j arg at).1 in
+    types_arguments p flows n app.args (input_types body) reached.fits.inputs (λ j arg at.
+    let enough = (HasArguments_from_reached p clocks bodies until flows i k app body count reached is j arg at).1 in
     (omega (arith, enough, below), reached.computed.typed some arg.flow.0 (reached.uses j arg at)))
 
-pub outputs-from_reached : (p : FlatProgram) (clocks : List Clock) (bodies : List Parts) (until : ℕ) (flows : List (List Value)) (i k : ℕ) (app : App) (body : Parts)
+pub outputs_from_reached : (p : FlatProgram) (clocks : List Clock) (bodies : List CheckedBody) (until : ℕ) (flows : List (List Value)) (i k : ℕ) (app : App) (body : CheckedBody)
     → IsReached p clocks bodies until flows i k app body → length app.outs ≡ length (output_types body)
-outputs-from_reached p clocks bodies until flows i k app body reached = length-HaveTypes p app.outs (output_types body) reached.fits.outputs
+outputs_from_reached p clocks bodies until flows i k app body reached = length_HaveTypes p app.outs (output_types body) reached.fits.outputs
 
-pub places-from_reached : (p : FlatProgram) (clocks : List Clock) (bodies : List Parts) (until : ℕ) (flows : List (List Value)) (i k : ℕ) (app : App) (body : Parts) (places : List (Option (List Value)))
-    → IsReached p clocks bodies until flows i k app body → length places ≡ length p.flows
-    → (out : ℕ) (flow : FlowNo) → slice_get app.outs out ≡ Some flow → flow.0 < length places
-places-from_reached p clocks bodies until flows i k app body places reached count out flow at =
+pub slots_from_reached : (p : FlatProgram) (clocks : List Clock) (bodies : List CheckedBody) (until : ℕ) (flows : List (List Value)) (i k : ℕ) (app : App) (body : CheckedBody) (slots : List (Option (List Value)))
+    → IsReached p clocks bodies until flows i k app body → length slots ≡ length p.flows
+    → (out : ℕ) (flow : FlowNo) → slice_get app.outs out ≡ Some flow → flow.0 < length slots
+slots_from_reached p clocks bodies until flows i k app body slots reached count out flow at =
     let h : flow.0 < length p.flows = output_is_flow p clocks bodies until flows i k app body out flow reached at in omega arith
 
 -- what is placed for an output is its flow
-IsAhead-applied : (p : FlatProgram) (clocks : List Clock) (bodies : List Parts) (until : ℕ) (flows : List (List Value)) (i k : ℕ) (app : App) (body : Parts) (count : ℕ) (old new : List (Option (List Value))) (j m : ℕ) (xs : List Value)
+IsAhead_applied : (p : FlatProgram) (clocks : List Clock) (bodies : List CheckedBody) (until : ℕ) (flows : List (List Value)) (i k : ℕ) (app : App) (body : CheckedBody) (count : ℕ) (old new : List (Option (List Value))) (j m : ℕ) (xs : List Value)
     → (reached : IsReached p clocks bodies until flows i k app body) → count ≡ dates_before until (clock_of clocks i)
     → (applied : AppliesTo body flows app count old new) → slice_get app.outs j ≡ Some (record { 0 = m }) → slice_get applied.outputs j ≡ Some xs
     → IsAhead p clocks bodies until flows m xs
-IsAhead-applied p clocks bodies until flows i k app body count old new j m xs reached is applied at got =
+IsAhead_applied p clocks bodies until flows i k app body count old new j m xs reached is applied at got =
     let (f, found, def) = (reached.flat.apps k app reached.found).outs j (record { 0 = m }) at in
     let c : Clock = clock_of clocks m in
     let clock : IsClock c = flow_clock p clocks m reached.are_clocks (slice_get_within p.flows m f found) in
@@ -166,16 +166,16 @@ IsAhead-applied p clocks bodies until flows i k app body count old new j m xs re
       out = j;
       found = found;
       is = def;
-      up_to = IsUpTo-from_length until c xs clock (number ∙ dates);
+      up_to = IsUpTo_from_length until c xs clock (number ∙ dates);
       output = record {
         app = app;
         body = body;
         applied = reached.found;
         named = reached.named;
         each = λ n before.
-            let early : n < dates_before until c = (dates_before-place until c n clock).1 before in
-            value_at-date c xs n clock ∙ first.each n (omega arith)
-            ∙ ap (λ (vs : List Value). slice_get vs j) (sym (nth_step-same body (values_at c (argument_flows flows app)) inputs n (λ q. values_at-instance c (argument_flows flows app) q clock)));
+            let early : n < dates_before until c = (dates_before_number until c n clock).1 before in
+            value_at_date c xs n clock ∙ first.each n (omega arith)
+            ∙ ap (λ (vs : List Value). slice_get vs j) (sym (nth_step_same body (values_at c (argument_flows flows app)) inputs n (λ q. values_at_instance c (argument_flows flows app) q clock)));
       };
       below = λ a applied_a q arg at_q.
           let same : a ≡ app = let e : Some a ≡ Some app = sym applied_a ∙ reached.found in cc in
@@ -185,21 +185,21 @@ IsAhead-applied p clocks bodies until flows i k app body count old new j m xs re
           let below : n < count = omega arith in
           let value : slice_get (nth_step body inputs n).outputs j ≡ Some v = sym (first.each n below) ∙ is_v in
           let fit : HaveTypes p app.outs (map type_of (nth_step body inputs n).outputs) = subst (HaveTypes p app.outs) (sym (applied.steps.types n below)) reached.fits.outputs in
-          let (g, at_g, ty) = type_of-element p app.outs (nth_step body inputs n).outputs j (record { 0 = m }) v fit at value in
+          let (g, at_g, ty) = type_of_element p app.outs (nth_step body inputs n).outputs j (record { 0 = m }) v fit at value in
           sym ty ∙ ap (λ (h : Flow). h.ty) (same_flow p m g flow at_g at_flow);
     }
 
--- the places stay right
-pub AreAhead-applied : (p : FlatProgram) (clocks : List Clock) (bodies : List Parts) (until : ℕ) (flows : List (List Value)) (i k : ℕ) (app : App) (body : Parts) (count : ℕ) (old new : List (Option (List Value)))
+-- the slots stay right
+pub AreAhead_applied : (p : FlatProgram) (clocks : List Clock) (bodies : List CheckedBody) (until : ℕ) (flows : List (List Value)) (i k : ℕ) (app : App) (body : CheckedBody) (count : ℕ) (old new : List (Option (List Value)))
     → IsReached p clocks bodies until flows i k app body → count ≡ dates_before until (clock_of clocks i)
     → AreAhead p clocks bodies until flows old → AppliesTo body flows app count old new → AreAhead p clocks bodies until flows new
-AreAhead-applied p clocks bodies until flows i k app body count old new reached is ahead applied m xs found = elim (applied.placed.only m xs found) [
+AreAhead_applied p clocks bodies until flows i k app body count old new reached is ahead applied m xs found = elim (applied.placed.only m xs found) [
   | inl before ↦ ahead m xs before
-  | inr here ↦ IsAhead-applied p clocks bodies until flows i k app body count old new here.0 m xs reached is applied here.1 here.2
+  | inr here ↦ IsAhead_applied p clocks bodies until flows i k app body count old new here.0 m xs reached is applied here.1 here.2
 ]
 
 -- and that of the flow i is filled
-pub HasOutput-applied : (p : FlatProgram) (clocks : List Clock) (bodies : List Parts) (until : ℕ) (flows : List (List Value)) (i k : ℕ) (app : App) (body : Parts) (count : ℕ) (old new : List (Option (List Value)))
+pub HasOutput_applied : (p : FlatProgram) (clocks : List Clock) (bodies : List CheckedBody) (until : ℕ) (flows : List (List Value)) (i k : ℕ) (app : App) (body : CheckedBody) (count : ℕ) (old new : List (Option (List Value)))
     → IsReached p clocks bodies until flows i k app body → AppliesTo body flows app count old new → HasOutput p i new
-HasOutput-applied p clocks bodies until flows i k app body count old new reached applied flow q out found is =
+HasOutput_applied p clocks bodies until flows i k app body count old new reached applied flow q out found is =
     applied.placed.all reached.out (record { 0 = i }) reached.here

@@ -8,7 +8,8 @@ use Rattle.prl_base.specs.declared.operators.Op.{Op}
 use Rattle.prl_base.specs.declared.operators.Op.TheVariants as operators
 use Rattle.prl_base.specs.declared.values.Value.{Value}
 use Rattle.prl_flow.specs.Counts.{dates_before}
-use Rattle.prl_flow.specs.Flows.{IsUpTo, value_at, delay, IsResultClock, value_of_operator, OperatorByDate}
+use Rattle.prl_base.specs.Operators.{IsResultClock}
+use Rattle.prl_flow.specs.Flows.{IsUpTo, value_at, delay, value_of_operator, OperatorByDate}
 use Rattle.prl_flow.proofs.Lists.{same_from_elements}
 use Rattle.prl_flow.specs.Instances.{instance_of_operator, AreFirst, HasEnough, IsDenominated}
 
@@ -20,44 +21,44 @@ below_ceiling d t k positive =
       λ below. let h : k + 1 ≤ (d + t - 1) / t = quotient.1 (omega arith) in omega arith,
     )
 
-pub dates_before-late : (until : ℕ) (c : Clock) → until ≤ c.start → dates_before until c ≡ 0
-dates_before-late until c late = rw (le-leb until c.start late)
+pub dates_before_late : (until : ℕ) (c : Clock) → until ≤ c.start → dates_before until c ≡ 0
+dates_before_late until c late = rw (le-leb until c.start late)
 
-pub dates_before-early : (until : ℕ) (c : Clock) → c.start < until → dates_before until c ≡ (until - c.start + c.period - 1) / c.period
-dates_before-early until c early = rw (lt-leb until c.start early)
+pub dates_before_early : (until : ℕ) (c : Clock) → c.start < until → dates_before until c ≡ (until - c.start + c.period - 1) / c.period
+dates_before_early until c early = rw (lt-leb until c.start early)
 
 -- the dates before `until` are those of a number below their count
-pub dates_before-place : (until : ℕ) (c : Clock) (k : ℕ) → IsClock c → (k < dates_before until c) ↔ (date_at c k < until)
-dates_before-place until c k clock = elim (cases_lt c.start until) [
+pub dates_before_number : (until : ℕ) (c : Clock) (k : ℕ) → IsClock c → (k < dates_before until c) ↔ (date_at c k < until)
+dates_before_number until c k clock = elim (cases_lt c.start until) [
   | inl early ↦
-      let count = dates_before-early until c early in
-      let place = below_ceiling (until - c.start) c.period k clock in (
-        λ below. let h : k * c.period < until - c.start = place.0 (rw count at below) in omega arith,
-        λ before. rw count (place.1 (omega arith)),
+      let count = dates_before_early until c early in
+      let number = below_ceiling (until - c.start) c.period k clock in (
+        λ below. let h : k * c.period < until - c.start = number.0 (rw count at below) in omega arith,
+        λ before. rw count (number.1 (omega arith)),
       )
   | inr late ↦
-      let count = dates_before-late until c late in
+      let count = dates_before_late until c late in
       (λ below. let h : k < 0 = rw count at below in absurd (omega arith), λ before. absurd (omega arith))
 ]
 
-pub dates_before-le : (until : ℕ) (c : Clock) → IsClock c → dates_before until c ≤ until
-dates_before-le until c clock = elim (cases_lt until (dates_before until c)) [
+pub dates_before_le : (until : ℕ) (c : Clock) → IsClock c → dates_before until c ≤ until
+dates_before_le until c clock = elim (cases_lt until (dates_before until c)) [
   | inl more ↦
-      let h : date_at c until < until = (dates_before-place until c until clock).0 more in
+      let h : date_at c until < until = (dates_before_number until c until clock).0 more in
       let g : until * 1 ≤ until * c.period = mul-le-mul_left until clock in
       absurd (omega arith)
   | inr le ↦ le
 ]
 
 -- a flow up to a date has as many values as its clock has dates before it
-pub IsUpTo-from_length : (until : ℕ) (c : Clock) (values : List Value) → IsClock c → length values ≡ dates_before until c → IsUpTo until c values
-IsUpTo-from_length until c values clock same k = rw same (dates_before-place until c k clock)
+pub IsUpTo_from_length : (until : ℕ) (c : Clock) (values : List Value) → IsClock c → length values ≡ dates_before until c → IsUpTo until c values
+IsUpTo_from_length until c values clock same k = rw same (dates_before_number until c k clock)
 
-pub length-from_IsUpTo : (until : ℕ) (c : Clock) (values : List Value) → IsClock c → IsUpTo until c values → length values ≡ dates_before until c
-length-from_IsUpTo until c values clock up_to =
+pub length_from_IsUpTo : (until : ℕ) (c : Clock) (values : List Value) → IsClock c → IsUpTo until c values → length values ≡ dates_before until c
+length_from_IsUpTo until c values clock up_to =
     let count = dates_before until c in
-    let not_less : length values < count → ⊥ = λ less. let e : length values < length values = (up_to (length values)).1 ((dates_before-place until c (length values) clock).0 less) in omega arith in
-    let not_more : count < length values → ⊥ = λ more. let e : count < count = (dates_before-place until c count clock).1 ((up_to count).0 more) in omega arith in
+    let not_less : length values < count → ⊥ = λ less. let e : length values < length values = (up_to (length values)).1 ((dates_before_number until c (length values) clock).0 less) in omega arith in
+    let not_more : count < length values → ⊥ = λ more. let e : count < count = (dates_before_number until c count clock).1 ((up_to count).0 more) in omega arith in
     elim (cases_lt (length values) count) [
       | inl less ↦ absurd (not_less less)
       | inr le ↦ elim (cases_lt count (length values)) [
@@ -67,46 +68,47 @@ length-from_IsUpTo until c values clock up_to =
     ]
 
 -- the value of a flow at its k-th date is its k-th value
-pub value_at-date : (c : Clock) (values : List Value) (k : ℕ) → IsClock c → value_at c values (date_at c k) ≡ slice_get values k
-value_at-date c values k clock =
+pub value_at_date : (c : Clock) (values : List Value) (k : ℕ) → IsClock c → value_at c values (date_at c k) ≡ slice_get values k
+value_at_date c values k clock =
     let e : c.start + k * c.period - c.start ≡ k * c.period = omega arith in
     let q : k * c.period / c.period ≡ k = mul-div_cancel k clock in
     ap (slice_get values) (ap (λ n. n / c.period) e ∙ q)
 
 -- the same at a date that is written otherwise
-pub value_at-place : (c : Clock) (values : List Value) (t k : ℕ) → IsClock c → t ≡ date_at c k → value_at c values t ≡ slice_get values k
-value_at-place c values t k clock same = rw same (value_at-date c values k clock)
+pub value_at_number : (c : Clock) (values : List Value) (t k : ℕ) → IsClock c → t ≡ date_at c k → value_at c values t ≡ slice_get values k
+value_at_number c values t k clock same = rw same (value_at_date c values k clock)
 
 -- at its j-th date an operator has the value of its j-th instance
-pub value_of_operator-date : (op : Op) (x : Clock) (values : List Value) (y : Clock) (j : ℕ) → IsClock x → IsClock y → IsResultClock op x y → IsDenominated op
+pub value_of_operator_date : (op : Op) (x : Clock) (values : List Value) (y : Clock) (j : ℕ) → IsClock x → IsClock y → IsResultClock op x y → IsDenominated op
     → value_of_operator op x values y.start (date_at y j) ≡ instance_of_operator op values j
-value_of_operator-date (operators.Fby c) x values y zero xs ys (period, start) fits = rw (eq-eqb (date_at y zero) y.start (omega arith)) refl
-value_of_operator-date (operators.Fby c) x values y (suc i) xs ys (period, start) fits =
+value_of_operator_date (operators.Fby c) x values y zero xs ys (period, start) fits = rw (eq-eqb (date_at y zero) y.start (omega arith)) refl
+value_of_operator_date (operators.Fby c) x values y (suc i) xs ys (period, start) fits =
     let later : date_at y (suc i) ≡ y.start → ⊥ = λ e. omega arith in
-    let place : date_at y (suc i) - x.period ≡ date_at x i = rw (period, start) (omega arith) in
-    rw (ne_eqb (date_at y (suc i)) y.start later) (value_at-place x values (date_at y (suc i) - x.period) i xs place)
-value_of_operator-date (operators.Cons c) x values y zero xs ys (period, start) fits = rw (eq-eqb (date_at y zero) y.start (omega arith)) refl
-value_of_operator-date (operators.Cons c) x values y (suc i) xs ys (period, start) fits =
+    let number : date_at y (suc i) - x.period ≡ date_at x i = rw (period, start) (omega arith) in
+    rw (ne_eqb (date_at y (suc i)) y.start later) (value_at_number x values (date_at y (suc i) - x.period) i xs number)
+value_of_operator_date (operators.Cons c) x values y zero xs ys (period, start) fits = rw (eq-eqb (date_at y zero) y.start (omega arith)) refl
+value_of_operator_date (operators.Cons c) x values y (suc i) xs ys (period, start) fits =
     let later : date_at y (suc i) ≡ y.start → ⊥ = λ e. omega arith in
-    let place : date_at y (suc i) ≡ date_at x i = rw (period, ← start) (omega arith) in
-    rw (ne_eqb (date_at y (suc i)) y.start later) (value_at-place x values (date_at y (suc i)) i xs place)
-value_of_operator-date operators.Tail x values y j xs ys (period, start) fits =
-    let place : date_at y j ≡ date_at x (j + 1) = rw (period, start) (omega arith) in
-    value_at-place x values (date_at y j) (j + 1) xs place
-value_of_operator-date (operators.Up k) x values y j xs ys (period, start) fits =
+    let number : date_at y (suc i) ≡ date_at x i = rw (period, ← start) (omega arith) in
+    rw (ne_eqb (date_at y (suc i)) y.start later) (value_at_number x values (date_at y (suc i)) i xs number)
+value_of_operator_date operators.Tail x values y j xs ys (period, start) fits =
+    let number : date_at y j ≡ date_at x (j + 1) = rw (period, start) (omega arith) in
+    value_at_number x values (date_at y j) (j + 1) xs number
+value_of_operator_date (operators.Up k) x values y j xs ys (period, start) fits =
     let e : y.start + j * y.period - x.start ≡ j * y.period = rw start (omega arith) in
     let q : j * y.period / (k * y.period) ≡ j / k = mul-div-mul_right j k ys in
     ap (slice_get values) (ap (λ n. n / x.period) e ∙ ap (λ p. j * y.period / p) (sym period) ∙ q)
-value_of_operator-date (operators.Down k) x values y j xs ys (period, start) fits =
-    let place : date_at y j ≡ date_at x (j * k) = rw (period, start) (ap (λ n. x.start + n) (sym (mul_assoc j k x.period))) in
-    value_at-place x values (date_at y j) (j * k) xs place
-value_of_operator-date (operators.Shift q) x values y j xs ys (period, start) fits =
+value_of_operator_date (operators.Down k) x values y j xs ys (period, start) fits =
+    let turned : j * (k * x.period) ≡ k * j * x.period = sym (mul_assoc j k x.period) ∙ ap (λ n. n * x.period) (mul_comm j k) in
+    let number : date_at y j ≡ date_at x (k * j) = rw (period, start) (ap (λ n. x.start + n) turned) in
+    value_at_number x values (date_at y j) (k * j) xs number
+value_of_operator_date (operators.Shift q) x values y j xs ys (period, start) fits =
     let order : x.start ≤ y.start = le_of_mul-le-mul_left {k = q.den} (omega arith) fits in
     let gap : q.den * y.start ≡ q.den * (x.start + (y.start - x.start)) = ap (λ n. q.den * n) (omega arith) in
     let apart : nat_abs q.num * x.period ≡ (y.start - x.start) * q.den = omega (arith, gap, start, mul-add q.den x.start (y.start - x.start), mul_comm q.den (y.start - x.start)) in
     let by : delay q x.period ≡ y.start - x.start = ap (λ n. n / q.den) apart ∙ mul-div_cancel (y.start - x.start) fits in
-    let place : date_at y j - delay q x.period ≡ date_at x j = rw (by, period) (omega arith) in
-    value_at-place x values (date_at y j - delay q x.period) j xs place
+    let number : date_at y j - delay q x.period ≡ date_at x j = rw (by, period) (omega arith) in
+    value_at_number x values (date_at y j - delay q x.period) j xs number
 
 count_le : (count bound : ℕ) → ((j : ℕ) → j < count → j < bound) → count ≤ bound
 count_le count bound within = elim (cases_lt bound count) [
@@ -115,9 +117,9 @@ count_le count bound within = elim (cases_lt bound count) [
 ]
 
 -- as many values as dates before `until`, where each of them is there
-pub dates_before-within : (until : ℕ) (c : Clock) (bound : ℕ) → IsClock c → ((j : ℕ) → date_at c j < until → j < bound) → dates_before until c ≤ bound
-dates_before-within until c bound clock within =
-    count_le (dates_before until c) bound (λ j below. within j ((dates_before-place until c j clock).0 below))
+pub dates_before_within : (until : ℕ) (c : Clock) (bound : ℕ) → IsClock c → ((j : ℕ) → date_at c j < until → j < bound) → dates_before until c ≤ bound
+dates_before_within until c bound clock within =
+    count_le (dates_before until c) bound (λ j below. within j ((dates_before_number until c j clock).0 below))
 
 cons_within : (x : Clock) (values : List Value) (y : Clock) (until : ℕ) → y.period ≡ x.period → y.start + x.period ≡ x.start → IsUpTo until x values
     → (j : ℕ) → date_at y j < until → j < length values + 1
@@ -132,53 +134,54 @@ positive_factor zero p q same positive = let e : q ≡ 0 = sym same ∙ zero-mul
 positive_factor (suc k) p q same positive = omega arith
 
 -- a flow up to a date is long enough for what an operator makes of it up to that date
-pub HasEnough-from_IsUpTo : (op : Op) (x : Clock) (values : List Value) (y : Clock) (until : ℕ) → IsClock x → IsClock y → IsResultClock op x y → IsDenominated op
+pub HasEnough_from_IsUpTo : (op : Op) (x : Clock) (values : List Value) (y : Clock) (until : ℕ) → IsClock x → IsClock y → IsResultClock op x y → IsDenominated op
     → IsUpTo until x values → HasEnough op values (dates_before until y)
-HasEnough-from_IsUpTo (operators.Fby c) x values y until xs ys (period, start) fits up_to =
-    dates_before-within until y (length values + 1) ys (λ j before.
+HasEnough_from_IsUpTo (operators.Fby c) x values y until xs ys (period, start) fits up_to =
+    dates_before_within until y (length values + 1) ys (λ j before.
     let same : date_at x j ≡ date_at y j = rw (period, start) refl in
     let below : j < length values = (up_to j).1 (rw same before) in
     omega arith)
-HasEnough-from_IsUpTo (operators.Cons c) x values y until xs ys (period, start) fits up_to =
-    dates_before-within until y (length values + 1) ys (cons_within x values y until period start up_to)
-HasEnough-from_IsUpTo operators.Tail x values y until xs ys (period, start) fits up_to =
-    dates_before-within until y (length values - 1) ys (λ j before.
+HasEnough_from_IsUpTo (operators.Cons c) x values y until xs ys (period, start) fits up_to =
+    dates_before_within until y (length values + 1) ys (cons_within x values y until period start up_to)
+HasEnough_from_IsUpTo operators.Tail x values y until xs ys (period, start) fits up_to =
+    dates_before_within until y (length values - 1) ys (λ j before.
     let same : date_at x (j + 1) ≡ date_at y j = rw (period, start) (omega arith) in
     let below : j + 1 < length values = (up_to (j + 1)).1 (rw same before) in
     omega arith)
-HasEnough-from_IsUpTo (operators.Up k) x values y until xs ys (period, start) fits up_to =
+HasEnough_from_IsUpTo (operators.Up k) x values y until xs ys (period, start) fits up_to =
     let positive : 1 ≤ k = positive_factor k y.period x.period period xs in (
       positive,
-      dates_before-within until y (length values * k) ys (λ j before.
+      dates_before_within until y (length values * k) ys (λ j before.
           let down : j / k * k * y.period ≤ j * y.period = mul-le-mul_right y.period (div-mul-le_self j k) in
-          let place : j / k * x.period ≡ j / k * k * y.period = rw (← period) (sym (mul_assoc (j / k) k y.period)) in
+          let number : j / k * x.period ≡ j / k * k * y.period = rw (← period) (sym (mul_assoc (j / k) k y.period)) in
           let below : j / k < length values = (up_to (j / k)).1 (omega arith) in
           (div-lt_iff_lt-mul positive).0 below),
     )
-HasEnough-from_IsUpTo (operators.Down k) x values y until xs ys (period, start) fits up_to = λ j below.
-    let same : date_at x (j * k) ≡ date_at y j = rw (period, start) (ap (λ n. x.start + n) (mul_assoc j k x.period)) in
-    (up_to (j * k)).1 (rw same ((dates_before-place until y j ys).0 below))
-HasEnough-from_IsUpTo (operators.Shift q) x values y until xs ys (period, start) fits up_to =
+HasEnough_from_IsUpTo (operators.Down k) x values y until xs ys (period, start) fits up_to = λ j below.
+    let turned : k * j * x.period ≡ j * (k * x.period) = ap (λ n. n * x.period) (mul_comm k j) ∙ mul_assoc j k x.period in
+    let same : date_at x (k * j) ≡ date_at y j = rw (period, start) (ap (λ n. x.start + n) turned) in
+    (up_to (k * j)).1 (rw same ((dates_before_number until y j ys).0 below))
+HasEnough_from_IsUpTo (operators.Shift q) x values y until xs ys (period, start) fits up_to =
     let order : x.start ≤ y.start = le_of_mul-le-mul_left {k = q.den} (omega arith) fits in
-    dates_before-within until y (length values) ys (λ j before. (up_to j).1 (rw (← period) (omega arith)))
+    dates_before_within until y (length values) ys (λ j before. (up_to j).1 (rw (← period) (omega arith)))
 
 -- The first instances of an operator are its flow by date.
-pub OperatorByDate-from_instances : (op : Op) (x : Clock) (values : List Value) (y : Clock) (results : List Value) (until : ℕ)
+pub OperatorByDate_from_instances : (op : Op) (x : Clock) (values : List Value) (y : Clock) (results : List Value) (until : ℕ)
     → IsClock x → IsClock y → IsResultClock op x y → IsDenominated op
     → AreFirst (instance_of_operator op values) (dates_before until y) results → OperatorByDate op x values y results until
-OperatorByDate-from_instances op x values y results until xs ys clock fits first = record {
+OperatorByDate_from_instances op x values y results until xs ys clock fits first = record {
   clock = clock;
-  up_to = IsUpTo-from_length until y results ys first.number;
+  up_to = IsUpTo_from_length until y results ys first.number;
   each = λ t (k, same) before.
-      let place : date_at y k < until = rw same at before in
-      value_at-place y results t k ys same
-      ∙ first.each k ((dates_before-place until y k ys).1 place)
-      ∙ sym (ap (value_of_operator op x values y.start) same ∙ value_of_operator-date op x values y k xs ys clock fits);
+      let number : date_at y k < until = rw same at before in
+      value_at_number y results t k ys same
+      ∙ first.each k ((dates_before_number until y k ys).1 number)
+      ∙ sym (ap (value_of_operator op x values y.start) same ∙ value_of_operator_date op x values y k xs ys clock fits);
 }
 
 -- two flows on one clock, up to one date, that have the same value at each date are one flow
 pub same_by_date : (until : ℕ) (c : Clock) (xs ys : List Value) → IsClock c → IsUpTo until c xs → IsUpTo until c ys
     → ((t : ℕ) → IsDate c t → t < until → value_at c xs t ≡ value_at c ys t) → xs ≡ ys
 same_by_date until c xs ys clock x_up_to y_up_to each =
-    same_from_elements xs ys (length-from_IsUpTo until c xs clock x_up_to ∙ sym (length-from_IsUpTo until c ys clock y_up_to)) (λ k below.
-    sym (value_at-date c xs k clock) ∙ each (date_at c k) (k, refl) ((x_up_to k).0 below) ∙ value_at-date c ys k clock)
+    same_from_elements xs ys (length_from_IsUpTo until c xs clock x_up_to ∙ sym (length_from_IsUpTo until c ys clock y_up_to)) (λ k below.
+    sym (value_at_date c xs k clock) ∙ each (date_at c k) (k, refl) ((x_up_to k).0 below) ∙ value_at_date c ys k clock)

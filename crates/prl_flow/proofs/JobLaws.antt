@@ -3,16 +3,16 @@ use Rattle.std.proofs.Common.{◌≡◌, ◌++◌, ℕ, zero, suc, Bool, true, f
 use Rattle.std.specs.Prelude.{slice_get, ◌&&◌}
 use Rattle.std.proofs.lemmas.Bool.Decides.{nat_tests}
 use Rattle.prl_base.specs.declared.values.Value.{Value}
-use Rattle.prl_body.specs.declared.bodies.Parts.{Parts}
+use Rattle.prl_body.specs.declared.bodies.CheckedBody.{CheckedBody}
 use Rattle.prl_body.specs.Bodies.{body_step, first_values}
 use Rattle.prl_flow.specs.Rows.{Rows, rows_of}
 use Rattle.prl_flow.specs.Applications.{registers_before}
 use Rattle.prl_flow.specs.JobValues.{Role, Tells, Steps, JobRow, Given, nothing_given, at_most_one, is_job, job_step, step_of, read_by, after_job, after_jobs, given_by, first_registers, inputs_along, nth_inputs}
 
-pub in-parts : (rows : Rows) (roles : ℕ → Role) (given : Given) (front back : List JobRow) →
+pub in_parts : (rows : Rows) (roles : ℕ → Role) (given : Given) (front back : List JobRow) →
     after_jobs rows roles given (front ++ back) ≡ after_jobs rows roles (after_jobs rows roles given front) back
-in-parts rows roles given [] back = refl
-in-parts rows roles given (row ∷ front) back = in-parts rows roles (after_job rows roles given row) front back
+in_parts rows roles given [] back = refl
+in_parts rows roles given (row ∷ front) back = in_parts rows roles (after_job rows roles given row) front back
 
 same : (n : ℕ) → eqb n n ≡ true
 same n = grind (arith, nat_tests)
@@ -20,8 +20,8 @@ same n = grind (arith, nat_tests)
 equal : (x y : ℕ) → eqb x y ≡ true → x ≡ y
 equal x y h = grind (arith, nat_tests)
 
-is-itself : (row : JobRow) → is_job row row.task row.job ≡ true
-is-itself row = ap (λ (b : Bool). b && eqb row.job row.job) (same row.task) ∙ same row.job
+is_itself : (row : JobRow) → is_job row row.task row.job ≡ true
+is_itself row = ap (λ (b : Bool). b && eqb row.job row.job) (same row.task) ∙ same row.job
 
 both : (a b : Bool) → (a && b) ≡ true → (a ≡ true) × (b ≡ true)
 both true b h = (refl, h)
@@ -30,7 +30,7 @@ both false b h = cc
 -- a job's own step stays what it gave
 own : (rows : Rows) (roles : ℕ → Role) (given : Given) (row : JobRow) → (after_job rows roles given row).outputs row.task row.job ≡ (step_of rows roles given row).outputs
 own rows roles given row =
-    ap (λ (b : Bool). cond b (step_of rows roles given row).outputs (given.outputs row.task row.job)) (is-itself row)
+    ap (λ (b : Bool). cond b (step_of rows roles given row).outputs (given.outputs row.task row.job)) (is_itself row)
 
 -- jobs that are not this one leave what it gave
 pub kept : (rows : Rows) (roles : ℕ → Role) (given : Given) (back : List JobRow) (i n : ℕ) →
@@ -40,11 +40,11 @@ kept rows roles given (row ∷ back) i n others =
     kept rows roles (after_job rows roles given row) back i n (λ k later is. others (suc k) later is)
     ∙ ap (λ (b : Bool). cond b (step_of rows roles given row).outputs (given.outputs i n)) (others 0 row refl)
 
-pub gives-step : (rows : Rows) (roles : ℕ → Role) (front back : List JobRow) (row : JobRow) →
+pub gives_step : (rows : Rows) (roles : ℕ → Role) (front back : List JobRow) (row : JobRow) →
     ((k : ℕ) (later : JobRow) → slice_get back k ≡ Some later → is_job later row.task row.job ≡ false) →
     (given_by rows roles (front ++ row ∷ back)).outputs row.task row.job ≡ (step_of rows roles (given_by rows roles front) row).outputs
-gives-step rows roles front back row others =
-    ap (λ (g : Given). g.outputs row.task row.job) (in-parts rows roles (nothing_given roles) front (row ∷ back))
+gives_step rows roles front back row others =
+    ap (λ (g : Given). g.outputs row.task row.job) (in_parts rows roles (nothing_given roles) front (row ∷ back))
     ∙ kept rows roles (after_job rows roles (given_by rows roles front) row) back row.task row.job others
     ∙ own rows roles (given_by rows roles front) row
 
@@ -67,34 +67,34 @@ module _ (rows : Rows) (roles : ℕ → Role) (i n sensor : ℕ) (tells : roles 
       go true is = ap (λ (b : Bool). cond b (step_of rows roles given row).outputs (given.outputs i n)) is ∙ told given row is
       go false is = ap (λ (b : Bool). cond b (step_of rows roles given row).outputs (given.outputs i n)) is ∙ h
 
-  pub gives-row : (given : Given) (table : List JobRow) (l : ℕ) (row : JobRow) → slice_get table l ≡ Some row → is_job row i n ≡ true →
+  pub gives_row : (given : Given) (table : List JobRow) (l : ℕ) (row : JobRow) → slice_get table l ≡ Some row → is_job row i n ≡ true →
       (after_jobs rows roles given table).outputs i n ≡ at_most_one (slice_get (rows_of rows sensor) n)
-  gives-row given [] l row at is = cc
-  gives-row given (x ∷ table) zero row at is =
+  gives_row given [] l row at is = cc
+  gives_row given (x ∷ table) zero row at is =
       still (after_job rows roles given x) table
       (let one : is_job x i n ≡ true = (let e : x ≡ row = cc in ap (λ (y : JobRow). is_job y i n) e ∙ is) in
       ap (λ (b : Bool). cond b (step_of rows roles given x).outputs (given.outputs i n)) one ∙ told given x one)
-  gives-row given (x ∷ table) (suc l) row at is = gives-row (after_job rows roles given x) table l row at is
+  gives_row given (x ∷ table) (suc l) row at is = gives_row (after_job rows roles given x) table l row at is
 
-pub rows-given : (rows : Rows) (roles : ℕ → Role) (table : List JobRow) (l sensor : ℕ) (row : JobRow) → slice_get table l ≡ Some row → roles row.task ≡ Tells sensor →
+pub rows_given : (rows : Rows) (roles : ℕ → Role) (table : List JobRow) (l sensor : ℕ) (row : JobRow) → slice_get table l ≡ Some row → roles row.task ≡ Tells sensor →
     (given_by rows roles table).outputs row.task row.job ≡ at_most_one (slice_get (rows_of rows sensor) row.job)
-rows-given rows roles table l sensor row at tells = gives-row rows roles row.task row.job sensor tells (nothing_given roles) table l row at (is-itself row)
+rows_given rows roles table l sensor row at tells = gives_row rows roles row.task row.job sensor tells (nothing_given roles) table l row at (is_itself row)
 
 -- The registers of a task that runs a body, by what its jobs have read.
-module _ (body : Parts) where
+module _ (body : CheckedBody) where
   -- so many steps from these registers
   abbrev steps_from : List Value → (ℕ → List Value) → ℕ → List Value
   steps_from registers inputs zero = registers
   steps_from registers inputs (suc n) = (body_step body (inputs n) (steps_from registers inputs n)).registers
 
-  are-steps : (inputs : ℕ → List Value) (n : ℕ) → steps_from (first_values body) inputs n ≡ registers_before body inputs n
-  are-steps inputs zero = refl
-  are-steps inputs (suc n) = ap (λ (r : List Value). (body_step body (inputs n) r).registers) (are-steps inputs n)
+  are_steps : (inputs : ℕ → List Value) (n : ℕ) → steps_from (first_values body) inputs n ≡ registers_before body inputs n
+  are_steps inputs zero = refl
+  are_steps inputs (suc n) = ap (λ (r : List Value). (body_step body (inputs n) r).registers) (are_steps inputs n)
 
-  one-first : (registers : List Value) (inputs : ℕ → List Value) (n : ℕ) →
+  one_first : (registers : List Value) (inputs : ℕ → List Value) (n : ℕ) →
       steps_from registers inputs (suc n) ≡ steps_from (body_step body (inputs 0) registers).registers (λ k. inputs (suc k)) n
-  one-first registers inputs zero = refl
-  one-first registers inputs (suc n) = ap (λ (r : List Value). (body_step body (inputs (suc n)) r).registers) (one-first registers inputs n)
+  one_first registers inputs zero = refl
+  one_first registers inputs (suc n) = ap (λ (r : List Value). (body_step body (inputs (suc n)) r).registers) (one_first registers inputs n)
 
   along : (rows : Rows) (roles : ℕ → Role) (i : ℕ) → roles i ≡ Steps body → (given : Given) (table : List JobRow) →
       (after_jobs rows roles given table).registers i ≡ steps_from (given.registers i) (nth_inputs (inputs_along rows roles given table i)) (length (inputs_along rows roles given table i))
@@ -118,13 +118,13 @@ module _ (body : Parts) where
           subst (λ (b : Bool). steps_from (cond b (step_of rows roles given row).registers (given.registers i)) (nth_inputs rest) (length rest)
           ≡ steps_from (given.registers i) (nth_inputs (cond b (read_by given row ∷ rest) rest)) (length (cond b (read_by given row ∷ rest) rest))) (sym is)
           (ap (λ (r : List Value). steps_from r (nth_inputs rest) (length rest)) step
-          ∙ sym (one-first (given.registers i) (nth_inputs (read_by given row ∷ rest)) (length rest)))
+          ∙ sym (one_first (given.registers i) (nth_inputs (read_by given row ∷ rest)) (length rest)))
 
-  pub registers-along : (rows : Rows) (roles : ℕ → Role) (i : ℕ) → roles i ≡ Steps body → (table : List JobRow) →
+  pub registers_along : (rows : Rows) (roles : ℕ → Role) (i : ℕ) → roles i ≡ Steps body → (table : List JobRow) →
       (given_by rows roles table).registers i
       ≡ registers_before body (nth_inputs (inputs_along rows roles (nothing_given roles) table i)) (length (inputs_along rows roles (nothing_given roles) table i))
-  registers-along rows roles i runs table =
+  registers_along rows roles i runs table =
       along rows roles i runs (nothing_given roles) table
       ∙ ap (λ (r : List Value). steps_from r (nth_inputs (inputs_along rows roles (nothing_given roles) table i)) (length (inputs_along rows roles (nothing_given roles) table i)))
       (ap first_registers runs)
-      ∙ are-steps (nth_inputs (inputs_along rows roles (nothing_given roles) table i)) (length (inputs_along rows roles (nothing_given roles) table i))
+      ∙ are_steps (nth_inputs (inputs_along rows roles (nothing_given roles) table i)) (length (inputs_along rows roles (nothing_given roles) table i))

@@ -1,4 +1,3 @@
-pub mod Lists
 pub mod ClockDates
 pub mod Applied
 pub mod Placed
@@ -6,7 +5,7 @@ pub mod Types
 pub mod Solved
 pub mod Ahead
 pub mod Progressed
-pub mod Callers
-pub mod Chains
-pub mod Sums
+pub mod Examples
 pub mod JobLaws
+-- for the crates above: the elements of lists by their numbers
+pub mod Lists

@@ -1,11 +1,11 @@
 -- The text that a run of the actuators writes.
-use Rattle.std.specs.Prelude.{◌-◌, ◌/◌, ◌%◌, ◌==◌, ◌&&◌, ◌++◌, ℕ, zero, suc, Bool, true, false, List, [], ◌∷◌, Option, Some, None, nat_le, if◌then◌else◌, codes, All}
+use Rattle.std.specs.Prelude.{◌-◌, ◌/◌, ◌%◌, ◌==◌, ◌&&◌, ◌++◌, ℕ, zero, suc, Bool, List, [], ◌∷◌, Option, Some, None, nat_le, if◌then◌else◌, All}
 use Rattle.std.specs.List.{flat_map}
-use Rattle.std.specs.Fmt.{decimal, signed_decimal}
+use Rattle.std.specs.Fmt.{decimal}
 use Rattle.prl_base.specs.Clocks.{IsClock}
 use Rattle.prl_base.specs.declared.operators.Clock.{Clock}
 use Rattle.prl_base.specs.declared.values.Value.{Value}
-use Rattle.prl_base.specs.declared.values.Value.TheVariants as variants
+use Rattle.prl_base.specs.Texts.{value_text}
 use Rattle.prl_flow.specs.declared.programs.OutFlow.{OutFlow}
 use Rattle.prl_flow.specs.Flows.{IsUpTo, value_at}
 
@@ -33,12 +33,6 @@ row_at t out = if is_date out.clock t then row_with t out (value_at out.clock ou
 abbrev pub actuator_rows : ℕ → List OutFlow → List Row
 actuator_rows zero outs = []
 actuator_rows (suc t) outs = actuator_rows t outs ++ flat_map (row_at t) outs
-
--- a value as it is written
-abbrev pub value_text : Value → List ℕ
-value_text (variants.Int n) = signed_decimal n
-value_text (variants.Bool true) = codes "true"
-value_text (variants.Bool false) = codes "false"
 
 -- a row as it is written: name, instance, date, value, and a line feed
 abbrev pub row_text : Row → List ℕ

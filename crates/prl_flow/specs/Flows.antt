@@ -1,6 +1,7 @@
 -- Flows by date: what a flow is, and what each operator makes of one. No instance number occurs in the operators.
-use Rattle.std.specs.Prelude.{◌≡◌, ◌+◌, ◌-◌, ◌*◌, ◌/◌, ◌==◌, ◌<◌, ◌↔◌, ℕ, List, length, Option, Some, slice_get, nat_abs, if◌then◌else◌}
+use Rattle.std.specs.Prelude.{◌≡◌, ◌-◌, ◌*◌, ◌/◌, ◌==◌, ◌<◌, ◌↔◌, ℕ, List, length, Option, Some, slice_get, nat_abs, if◌then◌else◌}
 use Rattle.prl_base.specs.Clocks.{date_at, IsDate}
+use Rattle.prl_base.specs.Operators.{IsResultClock}
 use Rattle.prl_base.specs.Ratios.{Fraction}
 use Rattle.prl_base.specs.declared.operators.Clock.{Clock}
 use Rattle.prl_base.specs.declared.operators.Op.{Op}
@@ -18,21 +19,6 @@ value_at c values t = slice_get values ((t - c.start) / c.period)
 -- by how much `~> q` delays a flow of this period
 abbrev pub delay : Fraction → ℕ → ℕ
 delay q period = nat_abs q.num * period / q.den
-
--- The clock `y` of an operator's result, where `x` is the clock of the flow that it stands on.
-abbrev pub IsResultClock : Op → Clock → Clock → Type 0
--- `c fby x`: the clock of x
-IsResultClock (operators.Fby c) x y = (y.period ≡ x.period) × (y.start ≡ x.start)
--- `c :: x`: a period earlier
-IsResultClock (operators.Cons c) x y = (y.period ≡ x.period) × (y.start + x.period ≡ x.start)
--- `tail x`: a period later
-IsResultClock operators.Tail x y = (y.period ≡ x.period) × (y.start ≡ x.start + x.period)
--- `x *^ k`: k times as fast
-IsResultClock (operators.Up k) x y = (k * y.period ≡ x.period) × (y.start ≡ x.start)
--- `x /^ k`: k times as slow
-IsResultClock (operators.Down k) x y = (y.period ≡ k * x.period) × (y.start ≡ x.start)
--- `x ~> q`: later by q periods
-IsResultClock (operators.Shift q) x y = (y.period ≡ x.period) × (q.den * y.start ≡ q.den * x.start + nat_abs q.num * x.period)
 
 -- The value of an operator's result at its date `t`, where `first` is its first date and the flow that it stands on
 -- has the clock `x` and these values.

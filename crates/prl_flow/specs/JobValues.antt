@@ -2,7 +2,7 @@
 use Rattle.std.specs.Prelude.{ℕ, pos, Bool, List, [], ◌∷◌, map, Option, Some, None, slice_get, slice_index_or, unwrap_or, ◌==◌, ◌&&◌, if◌then◌else◌}
 use Rattle.prl_base.specs.declared.values.Value.{Value}
 use Rattle.prl_base.specs.declared.values.Value.TheVariants as values
-use Rattle.prl_body.specs.declared.bodies.Parts.{Parts}
+use Rattle.prl_body.specs.declared.bodies.CheckedBody.{CheckedBody}
 use Rattle.prl_body.specs.Bodies.{Stepped, body_step, first_values}
 use Rattle.prl_flow.specs.Rows.{Rows, rows_of}
 
@@ -11,7 +11,7 @@ pub data Role : Type 0 where
   -- they tell the rows of the sensor of this number
   Tells : ℕ → Role
   -- each makes one step of the body
-  Steps : Parts → Role
+  Steps : CheckedBody → Role
   -- they drive an actuator
   Drives : Role
 

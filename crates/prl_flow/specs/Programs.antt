@@ -30,7 +30,7 @@ name_of devices k = (slice_index_or devices k ([], 0)).0
 abbrev pub wcet_of : List Device → ℕ → ℕ
 wcet_of devices k = (slice_index_or devices k ([], 0)).1
 
--- a factor, a WCET or a period: 1 to 2^31 - 1
+-- in the range of factors, WCETs and periods: 1 to 2^31 - 1
 abbrev pub IsFactor : ℕ → Type 0
 IsFactor k = (1 ≤ k) × (k < 2 ^ 31)
 

@@ -3,7 +3,7 @@ use Rattle.std.specs.Prelude.{◌≡◌, ◌<◌, ℕ, List, length, Option, Som
 use Rattle.prl_base.specs.declared.operators.Clock.{Clock}
 use Rattle.prl_base.specs.declared.values.Value.{Value}
 use Rattle.prl_base.specs.Values.{type_of}
-use Rattle.prl_body.specs.declared.bodies.Parts.{Parts}
+use Rattle.prl_body.specs.declared.bodies.CheckedBody.{CheckedBody}
 use Rattle.prl_flow.specs.declared.programs.Def.TheVariants as definitions
 use Rattle.prl_flow.specs.declared.programs.Flow.{Flow}
 use Rattle.prl_flow.specs.Flows.{IsUpTo}
@@ -20,7 +20,7 @@ pub record AreComputed (p : FlatProgram) (clocks : List Clock) (until : ℕ) (fl
   pub typed : 0 < length p.apps → (i : ℕ) → i < length flows → HaveTypeOf p i (values_of flows i)
 
 -- the values are the flow i, an output of an application whose arguments are among these flows
-pub record IsAhead (p : FlatProgram) (clocks : List Clock) (bodies : List Parts) (until : ℕ) (flows : List (List Value)) (i : ℕ) (values : List Value) : Type 0 where
+pub record IsAhead (p : FlatProgram) (clocks : List Clock) (bodies : List CheckedBody) (until : ℕ) (flows : List (List Value)) (i : ℕ) (values : List Value) : Type 0 where
   pub flow : Flow
   pub app : ℕ
   pub out : ℕ
@@ -31,13 +31,13 @@ pub record IsAhead (p : FlatProgram) (clocks : List Clock) (bodies : List Parts)
   pub below : UsesBelow p (length flows) (definitions.Apply app out)
   pub typed : HaveTypeOf p i values
 
--- each place holds what its flow is, or nothing
-abbrev pub AreAhead : FlatProgram → List Clock → List Parts → ℕ → List (List Value) → List (Option (List Value)) → Type 0
-AreAhead p clocks bodies until flows places =
-    (i : ℕ) (values : List Value) → slice_get places i ≡ Some (Some values) → IsAhead p clocks bodies until flows i values
+-- each slot holds what its flow is, or nothing
+abbrev pub AreAhead : FlatProgram → List Clock → List CheckedBody → ℕ → List (List Value) → List (Option (List Value)) → Type 0
+AreAhead p clocks bodies until flows slots =
+    (i : ℕ) (values : List Value) → slice_get slots i ≡ Some (Some values) → IsAhead p clocks bodies until flows i values
 
--- where the flow i is an output of an application, its place holds it
+-- where the flow i is an output of an application, its slot holds it
 abbrev pub HasOutput : FlatProgram → ℕ → List (Option (List Value)) → Type 0
-HasOutput p i places =
+HasOutput p i slots =
     (flow : Flow) (app out : ℕ) → slice_get p.flows i ≡ Some flow → flow.def ≡ definitions.Apply app out →
-    (values : List Value) × (slice_get places i ≡ Some (Some values))
+    (values : List Value) × (slice_get slots i ≡ Some (Some values))

@@ -4,15 +4,16 @@ use Rattle.prl_base.specs.Clocks.{IsClock, date_at, IsDate}
 use Rattle.prl_base.specs.declared.operators.Clock.{Clock}
 use Rattle.prl_base.specs.declared.numbers.FlowNo.{FlowNo}
 use Rattle.prl_base.specs.declared.values.Value.{Value}
+use Rattle.prl_base.specs.Operators.{IsResultClock}
 use Rattle.prl_base.specs.Values.{type_of}
-use Rattle.prl_body.specs.declared.bodies.Parts.{Parts}
+use Rattle.prl_body.specs.declared.bodies.CheckedBody.{CheckedBody}
 use Rattle.prl_body.specs.Bodies.{body_named}
 use Rattle.prl_flow.specs.declared.programs.App.{App}
 use Rattle.prl_flow.specs.declared.programs.Arg.{Arg}
 use Rattle.prl_flow.specs.declared.programs.Def.{Def}
 use Rattle.prl_flow.specs.declared.programs.Def.TheVariants as definitions
 use Rattle.prl_flow.specs.declared.programs.Flow.{Flow}
-use Rattle.prl_flow.specs.Flows.{IsUpTo, value_at, IsResultClock, OperatorByDate}
+use Rattle.prl_flow.specs.Flows.{IsUpTo, value_at, OperatorByDate}
 use Rattle.prl_flow.specs.Applications.{nth_step, values_at}
 use Rattle.prl_flow.specs.Programs.{FlatProgram, HasType}
 use Rattle.prl_flow.specs.Rows.{Rows, rows_of}
@@ -52,16 +53,16 @@ argument_flows flows app = map (λ (a : Arg). values_of flows a.flow.0) app.args
 
 -- The flow `values` is this output of the application of number k: at each date of its clock the body of the
 -- application's name makes one step on the arguments' values at that date, and this is the step's output.
-pub record IsOutputFlow (apps : List App) (bodies : List Parts) (until : ℕ) (flows : List (List Value)) (c : Clock) (values : List Value) (k out : ℕ) : Type 0 where
+pub record IsOutputFlow (apps : List App) (bodies : List CheckedBody) (until : ℕ) (flows : List (List Value)) (c : Clock) (values : List Value) (k out : ℕ) : Type 0 where
   pub app : App
-  pub body : Parts
+  pub body : CheckedBody
   pub applied : slice_get apps k ≡ Some app
   pub named : body_named bodies app.name ≡ Some body
   pub each : (n : ℕ) → date_at c n < until →
       value_at c values (date_at c n) ≡ slice_get (nth_step body (values_at c (argument_flows flows app)) n).outputs out
 
 -- the flow `values` on the clock `c` meets its definition, among all flows
-abbrev pub MeetsDefinition : FlatProgram → List Clock → List Parts → Rows → ℕ → List (List Value) → Clock → List Value → Def → Type 0
+abbrev pub MeetsDefinition : FlatProgram → List Clock → List CheckedBody → Rows → ℕ → List (List Value) → Clock → List Value → Def → Type 0
 -- a sensor's flow has the first rows of the sensor, one for each date
 MeetsDefinition p clocks bodies rows until flows c values (definitions.Sensor k) = values ≡ take (length values) (rows_of rows k)
 -- a copy has the values of the other flow
@@ -75,7 +76,7 @@ MeetsDefinition p clocks bodies rows until flows c values (definitions.Op op of)
 
 -- These are flows of the program up to the date `until`, one for each of its flows in order, for these bodies and
 -- sensor rows. They leave no choice of registers: these are what the steps before have made of the first values.
-pub record Solves (p : FlatProgram) (clocks : List Clock) (bodies : List Parts) (rows : Rows) (until : ℕ) (flows : List (List Value)) : Type 0 where
+pub record Solves (p : FlatProgram) (clocks : List Clock) (bodies : List CheckedBody) (rows : Rows) (until : ℕ) (flows : List (List Value)) : Type 0 where
   pub count : length flows ≡ length p.flows
   pub up_to : (i : ℕ) → i < length flows → IsUpTo until (clock_of clocks i) (values_of flows i)
   pub meets : (i : ℕ) (flow : Flow) → slice_get p.flows i ≡ Some flow →

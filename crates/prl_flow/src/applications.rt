@@ -150,36 +150,36 @@ fn outputs_of(
     Ok(outputs)
 }
 
-/// Puts the values of the outputs into the places of their flows.
-fn place(outs: &[FlowNo], outputs: Vec<Output>, places: &mut [Option<Seq<Value>>])
+/// Puts the values of the outputs into the slots of their flows.
+fn fill(outs: &[FlowNo], outputs: Vec<Output>, slots: &mut [Option<Seq<Value>>])
     requires number { length outputs.items ≡ length outs.now }
-    requires within { (out : ℕ) (flow : AnyFlow) → slice_get outs.now out ≡ Some flow → flow.0 < length places.old }
-    ensures { ArePlaced outs.now outputs.items places.old places.new }
+    requires within { (out : ℕ) (flow : AnyFlow) → slice_get outs.now out ≡ Some flow → flow.0 < length slots.old }
+    ensures { ArePlaced outs.now outputs.items slots.old slots.new }
 {
     let mut outputs = outputs;
     while let Some(output) = outputs.pop() {
         let flow = outs[outputs.len()];
-        places[flow.0 as usize] = Some(output.into_seq());
+        slots[flow.0 as usize] = Some(output.into_seq());
     }
 }
 
-/// Puts the outputs of the application at its first `count` dates into the places of their flows.
+/// Puts the outputs of the application at its first `count` dates into the slots of their flows.
 pub(crate) fn apply(
     alloc: Global,
     app: &App,
     body: &Body,
     flows: &[Seq<Value>],
     count: usize,
-    places: &mut [Option<Seq<Value>>],
+    slots: &mut [Option<Seq<Value>>],
 ) -> Result<(), AllocError>
     requires count { count < 2 ^ 63 }
     requires arguments { HasArguments flows.now app.now count }
     requires inputs { (n : ℕ) → n < count → map type_of (instance_values (argument_flows flows.now app.now) n) ≡ input_types body.now }
     requires outputs { length app.now.outs ≡ length (output_types body.now) }
-    requires within { (out : ℕ) (flow : AnyFlow) → slice_get app.now.outs out ≡ Some flow → flow.0 < length places.old }
-    ensures { OnOk result (AppliesTo body.now flows.now app.now count places.old places.new) }
+    requires within { (out : ℕ) (flow : AnyFlow) → slice_get app.now.outs out ≡ Some flow → flow.0 < length slots.old }
+    ensures { OnOk result (AppliesTo body.now flows.now app.now count slots.old slots.new) }
 {
     let outputs = outputs_of(alloc, app, body, flows, count)?;
-    place(app.outs.as_slice(), outputs, places);
+    fill(app.outs.as_slice(), outputs, slots);
     Ok(())
 }

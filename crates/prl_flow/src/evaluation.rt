@@ -3,7 +3,7 @@
 ghost use Rattle.std.specs.Prelude.{◌≡◌, ◌<◌, ◌≤◌, ◌^◌, length, replicate, List, None, OnOk, IfOk, IfErr};
 ghost use Rattle.prl_base.specs.Clocks.{IsClock};
 ghost use Rattle.prl_flow.specs.Flows.{IsUpTo};
-ghost use Rattle.prl_body.specs.declared.bodies.Parts.{Parts};
+ghost use Rattle.prl_body.specs.declared.bodies.CheckedBody.{CheckedBody};
 ghost use Rattle.prl_flow.specs.Applications.{HaveBodies};
 ghost use Rattle.prl_flow.specs.Instances.{HasSource};
 ghost use Rattle.prl_flow.specs.Programs.{FlatProgram};
@@ -31,6 +31,17 @@ pub enum FlowFault {
     /// The flows have more than 4,000,000 values.
     Limit(Limit),
     Memory,
+}
+
+impl From<AllocError> for FlowFault {
+    ghost use Rattle.std.specs.Prelude.{◌≡◌};
+    ghost use Rattle.prl_flow.specs.declared.evaluation.FlowFault.TheVariants.{Memory};
+
+    ghost from_gives = { λ _ e. e ≡ Memory };
+
+    fn from(_error: AllocError) -> FlowFault {
+        FlowFault::Memory
+    }
 }
 
 /// The flows of a program up to a date. Contracts see the list of the lists of their values.
@@ -71,7 +82,7 @@ fn next_values(
     requires clock { IsClock clock }
     requires source { HasSource clocks.now sensors.now until flows.now clock def }
     ensures up_to { IfOk result (λ v. IsUpTo until clock v.items) }
-    ensures meets { IfOk result (λ v. (p : FlatProgram) (bodies : List Parts) → MeetsDefinition p clocks.now bodies sensors.now until flows.now clock v.items def) }
+    ensures meets { IfOk result (λ v. (p : FlatProgram) (bodies : List CheckedBody) → MeetsDefinition p clocks.now bodies sensors.now until flows.now clock v.items def) }
 {
     let count = dates_before(until, clock) as usize;
     match def {
@@ -84,7 +95,7 @@ fn next_values(
 }
 
 /// Where the next flow, of number `i`, is the first output of its application that comes, puts the values of
-/// all the outputs into the places of their flows.
+/// all the outputs into the slots of their flows.
 fn look_ahead(
     alloc: Global,
     flat: &Flat,
@@ -98,7 +109,7 @@ fn look_ahead(
     requires until { until < 2 ^ 31 }
     requires next { length flows.now ≡ i }
     requires within { i < length flat.now.flows }
-    requires places { length ahead.old ≡ length flat.now.flows }
+    requires slots { length ahead.old ≡ length flat.now.flows }
     requires clocks { AreClocks flat.now clocks.now }
     requires bodies { HaveBodies flat.now bodies.now }
     requires ordered { IsOrdered flat.now }
@@ -126,15 +137,15 @@ fn look_ahead(
     }
 }
 
-/// So many places, all empty.
-fn empty_places(alloc: Global, number: usize) -> Result<Vec<Option<Seq<Value>>>, AllocError>
+/// So many slots, all empty.
+fn empty_slots(alloc: Global, number: usize) -> Result<Vec<Option<Seq<Value>>>, AllocError>
     ensures { IfOk result (λ v. v.items ≡ replicate number None) }
 {
-    let mut places = Vec::with_capacity(alloc, number)?;
+    let mut slots = Vec::with_capacity(alloc, number)?;
     for _ in 0..number {
-        places.push(None)?;
+        slots.push(None)?;
     }
-    Ok(places)
+    Ok(slots)
 }
 
 /// The solution of the program.
@@ -157,7 +168,7 @@ fn solution(
     let definitions = flat.flows();
     let mut flows = Vec::with_capacity(alloc, definitions.len())?;
     // The outputs of applications that are known before the loop comes to their flows.
-    let mut ahead = empty_places(alloc, definitions.len())?;
+    let mut ahead = empty_slots(alloc, definitions.len())?;
     for (i, flow) in definitions.iter().enumerate() {
         look_ahead(alloc, flat, clocks, bodies, i, until, &flows, &mut ahead)?;
         let values = match ahead[i].take() {
@@ -203,8 +214,6 @@ pub fn evaluate(
             found: values,
         }));
     }
-    match solution(alloc, flat, clocks, bodies, sensors, until) {
-        Ok(table) => Ok(table),
-        Err(_) => Err(FlowFault::Memory),
-    }
+    let table = solution(alloc, flat, clocks, bodies, sensors, until)?;
+    Ok(table)
 }

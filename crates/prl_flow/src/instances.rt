@@ -70,17 +70,18 @@ fn repeated(
 
 /// The first of each `factor` values of the flow, `count` in all.
 fn sampled(alloc: Global, of: &[Value], factor: u32, count: usize) -> Result<Vec<Value>, AllocError>
-    requires { (j : ℕ) → j < count → j * factor < length of.now }
-    ensures { IfOk result (λ v. AreFirst (λ j. slice_get of.now (j * factor)) count v.items) }
+    requires { (j : ℕ) → j < count → factor * j < length of.now }
+    ensures { IfOk result (λ v. AreFirst (λ j. slice_get of.now (factor * j)) count v.items) }
 {
     let mut values = Vec::with_capacity(alloc, count)?;
     for instance in 0..count {
-        values.push(of[instance * factor as usize])?;
+        values.push(of[factor as usize * instance])?;
     }
     Ok(values)
 }
 
 /// The first `count` values that the operator makes of the flow.
+#[tactic(auto, using(crate::proofs::Lists::constant_first))]
 pub(crate) fn operator_values(
     alloc: Global,
     op: Op,

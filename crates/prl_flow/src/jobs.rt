@@ -1,12 +1,12 @@
 //! Laws of values by instance, as functions that do nothing: the contract of each is the law, over the definitions alone.
 
 ghost use Rattle.std.specs.Prelude.{◌≡◌, ◌++◌, ◌∷◌, ℕ, List, Bool, false, Some, length, slice_get};
-ghost use Rattle.prl_body.specs.declared.bodies.Parts.{Parts};
+ghost use Rattle.prl_body.specs.declared.bodies.CheckedBody.{CheckedBody};
 ghost use Rattle.prl_flow.specs.Applications.{registers_before};
 ghost use Rattle.prl_flow.specs.Rows.{Rows, rows_of};
 ghost use Rattle.prl_flow.specs.JobValues.{Role, Tells, Steps, JobRow, Given, at_most_one, is_job, step_of, nothing_given, after_jobs, given_by, inputs_along, nth_inputs};
 
-/// What a job of a table gives depends on the jobs before it alone: it is its step behind these, whatever comes later.
+/// What a job of a table gives depends on the jobs before it alone: it is its step after these, whatever comes later.
 pub fn jobs_give_once()
     ensures parts { (rows : Rows) (roles : ℕ → Role) (given : Given) (front back : List JobRow) →
         after_jobs rows roles given (front ++ back) ≡ after_jobs rows roles (after_jobs rows roles given front) back }
@@ -22,9 +22,9 @@ pub fn sensors_give_rows()
         (given_by rows roles table).outputs row.task row.job ≡ at_most_one (slice_get (rows_of rows sensor) row.job) }
 {}
 
-/// The registers of a task that runs a body are those behind one step after another on what its jobs have read.
+/// The registers of a task that runs a body are those after one step after another on what its jobs have read.
 pub fn jobs_keep_registers()
-    ensures { (body : Parts) (rows : Rows) (roles : ℕ → Role) (i : ℕ) → roles i ≡ Steps body → (table : List JobRow) →
+    ensures { (body : CheckedBody) (rows : Rows) (roles : ℕ → Role) (i : ℕ) → roles i ≡ Steps body → (table : List JobRow) →
         (given_by rows roles table).registers i
         ≡ registers_before body (nth_inputs (inputs_along rows roles (nothing_given roles) table i)) (length (inputs_along rows roles (nothing_given roles) table i)) }
 {}

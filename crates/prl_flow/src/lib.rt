@@ -10,10 +10,6 @@ mod instances;
 mod jobs;
 mod programs;
 mod rows;
-#[cfg(test)]
-mod sums_tests;
-#[cfg(test)]
-mod tests;
 
 pub use dates::dates_before;
 pub use evaluation::{FlowFault, FlowTable, evaluate};

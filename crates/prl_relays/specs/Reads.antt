@@ -3,7 +3,7 @@ use Rattle.std.specs.Prelude.{◌++◌, ℕ, List, [], ◌∷◌, slice_index_or
 use Rattle.std.specs.Fmt.{decimal}
 use Rattle.std.specs.List.{concat}
 use Rattle.prl_base.specs.declared.values.Value.{Value}
-use Rattle.prl_flow.specs.Actuators.{value_text}
+use Rattle.prl_base.specs.Texts.{value_text}
 use Rattle.prl_core.specs.declared.seen.Seen.{Seen}
 use Rattle.prl_core.specs.declared.seen.Seen.TheVariants as sights
 

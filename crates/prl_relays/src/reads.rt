@@ -3,7 +3,7 @@
 ghost use Rattle.std.specs.Prelude.{◌≡◌, ◌++◌, [], IfOk, OnOk};
 ghost use Rattle.std.specs.List.{flat_map};
 ghost use Rattle.std.specs.Vec.{vec_items};
-ghost use Rattle.prl_flow.specs.Actuators.{value_text};
+ghost use Rattle.prl_base.specs.Texts.{value_text};
 ghost use Rattle.prl_relays.specs.Reads.{name_at, read_line, value_line};
 
 use itoa::Buffer;

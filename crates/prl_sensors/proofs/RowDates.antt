@@ -24,8 +24,8 @@ date_of c t date =
     omega (arith, div-add-mod' (t - c.start) c.period)
 
 -- where the actuator has no value of the date's number it has no row
-pub row_at-none : (out : OutFlow) (t : ℕ) → ((k : ℕ) → t ≡ date_at out.clock k → length out.values ≤ k) → row_at t out ≡ []
-row_at-none out t past = elim (cases_Bool (is_date out.clock t)) [
+pub row_at_none : (out : OutFlow) (t : ℕ) → ((k : ℕ) → t ≡ date_at out.clock k → length out.values ≤ k) → row_at t out ≡ []
+row_at_none out t past = elim (cases_Bool (is_date out.clock t)) [
   | inl date ↦
       let none : value_at out.clock out.values t ≡ None = slice_get_past out.values ((t - out.clock.start) / out.clock.period) (past _ (date_of out.clock t date)) in
       rw (date, none) refl
@@ -36,32 +36,32 @@ row_at-none out t past = elim (cases_Bool (is_date out.clock t)) [
 pub date_order : (c : Clock) (j k : ℕ) → date_at c j < date_at c k → j < k
 date_order c j k before = lt_of_mul-lt-mul_right c.period (omega arith)
 
-pub EndsBefore-more : (a b : ℕ) (out : OutFlow) → a ≤ b → EndsBefore a out → EndsBefore b out
-EndsBefore-more a b out order ends = record { clock = ends.clock; dates = λ k within. let h : date_at out.clock k < a = ends.dates k within in omega arith }
+pub EndsBefore_more : (a b : ℕ) (out : OutFlow) → a ≤ b → EndsBefore a out → EndsBefore b out
+EndsBefore_more a b out order ends = record { clock = ends.clock; dates = λ k within. let h : date_at out.clock k < a = ends.dates k within in omega arith }
 
-pub EndsBefore-from_AreUpTo : (until : ℕ) (outs : List OutFlow) → AreUpTo until outs → All (EndsBefore until) outs
-EndsBefore-from_AreUpTo until outs up_to = λ k d within. let out = up_to k d within in record { clock = out.0; dates = λ j below. (out.1 j).0 below }
+pub EndsBefore_from_AreUpTo : (until : ℕ) (outs : List OutFlow) → AreUpTo until outs → All (EndsBefore until) outs
+EndsBefore_from_AreUpTo until outs up_to = λ k d within. let out = up_to k d within in record { clock = out.0; dates = λ j below. (out.1 j).0 below }
 
 pub no_rows_after_end : (end : ℕ) (outs : List OutFlow) (t : ℕ) → All (EndsBefore end) outs → end ≤ t → flat_map (row_at t) outs ≡ []
 no_rows_after_end end [] t ends late = refl
 no_rows_after_end end (out ∷ outs) t ends late =
     let first : EndsBefore end out = All-head (EndsBefore end) out outs ends in
-    let none : row_at t out ≡ [] = row_at-none out t (λ k same. elim (cases_lt k (length out.values)) [
+    let none : row_at t out ≡ [] = row_at_none out t (λ k same. elim (cases_lt k (length out.values)) [
       | inl within ↦ let h : date_at out.clock k < end = first.dates k within in absurd (omega arith)
       | inr past ↦ past
     ]) in
     rw (none, no_rows_after_end end outs t (All-tail (EndsBefore end) out outs ends) late) refl
 
 -- the text does not grow where there is no row
-actuator_rows-skip : (outs : List OutFlow) (a b : ℕ) → a ≤ b → ((t : ℕ) → a ≤ t → t < b → flat_map (row_at t) outs ≡ []) → actuator_rows b outs ≡ actuator_rows a outs
-actuator_rows-skip outs a zero order none = let e : a ≡ zero = omega arith in rw e refl
-actuator_rows-skip outs a (suc b) order none = elim (cases_lt b a) [
+actuator_rows_skip : (outs : List OutFlow) (a b : ℕ) → a ≤ b → ((t : ℕ) → a ≤ t → t < b → flat_map (row_at t) outs ≡ []) → actuator_rows b outs ≡ actuator_rows a outs
+actuator_rows_skip outs a zero order none = let e : a ≡ zero = omega arith in rw e refl
+actuator_rows_skip outs a (suc b) order none = elim (cases_lt b a) [
   | inl less ↦ let e : a ≡ suc b = omega arith in rw e refl
-  | inr more ↦ rw (none b more (omega arith)) (append-nil (actuator_rows b outs) ∙ actuator_rows-skip outs a b more (λ t from before. none t from (omega arith)))
+  | inr more ↦ rw (none b more (omega arith)) (append-nil (actuator_rows b outs) ∙ actuator_rows_skip outs a b more (λ t from before. none t from (omega arith)))
 ]
 
-pub actuator_text-skip : (outs : List OutFlow) (a b : ℕ) → a ≤ b → ((t : ℕ) → a ≤ t → t < b → flat_map (row_at t) outs ≡ []) → actuator_text b outs ≡ actuator_text a outs
-actuator_text-skip outs a b order none = ap (flat_map row_text) (actuator_rows-skip outs a b order none)
+pub actuator_text_skip : (outs : List OutFlow) (a b : ℕ) → a ≤ b → ((t : ℕ) → a ≤ t → t < b → flat_map (row_at t) outs ≡ []) → actuator_text b outs ≡ actuator_text a outs
+actuator_text_skip outs a b order none = ap (flat_map row_text) (actuator_rows_skip outs a b order none)
 
-pub actuator_text-more : (outs : List OutFlow) (t : ℕ) → actuator_text (t + 1) outs ≡ actuator_text t outs ++ flat_map row_text (flat_map (row_at t) outs)
-actuator_text-more outs t = rw add-one (flat_map-append row_text (actuator_rows t outs) (flat_map (row_at t) outs))
+pub actuator_text_more : (outs : List OutFlow) (t : ℕ) → actuator_text (t + 1) outs ≡ actuator_text t outs ++ flat_map row_text (flat_map (row_at t) outs)
+actuator_text_more outs t = rw add-one (flat_map-append row_text (actuator_rows t outs) (flat_map (row_at t) outs))

@@ -1,38 +1,17 @@
 //! The text of the actuators' rows, by date.
 
-ghost use Rattle.std.specs.Prelude.{◌≡◌, ◌^◌, ◌<◌, ◌++◌, ℕ, All, IfOk, OnOk, decimal};
+ghost use Rattle.std.specs.Prelude.{◌≡◌, ◌^◌, ◌<◌, ◌++◌, ℕ, All, IfOk, OnOk};
 ghost use Rattle.std.specs.List.{flat_map};
 ghost use Rattle.prl_base.specs.Clocks.{IsClock};
-ghost use Rattle.prl_flow.specs.Actuators.{AreUpTo, actuator_text, row_at, row_text, value_text};
+ghost use Rattle.prl_flow.specs.Actuators.{AreUpTo, actuator_text, row_at, row_text};
 
 use crate::ends::{end_of, next_date};
-use itoa::Buffer;
-use prl_base::Value;
+use prl_base::{Value, push_number, push_value};
 use prl_flow::OutFlow;
 use std::alloc::{AllocError, Global};
 
 /// The fewest bytes of a row.
 const ROW_BYTES: usize = 8;
-
-fn push_number(text: &mut Vec<u8>, number: u64) -> Result<(), AllocError>
-    ensures { OnOk result (text.new.items ≡ text.old.items ++ decimal number) }
-{
-    let mut buffer = Buffer::new();
-    text.extend_from_slice(buffer.format(number).as_bytes())
-}
-
-fn push_value(text: &mut Vec<u8>, value: Value) -> Result<(), AllocError>
-    ensures { OnOk result (text.new.items ≡ text.old.items ++ value_text value) }
-{
-    match value {
-        Value::Int(number) => {
-            let mut buffer = Buffer::new();
-            text.extend_from_slice(buffer.format(number).as_bytes())
-        }
-        Value::Bool(true) => text.extend_from_slice(b"true"),
-        Value::Bool(false) => text.extend_from_slice(b"false"),
-    }
-}
 
 /// Appends the row of an actuator.
 fn push_row(

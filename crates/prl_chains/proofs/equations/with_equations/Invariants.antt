@@ -5,7 +5,7 @@ use Rattle.prl_chains.specs.Equations.{with_equations, AreDefined}
 use Rattle.prl_chains.proofs.ChainEquations.{AreCounted}
 use Rattle.prl_chains.proofs.equations.with_equations.Given as goal
 
--- what is defined so far, and behind it what the equations that are left define, is all
+-- what is defined so far, and after it what the equations that are left define, is all
 abbrev pub invariant-loop-equation : goal.invariant-loop-equation
 invariant-loop-equation l = record {
   counted : AreCounted l.equation-index l.defined;

@@ -2,7 +2,7 @@ use Rattle.std.proofs.Common.{List, [], ◌∷◌, ◌++◌, IfSome, length, ap,
 use Rattle.prl_chains.specs.declared.links.Link.{Link}
 use Rattle.prl_chains.specs.Equations.{Definitions}
 use Rattle.prl_chains.specs.Links.{IsLink}
-use Rattle.prl_chains.proofs.ChainLinks.{AreDefined-pushed}
+use Rattle.prl_chains.proofs.ChainLinks.{AreDefined_pushed}
 use Rattle.prl_chains.proofs.equations.with_link.Goals as goal
 
 pub returns-in_ok-push-in-Some-clause-sound : goal.returns-in_ok-push-in-Some-clause-sound
@@ -14,4 +14,4 @@ returns-in_ok-push-in-Some-clause-sound c =
     let made = subst (λ o. IfSome o (IsLink [] others (length others))) c.in-Some.is c.in_ok-link_of.ensures.link in
     let next = subst (λ (ls : List Link). IsLink [] ls (length ls) link) (c.deref.ensures.value ∙ links) made in
     let more = c.in_ok-push-in-Some.ensures.items ∙ ap (λ (ls : List Link). ls ++ link ∷ []) links in
-    λ imports h. AreDefined-pushed imports c.args.defined link c.push.new.self.items c.defined.inside.apps.items more apps h next
+    λ imports h. AreDefined_pushed imports c.args.defined link c.push.new.self.items c.defined.inside.apps.items more apps h next

@@ -3,7 +3,7 @@ use Rattle.prl_base.specs.declared.operators.Clock.{Clock}
 use Rattle.prl_base.specs.declared.operators.Op.{Op}
 use Rattle.prl_base.specs.declared.operators.Op.TheVariants as operators
 use Rattle.prl_plan.specs.Graphs.{TakesClock}
-use Rattle.prl_flow.specs.Flows.{IsResultClock}
+use Rattle.prl_base.specs.Operators.{IsResultClock}
 use Rattle.prl_core.proofs.laws.operator_clocks_agree.Goals as goal
 
 agree : (op : Op) (x y : Clock) → TakesClock op x y ↔ IsResultClock op x y

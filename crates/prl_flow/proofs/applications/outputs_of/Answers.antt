@@ -8,7 +8,7 @@ use Rattle.prl_body.specs.Machines.{MachineState}
 use Rattle.prl_flow.specs.Applications.{nth_step}
 use Rattle.prl_flow.specs.Instances.{AreOutputs, instance_values}
 use Rattle.prl_flow.specs.Solutions.{argument_flows}
-use Rattle.prl_flow.proofs.Applied.{AreOutputs-push}
+use Rattle.prl_flow.proofs.Applied.{AreOutputs_push}
 use Rattle.prl_flow.proofs.applications.outputs_of.Goals as goal
 
 pub step-requires-clause-arguments : goal.step-requires-clause-arguments
@@ -39,7 +39,7 @@ loop-n-preserved c =
       inputs = ap length inputs_kept ∙ c.step.auto.inputs ∙ ap length c.deref_mut.ensures.value ∙ inv.inputs;
       now = ap length now_kept ∙ now_number;
       outputs = subst (AreOutputs body f (n + 1)) (sym out_kept)
-          (AreOutputs-push body f n c.deref_mut-in-loop-n-2.result.now c.push_values.new.outputs c.deref.result.now
+          (AreOutputs_push body f n c.deref_mut-in-loop-n-2.result.now c.push_values.new.outputs c.deref.result.now
           (subst (AreOutputs body f n) (sym c.deref_mut-in-loop-n-2.ensures.value) inv.outputs)
           c.push_values.auto.outputs
           (values_is ∙ outputs_is)

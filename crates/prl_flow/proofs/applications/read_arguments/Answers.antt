@@ -3,7 +3,7 @@ use Rattle.std.specs.Prelude.{pos}
 use Rattle.std.proofs.lemmas.List.{get_or_default}
 use Rattle.prl_base.specs.declared.values.Value.TheVariants as any_value
 use Rattle.prl_base.specs.declared.values.Value.{Value}
-use Rattle.prl_body.proofs.Steps.{take-set_map}
+use Rattle.prl_body.proofs.Steps.{take_set_map}
 use Rattle.prl_flow.specs.declared.programs.Arg.{Arg}
 use Rattle.prl_flow.specs.Solutions.{values_of}
 use Rattle.prl_flow.proofs.applications.read_arguments.Goals as goal
@@ -25,5 +25,5 @@ pub loop-k-preserved : goal.loop-k-preserved
 loop-k-preserved c =
     let list = c.as_slice-arg-items.ensures in
     rw (add-one, c.value_in.ensures, ← list)
-    (take-set_map (λ (xs : List Value). slice_index_or xs c.args.n (any_value.Int (pos 0))) (λ (a : Arg). values_of c.args.flows.now a.flow.0) c.as_slice-arg-items.result.now c.loop-k.k (slice_index_or c.as_slice-arg-items.result.now c.loop-k.k nothing) c.loop-k.inputs
+    (take_set_map (λ (xs : List Value). slice_index_or xs c.args.n (any_value.Int (pos 0))) (λ (a : Arg). values_of c.args.flows.now a.flow.0) c.as_slice-arg-items.result.now c.loop-k.k (slice_index_or c.as_slice-arg-items.result.now c.loop-k.k nothing) c.loop-k.inputs
     c.loop-k-test.true (c.loop-k.auto.inputs ∙ c.requires.number ∙ ap length (sym list)) (get_or_default c.as_slice-arg-items.result.now c.loop-k.k _ _ c.loop-k-test.true) (rw (← list) at c.loop-k.invariant))

@@ -4,7 +4,7 @@ use Rattle.std.proofs.lemmas.List.Sums.{sum_by_more}
 use Rattle.prl_base.specs.Clocks.{IsClock}
 use Rattle.prl_flow.specs.Counts.{dates_before}
 use Rattle.prl_flow.specs.Solutions.{clock_of}
-use Rattle.prl_flow.proofs.ClockDates.{dates_before-le}
+use Rattle.prl_flow.proofs.ClockDates.{dates_before_le}
 use Rattle.prl_flow.proofs.dates.values_before.Goals as goal
 
 pub loop-clock-preserved : goal.loop-clock-preserved
@@ -15,5 +15,5 @@ loop-clock-preserved c =
     let count : c.dates_before-values.result ≡ dates_before until clock =
     c.dates_before-values.ensures.count ∙ ap (dates_before until) (get_or_default c.args.clocks.now c.loop-clock.clock-index _ _ (omega arith)) in
     let sum = sum_by_more (dates_before until) c.args.clocks.now c.loop-clock.clock-index (record { period = 1; start = 0 }) (omega arith) in
-    let few : dates_before until clock ≤ until = dates_before-le until clock is_clock in
+    let few : dates_before until clock ≤ until = dates_before_le until clock is_clock in
     (omega arith, omega arith)

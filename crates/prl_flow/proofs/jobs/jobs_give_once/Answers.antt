@@ -1,5 +1,5 @@
-use Rattle.prl_flow.proofs.JobLaws.{in-parts, gives-step}
+use Rattle.prl_flow.proofs.JobLaws.{in_parts, gives_step}
 use Rattle.prl_flow.proofs.jobs.jobs_give_once.Goals as goal
 
 pub returns : goal.returns
-returns c = record { parts = in-parts; step = gives-step }
+returns c = record { parts = in_parts; step = gives_step }

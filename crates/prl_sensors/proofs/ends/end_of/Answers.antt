@@ -2,7 +2,7 @@ use Rattle.std.proofs.Common.{◌≡◌, ◌≤◌, All, take, sym, subst, arith
 use Rattle.std.proofs.lemmas.List.{take_all}
 use Rattle.std.proofs.lemmas.List.Elements.{All-more, All-weaker}
 use Rattle.prl_sensors.specs.Ends.{EndsBefore}
-use Rattle.prl_sensors.proofs.RowDates.{EndsBefore-more}
+use Rattle.prl_sensors.proofs.RowDates.{EndsBefore_more}
 use Rattle.prl_sensors.proofs.ends.end_of.Goals as goal
 
 pub loop-out-preserved : goal.loop-out-preserved
@@ -12,8 +12,8 @@ loop-out-preserved c =
     let out = c.out-item.result in
     let is_max : c.max-end.result ≡ max c.end_of_one.result c.loop-out.end = c.max-end.ensures in
     let so_far : All (EndsBefore c.max-end.result) (take i outs) =
-    All-weaker (EndsBefore c.loop-out.end) (EndsBefore c.max-end.result) (λ o. EndsBefore-more c.loop-out.end c.max-end.result o (omega arith)) (take i outs) c.loop-out.invariant.0 in
-    let here = EndsBefore-more c.end_of_one.result c.max-end.result out (omega arith) c.end_of_one.ensures.ends in (
+    All-weaker (EndsBefore c.loop-out.end) (EndsBefore c.max-end.result) (λ o. EndsBefore_more c.loop-out.end c.max-end.result o (omega arith)) (take i outs) c.loop-out.invariant.0 in
+    let here = EndsBefore_more c.end_of_one.result c.max-end.result out (omega arith) c.end_of_one.ensures.ends in (
       All-more (EndsBefore c.max-end.result) outs i out c.loop-out-test.true so_far (subst (EndsBefore c.max-end.result) c.out-item.is here),
       λ end all.
           let before : c.loop-out.end ≤ end = c.loop-out.invariant.1 end all in
