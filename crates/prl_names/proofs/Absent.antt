@@ -10,7 +10,7 @@ use Rattle.prl_names.specs.declared.mentions.Mention.{Mention}
 use Rattle.prl_names.specs.Checks.{device_names}
 use Rattle.prl_names.specs.Mentions.{names_in, all_placed, placed_of, placed_device}
 use Rattle.prl_names.specs.Repeats.{is_among, lefts_of}
-use Rattle.prl_names.specs.Tables.{found, ArePlaces}
+use Rattle.prl_names.specs.Tables.{found, AreIndices}
 use Rattle.prl_names.specs.Unknowns.{either_name, unless, absent_by, absent_from, left_names, undefined_in}
 use Rattle.prl_names.proofs.Params.{Table, names_of_placed}
 
@@ -26,29 +26,29 @@ absent_append : (f : List ℕ → Bool) (ps qs : List Param) → absent_by f (ps
 absent_append f [] qs = refl
 absent_append f (p ∷ ps) qs = rw (absent_append f ps qs) (either_assoc (unless (f p.name) p.name) (absent_by f ps) (absent_by f qs))
 
-absent_in_table : (table : Table) (names : List (List ℕ)) → ArePlaces table names → (ps : List Param) → absent_by (λ n. is_some (found table n)) ps ≡ absent_from names ps
-absent_in_table table names places ps = absent_same (λ n. is_some (found table n)) (is_among names) (λ n. ap is_some (places n)) ps
+absent_in_table : (table : Table) (names : List (List ℕ)) → AreIndices table names → (ps : List Param) → absent_by (λ n. is_some (found table n)) ps ≡ absent_from names ps
+absent_in_table table names indices ps = absent_same (λ n. is_some (found table n)) (is_among names) (λ n. ap is_some (indices n)) ps
 
-pub absent_device : (table : Table) (ms : List Mention) (list : List Device) (ps : List Param) → all_placed ms ≡ map placed_device list → ArePlaces table (names_in ms) →
+pub absent_device : (table : Table) (ms : List Mention) (list : List Device) (ps : List Param) → all_placed ms ≡ map placed_device list → AreIndices table (names_in ms) →
     absent_by (λ n. is_some (found table n)) ps ≡ absent_from (device_names list) ps
-absent_device table ms list ps is places =
-    absent_in_table table (names_in ms) places ps ∙ ap (λ ns. absent_from ns ps) (names_of_placed placed_device ms list is)
+absent_device table ms list ps is indices =
+    absent_in_table table (names_in ms) indices ps ∙ ap (λ ns. absent_from ns ps) (names_of_placed placed_device ms list is)
 
-absent_left : (table : Table) (ms : List Mention) (node : NodeTree) (ps : List Param) → all_placed ms ≡ lefts_of node → ArePlaces table (names_in ms) →
+absent_left : (table : Table) (ms : List Mention) (node : NodeTree) (ps : List Param) → all_placed ms ≡ lefts_of node → AreIndices table (names_in ms) →
     absent_by (λ n. is_some (found table n)) ps ≡ absent_from (left_names node) ps
-absent_left table ms node ps is places =
-    absent_in_table table (names_in ms) places ps
+absent_left table ms node ps is indices =
+    absent_in_table table (names_in ms) indices ps
     ∙ ap (λ ns. absent_from ns ps) (sym (map-map (λ (p : Placed). p.name) placed_of ms) ∙ ap (map (λ (p : Placed). p.name)) is)
 
-pub absent_output : (table : Table) (ms : List Mention) (node : NodeTree) (name : List ℕ) → all_placed ms ≡ lefts_of node → ArePlaces table (names_in ms) →
+pub absent_output : (table : Table) (ms : List Mention) (node : NodeTree) (name : List ℕ) → all_placed ms ≡ lefts_of node → AreIndices table (names_in ms) →
     Some name ≡ absent_by (λ n. is_some (found table n)) node.outs → Some name ≡ undefined_in node
-absent_output table ms node name is places first =
-    let outs = absent_left table ms node node.outs is places in
+absent_output table ms node name is indices first =
+    let outs = absent_left table ms node node.outs is indices in
     rw (absent_append (is_among (left_names node)) node.outs node.locals, ← outs, ← first) refl
 
-pub absent_local : (table : Table) (ms : List Mention) (node : NodeTree) → all_placed ms ≡ lefts_of node → ArePlaces table (names_in ms) →
+pub absent_local : (table : Table) (ms : List Mention) (node : NodeTree) → all_placed ms ≡ lefts_of node → AreIndices table (names_in ms) →
     None ≡ absent_by (λ n. is_some (found table n)) node.outs → absent_by (λ n. is_some (found table n)) node.locals ≡ undefined_in node
-absent_local table ms node is places first =
-    let outs = absent_left table ms node node.outs is places in
-    let locals = absent_left table ms node node.locals is places in
+absent_local table ms node is indices first =
+    let outs = absent_left table ms node node.outs is indices in
+    let locals = absent_left table ms node node.locals is indices in
     rw (absent_append (is_among (left_names node)) node.outs node.locals, ← outs, ← first) locals

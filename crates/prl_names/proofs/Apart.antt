@@ -7,47 +7,47 @@ use Rattle.std.specs.Option.{is_some}
 use Rattle.std.specs.Cmp.Lexicographic.{bytes_decides}
 use Rattle.std.specs.Str.{bytes_eq}
 use Rattle.prl_ast.specs.declared.declarations.Placed.{Placed}
-use Rattle.prl_names.specs.Lookups.{place_of}
+use Rattle.prl_names.specs.Lookups.{index_of}
 use Rattle.prl_names.specs.Named.{AreApart, placed_names}
-use Rattle.prl_names.specs.Repeats.{is_among, repeat_behind, repeat_in, first_of, earliest_repeat}
-use Rattle.prl_names.proofs.FirstPlaces.{either, place-push}
+use Rattle.prl_names.specs.Repeats.{is_among, repeat_after, repeat_in, first_of, earliest_repeat}
+use Rattle.prl_names.proofs.FirstIndices.{either, index_push}
 
 -- a name stays among the names when one is added
 pub among_more : (ns : List (List ℕ)) (n q : List ℕ) → is_among (ns ++ n ∷ []) q ≡ false → is_among ns q ≡ false
 among_more ns n q h =
-    elim (place_of ns q) as (λ o. is_some (either o (cond (bytes_eq n q) (Some (0 + length ns)) None)) ≡ false → is_some o ≡ false) [
+    elim (index_of ns q) as (λ o. is_some (either o (cond (bytes_eq n q) (Some (0 + length ns)) None)) ≡ false → is_some o ≡ false) [
       | Some k ↦ λ g. g
       | None ↦ λ g. refl
-    ] (ap is_some (sym (place-push 0 ns n q)) ∙ h)
+    ] (ap is_some (sym (index_push 0 ns n q)) ∙ h)
 
 -- a name is among the names to which it is added
 pub among_last : (ns : List (List ℕ)) (q : List ℕ) → is_among (ns ++ q ∷ []) q ≡ true
 among_last ns q =
     let same : bytes_eq q q ≡ true = (bytes_decides q q).1 refl in
-    ap is_some (place-push 0 ns q q) ∙ rw same
-    (elim (place_of ns q) as (λ o. is_some (either o (Some (0 + length ns))) ≡ true) [ Some k ↦ refl | None ↦ refl ])
+    ap is_some (index_push 0 ns q q) ∙ rw same
+    (elim (index_of ns q) as (λ o. is_some (either o (Some (0 + length ns))) ≡ true) [ Some k ↦ refl | None ↦ refl ])
 
 -- what no repeat means for the first of a space
-pub no_repeat : (earlier : List (List ℕ)) (x : Placed) (xs : List Placed) → repeat_behind earlier (x ∷ xs) ≡ None →
-    (is_among earlier x.name ≡ false) × (repeat_behind (earlier ++ x.name ∷ []) xs ≡ None)
+pub no_repeat : (earlier : List (List ℕ)) (x : Placed) (xs : List Placed) → repeat_after earlier (x ∷ xs) ≡ None →
+    (is_among earlier x.name ≡ false) × (repeat_after (earlier ++ x.name ∷ []) xs ≡ None)
 no_repeat earlier x xs h =
-    elim (is_among earlier x.name) as (λ b. cond b (Some x) (repeat_behind (earlier ++ x.name ∷ []) xs) ≡ None → (b ≡ false) × (repeat_behind (earlier ++ x.name ∷ []) xs ≡ None)) [
+    elim (is_among earlier x.name) as (λ b. cond b (Some x) (repeat_after (earlier ++ x.name ∷ []) xs) ≡ None → (b ≡ false) × (repeat_after (earlier ++ x.name ∷ []) xs ≡ None)) [
       | true ↦ λ g. cc
       | false ↦ λ g. (refl, g)
     ] h
 
-not_earlier : (earlier : List (List ℕ)) (xs : List Placed) (i : ℕ) (n : List ℕ) → repeat_behind earlier xs ≡ None → slice_get (placed_names xs) i ≡ Some n → is_among earlier n ≡ false
+not_earlier : (earlier : List (List ℕ)) (xs : List Placed) (i : ℕ) (n : List ℕ) → repeat_after earlier xs ≡ None → slice_get (placed_names xs) i ≡ Some n → is_among earlier n ≡ false
 not_earlier earlier [] i n h g = cc
 not_earlier earlier (x ∷ xs) zero n h g = (let same : x.name ≡ n = cc in subst (λ m. is_among earlier m ≡ false) same (no_repeat earlier x xs h).0)
 not_earlier earlier (x ∷ xs) (suc i) n h g = among_more earlier x.name n (not_earlier (earlier ++ x.name ∷ []) xs i n (no_repeat earlier x xs h).1 g)
 
-clash : (earlier : List (List ℕ)) (x : Placed) (xs : List Placed) (j : ℕ) (n : List ℕ) → repeat_behind earlier (x ∷ xs) ≡ None → Some x.name ≡ Some n → slice_get (placed_names xs) j ≡ Some n → ⊥
+clash : (earlier : List (List ℕ)) (x : Placed) (xs : List Placed) (j : ℕ) (n : List ℕ) → repeat_after earlier (x ∷ xs) ≡ None → Some x.name ≡ Some n → slice_get (placed_names xs) j ≡ Some n → ⊥
 clash earlier x xs j n h first second =
     let same : x.name ≡ n = cc in
     let absent = not_earlier (earlier ++ x.name ∷ []) xs j n (no_repeat earlier x xs h).1 second in
     false≢true (sym absent ∙ subst (λ m. is_among (earlier ++ m ∷ []) n ≡ true) (sym same) (among_last earlier n))
 
-apart_behind : (earlier : List (List ℕ)) (xs : List Placed) (i j : ℕ) (n : List ℕ) → repeat_behind earlier xs ≡ None →
+apart_behind : (earlier : List (List ℕ)) (xs : List Placed) (i j : ℕ) (n : List ℕ) → repeat_after earlier xs ≡ None →
     slice_get (placed_names xs) i ≡ Some n → slice_get (placed_names xs) j ≡ Some n → i ≡ j
 apart_behind earlier [] i j n h g k = cc
 apart_behind earlier (x ∷ xs) zero zero n h g k = refl

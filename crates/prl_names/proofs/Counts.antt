@@ -6,7 +6,7 @@ use Rattle.std.specs.Cmp.Lexicographic.{bytes_decides}
 use Rattle.std.specs.Str.{bytes_eq}
 use Rattle.prl_ast.specs.declared.declarations.Placed.{Placed}
 use Rattle.prl_names.specs.Named.{AreApart, placed_names}
-use Rattle.prl_names.specs.Repeats.{is_among, repeat_behind, repeat_in, front_before, rest_from, merged}
+use Rattle.prl_names.specs.Repeats.{is_among, repeat_after, repeat_in, front_before, rest_from, merged}
 use Rattle.prl_names.proofs.Apart.{no_repeat, among_more, among_last}
 
 -- how often the name stands in the list
@@ -14,28 +14,28 @@ count_of : List ℕ → List Placed → ℕ
 count_of n [] = 0
 count_of n (x ∷ xs) = cond (bytes_eq x.name n) 1 0 + count_of n xs
 
-count-append : (n : List ℕ) (xs ys : List Placed) → count_of n (xs ++ ys) ≡ count_of n xs + count_of n ys
+count_append : (n : List ℕ) (xs ys : List Placed) → count_of n (xs ++ ys) ≡ count_of n xs + count_of n ys
 unfolding count_of
-count-append n [] ys = omega arith
-count-append n (x ∷ xs) ys = (let others = count-append n xs ys in omega arith)
+count_append n [] ys = omega arith
+count_append n (x ∷ xs) ys = (let others = count_append n xs ys in omega arith)
 
-count-parts : (n : List ℕ) (at : ℕ) (xs : List Placed) → count_of n (front_before at xs) + count_of n (rest_from at xs) ≡ count_of n xs
+count_parts : (n : List ℕ) (at : ℕ) (xs : List Placed) → count_of n (front_before at xs) + count_of n (rest_from at xs) ≡ count_of n xs
 unfolding count_of
-count-parts n at [] = refl
-count-parts n at (x ∷ xs) =
-    let others = count-parts n at xs in
+count_parts n at [] = refl
+count_parts n at (x ∷ xs) =
+    let others = count_parts n at xs in
     elim (nat_lt x.at.at at) as (λ b. count_of n (cond b (x ∷ front_before at xs) []) + count_of n (cond b (rest_from at xs) (x ∷ xs)) ≡ cond (bytes_eq x.name n) 1 0 + count_of n xs) [
       | true ↦ omega arith
       | false ↦ omega arith
     ]
 
-count-merged : (n : List ℕ) (xs ys : List Placed) → count_of n (merged xs ys) ≡ count_of n xs + count_of n ys
+count_merged : (n : List ℕ) (xs ys : List Placed) → count_of n (merged xs ys) ≡ count_of n xs + count_of n ys
 unfolding count_of
-count-merged n [] ys = omega arith
-count-merged n (x ∷ xs) ys =
-    let parts = count-parts n x.at.at ys in
-    let others = count-merged n xs (rest_from x.at.at ys) in
-    let whole = count-append n (front_before x.at.at ys) (x ∷ merged xs (rest_from x.at.at ys)) in
+count_merged n [] ys = omega arith
+count_merged n (x ∷ xs) ys =
+    let parts = count_parts n x.at.at ys in
+    let others = count_merged n xs (rest_from x.at.at ys) in
+    let whole = count_append n (front_before x.at.at ys) (x ∷ merged xs (rest_from x.at.at ys)) in
     omega arith
 
 -- how often it stands among the names
@@ -43,7 +43,7 @@ one_if : Bool → ℕ
 one_if true = 1
 one_if false = 0
 
-count_behind : (n : List ℕ) (earlier : List (List ℕ)) (xs : List Placed) → repeat_behind earlier xs ≡ None → count_of n xs + one_if (is_among earlier n) ≤ 1
+count_behind : (n : List ℕ) (earlier : List (List ℕ)) (xs : List Placed) → repeat_after earlier xs ≡ None → count_of n xs + one_if (is_among earlier n) ≤ 1
 unfolding count_of one_if
 count_behind n earlier [] h = elim (is_among earlier n) as (λ b. 0 + one_if b ≤ 1) [ true ↦ omega arith | false ↦ omega arith ]
 count_behind n earlier (x ∷ xs) h =
@@ -99,8 +99,8 @@ pub record AreApartIn (xs ys : List Placed) : Type 0 where
 
 pub apart_merged : (xs ys : List Placed) → repeat_in (merged xs ys) ≡ None → AreApartIn xs ys
 apart_merged xs ys h = record {
-  first = λ i j n g k. (let all = count_once n (merged xs ys) h in let parts = count-merged n xs ys in apart_by_count n xs i j (omega arith) g k);
-  second = λ i j n g k. (let all = count_once n (merged xs ys) h in let parts = count-merged n xs ys in apart_by_count n ys i j (omega arith) g k);
+  first = λ i j n g k. (let all = count_once n (merged xs ys) h in let parts = count_merged n xs ys in apart_by_count n xs i j (omega arith) g k);
+  second = λ i j n g k. (let all = count_once n (merged xs ys) h in let parts = count_merged n xs ys in apart_by_count n ys i j (omega arith) g k);
   both = λ i j n g k.
-      (let all = count_once n (merged xs ys) h in let parts = count-merged n xs ys in let here = stands n xs i g in let there = stands n ys j k in omega arith);
+      (let all = count_once n (merged xs ys) h in let parts = count_merged n xs ys in let here = stands n xs i g in let there = stands n ys j k in omega arith);
 }

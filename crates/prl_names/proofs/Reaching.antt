@@ -7,7 +7,7 @@ use Rattle.prl_ast.specs.Trees.{Tree, tree, Root, const, var, apply, group, Tree
 use Rattle.prl_names.specs.declared.lookups.Callee.TheVariants as callees
 use Rattle.prl_names.specs.Applications.{is_node, applied_in, applied_root, applied_trees, applied_equations, applied_by, applies, Reaches, once, then, reaches_by, reaches, recursive_from, recursive_of}
 use Rattle.prl_names.specs.Lookups.{callee_of}
-use Rattle.prl_names.proofs.Marking.{node-below}
+use Rattle.prl_names.proofs.Marking.{callee_below}
 
 or_left : (a b : Bool) → a ≡ true → (a || b) ≡ true
 or_left a b h = rw h refl
@@ -58,7 +58,7 @@ joined p (suc k) i m j below h g =
     through p k i j here there))
     (lower_or_last k m below)
 
--- an application gives both nodes a place in the list
+-- an application gives both nodes an index in the list
 applies_below : (p : ProgramTree) (i j : ℕ) → applies p i j ≡ true → i < length p.nodes
 applies_below p i j h =
     elim (slice_get p.nodes i) as (λ o. slice_get p.nodes i ≡ o → applied_by p j o ≡ true → i < length p.nodes) [
@@ -71,7 +71,7 @@ node_below p j name h =
     elim (callee_of p name) as (λ o. callee_of p name ≡ o → is_node j o ≡ true → j < length p.nodes) [
       | Some callee ↦ λ e.
           elim callee as (λ x. callee_of p name ≡ Some x → is_node j (Some x) ≡ true → j < length p.nodes) [
-            | callees.Node k ↦ λ named g. (let below = node-below p name k named in let same : k ≡ j = eqb-true k j g in omega arith)
+            | callees.Node k ↦ λ named g. (let below = callee_below p name k named in let same : k ≡ j = eqb-true k j g in omega arith)
             | callees.Import k ↦ λ named g. absurd (false≢true g)
           ] e
       | None ↦ λ e g. absurd (false≢true g)

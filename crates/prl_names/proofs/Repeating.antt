@@ -10,30 +10,30 @@ use Rattle.prl_ast.specs.Trees.{EquationTree, NodeTree, ProgramTree, equation_tr
 use Rattle.prl_names.specs.Lookups.{param_of, param_at}
 use Rattle.prl_names.specs.declared.mentions.Mention.{Mention}
 use Rattle.prl_names.specs.Mentions.{names_in, all_placed, placed_of, placed_param}
-use Rattle.prl_names.specs.Repeats.{is_among, repeat_behind, first_of, repeat_in, earliest_repeat, lefts_of, definition_space, global_spaces, port_space, flow_space, repeat_of}
-use Rattle.prl_names.proofs.FirstPlaces.{names_with}
+use Rattle.prl_names.specs.Repeats.{is_among, repeat_after, first_of, repeat_in, earliest_repeat, lefts_of, definition_space, global_spaces, port_space, flow_space, repeat_of}
+use Rattle.prl_names.proofs.FirstIndices.{names_with}
 
 pub placed_from : (ms : List Mention) (k : ℕ) (x : Mention) → k < length ms → x ≡ get_or ms k x → all_placed (drop k ms) ≡ placed_of x ∷ all_placed (drop (k + 1) ms)
 placed_from ms k x below item = rw (add-one, drop-cons ms k x below, ← item) refl
 
 pub repeat_here : (ms : List Mention) (k : ℕ) (x : Mention) → k < length ms → x ≡ get_or ms k x → is_among (names_in (take k ms)) x.name.now ≡ true →
-    repeat_behind (names_in (take k ms)) (all_placed (drop k ms)) ≡ Some (placed_of x)
+    repeat_after (names_in (take k ms)) (all_placed (drop k ms)) ≡ Some (placed_of x)
 repeat_here ms k x below item there = rw (placed_from ms k x below item, there) refl
 
 pub repeat_later : (ms : List Mention) (k : ℕ) (x : Mention) → k < length ms → x ≡ get_or ms k x → is_among (names_in (take k ms)) x.name.now ≡ false →
-    repeat_behind (names_in (take k ms)) (all_placed (drop k ms)) ≡ repeat_behind (names_in (take (k + 1) ms)) (all_placed (drop (k + 1) ms))
+    repeat_after (names_in (take k ms)) (all_placed (drop k ms)) ≡ repeat_after (names_in (take (k + 1) ms)) (all_placed (drop (k + 1) ms))
 repeat_later ms k x below item absent = rw (placed_from ms k x below item, absent, names_with ms k x below item) refl
 
-pub earliest-append : (b : Option Placed) (xs ys : List (List Placed)) → earliest_repeat b (xs ++ ys) ≡ earliest_repeat (earliest_repeat b xs) ys
-earliest-append b [] ys = refl
-earliest-append b (x ∷ xs) ys = earliest-append (first_of b (repeat_in x)) xs ys
+pub earliest_append : (b : Option Placed) (xs ys : List (List Placed)) → earliest_repeat b (xs ++ ys) ≡ earliest_repeat (earliest_repeat b xs) ys
+earliest_append b [] ys = refl
+earliest_append b (x ∷ xs) ys = earliest_append (first_of b (repeat_in x)) xs ys
 
-pub filter-append : {A : Type 0} (p : A → Bool) (xs ys : List A) → filter p (xs ++ ys) ≡ filter p xs ++ filter p ys
-filter-append p [] ys = refl
-filter-append {A = A} p (x ∷ xs) ys =
+pub filter_append : {A : Type 0} (p : A → Bool) (xs ys : List A) → filter p (xs ++ ys) ≡ filter p xs ++ filter p ys
+filter_append p [] ys = refl
+filter_append {A = A} p (x ∷ xs) ys =
     elim (p x) as (λ b. cond b (x ∷ filter p (xs ++ ys)) (filter p (xs ++ ys)) ≡ cond b (x ∷ filter p xs) (filter p xs) ++ filter p ys) [
-      | true ↦ ap (λ (l : List A). x ∷ l) (filter-append p xs ys)
-      | false ↦ filter-append p xs ys
+      | true ↦ ap (λ (l : List A). x ∷ l) (filter_append p xs ys)
+      | false ↦ filter_append p xs ys
     ]
 
 abbrev lefts_in : List Equation → List Placed
@@ -43,7 +43,7 @@ pub defined_from : (test : Placed → Bool) (es : List Equation) (k : ℕ) (e : 
     (before ++ filter test e.lefts) ++ filter test (lefts_in (drop (k + 1) es)) ≡ before ++ filter test (lefts_in (drop k es))
 defined_from test es k e before below item =
     let next : drop k es ≡ e ∷ drop (k + 1) es = rw (add-one, drop-cons es k e below, ← item) refl in
-    rw (next, filter-append test e.lefts (lefts_in (drop (k + 1) es))) (append_assoc before (filter test e.lefts) (filter test (lefts_in (drop (k + 1) es))))
+    rw (next, filter_append test e.lefts (lefts_in (drop (k + 1) es))) (append_assoc before (filter test e.lefts) (filter test (lefts_in (drop (k + 1) es))))
 
 pub node_at : (nodes : List Node) (k : ℕ) (x : Node) → k < length nodes → x ≡ get_or nodes k x → slice_get (map node_tree nodes) k ≡ Some (node_tree x)
 node_at nodes k x below item = slice_get-map node_tree nodes k ∙ ap (option_map node_tree) (slice_get_read nodes (length nodes) k x refl below item)
@@ -68,6 +68,6 @@ spaces_in_turn p a b c first second third =
     let ports = map port_space p.imports in
     let flows = map flow_space p.nodes in
     let defined = map definition_space p.nodes in
-    let all = earliest-append None ((globals ++ ports) ++ flows) defined ∙ ap (λ x. earliest_repeat x defined) (earliest-append None (globals ++ ports) flows
-    ∙ ap (λ x. earliest_repeat x flows) (earliest-append None globals ports)) in
+    let all = earliest_append None ((globals ++ ports) ++ flows) defined ∙ ap (λ x. earliest_repeat x defined) (earliest_append None (globals ++ ports) flows
+    ∙ ap (λ x. earliest_repeat x flows) (earliest_append None globals ports)) in
     ap (λ x. earliest_repeat x defined) (third ∙ ap (λ x. earliest_repeat x flows) (second ∙ ap (λ x. earliest_repeat x ports) first)) ∙ sym all

@@ -3,14 +3,14 @@ use Rattle.std.proofs.Common.{◌≡◌, ◌<◌, ◌+◌, ℕ, zero, suc, Bool,
 use Rattle.std.proofs.lemmas.Simd.{map-map}
 use Rattle.std.specs.List.{slice_get}
 use Rattle.std.specs.Option.{is_some}
-use Rattle.prl_base.specs.Reading.{◌>>=◌, Gives}
+use Rattle.prl_base.specs.Reading.{◌>>=◌, GivesBut}
 use Rattle.prl_ast.specs.declared.declarations.Param.{Param}
 use Rattle.prl_ast.specs.declared.declarations.Placed.{Placed}
 use Rattle.prl_ast.specs.Trees.{Tree, tree, Root, const, var, apply, group, Trees, none, more, EquationTree, NodeTree, ProgramTree}
 use Rattle.prl_names.specs.declared.checks.NameFault.{NameFault}
 use Rattle.prl_names.specs.declared.checks.NameFault.TheVariants as faults
 use Rattle.prl_names.specs.Applications.{recursive_of}
-use Rattle.prl_names.specs.Checks.{fault_of, refused, name_of, main_or, last_place, main_of, device_names, without_device, names_of}
+use Rattle.prl_names.specs.Checks.{refused, name_of, main_or, last_index, main_of, device_names, without_device, names_of}
 use Rattle.prl_names.specs.Lookups.{params_of, param_at, callee_of}
 use Rattle.prl_names.specs.Mentions.{placed_param, placed_device, placed_import, placed_node}
 use Rattle.prl_names.specs.Named.{AreApart, IsKnown, IsKnownRoot, AreKnown, AreKnownLefts, AreKnownEquations, AllAreAmong, HasDevices, IsNamed}
@@ -18,7 +18,7 @@ use Rattle.prl_names.specs.Repeats.{is_among, repeat_of, global_spaces, port_spa
 use Rattle.prl_names.specs.Unknowns.{either_name, unless, unknown_in, unknown_root, unknown_trees, unknown_lefts, unknown_equations, unknown_from, unknown_of, absent_by, absent_from, left_names, undefined_in, undefined_among, undefined_of}
 use Rattle.prl_names.proofs.Apart.{NoRepeats, no_repeats, repeats_split, space_of, apart}
 use Rattle.prl_names.proofs.Counts.{apart_merged}
-use Rattle.prl_names.proofs.Marking.{place-below}
+use Rattle.prl_names.proofs.Marking.{index_below}
 use Rattle.prl_names.proofs.Reaching.{acyclic}
 
 neither : (a b : Option (List ℕ)) → either_name a b ≡ None → (a ≡ None) × (b ≡ None)
@@ -66,23 +66,23 @@ known_from : (p : ProgramTree) (k i : ℕ) (ns : List NodeTree) (n : NodeTree) �
 known_from p k i [] n h g = cc
 known_from p k zero (x ∷ ns) n h g =
     let same : x ≡ n = cc in
-    let place : k ≡ k + 0 = omega arith in
+    let index : k ≡ k + 0 = omega arith in
     let parts = neither (unknown_equations p k x.eqs) (unknown_from p (k + 1) ns) h in
     let Known : ℕ → Type 0 = λ m. AreKnownEquations p m n.eqs in
     let Of : NodeTree → Type 0 = λ m. AreKnownEquations p k m.eqs in
-    subst Known place (subst Of same (known_equations p k x.eqs parts.0))
+    subst Known index (subst Of same (known_equations p k x.eqs parts.0))
 known_from p k (suc i) (x ∷ ns) n h g =
-    let place : (k + 1) + i ≡ k + suc i = omega arith in
+    let index : (k + 1) + i ≡ k + suc i = omega arith in
     let parts = neither (unknown_equations p k x.eqs) (unknown_from p (k + 1) ns) h in
     let Known : ℕ → Type 0 = λ m. AreKnownEquations p m n.eqs in
-    subst Known place (known_from p (k + 1) i ns n parts.1 g)
+    subst Known index (known_from p (k + 1) i ns n parts.1 g)
 
 all_known : (p : ProgramTree) (i : ℕ) (n : NodeTree) → unknown_of p ≡ None → slice_get p.nodes i ≡ Some n → AreKnownEquations p i n.eqs
 unfolding unknown_of
 all_known p i n h g =
-    let place : 0 + i ≡ i = omega arith in
+    let index : 0 + i ≡ i = omega arith in
     let Known : ℕ → Type 0 = λ m. AreKnownEquations p m n.eqs in
-    subst Known place (known_from p 0 i p.nodes n h g)
+    subst Known index (known_from p 0 i p.nodes n h g)
 
 all_among : (names : List (List ℕ)) (ps : List Param) → absent_from names ps ≡ None → AllAreAmong names ps
 all_among names [] h = tt
@@ -119,12 +119,12 @@ spaces p h =
     let third = repeats_split (global_spaces p) (map port_space p.imports) second.0 in
     record { globals = third.0; ports = third.1; flows = second.1; definitions = first.1 }
 
-last_below : (n k : ℕ) → last_place n ≡ Some k → k < n
+last_below : (n k : ℕ) → last_index n ≡ Some k → k < n
 last_below zero k h = cc
 last_below (suc n) k h = (let same : n ≡ k = cc in omega arith)
 
 main_below : (p : ProgramTree) (main : Option (List ℕ)) (k : ℕ) → main_of p main ≡ Some k → k < length p.nodes
-main_below p (Some name) k h = place-below (λ (n : NodeTree). n.name) p.nodes name k h
+main_below p (Some name) k h = index_below (λ (n : NodeTree). n.name) p.nodes name k h
 main_below p None k h = last_below (length p.nodes) k h
 
 has_devices : (p : ProgramTree) (k : ℕ) (n : NodeTree) → without_device p (slice_get p.nodes k) ≡ None → slice_get p.nodes k ≡ Some n → HasDevices p n
@@ -146,7 +146,7 @@ no_name : (o : Option Placed) → name_of o ≡ None → o ≡ None
 no_name None h = refl
 no_name (Some p) h = cc
 
--- the rows of a program that is accepted, one behind the other
+-- the rows of a program that is accepted, one after the other
 record Rows (p : ProgramTree) (main : Option (List ℕ)) (k : ℕ) : Type 0 where
   once : repeat_of p ≡ None
   known : unknown_of p ≡ None
@@ -202,6 +202,6 @@ named p main k h =
       actuators_apart = subst AreApart (map-map (λ (q : Placed). q.name) placed_device p.actuators) (apart (map placed_device p.actuators) s.globals.1.1.0);
     }
 
-pub named_if_ok : (p : ProgramTree) (main : Option (List ℕ)) (r : Result ℕ NameFault) → Gives (λ k. k) fault_of r (names_of p main) → IfOk r (IsNamed p)
+pub named_if_ok : (p : ProgramTree) (main : Option (List ℕ)) (r : Result ℕ NameFault) → GivesBut faults.Memory (λ k. k) r (names_of p main) → IfOk r (IsNamed p)
 named_if_ok p main (Ok k) h = named p main k h
 named_if_ok p main (Err fault) h = tt

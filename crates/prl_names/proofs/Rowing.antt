@@ -27,17 +27,17 @@ first_row p by n start row there is len adds = record {
 pub kept_row : (new rest : List Bool) (len : ℕ) → length new ≡ len → take len (new ++ rest) ≡ new
 kept_row new rest len is = rw (← is) (take-append_seam new rest)
 
-pub rows-push : (p : ProgramTree) (k by : ℕ) (rows : List (List Bool)) (row : List Bool) → AreRows p k by rows → IsRow p k (by + length rows) row → AreRows p k by (rows ++ row ∷ [])
-rows-push p k by [] row before one = (let same : by + 0 ≡ by = omega arith in (subst (λ i. IsRow p k i row) same one, tt))
-rows-push p k by (r ∷ rows) row before one =
+pub rows_push : (p : ProgramTree) (k by : ℕ) (rows : List (List Bool)) (row : List Bool) → AreRows p k by rows → IsRow p k (by + length rows) row → AreRows p k by (rows ++ row ∷ [])
+rows_push p k by [] row before one = (let same : by + 0 ≡ by = omega arith in (subst (λ i. IsRow p k i row) same one, tt))
+rows_push p k by (r ∷ rows) row before one =
     (let moved : by + suc (length rows) ≡ (by + 1) + length rows = omega arith in
-    (before.0, rows-push p k (by + 1) rows row before.1 (subst (λ i. IsRow p k i row) moved one)))
+    (before.0, rows_push p k (by + 1) rows row before.1 (subst (λ i. IsRow p k i row) moved one)))
 
 pub rows_step : (p : ProgramTree) (rows : List (List Bool)) (row new : List Bool) (k : ℕ) → AreRows p 0 0 rows → length rows ≡ k → IsRow p 0 k row → new ≡ row →
     AreRows p 0 0 (rows ++ new ∷ [])
 rows_step p rows row new k are len is same =
-    let place : k ≡ 0 + length rows = omega arith in
-    rows-push p 0 0 rows new are (rw same (subst (λ i. IsRow p 0 i row) place is))
+    let index : k ≡ 0 + length rows = omega arith in
+    rows_push p 0 0 rows new are (rw same (subst (λ i. IsRow p 0 i row) index is))
 
 pub row_at : (p : ProgramTree) (k by i : ℕ) (rows : List (List Bool)) → AreRows p k by rows → i < length rows → IsRow p k (by + i) (row_of rows i)
 row_at p k by i [] are below = absurd (omega arith)
@@ -46,17 +46,17 @@ row_at p k by (suc i) (r ∷ rows) are below =
     (let moved : (by + 1) + i ≡ by + suc i = omega arith in
     subst (λ m. IsRow p k m (row_of rows i)) moved (row_at p k (by + 1) i rows are.1 (omega arith)))
 
-mark-or : (a b : List Bool) (j : ℕ) → length a ≡ length b → mark_of (or_marks a b) j ≡ (mark_of a j || mark_of b j)
-mark-or [] [] j same = refl
-mark-or [] (y ∷ b) j same = absurd (omega arith)
-mark-or (x ∷ a) [] j same = absurd (omega arith)
-mark-or (x ∷ a) (y ∷ b) zero same = refl
-mark-or (x ∷ a) (y ∷ b) (suc j) same = mark-or a b j (omega arith)
+mark_or : (a b : List Bool) (j : ℕ) → length a ≡ length b → mark_of (or_marks a b) j ≡ (mark_of a j || mark_of b j)
+mark_or [] [] j same = refl
+mark_or [] (y ∷ b) j same = absurd (omega arith)
+mark_or (x ∷ a) [] j same = absurd (omega arith)
+mark_or (x ∷ a) (y ∷ b) zero same = refl
+mark_or (x ∷ a) (y ∷ b) (suc j) same = mark_or a b j (omega arith)
 
-length-or : (a b : List Bool) → length (or_marks a b) ≡ length a
-length-or [] b = refl
-length-or (x ∷ a) [] = refl
-length-or (x ∷ a) (y ∷ b) = ap suc (length-or a b)
+length_or : (a b : List Bool) → length (or_marks a b) ≡ length a
+length_or [] b = refl
+length_or (x ∷ a) [] = refl
+length_or (x ∷ a) (y ∷ b) = ap suc (length_or a b)
 
 or_false : (a : Bool) → a ≡ (a || false)
 or_false true = refl
@@ -68,9 +68,9 @@ led_row p k by others row below through is =
     let marked : mark_of row k ≡ reaches_by p k by k = is.each k below in
     elim (mark_of row k) as (λ b. b ≡ reaches_by p k by k → IsRow p (suc k) by (cond b (or_marks row others) row)) [
       | true ↦ λ e. record {
-        all = length-or row others ∙ is.all;
+        all = length_or row others ∙ is.all;
         each = λ j within.
-            mark-or row others j (is.all ∙ sym through.all) ∙ ap (λ b. b || mark_of others j) (is.each j within)
+            mark_or row others j (is.all ∙ sym through.all) ∙ ap (λ b. b || mark_of others j) (is.each j within)
             ∙ ap (λ b. reaches_by p k by j || b) (through.each j within ∙ ap (λ b. b && reaches_by p k k j) e);
       }
       | false ↦ λ e. record {
@@ -97,10 +97,10 @@ or_step marks row others k a b below within here there =
     let second : drop k others ≡ b ∷ drop (k + 1) others = rw (add-one, drop-cons others k b within, ← there) refl in
     rw (first, second) (append_assoc marks ((a || b) ∷ []) (or_marks (drop (k + 1) row) (drop (k + 1) others)))
 
-pub rows-square : (p : ProgramTree) (k by i : ℕ) (rows : List (List Bool)) (d : List Bool) → AreRows p k by rows → i < length rows → length (get_or rows i d) ≡ length p.nodes
-rows-square p k by i [] d are below = absurd (omega arith)
-rows-square p k by zero (r ∷ rows) d are below = are.0.all
-rows-square p k by (suc i) (r ∷ rows) d are below = rows-square p k (by + 1) i rows d are.1 (omega arith)
+pub rows_square : (p : ProgramTree) (k by i : ℕ) (rows : List (List Bool)) (d : List Bool) → AreRows p k by rows → i < length rows → length (get_or rows i d) ≡ length p.nodes
+rows_square p k by i [] d are below = absurd (omega arith)
+rows_square p k by zero (r ∷ rows) d are below = are.0.all
+rows_square p k by (suc i) (r ∷ rows) d are below = rows_square p k (by + 1) i rows d are.1 (omega arith)
 
 row_is : (p : ProgramTree) (k by i : ℕ) (rows : List (List Bool)) (r : List Bool) → AreRows p k by rows → i < length rows → r ≡ get_or rows i r → IsRow p k (by + i) r
 row_is p k by i [] r are below is = absurd (omega arith)

@@ -33,11 +33,11 @@ abbrev pub applied_by : ProgramTree → ℕ → Option NodeTree → Bool
 applied_by p node None = false
 applied_by p node (Some by) = applied_equations p node by.eqs
 
--- whether the node at the first place applies that at the second
+-- whether the node at the first index applies that at the second
 abbrev pub applies : ProgramTree → ℕ → ℕ → Bool
 applies p by node = applied_by p node (slice_get p.nodes by)
 
--- one application behind another leads from the first node to the second
+-- one application after another leads from the first node to the second
 pub data Reaches (p : ProgramTree) : ℕ → ℕ → Type 0 where
   once : (by node : ℕ) → IsTrue (applies p by node) → Reaches p by node
   then : (by middle node : ℕ) → IsTrue (applies p by middle) → Reaches p middle node → Reaches p by node
@@ -50,7 +50,7 @@ reaches_by p (suc k) by node = reaches_by p k by node || (reaches_by p k by k &&
 abbrev pub reaches : ProgramTree → ℕ → ℕ → Bool
 reaches p by node = reaches_by p (length p.nodes) by node
 
--- of these nodes, counted from a place, the first that reaches itself
+-- of these nodes, counted from an index, the first that reaches itself
 abbrev pub recursive_from : ProgramTree → ℕ → List NodeTree → Option (List ℕ)
 recursive_from p node [] = None
 recursive_from p node (n ∷ ns) = if reaches p node node then Some n.name else recursive_from p (node + 1) ns

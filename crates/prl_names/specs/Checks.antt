@@ -7,18 +7,9 @@ use Rattle.prl_ast.specs.Trees.{NodeTree, ProgramTree}
 use Rattle.prl_names.specs.declared.checks.NameFault.{NameFault}
 use Rattle.prl_names.specs.declared.checks.NameFault.TheVariants as faults
 use Rattle.prl_names.specs.Applications.{recursive_of}
-use Rattle.prl_names.specs.Lookups.{place_of, node_names}
+use Rattle.prl_names.specs.Lookups.{index_of, node_names}
 use Rattle.prl_names.specs.Repeats.{repeat_of}
 use Rattle.prl_names.specs.Unknowns.{either_name, unknown_of, undefined_of, absent_from}
-
--- want of memory is no fault of the program
-abbrev pub fault_of : NameFault → Option NameFault
-fault_of (faults.Twice name) = Some (faults.Twice name)
-fault_of (faults.Unknown name) = Some (faults.Unknown name)
-fault_of (faults.Undefined name) = Some (faults.Undefined name)
-fault_of (faults.Recursive name) = Some (faults.Recursive name)
-fault_of faults.NoMain = Some faults.NoMain
-fault_of faults.Memory = None
 
 abbrev pub refused : (List ℕ → NameFault) → Option (List ℕ) → Result (Unit {0}) NameFault
 refused fault None = Ok tt
@@ -32,14 +23,14 @@ abbrev pub main_or : Option ℕ → Result ℕ NameFault
 main_or None = Err faults.NoMain
 main_or (Some node) = Ok node
 
-abbrev pub last_place : ℕ → Option ℕ
-last_place zero = None
-last_place (suc k) = Some k
+abbrev pub last_index : ℕ → Option ℕ
+last_index zero = None
+last_index (suc k) = Some k
 
 -- the node of the name that is asked for, or the last one
 abbrev pub main_of : ProgramTree → Option (List ℕ) → Option ℕ
-main_of p None = last_place (length p.nodes)
-main_of p (Some name) = place_of (node_names p) name
+main_of p None = last_index (length p.nodes)
+main_of p (Some name) = index_of (node_names p) name
 
 abbrev pub device_names : List Device → List (List ℕ)
 device_names devices = map (λ (d : Device). d.name) devices

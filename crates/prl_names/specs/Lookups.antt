@@ -8,13 +8,13 @@ use Rattle.prl_ast.specs.Trees.{NodeTree, ProgramTree}
 use Rattle.prl_names.specs.declared.lookups.Callee.{Callee}
 use Rattle.prl_names.specs.declared.lookups.Callee.TheVariants as callees
 
--- the place of the first of the names that is this one, where they are counted from k
-abbrev pub place_from : ℕ → List (List ℕ) → List ℕ → Option ℕ
-place_from k [] name = None
-place_from k (n ∷ ns) name = if bytes_eq n name then Some k else place_from (k + 1) ns name
+-- the index of the first of the names that is this one, where they are counted from k
+abbrev pub index_from : ℕ → List (List ℕ) → List ℕ → Option ℕ
+index_from k [] name = None
+index_from k (n ∷ ns) name = if bytes_eq n name then Some k else index_from (k + 1) ns name
 
-abbrev pub place_of : List (List ℕ) → List ℕ → Option ℕ
-place_of names name = place_from 0 names name
+abbrev pub index_of : List (List ℕ) → List ℕ → Option ℕ
+index_of names name = index_from 0 names name
 
 -- inputs, then outputs, then locals
 abbrev pub params_of : NodeTree → List Param
@@ -23,11 +23,11 @@ params_of node = (node.ins ++ node.outs) ++ node.locals
 abbrev pub param_names : NodeTree → List (List ℕ)
 param_names node = map (λ (p : Param). p.name) (params_of node)
 
--- the place of the parameter of this name
+-- the index of the parameter of this name
 abbrev pub param_of : NodeTree → List ℕ → Option ℕ
-param_of node name = place_of (param_names node) name
+param_of node name = index_of (param_names node) name
 
--- the place of the parameter of this name of the node at a place of the list of nodes
+-- the index of the parameter of this name of the node at an index of the list of nodes
 abbrev pub param_at : ProgramTree → ℕ → List ℕ → Option ℕ
 param_at p node name = option_and_then (λ n. param_of n name) (slice_get p.nodes node)
 
@@ -43,4 +43,4 @@ node_or None import = option_map callees.Import import
 
 -- the node of this name, or where there is none the import
 abbrev pub callee_of : ProgramTree → List ℕ → Option Callee
-callee_of p name = node_or (place_of (node_names p) name) (place_of (import_names p) name)
+callee_of p name = node_or (index_of (node_names p) name) (index_of (import_names p) name)

@@ -10,7 +10,7 @@ use Rattle.prl_names.specs.Lookups.{param_at, param_names, node_names, import_na
 use Rattle.prl_names.specs.Repeats.{is_among, port_space, definition_space}
 use Rattle.prl_names.specs.Unknowns.{left_names}
 
--- no name stands at two places
+-- no name stands at two indices
 abbrev pub AreApart : List (List ℕ) → Type 0
 AreApart names = (i j : ℕ) (name : List ℕ) → slice_get names i ≡ Some name → slice_get names j ≡ Some name → i ≡ j
 
@@ -46,7 +46,7 @@ abbrev pub AllAreAmong : List (List ℕ) → List Param → Type 0
 AllAreAmong names [] = Unit {0}
 AllAreAmong names (p ∷ ps) = (is_among names p.name ≡ true) × AllAreAmong names ps
 
--- one node, at its place of the list of nodes
+-- one node, at its index of the list of nodes
 pub record IsNamedNode (p : ProgramTree) (node : ℕ) (n : NodeTree) : Type 0 where
   pub params_apart : AreApart (param_names n)
   -- an input has no equation, and no flow has two
@@ -60,7 +60,7 @@ pub record HasDevices (p : ProgramTree) (n : NodeTree) : Type 0 where
   pub sensors : AllAreAmong (device_names p.sensors) n.ins
   pub actuators : AllAreAmong (device_names p.actuators) n.outs
 
--- the program, whose main node stands at the place
+-- the program, whose main node stands at the index
 pub record IsNamed (p : ProgramTree) (main : ℕ) : Type 0 where
   pub main_below : main < length p.nodes
   pub nodes : (node : ℕ) (n : NodeTree) → slice_get p.nodes node ≡ Some n → IsNamedNode p node n

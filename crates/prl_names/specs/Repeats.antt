@@ -5,22 +5,22 @@ use Rattle.std.specs.Option.{is_some}
 use Rattle.prl_ast.specs.declared.declarations.Import.{Import}
 use Rattle.prl_ast.specs.declared.declarations.Placed.{Placed}
 use Rattle.prl_ast.specs.Trees.{EquationTree, NodeTree, ProgramTree}
-use Rattle.prl_names.specs.Lookups.{place_of, params_of, param_of}
+use Rattle.prl_names.specs.Lookups.{index_of, params_of, param_of}
 use Rattle.prl_names.specs.Mentions.{placed_param, placed_port, placed_device, placed_import, placed_node}
 
 -- whether the name is one of the names
 abbrev pub is_among : List (List ℕ) → List ℕ → Bool
-is_among names name = is_some (place_of names name)
+is_among names name = is_some (index_of names name)
 
--- the first of the places that has the name of an earlier one
-abbrev pub repeat_behind : List (List ℕ) → List Placed → Option Placed
-repeat_behind earlier [] = None
-repeat_behind earlier (p ∷ ps) = if is_among earlier p.name then Some p else repeat_behind (earlier ++ p.name ∷ []) ps
+-- the first of these that has the name of an earlier one
+abbrev pub repeat_after : List (List ℕ) → List Placed → Option Placed
+repeat_after earlier [] = None
+repeat_after earlier (p ∷ ps) = if is_among earlier p.name then Some p else repeat_after (earlier ++ p.name ∷ []) ps
 
 abbrev pub repeat_in : List Placed → Option Placed
-repeat_in space = repeat_behind [] space
+repeat_in space = repeat_after [] space
 
--- the front of the list that stands before a place of the text, and what stands behind that front
+-- the front of the list that stands before a byte of the text, and what stands after that front
 abbrev pub front_before : ℕ → List Placed → List Placed
 front_before at [] = []
 front_before at (p ∷ ps) = if nat_lt p.at.at at then p ∷ front_before at ps else []

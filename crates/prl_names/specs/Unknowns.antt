@@ -15,7 +15,7 @@ either_name (Some name) other = Some name
 abbrev pub unless : Bool → List ℕ → Option (List ℕ)
 unless known name = if known then None else Some name
 
--- of a flow of the node at a place of the list of nodes
+-- of a flow of the node at an index of the list of nodes
 abbrev pub unknown_flow : ProgramTree → ℕ → List ℕ → Option (List ℕ)
 unknown_flow p node name = unless (is_some (param_at p node name)) name
 
@@ -47,7 +47,7 @@ unknown_equations p node [] = None
 unknown_equations p node (e ∷ es) =
     either_name (unknown_lefts p node e.lefts) (either_name (unknown_in p node e.right) (unknown_equations p node es))
 
--- of these nodes, counted from a place
+-- of these nodes, counted from an index
 abbrev pub unknown_from : ProgramTree → ℕ → List NodeTree → Option (List ℕ)
 unknown_from p node [] = None
 unknown_from p node (n ∷ ns) = either_name (unknown_equations p node n.eqs) (unknown_from p (node + 1) ns)

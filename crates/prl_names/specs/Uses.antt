@@ -4,7 +4,7 @@ use Rattle.std.specs.List.{flat_map}
 use Rattle.std.specs.Option.{is_some}
 use Rattle.prl_ast.specs.declared.declarations.Import.{Import}
 use Rattle.prl_ast.specs.Trees.{Tree, tree, Root, const, var, apply, group, Trees, none, more, EquationTree, NodeTree, ProgramTree}
-use Rattle.prl_names.specs.Lookups.{place_of}
+use Rattle.prl_names.specs.Lookups.{index_of}
 use Rattle.prl_names.specs.Applications.{reaches}
 
 abbrev mutual
@@ -42,7 +42,7 @@ expanded_names p main = expanded_from p main 0 p.nodes
 -- of these imports, the names of those that are applied
 abbrev pub used_among : List (List ℕ) → List Import → List (List ℕ)
 used_among applied [] = []
-used_among applied (i ∷ is) = if is_some (place_of applied i.name) then i.name ∷ used_among applied is else used_among applied is
+used_among applied (i ∷ is) = if is_some (index_of applied i.name) then i.name ∷ used_among applied is else used_among applied is
 
 -- the imports that main's expansion applies, in the order of their declarations
 abbrev pub used_imports : ProgramTree → ℕ → List (List ℕ)

@@ -11,13 +11,13 @@ ghost use Rattle.prl_names.specs.Tables.{found};
 ghost use Rattle.prl_names.specs.Unknowns.{absent_by, absent_from, undefined_in, undefined_of};
 
 use crate::mentions::{Mention, devices, push_placed};
-use crate::tables::{Places, found, places};
+use crate::tables::{Indices, found, indices};
 use prl_ast::{Device, Node, Param, Program};
 use prl_base::Name;
 use std::alloc::{AllocError, Global};
 
 /// The first of the parameters whose name is not in the table.
-fn absent<'n>(table: &Places<'_>, params: &'n [Param]) -> Option<&'n Name>
+fn absent<'n>(table: &Indices<'_>, params: &'n [Param]) -> Option<&'n Name>
     ensures { option_copied result ≡ absent_by (λ name. is_some (found table.now name)) params.now }
 {
     for param in params {
@@ -44,7 +44,7 @@ fn undefined_in(alloc: Global, node: &Node) -> Result<Option<&Name>, AllocError>
     ensures { IfOk result (λ name. option_copied name ≡ undefined_in (node_tree node.now)) }
 {
     let lefts = lefts(alloc, node)?;
-    let table = places(alloc, lefts.as_slice())?;
+    let table = indices(alloc, lefts.as_slice())?;
     match absent(&table, node.outs.as_slice()) {
         Some(name) => Ok(Some(name)),
         None => Ok(absent(&table, node.locals.as_slice())),
@@ -73,7 +73,7 @@ fn unlinked<'n>(
     ensures { IfOk result (λ name. option_copied name ≡ absent_from (device_names list.now) params.now) }
 {
     let list = devices(alloc, list)?;
-    let table = places(alloc, list.as_slice())?;
+    let table = indices(alloc, list.as_slice())?;
     Ok(absent(&table, params))
 }
 

@@ -63,7 +63,7 @@ fn mark_equations(names: &Names<'_>, row: &mut [bool], equations: &[Equation])
     }
 }
 
-/// Which nodes the node at this place applies.
+/// Which nodes the node at this index applies.
 fn row_of(alloc: Global, names: &Names<'_>, by: usize, node: &Node) -> Result<Vec<bool>, AllocError>
     requires { slice_get (program_tree names.now).nodes by ≡ Some (node_tree node.now) }
     ensures { IfOk result (λ row. IsRow (program_tree names.now) 0 by row.items) }

@@ -2,10 +2,10 @@
 
 ghost use Rattle.std.specs.Prelude.{◌≡◌, ◌<◌, IfOk, IfSome, length};
 ghost use Rattle.std.specs.Option.{option_copied};
-ghost use Rattle.prl_base.specs.Reading.{Gives};
+ghost use Rattle.prl_base.specs.Reading.{GivesBut};
 ghost use Rattle.prl_ast.specs.Trees.{program_tree};
 ghost use Rattle.prl_names.specs.Named.{IsNamed};
-ghost use Rattle.prl_names.specs.Checks.{fault_of, main_of, names_of};
+ghost use Rattle.prl_names.specs.Checks.{main_of, names_of};
 
 use crate::absences::{undefined, without_device};
 use crate::applications::recursive;
@@ -42,9 +42,9 @@ impl From<AllocError> for NameFault {
     }
 }
 
-/// The place of the main node: the one of the name, or where no name is given the last.
+/// The index of the main node: the one of the name, or where no name is given the last.
 fn main_of(names: &Names<'_>, main: Option<&Label>) -> Option<usize>
-    ensures place { result ≡ main_of (program_tree names.now) (option_copied main.entry) }
+    ensures index { result ≡ main_of (program_tree names.now) (option_copied main.entry) }
     ensures within { IfSome result (λ node. node < length names.now.nodes) }
 {
     let nodes = names.program().nodes.as_slice();
@@ -67,10 +67,10 @@ fn main_of(names: &Names<'_>, main: Option<&Label>) -> Option<usize>
     }
 }
 
-/// The place of the main node, or the first fault.
+/// The index of the main node, or the first fault.
 #[tactic(auto, unfolding(crate::specs::Checks::names_of))]
 fn checked(alloc: Global, names: &Names<'_>, main: Option<&Label>) -> Result<usize, NameFault>
-    ensures { Gives (λ node. node) fault_of result (names_of (program_tree names.now) (option_copied main.entry)) }
+    ensures { GivesBut NameFault.Memory (λ node. node) result (names_of (program_tree names.now) (option_copied main.entry)) }
 {
     let program = names.program();
     if let Some(mention) = repeat(alloc, names)? {
@@ -85,17 +85,14 @@ fn checked(alloc: Global, names: &Names<'_>, main: Option<&Label>) -> Result<usi
     if let Some(name) = recursive(alloc, names)? {
         return Err(NameFault::Recursive(name.copy(alloc)?));
     }
-    let node = match main_of(names, main) {
-        Some(node) => node,
-        None => return Err(NameFault::NoMain),
-    };
+    let node = main_of(names, main).ok_or(NameFault::NoMain)?;
     if let Some(name) = without_device(alloc, program, node)? {
         return Err(NameFault::Unknown(name.copy(alloc)?));
     }
     Ok(node)
 }
 
-/// The place of the main node in the list of nodes, counted from 0: of the node of the name `main`, or where no
+/// The index of the main node in the list of nodes, counted from 0: of the node of the name `main`, or where no
 /// name is given of the last.
 ///
 /// Else the first fault in this order, and within a row the first in the order of the text. All nodes are looked at,
@@ -116,7 +113,7 @@ pub fn check_names(
     main: Option<&Label>,
 ) -> Result<usize, NameFault>
     // The main node, or the first fault.
-    ensures exact { Gives (λ node. node) fault_of result (names_of (program_tree names.now) (option_copied main.entry)) }
+    ensures exact { GivesBut NameFault.Memory (λ node. node) result (names_of (program_tree names.now) (option_copied main.entry)) }
     // What is known of a program whose names are right.
     ensures named { IfOk result (IsNamed (program_tree names.now)) }
 {

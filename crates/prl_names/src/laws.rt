@@ -4,12 +4,12 @@ ghost use Rattle.std.specs.Prelude.{◌≡◌, ◌↔◌, ℕ, true, List, Optio
 ghost use Rattle.prl_ast.specs.Trees.{ProgramTree};
 ghost use Rattle.prl_names.specs.Applications.{reaches, Reaches};
 ghost use Rattle.prl_names.specs.Checks.{names_of};
-ghost use Rattle.prl_names.specs.Lookups.{place_of};
+ghost use Rattle.prl_names.specs.Lookups.{index_of};
 ghost use Rattle.prl_names.specs.Named.{IsNamed};
 
-/// At the place of a name stands that name.
-pub fn place_has_the_name()
-    ensures { (names : List (List ℕ)) (name : List ℕ) (place : ℕ) → place_of names name ≡ Some place → slice_get names place ≡ Some name }
+/// At the index of a name stands that name.
+pub fn index_has_the_name()
+    ensures { (names : List (List ℕ)) (name : List ℕ) (index : ℕ) → index_of names name ≡ Some index → slice_get names index ≡ Some name }
 {}
 
 /// A node reaches another through applications exactly where this is found.

@@ -14,9 +14,6 @@ mod unknowns;
 mod uses;
 
 pub use checks::{NameFault, check_names};
-pub use laws::{place_has_the_name, reaching_is_found, right_names_stand_for_something};
+pub use laws::{index_has_the_name, reaching_is_found, right_names_stand_for_something};
 pub use lookups::{Callee, Names};
 pub use uses::used_imports;
-
-#[cfg(test)]
-mod tests;

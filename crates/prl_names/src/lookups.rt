@@ -5,12 +5,12 @@ ghost use Rattle.prl_ast.specs.Trees.{program_tree};
 ghost use Rattle.prl_names.specs.Lookups.{param_at, callee_of};
 
 use crate::mentions::{imports, nodes};
-use crate::tables::{Places, all_params, found, param_in, places};
+use crate::tables::{Indices, all_params, found, indices, param_in};
 use prl_ast::Program;
 use std::alloc::{AllocError, Global};
 use std::marker::Model;
 
-/// What an application applies: a node or an import, by its place in the list of these, from 0.
+/// What an application applies: a node or an import, by its index in the list of these, from 0.
 #[derive(Clone, Copy, Debug, PartialEq, Eq)]
 pub enum Callee {
     Node(usize),
@@ -21,9 +21,9 @@ pub enum Callee {
 #[derive(Drop)]
 pub struct Names<'a> {
     program: &'a Program,
-    nodes: Places<'a>,
-    imports: Places<'a>,
-    params: Vec<Places<'a>>,
+    nodes: Indices<'a>,
+    imports: Indices<'a>,
+    params: Vec<Indices<'a>>,
 }
 
 impl<'a> Model for Names<'a> {
@@ -51,8 +51,8 @@ impl<'a> Names<'a> {
         let import_list = imports(alloc, program.imports.as_slice())?;
         Ok(Names {
             program,
-            nodes: places(alloc, node_list.as_slice())?,
-            imports: places(alloc, import_list.as_slice())?,
+            nodes: indices(alloc, node_list.as_slice())?,
+            imports: indices(alloc, import_list.as_slice())?,
             params: all_params(alloc, program.nodes.as_slice())?,
         })
     }
@@ -64,8 +64,8 @@ impl<'a> Names<'a> {
         self.program
     }
 
-    /// The place of the parameter of this name of the node at this place in the list of nodes: inputs, outputs
-    /// and locals are counted from 0, one behind the other. None where there is no such node or parameter;
+    /// The index of the parameter of this name of the node at this index in the list of nodes: inputs, outputs
+    /// and locals are counted from 0, one after the other. None where there is no such node or parameter;
     /// where several have the name, the first. Takes no memory.
     pub fn param(&self, node: usize, name: &[u8]) -> Option<usize>
         ensures { result ≡ param_at (program_tree self.now) node name.now }

@@ -40,7 +40,7 @@ fn first_of<'a>(a: Option<Mention<'a>>, b: Option<Mention<'a>>) -> Option<Mentio
     }
 }
 
-/// Appends those of the others, counted from `from`, that stand before the place one behind the other, and
+/// Appends those of the others, counted from `from`, that stand before the byte `at`, one after the other, and
 /// gives where they end.
 fn push_front<'a>(
     list: &mut Vec<Mention<'a>>,
@@ -134,7 +134,7 @@ fn push_defined<'a>(
     Ok(())
 }
 
-/// What defines a flow of the node at this place: the inputs, and the left names that are flows.
+/// What defines a flow of the node at this index: the inputs, and the left names that are flows.
 fn definitions<'a>(
     alloc: Global,
     names: &Names<'_>,

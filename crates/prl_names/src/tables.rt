@@ -1,22 +1,22 @@
-//! Tables of the places of names.
+//! Tables of the indices of names.
 
 ghost use Rattle.std.specs.Prelude.{◌≡◌, IfOk, map, slice_get};
 ghost use Rattle.std.specs.Option.{option_and_then};
 ghost use Rattle.prl_ast.specs.Trees.{node_tree};
 ghost use Rattle.prl_names.specs.Mentions.{names_in};
-ghost use Rattle.prl_names.specs.Tables.{found, ArePlaces, AreParams};
+ghost use Rattle.prl_names.specs.Tables.{found, AreIndices, AreParams};
 
 use crate::mentions::{Mention, flows};
 use prl_ast::Node;
 use std::alloc::{AllocError, Global};
 use std::collections::BTreeMap;
 
-/// The place of the first of each name of a list.
-pub type Places<'a> = BTreeMap<&'a [u8], usize>;
+/// The index of the first of each name of a list.
+pub type Indices<'a> = BTreeMap<&'a [u8], usize>;
 
-/// The place of the first of each of the names.
-pub fn places<'a>(alloc: Global, mentions: &[Mention<'a>]) -> Result<Places<'a>, AllocError>
-    ensures { IfOk result (λ table. ArePlaces table (names_in mentions.now)) }
+/// The index of the first of each of the names.
+pub fn indices<'a>(alloc: Global, mentions: &[Mention<'a>]) -> Result<Indices<'a>, AllocError>
+    ensures { IfOk result (λ table. AreIndices table (names_in mentions.now)) }
 {
     let mut table = BTreeMap::new(alloc);
     for (k, mention) in mentions.iter().enumerate() {
@@ -28,28 +28,28 @@ pub fn places<'a>(alloc: Global, mentions: &[Mention<'a>]) -> Result<Places<'a>,
     Ok(table)
 }
 
-/// The place of the name.
-pub fn found(table: &Places<'_>, name: &[u8]) -> Option<usize>
+/// The index of the name.
+pub fn found(table: &Indices<'_>, name: &[u8]) -> Option<usize>
     ensures { result ≡ found table.now name.now }
 {
     table.get(name).copied()
 }
 
-/// The places of the parameters of each node.
-pub fn all_params(alloc: Global, nodes: &[Node]) -> Result<Vec<Places<'_>>, AllocError>
+/// The indices of the parameters of each node.
+pub fn all_params(alloc: Global, nodes: &[Node]) -> Result<Vec<Indices<'_>>, AllocError>
     ensures { IfOk result (λ tables. AreParams tables.items (map node_tree nodes.now)) }
 {
     let mut tables = Vec::new(alloc);
     for node in nodes {
         let list = flows(alloc, node)?;
-        tables.push(places(alloc, list.as_slice())?)?;
+        tables.push(indices(alloc, list.as_slice())?)?;
     }
     Ok(tables)
 }
 
-/// The place of the name in the table at this place.
+/// The index of the name in the table at this index.
 #[tactic(auto, using(std::proofs::lemmas::Option::slice_get_read, std::proofs::lemmas::Option::slice_get_past))]
-pub fn param_in(tables: &[Places<'_>], node: usize, name: &[u8]) -> Option<usize>
+pub fn param_in(tables: &[Indices<'_>], node: usize, name: &[u8]) -> Option<usize>
     ensures { result ≡ option_and_then (λ table. found table name.now) (slice_get tables.now node) }
 {
     if node < tables.len() {

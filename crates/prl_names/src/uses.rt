@@ -11,7 +11,7 @@ ghost use Rattle.prl_names.specs.Uses.{applied_names, all_applied, node_applied,
 use crate::applications::closed_rows;
 use crate::lookups::Names;
 use crate::mentions::Mention;
-use crate::tables::{found, places};
+use crate::tables::{found, indices};
 use prl_ast::{Base, Expr, Import, Node};
 use prl_base::Name;
 use std::alloc::{AllocError, Global};
@@ -80,7 +80,7 @@ fn used_among(
 ) -> Result<Vec<Name>, AllocError>
     ensures { IfOk result (λ used. vec_items used ≡ used_among (names_in applied.now) imports.now) }
 {
-    let table = places(alloc, applied)?;
+    let table = indices(alloc, applied)?;
     let mut used = Vec::new(alloc);
     for import in imports {
         if found(&table, import.name.bytes()).is_some() {
@@ -90,7 +90,7 @@ fn used_among(
     Ok(used)
 }
 
-/// The names of the imports that the expansion of the node at the place `main` applies, in the order of their
+/// The names of the imports that the expansion of the node at the index `main` applies, in the order of their
 /// declarations: those that `main` or a node that it reaches applies.
 pub fn used_imports(alloc: Global, names: &Names<'_>, main: usize) -> Result<Vec<Name>, AllocError>
     requires { main < length names.now.nodes }

@@ -13,7 +13,7 @@ use Rattle.std.specs.Str.{bytes_eq}
 use Rattle.prl_ast.specs.declared.declarations.Node.{Node}
 use Rattle.prl_ast.specs.declared.declarations.Port.{Port}
 use Rattle.prl_ast.specs.Trees.{NodeTree, ProgramTree, node_tree}
-use Rattle.prl_names.specs.Lookups.{place_from, params_of, param_names, param_of, param_at}
+use Rattle.prl_names.specs.Lookups.{index_from, params_of, param_names, param_of, param_at}
 use Rattle.prl_types.specs.declared.terms.Term.TheVariants as terms
 use Rattle.prl_types.specs.declared.contexts.Parameter.{Parameter}
 use Rattle.prl_types.specs.Contexts.{owned_of, AreListed, AreParameters, AreFirsts}
@@ -21,11 +21,11 @@ use Rattle.prl_types.specs.Typing.{HasParameter}
 use Rattle.prl_types.specs.Flows.{parameters_from, port_types}
 use Rattle.prl_types.specs.Parameters.{Owned, owned, owned_by, all_owned, count_of, first_of}
 
-place_within : (j : ℕ) (names : List (List ℕ)) (name : List ℕ) (k : ℕ) → place_from j names name ≡ Some k → k < j + length names
+place_within : (j : ℕ) (names : List (List ℕ)) (name : List ℕ) (k : ℕ) → index_from j names name ≡ Some k → k < j + length names
 place_within j [] name k e = absurd (cc)
 place_within j (n ∷ ns) name k e =
     let rest = place_within (j + 1) ns name k in
-    (elim (bytes_eq n name) as (λ (b : Bool). (if b then Some j else place_from (j + 1) ns name) ≡ Some k → k < j + suc (length ns)) [
+    (elim (bytes_eq n name) as (λ (b : Bool). (if b then Some j else index_from (j + 1) ns name) ≡ Some k → k < j + suc (length ns)) [
       | true ↦ λ f. let same : j ≡ k = cc in omega arith
       | false ↦ λ f. let below : k < j + 1 + length ns = rest f in omega arith
     ]) e

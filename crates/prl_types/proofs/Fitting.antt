@@ -21,15 +21,15 @@ use Rattle.prl_types.specs.Flows.{port_types, parameters_from, import_inputs, im
 use Rattle.prl_types.specs.Parameters.{Owned, parameters_of, count_of, first_of, parameter_or, named}
 use Rattle.prl_types.specs.Rules.{declared_rule, declared_rules, constant_rule, constant_rules, argument_rules, rules_in, root_rules, all_rules, left_rules, equation_rules, equations_rules, nodes_rules, rules_of}
 use Rattle.prl_types.proofs.Declared.{param_inside, number_fits, node_room}
-use Rattle.prl_types.proofs.Walking.{terms-placed_flows}
+use Rattle.prl_types.proofs.Walking.{terms_placed_flows}
 
 abbrev FitTerms : ℕ → List Term → Type 0
 FitTerms n [] = Unit {0}
 FitTerms n (t ∷ ts) = FitsTerm n t × FitTerms n ts
 
-fit-append : (n : ℕ) (xs ys : List Term) → FitTerms n xs → FitTerms n ys → FitTerms n (xs ++ ys)
-fit-append n [] ys f g = g
-fit-append n (x ∷ xs) ys f g = (f.0, fit-append n xs ys f.1 g)
+fit_append : (n : ℕ) (xs ys : List Term) → FitTerms n xs → FitTerms n ys → FitTerms n (xs ++ ys)
+fit_append n [] ys f g = g
+fit_append n (x ∷ xs) ys f g = (f.0, fit_append n xs ys f.1 g)
 
 fits_or : (p : ProgramTree) (node : ℕ) (name : List ℕ) (o : Option ℕ) → param_at p node name ≡ o → FitsTerm (count_of p) (parameter_or p node o)
 fits_or p node name None e = tt
@@ -100,11 +100,11 @@ mutual
 
   all_flows_fit : (p : ProgramTree) (node : ℕ) (ts : Trees) → FitTerms (count_of p) (all_flows p node ts)
   all_flows_fit p node none = tt
-  all_flows_fit p node (more t ts) = fit-append (count_of p) (flows_of p node t) (all_flows p node ts) (flows_fit p node t) (all_flows_fit p node ts)
+  all_flows_fit p node (more t ts) = fit_append (count_of p) (flows_of p node t) (all_flows p node ts) (flows_fit p node t) (all_flows_fit p node ts)
 
-rules-append : (n : ℕ) (xs ys : List Rule) → FitRules n xs → FitRules n ys → FitRules n (xs ++ ys)
-rules-append n [] ys f g = g
-rules-append n (x ∷ xs) ys f g = (f.0, rules-append n xs ys f.1 g)
+rules_append : (n : ℕ) (xs ys : List Rule) → FitRules n xs → FitRules n ys → FitRules n (xs ++ ys)
+rules_append n [] ys f g = g
+rules_append n (x ∷ xs) ys f g = (f.0, rules_append n xs ys f.1 g)
 
 constant_fits : (n : ℕ) (of : Term) (at : ℕ) (op : Op) → FitsTerm n of → FitRules n (constant_rule of at op)
 constant_fits n of at (ops.Fby v) h = ((h, tt), tt)
@@ -116,7 +116,7 @@ constant_fits n of at (ops.Shift q) h = tt
 
 constants_fit : (n : ℕ) (of : Term) (os : List PlacedOp) → FitsTerm n of → FitRules n (constant_rules of os)
 constants_fit n of [] h = tt
-constants_fit n of (o ∷ os) h = rules-append n (constant_rules of os) (constant_rule of o.at.at o.op) (constants_fit n of os h) (constant_fits n of o.at.at o.op h)
+constants_fit n of (o ∷ os) h = rules_append n (constant_rules of os) (constant_rule of o.at.at o.op) (constants_fit n of os h) (constant_fits n of o.at.at o.op h)
 
 arguments_fit : (n : ℕ) (ts : List Term) (fs : List Flow) → FitTerms n ts → FitTerms n (terms_of fs) → FitRules n (argument_rules ts fs)
 arguments_fit n [] fs f g = tt
@@ -125,20 +125,20 @@ arguments_fit n (t ∷ ts) (x ∷ fs) f g = ((f.0, g.0), arguments_fit n ts fs f
 
 mutual
   rules_in_fit : (p : ProgramTree) (node : ℕ) (t : Tree) → FitRules (count_of p) (rules_in p node t)
-  rules_in_fit p node (tree pre root post at) = rules-append (count_of p) (root_rules p node root) (constant_rules (operand (root_flows p node root)) pre)
+  rules_in_fit p node (tree pre root post at) = rules_append (count_of p) (root_rules p node root) (constant_rules (operand (root_flows p node root)) pre)
       (root_rules_fit p node root) (constants_fit (count_of p) (operand (root_flows p node root)) pre (operand_fits (count_of p) (root_flows p node root) (root_flows_fit p node root)))
 
   root_rules_fit : (p : ProgramTree) (node : ℕ) (r : Root) → FitRules (count_of p) (root_rules p node r)
   root_rules_fit p node (const v) = tt
   root_rules_fit p node (var name) = tt
-  root_rules_fit p node (apply name at args) = rules-append (count_of p) (all_rules p node args) (argument_rules (inputs_of p (callee_of p name)) (placed_flows p node args)) (all_rules_fit p node args)
+  root_rules_fit p node (apply name at args) = rules_append (count_of p) (all_rules p node args) (argument_rules (inputs_of p (callee_of p name)) (placed_flows p node args)) (all_rules_fit p node args)
       (arguments_fit (count_of p) (inputs_of p (callee_of p name)) (placed_flows p node args) (inputs_fit p (callee_of p name))
-      (subst (λ (ts : List Term). FitTerms (count_of p) ts) (sym (terms-placed_flows p node args)) (all_flows_fit p node args)))
+      (subst (λ (ts : List Term). FitTerms (count_of p) ts) (sym (terms_placed_flows p node args)) (all_flows_fit p node args)))
   root_rules_fit p node (group parts) = all_rules_fit p node parts
 
   all_rules_fit : (p : ProgramTree) (node : ℕ) (ts : Trees) → FitRules (count_of p) (all_rules p node ts)
   all_rules_fit p node none = tt
-  all_rules_fit p node (more t ts) = rules-append (count_of p) (rules_in p node t) (all_rules p node ts) (rules_in_fit p node t) (all_rules_fit p node ts)
+  all_rules_fit p node (more t ts) = rules_append (count_of p) (rules_in p node t) (all_rules p node ts) (rules_in_fit p node t) (all_rules_fit p node ts)
 
 lefts_fit : (p : ProgramTree) (node : ℕ) (ls : List Placed) (fs : List Term) → FitTerms (count_of p) fs → FitRules (count_of p) (left_rules p node ls fs)
 lefts_fit p node [] fs h = tt
@@ -147,13 +147,13 @@ lefts_fit p node (l ∷ ls) (f ∷ fs) h = ((fits_named p node l.name, h.0), lef
 
 equations_fit : (p : ProgramTree) (node : ℕ) (es : List EquationTree) → FitRules (count_of p) (equations_rules p node es)
 equations_fit p node [] = tt
-equations_fit p node (e ∷ es) = rules-append (count_of p) (equation_rules p node e) (equations_rules p node es)
-    (rules-append (count_of p) (rules_in p node e.right) (left_rules p node e.lefts (flows_of p node e.right)) (rules_in_fit p node e.right) (lefts_fit p node e.lefts (flows_of p node e.right) (flows_fit p node e.right)))
+equations_fit p node (e ∷ es) = rules_append (count_of p) (equation_rules p node e) (equations_rules p node es)
+    (rules_append (count_of p) (rules_in p node e.right) (left_rules p node e.lefts (flows_of p node e.right)) (rules_in_fit p node e.right) (lefts_fit p node e.lefts (flows_of p node e.right) (flows_fit p node e.right)))
     (equations_fit p node es)
 
 nodes_fit : (p : ProgramTree) (node : ℕ) (ns : List NodeTree) → FitRules (count_of p) (nodes_rules p node ns)
 nodes_fit p node [] = tt
-nodes_fit p node (n ∷ ns) = rules-append (count_of p) (equations_rules p node n.eqs) (nodes_rules p (node + 1) ns) (equations_fit p node n.eqs) (nodes_fit p (node + 1) ns)
+nodes_fit p node (n ∷ ns) = rules_append (count_of p) (equations_rules p node n.eqs) (nodes_rules p (node + 1) ns) (equations_fit p node n.eqs) (nodes_fit p (node + 1) ns)
 
 declared_fits : (n k at : ℕ) (o : Option Ty) → k < n → FitRules n (declared_rule k at o)
 declared_fits n k at None h = tt
@@ -161,9 +161,9 @@ declared_fits n k at (Some ty) h = ((tt, h), tt)
 
 declared_fit : (n k : ℕ) (os : List Owned) → k + length os ≤ n → FitRules n (declared_rules k os)
 declared_fit n k [] h = tt
-declared_fit n k (o ∷ os) h = rules-append n (declared_rule k o.param.at.at o.param.ty) (declared_rules (k + 1) os)
+declared_fit n k (o ∷ os) h = rules_append n (declared_rule k o.param.at.at o.param.ty) (declared_rules (k + 1) os)
     (declared_fits n k o.param.at.at o.param.ty (omega arith)) (declared_fit n (k + 1) os (omega arith))
 
 pub rules_fit : (p : ProgramTree) → FitRules (count_of p) (rules_of p)
 unfolding rules_of
-rules_fit p = rules-append (count_of p) (declared_rules 0 (parameters_of p)) (nodes_rules p 0 p.nodes) (declared_fit (count_of p) 0 (parameters_of p) (omega arith)) (nodes_fit p 0 p.nodes)
+rules_fit p = rules_append (count_of p) (declared_rules 0 (parameters_of p)) (nodes_rules p 0 p.nodes) (declared_fit (count_of p) 0 (parameters_of p) (omega arith)) (nodes_fit p 0 p.nodes)

@@ -11,17 +11,17 @@ use Rattle.prl_types.specs.Choices.{Choice, type_in, Meets, MeetsAll, FitsTerm}
 use Rattle.prl_types.specs.Marks.{mark_of, resolved, Follows, Solves, IsSettled, IsReplaced, IsApart, AreApart, AreJoined, Contradicts, Refuses}
 use Rattle.prl_types.proofs.Replacing.{follows_new, follows_old, same_type}
 
-pub meets-append : (c : Choice) (xs ys : List Rule) → MeetsAll c xs → MeetsAll c ys → MeetsAll c (xs ++ ys)
-meets-append c [] ys h k = k
-meets-append c (x ∷ xs) ys h k = (h.0, meets-append c xs ys h.1 k)
+pub meets_append : (c : Choice) (xs ys : List Rule) → MeetsAll c xs → MeetsAll c ys → MeetsAll c (xs ++ ys)
+meets_append c [] ys h k = k
+meets_append c (x ∷ xs) ys h k = (h.0, meets_append c xs ys h.1 k)
 
-pub meets-first : (c : Choice) (xs ys : List Rule) → MeetsAll c (xs ++ ys) → MeetsAll c xs
-meets-first c [] ys h = tt
-meets-first c (x ∷ xs) ys h = (h.0, meets-first c xs ys h.1)
+pub meets_first : (c : Choice) (xs ys : List Rule) → MeetsAll c (xs ++ ys) → MeetsAll c xs
+meets_first c [] ys h = tt
+meets_first c (x ∷ xs) ys h = (h.0, meets_first c xs ys h.1)
 
-pub meets-second : (c : Choice) (xs ys : List Rule) → MeetsAll c (xs ++ ys) → MeetsAll c ys
-meets-second c [] ys h = h
-meets-second c (x ∷ xs) ys h = meets-second c xs ys h.1
+pub meets_second : (c : Choice) (xs ys : List Rule) → MeetsAll c (xs ++ ys) → MeetsAll c ys
+meets_second c [] ys h = h
+meets_second c (x ∷ xs) ys h = meets_second c xs ys h.1
 
 pub type_of_resolved : {c : Choice} {marks : List Term} → Follows c marks → (t : Term) → type_in c (resolved marks t) ≡ type_in c t
 type_of_resolved f (terms.Known ty) = refl
@@ -42,8 +42,8 @@ chosen_follows marks ty settled = record { at = λ k. same_chosen marks ty settl
 solves_more : {rules : List Rule} {old : List Term} (rule : Rule) (new : List Term) → Solves rules old → ((c : Choice) → Follows c old → Meets c rule → Follows c new)
     → ((c : Choice) → Follows c new → Follows c old × Meets c rule) → Solves (rules ++ rule ∷ []) new
 solves_more {rules} {old} rule new solves further back = record {
-  follows = λ c h. further c (solves.follows c (meets-first c rules (rule ∷ []) h)) (meets-second c rules (rule ∷ []) h).0;
-  meets = λ c f. let was = back c f in meets-append c rules (rule ∷ []) (solves.meets c was.0) (was.1, tt);
+  follows = λ c h. further c (solves.follows c (meets_first c rules (rule ∷ []) h)) (meets_second c rules (rule ∷ []) h).0;
+  meets = λ c f. let was = back c f in meets_append c rules (rule ∷ []) (solves.meets c was.0) (was.1, tt);
 }
 
 -- the two sides, of which the marks say these terms

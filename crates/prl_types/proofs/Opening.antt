@@ -1,11 +1,13 @@
--- The fault that a parameter's type is open.
-use Rattle.std.proofs.Common.{◌≡◌, ◌<◌, ◌∙◌, ℕ, List, [], length, map, get_or, Option, Some, Ok, subst, ap, refl, arith}
+-- The faults of names, and the fault that a parameter's type is open.
+use Rattle.std.proofs.Common.{◌≡◌, ◌≢◌, ◌<◌, ◌∙◌, ℕ, List, [], length, map, get_or, Option, Some, Ok, Err, subst, ap, refl, arith}
 use Rattle.std.proofs.lemmas.Option.{slice_get_read, slice_get-map}
 use Rattle.std.proofs.lemmas.List.{length-map}
 use Rattle.std.specs.List.{slice_get}
 use Rattle.std.specs.Option.{option_map}
 use Rattle.prl_ast.specs.Trees.{ProgramTree}
 use Rattle.prl_names.specs.Checks.{names_of}
+use Rattle.prl_names.specs.declared.checks.NameFault.{NameFault}
+use Rattle.prl_names.specs.declared.checks.NameFault.TheVariants as naming
 use Rattle.prl_types.specs.declared.contexts.Parameter.{Parameter}
 use Rattle.prl_types.specs.declared.faults.TypeFault.{TypeFault}
 use Rattle.prl_types.specs.declared.faults.TypeFault.TheVariants as faults
@@ -14,11 +16,11 @@ use Rattle.prl_types.specs.Contexts.{owned_of}
 use Rattle.prl_types.specs.Parameters.{Owned, parameters_of, count_of}
 use Rattle.prl_types.specs.Rules.{rules_of}
 use Rattle.prl_types.specs.Solutions.{IsFree}
-use Rattle.prl_types.specs.Typing.{IsFault, IsOpen}
+use Rattle.prl_types.specs.Typing.{IsFault, of_names}
 
 pub open_fault : (p : ProgramTree) (main : Option (List ℕ)) (node : ℕ) → names_of p main ≡ Ok node → arity_faults p ≡ [] → (k : ℕ) → IsFree (rules_of p) k → (q : Parameter) → slice_get (parameters_of p) k ≡ Some (owned_of q)
-    → (f : TypeFault) → IsOpen q f → IsFault p main f
-open_fault p main node names arity k free q is (faults.TypeFree in_node name) h = record {
+    → (f : TypeFault) → f ≡ faults.TypeFree q.node.now q.param.now.name → IsFault p main f
+open_fault p main node names arity k free q is f fault = rw fault record {
   node = node;
   names = names;
   arity = arity;
@@ -26,17 +28,18 @@ open_fault p main node names arity k free q is (faults.TypeFree in_node name) h 
   first = free;
   owned = owned_of q;
   is = is;
-  node_is = h.0;
-  name_is = h.1;
+  node_is = refl;
+  name_is = refl;
 }
-open_fault p main node names arity k free q is faults.Memory h = tt
-open_fault p main node names arity k free q is (faults.Twice name) h = absurd h
-open_fault p main node names arity k free q is (faults.Unknown name) h = absurd h
-open_fault p main node names arity k free q is (faults.Undefined name) h = absurd h
-open_fault p main node names arity k free q is (faults.Recursive name) h = absurd h
-open_fault p main node names arity k free q is faults.NoMain h = absurd h
-open_fault p main node names arity k free q is (faults.Arity at) h = absurd h
-open_fault p main node names arity k free q is (faults.Mismatch at wanted found) h = absurd h
+
+-- a fault of names is told as it is
+pub names_fault : (p : ProgramTree) (main : Option (List ℕ)) (fault : NameFault) → (fault ≢ naming.Memory → names_of p main ≡ Err fault) → IsFault p main (of_names fault)
+names_fault p main (naming.Twice name) is = is (λ same. cc)
+names_fault p main (naming.Unknown name) is = is (λ same. cc)
+names_fault p main (naming.Undefined name) is = is (λ same. cc)
+names_fault p main (naming.Recursive name) is = is (λ same. cc)
+names_fault p main naming.NoMain is = is (λ same. cc)
+names_fault p main naming.Memory is = tt
 
 -- the parameter that is read
 pub owned_read : (p : ProgramTree) (list : List Parameter) (k : ℕ) (q : Parameter) → map owned_of list ≡ parameters_of p → k < count_of p → q ≡ get_or list k q → slice_get (parameters_of p) k ≡ Some (owned_of q)

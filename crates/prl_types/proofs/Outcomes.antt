@@ -11,13 +11,13 @@ use Rattle.prl_names.specs.Checks.{names_of}
 use Rattle.prl_types.specs.declared.faults.TypeFault.{TypeFault}
 use Rattle.prl_types.specs.declared.faults.TypeFault.TheVariants as faults
 use Rattle.prl_types.specs.declared.terms.Rule.{Rule}
-use Rattle.prl_types.specs.Arity.{arity_faults, first_place}
+use Rattle.prl_types.specs.Arity.{arity_faults, first_at}
 use Rattle.prl_types.specs.Choices.{Choice, type_in, MeetsAll}
 use Rattle.prl_types.specs.Parameters.{Owned, parameters_of, count_of}
 use Rattle.prl_types.specs.Rules.{rules_of}
 use Rattle.prl_types.specs.Solutions.{IsMismatch, IsFree, AreTypes}
 use Rattle.prl_types.specs.Typing.{HasFreeType, IsOutcome, of_names}
-use Rattle.prl_types.proofs.Meeting.{meets-first, meets-second}
+use Rattle.prl_types.proofs.Meeting.{meets_first, meets_second}
 
 -- no choice meets the rules up to a contradiction
 no_choice : (rules : List Rule) (at : ℕ) (wanted found : Ty) → (m : IsMismatch rules at wanted found) → (c : Choice) → MeetsAll c m.earlier → type_in c m.rule.wanted ≡ type_in c m.rule.found → ⊥
@@ -26,7 +26,7 @@ no_choice rules at wanted found m c before same = m.differ (sym (m.wanted_is c b
 no_choice_of_all : (rules : List Rule) (at : ℕ) (wanted found : Ty) → IsMismatch rules at wanted found → (c : Choice) → MeetsAll c rules → ⊥
 no_choice_of_all rules at wanted found m c all =
     let split : MeetsAll c (m.earlier ++ (m.rule ∷ m.later)) = subst (λ (rs : List Rule). MeetsAll c rs) m.whole all in
-    no_choice rules at wanted found m c (meets-first c m.earlier (m.rule ∷ m.later) split) (meets-second c m.earlier (m.rule ∷ m.later) split).0
+    no_choice rules at wanted found m c (meets_first c m.earlier (m.rule ∷ m.later) split) (meets_second c m.earlier (m.rule ∷ m.later) split).0
 
 -- of two places in a list, one is the other or stands before it
 abbrev Splits : List Rule → List Rule → Rule → Rule → Type 0
@@ -50,7 +50,7 @@ splits (x ∷ e) (y ∷ f) r s l k h =
 not_later : (rules : List Rule) (at at' : ℕ) (w f w' f' : Ty) → (m : IsMismatch rules at w f) → (n : IsMismatch rules at' w' f') → (l : List Rule) → n.earlier ≡ m.earlier ++ (m.rule ∷ l) → ⊥
 not_later rules at at' w f w' f' m n l e =
     let split : MeetsAll n.choice (m.earlier ++ (m.rule ∷ l)) = subst (λ (rs : List Rule). MeetsAll n.choice rs) e n.meets in
-    no_choice rules at w f m n.choice (meets-first n.choice m.earlier (m.rule ∷ l) split) (meets-second n.choice m.earlier (m.rule ∷ l) split).0
+    no_choice rules at w f m n.choice (meets_first n.choice m.earlier (m.rule ∷ l) split) (meets_second n.choice m.earlier (m.rule ∷ l) split).0
 
 -- a fault of types with its parts
 abbrev mismatch : ℕ → Ty → Ty → Result (ℕ × List Ty) TypeFault
@@ -139,11 +139,11 @@ by_names p main e is (Err (faults.Mismatch at wanted found)) ne h = absurd (let 
 by_names p main e is (Err (faults.TypeFree node name)) ne h = absurd (let f = sym is ∙ h.names in cc)
 by_names p main e is (Err faults.Memory) ne h = absurd (ne refl)
 
-none_first : (p : ProgramTree) (at : ℕ) → arity_faults p ≡ [] → first_place (arity_faults p) ≡ Some at → ⊥
-none_first p at e f = let g : first_place (arity_faults p) ≡ None = ap first_place e in let h = sym g ∙ f in cc
+none_first : (p : ProgramTree) (at : ℕ) → arity_faults p ≡ [] → first_at (arity_faults p) ≡ Some at → ⊥
+none_first p at e f = let g : first_at (arity_faults p) ≡ None = ap first_at e in let h = sym g ∙ f in cc
 
 -- then arity
-by_arity : (p : ProgramTree) (main : Option (List ℕ)) (node at : ℕ) → names_of p main ≡ Ok node → first_place (arity_faults p) ≡ Some at → (r : Outcome) → r ≢ memory → IsOutcome p main r → r ≡ Err (faults.Arity at)
+by_arity : (p : ProgramTree) (main : Option (List ℕ)) (node at : ℕ) → names_of p main ≡ Ok node → first_at (arity_faults p) ≡ Some at → (r : Outcome) → r ≢ memory → IsOutcome p main r → r ≡ Err (faults.Arity at)
 by_arity p main node at is first (Ok t) ne h = absurd (none_first p at h.arity first)
 by_arity p main node at is first (Err (faults.Twice name)) ne h = absurd (let f = sym is ∙ h in cc)
 by_arity p main node at is first (Err (faults.Unknown name)) ne h = absurd (let f = sym is ∙ h in cc)
@@ -161,7 +161,7 @@ data Settled (p : ProgramTree) (main : Option (List ℕ)) (node : ℕ) (r : Outc
   contradicting : (at : ℕ) (wanted found : Ty) → r ≡ mismatch at wanted found → IsMismatch (rules_of p) at wanted found → Settled p main node r
   free : (n f : List ℕ) → r ≡ free_fault n f → HasFreeType p main n f → Settled p main node r
 
-by_types : (p : ProgramTree) (main : Option (List ℕ)) (node : ℕ) → names_of p main ≡ Ok node → first_place (arity_faults p) ≡ None → (r : Outcome) → r ≢ memory → IsOutcome p main r → Settled p main node r
+by_types : (p : ProgramTree) (main : Option (List ℕ)) (node : ℕ) → names_of p main ≡ Ok node → first_at (arity_faults p) ≡ None → (r : Outcome) → r ≢ memory → IsOutcome p main r → Settled p main node r
 by_types p main node is none (Ok t) ne h = let f = sym is ∙ h.names in let same : node ≡ t.0 = cc in typed t.1 (let whole : Ok t ≡ Ok (node, t.1) = ap (λ (k : ℕ). Ok (k, t.1)) (sym same) in whole) h.only
 by_types p main node is none (Err (faults.Twice name)) ne h = absurd (let f = sym is ∙ h in cc)
 by_types p main node is none (Err (faults.Unknown name)) ne h = absurd (let f = sym is ∙ h in cc)
@@ -184,12 +184,12 @@ one_settled p main node r s (free n f is h) (typed xs e a) = absurd (types_or_fr
 one_settled p main node r s (free n g e h) (contradicting at w f is m) = absurd (no_choice_of_all (rules_of p) at w f m h.first.one h.first.one_meets)
 one_settled p main node r s (free n f is h) (free n' f' is' h') = is ∙ one_free_fault p main n f n' f' h h' ∙ sym is'
 
-after_names : (p : ProgramTree) (main : Option (List ℕ)) (r s : Outcome) → r ≢ memory → s ≢ memory → IsOutcome p main r → IsOutcome p main s → (node : ℕ) → names_of p main ≡ Ok node → (o : Option ℕ) → first_place (arity_faults p) ≡ o → r ≡ s
+after_names : (p : ProgramTree) (main : Option (List ℕ)) (r s : Outcome) → r ≢ memory → s ≢ memory → IsOutcome p main r → IsOutcome p main s → (node : ℕ) → names_of p main ≡ Ok node → (o : Option ℕ) → first_at (arity_faults p) ≡ o → r ≡ s
 after_names p main r s m n h k node is (Some at) first = by_arity p main node at is first r m h ∙ sym (by_arity p main node at is first s n k)
 after_names p main r s m n h k node is None first = one_settled p main node r s (by_types p main node is first r m h) (by_types p main node is first s n k)
 
 at_names : (p : ProgramTree) (main : Option (List ℕ)) (r s : Outcome) → r ≢ memory → s ≢ memory → IsOutcome p main r → IsOutcome p main s → (o : Result ℕ NameFault) → names_of p main ≡ o → r ≡ s
-at_names p main r s m n h k (Ok node) is = after_names p main r s m n h k node is (first_place (arity_faults p)) refl
+at_names p main r s m n h k (Ok node) is = after_names p main r s m n h k node is (first_at (arity_faults p)) refl
 at_names p main r s m n h k (Err e) is = by_names p main e is r m h ∙ sym (by_names p main e is s n k)
 
 pub one_outcome : (p : ProgramTree) (main : Option (List ℕ)) (r s : Result (ℕ × List Ty) TypeFault) → r ≢ Err faults.Memory → s ≢ Err faults.Memory → IsOutcome p main r → IsOutcome p main s → r ≡ s

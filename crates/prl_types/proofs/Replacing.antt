@@ -11,18 +11,18 @@ use Rattle.prl_types.specs.declared.terms.Term.TheVariants as terms
 use Rattle.prl_types.specs.Choices.{Choice, type_in, FitsTerm}
 use Rattle.prl_types.specs.Marks.{mark_of, resolved, replaced, added, members_at, Follows, IsSettled, AreMembers, IsReplaced, IsApart}
 
-pub replaced-same : (a : ℕ) (by : Term) → replaced a by (terms.Parameter a) ≡ by
-replaced-same a by = elim (eqb_tells a a) [ inl e ↦ rw e.0 | inr ne ↦ absurd (ne.1 refl) ]
+pub replaced_same : (a : ℕ) (by : Term) → replaced a by (terms.Parameter a) ≡ by
+replaced_same a by = elim (eqb_tells a a) [ inl e ↦ rw e.0 | inr ne ↦ absurd (ne.1 refl) ]
 
-pub replaced-other : (a k : ℕ) (by : Term) → k ≢ a → replaced a by (terms.Parameter k) ≡ terms.Parameter k
-replaced-other a k by h = elim (eqb_tells k a) [ inl e ↦ absurd (h e.1) | inr ne ↦ rw ne.0 ]
+pub replaced_other : (a k : ℕ) (by : Term) → k ≢ a → replaced a by (terms.Parameter k) ≡ terms.Parameter k
+replaced_other a k by h = elim (eqb_tells k a) [ inl e ↦ absurd (h e.1) | inr ne ↦ rw ne.0 ]
 
 -- where the mark was that parameter, it is the other term now
-pub new_mark-same : {a : ℕ} {by : Term} {old new : List Term} → IsReplaced a by old new → (k : ℕ) → mark_of old k ≡ terms.Parameter a → mark_of new k ≡ by
-new_mark-same {a} {by} {old} {new} h k e = h.at k ∙ ap (λ t. replaced a by t) e ∙ replaced-same a by
+pub new_mark_same : {a : ℕ} {by : Term} {old new : List Term} → IsReplaced a by old new → (k : ℕ) → mark_of old k ≡ terms.Parameter a → mark_of new k ≡ by
+new_mark_same {a} {by} {old} {new} h k e = h.at k ∙ ap (λ t. replaced a by t) e ∙ replaced_same a by
 
-pub new_mark-other : {a : ℕ} {by : Term} {old new : List Term} → IsReplaced a by old new → (k c : ℕ) → mark_of old k ≡ terms.Parameter c → c ≢ a → mark_of new k ≡ terms.Parameter c
-new_mark-other {a} {by} {old} {new} h k c e ne = h.at k ∙ ap (λ t. replaced a by t) e ∙ replaced-other a c by ne
+pub new_mark_other : {a : ℕ} {by : Term} {old new : List Term} → IsReplaced a by old new → (k c : ℕ) → mark_of old k ≡ terms.Parameter c → c ≢ a → mark_of new k ≡ terms.Parameter c
+new_mark_other {a} {by} {old} {new} h k c e ne = h.at k ∙ ap (λ t. replaced a by t) e ∙ replaced_other a c by ne
 
 -- what a mark was that is a parameter now
 replaced_cases : (a c : ℕ) (by t : Term) → replaced a by t ≡ terms.Parameter c
@@ -41,24 +41,24 @@ pub old_mark : {a : ℕ} {by : Term} {old new : List Term} → IsReplaced a by o
 old_mark {a} {by} {old} {new} h k c e = replaced_cases a c by (mark_of old k) (sym (h.at k) ∙ e)
 
 -- the types are those that they were, where the parameter has the type of the other term
-type_in-replaced : (choice : Choice) (a : ℕ) (by t : Term) → choice a ≡ type_in choice by → type_in choice (replaced a by t) ≡ type_in choice t
-type_in-replaced choice a by (terms.Known ty) h = refl
-type_in-replaced choice a by (terms.Parameter k) h = elim (eqb_tells k a) [
+type_in_replaced : (choice : Choice) (a : ℕ) (by t : Term) → choice a ≡ type_in choice by → type_in choice (replaced a by t) ≡ type_in choice t
+type_in_replaced choice a by (terms.Known ty) h = refl
+type_in_replaced choice a by (terms.Parameter k) h = elim (eqb_tells k a) [
   | inl e ↦ let f : replaced a by (terms.Parameter k) ≡ by = rw e.0 in ap (type_in choice) f ∙ sym h ∙ sym (ap choice e.1)
-  | inr ne ↦ ap (type_in choice) (replaced-other a k by ne.1)
+  | inr ne ↦ ap (type_in choice) (replaced_other a k by ne.1)
 ]
 
 pub follows_new : {a : ℕ} {by : Term} {old new : List Term} → IsReplaced a by old new → (choice : Choice) → Follows choice old → choice a ≡ type_in choice by → Follows choice new
 follows_new {a} {by} {old} {new} h choice follows same = record {
-  at = λ k. follows.at k ∙ sym (type_in-replaced choice a by (mark_of old k) same) ∙ sym (ap (type_in choice) (h.at k));
+  at = λ k. follows.at k ∙ sym (type_in_replaced choice a by (mark_of old k) same) ∙ sym (ap (type_in choice) (h.at k));
 }
 
 pub same_type : {a : ℕ} {by : Term} {old new : List Term} → IsReplaced a by old new → mark_of old a ≡ terms.Parameter a → (choice : Choice) → Follows choice new → choice a ≡ type_in choice by
-same_type {a} {by} {old} {new} h own choice follows = follows.at a ∙ ap (type_in choice) (new_mark-same h a own)
+same_type {a} {by} {old} {new} h own choice follows = follows.at a ∙ ap (type_in choice) (new_mark_same h a own)
 
 pub follows_old : {a : ℕ} {by : Term} {old new : List Term} → IsReplaced a by old new → mark_of old a ≡ terms.Parameter a → (choice : Choice) → Follows choice new → Follows choice old
 follows_old {a} {by} {old} {new} h own choice follows = record {
-  at = λ k. follows.at k ∙ ap (type_in choice) (h.at k) ∙ type_in-replaced choice a by (mark_of old k) (same_type h own choice follows);
+  at = λ k. follows.at k ∙ ap (type_in choice) (h.at k) ∙ type_in_replaced choice a by (mark_of old k) (same_type h own choice follows);
 }
 
 by_marks : {a : ℕ} {by : Term} {old : List Term} → IsApart a by old → (c : ℕ) → by ≡ terms.Parameter c → (mark_of old c ≡ terms.Parameter c) × (c < length old) × (c ≢ a)
@@ -70,8 +70,8 @@ by_marks {a} {by} {old} h c e = (
 
 settled_own : {a : ℕ} {by : Term} {old new : List Term} → IsReplaced a by old new → IsApart a by old → IsSettled old → (k c : ℕ) → mark_of new k ≡ terms.Parameter c → mark_of new c ≡ terms.Parameter c
 settled_own {a} {by} {old} {new} h apart settled k c e = elim (old_mark h k c e) [
-  | inl here ↦ let own = by_marks apart c here.1 in new_mark-other h c c own.0 own.2
-  | inr there ↦ new_mark-other h c c (settled.own k c there.0) there.1
+  | inl here ↦ let own = by_marks apart c here.1 in new_mark_other h c c own.0 own.2
+  | inr there ↦ new_mark_other h c c (settled.own k c there.0) there.1
 ]
 
 settled_within : {a : ℕ} {by : Term} {old new : List Term} → IsReplaced a by old new → IsApart a by old → IsSettled old → (k c : ℕ) → k < length new → mark_of new k ≡ terms.Parameter c → c < length new
@@ -155,10 +155,10 @@ moves_member a c (terms.Parameter b) members m e lt h =
     subst (λ (xs : List ℕ). Contains xs m) (sym (added_same (set members a []) b c (members_at members a) is (omega arith)))
     (Contains-append_right (members_at (set members a []) b) (members_at members a) m h)
 
-length-after : (a : ℕ) (by : Term) (members : List (List ℕ)) → length (after a by members) ≡ length members
+length_after : (a : ℕ) (by : Term) (members : List (List ℕ)) → length (after a by members) ≡ length members
 unfolding after
-length-after a (terms.Known ty) members = length-set members a []
-length-after a (terms.Parameter b) members = length-set (set members a []) b (members_at (set members a []) b ++ members_at members a) ∙ length-set members a []
+length_after a (terms.Known ty) members = length-set members a []
+length_after a (terms.Parameter b) members = length-set (set members a []) b (members_at (set members a []) b ++ members_at members a) ∙ length-set members a []
 
 fits_members : (by : Term) (n m : ℕ) → m ≡ n → FitsTerm n by → FitsTerm m by
 fits_members by n m e h = subst (λ (k : ℕ). FitsTerm k by) (sym e) h
@@ -192,17 +192,17 @@ marked_new {a} {by} {old} {new} {members} h apart m x c among e =
     let inside : a < length old = apart.inside in
     elim (was_member a by members c x (omega arith) (fits_members by (length old) (length members) lengths apart.by_inside) among) [
       | inl was ↦ elim (old_mark h c c e) [
-        | inl here ↦ new_mark-other h x c (m.marked x c was.0 (by_marks apart c here.1).0) was.1
-        | inr there ↦ new_mark-other h x c (m.marked x c was.0 there.0) was.1
+        | inl here ↦ new_mark_other h x c (m.marked x c was.0 (by_marks apart c here.1).0) was.1
+        | inr there ↦ new_mark_other h x c (m.marked x c was.0 there.0) was.1
       ]
-      | inr new' ↦ new_mark-same h x (m.marked x a new'.0 apart.own) ∙ new'.1
+      | inr new' ↦ new_mark_same h x (m.marked x a new'.0 apart.own) ∙ new'.1
     ]
 
 pub members_new : {a : ℕ} {by : Term} {old new : List Term} {members : List (List ℕ)} → IsReplaced a by old new → IsApart a by old → AreMembers old members
     → AreMembers new (added by (members_at members a) (set members a []))
 unfolding after
 members_new {a} {by} {old} {new} {members} h apart m = record {
-  lengths = length-after a by members ∙ m.lengths ∙ sym h.count;
+  lengths = length_after a by members ∙ m.lengths ∙ sym h.count;
   all = all_new h apart m;
   only = only_new h apart m;
   marked = marked_new h apart m;
@@ -221,7 +221,7 @@ is_parameter (terms.Parameter k) a = elim (eqb_tells k a) [
 
 unreplaced : (t by : Term) (a : ℕ) → t ≢ terms.Parameter a → replaced a by t ≡ t
 unreplaced (terms.Known ty) by a ne = refl
-unreplaced (terms.Parameter k) by a ne = replaced-other a k by (λ e. ne (ap (λ n. terms.Parameter n) e))
+unreplaced (terms.Parameter k) by a ne = replaced_other a k by (λ e. ne (ap (λ n. terms.Parameter n) e))
 
 within_marks : (marks : List Term) (k a : ℕ) → a < length marks → mark_of marks k ≡ terms.Parameter a → k < length marks
 within_marks marks k a lt e = elim (eqb_tells k a) [
@@ -241,7 +241,7 @@ replaced_at : {a : ℕ} {by : Term} {old : List Term} {members : List (List ℕ)
 replaced_at {a} {by} {old} {members} new apart m marked others k = elim (is_parameter (mark_of old k) a) [
   | inl is ↦ let among = m.all k a (within_marks old k a apart.inside is) is in
       let here : get_or (members_at members a) among.0 0 ≡ k = member_at (members_at members a) among.0 k among.1 among.2 in
-      subst (λ (n : ℕ). mark_of new n ≡ by) here (marked among.0 among.1) ∙ sym (replaced-same a by) ∙ ap (replaced a by) (sym is)
+      subst (λ (n : ℕ). mark_of new n ≡ by) here (marked among.0 among.1) ∙ sym (replaced_same a by) ∙ ap (replaced a by) (sym is)
   | inr not ↦ others k (λ i lt e. not (m.marked k a (subst (λ (n : ℕ). Contains (members_at members a) n) e (Contains-get_or (members_at members a) i 0 lt)) apart.own))
       ∙ sym (unreplaced (mark_of old k) by a not)
 ]

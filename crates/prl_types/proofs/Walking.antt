@@ -9,16 +9,16 @@ use Rattle.prl_types.specs.declared.terms.Term.{Term}
 use Rattle.prl_types.specs.Flows.{placed, placed_flows, terms_of, flows_of, all_flows, place_of}
 use Rattle.prl_types.specs.Rules.{argument_rules, left_rules}
 
-terms-placed : (at : ℕ) (ts : List Term) → terms_of (placed at ts) ≡ ts
-terms-placed at [] = refl
-terms-placed at (t ∷ ts) = ap (λ (us : List Term). t ∷ us) (terms-placed at ts)
+terms_placed : (at : ℕ) (ts : List Term) → terms_of (placed at ts) ≡ ts
+terms_placed at [] = refl
+terms_placed at (t ∷ ts) = ap (λ (us : List Term). t ∷ us) (terms_placed at ts)
 
-pub terms-placed_flows : (p : ProgramTree) (node : ℕ) (ts : Trees) → terms_of (placed_flows p node ts) ≡ all_flows p node ts
-terms-placed_flows p node none = refl
-terms-placed_flows p node (more t ts) =
+pub terms_placed_flows : (p : ProgramTree) (node : ℕ) (ts : Trees) → terms_of (placed_flows p node ts) ≡ all_flows p node ts
+terms_placed_flows p node none = refl
+terms_placed_flows p node (more t ts) =
     map-append (λ (f : Flow). f.term) (placed (place_of t) (flows_of p node t)) (placed_flows p node ts)
-    ∙ ap (λ (us : List Term). us ++ terms_of (placed_flows p node ts)) (terms-placed (place_of t) (flows_of p node t))
-    ∙ ap (λ (us : List Term). flows_of p node t ++ us) (terms-placed_flows p node ts)
+    ∙ ap (λ (us : List Term). us ++ terms_of (placed_flows p node ts)) (terms_placed (place_of t) (flows_of p node t))
+    ∙ ap (λ (us : List Term). flows_of p node t ++ us) (terms_placed_flows p node ts)
 
 no_arguments : (ts : List Term) (fs : List Flow) → fs ≡ [] → argument_rules ts fs ≡ []
 no_arguments [] fs e = refl

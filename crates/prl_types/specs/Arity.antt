@@ -1,4 +1,4 @@
--- The places where there is another number of flows than is needed, in the order of the text.
+-- Where, in bytes, there is another number of flows than is needed, in the order of the text.
 use Rattle.std.specs.Prelude.{ℕ, ◌+◌, ◌==◌, List, [], ◌∷◌, ◌++◌, length, nat_lt, Option, Some, None, if◌then◌else◌}
 use Rattle.prl_ast.specs.declared.expressions.PlacedOp.{PlacedOp}
 use Rattle.prl_ast.specs.Trees.{Tree, tree, Root, const, var, apply, group, Trees, none, more, EquationTree, NodeTree, ProgramTree}
@@ -8,16 +8,16 @@ use Rattle.prl_types.specs.Flows.{inputs_of, flows_of, root_flows, all_flows}
 abbrev pub unless_equal : ℕ → ℕ → ℕ → List ℕ
 unless_equal found needed at = if found == needed then [] else (at ∷ [])
 
--- the place of the operator next to what stands behind the prefixes
-abbrev pub last_place : ℕ → List PlacedOp → ℕ
-last_place at [] = at
-last_place at (o ∷ os) = last_place o.at.at os
+-- where the operator stands that is next to what stands after the prefixes
+abbrev pub last_at : ℕ → List PlacedOp → ℕ
+last_at at [] = at
+last_at at (o ∷ os) = last_at o.at.at os
 
 -- An operator gives one flow, so that only the innermost one can be of another number: the first postfix, or where there
 -- is none the last prefix.
 abbrev pub prefix_fault : ℕ → List PlacedOp → List PlacedOp → List ℕ
 prefix_fault found [] post = []
-prefix_fault found (o ∷ pre) [] = unless_equal found 1 (last_place o.at.at pre)
+prefix_fault found (o ∷ pre) [] = unless_equal found 1 (last_at o.at.at pre)
 prefix_fault found (o ∷ pre) (q ∷ post) = []
 
 abbrev pub postfix_fault : ℕ → List PlacedOp → List ℕ
@@ -46,7 +46,7 @@ abbrev pub equations_faults : ProgramTree → ℕ → List EquationTree → List
 equations_faults p node [] = []
 equations_faults p node (e ∷ es) = equation_faults p node e ++ equations_faults p node es
 
--- of these nodes, the first of which stands at this place of the list of nodes
+-- of these nodes, the first of which stands at this index of the list of nodes
 abbrev pub nodes_faults : ProgramTree → ℕ → List NodeTree → List ℕ
 nodes_faults p node [] = []
 nodes_faults p node (n ∷ ns) = equations_faults p node n.eqs ++ nodes_faults p (node + 1) ns
@@ -54,9 +54,9 @@ nodes_faults p node (n ∷ ns) = equations_faults p node n.eqs ++ nodes_faults p
 unfoldable pub arity_faults : ProgramTree → List ℕ
 arity_faults p = nodes_faults p 0 p.nodes
 
-abbrev pub first_place : List ℕ → Option ℕ
-first_place [] = None
-first_place (at ∷ ats) = Some at
+abbrev pub first_at : List ℕ → Option ℕ
+first_at [] = None
+first_at (at ∷ ats) = Some at
 
 -- a number as the code counts: none past 64 bits
 abbrev pub counted : ℕ → Option ℕ

@@ -55,14 +55,14 @@ abbrev pub operand : List Term → Term
 operand [] = terms.Known types.Int
 operand (f ∷ fs) = f
 
--- behind operators there is one flow, and without an operator the flows are those of what stands there
+-- after operators there is one flow, and without an operator the flows are those of what stands there
 abbrev pub operated : List PlacedOp → List PlacedOp → List Term → List Term
 operated [] [] flows = flows
 operated [] (o ∷ post) flows = operand flows ∷ []
 operated (o ∷ pre) post flows = operand flows ∷ []
 
 abbrev mutual
-  -- the flows of an expression of the node at a place
+  -- the flows of an expression of the node at an index
   pub flows_of : ProgramTree → ℕ → Tree → List Term
   flows_of p node (tree pre root post at) = operated pre post (root_flows p node root)
 
@@ -76,7 +76,7 @@ abbrev mutual
   all_flows p node none = []
   all_flows p node (more t ts) = flows_of p node t ++ all_flows p node ts
 
--- the place of an expression's first token
+-- where an expression's first token stands
 abbrev pub place_of : Tree → ℕ
 place_of (tree pre root post at) = at.at
 

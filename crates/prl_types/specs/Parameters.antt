@@ -29,7 +29,7 @@ parameters_of p = all_owned p.nodes
 abbrev pub count_of : ProgramTree → ℕ
 count_of p = length (parameters_of p)
 
--- the number of the first parameter of the node at a place
+-- the number of the first parameter of the node at an index
 abbrev pub first_of : ProgramTree → ℕ → ℕ
 first_of p node = length (all_owned (take node p.nodes))
 

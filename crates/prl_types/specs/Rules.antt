@@ -73,7 +73,7 @@ abbrev pub equations_rules : ProgramTree → ℕ → List EquationTree → List 
 equations_rules p node [] = []
 equations_rules p node (e ∷ es) = equation_rules p node e ++ equations_rules p node es
 
--- of these nodes, the first of which stands at this place of the list of nodes
+-- of these nodes, the first of which stands at this index of the list of nodes
 abbrev pub nodes_rules : ProgramTree → ℕ → List NodeTree → List Rule
 nodes_rules p node [] = []
 nodes_rules p node (n ∷ ns) = equations_rules p node n.eqs ++ nodes_rules p (node + 1) ns

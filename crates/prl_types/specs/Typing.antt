@@ -6,10 +6,9 @@ use Rattle.prl_names.specs.declared.checks.NameFault.{NameFault}
 use Rattle.prl_names.specs.declared.checks.NameFault.TheVariants as naming
 use Rattle.prl_names.specs.Checks.{names_of}
 use Rattle.prl_names.specs.Lookups.{params_of}
-use Rattle.prl_types.specs.declared.contexts.Parameter.{Parameter}
 use Rattle.prl_types.specs.declared.faults.TypeFault.{TypeFault}
 use Rattle.prl_types.specs.declared.faults.TypeFault.TheVariants as faults
-use Rattle.prl_types.specs.Arity.{arity_faults, first_place}
+use Rattle.prl_types.specs.Arity.{arity_faults, first_at}
 use Rattle.prl_types.specs.Parameters.{Owned, parameters_of, count_of, first_of}
 use Rattle.prl_types.specs.Rules.{rules_of}
 use Rattle.prl_types.specs.Solutions.{IsMismatch, IsFree, AreTypes}
@@ -25,11 +24,11 @@ pub record IsRight (p : ProgramTree) (node : ℕ) (types : List Ty) : Type 0 whe
   pub main : Option (List ℕ)
   pub typed : IsTyped p main node types
 
--- the names are right, and this is the first place with another number of flows than is needed
+-- the names are right, and this is the first byte with another number of flows than is needed
 pub record HasArityFault (p : ProgramTree) (main : Option (List ℕ)) (at : ℕ) : Type 0 where
   pub node : ℕ
   pub names : names_of p main ≡ Ok node
-  pub first : first_place (arity_faults p) ≡ Some at
+  pub first : first_at (arity_faults p) ≡ Some at
 
 -- names and arity are right, and this is the first rule that contradicts the earlier ones
 pub record HasMismatch (p : ProgramTree) (main : Option (List ℕ)) (at : ℕ) (wanted found : Ty) : Type 0 where
@@ -71,7 +70,7 @@ of_names (naming.Recursive name) = faults.Recursive name
 of_names naming.NoMain = faults.NoMain
 of_names naming.Memory = faults.Memory
 
--- the node at this place has a parameter of this number
+-- the node of this index has a parameter of this number
 pub record HasParameter (p : ProgramTree) (node param : ℕ) : Type 0 where
   pub tree : NodeTree
   pub is : slice_get p.nodes node ≡ Some tree
@@ -80,18 +79,6 @@ pub record HasParameter (p : ProgramTree) (node param : ℕ) : Type 0 where
 -- the type of a parameter of the node
 abbrev pub IsTypeOf : ProgramTree → List Ty → ℕ → ℕ → Ty → Type 0
 IsTypeOf p types node param ty = slice_get types (first_of p node + param) ≡ Some ty
-
--- the fault that the type of this parameter is open
-abbrev pub IsOpen : Parameter → TypeFault → Type 0
-IsOpen q (faults.TypeFree node name) = (node ≡ q.node.now) × (name ≡ q.param.now.name)
-IsOpen q faults.Memory = Unit {0}
-IsOpen q (faults.Twice name) = ⊥
-IsOpen q (faults.Unknown name) = ⊥
-IsOpen q (faults.Undefined name) = ⊥
-IsOpen q (faults.Recursive name) = ⊥
-IsOpen q faults.NoMain = ⊥
-IsOpen q (faults.Arity at) = ⊥
-IsOpen q (faults.Mismatch at wanted found) = ⊥
 
 -- what the check answers for a program, but for want of memory: the main node and the types, or the fault
 abbrev pub IsOutcome : ProgramTree → Option (List ℕ) → Result (ℕ × List Ty) TypeFault → Type 0

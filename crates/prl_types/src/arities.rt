@@ -5,7 +5,7 @@ ghost use Rattle.prl_ast.specs.Trees.{tree_of, root_of, equation_tree, program_t
 ghost use Rattle.prl_names.specs.ExprLists.{all_trees};
 ghost use Rattle.prl_types.specs.Flows.{operated, flows_of, root_flows, all_flows};
 ghost use Rattle.prl_types.specs.declared.terms.Term.{Term};
-ghost use Rattle.prl_types.specs.Arity.{counted, first_place, unless_equal, last_place, prefix_fault, postfix_fault, faults_in, root_faults, all_faults, equations_faults, arity_faults};
+ghost use Rattle.prl_types.specs.Arity.{counted, first_at, unless_equal, last_at, prefix_fault, postfix_fault, faults_in, root_faults, all_faults, equations_faults, arity_faults};
 
 use crate::contexts::Context;
 use prl_ast::{Base, Equation, Expr, PlacedOp};
@@ -15,7 +15,7 @@ use prl_ast::{Base, Equation, Expr, PlacedOp};
 struct Arity {
     /// The number of flows, if it is one of 64 bits.
     flows: Option<usize>,
-    /// The first place inside where there is another number of flows than is needed.
+    /// Where inside, in bytes, there is first another number of flows than is needed.
     fault: Option<u32>,
 }
 
@@ -30,9 +30,9 @@ fn sum(a: Option<usize>, b: Option<usize>) -> Option<usize>
     }
 }
 
-/// The place, if another number was found than is needed.
+/// The byte, if another number was found than is needed.
 fn unequal(found: Option<usize>, needed: usize, at: u32) -> Option<u32>
-    ensures { (n : ℕ) → found ≡ counted n → result ≡ first_place (unless_equal n needed at) }
+    ensures { (n : ℕ) → found ≡ counted n → result ≡ first_at (unless_equal n needed at) }
 {
     match found {
         Some(n) => { if n == needed { None } else { Some(at) } }
@@ -41,7 +41,7 @@ fn unequal(found: Option<usize>, needed: usize, at: u32) -> Option<u32>
 }
 
 fn first(a: Option<u32>, b: Option<u32>) -> Option<u32>
-    ensures { (xs ys : List ℕ) → a ≡ first_place xs → b ≡ first_place ys → result ≡ first_place (xs ++ ys) }
+    ensures { (xs ys : List ℕ) → a ≡ first_at xs → b ≡ first_at ys → result ≡ first_at (xs ++ ys) }
 {
     match a {
         Some(at) => Some(at),
@@ -49,9 +49,9 @@ fn first(a: Option<u32>, b: Option<u32>) -> Option<u32>
     }
 }
 
-/// The place of the operator next to what prefixes are applied to.
-fn last_place(at: u32, operators: &[PlacedOp]) -> u32
-    ensures { result ≡ last_place at operators.now }
+/// Where the operator stands that is next to what prefixes are applied to.
+fn last_at(at: u32, operators: &[PlacedOp]) -> u32
+    ensures { result ≡ last_at at operators.now }
 {
     let mut last = at;
     for operator in operators {
@@ -61,13 +61,13 @@ fn last_place(at: u32, operators: &[PlacedOp]) -> u32
 }
 
 fn prefix_fault(found: Option<usize>, prefixes: &[PlacedOp], postfixes: &[PlacedOp]) -> Option<u32>
-    ensures { (n : ℕ) → found ≡ counted n → result ≡ first_place (prefix_fault n prefixes.now postfixes.now) }
+    ensures { (n : ℕ) → found ≡ counted n → result ≡ first_at (prefix_fault n prefixes.now postfixes.now) }
 {
     match prefixes {
         [] => None,
         [first, rest @ ..] => {
             if postfixes.is_empty() {
-                unequal(found, 1, last_place(first.at.at, rest))
+                unequal(found, 1, last_at(first.at.at, rest))
             } else {
                 None
             }
@@ -76,7 +76,7 @@ fn prefix_fault(found: Option<usize>, prefixes: &[PlacedOp], postfixes: &[Placed
 }
 
 fn postfix_fault(found: Option<usize>, postfixes: &[PlacedOp]) -> Option<u32>
-    ensures { (n : ℕ) → found ≡ counted n → result ≡ first_place (postfix_fault n postfixes.now) }
+    ensures { (n : ℕ) → found ≡ counted n → result ≡ first_at (postfix_fault n postfixes.now) }
 {
     match postfixes {
         [] => None,
@@ -84,7 +84,7 @@ fn postfix_fault(found: Option<usize>, postfixes: &[PlacedOp]) -> Option<u32>
     }
 }
 
-/// How many flows there are behind operators.
+/// How many flows there are after operators.
 fn operated(found: Option<usize>, prefixes: &[PlacedOp], postfixes: &[PlacedOp]) -> Option<usize>
     ensures { (terms : List Term) → found ≡ counted (length terms) → result ≡ counted (length (operated prefixes.now postfixes.now terms)) }
 {
@@ -98,7 +98,7 @@ fn operated(found: Option<usize>, prefixes: &[PlacedOp], postfixes: &[PlacedOp])
 #[cycle(arity)]
 fn expression(context: &Context<'_, '_>, node: usize, expr: &Expr) -> Arity
     ensures flows { result.flows ≡ counted (length (flows_of (program_tree context.now) node (tree_of expr.now))) }
-    ensures fault { result.fault ≡ first_place (faults_in (program_tree context.now) node (tree_of expr.now)) }
+    ensures fault { result.fault ≡ first_at (faults_in (program_tree context.now) node (tree_of expr.now)) }
 {
     let inner = base(context, node, &expr.base);
     let prefix = prefix_fault(inner.flows, expr.pre.as_slice(), expr.post.as_slice());
@@ -113,7 +113,7 @@ fn expression(context: &Context<'_, '_>, node: usize, expr: &Expr) -> Arity
 #[cycle(arity)]
 fn base(context: &Context<'_, '_>, node: usize, base: &Base) -> Arity
     ensures flows { result.flows ≡ counted (length (root_flows (program_tree context.now) node (root_of base.now))) }
-    ensures fault { result.fault ≡ first_place (root_faults (program_tree context.now) node (root_of base.now)) }
+    ensures fault { result.fault ≡ first_at (root_faults (program_tree context.now) node (root_of base.now)) }
 {
     match base {
         Base::Const(_) | Base::Var(_) => Arity {
@@ -136,7 +136,7 @@ fn base(context: &Context<'_, '_>, node: usize, base: &Base) -> Arity
 #[cycle(arity)]
 fn parts(context: &Context<'_, '_>, node: usize, exprs: &[Expr]) -> Arity
     ensures flows { result.flows ≡ counted (length (all_flows (program_tree context.now) node (all_trees exprs.now))) }
-    ensures fault { result.fault ≡ first_place (all_faults (program_tree context.now) node (all_trees exprs.now)) }
+    ensures fault { result.fault ≡ first_at (all_faults (program_tree context.now) node (all_trees exprs.now)) }
 {
     let mut flows = Some(0);
     let mut fault = None;
@@ -149,7 +149,7 @@ fn parts(context: &Context<'_, '_>, node: usize, exprs: &[Expr]) -> Arity
 }
 
 fn equations_fault(context: &Context<'_, '_>, node: usize, equations: &[Equation]) -> Option<u32>
-    ensures { result ≡ first_place (equations_faults (program_tree context.now) node (map equation_tree equations.now)) }
+    ensures { result ≡ first_at (equations_faults (program_tree context.now) node (map equation_tree equations.now)) }
 {
     for equation in equations {
         let right = expression(context, node, &equation.right);
@@ -162,10 +162,10 @@ fn equations_fault(context: &Context<'_, '_>, node: usize, equations: &[Equation
     None
 }
 
-/// The first place of the program where there is another number of flows than is needed.
+/// Where in the program, in bytes, there is first another number of flows than is needed.
 #[tactic(auto, unfolding(crate::specs::Arity::arity_faults))]
 pub fn arity_fault(context: &Context<'_, '_>) -> Option<u32>
-    ensures { result ≡ first_place (arity_faults (program_tree context.now)) }
+    ensures { result ≡ first_at (arity_faults (program_tree context.now)) }
 {
     for (k, node) in context.program().nodes.as_slice().iter().enumerate() {
         if let Some(at) = equations_fault(context, k, node.eqs.as_slice()) {

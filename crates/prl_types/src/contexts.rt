@@ -140,7 +140,7 @@ impl<'n, 'a> Context<'n, 'a> {
         }
     }
 
-    /// The node at this place of the list of nodes, and the number of its first parameter.
+    /// The node of this index in the list of nodes, and the number of its first parameter.
     fn node(&self, node: usize) -> Option<(&'a Node, usize)>
         ensures none { IfNone result (slice_get (program_tree self.now).nodes node ≡ None) }
         ensures node { IfSome result (λ r. slice_get (program_tree self.now).nodes node ≡ Some (node_tree r.0.now)) }
@@ -155,7 +155,7 @@ impl<'n, 'a> Context<'n, 'a> {
         }
     }
 
-    /// The import at this place of the list of imports.
+    /// The import of this index in the list of imports.
     #[tactic(auto, using(std::proofs::lemmas::Option::slice_get_read, std::proofs::lemmas::Option::slice_get_past))]
     fn import(&self, import: usize) -> Option<&'a Import>
         ensures { option_copied result ≡ slice_get (program_tree self.now).imports import }

@@ -1,6 +1,8 @@
 //! Why names, arity or types of a program are refused.
 
 use prl_base::{Name, Ty};
+use prl_names::NameFault;
+use std::alloc::AllocError;
 
 /// Why a program is refused. `check_names_types` says in which order the faults are looked for.
 #[derive(Debug, Drop)]
@@ -15,13 +17,42 @@ pub enum TypeFault {
     Recursive(Name),
     /// There is no node, or none of the name that is asked for; number 14.
     NoMain,
-    /// The place of an operator, of an application's name or of an equation, where there is another number of flows
-    /// than is needed; number 12.
+    /// Where an operator, an application's name or an equation stands that has another number of flows than it needs;
+    /// number 12.
     Arity(u32),
-    /// The place of the first type rule that contradicts the earlier ones, and the types that these give its two
+    /// Where the first type rule comes from that contradicts the earlier ones, and the types that these give its two
     /// sides; number 13.
     Mismatch { at: u32, wanted: Ty, found: Ty },
     /// A flow of a node whose type the rules leave open; number 17.
     TypeFree { node: Name, name: Name },
     Memory,
+}
+
+impl From<AllocError> for TypeFault {
+    ghost use Rattle.std.specs.Prelude.{◌≡◌};
+    ghost use Rattle.prl_types.specs.declared.faults.TypeFault.TheVariants.{Memory};
+
+    ghost from_gives = { λ _ e. e ≡ Memory };
+
+    fn from(_error: AllocError) -> TypeFault {
+        TypeFault::Memory
+    }
+}
+
+impl From<NameFault> for TypeFault {
+    ghost use Rattle.std.specs.Prelude.{◌≡◌};
+    ghost use Rattle.prl_types.specs.Typing.{of_names};
+
+    ghost from_gives = { λ fault e. e ≡ of_names fault };
+
+    fn from(fault: NameFault) -> TypeFault {
+        match fault {
+            NameFault::Twice(name) => TypeFault::Twice(name),
+            NameFault::Unknown(name) => TypeFault::Unknown(name),
+            NameFault::Undefined(name) => TypeFault::Undefined(name),
+            NameFault::Recursive(name) => TypeFault::Recursive(name),
+            NameFault::NoMain => TypeFault::NoMain,
+            NameFault::Memory => TypeFault::Memory,
+        }
+    }
 }

@@ -17,6 +17,3 @@ mod typing;
 pub use faults::TypeFault;
 pub use laws::outcome_is_unique;
 pub use typing::{Typed, check_names_types};
-
-#[cfg(test)]
-mod tests;

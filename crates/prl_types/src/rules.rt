@@ -84,22 +84,14 @@ fn operand(flows: &[Term]) -> Term
     }
 }
 
-fn one(alloc: Global, term: Term) -> Result<Vec<Term>, AllocError>
-    ensures { IfOk result (λ terms. terms.items ≡ term ∷ []) }
-{
-    let mut terms = Vec::new(alloc);
-    terms.push(term)?;
-    Ok(terms)
-}
-
-/// The flows behind operators.
+/// The flows after operators.
 fn operated(alloc: Global, expr: &Expr, flows: Vec<Term>) -> Result<Vec<Term>, AllocError>
     ensures { IfOk result (λ terms. terms.items ≡ operated expr.now.pre expr.now.post flows.items) }
 {
     if expr.pre.is_empty() && expr.post.is_empty() {
         Ok(flows)
     } else {
-        one(alloc, operand(flows.as_slice()))
+        Ok(vec![in alloc; operand(flows.as_slice())]?)
     }
 }
 
@@ -149,8 +141,8 @@ fn base(
     ensures rules { OnOk result (rules.new.items ≡ rules.old.items ++ root_rules (program_tree context.now) node (root_of base.now)) }
 {
     match base {
-        Base::Const(value) => one(alloc, Term::Known(value.ty())),
-        Base::Var(name) => one(alloc, context.named(node, name.bytes())),
+        Base::Const(value) => Ok(vec![in alloc; Term::Known(value.ty())]?),
+        Base::Var(name) => Ok(vec![in alloc; context.named(node, name.bytes())]?),
         Base::Apply { name, args, .. } => {
             let flows = parts(alloc, context, node, args.as_slice(), rules)?;
             let callee = context.callee(name.bytes());
@@ -167,7 +159,7 @@ fn base(
     }
 }
 
-/// The flows of expressions, each at the place of its expression.
+/// The flows of expressions, each at the byte of its expression.
 #[cycle(rules)]
 fn parts(
     alloc: Global,

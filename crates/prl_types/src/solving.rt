@@ -23,6 +23,17 @@ pub(crate) enum Unsolved {
     Memory,
 }
 
+impl From<AllocError> for Unsolved {
+    ghost use Rattle.std.specs.Prelude.{◌≡◌};
+    ghost use Rattle.prl_types.specs.declared.solving.Unsolved.TheVariants.{Memory};
+
+    ghost from_gives = { λ _ e. e ≡ Memory };
+
+    fn from(_error: AllocError) -> Unsolved {
+        Unsolved::Memory
+    }
+}
+
 /// What the rules so far say. Each parameter is marked with its type or with the one parameter that stands for all
 /// whose type is the same.
 #[derive(Drop)]
@@ -117,10 +128,8 @@ impl Marks {
         ensures replaced { IfOk result (λ _. IsReplaced a by self.old.marks.items self.new.marks.items) }
         ensures memory { IfErr result (λ e. e ≡ unsolved.Memory) }
     {
-        match self.replace(alloc, a, by) {
-            Ok(()) => Ok(()),
-            Err(_) => Err(Unsolved::Memory),
-        }
+        self.replace(alloc, a, by)?;
+        Ok(())
     }
 
     /// Makes one class of the two, which differ. The smaller one is marked anew, so that no parameter is marked
@@ -163,14 +172,11 @@ impl Marks {
     }
 }
 
-fn add_type(types: &mut Vec<Ty>, ty: Ty) -> Result<(), Unsolved>
-    ensures added { IfOk result (λ _. types.new.items ≡ types.old.items ++ ty ∷ []) }
-    ensures memory { IfErr result (λ e. e ≡ unsolved.Memory) }
+fn add_type(types: &mut Vec<Ty>, ty: Ty) -> Result<(), AllocError>
+    ensures { IfOk result (λ _. types.new.items ≡ types.old.items ++ ty ∷ []) }
 {
-    match types.push(ty) {
-        Ok(()) => Ok(()),
-        Err(_) => Err(Unsolved::Memory),
-    }
+    types.push(ty)?;
+    Ok(())
 }
 
 impl Marks {
@@ -198,10 +204,7 @@ fn unruled(alloc: Global, count: usize) -> Result<Marks, Unsolved>
     ensures solves { IfOk result (λ m. Solves [] m.marks.items) }
     ensures memory { IfErr result (λ e. e ≡ unsolved.Memory) }
 {
-    match Marks::new(alloc, count) {
-        Ok(marks) => Ok(marks),
-        Err(_) => Err(Unsolved::Memory),
-    }
+    Ok(Marks::new(alloc, count)?)
 }
 
 /// What the rules, in their order, say of so many parameters.

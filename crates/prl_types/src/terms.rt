@@ -13,13 +13,13 @@ pub enum Term {
 /// Two types that are to be equal.
 #[derive(Clone, Copy, Debug, PartialEq, Eq)]
 pub struct Rule {
-    /// The place in the text.
+    /// The byte of the text.
     pub at: u32,
     pub wanted: Term,
     pub found: Term,
 }
 
-/// The type of a flow, and the place in the text of the expression that gives it.
+/// The type of a flow, and the byte of the text at which the expression that gives it stands.
 #[derive(Clone, Copy, Debug, PartialEq, Eq)]
 pub struct Flow {
     pub term: Term,

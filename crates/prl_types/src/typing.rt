@@ -8,7 +8,8 @@ ghost use Rattle.prl_types.specs.Rules.{rules_of};
 ghost use Rattle.prl_types.specs.Arity.{arity_faults};
 ghost use Rattle.prl_types.specs.Solutions.{AreTypes, Explains};
 ghost use Rattle.prl_names.specs.Checks.{names_of};
-ghost use Rattle.prl_types.specs.Typing.{IsTyped, IsRight, IsFault, HasParameter, IsTypeOf, IsOpen, of_names};
+ghost use Rattle.prl_types.specs.Typing.{IsTyped, IsRight, IsFault, HasParameter, IsTypeOf};
+ghost use Rattle.prl_types.specs.declared.faults.TypeFault.TheVariants.{TypeFree};
 ghost use Rattle.std.specs.Prelude.{Ok};
 
 use crate::arities::arity_fault;
@@ -18,11 +19,11 @@ use crate::rules::rules;
 use crate::solving::{Unsolved, solve};
 use prl_ast::Program;
 use prl_base::{Label, Ty};
-use prl_names::{NameFault, Names, check_names};
-use std::alloc::Global;
+use prl_names::{Names, check_names};
+use std::alloc::{AllocError, Global};
 use std::marker::Model;
 
-/// A program whose names, arity and types are right. It borrows the program. Contracts see the program, the place of its
+/// A program whose names, arity and types are right. It borrows the program. Contracts see the program, the index of its
 /// main node, and the types of the parameters of all nodes in the order of their declaration.
 #[derive(Drop)]
 pub struct Typed<'a> {
@@ -60,7 +61,7 @@ impl<'a> Typed<'a> {
         self.program
     }
 
-    /// The place of the main node in the list of nodes, counted from 0.
+    /// The index of the main node in the list of nodes, counted from 0.
     pub fn main(&self) -> u32
         ensures main { result ≡ self.now.main }
         // Nothing is wrong with the program, and these are the only types that its rules leave.
@@ -69,8 +70,8 @@ impl<'a> Typed<'a> {
         self.main
     }
 
-    /// The type of a parameter of the node at this place of the list of nodes. Its inputs, outputs and locals are
-    /// counted from 0, one behind the other.
+    /// The type of a parameter of the node of this index in the list of nodes. Its inputs, outputs and locals are
+    /// counted from 0, one after the other.
     pub fn ty(&self, node: u32, param: u32) -> Ty
         requires { HasParameter (program_tree self.now.program) node param }
         ensures { IsTypeOf (program_tree self.now.program) self.now.types node param result }
@@ -84,35 +85,18 @@ fn types(alloc: Global, context: &Context<'_, '_>) -> Result<Vec<Ty>, Unsolved>
     ensures { MatchResult result (λ types. AreTypes (rules_of (program_tree context.now)) (count_of (program_tree context.now)) types.items)
         (Explains (rules_of (program_tree context.now)) (count_of (program_tree context.now))) }
 {
-    match rules(alloc, context) {
-        Ok(rules) => solve(alloc, rules.as_slice(), context.parameters().len()),
-        Err(_) => Err(Unsolved::Memory),
-    }
-}
-
-fn of_names(fault: NameFault) -> TypeFault
-    ensures { result ≡ of_names fault }
-{
-    match fault {
-        NameFault::Twice(name) => TypeFault::Twice(name),
-        NameFault::Unknown(name) => TypeFault::Unknown(name),
-        NameFault::Undefined(name) => TypeFault::Undefined(name),
-        NameFault::Recursive(name) => TypeFault::Recursive(name),
-        NameFault::NoMain => TypeFault::NoMain,
-        NameFault::Memory => TypeFault::Memory,
-    }
+    let rules = rules(alloc, context)?;
+    solve(alloc, rules.as_slice(), context.parameters().len())
 }
 
 /// The fault that a parameter's type is open.
-fn type_free(alloc: Global, parameter: Parameter<'_>) -> TypeFault
-    ensures { IsOpen parameter.entry result }
+fn type_free(alloc: Global, parameter: Parameter<'_>) -> Result<TypeFault, AllocError>
+    ensures { IfOk result (λ fault. fault ≡ TypeFree parameter.entry.node.now parameter.entry.param.now.name) }
 {
-    match (parameter.node.copy(alloc), parameter.param.name.copy(alloc)) {
-        (Ok(node), Ok(name)) => TypeFault::TypeFree { node, name },
-        (Ok(_), Err(_)) => TypeFault::Memory,
-        (Err(_), Ok(_)) => TypeFault::Memory,
-        (Err(_), Err(_)) => TypeFault::Memory,
-    }
+    Ok(TypeFault::TypeFree {
+        node: parameter.node.copy(alloc)?,
+        name: parameter.param.name.copy(alloc)?,
+    })
 }
 
 /// The fault of a program whose names and arity are right.
@@ -123,12 +107,16 @@ fn of_types(alloc: Global, context: &Context<'_, '_>, fault: Unsolved) -> TypeFa
 {
     match fault {
         Unsolved::Mismatch { at, wanted, found } => TypeFault::Mismatch { at, wanted, found },
-        Unsolved::Free(k) => type_free(alloc, context.parameters()[k]),
+        Unsolved::Free(k) => match type_free(alloc, context.parameters()[k]) {
+            Ok(fault) => fault,
+            Err(_) => TypeFault::Memory,
+        },
         Unsolved::Memory => TypeFault::Memory,
     }
 }
 
 /// The types of a program whose names these are.
+#[tactic(auto, using(crate::proofs::Opening::names_fault))]
 fn check<'a>(
     alloc: Global,
     program: &'a Program,
@@ -140,20 +128,13 @@ fn check<'a>(
     ensures typed { IfOk result (λ t. IsTyped (program_tree program.now) (option_copied main.entry) t.main t.types) }
     ensures fault { IfErr result (IsFault (program_tree program.now) (option_copied main.entry)) }
 {
-    let node = match check_names(alloc, names, main) {
-        Ok(node) => node,
-        Err(fault) => return Err(of_names(fault)),
-    };
+    let node = check_names(alloc, names, main)?;
     if node > u32::MAX as usize {
         return Err(TypeFault::Memory);
     }
-    let context = match Context::new(alloc, names) {
-        Ok(context) => context,
-        Err(_) => return Err(TypeFault::Memory),
-    };
-    match arity_fault(&context) {
-        Some(at) => return Err(TypeFault::Arity(at)),
-        None => {}
+    let context = Context::new(alloc, names)?;
+    if let Some(at) = arity_fault(&context) {
+        return Err(TypeFault::Arity(at));
     }
     match types(alloc, &context) {
         Ok(types) => Ok(Typed {
@@ -172,9 +153,9 @@ fn check<'a>(
 /// Else the first fault in this order. All nodes are looked at, also such as main does not apply.
 ///
 /// - `Twice`, `Unknown`, `Undefined`, `Recursive`, `NoMain`: what `check_names` of `prl_names` refuses.
-/// - `Arity`: an operator has not exactly one flow (its place is the operator's own), an application has another number
-///   of argument flows than its callee has inputs (the name's place), or an equation has another number of flows on its
-///   right than names on its left (the place of its first token): the first in the order of the text.
+/// - `Arity`: an operator has not exactly one flow (at the operator), an application has another number
+///   of argument flows than its callee has inputs (at the name), or an equation has another number of flows on its
+///   right than names on its left (at its first token): the first in the order of the text.
 /// - `Mismatch`: the first type rule that no choice of types meets together with all earlier ones, and the types that
 ///   these give what is wanted and what is found. The declared types are the first rules. Then come the equations, node by
 ///   node: in an expression the parts before the whole, the innermost operator first, all rules inside the arguments
@@ -192,8 +173,6 @@ pub fn check_names_types<'a>(
     ensures typed { IfOk result (λ t. IsTyped (program_tree program.now) (option_copied main.entry) t.main t.types) }
     ensures fault { IfErr result (IsFault (program_tree program.now) (option_copied main.entry)) }
 {
-    match Names::new(alloc, program) {
-        Ok(names) => check(alloc, program, &names, main),
-        Err(_) => Err(TypeFault::Memory),
-    }
+    let names = Names::new(alloc, program)?;
+    check(alloc, program, &names, main)
 }

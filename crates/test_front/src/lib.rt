@@ -1,4 +1,4 @@
-//! Tests of the front end's public calls: tokens, programs, bodies and the printed form.
+//! Tests of the front end's public calls: tokens, programs, bodies, the printed form, names and types.
 #![tactic(auto)]
 
 #[cfg(test)]
@@ -6,6 +6,10 @@ mod bodies;
 #[cfg(test)]
 mod lexing;
 #[cfg(test)]
+mod names;
+#[cfg(test)]
 mod printing;
 #[cfg(test)]
 mod programs;
+#[cfg(test)]
+mod types;

@@ -4,8 +4,8 @@ use Rattle.prl_names.specs.Applications.{is_node, applied_root, applied_trees}
 use Rattle.prl_names.specs.ExprLists.{all_trees}
 use Rattle.prl_names.specs.Lookups.{callee_of}
 use Rattle.prl_names.specs.Marks.{Adds}
-use Rattle.prl_names.proofs.Marking.{adds-then, adds-same, applied_step}
-use Rattle.prl_names.proofs.Rows.{root_of-Apply, root_of-Group}
+use Rattle.prl_names.proofs.Marking.{adds_then, adds_same, applied_step}
+use Rattle.prl_names.proofs.Rows.{root_of_Apply, root_of_Group}
 use Rattle.prl_names.proofs.applications.+mark.Goals as goal
 
 pub mark-returns-in-Apply : goal.mark-returns-in-Apply
@@ -16,17 +16,17 @@ mark-returns-in-Apply t c =
     let callee = λ (j : ℕ). is_node j (callee_of p name) in
     let others = λ (j : ℕ). applied_trees p j args in
     let others_are : Adds others c.mark_callee.new.row c.mark_all.new.row = rw c.deref.ensures.value at c.mark_all.ensures in
-    let whole = ap root_of c.in-Apply.is ∙ root_of-Apply name c.in-Apply.at c.in-Apply.args in
-    adds-same (λ j. callee j || others j) (λ j. applied_root p j (root_of c.args.expr.now.base)) c.args.row.now c.mark_all.new.row
-    (λ j. sym (ap (applied_root p j) whole)) (adds-then callee others c.args.row.now c.mark_callee.new.row c.mark_all.new.row c.mark_callee.ensures others_are)
+    let whole = ap root_of c.in-Apply.is ∙ root_of_Apply name c.in-Apply.at c.in-Apply.args in
+    adds_same (λ j. callee j || others j) (λ j. applied_root p j (root_of c.args.expr.now.base)) c.args.row.now c.mark_all.new.row
+    (λ j. sym (ap (applied_root p j) whole)) (adds_then callee others c.args.row.now c.mark_callee.new.row c.mark_all.new.row c.mark_callee.ensures others_are)
 
 pub mark-returns-in-Group : goal.mark-returns-in-Group
 mark-returns-in-Group t c =
     let p = program_tree c.args.names.now in
     let others = λ (j : ℕ). applied_trees p j (all_trees c.in-Group.parts.items) in
     let others_are : Adds others c.args.row.now c.mark_all-in-Group.new.row = rw c.deref-in-Group.ensures.value at c.mark_all-in-Group.ensures in
-    let whole = ap root_of c.in-Group.is ∙ root_of-Group c.in-Group.parts in
-    adds-same others (λ j. applied_root p j (root_of c.args.expr.now.base)) c.args.row.now c.mark_all-in-Group.new.row (λ j. sym (ap (applied_root p j) whole)) others_are
+    let whole = ap root_of c.in-Group.is ∙ root_of_Group c.in-Group.parts in
+    adds_same others (λ j. applied_root p j (root_of c.args.expr.now.base)) c.args.row.now c.mark_all-in-Group.new.row (λ j. sym (ap (applied_root p j) whole)) others_are
 
 pub mark_all-loop-expr-preserved : goal.mark_all-loop-expr-preserved
 mark_all-loop-expr-preserved t c =

@@ -2,7 +2,7 @@ use Rattle.std.proofs.Common.{◌<◌, length, sym, ◌∙◌, add-one}
 use Rattle.std.proofs.lemmas.List.{length-map}
 use Rattle.prl_ast.specs.Trees.{program_tree, node_tree}
 use Rattle.prl_names.specs.Marks.{led_through, row_of}
-use Rattle.prl_names.proofs.Rowing.{rows-square, all_led}
+use Rattle.prl_names.proofs.Rowing.{rows_square, all_led}
 use Rattle.prl_names.proofs.applications.closed_rows.Goals as goal
 
 pub all_led_through-requires-clause-square : goal.all_led_through-requires-clause-square
@@ -10,7 +10,7 @@ all_led_through-requires-clause-square c =
     let p = program_tree c.args.names.now in
     let count = length-map c.args.names.now.nodes node_tree in
     rw c.as_slice.ensures.value
-    (λ i d below. rows-square p c.loop-k.k 0 i c.loop-k.rows.items d c.loop-k.invariant.rows below ∙ count ∙ sym c.loop-k.invariant.len)
+    (λ i d below. rows_square p c.loop-k.k 0 i c.loop-k.rows.items d c.loop-k.invariant.rows below ∙ count ∙ sym c.loop-k.invariant.len)
 
 pub loop-k-preserved : goal.loop-k-preserved
 loop-k-preserved c =

@@ -2,11 +2,11 @@ use Rattle.std.proofs.Common.{◌∙◌, ◌++◌, ap, sym, List}
 use Rattle.prl_ast.specs.Trees.{program_tree}
 use Rattle.prl_names.specs.ExprLists.{all_trees}
 use Rattle.prl_names.specs.Lookups.{callee_of}
-use Rattle.prl_names.proofs.Rows.{root_of-Apply, root_of-Group}
+use Rattle.prl_names.proofs.Rows.{root_of_Apply, root_of_Group}
 use Rattle.prl_types.specs.declared.terms.Rule.{Rule}
 use Rattle.prl_types.specs.Flows.{root_flows, inputs_of, placed_flows, terms_of}
 use Rattle.prl_types.specs.Rules.{root_rules, all_rules}
-use Rattle.prl_types.proofs.Walking.{terms-placed_flows, application_rules}
+use Rattle.prl_types.proofs.Walking.{terms_placed_flows, application_rules}
 use Rattle.prl_types.proofs.rules.+rules.Goals as goal
 
 pub base-returns-in_ok-add_arguments-in-Apply-clause-rules : goal.base-returns-in_ok-add_arguments-in-Apply-clause-rules
@@ -15,7 +15,7 @@ base-returns-in_ok-add_arguments-in-Apply-clause-rules t c =
     let node = c.args.node in
     let args = all_trees c.in-Apply.args.items in
     let trees = ap all_trees c.as_slice.ensures.value in
-    let whole = ap (root_rules p node) (root_of-Apply c.in-Apply.name c.in-Apply.at c.in-Apply.args) in
+    let whole = ap (root_rules p node) (root_of_Apply c.in-Apply.name c.in-Apply.at c.in-Apply.args) in
     let callee = c.callee-callee.ensures ∙ ap (callee_of p) c.bytes-in-Apply.ensures.bytes in
     let inputs = c.as_slice-in-Apply.ensures.value ∙ c.in_ok-inputs-in-Apply.ensures ∙ ap (inputs_of p) callee in
     let flows = c.as_slice-in-Apply-2.ensures.value ∙ c.in_ok-flows-in-Apply.ensures.flows ∙ ap (placed_flows p node) trees in
@@ -28,15 +28,15 @@ pub base-returns-in_ok-terms-in-Group-clause-flows : goal.base-returns-in_ok-ter
 base-returns-in_ok-terms-in-Group-clause-flows t c =
     let p = program_tree c.args.context.now in
     let node = c.args.node in
-    let whole = ap (root_flows p node) (root_of-Group c.in-Group.exprs) in
+    let whole = ap (root_flows p node) (root_of_Group c.in-Group.exprs) in
     let trees = ap all_trees c.as_slice-in-Group.ensures.value in
     let flows = c.as_slice-in-Group-2.ensures.value ∙ c.in_ok-flows-in-Group.ensures.flows ∙ ap (placed_flows p node) trees in
-    rw c.in-Group.is (c.in_ok-terms-in-Group.ensures ∙ ap terms_of flows ∙ terms-placed_flows p node (all_trees c.in-Group.exprs.items) ∙ sym whole)
+    rw c.in-Group.is (c.in_ok-terms-in-Group.ensures ∙ ap terms_of flows ∙ terms_placed_flows p node (all_trees c.in-Group.exprs.items) ∙ sym whole)
 
 pub base-returns-in_ok-terms-in-Group-clause-rules : goal.base-returns-in_ok-terms-in-Group-clause-rules
 base-returns-in_ok-terms-in-Group-clause-rules t c =
     let p = program_tree c.args.context.now in
     let node = c.args.node in
-    let whole = ap (root_rules p node) (root_of-Group c.in-Group.exprs) in
+    let whole = ap (root_rules p node) (root_of_Group c.in-Group.exprs) in
     let trees = ap all_trees c.as_slice-in-Group.ensures.value in
     rw c.in-Group.is (c.in_ok-flows-in-Group.ensures.rules ∙ ap (λ ts. c.args.rules.now.items ++ all_rules p node ts) trees ∙ ap (λ (rs : List Rule). c.args.rules.now.items ++ rs) (sym whole))

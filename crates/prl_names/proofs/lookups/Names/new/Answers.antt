@@ -11,7 +11,7 @@ invariant_of-result c =
     let node_list = rw (← c.as_slice-3.ensures.value, c.as_slice.ensures) at c.in_ok-node_list.ensures in
     let import_list = rw (← c.as_slice-4.ensures.value, c.as_slice-2.ensures) at c.in_ok-import_list.ensures in
     record {
-      nodes_are = rw (names_of_placed placed_node c.as_slice-3.result.now nodes node_list) at c.in_ok-places.ensures;
-      imports_are = rw (names_of_placed placed_import c.as_slice-4.result.now imports import_list) at c.in_ok-places-2.ensures;
+      nodes_are = rw (names_of_placed placed_node c.as_slice-3.result.now nodes node_list) at c.in_ok-indices.ensures;
+      imports_are = rw (names_of_placed placed_import c.as_slice-4.result.now imports import_list) at c.in_ok-indices-2.ensures;
       params_are = rw c.as_slice-5.ensures at c.in_ok-all_params.ensures;
     }

@@ -1,6 +1,6 @@
-use Rattle.prl_names.proofs.FirstPlaces.{step_kept, step_new}
-use Rattle.prl_names.proofs.tables.places.Goals as goal
-use Rattle.prl_names.proofs.tables.places.Goals.{then-not-contains_key+in_ok-insert, else-not-contains_key}
+use Rattle.prl_names.proofs.FirstIndices.{step_kept, step_new}
+use Rattle.prl_names.proofs.tables.indices.Goals as goal
+use Rattle.prl_names.proofs.tables.indices.Goals.{then-not-contains_key+in_ok-insert, else-not-contains_key}
 
 pub loop-k-preserved : goal.loop-k-preserved
 loop-k-preserved c =

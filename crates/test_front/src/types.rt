@@ -1,9 +1,11 @@
+//! Types: what is wrong with a program, and the type of each flow.
+
 ghost use Rattle.std.specs.Prelude.{◌<◌, ◌^◌, length};
 
-use super::*;
 use prl_ast::Program;
 use prl_base::{Label, Name, Ty};
 use prl_syntax::parse;
+use prl_types::{TypeFault, Typed, check_names_types};
 use std::alloc::{AllocError, Global};
 use std::process::Abort;
 use std::test::*;
@@ -179,7 +181,7 @@ fn rules_of_types(rt: HostRuntime) -> Result<(), Fail> {
 const DECLARED: &str =
     "imported node F(x: int) returns (a, b: int) wcet 1; imported node G(x, y: int; z: bool) returns (c: int) wcet 1; imported node Z() returns (c: bool) wcet 1; sensor i wcet 1; actuator o wcet 1; node h (x: int) returns (y) let y = x; tel node main (i: int) returns (o) ";
 
-/// Checks the outcome of each program, of which the text behind `front` is given.
+/// Checks the outcome of each program, of which the text after `front` is given.
 fn check_outcomes(
     rt: &impl Abort,
     alloc: Global,
@@ -311,7 +313,7 @@ fn types_by_place(rt: HostRuntime) -> Result<(), Fail> {
         b"sensor i wcet 1; actuator o wcet 1; actuator z wcet 1; node h (x: bool) returns (y) var v, w; let w = 1; y = v; v = x; tel node main (i: int) returns (o) let o = 0 fby i; tel node last () returns (z) let z = true; tel",
     )?;
     let main = Label::new(alloc, b"main")?;
-    // Inputs, outputs and locals, one behind the other.
+    // Inputs, outputs and locals, one after the other.
     let types = [
         (0, 0, Some(Ty::Bool)),
         (0, 1, Some(Ty::Bool)),

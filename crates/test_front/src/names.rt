@@ -1,7 +1,9 @@
+//! Names: which program is refused, with which number and which name.
+
 ghost use Rattle.std.specs.Prelude.{◌<◌, ◌^◌, length};
 
-use super::*;
 use prl_base::Label;
+use prl_names::{NameFault, Names, check_names, used_imports};
 use prl_syntax::parse;
 use std::alloc::Global;
 use std::process::Abort;
@@ -31,7 +33,7 @@ fn refuses(alloc: Global, text: &[u8], number: u32, name: &[u8]) -> Result<bool,
     }
 }
 
-/// The place of the main node of this name; none where there is a fault.
+/// The index of the main node of this name; none where there is a fault.
 fn main_named(alloc: Global, text: &[u8], name: &[u8]) -> Result<Option<usize>, Fail>
     requires { length text.now < 2 ^ 32 }
 {
@@ -47,15 +49,15 @@ fn main_named(alloc: Global, text: &[u8], name: &[u8]) -> Result<Option<usize>, 
 #[test]
 fn twice(rt: HostRuntime) -> Result<(), Fail> {
     let alloc = rt.alloc();
-    let import_behind =
+    let import_after =
         b"node f (i) returns (o) let o = i; tel imported node f (x: int) returns (y: int) wcet 1;";
-    assert!(rt; refuses(alloc, import_behind, 11, b"f")?);
+    assert!(rt; refuses(alloc, import_after, 11, b"f")?);
     let sensors_between =
         b"node f (i) returns (o) let o = i; tel sensor s wcet 1; sensor s wcet 1; imported node f (x: int) returns (y: int) wcet 1;";
     assert!(rt; refuses(alloc, sensors_between, 11, b"s")?);
-    let sensors_behind =
+    let sensors_after =
         b"imported node f (x: int) returns (y: int) wcet 1; node f (i) returns (o) let o = i; tel sensor s wcet 1; sensor s wcet 1;";
-    assert!(rt; refuses(alloc, sensors_behind, 11, b"f")?);
+    assert!(rt; refuses(alloc, sensors_after, 11, b"f")?);
     let ports = b"imported node f (x: int) returns (x: int) wcet 1;";
     assert!(rt; refuses(alloc, ports, 11, b"x")?);
     let local = b"node f (i) returns (o) var i; let o = i; tel";
@@ -74,8 +76,8 @@ fn defined_twice(rt: HostRuntime) -> Result<(), Fail> {
     let no_flow = b"node f (i) returns (o) let z = 1; z = 2; o = i; tel";
     assert!(rt; refuses(alloc, no_flow, 10, b"z")?);
     // An unknown name stands first, but what is twice is looked for first.
-    let behind = b"node f (i) returns (o) let o = k; tel sensor s wcet 1; sensor s wcet 1;";
-    assert!(rt; refuses(alloc, behind, 11, b"s")?);
+    let later = b"node f (i) returns (o) let o = k; tel sensor s wcet 1; sensor s wcet 1;";
+    assert!(rt; refuses(alloc, later, 11, b"s")?);
     Ok(())
 }
 
@@ -217,7 +219,7 @@ fn fault_at(alloc: Global, text: &[u8], main: &[u8]) -> Result<Option<u32>, Fail
 #[test]
 fn a_main_that_is_not_there(rt: HostRuntime) -> Result<(), Fail> {
     let alloc = rt.alloc();
-    // A cycle is told before that, and a missing device behind it.
+    // A cycle is told before that, and a missing device after it.
     let cycle = b"node f (i) returns (o) let o = f(i); tel";
     assert_eq!(rt; fault_at(alloc, cycle, b"g")?, Some(16));
     let right = b"node f (i) returns (o) let o = i; tel";
@@ -226,7 +228,7 @@ fn a_main_that_is_not_there(rt: HostRuntime) -> Result<(), Fail> {
     Ok(())
 }
 
-/// Whether the node at the place `main` of the program of the text applies just the imports of these names.
+/// Whether the node of index `main` of the program of the text applies just the imports of these names.
 fn uses(alloc: Global, text: &[u8], main: usize, expected: &[&str]) -> Result<bool, Fail>
     requires { length text.now < 2 ^ 32 }
 {

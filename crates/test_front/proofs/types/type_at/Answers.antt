@@ -6,7 +6,7 @@ use Rattle.prl_ast.specs.declared.declarations.Node.{Node}
 use Rattle.prl_ast.specs.declared.declarations.Program.{Program}
 use Rattle.prl_ast.specs.Trees.{node_tree, program_tree}
 use Rattle.prl_types.specs.Typing.{HasParameter}
-use Rattle.prl_types.proofs.tests.type_at.Goals as goal
+use Rattle.test_front.proofs.types.type_at.Goals as goal
 
 -- a parameter of a node, by the numbers of its inputs, outputs and locals
 has_parameter : (p : Program) (node param : ℕ) (n : Node) → slice_get p.nodes node ≡ Some n → param < (length n.ins + length n.outs) + length n.locals → HasParameter (program_tree p) node param

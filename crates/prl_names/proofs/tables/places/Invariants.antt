@@ -1,7 +1,0 @@
-use Rattle.std.proofs.Common.{take}
-use Rattle.prl_names.specs.Mentions.{names_in}
-use Rattle.prl_names.specs.Tables.{ArePlaces}
-use Rattle.prl_names.proofs.tables.places.Given as goal
-
-abbrev pub invariant-loop-k : goal.invariant-loop-k
-invariant-loop-k l = ArePlaces l.table (names_in (take l.k l.mentions))
