@@ -1,0 +1,9 @@
+//! Tests of the public calls on values: operators and bodies, the flows of chains, and the actuators' text.
+#![tactic(auto)]
+
+#[cfg(test)]
+mod actuators;
+#[cfg(test)]
+mod bodies;
+#[cfg(test)]
+mod chains;
