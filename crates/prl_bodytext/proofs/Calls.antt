@@ -1,7 +1,7 @@
 -- How many calls on the same tokens the reader of an operand makes at most.
 use Rattle.std.proofs.Common.{◌≤◌, ℕ, arith}
-use Rattle.prl_bodytext.specs.declared.signs.Level.{Level}
-use Rattle.prl_bodytext.specs.declared.signs.Level.TheVariants as levels
+use Rattle.prl_bodytext.specs.declared.levels.Level.{Level}
+use Rattle.prl_bodytext.specs.declared.levels.Level.TheVariants as levels
 
 abbrev pub calls_of : Level → ℕ
 calls_of levels.Product = 4

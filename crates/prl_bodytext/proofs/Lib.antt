@@ -1,12 +1,5 @@
 pub mod LinkTrees
-pub mod Loops
-pub mod Simple
-pub mod Levels
-pub mod Grows
-pub mod Alike
-pub mod Depths
 pub mod Calls
-pub mod Operands
-pub mod Texts
+pub mod Right
 pub mod RangeFaults
 pub mod WholeTexts

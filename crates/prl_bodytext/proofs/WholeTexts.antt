@@ -11,14 +11,14 @@ use Rattle.prl_lex.specs.declared.tokens.Token.{Token}
 use Rattle.prl_lex.specs.Lexing.{tokens_of}
 use Rattle.prl_reader.specs.Lexemes.{Lexeme}
 use Rattle.prl_reader.specs.Readers.{Stop, Stuck, Deep}
+use Rattle.prl_reader.specs.Language.{Text, read_at}
 use Rattle.prl_reader.specs.Whole.{all_at}
 use Rattle.prl_reader.proofs.Whole.{all_ok, all_only, all_stuck}
-use Rattle.prl_bodytext.specs.Grammar.{BodiesText}
+use Rattle.prl_bodytext.specs.Grammar.{Bodies, bodies}
 use Rattle.prl_bodytext.specs.Lexing.{lexemes_of}
 use Rattle.prl_bodytext.specs.Parsing.{of_lexical, lexed, place_of, placed, ranged, bodies_of_tokens, bodies_of, AreBodiesOf, Explains}
 use Rattle.prl_bodytext.specs.Ranges.{out_of_range}
-use Rattle.prl_bodytext.specs.Readers.{bodies_at}
-use Rattle.prl_bodytext.proofs.Texts.{bodies_reads}
+use Rattle.prl_bodytext.proofs.Right.{bodies_reads}
 
 abbrev failed : BodyFault → Result (List TextTree) BodyFault
 failed fault = Err fault
@@ -36,24 +36,24 @@ module _ (text : List ℕ) (tokens : List Token) (is : tokens_of text ≡ Ok tok
   abbrev ts : List Lexeme
   ts = lexemes_of text tokens
 
-  in_range_ok : (o : Option ℕ) (t trees : List TextTree) → out_of_range false 0 ts ≡ o → BodiesText t ts → ranged o t ≡ Ok trees → AreBodiesOf text trees
+  in_range_ok : (o : Option ℕ) (t trees : List TextTree) → out_of_range false 0 ts ≡ o → Text bodies Bodies t ts → ranged o t ≡ Ok trees → AreBodiesOf text trees
   in_range_ok None t trees o w h =
       let same : t ≡ trees = ok_same t trees h in
       let P : List TextTree → Type 0 = AreBodiesOf text in
       subst P same (record { tokens = tokens; lexical = is; written = w; ranges = o })
   in_range_ok (Some at) t trees o w h = cc
 
-  pub tokens_ok : (r : Result (List TextTree) Stop) (trees : List TextTree) → all_at bodies_at ts ≡ r → (placed ts (length text) r >>= λ trees. ranged (out_of_range false 0 ts) trees) ≡ Ok trees → AreBodiesOf text trees
+  pub tokens_ok : (r : Result (List TextTree) Stop) (trees : List TextTree) → all_at (read_at bodies Bodies) ts ≡ r → (placed ts (length text) r >>= λ trees. ranged (out_of_range false 0 ts) trees) ≡ Ok trees → AreBodiesOf text trees
   tokens_ok (Ok t) trees e h = in_range_ok (out_of_range false 0 ts) t trees refl (all_ok bodies_reads ts t e) h
   tokens_ok (Err s) trees e h = cc
 
-  in_range_err : (o : Option ℕ) (t : List TextTree) (fault : BodyFault) → out_of_range false 0 ts ≡ o → BodiesText t ts → ranged o t ≡ Err fault → Explains text fault
+  in_range_err : (o : Option ℕ) (t : List TextTree) (fault : BodyFault) → out_of_range false 0 ts ≡ o → Text bodies Bodies t ts → ranged o t ≡ Err fault → Explains text fault
   in_range_err (Some at) t fault o w h =
       let P : BodyFault → Type 0 = Explains text in
       subst P (err_same (faults.Syntax at) fault h) (inr (inr (record { tokens = tokens; trees = t; lexical = is; written = w; first = o })))
   in_range_err None t fault o w h = cc
 
-  pub tokens_err : (r : Result (List TextTree) Stop) (fault : BodyFault) → all_at bodies_at ts ≡ r → (placed ts (length text) r >>= λ trees. ranged (out_of_range false 0 ts) trees) ≡ Err fault → Explains text fault
+  pub tokens_err : (r : Result (List TextTree) Stop) (fault : BodyFault) → all_at (read_at bodies Bodies) ts ≡ r → (placed ts (length text) r >>= λ trees. ranged (out_of_range false 0 ts) trees) ≡ Err fault → Explains text fault
   tokens_err (Ok t) fault e h = in_range_err (out_of_range false 0 ts) t fault refl (all_ok bodies_reads ts t e) h
   tokens_err (Err (Stuck left)) fault e h =
       let P : BodyFault → Type 0 = Explains text in
@@ -65,7 +65,7 @@ module _ (text : List ℕ) (tokens : List Token) (is : tokens_of text ≡ Ok tok
 -- the tokens, or the fault that they have
 by_tokens : (text : List ℕ) (r : Result (List Token) LexFault) (trees : List TextTree) → tokens_of text ≡ r → (lexed r >>= λ tokens. bodies_of_tokens (lexemes_of text tokens) (length text)) ≡ Ok trees → AreBodiesOf text trees
 unfolding bodies_of_tokens
-by_tokens text (Ok tokens) trees e h = tokens_ok text tokens e (all_at bodies_at (lexemes_of text tokens)) trees refl h
+by_tokens text (Ok tokens) trees e h = tokens_ok text tokens e (all_at (read_at bodies Bodies) (lexemes_of text tokens)) trees refl h
 by_tokens text (Err fault) trees e h = cc
 
 lexical_fault : (text : List ℕ) (lex : LexFault) (fault : BodyFault) → tokens_of text ≡ Err lex → of_lexical lex ≡ fault → Explains text fault
@@ -76,7 +76,7 @@ lexical_fault text lexical.Memory fault e h = let P : BodyFault → Type 0 = Exp
 
 by_fault : (text : List ℕ) (r : Result (List Token) LexFault) (fault : BodyFault) → tokens_of text ≡ r → (lexed r >>= λ tokens. bodies_of_tokens (lexemes_of text tokens) (length text)) ≡ Err fault → Explains text fault
 unfolding bodies_of_tokens
-by_fault text (Ok tokens) fault e h = tokens_err text tokens e (all_at bodies_at (lexemes_of text tokens)) fault refl h
+by_fault text (Ok tokens) fault e h = tokens_err text tokens e (all_at (read_at bodies Bodies) (lexemes_of text tokens)) fault refl h
 by_fault text (Err lex) fault e h = lexical_fault text lex fault e (err_same (of_lexical lex) fault h)
 
 parsed : (text : List ℕ) (trees : List TextTree) → bodies_of text ≡ Ok trees → AreBodiesOf text trees

@@ -1,5 +1,5 @@
--- The grammar of bodies: which trees the lists of tokens stand for.
-use Rattle.std.specs.Prelude.{ℕ, zero, suc, true, false, List}
+-- The grammar of bodies.
+use Rattle.std.specs.Prelude.{ℕ, true, false, List, Some, None}
 use Rattle.prl_base.specs.declared.places.Span.{Span}
 use Rattle.prl_base.specs.declared.values.Value.{Value}
 use Rattle.prl_base.specs.declared.values.Value.TheVariants as values
@@ -9,202 +9,196 @@ use Rattle.prl_body.specs.declared.operators.Prefix.{Prefix}
 use Rattle.prl_body.specs.declared.operators.Prefix.TheVariants as prefixes
 use Rattle.prl_body.specs.declared.texts.RegisterText.{RegisterText}
 use Rattle.prl_body.specs.Texts.{Tree, constant, name, choice, StatementTree, TextTree}
-use Rattle.prl_reader.specs.Lexemes.{Lexeme}
-use Rattle.prl_reader.specs.Grammars.{◌>>=◌, Give, Either, Many, Maybe, Place, Named, Numbered}
-use Rattle.prl_bodytext.specs.declared.signs.Level.{Level}
-use Rattle.prl_bodytext.specs.declared.signs.Level.TheVariants as levels
+use Rattle.prl_reader.specs.Productions.{Grammar as GrammarIn, token, give, either, many, separated, inner, ◌>>=◌}
+use Rattle.prl_reader.specs.Language.{Language}
+use Rattle.prl_bodytext.specs.declared.levels.Level.{Level}
+use Rattle.prl_bodytext.specs.declared.levels.Level.TheVariants as levels
 use Rattle.prl_bodytext.specs.declared.words.Fixed.{Fixed}
 use Rattle.prl_bodytext.specs.declared.words.Fixed.TheVariants as fixed
 use Rattle.prl_bodytext.specs.Words.{class_of}
 use Rattle.prl_bodytext.specs.Trees.{Sign, Link, chained, compared, prefixed, positive, negative}
 
--- a keyword or a symbol, of which the place counts
-abbrev pub The : Fixed → Span → List Lexeme → Type 0
-The f = Place (class_of f)
+-- a grammar, in which parentheses hold trees
+abbrev pub Grammar : Type 0 → Type 1
+Grammar = GrammarIn Tree
 
--- what expressions are, as a grammar of trees
-abbrev pub TreeText : Type 1
-TreeText = Tree → List Lexeme → Type 0
+-- tokens
 
--- operators
+abbrev pub the : Fixed → Grammar Span
+the f = do
+  t ← token (class_of f)
+  give t.at
 
-abbrev pub OneSign : Fixed → Operator → Sign → List Lexeme → Type 0
-OneSign f operator = do
-  p ← The f
-  Give (operator, p)
+abbrev pub named : Grammar (List ℕ × Span)
+named = do
+  t ← token 0
+  give (t.name, t.at)
 
--- the operators of a level
-abbrev pub SignText : Level → Sign → List Lexeme → Type 0
-SignText levels.Disjunction = Either (OneSign fixed.Or operators.Or) (OneSign fixed.Xor operators.Xor)
-SignText levels.Conjunction = OneSign fixed.And operators.And
-SignText levels.Comparison =
-    Either (OneSign fixed.Equals operators.Equal)
-    (Either (OneSign fixed.Unequal operators.Unequal)
-    (Either (OneSign fixed.Less operators.Less)
-    (Either (OneSign fixed.AtMost operators.AtMost)
-    (Either (OneSign fixed.Greater operators.Greater) (OneSign fixed.AtLeast operators.AtLeast)))))
-SignText levels.Sum = Either (OneSign fixed.Plus operators.Plus) (OneSign fixed.Minus operators.Minus)
-SignText levels.Product =
-    Either (OneSign fixed.Star operators.Times)
-    (Either (OneSign fixed.Slash operators.Over) (OneSign fixed.Percent operators.Modulo))
+abbrev pub number : Grammar ℕ
+number = do
+  t ← token 1
+  give t.number
 
-abbrev pub LinkText : Level → TreeText → Link → List Lexeme → Type 0
-LinkText level Operand = do
-  s ← SignText level
-  t ← Operand
-  Give (s, t)
+abbrev pub keyword : {A : Type 0} → Fixed → A → Grammar A
+keyword f x = do
+  p ← the f
+  give x
+
+-- const
+
+unfoldable pub Constant : Grammar Value
+Constant =
+    either (keyword fixed.True (values.Bool true))
+    (either (keyword fixed.False (values.Bool false))
+    (either (do
+      p ← the fixed.Minus
+      n ← number
+      give (negative n))
+    (do
+      n ← number
+      give (positive n))))
+
+-- operators, by how strongly they bind
+
+abbrev pub sign : Fixed → Operator → Grammar Sign
+sign f operator = do
+  p ← the f
+  give (operator, p)
+
+unfoldable pub Operators : Level → Grammar Sign
+Operators levels.Disjunction = either (sign fixed.Or operators.Or) (sign fixed.Xor operators.Xor)
+Operators levels.Conjunction = sign fixed.And operators.And
+Operators levels.Comparison =
+    either (sign fixed.Equals operators.Equal)
+    (either (sign fixed.Unequal operators.Unequal)
+    (either (sign fixed.Less operators.Less)
+    (either (sign fixed.AtMost operators.AtMost)
+    (either (sign fixed.Greater operators.Greater) (sign fixed.AtLeast operators.AtLeast)))))
+Operators levels.Sum = either (sign fixed.Plus operators.Plus) (sign fixed.Minus operators.Minus)
+Operators levels.Product = either (sign fixed.Star operators.Times) (either (sign fixed.Slash operators.Over) (sign fixed.Percent operators.Modulo))
+
+unfoldable pub LinkOf : Level → Grammar Tree → Grammar Link
+LinkOf level operand = do
+  s ← Operators level
+  t ← operand
+  give (s, t)
 
 -- operands with operators of the level between, from left to right
-abbrev pub ChainText : Level → TreeText → TreeText
-ChainText level Operand = do
-  first ← Operand
-  links ← Many (LinkText level Operand)
-  Give (chained first links)
+unfoldable pub ChainOf : Level → Grammar Tree → Grammar Tree
+ChainOf level operand = do
+  row ← separated (Operators level) operand
+  give (chained row.0 row.1)
 
 -- two operands with an operator of the level between, or one
-abbrev pub PairText : Level → TreeText → TreeText
-PairText level Operand = do
-  first ← Operand
-  link ← Maybe (LinkText level Operand)
-  Give (compared first link)
+unfoldable pub PairOf : Level → Grammar Tree → Grammar Tree
+PairOf level operand = do
+  first ← operand
+  link ← either (do
+    l ← LinkOf level operand
+    give (Some l)) (give None)
+  give (compared first link)
 
 -- a prefix so many times, and its operand
-abbrev pub RunText : Fixed → Prefix → TreeText → TreeText
-RunText f prefix Operand = do
-  ats ← Many (The f)
-  t ← Operand
-  Give (prefixed prefix ats t)
+unfoldable pub RunOf : Fixed → Prefix → Grammar Tree → Grammar Tree
+RunOf f prefix operand = do
+  ats ← many (the f)
+  t ← operand
+  give (prefixed prefix ats t)
 
--- what operators stand between
+-- expressions
 
-abbrev pub NumberText : TreeText
-NumberText = do
-  n ← Numbered
-  Give (constant (positive n.0))
+-- in parentheses an expression is the expression
+unfoldable pub Enclosed : Grammar Tree
+Enclosed = do
+  o ← the fixed.Open
+  t ← inner
+  c ← the fixed.Close
+  give t
 
-abbrev pub TrueText : TreeText
-TrueText = do
-  p ← The fixed.True
-  Give (constant (values.Bool true))
+unfoldable pub Conditional : Grammar Tree
+Conditional = do
+  at ← the fixed.If
+  o ← the fixed.Open
+  test ← inner
+  p ← the fixed.Comma
+  chosen ← inner
+  q ← the fixed.Comma
+  other ← inner
+  c ← the fixed.Close
+  give (choice at test chosen other)
 
-abbrev pub FalseText : TreeText
-FalseText = do
-  p ← The fixed.False
-  Give (constant (values.Bool false))
+unfoldable pub Primary : Grammar Tree
+Primary =
+    either (do
+      n ← number
+      give (constant (positive n)))
+    (either (keyword fixed.True (constant (values.Bool true)))
+    (either (keyword fixed.False (constant (values.Bool false)))
+    (either (do
+      n ← named
+      give (name n.0 n.1))
+    (either Enclosed Conditional))))
 
-abbrev pub NameText : TreeText
-NameText = do
-  n ← Named
-  Give (name n.0 n.1)
+unfoldable pub Unary : Grammar Tree
+Unary = RunOf fixed.Minus prefixes.Negated Primary
 
--- an expression in parentheses is the expression
-abbrev pub EnclosedText : TreeText → TreeText
-EnclosedText Inner = do
-  o ← The fixed.Open
-  t ← Inner
-  c ← The fixed.Close
-  Give t
+unfoldable pub Product : Grammar Tree
+Product = ChainOf levels.Product Unary
 
-abbrev pub ChoiceText : TreeText → TreeText
-ChoiceText Inner = do
-  at ← The fixed.If
-  o ← The fixed.Open
-  test ← Inner
-  p ← The fixed.Comma
-  chosen ← Inner
-  q ← The fixed.Comma
-  other ← Inner
-  c ← The fixed.Close
-  Give (choice at test chosen other)
+unfoldable pub Sum : Grammar Tree
+Sum = ChainOf levels.Sum Product
 
--- The levels, the strongest first. `Inner` is what may stand in parentheses.
+unfoldable pub Comparison : Grammar Tree
+Comparison = PairOf levels.Comparison Sum
 
-unfoldable pub PrimaryText : TreeText → TreeText
-PrimaryText Inner =
-    Either NumberText (Either TrueText (Either FalseText (Either NameText (Either (EnclosedText Inner) (ChoiceText Inner)))))
+unfoldable pub Negation : Grammar Tree
+Negation = RunOf fixed.Not prefixes.Not Comparison
 
-unfoldable pub UnaryText : TreeText → TreeText
-UnaryText Inner = RunText fixed.Minus prefixes.Negated (PrimaryText Inner)
+unfoldable pub Conjunction : Grammar Tree
+Conjunction = ChainOf levels.Conjunction Negation
 
-unfoldable pub ProductText : TreeText → TreeText
-ProductText Inner = ChainText levels.Product (UnaryText Inner)
+unfoldable pub Expression : Grammar Tree
+Expression = ChainOf levels.Disjunction Conjunction
 
-unfoldable pub SumText : TreeText → TreeText
-SumText Inner = ChainText levels.Sum (ProductText Inner)
+-- what operators of a level stand between
+unfoldable pub Operand : Level → Grammar Tree
+Operand levels.Disjunction = Conjunction
+Operand levels.Conjunction = Negation
+Operand levels.Comparison = Sum
+Operand levels.Sum = Product
+Operand levels.Product = Unary
 
-unfoldable pub ComparisonText : TreeText → TreeText
-ComparisonText Inner = PairText levels.Comparison (SumText Inner)
-
-unfoldable pub NegationText : TreeText → TreeText
-NegationText Inner = RunText fixed.Not prefixes.Not (ComparisonText Inner)
-
-unfoldable pub ConjunctionText : TreeText → TreeText
-ConjunctionText Inner = ChainText levels.Conjunction (NegationText Inner)
-
-unfoldable pub DisjunctionText : TreeText → TreeText
-DisjunctionText Inner = ChainText levels.Disjunction (ConjunctionText Inner)
-
--- an expression whose parentheses nest less than n deep
-unfoldable pub ExpressionUpTo : ℕ → TreeText
-ExpressionUpTo zero t w = ⊥
-ExpressionUpTo (suc n) t w = DisjunctionText (ExpressionUpTo n) t w
-
--- an expression
-unfoldable pub ExpressionText : TreeText
-ExpressionText t w = (n : ℕ) × ExpressionUpTo n t w
+unfoldable pub bodies : Language Tree
+bodies = record { sample = constant (values.Bool true); body = Expression }
 
 -- registers, statements and bodies
 
-abbrev pub TrueValue : Value → List Lexeme → Type 0
-TrueValue = do
-  p ← The fixed.True
-  Give (values.Bool true)
+unfoldable pub Register : Grammar RegisterText
+Register = do
+  k ← the fixed.Reg
+  n ← named
+  e ← the fixed.Equals
+  v ← Constant
+  s ← the fixed.Semicolon
+  give (record { name = n.0; first = v; at = n.1 })
 
-abbrev pub FalseValue : Value → List Lexeme → Type 0
-FalseValue = do
-  p ← The fixed.False
-  Give (values.Bool false)
-
-abbrev pub NegativeValue : Value → List Lexeme → Type 0
-NegativeValue = do
-  p ← The fixed.Minus
-  n ← Numbered
-  Give (negative n.0)
-
-abbrev pub PositiveValue : Value → List Lexeme → Type 0
-PositiveValue = do
-  n ← Numbered
-  Give (positive n.0)
-
-abbrev pub ConstantText : Value → List Lexeme → Type 0
-ConstantText = Either TrueValue (Either FalseValue (Either NegativeValue PositiveValue))
-
-abbrev pub RegisterLine : RegisterText → List Lexeme → Type 0
-RegisterLine = do
-  k ← The fixed.Reg
-  n ← Named
-  e ← The fixed.Equals
-  v ← ConstantText
-  s ← The fixed.Semicolon
-  Give (record { name = n.0; first = v; at = n.1 })
-
-abbrev pub StatementLine : StatementTree → List Lexeme → Type 0
+unfoldable pub StatementLine : Grammar StatementTree
 StatementLine = do
-  n ← Named
-  e ← The fixed.Equals
-  t ← ExpressionText
-  s ← The fixed.Semicolon
-  Give (record { left = n.0; right = t; at = n.1 })
+  n ← named
+  e ← the fixed.Equals
+  t ← inner
+  s ← the fixed.Semicolon
+  give (record { left = n.0; right = t; at = n.1 })
 
-abbrev pub BodyText : TextTree → List Lexeme → Type 0
-BodyText = do
-  k ← The fixed.Body
-  n ← Named
-  o ← The fixed.Begin
-  rs ← Many RegisterLine
-  ss ← Many StatementLine
-  c ← The fixed.End
-  Give (record { name = n.0; at = n.1; registers = rs; statements = ss })
+unfoldable pub Body : Grammar TextTree
+Body = do
+  k ← the fixed.Body
+  n ← named
+  o ← the fixed.Begin
+  rs ← many Register
+  ss ← many StatementLine
+  c ← the fixed.End
+  give (record { name = n.0; at = n.1; registers = rs; statements = ss })
 
-abbrev pub BodiesText : List TextTree → List Lexeme → Type 0
-BodiesText = Many BodyText
+unfoldable pub Bodies : Grammar (List TextTree)
+Bodies = many Body

@@ -1,9 +1,7 @@
 pub mod Words
-pub mod Signs
+pub mod Lexing
 pub mod Trees
 pub mod Grammar
-pub mod Readers
-pub mod Loops
-pub mod Lexing
+pub mod Parses
 pub mod Ranges
 pub mod Parsing

@@ -12,11 +12,11 @@ use Rattle.prl_lex.specs.declared.tokens.Token.{Token}
 use Rattle.prl_lex.specs.Lexing.{tokens_of}
 use Rattle.prl_reader.specs.Lexemes.{Lexeme}
 use Rattle.prl_reader.specs.Readers.{Stop, Stuck, Deep}
+use Rattle.prl_reader.specs.Language.{Text, read_at}
 use Rattle.prl_reader.specs.Whole.{all_at, IsFirstUnexpected}
-use Rattle.prl_bodytext.specs.Grammar.{BodiesText}
+use Rattle.prl_bodytext.specs.Grammar.{Bodies, bodies}
 use Rattle.prl_bodytext.specs.Lexing.{lexemes_of}
 use Rattle.prl_bodytext.specs.Ranges.{out_of_range}
-use Rattle.prl_bodytext.specs.Readers.{bodies_at}
 
 abbrev pub of_lexical : LexFault → BodyFault
 of_lexical (lexical.BadToken at) = faults.Syntax at
@@ -56,7 +56,7 @@ ranged (Some at) trees = Err (faults.Syntax at)
 
 unfoldable pub bodies_of_tokens : List Lexeme → ℕ → Result (List TextTree) BodyFault
 bodies_of_tokens ts end = do
-  trees ← placed ts end (all_at bodies_at ts)
+  trees ← placed ts end (all_at (read_at bodies Bodies) ts)
   ranged (out_of_range false 0 ts) trees
 
 unfoldable pub bodies_of : List ℕ → Result (List TextTree) BodyFault
@@ -68,7 +68,7 @@ bodies_of text = do
 pub record AreBodiesOf (text : List ℕ) (trees : List TextTree) : Type 0 where
   pub tokens : List Token
   pub lexical : tokens_of text ≡ Ok tokens
-  pub written : BodiesText trees (lexemes_of text tokens)
+  pub written : Text bodies Bodies trees (lexemes_of text tokens)
   pub ranges : out_of_range false 0 (lexemes_of text tokens) ≡ None
 
 -- The first unexpected token of the text is at the place: no text of the grammar begins with the tokens up to it.
@@ -76,7 +76,7 @@ pub record IsUnexpectedAt (text : List ℕ) (at : ℕ) : Type 0 where
   pub tokens : List Token
   pub left : ℕ
   pub lexical : tokens_of text ≡ Ok tokens
-  pub first : IsFirstUnexpected BodiesText (lexemes_of text tokens) left
+  pub first : IsFirstUnexpected (Text bodies Bodies) (lexemes_of text tokens) left
   pub place : at ≡ place_of (lexemes_of text tokens) left (length text)
 
 -- The number at the place is the first out of its range, in a text of the grammar.
@@ -84,7 +84,7 @@ pub record IsOutOfRangeAt (text : List ℕ) (at : ℕ) : Type 0 where
   pub tokens : List Token
   pub trees : List TextTree
   pub lexical : tokens_of text ≡ Ok tokens
-  pub written : BodiesText trees (lexemes_of text tokens)
+  pub written : Text bodies Bodies trees (lexemes_of text tokens)
   pub first : out_of_range false 0 (lexemes_of text tokens) ≡ Some at
 
 -- no token begins at the place, or a number above 2^64 - 1 does

@@ -1,124 +1,149 @@
 //! Registers, statements and whole texts.
 
-ghost use Rattle.std.specs.Prelude.{◌≡◌, ◌∷◌, [], map};
+ghost use Rattle.std.specs.Prelude.{◌≡◌};
 ghost use Rattle.prl_base.specs.Reading.{Gives};
 ghost use Rattle.prl_body.specs.Texts.{statement_tree, text_tree, text_trees};
-ghost use Rattle.prl_reader.specs.Readers.{next_in, many_at};
+ghost use Rattle.prl_reader.specs.Language.{read_at};
 ghost use Rattle.prl_reader.specs.Stops.{stop_of};
 ghost use Rattle.prl_reader.specs.Whole.{all_at};
-ghost use Rattle.prl_bodytext.specs.Readers.{register_at, statement_at, body_at, bodies_at};
-ghost use Rattle.prl_bodytext.specs.Signs.{only};
-ghost use Rattle.prl_bodytext.specs.declared.words.Fixed.TheVariants as kinds;
+ghost use Rattle.prl_bodytext.specs.Grammar.{Register, StatementLine, Body, Bodies, bodies};
+ghost use Rattle.prl_bodytext.specs.Parses.{Parses};
 
-use crate::expressions::expression;
-use crate::values::constant;
-use crate::words::{Fixed, expect, next_is};
+use crate::parser::Parser;
+use crate::repeats::Item;
+use crate::words::Fixed;
 use prl_base::Seq;
 use prl_body::{BodyText, BodyTexts, RegisterText, Statement};
-use prl_reader::{Stop, Terminal, name};
+use prl_reader::{Stop, Terminal};
 use std::alloc::Global;
 
-/// Takes the declaration of a register.
-#[tactic(auto, unfolding(crate::specs::Readers::register_at))]
-fn register(alloc: Global, terminals: &[Terminal]) -> Result<(RegisterText, &[Terminal]), Stop>
-    ensures { Gives (λ x. (x.0, x.1.now)) stop_of result (register_at terminals.now) }
-{
-    let (_, rest) = expect(terminals, Fixed::Reg)?;
-    let (name, at, rest) = name(alloc, rest)?;
-    let (_, rest) = expect(rest, Fixed::Equals)?;
-    let (first, rest) = constant(rest)?;
-    let (_, rest) = expect(rest, Fixed::Semicolon)?;
-    Ok((RegisterText { name, first, at }, rest))
-}
-
-fn registers(
-    alloc: Global,
-    terminals: &[Terminal],
-) -> Result<(Vec<RegisterText>, &[Terminal]), Stop>
-    ensures { Gives (λ x. (x.0.items, x.1.now)) stop_of result (many_at (only kinds.Reg) register_at terminals.now) }
-{
-    let mut registers = Vec::new(alloc);
-    let mut rest = terminals;
-    'more: while next_is(rest, Fixed::Reg) {
-        let (next, after) = attempt!(register(alloc, rest));
-        registers.push(next)?;
-        rest = after;
+impl<'a> Parser<'a> {
+    /// Takes the declaration of a register.
+    #[tactic(auto, unfolding(crate::specs::Grammar::Register))]
+    fn register(&mut self) -> Result<RegisterText, Stop>
+        ensures { Parses (λ x. x) Register result self.entry.now self.exit.now }
+    {
+        self.expect(Fixed::Reg)?;
+        let (name, at) = self.name()?;
+        self.expect(Fixed::Equals)?;
+        let first = self.constant()?;
+        self.expect(Fixed::Semicolon)?;
+        Ok(RegisterText { name, first, at })
     }
-    Ok((registers, rest))
-}
 
-/// Takes a statement.
-#[tactic(auto, unfolding(crate::specs::Readers::statement_at))]
-fn statement(alloc: Global, terminals: &[Terminal]) -> Result<(Statement, &[Terminal]), Stop>
-    ensures { Gives (λ x. (statement_tree x.0, x.1.now)) stop_of result (statement_at terminals.now) }
-{
-    let (left, at, rest) = name(alloc, terminals)?;
-    let (_, rest) = expect(rest, Fixed::Equals)?;
-    let (right, rest) = attempt!(expression(alloc, rest));
-    let (_, rest) = expect(rest, Fixed::Semicolon)?;
-    Ok((Statement { left, right, at }, rest))
-}
-
-fn statements(alloc: Global, terminals: &[Terminal]) -> Result<(Vec<Statement>, &[Terminal]), Stop>
-    ensures { Gives (λ x. (map statement_tree x.0.items, x.1.now)) stop_of result (many_at (0 ∷ []) statement_at terminals.now) }
-{
-    let mut statements = Vec::new(alloc);
-    let mut rest = terminals;
-    'more: while prl_reader::next_is(rest, 0) {
-        let (next, after) = attempt!(statement(alloc, rest));
-        statements.push(next)?;
-        rest = after;
+    /// Takes a statement.
+    #[tactic(auto, unfolding(crate::specs::Grammar::StatementLine))]
+    fn statement(&mut self) -> Result<Statement, Stop>
+        ensures { Parses statement_tree StatementLine result self.entry.now self.exit.now }
+    {
+        let (left, at) = self.name()?;
+        self.expect(Fixed::Equals)?;
+        let right = self.expression()?;
+        self.expect(Fixed::Semicolon)?;
+        Ok(Statement { left, right, at })
     }
-    Ok((statements, rest))
-}
 
-/// Takes a body.
-#[tactic(auto, unfolding(crate::specs::Readers::body_at))]
-fn body(alloc: Global, terminals: &[Terminal]) -> Result<(BodyText, &[Terminal]), Stop>
-    ensures { Gives (λ x. (text_tree x.0, x.1.now)) stop_of result (body_at terminals.now) }
-{
-    let (_, rest) = expect(terminals, Fixed::Body)?;
-    let (name, at, rest) = name(alloc, rest)?;
-    let (_, rest) = expect(rest, Fixed::Begin)?;
-    let (registers, rest) = attempt!(registers(alloc, rest));
-    let (statements, rest) = attempt!(statements(alloc, rest));
-    let (_, rest) = expect(rest, Fixed::End)?;
-    let registers = Seq::new(registers);
-    let statements = Seq::new(statements);
-    Ok((
-        BodyText {
+    /// Takes a body.
+    #[tactic(auto, using(crate::proofs::Right::register_loop, crate::proofs::Right::statement_loop, crate::proofs::Right::registers_seen), unfolding(crate::specs::Grammar::Body))]
+    fn body(&mut self) -> Result<BodyText, Stop>
+        ensures { Parses text_tree Body result self.entry.now self.exit.now }
+    {
+        self.expect(Fixed::Body)?;
+        let (name, at) = self.name()?;
+        self.expect(Fixed::Begin)?;
+        let registers = Seq::new(self.many::<RegisterText>()?);
+        let statements = Seq::new(self.many::<Statement>()?);
+        self.expect(Fixed::End)?;
+        Ok(BodyText {
             name,
             at,
             registers,
             statements,
-        },
-        rest,
-    ))
+        })
+    }
+
+    /// Takes bodies up to the end.
+    #[tactic(auto, using(crate::proofs::Right::body_loop), unfolding(crate::specs::Grammar::Bodies))]
+    fn whole(&mut self) -> Result<BodyTexts, Stop>
+        ensures { Gives text_trees stop_of result (all_at (read_at bodies Bodies) self.entry.now) }
+    {
+        let bodies = self.many::<BodyText>()?;
+        match self.rest {
+            [] => Ok(BodyTexts {
+                bodies: Seq::new(bodies),
+            }),
+            [_, ..] => Err(Stop::Unexpected(self.rest.len())),
+        }
+    }
 }
 
-#[tactic(auto, unfolding(crate::specs::Readers::bodies_at))]
-fn several(alloc: Global, terminals: &[Terminal]) -> Result<(Vec<BodyText>, &[Terminal]), Stop>
-    ensures { Gives (λ x. (map text_tree x.0.items, x.1.now)) stop_of result (bodies_at terminals.now) }
-{
-    let mut bodies = Vec::new(alloc);
-    let mut rest = terminals;
-    'more: while next_is(rest, Fixed::Body) {
-        let (next, after) = attempt!(body(alloc, rest));
-        bodies.push(next)?;
-        rest = after;
+impl Item for RegisterText {
+    ghost use Rattle.prl_body.specs.declared.texts.RegisterText.{RegisterText};
+    ghost use Rattle.prl_bodytext.specs.Grammar.{Register};
+
+    ghost Seen = { RegisterText };
+
+    ghost seen = { λ x. x };
+
+    ghost grammar = { Register };
+
+    #[tactic(auto, unfolding(crate::specs::Grammar::Register))]
+    fn is_next(parser: &Parser<'_>) -> bool {
+        parser.next_is(Fixed::Reg)
     }
-    Ok((bodies, rest))
+
+    fn read(parser: &mut Parser<'_>) -> Result<RegisterText, Stop> {
+        parser.register()
+    }
+}
+
+impl Item for Statement {
+    ghost use Rattle.prl_body.specs.Texts.{StatementTree, statement_tree};
+    ghost use Rattle.prl_bodytext.specs.Grammar.{StatementLine};
+
+    ghost Seen = { StatementTree };
+
+    ghost seen = { statement_tree };
+
+    ghost grammar = { StatementLine };
+
+    #[tactic(auto, unfolding(crate::specs::Grammar::StatementLine))]
+    fn is_next(parser: &Parser<'_>) -> bool {
+        parser.next_is_name()
+    }
+
+    fn read(parser: &mut Parser<'_>) -> Result<Statement, Stop> {
+        parser.statement()
+    }
+}
+
+impl Item for BodyText {
+    ghost use Rattle.prl_body.specs.Texts.{TextTree, text_tree};
+    ghost use Rattle.prl_bodytext.specs.Grammar.{Body};
+
+    ghost Seen = { TextTree };
+
+    ghost seen = { text_tree };
+
+    ghost grammar = { Body };
+
+    #[tactic(auto, unfolding(crate::specs::Grammar::Body))]
+    fn is_next(parser: &Parser<'_>) -> bool {
+        parser.next_is(Fixed::Body)
+    }
+
+    fn read(parser: &mut Parser<'_>) -> Result<BodyText, Stop> {
+        parser.body()
+    }
 }
 
 /// The bodies that all of the tokens are.
 pub fn bodies(alloc: Global, terminals: &[Terminal]) -> Result<BodyTexts, Stop>
-    ensures { Gives text_trees stop_of result (all_at bodies_at terminals.now) }
+    ensures { Gives text_trees stop_of result (all_at (read_at bodies Bodies) terminals.now) }
 {
-    let (bodies, rest) = attempt!(several(alloc, terminals));
-    match rest {
-        [] => Ok(BodyTexts {
-            bodies: Seq::new(bodies),
-        }),
-        [_, ..] => Err(Stop::Unexpected(rest.len())),
-    }
+    let mut parser = Parser {
+        alloc,
+        rest: terminals,
+    };
+    parser.whole()
 }

@@ -1,210 +1,256 @@
 //! Expressions. Only parentheses nest: chains and runs are read by loops.
 
 ghost use Rattle.std.specs.Prelude.{◌≡◌, ◌∷◌, [], map};
-ghost use Rattle.prl_base.specs.Reading.{Gives};
 ghost use Rattle.prl_body.specs.Texts.{tree_of};
-ghost use Rattle.prl_reader.specs.Readers.{next_in, many_at};
-ghost use Rattle.prl_reader.specs.Stops.{stop_of};
-ghost use Rattle.prl_bodytext.specs.Readers.{the_at, link_by, chain_by, comparison_by, negation_by, unary_by, primary_by, enclosed_by, choice_by, expression_at, operand_at};
-ghost use Rattle.prl_bodytext.specs.Signs.{only, sign_first};
+ghost use Rattle.prl_reader.specs.Readers.{next_in};
+ghost use Rattle.prl_reader.specs.Productions.{many, inner, shape};
+ghost use Rattle.prl_reader.specs.Language.{inner_of};
+ghost use Rattle.prl_bodytext.specs.Grammar.{the, sign, Operators, LinkOf, ChainOf, Comparison, Negation, Unary, Primary, Enclosed, Conditional, Operand, bodies};
+ghost use Rattle.prl_bodytext.specs.Parses.{Parses};
 ghost use Rattle.prl_bodytext.specs.Trees.{link_view};
 
-use crate::signs::{Level, begins_sign, sign};
+use crate::levels::Level;
+use crate::parser::Parser;
 use crate::trees::{chained, choice, prefixed};
 use crate::values::positive;
-use crate::words::{Fixed, expect, next_is};
+use crate::words::Fixed;
 use prl_base::{Span, Value};
-use prl_body::{Expr, ExprLink, Prefix};
-use prl_reader::{Stop, Terminal, name, number};
-use std::alloc::Global;
+use prl_body::{Expr, ExprLink, Operator, Prefix};
+use prl_reader::Stop;
 
-/// Takes as many of the token as are next, and answers their places.
-fn prefixes(
-    alloc: Global,
-    fixed: Fixed,
-    terminals: &[Terminal],
-) -> Result<(Vec<Span>, &[Terminal]), Stop>
-    ensures { Gives (λ x. (x.0.items, x.1.now)) stop_of result (many_at (only fixed) (the_at fixed) terminals.now) }
-{
-    let mut ats = Vec::new(alloc);
-    let mut rest = terminals;
-    'more: while next_is(rest, fixed) {
-        let (at, after) = expect(rest, fixed)?;
-        ats.push(at)?;
-        rest = after;
+impl<'a> Parser<'a> {
+    #[tactic(auto, unfolding(crate::specs::Grammar::Operators, crate::specs::Grammar::LinkOf))]
+    fn begins_operator(&self, level: Level) -> bool
+        ensures { result ≡ next_in (shape (inner_of bodies) (LinkOf level (Operand level))).first self.now }
+    {
+        match level {
+            Level::Disjunction => self.next_is(Fixed::Or) || self.next_is(Fixed::Xor),
+            Level::Conjunction => self.next_is(Fixed::And),
+            Level::Comparison => {
+                self.next_is(Fixed::Equals)
+                    || self.next_is(Fixed::Unequal)
+                    || self.next_is(Fixed::Less)
+                    || self.next_is(Fixed::AtMost)
+                    || self.next_is(Fixed::Greater)
+                    || self.next_is(Fixed::AtLeast)
+            }
+            Level::Sum => self.next_is(Fixed::Plus) || self.next_is(Fixed::Minus),
+            Level::Product => {
+                self.next_is(Fixed::Star)
+                    || self.next_is(Fixed::Slash)
+                    || self.next_is(Fixed::Percent)
+            }
+        }
     }
-    Ok((ats, rest))
-}
 
-/// Takes a number, a truth value, a name, or what stands in parentheses.
-#[cycle(expression)]
-#[tactic(auto, unfolding(crate::specs::Readers::primary_by))]
-fn primary(alloc: Global, terminals: &[Terminal]) -> Result<(Expr, &[Terminal]), Stop>
-    ensures { Gives (λ x. (tree_of x.0, x.1.now)) stop_of result (primary_by expression_at terminals.now) }
-{
-    if prl_reader::next_is(terminals, 1) {
-        let (value, _, rest) = number(terminals)?;
-        return Ok((Expr::Const(positive(value)), rest));
+    fn sign(&mut self, fixed: Fixed, operator: Operator) -> Result<(Operator, Span), Stop>
+        ensures { Parses (λ x. (x.0, x.1)) (sign fixed operator) result self.entry.now self.exit.now }
+    {
+        let at = self.expect(fixed)?;
+        Ok((operator, at))
     }
-    if next_is(terminals, Fixed::True) {
-        let (_, rest) = expect(terminals, Fixed::True)?;
-        return Ok((Expr::Const(Value::Bool(true)), rest));
+
+    #[tactic(auto, unfolding(crate::specs::Grammar::Operators))]
+    fn operator(&mut self, level: Level) -> Result<(Operator, Span), Stop>
+        ensures { Parses (λ x. (x.0, x.1)) (Operators level) result self.entry.now self.exit.now }
+    {
+        match level {
+            Level::Disjunction => {
+                if self.next_is(Fixed::Or) {
+                    return self.sign(Fixed::Or, Operator::Or);
+                }
+                self.sign(Fixed::Xor, Operator::Xor)
+            }
+            Level::Conjunction => self.sign(Fixed::And, Operator::And),
+            Level::Comparison => {
+                if self.next_is(Fixed::Equals) {
+                    return self.sign(Fixed::Equals, Operator::Equal);
+                }
+                if self.next_is(Fixed::Unequal) {
+                    return self.sign(Fixed::Unequal, Operator::Unequal);
+                }
+                if self.next_is(Fixed::Less) {
+                    return self.sign(Fixed::Less, Operator::Less);
+                }
+                if self.next_is(Fixed::AtMost) {
+                    return self.sign(Fixed::AtMost, Operator::AtMost);
+                }
+                if self.next_is(Fixed::Greater) {
+                    return self.sign(Fixed::Greater, Operator::Greater);
+                }
+                self.sign(Fixed::AtLeast, Operator::AtLeast)
+            }
+            Level::Sum => {
+                if self.next_is(Fixed::Plus) {
+                    return self.sign(Fixed::Plus, Operator::Plus);
+                }
+                self.sign(Fixed::Minus, Operator::Minus)
+            }
+            Level::Product => {
+                if self.next_is(Fixed::Star) {
+                    return self.sign(Fixed::Star, Operator::Times);
+                }
+                if self.next_is(Fixed::Slash) {
+                    return self.sign(Fixed::Slash, Operator::Over);
+                }
+                self.sign(Fixed::Percent, Operator::Modulo)
+            }
+        }
     }
-    if next_is(terminals, Fixed::False) {
-        let (_, rest) = expect(terminals, Fixed::False)?;
-        return Ok((Expr::Const(Value::Bool(false)), rest));
+
+    /// Takes as many of the token as are next, and answers their places.
+    fn prefixes(&mut self, fixed: Fixed) -> Result<Vec<Span>, Stop>
+        ensures { Parses (λ x. x.items) (many (the fixed)) result self.entry.now self.exit.now }
+    {
+        let mut ats = Vec::new(self.alloc);
+        'more: while self.next_is(fixed) {
+            ats.push(self.expect(fixed)?)?;
+        }
+        Ok(ats)
     }
-    if prl_reader::next_is(terminals, 0) {
-        let (name, at, rest) = name(alloc, terminals)?;
-        return Ok((Expr::Name { name, at }, rest));
+
+    #[cycle(expression)]
+    #[tactic(auto, unfolding(crate::specs::Grammar::Primary, crate::specs::Grammar::Enclosed))]
+    fn primary(&mut self) -> Result<Expr, Stop>
+        ensures { Parses tree_of Primary result self.entry.now self.exit.now }
+    {
+        if prl_reader::next_is(self.rest, 1) {
+            return Ok(Expr::Const(positive(self.number()?)));
+        }
+        if self.next_is(Fixed::True) {
+            self.expect(Fixed::True)?;
+            return Ok(Expr::Const(Value::Bool(true)));
+        }
+        if self.next_is(Fixed::False) {
+            self.expect(Fixed::False)?;
+            return Ok(Expr::Const(Value::Bool(false)));
+        }
+        if self.next_is_name() {
+            let (name, at) = self.name()?;
+            return Ok(Expr::Name { name, at });
+        }
+        if self.next_is(Fixed::Open) {
+            return self.enclosed();
+        }
+        self.conditional()
     }
-    if next_is(terminals, Fixed::Open) {
-        return enclosed(alloc, terminals);
+
+    #[cycle(expression)]
+    #[tactic(auto, unfolding(crate::specs::Grammar::Enclosed))]
+    fn enclosed(&mut self) -> Result<Expr, Stop>
+        ensures { Parses tree_of Enclosed result self.entry.now self.exit.now }
+    {
+        self.expect(Fixed::Open)?;
+        let expr = self.expression()?;
+        self.expect(Fixed::Close)?;
+        Ok(expr)
     }
-    conditional(alloc, terminals)
-}
 
-/// Takes an expression in parentheses.
-#[cycle(expression)]
-#[tactic(auto, unfolding(crate::specs::Readers::enclosed_by))]
-fn enclosed(alloc: Global, terminals: &[Terminal]) -> Result<(Expr, &[Terminal]), Stop>
-    ensures { Gives (λ x. (tree_of x.0, x.1.now)) stop_of result (enclosed_by expression_at terminals.now) }
-{
-    let (_, rest) = expect(terminals, Fixed::Open)?;
-    let (inner, rest) = attempt!(expression(alloc, rest));
-    let (_, rest) = expect(rest, Fixed::Close)?;
-    Ok((inner, rest))
-}
-
-/// Takes an `if` with its test and its two values.
-#[cycle(expression)]
-#[tactic(auto, unfolding(crate::specs::Readers::choice_by))]
-fn conditional(alloc: Global, terminals: &[Terminal]) -> Result<(Expr, &[Terminal]), Stop>
-    ensures { Gives (λ x. (tree_of x.0, x.1.now)) stop_of result (choice_by expression_at terminals.now) }
-{
-    let (at, rest) = expect(terminals, Fixed::If)?;
-    let (_, rest) = expect(rest, Fixed::Open)?;
-    let (test, rest) = attempt!(expression(alloc, rest));
-    let (_, rest) = expect(rest, Fixed::Comma)?;
-    let (chosen, rest) = attempt!(expression(alloc, rest));
-    let (_, rest) = expect(rest, Fixed::Comma)?;
-    let (other, rest) = attempt!(expression(alloc, rest));
-    let (_, rest) = expect(rest, Fixed::Close)?;
-    let tree = choice(alloc, at, test, chosen, other)?;
-    Ok((tree, rest))
-}
-
-/// Takes a run of `-` and its operand.
-#[cycle(expression)]
-#[tactic(auto, unfolding(crate::specs::Readers::unary_by, crate::specs::Readers::run_by))]
-fn unary(alloc: Global, terminals: &[Terminal]) -> Result<(Expr, &[Terminal]), Stop>
-    ensures { Gives (λ x. (tree_of x.0, x.1.now)) stop_of result (unary_by expression_at terminals.now) }
-{
-    let (ats, rest) = prefixes(alloc, Fixed::Minus, terminals)?;
-    let (operand, rest) = attempt!(primary(alloc, rest));
-    let tree = prefixed(alloc, Prefix::Negated, ats, operand)?;
-    Ok((tree, rest))
-}
-
-/// Takes a sum, or two with a comparison between.
-#[cycle(expression)]
-#[tactic(auto, unfolding(crate::specs::Readers::comparison_by, crate::specs::Readers::pair_by, crate::specs::Readers::operand_at))]
-fn comparison(alloc: Global, terminals: &[Terminal]) -> Result<(Expr, &[Terminal]), Stop>
-    ensures { Gives (λ x. (tree_of x.0, x.1.now)) stop_of result (comparison_by expression_at terminals.now) }
-{
-    let (first, rest) = attempt!(operand(alloc, Level::Comparison, terminals));
-    if !begins_sign(Level::Comparison, rest) {
-        return Ok((first, rest));
+    #[cycle(expression)]
+    #[tactic(auto, unfolding(crate::specs::Grammar::Conditional))]
+    fn conditional(&mut self) -> Result<Expr, Stop>
+        ensures { Parses tree_of Conditional result self.entry.now self.exit.now }
+    {
+        let at = self.expect(Fixed::If)?;
+        self.expect(Fixed::Open)?;
+        let test = self.expression()?;
+        self.expect(Fixed::Comma)?;
+        let chosen = self.expression()?;
+        self.expect(Fixed::Comma)?;
+        let other = self.expression()?;
+        self.expect(Fixed::Close)?;
+        Ok(choice(self.alloc, at, test, chosen, other)?)
     }
-    let (link, rest) = attempt!(link(alloc, Level::Comparison, rest));
-    let mut links = Vec::new(alloc);
-    links.push(link)?;
-    let tree = chained(alloc, first, links)?;
-    Ok((tree, rest))
-}
 
-/// Takes a run of `not` and its operand.
-#[cycle(expression)]
-#[tactic(auto, unfolding(crate::specs::Readers::negation_by, crate::specs::Readers::run_by))]
-fn negation(alloc: Global, terminals: &[Terminal]) -> Result<(Expr, &[Terminal]), Stop>
-    ensures { Gives (λ x. (tree_of x.0, x.1.now)) stop_of result (negation_by expression_at terminals.now) }
-{
-    let (ats, rest) = prefixes(alloc, Fixed::Not, terminals)?;
-    let (operand, rest) = attempt!(comparison(alloc, rest));
-    let tree = prefixed(alloc, Prefix::Not, ats, operand)?;
-    Ok((tree, rest))
-}
-
-/// Takes what operators of the level stand between.
-#[cycle(expression)]
-#[tactic(auto, unfolding(crate::specs::Readers::operand_at, crate::specs::Readers::product_by, crate::specs::Readers::sum_by, crate::specs::Readers::conjunction_by))]
-fn operand(alloc: Global, level: Level, terminals: &[Terminal]) -> Result<(Expr, &[Terminal]), Stop>
-    ensures { Gives (λ x. (tree_of x.0, x.1.now)) stop_of result (operand_at level terminals.now) }
-{
-    match level {
-        Level::Disjunction => chain(alloc, Level::Conjunction, terminals),
-        Level::Conjunction => negation(alloc, terminals),
-        Level::Comparison => chain(alloc, Level::Sum, terminals),
-        Level::Sum => chain(alloc, Level::Product, terminals),
-        Level::Product => unary(alloc, terminals),
+    #[cycle(expression)]
+    #[tactic(auto, unfolding(crate::specs::Grammar::Unary, crate::specs::Grammar::RunOf))]
+    fn unary(&mut self) -> Result<Expr, Stop>
+        ensures { Parses tree_of Unary result self.entry.now self.exit.now }
+    {
+        let ats = self.prefixes(Fixed::Minus)?;
+        let operand = self.primary()?;
+        Ok(prefixed(self.alloc, Prefix::Negated, ats, operand)?)
     }
-}
 
-/// Takes an operator of the level and its right operand.
-#[cycle(expression)]
-#[tactic(auto, unfolding(crate::specs::Readers::link_by))]
-fn link(
-    alloc: Global,
-    level: Level,
-    terminals: &[Terminal],
-) -> Result<(ExprLink, &[Terminal]), Stop>
-    ensures { Gives (λ x. (link_view x.0, x.1.now)) stop_of result (link_by level (operand_at level) terminals.now) }
-{
-    let (operator, at, rest) = sign(level, terminals)?;
-    let (right, rest) = attempt!(operand(alloc, level, rest));
-    let link = ExprLink {
-        operator,
-        at,
-        right,
-    };
-    Ok((link, rest))
-}
-
-/// Takes as many operators of the level with their right operands as there are.
-#[cycle(expression)]
-fn links(
-    alloc: Global,
-    level: Level,
-    terminals: &[Terminal],
-) -> Result<(Vec<ExprLink>, &[Terminal]), Stop>
-    ensures { Gives (λ x. (map link_view x.0.items, x.1.now)) stop_of result (many_at (sign_first level) (link_by level (operand_at level)) terminals.now) }
-{
-    let mut links = Vec::new(alloc);
-    let mut rest = terminals;
-    'more: while begins_sign(level, rest) {
-        let (next, after) = attempt!(link(alloc, level, rest));
-        links.push(next)?;
-        rest = after;
+    #[cycle(expression)]
+    #[tactic(auto, unfolding(crate::specs::Grammar::Comparison, crate::specs::Grammar::PairOf, crate::specs::Grammar::Operand, crate::specs::Grammar::LinkOf))]
+    fn comparison(&mut self) -> Result<Expr, Stop>
+        ensures { Parses tree_of Comparison result self.entry.now self.exit.now }
+    {
+        let first = self.operand(Level::Comparison)?;
+        if !self.begins_operator(Level::Comparison) {
+            return Ok(first);
+        }
+        let link = self.link(Level::Comparison)?;
+        let mut links = Vec::new(self.alloc);
+        links.push(link)?;
+        Ok(chained(self.alloc, first, links)?)
     }
-    Ok((links, rest))
-}
 
-/// Takes operands with operators of the level between.
-#[cycle(expression)]
-#[tactic(auto, unfolding(crate::specs::Readers::chain_by))]
-fn chain(alloc: Global, level: Level, terminals: &[Terminal]) -> Result<(Expr, &[Terminal]), Stop>
-    ensures { Gives (λ x. (tree_of x.0, x.1.now)) stop_of result (chain_by level (operand_at level) terminals.now) }
-{
-    let (first, rest) = attempt!(operand(alloc, level, terminals));
-    let (links, rest) = attempt!(links(alloc, level, rest));
-    let tree = chained(alloc, first, links)?;
-    Ok((tree, rest))
-}
+    #[cycle(expression)]
+    #[tactic(auto, unfolding(crate::specs::Grammar::Negation, crate::specs::Grammar::RunOf))]
+    fn negation(&mut self) -> Result<Expr, Stop>
+        ensures { Parses tree_of Negation result self.entry.now self.exit.now }
+    {
+        let ats = self.prefixes(Fixed::Not)?;
+        let operand = self.comparison()?;
+        Ok(prefixed(self.alloc, Prefix::Not, ats, operand)?)
+    }
 
-/// Takes an expression.
-#[cycle(expression)]
-pub fn expression(alloc: Global, terminals: &[Terminal]) -> Result<(Expr, &[Terminal]), Stop>
-    ensures { Gives (λ x. (tree_of x.0, x.1.now)) stop_of result (expression_at terminals.now) }
-{
-    chain(alloc, Level::Disjunction, terminals)
+    #[cycle(expression)]
+    #[tactic(auto, unfolding(crate::specs::Grammar::Operand, crate::specs::Grammar::Product, crate::specs::Grammar::Sum, crate::specs::Grammar::Conjunction))]
+    fn operand(&mut self, level: Level) -> Result<Expr, Stop>
+        ensures { Parses tree_of (Operand level) result self.entry.now self.exit.now }
+    {
+        match level {
+            Level::Disjunction => self.chain(Level::Conjunction),
+            Level::Conjunction => self.negation(),
+            Level::Comparison => self.chain(Level::Sum),
+            Level::Sum => self.chain(Level::Product),
+            Level::Product => self.unary(),
+        }
+    }
+
+    #[cycle(expression)]
+    #[tactic(auto, unfolding(crate::specs::Grammar::LinkOf))]
+    fn link(&mut self, level: Level) -> Result<ExprLink, Stop>
+        ensures { Parses link_view (LinkOf level (Operand level)) result self.entry.now self.exit.now }
+    {
+        let (operator, at) = self.operator(level)?;
+        let right = self.operand(level)?;
+        Ok(ExprLink {
+            operator,
+            at,
+            right,
+        })
+    }
+
+    #[cycle(expression)]
+    fn links(&mut self, level: Level) -> Result<Vec<ExprLink>, Stop>
+        ensures { Parses (λ x. map link_view x.items) (many (LinkOf level (Operand level))) result self.entry.now self.exit.now }
+    {
+        let mut links = Vec::new(self.alloc);
+        'more: while self.begins_operator(level) {
+            links.push(self.link(level)?)?;
+        }
+        Ok(links)
+    }
+
+    #[cycle(expression)]
+    #[tactic(auto, unfolding(crate::specs::Grammar::ChainOf, crate::specs::Grammar::LinkOf))]
+    fn chain(&mut self, level: Level) -> Result<Expr, Stop>
+        ensures { Parses tree_of (ChainOf level (Operand level)) result self.entry.now self.exit.now }
+    {
+        let first = self.operand(level)?;
+        let links = self.links(level)?;
+        Ok(chained(self.alloc, first, links)?)
+    }
+
+    /// Takes an expression.
+    #[cycle(expression)]
+    pub fn expression(&mut self) -> Result<Expr, Stop>
+        ensures { Parses tree_of inner result self.entry.now self.exit.now }
+    {
+        self.chain(Level::Disjunction)
+    }
 }

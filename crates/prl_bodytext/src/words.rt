@@ -1,13 +1,7 @@
 //! The keywords and symbols of bodies.
 
-ghost use Rattle.std.specs.Prelude.{◌≡◌, ◌≤◌, ◌∷◌, []};
-ghost use Rattle.prl_base.specs.Reading.{Gives};
-ghost use Rattle.prl_reader.specs.Readers.{next_in, place_at};
-ghost use Rattle.prl_reader.specs.Stops.{stop_of};
+ghost use Rattle.std.specs.Prelude.{◌≡◌, ◌≤◌};
 ghost use Rattle.prl_bodytext.specs.Words.{class_of, row_of, plain_keywords, operator_keywords, punctuation, comparisons, arithmetic, keyword_of, symbol_of};
-
-use prl_base::Span;
-use prl_reader::{Stop, Terminal};
 
 /// A keyword or a symbol of bodies.
 #[derive(Clone, Copy, Debug, PartialEq, Eq)]
@@ -150,18 +144,4 @@ pub fn class_of(fixed: Fixed) -> u8
     ensures from_two { 2 ≤ result }
 {
     fixed as u8
-}
-
-/// Whether the next token is this one.
-pub fn next_is(terminals: &[Terminal], fixed: Fixed) -> bool
-    ensures { result ≡ next_in (class_of fixed ∷ []) terminals.now }
-{
-    prl_reader::next_is(terminals, fixed as u8)
-}
-
-/// Takes this token, and answers its place and the tokens behind it.
-pub fn expect(terminals: &[Terminal], fixed: Fixed) -> Result<(Span, &[Terminal]), Stop>
-    ensures { Gives (λ x. (x.0, x.1.now)) stop_of result (place_at (class_of fixed) terminals.now) }
-{
-    prl_reader::expect(terminals, fixed as u8)
 }

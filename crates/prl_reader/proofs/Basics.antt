@@ -1,10 +1,11 @@
 -- Facts on lists of tokens and on answers.
-use Rattle.std.proofs.Common.{◌≡◌, ◌==◌, not, ◌&&◌, ℕ, Bool, true, false, cond, ◌||◌, List, [], ◌∷◌, ◌++◌, length, Ok, Err, refl, sym, ap, ◌∙◌, ◌⊎◌, inl, inr, ⊎_elim, arith, length-append}
+use Rattle.std.proofs.Common.{◌≡◌, ◌==◌, not, ℕ, Bool, true, false, cond, ◌||◌, List, [], ◌∷◌, ◌++◌, length, Ok, Err, refl, sym, ap, ◌∙◌, ◌⊎◌, inl, inr, ⊎_elim, arith, length-append}
 use Rattle.std.proofs.lemmas.Bool.{and_parts, or_cases, eqb-true, not-true}
 use Rattle.prl_base.specs.Reading.{◌>>=◌}
 use Rattle.prl_reader.specs.Lexemes.{Lexeme}
 use Rattle.prl_reader.specs.Readers.{Stop, Read, is_in, next_in}
 use Rattle.prl_reader.specs.Reads.{next_class}
+use Rattle.prl_reader.specs.LookAhead.{disjoint}
 
 -- the parts of a reading after another
 pub record Both {A B : Type 0} (first : Read A) (then : A × List Lexeme → Read B) (b : B) (rest : List Lexeme) : Type 0 where
@@ -49,10 +50,6 @@ is_in-append c (k ∷ ks) ls = ap (λ b. (k == c) || b) (is_in-append c ks ls) �
 -- no class is in both
 abbrev pub Apart : List ℕ → List ℕ → Type 0
 Apart ks ls = (c : ℕ) → is_in c ks ≡ true → is_in c ls ≡ false
-
-abbrev pub disjoint : List ℕ → List ℕ → Bool
-disjoint [] ls = true
-disjoint (k ∷ ks) ls = not (is_in k ls) && disjoint ks ls
 
 pub apart : (ks ls : List ℕ) → disjoint ks ls ≡ true → Apart ks ls
 apart [] ls d c h = cc

@@ -4,3 +4,9 @@ pub mod Sequences
 pub mod Repeats
 pub mod Tokens
 pub mod Whole
+pub mod Decides
+pub mod Growing
+pub mod Alike
+pub mod Nesting
+pub mod Loops
+pub mod Ending

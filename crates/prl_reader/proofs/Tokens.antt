@@ -8,7 +8,8 @@ use Rattle.prl_reader.specs.Lexemes.{Lexeme, first_place}
 use Rattle.prl_reader.specs.Grammars.{One, Then, Give, Either, Maybe, FromFirst, Place, Named, Numbered}
 use Rattle.prl_reader.specs.Readers.{Stuck, Read, is_in, choice, maybe_at, from_first, one_at, place_at, name_at, number_at}
 use Rattle.prl_reader.specs.Reads.{Shape, then_shape, either_shape, Begins, next_class, CanComplete, Taken, Reads}
-use Rattle.prl_reader.proofs.Basics.{Apart, apart, disjoint, bind_ok, bind_err, same_tree, same_rest}
+use Rattle.prl_reader.specs.LookAhead.{disjoint}
+use Rattle.prl_reader.proofs.Basics.{Apart, apart, bind_ok, bind_err, same_tree, same_rest}
 use Rattle.prl_reader.proofs.Steps.{one_shape, one_reads, give, give_reads}
 use Rattle.prl_reader.proofs.Sequences.{then_read, bind_reads, choice_reads}
 use Rattle.prl_reader.proofs.Repeats.{restate}

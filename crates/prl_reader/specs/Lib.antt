@@ -5,3 +5,7 @@ pub mod Reads
 pub mod Whole
 pub mod Terminals
 pub mod Stops
+pub mod Productions
+pub mod Language
+pub mod Loops
+pub mod LookAhead

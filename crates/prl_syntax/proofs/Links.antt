@@ -16,7 +16,8 @@ use Rattle.prl_reader.specs.Lexemes.{Lexeme, first_place}
 use Rattle.prl_reader.specs.Grammars.{Then, Give, Either, Many, Maybe, FromFirst, Place, Named, Numbered}
 use Rattle.prl_reader.specs.Readers.{Read, is_in, next_in, many_up_to, choice, many_at, maybe_at, place_at, name_at, number_at}
 use Rattle.prl_reader.specs.Reads.{Shape, then_shape, either_shape, many_shape, Begins, Reads}
-use Rattle.prl_reader.proofs.Basics.{Apart, apart, disjoint, is_in-append, bind_ok, chosen, same_rest, Both}
+use Rattle.prl_reader.specs.LookAhead.{disjoint}
+use Rattle.prl_reader.proofs.Basics.{Apart, apart, is_in-append, bind_ok, chosen, same_rest, Both}
 use Rattle.prl_reader.proofs.Steps.{one_shape, give, give_shape, give_reads}
 use Rattle.prl_reader.proofs.Sequences.{then_read, bind_reads, choice_reads}
 use Rattle.prl_reader.proofs.Repeats.{Widens, lower, restate, deep_reads, too_deep, at_length, same_bind, many_reads, many_step, leaves_fewer}

@@ -5,7 +5,8 @@ use Rattle.prl_reader.specs.Lexemes.{Lexeme}
 use Rattle.prl_reader.specs.Grammars.{Then, Give, Either, Many, Maybe, Place, Named, Numbered}
 use Rattle.prl_reader.specs.Readers.{Read, choice, many_at, maybe_at, place_at, name_at, number_at}
 use Rattle.prl_reader.specs.Reads.{Shape, then_shape, either_shape, many_shape, Reads}
-use Rattle.prl_reader.proofs.Basics.{Apart, apart, disjoint}
+use Rattle.prl_reader.specs.LookAhead.{disjoint}
+use Rattle.prl_reader.proofs.Basics.{Apart, apart}
 use Rattle.prl_reader.proofs.Steps.{one_shape, give, give_shape, give_reads}
 use Rattle.prl_reader.proofs.Sequences.{then_read, choice_reads}
 use Rattle.prl_reader.proofs.Repeats.{many_reads, many_step, leaves_fewer}

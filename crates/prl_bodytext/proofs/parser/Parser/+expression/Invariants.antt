@@ -1,0 +1,48 @@
+use Rattle.std.proofs.Common.{◌≤◌, ◌+◌, ◌*◌, length, map}
+use Rattle.prl_reader.specs.Loops.{GoesOn}
+use Rattle.prl_bodytext.specs.Grammar.{LinkOf, Operand, bodies}
+use Rattle.prl_bodytext.specs.Trees.{link_view}
+use Rattle.prl_bodytext.proofs.Calls.{calls_of}
+use Rattle.prl_bodytext.proofs.parser.Parser.+expression.Given as goal
+
+abbrev pub decreases-enclosed : goal.decreases-enclosed
+decreases-enclosed l = 32 * length l.self.now
+
+abbrev pub decreases-conditional : goal.decreases-conditional
+decreases-conditional l = 32 * length l.self.now
+
+abbrev pub decreases-link : goal.decreases-link
+decreases-link l = 32 * length l.self.now
+
+abbrev pub decreases-links : goal.decreases-links
+decreases-links l = 32 * length l.self.now + 1
+
+abbrev pub decreases-primary : goal.decreases-primary
+decreases-primary l = 32 * length l.self.now + 2
+
+abbrev pub decreases-unary : goal.decreases-unary
+decreases-unary l = 32 * length l.self.now + 3
+
+abbrev pub decreases-operand : goal.decreases-operand
+decreases-operand l = 32 * length l.self.now + calls_of l.level
+
+abbrev pub decreases-chain : goal.decreases-chain
+decreases-chain l = 32 * length l.self.now + (calls_of l.level + 1)
+
+abbrev pub decreases-comparison : goal.decreases-comparison
+decreases-comparison l = 32 * length l.self.now + 10
+
+abbrev pub decreases-negation : goal.decreases-negation
+decreases-negation l = 32 * length l.self.now + 11
+
+abbrev pub decreases-expression : goal.decreases-expression
+decreases-expression l = 32 * length l.self.now + 16
+
+abbrev pub invariant-links-more : goal.invariant-links-more
+invariant-links-more l = record {
+  exact : GoesOn bodies (LinkOf l.fn.level (Operand l.fn.level)) l.fn.self (map link_view l.links.items) l.self;
+  shorter : length l.self ≤ length l.fn.self;
+}
+
+abbrev pub decreases-links-more : goal.decreases-links-more
+decreases-links-more l = length l.self
