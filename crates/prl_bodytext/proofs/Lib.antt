@@ -1,5 +1,4 @@
 pub mod LinkTrees
 pub mod Calls
 pub mod Right
-pub mod RangeFaults
 pub mod WholeTexts

@@ -16,7 +16,7 @@ use Rattle.prl_bodytext.specs.declared.levels.Level.TheVariants as levels
 use Rattle.prl_bodytext.specs.declared.words.Fixed.{Fixed}
 use Rattle.prl_bodytext.specs.declared.words.Fixed.TheVariants as fixed
 use Rattle.prl_bodytext.specs.Words.{class_of}
-use Rattle.prl_bodytext.specs.Trees.{Sign, Link, chained, compared, prefixed, positive, negative}
+use Rattle.prl_bodytext.specs.Trees.{Sign, Link, chained, compared, prefixed}
 
 -- a grammar, in which parentheses hold trees
 abbrev pub Grammar : Type 0 → Type 1

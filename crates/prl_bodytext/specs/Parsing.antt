@@ -1,7 +1,7 @@
 -- The bodies that a text has, or its first fault.
 use Rattle.prl_reader.specs.declared.reading.Stop.{Stop as Stopped}
 use Rattle.prl_reader.specs.declared.reading.Stop.TheVariants as stops
-use Rattle.std.specs.Prelude.{◌≡◌, ◌⊎◌, ℕ, ◌-◌, false, List, [], ◌∷◌, length, drop, Option, Some, None, Result, Ok, Err}
+use Rattle.std.specs.Prelude.{◌≡◌, ◌⊎◌, ℕ, false, List, length, Option, Some, None, Result, Ok, Err}
 use Rattle.prl_base.specs.Reading.{◌>>=◌}
 use Rattle.prl_body.specs.declared.faults.BodyFault.{BodyFault}
 use Rattle.prl_body.specs.declared.faults.BodyFault.TheVariants as faults
@@ -11,12 +11,13 @@ use Rattle.prl_lex.specs.declared.tokens.LexFault.TheVariants as lexical
 use Rattle.prl_lex.specs.declared.tokens.Token.{Token}
 use Rattle.prl_lex.specs.Lexing.{tokens_of}
 use Rattle.prl_reader.specs.Lexemes.{Lexeme}
+use Rattle.prl_reader.specs.Ranges.{out_of_range}
 use Rattle.prl_reader.specs.Readers.{Stop, Stuck, Deep}
 use Rattle.prl_reader.specs.Language.{Text, read_at}
-use Rattle.prl_reader.specs.Whole.{all_at, IsFirstUnexpected}
+use Rattle.prl_reader.specs.Whole.{place_of, all_at, IsFirstUnexpected}
 use Rattle.prl_bodytext.specs.Grammar.{Bodies, bodies}
 use Rattle.prl_bodytext.specs.Lexing.{lexemes_of}
-use Rattle.prl_bodytext.specs.Ranges.{out_of_range}
+use Rattle.prl_bodytext.specs.Ranges.{body_ranges}
 
 abbrev pub of_lexical : LexFault → BodyFault
 of_lexical (lexical.BadToken at) = faults.Syntax at
@@ -27,15 +28,6 @@ of_lexical lexical.Memory = faults.Memory
 abbrev pub lexed : Result (List Token) LexFault → Result (List Token) BodyFault
 lexed (Ok tokens) = Ok tokens
 lexed (Err fault) = Err (of_lexical fault)
-
--- the place of the first of the tokens, or the end of the text
-abbrev pub place_or : ℕ → List Lexeme → ℕ
-place_or end [] = end
-place_or end (t ∷ ts) = t.at.at
-
--- the place behind which so many tokens are left, its own among them
-abbrev pub place_of : List Lexeme → ℕ → ℕ → ℕ
-place_of ts left end = place_or end (drop (length ts - left) ts)
 
 abbrev pub of_stop : List Lexeme → ℕ → Stop → BodyFault
 of_stop ts end (Stuck left) = faults.Syntax (place_of ts left end)
@@ -57,7 +49,7 @@ ranged (Some at) trees = Err (faults.Syntax at)
 unfoldable pub bodies_of_tokens : List Lexeme → ℕ → Result (List TextTree) BodyFault
 bodies_of_tokens ts end = do
   trees ← placed ts end (all_at (read_at bodies Bodies) ts)
-  ranged (out_of_range false 0 ts) trees
+  ranged (out_of_range body_ranges false 0 ts) trees
 
 unfoldable pub bodies_of : List ℕ → Result (List TextTree) BodyFault
 bodies_of text = do
@@ -69,7 +61,7 @@ pub record AreBodiesOf (text : List ℕ) (trees : List TextTree) : Type 0 where
   pub tokens : List Token
   pub lexical : tokens_of text ≡ Ok tokens
   pub written : Text bodies Bodies trees (lexemes_of text tokens)
-  pub ranges : out_of_range false 0 (lexemes_of text tokens) ≡ None
+  pub ranges : out_of_range body_ranges false 0 (lexemes_of text tokens) ≡ None
 
 -- The first unexpected token of the text is at the place: no text of the grammar begins with the tokens up to it.
 pub record IsUnexpectedAt (text : List ℕ) (at : ℕ) : Type 0 where
@@ -85,7 +77,7 @@ pub record IsOutOfRangeAt (text : List ℕ) (at : ℕ) : Type 0 where
   pub trees : List TextTree
   pub lexical : tokens_of text ≡ Ok tokens
   pub written : Text bodies Bodies trees (lexemes_of text tokens)
-  pub first : out_of_range false 0 (lexemes_of text tokens) ≡ Some at
+  pub first : out_of_range body_ranges false 0 (lexemes_of text tokens) ≡ Some at
 
 -- no token begins at the place, or a number above 2^64 - 1 does
 abbrev pub IsBadTokenAt : List ℕ → ℕ → Type 0

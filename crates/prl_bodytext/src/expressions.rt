@@ -12,11 +12,10 @@ ghost use Rattle.prl_bodytext.specs.Trees.{link_view};
 use crate::levels::Level;
 use crate::parser::Parser;
 use crate::trees::{chained, choice, prefixed};
-use crate::values::positive;
 use crate::words::Fixed;
 use prl_base::{Span, Value};
 use prl_body::{Expr, ExprLink, Operator, Prefix};
-use prl_reader::Stop;
+use prl_reader::{Stop, positive};
 
 impl<'a> Parser<'a> {
     #[tactic(auto, unfolding(crate::specs::Grammar::Operators, crate::specs::Grammar::LinkOf))]

@@ -10,7 +10,6 @@ mod ranges;
 mod repeats;
 mod terminals;
 mod trees;
-mod values;
 mod words;
 
 pub use parsing::parse_bodies;

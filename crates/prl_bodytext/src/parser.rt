@@ -6,10 +6,9 @@ ghost use Rattle.prl_bodytext.specs.Grammar.{the, named, number, Constant};
 ghost use Rattle.prl_bodytext.specs.Parses.{Parses};
 ghost use Rattle.prl_bodytext.specs.Words.{class_of};
 
-use crate::values::{negative, positive};
 use crate::words::Fixed;
 use prl_base::{Name, Span, Value};
-use prl_reader::{Stop, Terminal};
+use prl_reader::{Stop, Terminal, negative, positive};
 use std::alloc::Global;
 use std::marker::Model;
 

@@ -1,17 +1,16 @@
 //! From a text to its bodies, or to its first fault.
 
 ghost use Rattle.std.specs.Prelude.{◌≡◌, ◌<◌, ◌^◌, List, length, IfOk, IfErr, Ok};
-ghost use Rattle.prl_base.specs.Reading.{Gives};
-ghost use Rattle.prl_body.specs.Faults.{fault_of};
+ghost use Rattle.prl_base.specs.Reading.{GivesBut};
 ghost use Rattle.prl_body.specs.Texts.{TextTree, text_trees};
-ghost use Rattle.prl_bodytext.specs.Parsing.{of_lexical, place_or, FaultOfStop, bodies_of_tokens, bodies_of, AreBodiesOf, Explains};
+ghost use Rattle.prl_bodytext.specs.Parsing.{of_lexical, FaultOfStop, bodies_of_tokens, bodies_of, AreBodiesOf, Explains};
 
 use crate::bodies::bodies;
-use crate::ranges::out_of_range;
+use crate::ranges::BodyRanges;
 use crate::terminals::terminals;
 use prl_body::{BodyFault, BodyTexts};
 use prl_lex::{LexFault, lex};
-use prl_reader::{Stop, Terminal};
+use prl_reader::{Stop, Terminal, out_of_range, place_of};
 use std::alloc::Global;
 
 fn of_lexical(fault: LexFault) -> BodyFault
@@ -24,24 +23,11 @@ fn of_lexical(fault: LexFault) -> BodyFault
     }
 }
 
-/// The place of the first of the tokens, or the end of the text.
-fn place_or(end: u32, terminals: &[Terminal]) -> u32
-    ensures { result ≡ place_or end terminals.now }
-{
-    match terminals {
-        [] => end,
-        [first, ..] => first.at().at,
-    }
-}
-
 fn of_stop(terminals: &[Terminal], end: u32, stop: Stop) -> BodyFault
     ensures { FaultOfStop terminals.now end stop result }
 {
     match stop {
-        Stop::Unexpected(left) => {
-            let (_, rest) = terminals.split_at(terminals.len().saturating_sub(left));
-            BodyFault::Syntax(place_or(end, rest))
-        }
+        Stop::Unexpected(left) => BodyFault::Syntax(place_of(terminals, left, end)),
         Stop::Memory => BodyFault::Memory,
     }
 }
@@ -49,13 +35,13 @@ fn of_stop(terminals: &[Terminal], end: u32, stop: Stop) -> BodyFault
 /// The bodies that the tokens are.
 #[tactic(auto, unfolding(crate::specs::Parsing::bodies_of_tokens))]
 fn bodies_of_tokens(alloc: Global, terminals: &[Terminal], end: u32) -> Result<BodyTexts, BodyFault>
-    ensures { Gives text_trees fault_of result (bodies_of_tokens terminals.now end) }
+    ensures { GivesBut BodyFault.Memory text_trees result (bodies_of_tokens terminals.now end) }
 {
     let bodies = match bodies(alloc, terminals) {
         Ok(bodies) => bodies,
         Err(stop) => return Err(of_stop(terminals, end, stop)),
     };
-    match out_of_range(terminals) {
+    match out_of_range::<BodyRanges>(terminals) {
         Some(at) => Err(BodyFault::Syntax(at)),
         None => Ok(bodies),
     }
@@ -64,7 +50,7 @@ fn bodies_of_tokens(alloc: Global, terminals: &[Terminal], end: u32) -> Result<B
 #[tactic(auto, unfolding(crate::specs::Parsing::bodies_of))]
 fn parsed(alloc: Global, text: &[u8]) -> Result<BodyTexts, BodyFault>
     requires { length text.now < 2 ^ 32 }
-    ensures { Gives text_trees fault_of result (bodies_of text.now) }
+    ensures { GivesBut BodyFault.Memory text_trees result (bodies_of text.now) }
 {
     let tokens = match lex(alloc, text) {
         Ok(tokens) => tokens,
@@ -83,11 +69,11 @@ pub fn parse_bodies(alloc: Global, text: &[u8]) -> Result<BodyTexts, BodyFault>
     // What is read is a text of the grammar, in range and within the limits.
     ensures found { IfOk result (λ t. AreBodiesOf text.now (text_trees t)) }
     // Each text of the grammar is read, with its trees, unless memory runs out.
-    ensures only { (trees : List TextTree) → AreBodiesOf text.now trees → Gives text_trees fault_of result (Ok trees) }
+    ensures only { (trees : List TextTree) → AreBodiesOf text.now trees → GivesBut BodyFault.Memory text_trees result (Ok trees) }
     // What each fault means for the text.
     ensures fault { IfErr result (Explains text.now) }
     // The bodies, or the first fault in this order.
-    ensures exact { Gives text_trees fault_of result (bodies_of text.now) }
+    ensures exact { GivesBut BodyFault.Memory text_trees result (bodies_of text.now) }
 {
     parsed(alloc, text)
 }

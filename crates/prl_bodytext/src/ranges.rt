@@ -1,48 +1,35 @@
 //! Ranges of numbers. What stands before a number tells its range.
 
-ghost use Rattle.std.specs.Prelude.{◌≡◌, false};
-ghost use Rattle.prl_bodytext.specs.Ranges.{declares_after, greatest, is_fault, out_of_range};
+ghost use Rattle.std.specs.Prelude.{◌≡◌};
+ghost use Rattle.prl_bodytext.specs.Ranges.{greatest};
 
 use crate::words::{Fixed, class_of};
-use prl_reader::Terminal;
+use prl_reader::{MAX_NEGATIVE, MAX_POSITIVE, Ranged};
 
-/// Whether a register is being declared behind a token of the class.
-fn declares_after(declares: bool, class: u8) -> bool
-    ensures { result ≡ declares_after declares class }
-{
-    class == class_of(Fixed::Reg) || (declares && class != class_of(Fixed::Semicolon))
-}
-
-/// The greatest number that may stand behind a token of the class.
+/// The greatest number, where a register is being declared or not, and after a token of the class.
 fn greatest(declares: bool, last: u8) -> u64
     ensures { result ≡ greatest declares last }
 {
     if declares && last == class_of(Fixed::Minus) {
-        2_147_483_648
+        MAX_NEGATIVE
     } else {
-        2_147_483_647
+        MAX_POSITIVE
     }
 }
 
-/// Whether the token is a number out of its range.
-fn is_fault(declares: bool, last: u8, terminal: &Terminal) -> bool
-    ensures { result ≡ is_fault declares last terminal.now }
-{
-    terminal.class() == 1 && terminal.value() > greatest(declares, last)
-}
+/// The ranges of bodies.
+pub struct BodyRanges;
 
-/// The place of the first number out of its range.
-pub fn out_of_range(terminals: &[Terminal]) -> Option<u32>
-    ensures { result ≡ out_of_range false 0 terminals.now }
-{
-    let mut declares = false;
-    let mut last = 0;
-    'each: for terminal in terminals {
-        if is_fault(declares, last, terminal) {
-            return Some(terminal.at().at);
-        }
-        last = terminal.class();
-        declares = declares_after(declares, last);
+impl Ranged for BodyRanges {
+    ghost use Rattle.prl_bodytext.specs.Ranges.{body_ranges};
+
+    ghost ranges = { body_ranges };
+
+    fn inside_after(inside: bool, class: u8) -> bool {
+        class == class_of(Fixed::Reg) || (class != class_of(Fixed::Semicolon) && inside)
     }
-    None
+
+    fn fits(inside: bool, last: u8, number: u64) -> bool {
+        number <= greatest(inside, last)
+    }
 }

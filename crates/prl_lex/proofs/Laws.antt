@@ -1,5 +1,5 @@
 -- What is known of the tokens of a text.
-use Rattle.std.proofs.Common.{◌≡◌, ℕ, zero, suc, ◌+◌, ◌-◌, ◌<◌, ◌≤◌, Bool, true, false, cond, leb, List, [], ◌∷◌, length, take, drop, Result, Ok, Err, IfOk, Option, All, refl, sym, ap, ◌∙◌, subst, arith, length-drop}
+use Rattle.std.proofs.Common.{◌≡◌, ℕ, zero, suc, ◌+◌, ◌-◌, ◌<◌, ◌≤◌, Bool, true, false, cond, leb, List, [], ◌∷◌, length, take, drop, Result, Ok, Err, IfOk, All, refl, sym, ap, ◌∙◌, subst, arith, length-drop}
 use Rattle.std.proofs.lemmas.Bool.{leb-true}
 use Rattle.std.proofs.lemmas.List.{drop-drop, length-take-le}
 use Rattle.std.proofs.lemmas.List.Elements.{All-from_recursion}
@@ -7,9 +7,10 @@ use Rattle.std.proofs.lemmas.List.Sums.{AllPass-from_list_all}
 use Rattle.std.specs.Char.{is_ascii_digit}
 use Rattle.std.specs.List.{AllPass, AllByRecursion}
 use Rattle.prl_base.specs.Names.{is_word, IsName}
-use Rattle.prl_base.specs.Reading.{◌>>=◌, Gives}
+use Rattle.prl_base.specs.Reading.{◌>>=◌, GivesBut}
 use Rattle.prl_lex.specs.declared.tokens.Kind.{Kind}
 use Rattle.prl_lex.specs.declared.tokens.Kind.TheVariants.{Word, Number, Symbol}
+use Rattle.prl_lex.specs.declared.tokens.LexFault.TheVariants as faults
 use Rattle.prl_lex.specs.declared.tokens.Token.{Token}
 use Rattle.prl_lex.specs.declared.tokens.LexFault.{LexFault}
 use Rattle.prl_lex.specs.declared.pieces.Piece.{Piece}
@@ -134,13 +135,13 @@ follow text (b ∷ bs) at depth zero ts e h =
     (λ deep past others. follow text bs (at + 1) deep past others (ap (drop 1) e ∙ drop-drop 1 at text)) h)
 
 -- what a call knows that gives the tokens of a text, seen by `view`
-pub given_each : {X : Type 0} (view : X → List Token) (fault : LexFault → Option LexFault) (r : Result X LexFault) (text : List ℕ) → Gives view fault r (tokens_of text) → IfOk r (λ x. All (IsTokenOf text) (view x))
-given_each view fault (Err e) text h = tt
-given_each view fault (Ok x) text h = All-from_recursion (IsTokenOf text) (view x) ((follow text text 0 0 0 (view x) refl h).each)
+pub given_each : {X : Type 0} (view : X → List Token) (r : Result X LexFault) (text : List ℕ) → GivesBut faults.Memory view r (tokens_of text) → IfOk r (λ x. All (IsTokenOf text) (view x))
+given_each view (Err e) text h = tt
+given_each view (Ok x) text h = All-from_recursion (IsTokenOf text) (view x) ((follow text text 0 0 0 (view x) refl h).each)
 
-pub given_order : {X : Type 0} (view : X → List Token) (fault : LexFault → Option LexFault) (r : Result X LexFault) (text : List ℕ) → Gives view fault r (tokens_of text) → IfOk r (λ x. AreInOrder 0 (view x))
-given_order view fault (Err e) text h = tt
-given_order view fault (Ok x) text h =
+pub given_order : {X : Type 0} (view : X → List Token) (r : Result X LexFault) (text : List ℕ) → GivesBut faults.Memory view r (tokens_of text) → IfOk r (λ x. AreInOrder 0 (view x))
+given_order view (Err e) text h = tt
+given_order view (Ok x) text h =
     let P : ℕ → Type 0 = λ place. AreInOrder place (view x) in
     let same : 0 + 0 ≡ 0 = omega arith in
     subst P same ((follow text text 0 0 0 (view x) refl h).order)

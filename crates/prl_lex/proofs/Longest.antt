@@ -44,7 +44,7 @@ or_of_two : (a b : Bool) → b ≡ false → (a || b) ≡ a
 or_of_two true b eb = refl
 or_of_two false b eb = eb
 
--- a token that is a run of bytes behind its first one
+-- a token that is a run of bytes after its first one
 run_piece : (p : ℕ → Bool) (kind : Kind) (b : ℕ) (bs : List ℕ) → ((xs : List ℕ) → is_token (b ∷ xs) ≡ list_all p xs) → ((xs : List ℕ) → list_all p xs ≡ true → kind_of (b ∷ xs) ≡ kind)
     → pieces.Token kind (prefix_len p bs + 1) ≡ token_of_len (b ∷ bs) (longest (b ∷ bs))
 run_piece p kind b bs tokens kinds =

@@ -1,7 +1,7 @@
 -- A loop that takes one piece after another gives the tokens of the text.
 use Rattle.std.proofs.Common.{◌≡◌, ℕ, zero, suc, ◌+◌, ◌-◌, ◌<◌, ◌≤◌, List, [], ◌∷◌, ◌++◌, length, take, drop, Result, Ok, Err, refl, sym, ap, ◌∙◌, arith, append_assoc, length-drop}
 use Rattle.std.proofs.lemmas.List.{drop-drop, drop_all, append-nil}
-use Rattle.prl_base.specs.Reading.{◌>>=◌, FailsAs}
+use Rattle.prl_base.specs.Reading.{◌>>=◌}
 use Rattle.prl_lex.specs.declared.tokens.Kind.{Kind}
 use Rattle.prl_lex.specs.declared.tokens.Token.{Token}
 use Rattle.prl_lex.specs.declared.tokens.LexFault.{LexFault}
@@ -9,7 +9,7 @@ use Rattle.prl_lex.specs.declared.tokens.LexFault.TheVariants as faults
 use Rattle.prl_lex.specs.declared.pieces.Piece.{Piece}
 use Rattle.prl_lex.specs.declared.pieces.Piece.TheVariants as pieces
 use Rattle.prl_lex.specs.Tokens.{piece_of, FitsPiece}
-use Rattle.prl_lex.specs.Lexing.{fault_of, depth_after, checked, with_piece, tokens_from}
+use Rattle.prl_lex.specs.Lexing.{depth_after, checked, with_piece, tokens_from}
 
 -- the bytes that are passed over
 skip : (n at depth : ℕ) (text : List ℕ) → n ≤ length text → tokens_from at depth n text ≡ tokens_from (at + n) depth 0 (drop n text)
@@ -98,21 +98,15 @@ token_step text rest bytes at depth n deep kind front token total s e f g =
     ∙ ap (with_front (front ++ token ∷ [])) (further text rest at n deep s.rest_is))
     ∙ one_step text rest at depth front (pieces.Token kind n) total s
 
-fails_as : (e : LexFault) (total : Result (List Token) LexFault) → total ≡ Err e → FailsAs (fault_of e) total
-fails_as (faults.BadToken at) total h = h
-fails_as (faults.NumberRange at) total h = h
-fails_as (faults.Limit limit) total h = h
-fails_as faults.Memory total h = tt
-
 pub fault_step : (text rest bytes : List ℕ) (at depth n deep : ℕ) (kind : Kind) (front : List Token) (fault : LexFault) (total : Result (List Token) LexFault) → Stands text rest at depth front (pieces.Token kind n) total
     → bytes ≡ take n rest → deep ≡ depth_after depth bytes → checked at deep kind bytes ≡ Err fault
-    → FailsAs (fault_of fault) total
+    → total ≡ Err fault
 fault_step text rest bytes at depth n deep kind front fault total s e f g =
     let deep_is : depth_after depth (take n rest) ≡ deep = ap (depth_after depth) (sym e) ∙ sym f in
     let err : checked at deep kind (take n rest) ≡ Err fault = ap (checked at deep kind) (sym e) ∙ g in
-    fails_as fault total (sym (one_step text rest at depth front (pieces.Token kind n) total s)
+    sym (one_step text rest at depth front (pieces.Token kind n) total s)
     ∙ ap (λ d. with_front front (checked at d kind (take n rest) >>= λ t. with_front (t ∷ []) (tokens_from (at + n) d 0 (drop n rest)))) deep_is
-    ∙ ap (λ r. with_front front (r >>= λ t. with_front (t ∷ []) (tokens_from (at + n) deep 0 (drop n rest)))) err)
+    ∙ ap (λ r. with_front front (r >>= λ t. with_front (t ∷ []) (tokens_from (at + n) deep 0 (drop n rest)))) err
 
 pub all_read : (text : List ℕ) (at depth : ℕ) (front : List Token) (total : Result (List Token) LexFault) → length text ≤ at → with_front front (tokens_from at depth 0 (drop at text)) ≡ total → total ≡ Ok front
 unfolding tokens_from

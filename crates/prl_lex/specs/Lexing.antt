@@ -1,9 +1,10 @@
 -- The tokens of a text, or its first fault.
-use Rattle.std.specs.Prelude.{◌≡◌, ◌≤◌, ℕ, zero, suc, ◌+◌, ◌-◌, ◌^◌, ◌==◌, nat_lt, nat_le, List, [], ◌∷◌, length, take, drop, Option, Some, None, Result, Ok, Err, if◌then◌else◌}
+use Rattle.std.specs.Prelude.{◌≡◌, ◌≤◌, ℕ, zero, suc, ◌+◌, ◌-◌, ◌^◌, ◌==◌, nat_lt, nat_le, List, [], ◌∷◌, length, take, drop, Result, Ok, Err, if◌then◌else◌}
 use Rattle.std.specs.Str.Parse.{digits_value}
 use Rattle.prl_base.specs.Names.{IsName}
 use Rattle.prl_base.specs.Reading.{◌>>=◌}
 use Rattle.prl_base.specs.declared.limits.What.TheVariants as limits
+use Rattle.prl_lex.specs.declared.lexing.TheConstants.{MAX_DEPTH, MAX_NAME}
 use Rattle.prl_lex.specs.declared.tokens.Kind.{Kind}
 use Rattle.prl_lex.specs.declared.tokens.Kind.TheVariants.{Word, Number, Symbol}
 use Rattle.prl_lex.specs.declared.tokens.Token.{Token}
@@ -13,18 +14,11 @@ use Rattle.prl_lex.specs.declared.pieces.Piece.{Piece}
 use Rattle.prl_lex.specs.declared.pieces.Piece.TheVariants as pieces
 use Rattle.prl_lex.specs.Tokens.{piece_of}
 
--- want of memory is no fault of the text
-abbrev pub fault_of : LexFault → Option LexFault
-fault_of (faults.BadToken at) = Some (faults.BadToken at)
-fault_of (faults.NumberRange at) = Some (faults.NumberRange at)
-fault_of (faults.Limit limit) = Some (faults.Limit limit)
-fault_of faults.Memory = None
-
 -- the bytes of a token
 abbrev pub token_text : List ℕ → Token → List ℕ
 token_text text t = take t.span.len (drop t.span.at text)
 
--- the open parentheses behind a token, of those before it
+-- the open parentheses after a token, of those before it
 abbrev pub depth_after : ℕ → List ℕ → ℕ
 depth_after depth [] = depth
 depth_after depth (a ∷ []) = if a == 40 then depth + 1 else (if a == 41 then depth - 1 else depth)
@@ -35,15 +29,15 @@ token_at at Number bytes = record { kind = Number; span = record { at = at; len 
 token_at at Word bytes = record { kind = Word; span = record { at = at; len = length bytes }; number = 0 }
 token_at at Symbol bytes = record { kind = Symbol; span = record { at = at; len = length bytes }; number = 0 }
 
--- The token of these bytes: a number is at most 2 ^ 64 - 1, a name has at most 64 bytes, and at most 64
--- parentheses are open.
+-- The token of these bytes: a number has at most 64 bits, a name is not too long, and not too many parentheses
+-- are open.
 abbrev pub checked : ℕ → ℕ → Kind → List ℕ → Result Token LexFault
 checked at depth Number bytes = if nat_lt (digits_value 10 bytes) (2 ^ 64) then Ok (token_at at Number bytes) else Err (faults.NumberRange at)
-checked at depth Word bytes = if nat_le (length bytes) 64 then Ok (token_at at Word bytes) else Err (faults.Limit (record { what = limits.Name; found = length bytes }))
-checked at depth Symbol bytes = if nat_le depth 64 then Ok (token_at at Symbol bytes) else Err (faults.Limit (record { what = limits.Depth; found = depth }))
+checked at depth Word bytes = if nat_le (length bytes) MAX_NAME then Ok (token_at at Word bytes) else Err (faults.Limit (record { what = limits.Name; found = length bytes }))
+checked at depth Symbol bytes = if nat_le depth MAX_DEPTH then Ok (token_at at Symbol bytes) else Err (faults.Limit (record { what = limits.Depth; found = depth }))
 
--- What stands first at the place `at`, behind `depth` open parentheses, and then what follows: `rest` has
--- the tokens behind the first byte, at a depth, past so many bytes more.
+-- What stands first at the place `at`, after `depth` open parentheses, and then what follows: `rest` has
+-- the tokens after the first byte, at a depth, past so many bytes more.
 abbrev pub with_piece : ℕ → ℕ → List ℕ → Piece → (ℕ → ℕ → Result (List Token) LexFault) → Result (List Token) LexFault
 with_piece at depth text pieces.Bad rest = Err (faults.BadToken at)
 with_piece at depth text (pieces.Gap n) rest = rest depth (n - 1)
@@ -52,7 +46,7 @@ with_piece at depth text (pieces.Token kind n) rest = do
   tokens ← rest (depth_after depth (take n text)) (n - 1)
   Ok (token ∷ tokens)
 
--- the tokens of a text at the place `at` of a longer one, behind `depth` open parentheses, but for its first
+-- the tokens of a text at the place `at` of a longer one, after `depth` open parentheses, but for its first
 -- `past` bytes, which belong to what was read before
 unfoldable pub tokens_from : ℕ → ℕ → ℕ → List ℕ → Result (List Token) LexFault
 tokens_from at depth past [] = Ok []

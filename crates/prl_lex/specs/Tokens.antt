@@ -63,7 +63,7 @@ abbrev pub closing_len : List ℕ → Option ℕ
 closing_len [] = None
 closing_len (b ∷ bs) = if begins 42 41 (b ∷ bs) then Some 2 else option_map (λ n. n + 1) (closing_len bs)
 
--- a comment whose closing ends so many bytes behind its two opening ones; one that is not closed is no token
+-- a comment whose closing ends so many bytes after its two opening ones; one that is not closed is no token
 abbrev pub closed : Option ℕ → Piece
 closed None = pieces.Bad
 closed (Some n) = pieces.Gap (n + 2)

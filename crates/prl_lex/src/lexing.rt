@@ -4,9 +4,9 @@ ghost use Rattle.std.specs.Prelude.{◌≡◌, ◌≤◌, ◌+◌, ◌*◌, ◌<
 ghost use Rattle.std.specs.Char.{is_ascii_digit, digit_value};
 ghost use Rattle.std.specs.List.{AllPass};
 ghost use Rattle.std.specs.Str.Parse.{digits_value};
-ghost use Rattle.prl_base.specs.Reading.{Gives};
+ghost use Rattle.prl_base.specs.Reading.{GivesBut};
 ghost use Rattle.prl_lex.specs.Digits.{in_64_bits};
-ghost use Rattle.prl_lex.specs.Lexing.{fault_of, tokens_of, IsTokenOf, AreInOrder, checked, depth_after};
+ghost use Rattle.prl_lex.specs.Lexing.{tokens_of, IsTokenOf, AreInOrder, checked, depth_after};
 
 use crate::pieces::{Piece, piece_of};
 use crate::tokens::{Kind, LexFault, Token};
@@ -39,7 +39,7 @@ fn number_of(digits: &[u8]) -> Option<u64>
     Some(number)
 }
 
-/// The open parentheses behind a token, of those before it.
+/// The open parentheses after a token, of those before it.
 fn depth_after(depth: u64, bytes: &[u8]) -> u64
     requires { depth < 2 ^ 32 }
     ensures exact { result ≡ depth_after depth bytes.now }
@@ -52,7 +52,7 @@ fn depth_after(depth: u64, bytes: &[u8]) -> u64
     }
 }
 
-/// The token of these bytes at a place. So many parentheses are open behind it.
+/// The token of these bytes at a place. So many parentheses are open after it.
 fn checked(at: u32, depth: u64, kind: Kind, bytes: &[u8]) -> Result<Token, LexFault>
     requires short { length bytes.now < 2 ^ 32 }
     requires digits { kind ≡ Kind.Number → AllPass is_ascii_digit bytes.now }
@@ -99,7 +99,7 @@ fn checked(at: u32, depth: u64, kind: Kind, bytes: &[u8]) -> Result<Token, LexFa
 
 fn tokens_of(alloc: Global, text: &[u8]) -> Result<Vec<Token>, LexFault>
     requires { length text.now < 2 ^ 32 }
-    ensures { Gives (λ tokens. tokens.items) fault_of result (tokens_of text.now) }
+    ensures { GivesBut LexFault.Memory (λ tokens. tokens.items) result (tokens_of text.now) }
 {
     let mut tokens = Vec::new(alloc);
     let mut at: usize = 0;
@@ -129,7 +129,7 @@ fn tokens_of(alloc: Global, text: &[u8]) -> Result<Vec<Token>, LexFault>
 pub fn lex(alloc: Global, text: &[u8]) -> Result<Vec<Token>, LexFault>
     requires { length text.now < 2 ^ 32 }
     // The tokens of the text, or its first fault.
-    ensures exact { Gives (λ tokens. tokens.items) fault_of result (tokens_of text.now) }
+    ensures exact { GivesBut LexFault.Memory (λ tokens. tokens.items) result (tokens_of text.now) }
     // Each lies in the text, and a word is a name.
     ensures each { IfOk result (λ tokens. All (IsTokenOf text.now) tokens.items) }
     ensures order { IfOk result (λ tokens. AreInOrder 0 tokens.items) }

@@ -9,13 +9,15 @@ use Rattle.prl_reader.specs.Lexemes.{Lexeme}
 use Rattle.prl_syntax.specs.declared.words.Fixed.{Fixed}
 use Rattle.prl_syntax.specs.declared.words.Fixed.TheVariants as fixed
 use Rattle.prl_syntax.specs.Words.{class_of, keyword_of}
-use Rattle.prl_syntax.specs.Ranges.{is_count, in_range, is_fault}
+use Rattle.prl_reader.specs.Ranges.{inside_after, is_fault}
+use Rattle.prl_syntax.specs.Ranges.{is_count, in_range, program_ranges}
+use Rattle.prl_reader.specs.declared.numbers.TheConstants.{MAX_NEGATIVE, MAX_POSITIVE}
 use Rattle.prl_print.proofs.Scanning.{Scan, scan_blank, begins_other}
 use Rattle.prl_print.proofs.Pieces.{a_name, a_number, a_fixed, Stops, NoPair, scan_word, scan_number, scan_one, scan_two, number_leads}
 
--- behind two tokens of these classes a number has no range of its own, and a parenthesis opens no rate
-abbrev pub is_plain : ℕ → ℕ → Bool
-is_plain before last = not (is_count before last) && (not (last == 26) && not (last == 13))
+-- After a token of the class a number is a constant, or in a rate its numerator.
+abbrev pub is_plain : Bool → ℕ → Bool
+is_plain inside last = not (is_count inside last) && (not (last == 26) && not ((last == 14) || (last == 30)))
 
 -- what may follow a part: no byte of a word and no star, no star, or anything
 pub data End : Type 0 where
@@ -36,31 +38,35 @@ pub no_star : (rest : List ℕ) → Fits word rest → Fits paren rest
 no_star [] h = tt
 no_star (b ∷ rest) h = (or_parts (is_word_byte b) (b == 42) h).1
 
-pub record Plain (depth : ℕ) (text : List ℕ) (ks : List Lexeme) : Type 0 where
-  pub scan : (before last : ℕ) → is_plain before last ≡ true → Scan before last depth text ks
+pub record Plain (inside : Bool) (depth : ℕ) (text : List ℕ) (ks : List Lexeme) : Type 0 where
+  pub scan : (last : ℕ) → is_plain inside last ≡ true → Scan inside last depth text ks
 
--- The part has these tokens, and the open parentheses are so many before it and behind it.
-pub record Frag (depth : ℕ) (part : List ℕ) (ks : List Lexeme) (end : End) (deep : ℕ) : Type 0 where
-  pub go : (rest : List ℕ) (more : List Lexeme) → Fits end rest → Plain deep rest more → Plain depth (part ++ rest) (ks ++ more)
+-- The part has these tokens. A rate is being read before it and after it, or not, and so many parentheses are open there.
+pub record Part (inside : Bool) (depth : ℕ) (part : List ℕ) (ks : List Lexeme) (end : End) (after : Bool) (deep : ℕ) : Type 0 where
+  pub go : (rest : List ℕ) (more : List Lexeme) → Fits end rest → Plain after deep rest more → Plain inside depth (part ++ rest) (ks ++ more)
 
-pub f_nil : (d : ℕ) (e : End) → Frag d [] [] e d
+-- outside of rates
+abbrev pub Frag : ℕ → List ℕ → List Lexeme → End → ℕ → Type 0
+Frag depth part ks end deep = Part false depth part ks end false deep
+
+pub f_nil : {i : Bool} (d : ℕ) (e : End) → Part i d [] [] e i d
 f_nil d e = record { go = λ rest more fits s. s }
 
-pub f_seq : {d d1 d2 : ℕ} {a b : List ℕ} {ks ls : List Lexeme} {e e2 : End} → Frag d a ks e d1 → Frag d1 b ls e2 d2 → ((rest : List ℕ) → Fits e2 rest → Fits e (b ++ rest)) → Frag d (a ++ b) (ks ++ ls) e2 d2
-f_seq {d} {d1} {d2} {a} {b} {ks} {ls} {e} {e2} one two leads = record { go = go }
+pub f_seq : {i j k : Bool} {d d1 d2 : ℕ} {a b : List ℕ} {ks ls : List Lexeme} {e e2 : End} → Part i d a ks e j d1 → Part j d1 b ls e2 k d2 → ((rest : List ℕ) → Fits e2 rest → Fits e (b ++ rest)) → Part i d (a ++ b) (ks ++ ls) e2 k d2
+f_seq {i} {j} {k} {d} {d1} {d2} {a} {b} {ks} {ls} {e} {e2} one two leads = record { go = go }
   where
-    go : (rest : List ℕ) (more : List Lexeme) → Fits e2 rest → Plain d2 rest more → Plain d ((a ++ b) ++ rest) ((ks ++ ls) ++ more)
+    go : (rest : List ℕ) (more : List Lexeme) → Fits e2 rest → Plain k d2 rest more → Plain i d ((a ++ b) ++ rest) ((ks ++ ls) ++ more)
     go rest more fits s =
-        let P : List ℕ → Type 0 = λ text. Plain d text ((ks ++ ls) ++ more) in
-        let Q : List Lexeme → Type 0 = λ tokens. Plain d (a ++ (b ++ rest)) tokens in
+        let P : List ℕ → Type 0 = λ text. Plain i d text ((ks ++ ls) ++ more) in
+        let Q : List Lexeme → Type 0 = λ tokens. Plain i d (a ++ (b ++ rest)) tokens in
         subst P (sym (append_assoc a b rest)) (subst Q (sym (append_assoc ks ls more)) (one.go (b ++ rest) (ls ++ more) (leads rest fits) (two.go rest more fits s)))
 
 -- the tokens, or the bytes, in another grouping
-pub f_tokens : {d d2 : ℕ} {a : List ℕ} {e : End} (ks ls : List Lexeme) → ks ≡ ls → Frag d a ks e d2 → Frag d a ls e d2
-f_tokens {d} {d2} {a} {e} ks ls same f = let P : List Lexeme → Type 0 = λ xs. Frag d a xs e d2 in subst P same f
+pub f_tokens : {i j : Bool} {d d2 : ℕ} {a : List ℕ} {e : End} (ks ls : List Lexeme) → ks ≡ ls → Part i d a ks e j d2 → Part i d a ls e j d2
+f_tokens {i} {j} {d} {d2} {a} {e} ks ls same f = let P : List Lexeme → Type 0 = λ xs. Part i d a xs e j d2 in subst P same f
 
-pub f_bytes : {d d2 : ℕ} {ks : List Lexeme} {e : End} (a b : List ℕ) → a ≡ b → Frag d a ks e d2 → Frag d b ks e d2
-f_bytes {d} {d2} {ks} {e} a b same f = let P : List ℕ → Type 0 = λ xs. Frag d xs ks e d2 in subst P same f
+pub f_bytes : {i j : Bool} {d d2 : ℕ} {ks : List Lexeme} {e : End} (a b : List ℕ) → a ≡ b → Part i d a ks e j d2 → Part i d b ks e j d2
+f_bytes {i} {j} {d} {d2} {ks} {e} a b same f = let P : List ℕ → Type 0 = λ xs. Part i d xs ks e j d2 in subst P same f
 
 -- one part for each of a list
 pub each_leads : {X : Type 0} (P : X → Type 0) (f : X → List ℕ) (e : End) → ((x : X) → P x → (rest : List ℕ) → Fits e (f x ++ rest)) → (xs : List X) → AllByRecursion P xs → (rest : List ℕ) → Fits e rest → Fits e (flat_map f xs ++ rest)
@@ -71,58 +77,65 @@ pub f_each : {X : Type 0} (P : X → Type 0) (f : X → List ℕ) (g : X → Lis
 f_each P f g e d each leads [] all = f_nil d e
 f_each P f g e d each leads (x ∷ xs) all = f_seq (each x all.0) (f_each P f g e d each leads xs all.1) (each_leads P f e leads xs all.1)
 
-abbrev with_all : (d : ℕ) (part : List ℕ) (ks : List Lexeme) (e : End) (deep : ℕ) → ((before last : ℕ) (rest : List ℕ) (more : List Lexeme) → is_plain before last ≡ true → Fits e rest → Plain deep rest more → Scan before last d (part ++ rest) (ks ++ more)) → Frag d part ks e deep
-with_all d part ks e deep h = record { go = λ rest more fits s. record { scan = λ before last plain. h before last rest more plain fits s } }
+abbrev with_all : (i : Bool) (d : ℕ) (part : List ℕ) (ks : List Lexeme) (e : End) (j : Bool) (deep : ℕ) → ((last : ℕ) (rest : List ℕ) (more : List Lexeme) → is_plain i last ≡ true → Fits e rest → Plain j deep rest more → Scan i last d (part ++ rest) (ks ++ more)) → Part i d part ks e j deep
+with_all i d part ks e j deep h = record { go = λ rest more fits s. record { scan = λ last plain. h last rest more plain fits s } }
 
-pub f_space : (d b : ℕ) → b < 256 → is_blank b ≡ true → Frag d (b ∷ []) [] free d
-f_space d b small blank = with_all d (b ∷ []) [] free d (λ before last rest more plain fits s. scan_blank before last d b rest more small blank (s.scan before last plain))
+pub f_space : {i : Bool} (d b : ℕ) → b < 256 → is_blank b ≡ true → Part i d (b ∷ []) [] free i d
+f_space {i} d b small blank = with_all i d (b ∷ []) [] free i d (λ last rest more plain fits s. scan_blank i last d b rest more small blank (s.scan last plain))
 
-pub f_blank : (d : ℕ) → Frag d (codes " ") [] free d
+pub f_blank : {i : Bool} (d : ℕ) → Part i d (codes " ") [] free i d
 f_blank d = f_space d 32 (omega arith) refl
 
 pub f_feed : (d : ℕ) → Frag d (codes "\n") [] free d
 f_feed d = f_space d 10 (omega arith) refl
 
 pub f_name : (d : ℕ) (name : List ℕ) → IsName name → keyword_of name ≡ None → Frag d name (a_name name ∷ []) word d
-f_name d name is no_key = with_all d name (a_name name ∷ []) word d (λ before last rest more plain fits s. scan_word before last d name rest None more is no_key (no_word rest fits) refl (s.scan last 0 refl))
+f_name d name is no_key = with_all false d name (a_name name ∷ []) word false d (λ last rest more plain fits s. scan_word false last d name rest None more is no_key (no_word rest fits) refl (s.scan 0 refl))
 
--- a keyword behind which a number has no range of its own
-pub f_keyword : (d : ℕ) (f : Fixed) (text : List ℕ) → IsName text → keyword_of text ≡ Some f → (class_of f == 1) ≡ false → ((l : ℕ) → is_plain l (class_of f) ≡ true) → Frag d text (a_fixed f ∷ []) word d
-f_keyword d f text is key other after = with_all d text (a_fixed f ∷ []) word d (λ before last rest more plain fits s.
-    scan_word before last d text rest (Some f) more is key (no_word rest fits) (ap (λ t. t && not (in_range before last 0)) other) (s.scan last (class_of f) (after last)))
+-- a keyword after which a number has no range of its own
+pub f_keyword : (d : ℕ) (f : Fixed) (text : List ℕ) → IsName text → keyword_of text ≡ Some f → (class_of f == 1) ≡ false → (inside_after program_ranges false (class_of f) ≡ false) × (is_plain false (class_of f) ≡ true) → Frag d text (a_fixed f ∷ []) word d
+f_keyword d f text is key other after = with_all false d text (a_fixed f ∷ []) word false d (λ last rest more plain fits s.
+    let P : Bool → Type 0 = λ i. Scan i (class_of f) d rest more in
+    scan_word false last d text rest (Some f) more is key (no_word rest fits) (ap (λ t. t && not (in_range false last 0)) other) (subst P (sym after.0) (s.scan (class_of f) after.1)))
 
-plain_range : (before last n : ℕ) → is_plain before last ≡ true → n ≤ 2147483647 → is_fault before last (a_number n) ≡ false
-plain_range before last n plain le =
-    let parts = and_parts (not (is_count before last)) _ plain in
-    let others = and_parts (not (last == 26)) (not (last == 13)) parts.1 in
-    ap not (cond-false (last == 26) _ _ (not-true (last == 26) others.0) ∙ cond-false (is_count before last) _ _ (not-true (is_count before last) parts.0) ∙ le-leb n 2147483647 le)
+-- a constant
+constant_range : (last n : ℕ) → is_plain false last ≡ true → n ≤ MAX_POSITIVE → is_fault program_ranges false last (a_number n) ≡ false
+constant_range last n plain le =
+    let parts = and_parts (not (is_count false last)) _ plain in
+    let others = and_parts (not (last == 26)) (not ((last == 14) || (last == 30))) parts.1 in
+    ap not (cond-false (is_count false last) _ _ (not-true (is_count false last) parts.0) ∙ cond-false ((last == 14) || (last == 30)) _ _ (not-true ((last == 14) || (last == 30)) others.1)
+    ∙ ap (leb n) (cond-false (last == 26) MAX_NEGATIVE MAX_POSITIVE (not-true (last == 26) others.0)) ∙ le-leb n MAX_POSITIVE le)
+
+pub f_constant : (d n : ℕ) → n ≤ MAX_POSITIVE → Frag d (decimal n) (a_number n ∷ []) word d
+f_constant d n le = with_all false d (decimal n) (a_number n ∷ []) word false d (λ last rest more plain fits s.
+    scan_number false last d n rest more (omega arith) (no_word rest fits) (constant_range last n plain le) (s.scan 1 refl))
+
+-- a numerator in a rate
+part_range : (last n : ℕ) → is_plain true last ≡ true → n ≤ 2147483647 → is_fault program_ranges true last (a_number n) ≡ false
+part_range last n plain le =
+    let parts = and_parts (not (is_count true last)) _ plain in
+    ap not (cond-false (is_count true last) _ _ (not-true (is_count true last) parts.0) ∙ le-leb n 2147483647 le)
+
+pub f_numerator : (d n : ℕ) → n ≤ 2147483647 → Part true d (decimal n) (a_number n ∷ []) word true d
+f_numerator d n le = with_all true d (decimal n) (a_number n ∷ []) word true d (λ last rest more plain fits s.
+    scan_number true last d n rest more (omega arith) (no_word rest fits) (part_range last n plain le) (s.scan 1 refl))
 
 pub count_range : (n : ℕ) → 1 ≤ n → n ≤ 2147483647 → (leb 1 n && leb n 2147483647) ≡ true
 count_range n low high = and_from (leb 1 n) (leb n 2147483647) (le-leb 1 n low) (le-leb n 2147483647 high)
 
-pub f_number : (d n : ℕ) → n ≤ 2147483647 → Frag d (decimal n) (a_number n ∷ []) word d
-f_number d n le = with_all d (decimal n) (a_number n ∷ []) word d (λ before last rest more plain fits s.
-    scan_number before last d n rest more (omega arith) (no_word rest fits) (plain_range before last n plain le) (s.scan last 1 refl))
-
-pub f_close : (d : ℕ) → d ≤ 64 → Frag (d + 1) (codes ")") (a_fixed fixed.Close ∷ []) free d
-f_close d le = with_all (d + 1) (codes ")") (a_fixed fixed.Close ∷ []) free d (λ before last rest more plain fits s.
-    scan_one before last (d + 1) d 41 rest fixed.Close more (record { blank = refl; word = refl; digit = refl; small = omega arith }) (begins_other 45 45 41 rest refl) (begins_other 40 42 41 rest refl) (no_pair rest) refl refl (omega arith) le refl
-    (s.scan last 20 refl))
+pub f_close : {i : Bool} (d : ℕ) → d ≤ 64 → Part i (d + 1) (codes ")") (a_fixed fixed.Close ∷ []) free false d
+f_close {i} d le = with_all i (d + 1) (codes ")") (a_fixed fixed.Close ∷ []) free false d (λ last rest more plain fits s.
+    scan_one i last (d + 1) d 41 rest fixed.Close more (record { blank = refl; word = refl; digit = refl; small = omega arith }) (begins_other 45 45 41 rest refl) (begins_other 40 42 41 rest refl) (no_pair rest) refl refl (omega arith) le refl
+    (s.scan 20 refl))
   where
     no_pair : (rest : List ℕ) → NoPair 41 rest
     no_pair [] = tt
     no_pair (b ∷ rest) = refl
 
-plain_open : (before last : ℕ) → is_plain before last ≡ true → is_plain last 19 ≡ true
-plain_open before last plain =
-    let parts = and_parts (not (is_count before last)) _ plain in
-    let others = and_parts (not (last == 26)) (not (last == 13)) parts.1 in
-    ap (λ t. not t && true) (ap (λ t. t || false || false || false || false) (not-true (last == 13) others.1))
-
 pub f_open : (d : ℕ) → d + 1 ≤ 64 → Frag d (codes "(") (a_fixed fixed.Open ∷ []) paren (d + 1)
-f_open d le = with_all d (codes "(") (a_fixed fixed.Open ∷ []) paren (d + 1) (λ before last rest more plain fits s.
-    scan_one before last d (d + 1) 40 rest fixed.Open more (record { blank = refl; word = refl; digit = refl; small = omega arith }) (begins_other 45 45 40 rest refl) (no_comment rest fits) (no_pair rest) refl refl refl le refl
-    (s.scan last 19 (plain_open before last plain)))
+f_open d le = with_all false d (codes "(") (a_fixed fixed.Open ∷ []) paren false (d + 1) (λ last rest more plain fits s.
+    scan_one false last d (d + 1) 40 rest fixed.Open more (record { blank = refl; word = refl; digit = refl; small = omega arith }) (begins_other 45 45 40 rest refl) (no_comment rest fits) (no_pair rest) refl refl refl le refl
+    (s.scan 19 refl))
   where
     no_pair : (rest : List ℕ) → NoPair 40 rest
     no_pair [] = tt
@@ -132,28 +145,28 @@ f_open d le = with_all d (codes "(") (a_fixed fixed.Open ∷ []) paren (d + 1) (
     no_comment [] h = refl
     no_comment (b ∷ rest) h = h
 
-pub f_comma : (d : ℕ) → d ≤ 64 → Frag d (codes ",") (a_fixed fixed.Comma ∷ []) free d
-f_comma d le = with_all d (codes ",") (a_fixed fixed.Comma ∷ []) free d (λ before last rest more plain fits s.
-    scan_one before last d d 44 rest fixed.Comma more (record { blank = refl; word = refl; digit = refl; small = omega arith }) (begins_other 45 45 44 rest refl) (begins_other 40 42 44 rest refl) (no_pair rest) refl refl refl le refl
-    (s.scan last 21 refl))
+pub f_comma : {i : Bool} (d : ℕ) → d ≤ 64 → Part i d (codes ",") (a_fixed fixed.Comma ∷ []) free i d
+f_comma {i} d le = with_all i d (codes ",") (a_fixed fixed.Comma ∷ []) free i d (λ last rest more plain fits s.
+    scan_one i last d d 44 rest fixed.Comma more (record { blank = refl; word = refl; digit = refl; small = omega arith }) (begins_other 45 45 44 rest refl) (begins_other 40 42 44 rest refl) (no_pair rest) refl refl refl le refl
+    (s.scan 21 refl))
   where
     no_pair : (rest : List ℕ) → NoPair 44 rest
     no_pair [] = tt
     no_pair (b ∷ rest) = refl
 
 pub f_semicolon : (d : ℕ) → d ≤ 64 → Frag d (codes ";") (a_fixed fixed.Semicolon ∷ []) free d
-f_semicolon d le = with_all d (codes ";") (a_fixed fixed.Semicolon ∷ []) free d (λ before last rest more plain fits s.
-    scan_one before last d d 59 rest fixed.Semicolon more (record { blank = refl; word = refl; digit = refl; small = omega arith }) (begins_other 45 45 59 rest refl) (begins_other 40 42 59 rest refl) (no_pair rest) refl refl refl le refl
-    (s.scan last 22 refl))
+f_semicolon d le = with_all false d (codes ";") (a_fixed fixed.Semicolon ∷ []) free false d (λ last rest more plain fits s.
+    scan_one false last d d 59 rest fixed.Semicolon more (record { blank = refl; word = refl; digit = refl; small = omega arith }) (begins_other 45 45 59 rest refl) (begins_other 40 42 59 rest refl) (no_pair rest) refl refl refl le refl
+    (s.scan 22 refl))
   where
     no_pair : (rest : List ℕ) → NoPair 59 rest
     no_pair [] = tt
     no_pair (b ∷ rest) = refl
 
 pub f_equals : (d : ℕ) → d ≤ 64 → Frag d (codes "=") (a_fixed fixed.Equals ∷ []) free d
-f_equals d le = with_all d (codes "=") (a_fixed fixed.Equals ∷ []) free d (λ before last rest more plain fits s.
-    scan_one before last d d 61 rest fixed.Equals more (record { blank = refl; word = refl; digit = refl; small = omega arith }) (begins_other 45 45 61 rest refl) (begins_other 40 42 61 rest refl) (no_pair rest) refl refl refl le refl
-    (s.scan last 25 refl))
+f_equals d le = with_all false d (codes "=") (a_fixed fixed.Equals ∷ []) free false d (λ last rest more plain fits s.
+    scan_one false last d d 61 rest fixed.Equals more (record { blank = refl; word = refl; digit = refl; small = omega arith }) (begins_other 45 45 61 rest refl) (begins_other 40 42 61 rest refl) (no_pair rest) refl refl refl le refl
+    (s.scan 25 refl))
   where
     no_pair : (rest : List ℕ) → NoPair 61 rest
     no_pair [] = tt
@@ -161,46 +174,53 @@ f_equals d le = with_all d (codes "=") (a_fixed fixed.Equals ∷ []) free d (λ 
 
 -- a colon and a blank
 pub f_colon : (d : ℕ) → d ≤ 64 → Frag d (codes ": ") (a_fixed fixed.Colon ∷ []) free d
-f_colon d le = with_all d (codes ": ") (a_fixed fixed.Colon ∷ []) free d (λ before last rest more plain fits s.
-    scan_one before last d d 58 (32 ∷ rest) fixed.Colon more (record { blank = refl; word = refl; digit = refl; small = omega arith }) refl refl refl refl refl refl le refl
-    (scan_blank last 23 d 32 rest more (omega arith) refl (s.scan last 23 refl)))
+f_colon d le = with_all false d (codes ": ") (a_fixed fixed.Colon ∷ []) free false d (λ last rest more plain fits s.
+    scan_one false last d d 58 (32 ∷ rest) fixed.Colon more (record { blank = refl; word = refl; digit = refl; small = omega arith }) refl refl refl refl refl refl le refl
+    (scan_blank false 23 d 32 rest more (omega arith) refl (s.scan 23 refl)))
 
 pub f_cons : (d : ℕ) → d ≤ 64 → Frag d (codes "::") (a_fixed fixed.Cons ∷ []) free d
-f_cons d le = with_all d (codes "::") (a_fixed fixed.Cons ∷ []) free d (λ before last rest more plain fits s.
-    scan_two before last d 58 58 rest fixed.Cons more (record { blank = refl; word = refl; digit = refl; small = omega arith }) (omega arith) refl refl refl refl le refl
-    (s.scan last 24 refl))
-
-pub f_shift : (d : ℕ) → d ≤ 64 → Frag d (codes "~>") (a_fixed fixed.Shift ∷ []) free d
-f_shift d le = with_all d (codes "~>") (a_fixed fixed.Shift ∷ []) free d (λ before last rest more plain fits s.
-    scan_two before last d 126 62 rest fixed.Shift more (record { blank = refl; word = refl; digit = refl; small = omega arith }) (omega arith) refl refl refl refl le refl
-    (s.scan last 30 refl))
+f_cons d le = with_all false d (codes "::") (a_fixed fixed.Cons ∷ []) free false d (λ last rest more plain fits s.
+    scan_two false last d 58 58 rest fixed.Cons more (record { blank = refl; word = refl; digit = refl; small = omega arith }) (omega arith) refl refl refl refl le refl
+    (s.scan 24 refl))
 
 -- numbers that have a range of their own, with what stands before them
 
+pub f_shift : (d n : ℕ) → d ≤ 64 → n ≤ 2147483647 → Frag d (codes "~> " ++ decimal n) (a_fixed fixed.Shift ∷ a_number n ∷ []) word d
+f_shift d n le high = with_all false d (codes "~> " ++ decimal n) (a_fixed fixed.Shift ∷ a_number n ∷ []) word false d (λ last rest more plain fits s.
+    scan_two false last d 126 62 (32 ∷ (decimal n ++ rest)) fixed.Shift (a_number n ∷ more) (record { blank = refl; word = refl; digit = refl; small = omega arith }) (omega arith) refl refl refl refl le refl
+    (scan_blank false 30 d 32 (decimal n ++ rest) (a_number n ∷ more) (omega arith) refl
+    (scan_number false 30 d n rest more (omega arith) (no_word rest fits) (ap not (le-leb n 2147483647 high)) (s.scan 1 refl))))
+
+pub f_due : (d n : ℕ) → n ≤ 2147483647 → Frag d (codes "due " ++ decimal n) (a_fixed fixed.Due ∷ a_number n ∷ []) word d
+f_due d n high = with_all false d (codes "due " ++ decimal n) (a_fixed fixed.Due ∷ a_number n ∷ []) word false d (λ last rest more plain fits s.
+    scan_word false last d (codes "due") (32 ∷ (decimal n ++ rest)) (Some fixed.Due) (a_number n ∷ more) (refl, omega arith) refl refl refl
+    (scan_blank false 14 d 32 (decimal n ++ rest) (a_number n ∷ more) (omega arith) refl
+    (scan_number false 14 d n rest more (omega arith) (no_word rest fits) (ap not (le-leb n 2147483647 high)) (s.scan 1 refl))))
+
 pub f_up : (d n : ℕ) → d ≤ 64 → 1 ≤ n → n ≤ 2147483647 → Frag d (codes "*^ " ++ decimal n) (a_fixed fixed.Up ∷ a_number n ∷ []) word d
-f_up d n le low high = with_all d (codes "*^ " ++ decimal n) (a_fixed fixed.Up ∷ a_number n ∷ []) word d (λ before last rest more plain fits s.
-    scan_two before last d 42 94 (32 ∷ (decimal n ++ rest)) fixed.Up (a_number n ∷ more) (record { blank = refl; word = refl; digit = refl; small = omega arith }) (omega arith) refl refl refl refl le refl
-    (scan_blank last 28 d 32 (decimal n ++ rest) (a_number n ∷ more) (omega arith) refl
-    (scan_number last 28 d n rest more (omega arith) (no_word rest fits) (ap not (count_range n low high)) (s.scan 28 1 refl))))
+f_up d n le low high = with_all false d (codes "*^ " ++ decimal n) (a_fixed fixed.Up ∷ a_number n ∷ []) word false d (λ last rest more plain fits s.
+    scan_two false last d 42 94 (32 ∷ (decimal n ++ rest)) fixed.Up (a_number n ∷ more) (record { blank = refl; word = refl; digit = refl; small = omega arith }) (omega arith) refl refl refl refl le refl
+    (scan_blank false 28 d 32 (decimal n ++ rest) (a_number n ∷ more) (omega arith) refl
+    (scan_number false 28 d n rest more (omega arith) (no_word rest fits) (ap not (count_range n low high)) (s.scan 1 refl))))
 
 pub f_down : (d n : ℕ) → d ≤ 64 → 1 ≤ n → n ≤ 2147483647 → Frag d (codes "/^ " ++ decimal n) (a_fixed fixed.Down ∷ a_number n ∷ []) word d
-f_down d n le low high = with_all d (codes "/^ " ++ decimal n) (a_fixed fixed.Down ∷ a_number n ∷ []) word d (λ before last rest more plain fits s.
-    scan_two before last d 47 94 (32 ∷ (decimal n ++ rest)) fixed.Down (a_number n ∷ more) (record { blank = refl; word = refl; digit = refl; small = omega arith }) (omega arith) refl refl refl refl le refl
-    (scan_blank last 29 d 32 (decimal n ++ rest) (a_number n ∷ more) (omega arith) refl
-    (scan_number last 29 d n rest more (omega arith) (no_word rest fits) (ap not (count_range n low high)) (s.scan 29 1 refl))))
+f_down d n le low high = with_all false d (codes "/^ " ++ decimal n) (a_fixed fixed.Down ∷ a_number n ∷ []) word false d (λ last rest more plain fits s.
+    scan_two false last d 47 94 (32 ∷ (decimal n ++ rest)) fixed.Down (a_number n ∷ more) (record { blank = refl; word = refl; digit = refl; small = omega arith }) (omega arith) refl refl refl refl le refl
+    (scan_blank false 29 d 32 (decimal n ++ rest) (a_number n ∷ more) (omega arith) refl
+    (scan_number false 29 d n rest more (omega arith) (no_word rest fits) (ap not (count_range n low high)) (s.scan 1 refl))))
 
 pub f_wcet : (d n : ℕ) → 1 ≤ n → n ≤ 2147483647 → Frag d (codes "wcet " ++ decimal n) (a_fixed fixed.Wcet ∷ a_number n ∷ []) word d
-f_wcet d n low high = with_all d (codes "wcet " ++ decimal n) (a_fixed fixed.Wcet ∷ a_number n ∷ []) word d (λ before last rest more plain fits s.
-    scan_word before last d (codes "wcet") (32 ∷ (decimal n ++ rest)) (Some fixed.Wcet) (a_number n ∷ more) (refl, omega arith) refl refl refl
-    (scan_blank last 5 d 32 (decimal n ++ rest) (a_number n ∷ more) (omega arith) refl
-    (scan_number last 5 d n rest more (omega arith) (no_word rest fits) (ap not (count_range n low high)) (s.scan 5 1 refl))))
+f_wcet d n low high = with_all false d (codes "wcet " ++ decimal n) (a_fixed fixed.Wcet ∷ a_number n ∷ []) word false d (λ last rest more plain fits s.
+    scan_word false last d (codes "wcet") (32 ∷ (decimal n ++ rest)) (Some fixed.Wcet) (a_number n ∷ more) (refl, omega arith) refl refl refl
+    (scan_blank false 5 d 32 (decimal n ++ rest) (a_number n ∷ more) (omega arith) refl
+    (scan_number false 5 d n rest more (omega arith) (no_word rest fits) (ap not (count_range n low high)) (s.scan 1 refl))))
 
-pub f_rate : (d n : ℕ) → d + 1 ≤ 64 → 1 ≤ n → n ≤ 2147483647 → Frag d (codes "rate (" ++ decimal n) (a_fixed fixed.Rate ∷ a_fixed fixed.Open ∷ a_number n ∷ []) word (d + 1)
-f_rate d n le low high = with_all d (codes "rate (" ++ decimal n) (a_fixed fixed.Rate ∷ a_fixed fixed.Open ∷ a_number n ∷ []) word (d + 1) (λ before last rest more plain fits s.
-    scan_word before last d (codes "rate") (32 ∷ 40 ∷ (decimal n ++ rest)) (Some fixed.Rate) (a_fixed fixed.Open ∷ a_number n ∷ more) (refl, omega arith) refl refl refl
-    (scan_blank last 13 d 32 (40 ∷ (decimal n ++ rest)) (a_fixed fixed.Open ∷ a_number n ∷ more) (omega arith) refl
-    (scan_one last 13 d (d + 1) 40 (decimal n ++ rest) fixed.Open (a_number n ∷ more) (record { blank = refl; word = refl; digit = refl; small = omega arith }) (begins_other 45 45 40 (decimal n ++ rest) refl) (no_comment (decimal n ++ rest) (number_leads (λ b. b == 42) n rest (omega arith) star)) (no_pair (decimal n ++ rest)) refl refl refl le refl
-    (scan_number 13 19 (d + 1) n rest more (omega arith) (no_word rest fits) (ap not (count_range n low high)) (s.scan 19 1 refl)))))
+pub f_rate : (d n : ℕ) → d + 1 ≤ 64 → 1 ≤ n → n ≤ 2147483647 → Part false d (codes "rate (" ++ decimal n) (a_fixed fixed.Rate ∷ a_fixed fixed.Open ∷ a_number n ∷ []) word true (d + 1)
+f_rate d n le low high = with_all false d (codes "rate (" ++ decimal n) (a_fixed fixed.Rate ∷ a_fixed fixed.Open ∷ a_number n ∷ []) word true (d + 1) (λ last rest more plain fits s.
+    scan_word false last d (codes "rate") (32 ∷ 40 ∷ (decimal n ++ rest)) (Some fixed.Rate) (a_fixed fixed.Open ∷ a_number n ∷ more) (refl, omega arith) refl refl refl
+    (scan_blank true 13 d 32 (40 ∷ (decimal n ++ rest)) (a_fixed fixed.Open ∷ a_number n ∷ more) (omega arith) refl
+    (scan_one true 13 d (d + 1) 40 (decimal n ++ rest) fixed.Open (a_number n ∷ more) (record { blank = refl; word = refl; digit = refl; small = omega arith }) (begins_other 45 45 40 (decimal n ++ rest) refl) (no_comment (decimal n ++ rest) (number_leads (λ b. b == 42) n rest (omega arith) star)) (no_pair (decimal n ++ rest)) refl refl refl le refl
+    (scan_number true 19 (d + 1) n rest more (omega arith) (no_word rest fits) (ap not (count_range n low high)) (s.scan 1 refl)))))
   where
     no_pair : (rest : List ℕ) → NoPair 40 rest
     no_pair [] = tt
@@ -214,19 +234,19 @@ f_rate d n le low high = with_all d (codes "rate (" ++ decimal n) (a_fixed fixed
     no_comment (b ∷ rest) h = h
 
 -- a denominator
-pub f_slash : (d n : ℕ) → d ≤ 64 → 1 ≤ n → n ≤ 2147483647 → Frag d (codes "/" ++ decimal n) (a_fixed fixed.Slash ∷ a_number n ∷ []) word d
-f_slash d n le low high = with_all d (codes "/" ++ decimal n) (a_fixed fixed.Slash ∷ a_number n ∷ []) word d (λ before last rest more plain fits s.
-    scan_one before last d d 47 (decimal n ++ rest) fixed.Slash (a_number n ∷ more) (record { blank = refl; word = refl; digit = refl; small = omega arith }) (begins_other 45 45 47 (decimal n ++ rest) refl) (begins_other 40 42 47 (decimal n ++ rest) refl) (number_leads (is_two_byte_symbol 47) n rest (omega arith) caret) refl refl refl le refl
-    (scan_number last 27 d n rest more (omega arith) (no_word rest fits) (ap not (count_range n low high)) (s.scan 27 1 refl)))
+pub f_slash : {i : Bool} (d n : ℕ) → d ≤ 64 → 1 ≤ n → n ≤ 2147483647 → Part i d (codes "/" ++ decimal n) (a_fixed fixed.Slash ∷ a_number n ∷ []) word i d
+f_slash {i} d n le low high = with_all i d (codes "/" ++ decimal n) (a_fixed fixed.Slash ∷ a_number n ∷ []) word i d (λ last rest more plain fits s.
+    scan_one i last d d 47 (decimal n ++ rest) fixed.Slash (a_number n ∷ more) (record { blank = refl; word = refl; digit = refl; small = omega arith }) (begins_other 45 45 47 (decimal n ++ rest) refl) (begins_other 40 42 47 (decimal n ++ rest) refl) (number_leads (is_two_byte_symbol 47) n rest (omega arith) caret) refl refl refl le refl
+    (scan_number i 27 d n rest more (omega arith) (no_word rest fits) (ap not (count_range n low high)) (s.scan 1 refl)))
   where
     caret : (b : ℕ) → 48 ≤ b → b ≤ 57 → is_two_byte_symbol 47 b ≡ false
     caret b low high = grind (arith, nat_tests)
 
 -- a number below 0
-pub f_minus : (d n : ℕ) → d ≤ 64 → n ≤ 2147483648 → Frag d (codes "-" ++ decimal n) (a_fixed fixed.Minus ∷ a_number n ∷ []) word d
-f_minus d n le high = with_all d (codes "-" ++ decimal n) (a_fixed fixed.Minus ∷ a_number n ∷ []) word d (λ before last rest more plain fits s.
-    scan_one before last d d 45 (decimal n ++ rest) fixed.Minus (a_number n ∷ more) (record { blank = refl; word = refl; digit = refl; small = omega arith }) (no_comment (decimal n ++ rest) (number_leads (λ b. b == 45) n rest (omega arith) dash)) (begins_other 40 42 45 (decimal n ++ rest) refl) (no_pair (decimal n ++ rest)) refl refl refl le refl
-    (scan_number last 26 d n rest more (omega arith) (no_word rest fits) (ap not (le-leb n 2147483648 high)) (s.scan 26 1 refl)))
+pub f_minus : (d n : ℕ) → d ≤ 64 → n ≤ MAX_NEGATIVE → Frag d (codes "-" ++ decimal n) (a_fixed fixed.Minus ∷ a_number n ∷ []) word d
+f_minus d n le high = with_all false d (codes "-" ++ decimal n) (a_fixed fixed.Minus ∷ a_number n ∷ []) word false d (λ last rest more plain fits s.
+    scan_one false last d d 45 (decimal n ++ rest) fixed.Minus (a_number n ∷ more) (record { blank = refl; word = refl; digit = refl; small = omega arith }) (no_comment (decimal n ++ rest) (number_leads (λ b. b == 45) n rest (omega arith) dash)) (begins_other 40 42 45 (decimal n ++ rest) refl) (no_pair (decimal n ++ rest)) refl refl refl le refl
+    (scan_number false 26 d n rest more (omega arith) (no_word rest fits) (ap not (le-leb n MAX_NEGATIVE high)) (s.scan 1 refl)))
   where
     no_pair : (rest : List ℕ) → NoPair 45 rest
     no_pair [] = tt

@@ -19,7 +19,8 @@ use Rattle.prl_reader.specs.Lexemes.{Lexeme}
 use Rattle.prl_syntax.specs.declared.words.Fixed.{Fixed}
 use Rattle.prl_syntax.specs.Words.{class_of, row_of, declaration_keywords, flow_keywords, punctuation, operators, or_else, or_foreign, keyword_of, symbol_of}
 use Rattle.prl_syntax.specs.Lexing.{word_lexeme, kind_lexeme, lexeme_of, lexemes_of}
-use Rattle.prl_syntax.specs.Ranges.{is_fault, out_of_range}
+use Rattle.prl_reader.specs.Ranges.{inside_after, is_fault, out_of_range}
+use Rattle.prl_syntax.specs.Ranges.{program_ranges}
 use Rattle.prl_print.proofs.Words.{IsOwnName}
 use Rattle.prl_print.proofs.Source.{deeper, FineFrom}
 
@@ -60,7 +61,7 @@ flat_keyword w = or_passes is_flat (row_of declaration_keywords w) (row_of flow_
 same_deep : (d class : ℕ) → IsFlat class → deeper d class ≡ d
 same_deep d class h = cond-false (class == 19) _ _ h.opening ∙ cond-false (class == 20) _ _ h.closing
 
--- what is known of a token: the name that it is, and how many parentheses are open behind it at least
+-- what is known of a token: the name that it is, and how many parentheses are open after it at least
 record Own (d deep : ℕ) (k : Lexeme) : Type 0 where
   name : k.class ≡ 0 → IsOwnName k.name
   low : deeper d k.class ≤ deep
@@ -229,12 +230,12 @@ in_range_too : (b : Bool) (at : ℕ) (o : Option ℕ) → cond b (Some at) o ≡
 in_range_too true at o e = cc
 in_range_too false at o e = (refl, e)
 
-fine_from : (before last d : ℕ) (w : List Lexeme) → out_of_range before last w ≡ None → Lexed d w → FineFrom before last d w
+fine_from : (inside : Bool) (last d : ℕ) (w : List Lexeme) → out_of_range program_ranges inside last w ≡ None → Lexed d w → FineFrom inside last d w
 unfolding out_of_range
-fine_from before last d [] e h = tt
-fine_from before last d (t ∷ ts) e h =
-    let parts = in_range_too (is_fault before last t) t.at.at (out_of_range last t.class ts) e in
-    (parts.0, h.0, h.1, fine_from last t.class (deeper d t.class) ts parts.1 h.2)
+fine_from inside last d [] e h = tt
+fine_from inside last d (t ∷ ts) e h =
+    let parts = in_range_too (is_fault program_ranges inside last t) t.at.at (out_of_range program_ranges (inside_after program_ranges inside t.class) t.class ts) e in
+    (parts.0, h.0, h.1, fine_from (inside_after program_ranges inside t.class) t.class (deeper d t.class) ts parts.1 h.2)
 
-pub text_fine : (text : List ℕ) (tokens : List Token) → tokens_from 0 0 0 text ≡ Ok tokens → out_of_range 0 0 (lexemes_of text tokens) ≡ None → FineFrom 0 0 0 (lexemes_of text tokens)
-text_fine text tokens e r = fine_from 0 0 0 (lexemes_of text tokens) r (lexed text text 0 0 0 0 tokens refl (omega arith) (omega arith) e)
+pub text_fine : (text : List ℕ) (tokens : List Token) → tokens_from 0 0 0 text ≡ Ok tokens → out_of_range program_ranges false 0 (lexemes_of text tokens) ≡ None → FineFrom false 0 0 (lexemes_of text tokens)
+text_fine text tokens e r = fine_from false 0 0 (lexemes_of text tokens) r (lexed text text 0 0 0 0 tokens refl (omega arith) (omega arith) e)

@@ -15,7 +15,9 @@ use Rattle.prl_syntax.specs.declared.words.Fixed.{Fixed}
 use Rattle.prl_syntax.specs.declared.words.Fixed.TheVariants as fixed
 use Rattle.prl_syntax.specs.declared.notes.Note.{Note}
 use Rattle.prl_syntax.specs.declared.parameters.Item.{Item}
-use Rattle.prl_syntax.specs.Values.{small, positive, negative, common_divisor, reduced, ratio_of, ratio_with}
+use Rattle.prl_reader.specs.declared.numbers.TheConstants.{MAX_NEGATIVE, MAX_POSITIVE}
+use Rattle.prl_reader.specs.Numbers.{positive, negative}
+use Rattle.prl_syntax.specs.Values.{small, common_divisor, reduced, ratio_of, ratio_with}
 use Rattle.prl_syntax.specs.Trees.{joined, param_of, note_or, first_note, params_before, params_of, port_of}
 use Rattle.prl_syntax.specs.Grammar.{ConstantText, RatioText, PlacedText, NamesText, RateText, DueText, NoteText, ItemText, RunText, ParamsText, EnclosedParams, MaybeParams, EndedRun, MaybeLocals, PortGroup, PortsText, ClosedPorts, WcetText, ImportText, DeviceText}
 use Rattle.prl_syntax.proofs.Ratios.{divisor_is, positive_divisor, reduced_fits}
@@ -25,14 +27,17 @@ use Rattle.prl_print.proofs.Source.{Means, m_then, m_give, m_ends, m_any, m_weak
 small_high : (n : ℕ) → small n ≤ 2147483647
 small_high n = omega arith
 
-negative_fits : (k : ℕ) → k ≤ 2147483648 → IsConstant (values.Int (neg_ℤ (pos k)))
+negative_fits : (k : ℕ) → k ≤ MAX_NEGATIVE → IsConstant (values.Int (neg_ℤ (pos k)))
 negative_fits zero h = omega arith
 negative_fits (suc k) h = h
+
+at_most : (n : ℕ) → min n MAX_POSITIVE ≤ MAX_POSITIVE
+at_most n = omega arith
 
 pub constant_means : Means ConstantText IsConstant
 constant_means =
     m_either (m_ends (λ p. values.Bool true) m_any (λ p _. tt)) (m_either (m_ends (λ p. values.Bool false) m_any (λ p _. tt))
-    (m_either (m_then m_any (λ p _. m_ends (λ n. negative n.0) m_any (λ n _. negative_fits (min n.0 2147483648) (omega arith)))) (m_ends (λ n. positive n.0) m_any (λ n _. small_high n.0))))
+    (m_either (m_then m_any (λ p _. m_ends (λ n. negative n.0) m_any (λ n _. negative_fits (min n.0 MAX_NEGATIVE) (omega arith)))) (m_ends (λ n. positive n.0) m_any (λ n _. at_most n.0))))
 
 -- ratios
 
@@ -104,7 +109,7 @@ names_mean = m_then placed_means (λ n h. m_ends (λ others. n ∷ others) (m_ma
 
 rate_means : Means RateText IsOwnRate
 rate_means =
-    m_counted_later fixed.Rate fixed.Open refl refl (λ k o n low. m_then m_any (λ c _. m_then ratio_means (λ q own. m_ends (λ e. record { period = small n.0; phase = q }) m_any (λ e _. ((omega arith, small_high n.0), own)))))
+    m_counted_later fixed.Rate fixed.Open (λ i. refl) (λ k o n low. m_then m_any (λ c _. m_then ratio_means (λ q own. m_ends (λ e. record { period = small n.0; phase = q }) m_any (λ e _. ((omega arith, small_high n.0), own)))))
 
 due_means : Means DueText (λ d. d ≤ 2147483647)
 due_means = m_then m_any (λ k _. m_ends (λ n. small n.0) m_any (λ n _. small_high n.0))
@@ -205,7 +210,7 @@ closed_ports_mean : Means ClosedPorts ArePorts
 closed_ports_mean = m_then ports_mean (λ ps h. m_ends (λ c. ps) m_any (λ c _. h))
 
 wcet_means : Means WcetText IsCount
-wcet_means = m_counted fixed.Wcet (λ l. refl) refl (λ k n low. m_ends (λ p. small n.0) m_any (λ p _. (omega arith, small_high n.0)))
+wcet_means = m_counted fixed.Wcet (λ i. refl) (λ k n low. m_ends (λ p. small n.0) m_any (λ p _. (omega arith, small_high n.0)))
 
 pub import_means : Means ImportText IsOwnImport
 import_means =

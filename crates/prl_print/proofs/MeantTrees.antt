@@ -10,7 +10,8 @@ use Rattle.prl_reader.specs.Lexemes.{Lexeme}
 use Rattle.prl_reader.specs.Grammars.{One, Then, Give, Either, Many, Named, Numbered}
 use Rattle.prl_syntax.specs.declared.words.Fixed.{Fixed}
 use Rattle.prl_syntax.specs.declared.words.Fixed.TheVariants as fixed
-use Rattle.prl_syntax.specs.Values.{small, positive, negative, ratio_with}
+use Rattle.prl_reader.specs.Numbers.{positive, negative}
+use Rattle.prl_syntax.specs.Values.{small, ratio_with}
 use Rattle.prl_syntax.specs.Words.{class_of}
 use Rattle.prl_syntax.specs.Trees.{Declared, imported, sensor, actuator, node, with_declared, program_of}
 use Rattle.prl_syntax.proofs.Chains.{name_text}
@@ -96,8 +97,8 @@ prefix_means =
 
 postfix_means : Means PostfixText (λ o. IsPostfix o.op)
 postfix_means =
-    m_either (m_counted fixed.Up (λ l. refl) refl (λ p n low. m_give (record { op = ops.Up (small n.0); at = p }) (omega arith, omega arith)))
-    (m_either (m_counted fixed.Down (λ l. refl) refl (λ p n low. m_give (record { op = ops.Down (small n.0); at = p }) (omega arith, omega arith)))
+    m_either (m_counted fixed.Up (λ i. refl) (λ p n low. m_give (record { op = ops.Up (small n.0); at = p }) (omega arith, omega arith)))
+    (m_either (m_counted fixed.Down (λ i. refl) (λ p n low. m_give (record { op = ops.Down (small n.0); at = p }) (omega arith, omega arith)))
     (m_then m_any (λ p _. m_ends (λ q. record { op = ops.Shift q; at = p }) ratio_means (λ q h. h))))
 
 name_means : Means NameText IsOwnName
@@ -197,7 +198,7 @@ mutual
       let y = others_mean ts d h.right (at_depth (depth_along d h.left) d h.right closed (back_at w h.left h.right h.whole fine)) h.second in
       ((x.0, y.0), both_flat w h.left h.right d d d h.whole closed y.1)
 
--- behind fewer parentheses
+-- after fewer parentheses
 mutual
   lower_tree : (d e : ℕ) → e ≤ d → (t : Tree) → IsOwnTree d t → IsOwnTree e t
   lower_tree d e le (tree pre root post at) h = (h.0, lower_root d e le root h.1, h.2)

@@ -17,7 +17,8 @@ use Rattle.prl_reader.specs.Lexemes.{Lexeme}
 use Rattle.prl_syntax.specs.declared.words.Fixed.{Fixed}
 use Rattle.prl_syntax.specs.Words.{class_of, keyword_of, symbol_of}
 use Rattle.prl_syntax.specs.Lexing.{word_lexeme}
-use Rattle.prl_syntax.specs.Ranges.{is_fault}
+use Rattle.prl_reader.specs.Ranges.{inside_after, is_fault}
+use Rattle.prl_syntax.specs.Ranges.{program_ranges}
 use Rattle.prl_print.specs.Places.{nowhere}
 use Rattle.prl_print.proofs.Scanning.{bare, AreBytes, bytes-append, Scan, scan_token, first_piece, begins_other}
 
@@ -94,15 +95,15 @@ placeless None w at = refl
 placeless (Some f) w at = refl
 
 -- a word, which is a keyword or not
-pub scan_word : (before last depth : ℕ) (w rest : List ℕ) (o : Option Fixed) (ks : List Lexeme) → IsName w → keyword_of w ≡ o → Stops is_word_byte rest → is_fault before last (word_lexeme o w nowhere) ≡ false
-    → Scan last (word_lexeme o w nowhere).class depth rest ks → Scan before last depth (w ++ rest) (word_lexeme o w nowhere ∷ ks)
-scan_word before last depth [] rest o ks name key stops fits s = absurd (false≢true name.0)
-scan_word before last depth (c ∷ cs) rest o ks name key stops fits s =
+pub scan_word : (inside : Bool) (last depth : ℕ) (w rest : List ℕ) (o : Option Fixed) (ks : List Lexeme) → IsName w → keyword_of w ≡ o → Stops is_word_byte rest → is_fault program_ranges inside last (word_lexeme o w nowhere) ≡ false
+    → Scan (inside_after program_ranges inside (word_lexeme o w nowhere).class) (word_lexeme o w nowhere).class depth rest ks → Scan inside last depth (w ++ rest) (word_lexeme o w nowhere ∷ ks)
+scan_word inside last depth [] rest o ks name key stops fits s = absurd (false≢true name.0)
+scan_word inside last depth (c ∷ cs) rest o ks name key stops fits s =
     let parts = and_parts (is_word_start c) (list_all is_word_byte cs) name.0 in
     let small : AreBytes (c ∷ cs) = (word_start_small c parts.0, all_small cs parts.1) in
     let other = word_no_other c small.0 parts.0 in
     let many : prefix_len is_word_byte (cs ++ rest) + 1 ≡ length (c ∷ cs) = omega (arith, run is_word_byte cs rest parts.1 stops) in
-    scan_token before last depth depth Word (c ∷ cs) rest (word_lexeme o (c ∷ cs) nowhere) ks small (omega arith)
+    scan_token inside last depth depth Word (c ∷ cs) rest (word_lexeme o (c ∷ cs) nowhere) ks small (omega arith)
     (first_piece c (cs ++ rest) (small.0, bytes-append cs rest small.1 s.bytes) other.blank (begins_other 45 45 c (cs ++ rest) other.dash) (begins_other 40 42 c (cs ++ rest) other.opening)
     ∙ cond-true (is_word_start c) _ _ parts.0 ∙ ap (λ n. pieces.Token Word n) many)
     (record {
@@ -135,15 +136,15 @@ stops_digits (b ∷ rest) h = digit_of b h
     digit_of : (b : ℕ) → is_word_byte b ≡ false → is_ascii_digit b ≡ false
     digit_of b h = grind (arith, nat_tests)
 
-scan_digits : (before last depth n : ℕ) (p rest : List ℕ) (ks : List Lexeme) → AllDigits 10 p → 0 < length p → digits_value 10 p ≡ n → n < 2 ^ 64 → Stops is_word_byte rest → is_fault before last (a_number n) ≡ false
-    → Scan last 1 depth rest ks → Scan before last depth (p ++ rest) (a_number n ∷ ks)
-scan_digits before last depth n [] rest ks digits some value fits stops fault s = absurd (omega arith)
-scan_digits before last depth n (d ∷ ds) rest ks digits some value fits stops fault s =
+scan_digits : (inside : Bool) (last depth n : ℕ) (p rest : List ℕ) (ks : List Lexeme) → AllDigits 10 p → 0 < length p → digits_value 10 p ≡ n → n < 2 ^ 64 → Stops is_word_byte rest → is_fault program_ranges inside last (a_number n) ≡ false
+    → Scan inside 1 depth rest ks → Scan inside last depth (p ++ rest) (a_number n ∷ ks)
+scan_digits inside last depth n [] rest ks digits some value fits stops fault s = absurd (omega arith)
+scan_digits inside last depth n (d ∷ ds) rest ks digits some value fits stops fault s =
     let pass = and_parts (is_ascii_digit d) (list_all is_ascii_digit ds) (digits_pass (d ∷ ds) digits) in
     let small : AreBytes (d ∷ ds) = digits_small (d ∷ ds) digits in
     let other = digit_no_other d small.0 pass.0 in
     let many : prefix_len is_ascii_digit (ds ++ rest) + 1 ≡ length (d ∷ ds) = omega (arith, run is_ascii_digit ds rest pass.1 (stops_digits rest stops)) in
-    scan_token before last depth depth Number (d ∷ ds) rest (a_number n) ks small (omega arith)
+    scan_token inside last depth depth Number (d ∷ ds) rest (a_number n) ks small (omega arith)
     (first_piece d (ds ++ rest) (small.0, bytes-append ds rest small.1 s.bytes) other.blank (begins_other 45 45 d (ds ++ rest) other.dash) (begins_other 40 42 d (ds ++ rest) other.opening)
     ∙ cond-false (is_word_start d) _ _ (digit_no_word d small.0 pass.0) ∙ cond-true (is_ascii_digit d) _ _ pass.0 ∙ ap (λ n. pieces.Token Number n) many)
     (record {
@@ -157,10 +158,10 @@ scan_digits before last depth n (d ∷ ds) rest ks digits some value fits stops 
     fault s
 
 -- a number
-pub scan_number : (before last depth n : ℕ) (rest : List ℕ) (ks : List Lexeme) → n < 2 ^ 64 → Stops is_word_byte rest → is_fault before last (a_number n) ≡ false → Scan last 1 depth rest ks → Scan before last depth (decimal n ++ rest) (a_number n ∷ ks)
-scan_number before last depth n rest ks fits stops fault s =
+pub scan_number : (inside : Bool) (last depth n : ℕ) (rest : List ℕ) (ks : List Lexeme) → n < 2 ^ 64 → Stops is_word_byte rest → is_fault program_ranges inside last (a_number n) ≡ false → Scan inside 1 depth rest ks → Scan inside last depth (decimal n ++ rest) (a_number n ∷ ks)
+scan_number inside last depth n rest ks fits stops fault s =
     let is = decimal_is_IsNumeral n fits in
-    scan_digits before last depth n (decimal n) rest ks is.0.1 is.0.0 is.1 fits stops fault s
+    scan_digits inside last depth n (decimal n) rest ks is.0.1 is.0.0 is.1 fits stops fault s
 
 -- the next byte, if there is one, makes no longer symbol
 abbrev pub NoPair : ℕ → List ℕ → Type 0
@@ -178,11 +179,11 @@ pub record IsPunctuation (a : ℕ) : Type 0 where
   pub small : a < 256
 
 -- a symbol of one byte
-pub scan_one : (before last depth deep a : ℕ) (rest : List ℕ) (f : Fixed) (ks : List Lexeme) → IsPunctuation a → begins 45 45 (a ∷ rest) ≡ false → begins 40 42 (a ∷ rest) ≡ false → NoPair a rest → is_one_byte_symbol a ≡ true
-    → symbol_of (a ∷ []) ≡ f → depth_after depth (a ∷ []) ≡ deep → deep ≤ 64 → is_fault before last (a_fixed f) ≡ false
-    → Scan last (class_of f) deep rest ks → Scan before last depth (a ∷ rest) (a_fixed f ∷ ks)
-scan_one before last depth deep a rest f ks p line comment pair symbol is down le fits s =
-    scan_token before last depth deep Symbol (a ∷ []) rest (a_fixed f) ks (p.small, tt) (omega arith)
+pub scan_one : (inside : Bool) (last depth deep a : ℕ) (rest : List ℕ) (f : Fixed) (ks : List Lexeme) → IsPunctuation a → begins 45 45 (a ∷ rest) ≡ false → begins 40 42 (a ∷ rest) ≡ false → NoPair a rest → is_one_byte_symbol a ≡ true
+    → symbol_of (a ∷ []) ≡ f → depth_after depth (a ∷ []) ≡ deep → deep ≤ 64 → is_fault program_ranges inside last (a_fixed f) ≡ false
+    → Scan (inside_after program_ranges inside (class_of f)) (class_of f) deep rest ks → Scan inside last depth (a ∷ rest) (a_fixed f ∷ ks)
+scan_one inside last depth deep a rest f ks p line comment pair symbol is down le fits s =
+    scan_token inside last depth deep Symbol (a ∷ []) rest (a_fixed f) ks (p.small, tt) (omega arith)
     (first_piece a rest (p.small, s.bytes) p.blank line comment ∙ cond-false (is_word_start a) _ _ p.word ∙ cond-false (is_ascii_digit a) _ _ p.digit ∙ one_symbol a rest pair symbol)
     (record {
       deep_is = down;
@@ -195,11 +196,11 @@ scan_one before last depth deep a rest f ks p line comment pair symbol is down l
     fits s
 
 -- a symbol of two bytes
-pub scan_two : (before last depth a b : ℕ) (rest : List ℕ) (f : Fixed) (ks : List Lexeme) → IsPunctuation a → b < 256 → begins 45 45 (a ∷ b ∷ rest) ≡ false → begins 40 42 (a ∷ b ∷ rest) ≡ false → is_two_byte_symbol a b ≡ true
-    → symbol_of (a ∷ b ∷ []) ≡ f → depth ≤ 64 → is_fault before last (a_fixed f) ≡ false
-    → Scan last (class_of f) depth rest ks → Scan before last depth (a ∷ b ∷ rest) (a_fixed f ∷ ks)
-scan_two before last depth a b rest f ks p small line comment symbol is le fits s =
-    scan_token before last depth depth Symbol (a ∷ b ∷ []) rest (a_fixed f) ks (p.small, (small, tt)) (omega arith)
+pub scan_two : (inside : Bool) (last depth a b : ℕ) (rest : List ℕ) (f : Fixed) (ks : List Lexeme) → IsPunctuation a → b < 256 → begins 45 45 (a ∷ b ∷ rest) ≡ false → begins 40 42 (a ∷ b ∷ rest) ≡ false → is_two_byte_symbol a b ≡ true
+    → symbol_of (a ∷ b ∷ []) ≡ f → depth ≤ 64 → is_fault program_ranges inside last (a_fixed f) ≡ false
+    → Scan (inside_after program_ranges inside (class_of f)) (class_of f) depth rest ks → Scan inside last depth (a ∷ b ∷ rest) (a_fixed f ∷ ks)
+scan_two inside last depth a b rest f ks p small line comment symbol is le fits s =
+    scan_token inside last depth depth Symbol (a ∷ b ∷ []) rest (a_fixed f) ks (p.small, (small, tt)) (omega arith)
     (first_piece a (b ∷ rest) (p.small, (small, s.bytes)) p.blank line comment ∙ cond-false (is_word_start a) _ _ p.word ∙ cond-false (is_ascii_digit a) _ _ p.digit ∙ cond-true (is_two_byte_symbol a b) _ _ symbol)
     (record {
       deep_is = refl;

@@ -1,5 +1,5 @@
 -- A printable program is printed as a text of itself, places aside.
-use Rattle.std.proofs.Common.{◌≡◌, ◌≤◌, ℕ, List, [], ◌++◌, map, length, Vec, Global, Result, Ok, Err, IfOk, refl, sym, ap, subst, arith}
+use Rattle.std.proofs.Common.{◌≡◌, ◌≤◌, ℕ, false, List, [], ◌++◌, map, length, Vec, Global, Result, Ok, Err, IfOk, refl, sym, ap, subst, arith}
 use Rattle.std.proofs.lemmas.List.{append-nil, length-map}
 use Rattle.prl_ast.specs.Trees.{ProgramTree}
 use Rattle.prl_reader.specs.Lexemes.{Lexeme}
@@ -17,14 +17,14 @@ use Rattle.prl_print.proofs.MeantTrees.{program_means}
 use Rattle.prl_print.proofs.SpelledNodes.{program_spelled}
 use Rattle.prl_print.proofs.ReadableNodes.{program_reads}
 
-scanned : (p : ProgramTree) → IsPrintable p → Scanned 0 0 0 [] (printed p) (program_words p)
+scanned : (p : ProgramTree) → IsPrintable p → Scanned false 0 0 [] (printed p) (program_words p)
 scanned p h =
     let f = program_spelled p h in
-    let all : Plain 0 (printed p ++ []) (program_words p ++ []) = f.go [] [] tt (record { scan = λ before last plain. scan_end before last 0 }) in
-    let P : List ℕ → Type 0 = λ text. Plain 0 text (program_words p ++ []) in
-    let Q : List Lexeme → Type 0 = λ ks. Plain 0 (printed p) ks in
+    let all : Plain false 0 (printed p ++ []) (program_words p ++ []) = f.go [] [] tt (record { scan = λ last plain. scan_end false last 0 }) in
+    let P : List ℕ → Type 0 = λ text. Plain false 0 text (program_words p ++ []) in
+    let Q : List Lexeme → Type 0 = λ ks. Plain false 0 (printed p) ks in
     let whole = subst Q (append-nil (program_words p)) (subst P (append-nil (printed p)) all) in
-    (whole.scan 0 0 refl).behind []
+    (whole.scan 0 refl).behind []
 
 few_nodes : (t p : ProgramTree) → SamePlacesAside t p → length p.nodes ≤ 256 → length t.nodes ≤ 256
 few_nodes t p e h =
@@ -43,7 +43,7 @@ reads_back p h =
 
 printable : (text : List ℕ) (p : ProgramTree) → IsProgramOf text p → IsPrintable p
 printable text p h =
-    let fine : Fine (lexemes_of text h.tokens) = record { depth = 0; at = record { before = 0; last = 0; from = text_fine text h.tokens h.lexical h.ranges } } in
+    let fine : Fine (lexemes_of text h.tokens) = record { depth = 0; at = record { inside = false; last = 0; from = text_fine text h.tokens h.lexical h.ranges } } in
     let own = program_means.means p (lexemes_of text h.tokens) fine h.written in
     record { imports = own.imports; sensors = own.sensors; actuators = own.actuators; nodes = own.nodes; few = h.nodes }
 

@@ -19,7 +19,9 @@ use Rattle.prl_reader.specs.Grammars.{Maybe}
 use Rattle.prl_syntax.specs.declared.words.Fixed.{Fixed}
 use Rattle.prl_syntax.specs.declared.words.Fixed.TheVariants as fixed
 use Rattle.prl_syntax.specs.declared.notes.Note.{Note}
-use Rattle.prl_syntax.specs.Values.{small, positive, negative, ratio_with, ratio_of}
+use Rattle.prl_reader.specs.declared.numbers.TheConstants.{MAX_NEGATIVE, MAX_POSITIVE}
+use Rattle.prl_reader.specs.Numbers.{positive, negative}
+use Rattle.prl_syntax.specs.Values.{small, ratio_with, ratio_of}
 use Rattle.prl_syntax.specs.Trees.{joined, param_of, note_or, params_of, port_of}
 use Rattle.prl_syntax.specs.Grammar.{ConstantText, DenominatorText, RatioText, PlacedText, NamesText, TypeText, RateText, DueText, NoteText, ColonNote, ItemText, RunText, ParamsText, EnclosedParams, MaybeParams, EndedRun, MaybeLocals, PortGroup, PortsText, ClosedPorts, EnclosedPorts, MaybePorts, WcetText, ImportText, DeviceText}
 use Rattle.prl_print.specs.Places.{nowhere, unplaced_port, unplaced_param, unplaced_device, unplaced_import}
@@ -31,9 +33,11 @@ pub small_is : (n : ℕ) → n ≤ 2147483647 → small n ≡ n
 small_is n h = omega arith
 
 pub value_reads : (v : Value) → IsConstant v → Prints ConstantText (λ x. x ≡ v) (value_words v)
-value_reads (values.Int (pos n)) h = p_right (p_right (p_right (p_ends (λ n. positive n.0) (p_number n) (λ m e. ap (λ k. values.Int (pos k)) (ap small e ∙ small_is n h)))))
+value_reads (values.Int (pos n)) h =
+    let most : min n MAX_POSITIVE ≡ n = omega arith in
+    p_right (p_right (p_right (p_ends (λ n. positive n.0) (p_number n) (λ m e. ap positive e ∙ ap (λ k. values.Int (pos k)) most))))
 value_reads (values.Int (negsuc n)) h =
-    let most : min (suc n) 2147483648 ≡ suc n = omega arith in
+    let most : min (suc n) MAX_NEGATIVE ≡ suc n = omega arith in
     p_right (p_right (p_left (p_then (p_the fixed.Minus) (λ p _. p_ends (λ n. negative n.0) (p_number (suc n)) (λ m e. ap negative e ∙ ap (λ k. values.Int (neg_ℤ (pos k))) most)))))
 value_reads (values.Bool true) h = p_left (p_ends (λ p. values.Bool true) (p_the fixed.True) (λ p _. refl))
 value_reads (values.Bool false) h = p_right (p_left (p_ends (λ p. values.Bool false) (p_the fixed.False) (λ p _. refl)))

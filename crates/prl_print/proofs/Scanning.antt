@@ -15,7 +15,8 @@ use Rattle.prl_lex.proofs.Longest.{token_by_first-longest}
 use Rattle.prl_lex.proofs.Steps.{with_front, step}
 use Rattle.prl_reader.specs.Lexemes.{Lexeme}
 use Rattle.prl_syntax.specs.Lexing.{kind_lexeme, lexeme_of, lexemes_of}
-use Rattle.prl_syntax.specs.Ranges.{is_fault, out_of_range}
+use Rattle.prl_reader.specs.Ranges.{inside_after, is_fault, out_of_range}
+use Rattle.prl_syntax.specs.Ranges.{program_ranges}
 use Rattle.prl_print.specs.Places.{nowhere}
 
 -- a token without its place
@@ -35,29 +36,29 @@ pub bytes-append : (xs ys : List ℕ) → AreBytes xs → AreBytes ys → AreByt
 bytes-append [] ys h g = g
 bytes-append (x ∷ xs) ys h g = (h.0, bytes-append xs ys h.1 g)
 
--- The rest of a text, behind any front, has these tokens, which are in range behind two tokens of the given classes.
-pub record Scanned (before last depth : ℕ) (front text : List ℕ) (ks : List Lexeme) : Type 0 where
+-- The rest of a text, after any front, has these tokens, which are in range in a rate or not, and after a token of the class.
+pub record Scanned (inside : Bool) (last depth : ℕ) (front text : List ℕ) (ks : List Lexeme) : Type 0 where
   pub tokens : List Token
   pub are : tokens_from (length front) depth 0 text ≡ Ok tokens
   pub seen : map bare (lexemes_of (front ++ text) tokens) ≡ ks
-  pub ranges : out_of_range before last (lexemes_of (front ++ text) tokens) ≡ None
+  pub ranges : out_of_range program_ranges inside last (lexemes_of (front ++ text) tokens) ≡ None
 
-pub record Scan (before last depth : ℕ) (text : List ℕ) (ks : List Lexeme) : Type 0 where
+pub record Scan (inside : Bool) (last depth : ℕ) (text : List ℕ) (ks : List Lexeme) : Type 0 where
   pub bytes : AreBytes text
-  pub behind : (front : List ℕ) → Scanned before last depth front text ks
+  pub behind : (front : List ℕ) → Scanned inside last depth front text ks
 
-pub scan_end : (before last depth : ℕ) → Scan before last depth [] []
+pub scan_end : (inside : Bool) (last depth : ℕ) → Scan inside last depth [] []
 unfolding tokens_from out_of_range
-scan_end before last depth = record { bytes = tt; behind = λ front. record { tokens = []; are = refl; seen = refl; ranges = refl } }
+scan_end inside last depth = record { bytes = tt; behind = λ front. record { tokens = []; are = refl; seen = refl; ranges = refl } }
 
 no_token : (depth at b : ℕ) (bs : List ℕ) → is_blank b ≡ true → tokens_from at depth 0 (b ∷ bs) ≡ tokens_from (at + 1) depth 0 bs
 no_token depth at b bs h = step at depth (b ∷ bs) (pieces.Gap 1) (omega arith) (sym (cond-true (is_blank b) _ _ h)) (omega arith, omega arith)
 
 -- white space
-pub scan_blank : (before last depth b : ℕ) (rest : List ℕ) (ks : List Lexeme) → b < 256 → is_blank b ≡ true → Scan before last depth rest ks → Scan before last depth (b ∷ rest) ks
-scan_blank before last depth b rest ks small h s = record { bytes = (small, s.bytes); behind = behind }
+pub scan_blank : (inside : Bool) (last depth b : ℕ) (rest : List ℕ) (ks : List Lexeme) → b < 256 → is_blank b ≡ true → Scan inside last depth rest ks → Scan inside last depth (b ∷ rest) ks
+scan_blank inside last depth b rest ks small h s = record { bytes = (small, s.bytes); behind = behind }
   where
-    behind : (front : List ℕ) → Scanned before last depth front (b ∷ rest) ks
+    behind : (front : List ℕ) → Scanned inside last depth front (b ∷ rest) ks
     behind front =
         let there = s.behind (front ++ b ∷ []) in
         let text : (front ++ b ∷ []) ++ rest ≡ front ++ b ∷ rest = append_assoc front (b ∷ []) rest in
@@ -66,7 +67,7 @@ scan_blank before last depth b rest ks small h s = record { bytes = (small, s.by
           tokens = there.tokens;
           are = no_token depth (length front) b rest h ∙ ap (λ at. tokens_from at depth 0 rest) (sym len) ∙ there.are;
           seen = ap (λ t. map bare (lexemes_of t there.tokens)) (sym text) ∙ there.seen;
-          ranges = ap (λ t. out_of_range before last (lexemes_of t there.tokens)) (sym text) ∙ there.ranges;
+          ranges = ap (λ t. out_of_range program_ranges inside last (lexemes_of t there.tokens)) (sym text) ∙ there.ranges;
         }
 
 -- what a token of these bytes has to be, at each place
@@ -93,17 +94,17 @@ first_token depth deep at kind p rest k ts some piece w h =
     ∙ ap (λ t. with_front (token_at at kind p ∷ []) (tokens_from (at + n) deep 0 t)) back
     ∙ ap (with_front (token_at at kind p ∷ [])) h
 
-range_later : (before last : ℕ) (t k : Lexeme) (ts : List Lexeme) → bare t ≡ k → is_fault before last k ≡ false → out_of_range last k.class ts ≡ None → out_of_range before last (t ∷ ts) ≡ None
+range_later : (inside : Bool) (last : ℕ) (t k : Lexeme) (ts : List Lexeme) → bare t ≡ k → is_fault program_ranges inside last k ≡ false → out_of_range program_ranges (inside_after program_ranges inside k.class) k.class ts ≡ None → out_of_range program_ranges inside last (t ∷ ts) ≡ None
 unfolding out_of_range
-range_later before last t k ts e fits rest =
-    cond-false (is_fault before last t) _ _ (ap (is_fault before last) e ∙ fits) ∙ ap (λ (b : Lexeme). out_of_range last b.class ts) e ∙ rest
+range_later inside last t k ts e fits rest =
+    cond-false (is_fault program_ranges inside last t) _ _ (ap (is_fault program_ranges inside last) e ∙ fits) ∙ ap (λ (b : Lexeme). out_of_range program_ranges (inside_after program_ranges inside b.class) b.class ts) e ∙ rest
 
 -- one token, and what follows it
-pub scan_token : (before last depth deep : ℕ) (kind : Kind) (p rest : List ℕ) (k : Lexeme) (ks : List Lexeme) → AreBytes p → 0 < length p → piece_of (p ++ rest) ≡ pieces.Token kind (length p) → IsWritten depth deep kind p k
-    → is_fault before last k ≡ false → Scan last k.class deep rest ks → Scan before last depth (p ++ rest) (k ∷ ks)
-scan_token before last depth deep kind p rest k ks small some piece w fits s = record { bytes = bytes-append p rest small s.bytes; behind = behind }
+pub scan_token : (inside : Bool) (last depth deep : ℕ) (kind : Kind) (p rest : List ℕ) (k : Lexeme) (ks : List Lexeme) → AreBytes p → 0 < length p → piece_of (p ++ rest) ≡ pieces.Token kind (length p) → IsWritten depth deep kind p k
+    → is_fault program_ranges inside last k ≡ false → Scan (inside_after program_ranges inside k.class) k.class deep rest ks → Scan inside last depth (p ++ rest) (k ∷ ks)
+scan_token inside last depth deep kind p rest k ks small some piece w fits s = record { bytes = bytes-append p rest small s.bytes; behind = behind }
   where
-    behind : (front : List ℕ) → Scanned before last depth front (p ++ rest) (k ∷ ks)
+    behind : (front : List ℕ) → Scanned inside last depth front (p ++ rest) (k ∷ ks)
     behind front =
         let there = s.behind (front ++ p) in
         let at : ℕ = length front in
@@ -117,7 +118,7 @@ scan_token before last depth deep kind p rest k ks small some piece w fits s = r
           tokens = t ∷ there.tokens;
           are = first_token depth deep at kind p rest k there.tokens some piece w (ap (λ n. tokens_from n deep 0 rest) (sym len) ∙ there.are);
           seen = ap (λ b. b ∷ map bare (lexemes_of (front ++ (p ++ rest)) there.tokens)) first ∙ ap (λ bs. k ∷ bs) (ap (λ x. map bare (lexemes_of x there.tokens)) (sym text) ∙ there.seen);
-          ranges = range_later before last (lexeme_of (front ++ (p ++ rest)) t) k (lexemes_of (front ++ (p ++ rest)) there.tokens) first fits (ap (λ x. out_of_range last k.class (lexemes_of x there.tokens)) (sym text) ∙ there.ranges);
+          ranges = range_later inside last (lexeme_of (front ++ (p ++ rest)) t) k (lexemes_of (front ++ (p ++ rest)) there.tokens) first fits (ap (λ x. out_of_range program_ranges (inside_after program_ranges inside k.class) k.class (lexemes_of x there.tokens)) (sym text) ∙ there.ranges);
         }
 
 -- what stands at the front is the token that its first byte tells

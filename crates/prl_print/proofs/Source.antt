@@ -7,24 +7,25 @@ use Rattle.prl_reader.specs.Lexemes.{Lexeme}
 use Rattle.prl_reader.specs.Grammars.{One, Then, Give, Either, Many, Maybe, Named, Numbered, FromFirst}
 use Rattle.prl_syntax.specs.declared.words.Fixed.{Fixed}
 use Rattle.prl_syntax.specs.Words.{class_of}
-use Rattle.prl_syntax.specs.Ranges.{is_count, in_range, is_fault}
+use Rattle.prl_reader.specs.Ranges.{inside_after, is_fault}
+use Rattle.prl_syntax.specs.Ranges.{is_count, in_range, program_ranges}
 use Rattle.prl_syntax.specs.Grammar.{The}
 use Rattle.prl_print.proofs.Words.{IsOwnName, IsOwnMaybe}
 
--- the open parentheses behind a token of the class
+-- the open parentheses after a token of the class
 abbrev pub deeper : ℕ → ℕ → ℕ
 deeper d class = cond (class == 19) (d + 1) (cond (class == 20) (d - 1) d)
 
--- The tokens, behind two of these classes and so many open parentheses, are in range, and within the limits of names
+-- The tokens, in a rate or not, after a token of the class and so many open parentheses, are in range, and within the limits of names
 -- and depth.
-abbrev pub FineFrom : ℕ → ℕ → ℕ → List Lexeme → Type 0
-FineFrom before last d [] = Unit {0}
-FineFrom before last d (t ∷ ts) = (is_fault before last t ≡ false) × (t.class ≡ 0 → IsOwnName t.name) × (deeper d t.class ≤ 64) × FineFrom last t.class (deeper d t.class) ts
+abbrev pub FineFrom : Bool → ℕ → ℕ → List Lexeme → Type 0
+FineFrom inside last d [] = Unit {0}
+FineFrom inside last d (t ∷ ts) = (is_fault program_ranges inside last t ≡ false) × (t.class ≡ 0 → IsOwnName t.name) × (deeper d t.class ≤ 64) × FineFrom (inside_after program_ranges inside t.class) t.class (deeper d t.class) ts
 
 pub record FineAt (d : ℕ) (w : List Lexeme) : Type 0 where
-  pub before : ℕ
+  pub inside : Bool
   pub last : ℕ
-  pub from : FineFrom before last d w
+  pub from : FineFrom inside last d w
 
 pub record Fine (w : List Lexeme) : Type 0 where
   pub depth : ℕ
@@ -34,19 +35,19 @@ abbrev pub depth_along : ℕ → List Lexeme → ℕ
 depth_along d [] = d
 depth_along d (t ∷ ts) = depth_along (deeper d t.class) ts
 
-fine_front : (before last d : ℕ) (u v : List Lexeme) → FineFrom before last d (u ++ v) → FineFrom before last d u
-fine_front before last d [] v h = tt
-fine_front before last d (t ∷ u) v h = (h.0, h.1, h.2, fine_front last t.class (deeper d t.class) u v h.3)
+fine_front : (inside : Bool) (last d : ℕ) (u v : List Lexeme) → FineFrom inside last d (u ++ v) → FineFrom inside last d u
+fine_front inside last d [] v h = tt
+fine_front inside last d (t ∷ u) v h = (h.0, h.1, h.2, fine_front (inside_after program_ranges inside t.class) t.class (deeper d t.class) u v h.3)
 
-fine_back : (before last d : ℕ) (u v : List Lexeme) → FineFrom before last d (u ++ v) → FineAt (depth_along d u) v
-fine_back before last d [] v h = record { before = before; last = last; from = h }
-fine_back before last d (t ∷ u) v h = fine_back last t.class (deeper d t.class) u v h.3
+fine_back : (inside : Bool) (last d : ℕ) (u v : List Lexeme) → FineFrom inside last d (u ++ v) → FineAt (depth_along d u) v
+fine_back inside last d [] v h = record { inside = inside; last = last; from = h }
+fine_back inside last d (t ∷ u) v h = fine_back (inside_after program_ranges inside t.class) t.class (deeper d t.class) u v h.3
 
 pub front_at : {d : ℕ} (w u v : List Lexeme) → w ≡ u ++ v → FineAt d w → FineAt d u
-front_at {d} w u v e h = let P : List Lexeme → Type 0 = FineFrom h.before h.last d in record { before = h.before; last = h.last; from = fine_front h.before h.last d u v (subst P e h.from) }
+front_at {d} w u v e h = let P : List Lexeme → Type 0 = FineFrom h.inside h.last d in record { inside = h.inside; last = h.last; from = fine_front h.inside h.last d u v (subst P e h.from) }
 
 pub back_at : {d : ℕ} (w u v : List Lexeme) → w ≡ u ++ v → FineAt d w → FineAt (depth_along d u) v
-back_at {d} w u v e h = let P : List Lexeme → Type 0 = FineFrom h.before h.last d in fine_back h.before h.last d u v (subst P e h.from)
+back_at {d} w u v e h = let P : List Lexeme → Type 0 = FineFrom h.inside h.last d in fine_back h.inside h.last d u v (subst P e h.from)
 
 pub fine_left : (w u v : List Lexeme) → w ≡ u ++ v → Fine w → Fine u
 fine_left w u v e h = record { depth = h.depth; at = front_at w u v e h.at }
@@ -104,11 +105,11 @@ m_named = record { means = named }
         let P : List ℕ × Span → Type 0 = λ m. IsOwnName m.0 in
         subst P (sym x.tail.is) (at.from.1 x.head.is)
 
--- a number behind a token that asks for a count
-counted : (before last : ℕ) (u : Lexeme) → u.class ≡ 1 → is_count before last ≡ true → (last == 26) ≡ false → is_fault before last u ≡ false → 1 ≤ u.number
-counted before last u one count minus fits =
-    let test : (true && not (cond (last == 26) (leb u.number 2147483648) (cond (is_count before last) (leb 1 u.number && leb u.number 2147483647) (leb u.number 2147483647)))) ≡ false = ap (λ c. (c == 1) && not (in_range before last u.number)) (sym one) ∙ fits in
-    let way : cond (last == 26) (leb u.number 2147483648) (cond (is_count before last) (leb 1 u.number && leb u.number 2147483647) (leb u.number 2147483647)) ≡ (leb 1 u.number && leb u.number 2147483647) = cond-false (last == 26) _ _ minus ∙ cond-true (is_count before last) _ _ count in
+-- a number after a token that asks for a count
+counted : (inside : Bool) (last : ℕ) (u : Lexeme) → u.class ≡ 1 → is_count inside last ≡ true → is_fault program_ranges inside last u ≡ false → 1 ≤ u.number
+counted inside last u one count fits =
+    let test : (true && not (in_range inside last u.number)) ≡ false = ap (λ c. (c == 1) && not (in_range inside last u.number)) (sym one) ∙ fits in
+    let way : in_range inside last u.number ≡ (leb 1 u.number && leb u.number 2147483647) = cond-true (is_count inside last) _ _ count in
     leb-true 1 u.number (and_parts (leb 1 u.number) (leb u.number 2147483647) (not_false _ (ap not (sym way) ∙ test))).0
   where
     not_false : (b : Bool) → not b ≡ false → b ≡ true
@@ -122,8 +123,8 @@ token_of class at w x = (x.first, x.whole ∙ ap (λ v. v ++ x.right) x.head.who
 number_of : (n : ℕ × Span) (w : List Lexeme) → Numbered n w → (t : Lexeme) × (w ≡ t ∷ []) × (t.class ≡ 1) × (n.0 ≡ t.number)
 number_of n w x = (x.first, x.whole ∙ ap (λ v. v ++ x.right) x.head.whole ∙ ap (λ v. x.first ∷ v) x.tail.whole, x.head.is, ap (λ (m : ℕ × Span). m.0) x.tail.is)
 
-pub m_counted : {B : Type 0} {V : Span → ℕ × Span → B → List Lexeme → Type 0} {Q : B → Type 0} (f : Fixed) → ((l : ℕ) → is_count l (class_of f) ≡ true) → (class_of f == 26) ≡ false → ((p : Span) (n : ℕ × Span) → 1 ≤ n.0 → Means (V p n) Q) → Means (Then (The f) (λ p. Then Numbered (V p))) Q
-m_counted {B} {V} {Q} f count minus after = record { means = means }
+pub m_counted : {B : Type 0} {V : Span → ℕ × Span → B → List Lexeme → Type 0} {Q : B → Type 0} (f : Fixed) → ((i : Bool) → is_count i (class_of f) ≡ true) → ((p : Span) (n : ℕ × Span) → 1 ≤ n.0 → Means (V p n) Q) → Means (Then (The f) (λ p. Then Numbered (V p))) Q
+m_counted {B} {V} {Q} f count after = record { means = means }
   where
     means : (b : B) (w : List Lexeme) → Fine w → Then (The f) (λ p. Then Numbered (V p)) b w → Q b
     means b w fine x =
@@ -131,16 +132,17 @@ m_counted {B} {V} {Q} f count minus after = record { means = means }
         let t = token_of (class_of f) x.first x.left x.head in
         let u = number_of y.first y.left y.head in
         let whole : w ≡ t.0 ∷ u.0 ∷ y.right = x.whole ∙ ap (λ v. v ++ x.right) t.1 ∙ ap (λ v. t.0 ∷ v) (y.whole ∙ ap (λ v. v ++ y.right) u.1) in
-        let P : List Lexeme → Type 0 = FineFrom fine.at.before fine.at.last fine.depth in
-        let fits : is_fault fine.at.last t.0.class u.0 ≡ false = (subst P whole fine.at.from).3.0 in
-        let low : 1 ≤ u.0.number = counted fine.at.last (class_of f) u.0 u.2 (count fine.at.last) minus (ap (λ c. is_fault fine.at.last c u.0) (sym t.2) ∙ fits) in
+        let P : List Lexeme → Type 0 = FineFrom fine.at.inside fine.at.last fine.depth in
+        let inside : Bool = inside_after program_ranges fine.at.inside t.0.class in
+        let fits : is_fault program_ranges inside t.0.class u.0 ≡ false = (subst P whole fine.at.from).3.0 in
+        let low : 1 ≤ u.0.number = counted inside (class_of f) u.0 u.2 (count inside) (ap (λ c. is_fault program_ranges inside c u.0) (sym t.2) ∙ fits) in
         let right = fine_right w x.left x.right x.whole fine in
         (after x.first y.first (omega (arith, u.3, low))).means b y.right (fine_right x.right y.left y.right y.whole right) y.tail
 
--- behind two tokens, of which the first is no count's own
-pub m_counted_later : {B : Type 0} {V : Span → Span → ℕ × Span → B → List Lexeme → Type 0} {Q : B → Type 0} (g f : Fixed) → is_count (class_of g) (class_of f) ≡ true → (class_of f == 26) ≡ false → ((o : Span) (p : Span) (n : ℕ × Span) → 1 ≤ n.0 → Means (V o p n) Q)
+-- after two tokens
+pub m_counted_later : {B : Type 0} {V : Span → Span → ℕ × Span → B → List Lexeme → Type 0} {Q : B → Type 0} (g f : Fixed) → ((i : Bool) → is_count (inside_after program_ranges (inside_after program_ranges i (class_of g)) (class_of f)) (class_of f) ≡ true) → ((o : Span) (p : Span) (n : ℕ × Span) → 1 ≤ n.0 → Means (V o p n) Q)
     → Means (Then (The g) (λ o. Then (The f) (λ p. Then Numbered (V o p)))) Q
-m_counted_later {B} {V} {Q} g f count minus after = record { means = means }
+m_counted_later {B} {V} {Q} g f count after = record { means = means }
   where
     means : (b : B) (w : List Lexeme) → Fine w → Then (The g) (λ o. Then (The f) (λ p. Then Numbered (V o p))) b w → Q b
     means b w fine z =
@@ -150,10 +152,12 @@ m_counted_later {B} {V} {Q} g f count minus after = record { means = means }
         let t = token_of (class_of f) x.first x.left x.head in
         let u = number_of y.first y.left y.head in
         let whole : w ≡ s.0 ∷ t.0 ∷ u.0 ∷ y.right = z.whole ∙ ap (λ v. v ++ z.right) s.1 ∙ ap (λ v. s.0 ∷ v) (x.whole ∙ ap (λ v. v ++ x.right) t.1 ∙ ap (λ v. t.0 ∷ v) (y.whole ∙ ap (λ v. v ++ y.right) u.1)) in
-        let P : List Lexeme → Type 0 = FineFrom fine.at.before fine.at.last fine.depth in
+        let P : List Lexeme → Type 0 = FineFrom fine.at.inside fine.at.last fine.depth in
         let all = subst P whole fine.at.from in
-        let fits : is_fault s.0.class t.0.class u.0 ≡ false = all.3.3.0 in
-        let low : 1 ≤ u.0.number = counted (class_of g) (class_of f) u.0 u.2 count minus (ap (λ c. is_fault c (class_of f) u.0) (sym s.2) ∙ ap (λ c. is_fault s.0.class c u.0) (sym t.2) ∙ fits) in
+        let state : ℕ → ℕ → Bool = λ a b. inside_after program_ranges (inside_after program_ranges fine.at.inside a) b in
+        let fits : is_fault program_ranges (state s.0.class t.0.class) t.0.class u.0 ≡ false = all.3.3.0 in
+        let low : 1 ≤ u.0.number = counted (state (class_of g) (class_of f)) (class_of f) u.0 u.2 (count fine.at.inside)
+            (ap (λ c. is_fault program_ranges (state c (class_of f)) (class_of f) u.0) (sym s.2) ∙ ap (λ c. is_fault program_ranges (state s.0.class c) c u.0) (sym t.2) ∙ fits) in
         let right = fine_right w z.left z.right z.whole fine in
         let last = fine_right z.right x.left x.right x.whole right in
         (after z.first x.first y.first (omega (arith, u.3, low))).means b y.right (fine_right x.right y.left y.right y.whole last) y.tail

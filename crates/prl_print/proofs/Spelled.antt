@@ -17,13 +17,14 @@ use Rattle.prl_ast.specs.declared.declarations.Rate.{Rate}
 use Rattle.prl_reader.specs.Lexemes.{Lexeme}
 use Rattle.prl_syntax.specs.declared.words.Fixed.{Fixed}
 use Rattle.prl_syntax.specs.declared.words.Fixed.TheVariants as fixed
-use Rattle.prl_print.specs.Printing.{separated, printed_value, printed_ratio, printed_type, printed_rate, printed_due, part, printed_note, printed_param, printed_params, printed_port, printed_ports, printed_wcet, printed_signature, printed_import, printed_device}
+use Rattle.prl_base.specs.Texts.{value_text, fraction_text, type_text}
+use Rattle.prl_print.specs.Printing.{separated, printed_rate, printed_due, part, printed_note, printed_param, printed_params, printed_port, printed_ports, printed_wcet, printed_signature, printed_import, printed_device}
 use Rattle.prl_print.proofs.Pieces.{a_name, a_fixed, leads_more, leads_fit, name_leads}
-use Rattle.prl_print.proofs.Fragments.{word, paren, free, Fits, no_star, Frag, f_nil, f_seq, f_tokens, f_bytes, each_leads, f_each, f_blank, f_feed, f_name, f_keyword, f_number, f_close, f_open, f_comma, f_semicolon, f_colon, f_wcet, f_rate, f_slash, f_minus}
+use Rattle.prl_print.proofs.Fragments.{word, paren, free, Fits, no_star, Part, Frag, f_nil, f_seq, f_tokens, f_bytes, each_leads, f_each, f_blank, f_feed, f_name, f_keyword, f_constant, f_numerator, f_close, f_open, f_comma, f_semicolon, f_colon, f_wcet, f_rate, f_due, f_shift, f_slash, f_minus}
 use Rattle.prl_print.proofs.Words.{one, words_separated, value_words, denominator_words, ratio_words, type_words, rate_words, due_words, note_words, param_words, params_words, port_words, ports_words, wcet_words, import_words, device_words, IsConstant, IsOwnRatio, IsCount, IsOwnRate, IsOwnMaybe, IsOwnParam, IsOwnPort, IsOwnImport, IsOwnDevice}
 
 -- what may stand before anything may stand before no byte of a word
-pub f_weak : {d d2 : ℕ} {a : List ℕ} {ks : List Lexeme} → Frag d a ks free d2 → Frag d a ks word d2
+pub f_weak : {i j : Bool} {d d2 : ℕ} {a : List ℕ} {ks : List Lexeme} → Part i d a ks free j d2 → Part i d a ks word j d2
 f_weak f = record { go = λ rest more fits s. f.go rest more tt s }
 
 pub f_separated : {X : Type 0} (P : X → Type 0) (f : X → List ℕ) (g : X → List Lexeme) (between : List ℕ) (ls : List Lexeme) (d : ℕ)
@@ -37,31 +38,37 @@ f_separated P f g between ls d each sep leads (x ∷ xs) all =
     lead : (y : _) → P y → (rest : List ℕ) → Fits word ((between ++ f y) ++ rest)
     lead y h rest = let Q : List ℕ → Type 0 = Fits word in subst Q (sym (append_assoc between (f y) rest)) (leads (f y ++ rest))
 
-pub value_spelled : (d : ℕ) → d ≤ 64 → (v : Value) → IsConstant v → Frag d (printed_value v) (value_words v) word d
-value_spelled d le (values.Int (pos n)) h = f_number d n h
+pub value_spelled : (d : ℕ) → d ≤ 64 → (v : Value) → IsConstant v → Frag d (value_text v) (value_words v) word d
+value_spelled d le (values.Int (pos n)) h = f_constant d n h
 value_spelled d le (values.Int (negsuc n)) h = f_minus d (suc n) le h
 value_spelled d le (values.Bool true) h = f_keyword d fixed.True (codes "true") (refl, omega arith) refl refl (λ l. refl)
 value_spelled d le (values.Bool false) h = f_keyword d fixed.False (codes "false") (refl, omega arith) refl refl (λ l. refl)
 
-denominator_spelled : (d : ℕ) → d ≤ 64 → (b : Bool) (den : ℕ) → 1 ≤ den → den ≤ 2147483647 → Frag d (cond b [] (codes "/" ++ decimal den)) (denominator_words b den) word d
+pub denominator_spelled : {i : Bool} (d : ℕ) → d ≤ 64 → (b : Bool) (den : ℕ) → 1 ≤ den → den ≤ 2147483647 → Part i d (cond b [] (codes "/" ++ decimal den)) (denominator_words b den) word i d
 denominator_spelled d le true den low high = f_nil d word
 denominator_spelled d le false den low high = f_slash d den le low high
 
-denominator_leads : (b : Bool) (den : ℕ) (rest : List ℕ) → Fits word rest → Fits word (cond b [] (codes "/" ++ decimal den) ++ rest)
+pub denominator_leads : (b : Bool) (den : ℕ) (rest : List ℕ) → Fits word rest → Fits word (cond b [] (codes "/" ++ decimal den) ++ rest)
 denominator_leads true den rest fits = fits
 denominator_leads false den rest fits = refl
 
-pub ratio_spelled : (d : ℕ) → d ≤ 64 → (q : Fraction) → IsOwnRatio q → Frag d (printed_ratio q) (ratio_words q) word d
-ratio_spelled d le q h =
+-- the phase of a rate
+phase_spelled : (d : ℕ) → d ≤ 64 → (q : Fraction) → IsOwnRatio q → Part true d (fraction_text q) (ratio_words q) word true d
+phase_spelled d le q h =
     f_bytes _ _ (ap (λ z. signed_decimal z ++ cond (q.den == 1) [] (codes "/" ++ decimal q.den)) (sym h.num))
-    (f_seq (f_number d (nat_abs q.num) h.num_high) (denominator_spelled d le (q.den == 1) q.den h.den_low h.den_high) (denominator_leads (q.den == 1) q.den))
+    (f_seq (f_numerator d (nat_abs q.num) h.num_high) (denominator_spelled d le (q.den == 1) q.den h.den_low h.den_high) (denominator_leads (q.den == 1) q.den))
 
-pub type_spelled : (d : ℕ) (ty : Ty) → Frag d (printed_type ty) (type_words ty) word d
+pub shift_spelled : (d : ℕ) → d ≤ 64 → (q : Fraction) → IsOwnRatio q → Frag d (codes "~> " ++ fraction_text q) (a_fixed fixed.Shift ∷ ratio_words q) word d
+shift_spelled d le q h =
+    f_bytes _ _ (ap (λ z. codes "~> " ++ (signed_decimal z ++ cond (q.den == 1) [] (codes "/" ++ decimal q.den))) (sym h.num))
+    (f_seq (f_shift d (nat_abs q.num) le h.num_high) (denominator_spelled d le (q.den == 1) q.den h.den_low h.den_high) (denominator_leads (q.den == 1) q.den))
+
+pub type_spelled : (d : ℕ) (ty : Ty) → Frag d (type_text ty) (type_words ty) word d
 type_spelled d types.Int = f_keyword d fixed.Int (codes "int") (refl, omega arith) refl refl (λ l. refl)
 type_spelled d types.Bool = f_keyword d fixed.Bool (codes "bool") (refl, omega arith) refl refl (λ l. refl)
 
 -- a comma and a blank, a semicolon and a blank
-pub comma_spelled : (d : ℕ) → d ≤ 64 → Frag d (codes ", ") (one fixed.Comma) free d
+pub comma_spelled : {i : Bool} (d : ℕ) → d ≤ 64 → Part i d (codes ", ") (one fixed.Comma) free i d
 comma_spelled d le = f_seq (f_comma d le) (f_blank d) (λ rest fits. tt)
 
 pub semicolon_spelled : (d : ℕ) → d ≤ 64 → Frag d (codes "; ") (one fixed.Semicolon) free d
@@ -72,12 +79,12 @@ end_spelled = f_seq (f_semicolon 0 (omega arith)) (f_feed 0) (λ rest fits. tt)
 
 pub rate_spelled : (d : ℕ) → d + 1 ≤ 64 → (r : Rate) → IsOwnRate r → Frag d (printed_rate r) (rate_words r) word d
 rate_spelled d le r h =
-    f_weak (f_seq (f_seq (f_seq (f_rate d r.period le h.0.0 h.0.1) (comma_spelled (d + 1) le) (λ rest fits. refl)) (ratio_spelled (d + 1) le r.phase h.1) (λ rest fits. tt)) (f_close d (omega arith)) (λ rest fits. refl))
+    f_weak (f_seq (f_seq (f_seq (f_rate d r.period le h.0.0 h.0.1) (comma_spelled (d + 1) le) (λ rest fits. refl)) (phase_spelled (d + 1) le r.phase h.1) (λ rest fits. tt)) (f_close d (omega arith)) (λ rest fits. refl))
 
 pub due_spelled : (d n : ℕ) → n ≤ 2147483647 → Frag d (printed_due n) (due_words n) word d
-due_spelled d n high = f_seq (f_seq (f_keyword d fixed.Due (codes "due") (refl, omega arith) refl refl (λ l. refl)) (f_blank d) (λ rest fits. refl)) (f_number d n high) (λ rest fits. tt)
+due_spelled d n high = f_due d n high
 
--- a part of a note behind another
+-- a part of a note after another
 behind_blank : (d : ℕ) (a b : List ℕ) (ks ls : List Lexeme) → Frag d a ks word d → Frag d b ls word d → Frag d (a ++ (codes " " ++ b)) (ks ++ ls) word d
 behind_blank d a b ks ls one two = f_seq one (f_seq (f_blank d) two (λ rest fits. tt)) (λ rest fits. refl)
 
@@ -88,7 +95,7 @@ three_texts : (a b c : List ℕ) → codes ": " ++ (a ++ (codes " " ++ (b ++ (co
 three_texts a b c = ap (λ t. codes ": " ++ (a ++ (codes " " ++ (b ++ t)))) (sym (append-nil (codes " " ++ c)))
 
 pub note_spelled : (d : ℕ) → d + 1 ≤ 64 → (ty : Option Ty) (rate : Option Rate) (due : Option ℕ) → IsOwnMaybe IsOwnRate rate → IsOwnMaybe (λ n. n ≤ 2147483647) due
-    → Frag d (printed_note (part printed_type ty ++ part printed_rate rate ++ part printed_due due)) (note_words ty rate due) word d
+    → Frag d (printed_note (part type_text ty ++ part printed_rate rate ++ part printed_due due)) (note_words ty rate due) word d
 note_spelled d le None None None r u = f_nil d word
 note_spelled d le None None (Some due) r u = f_bytes _ _ (sym (append-nil (codes ": " ++ printed_due due))) (f_seq (f_colon d (omega arith)) (due_spelled d due u) (λ rest fits. tt))
 note_spelled d le None (Some rate) None r u =
@@ -96,16 +103,16 @@ note_spelled d le None (Some rate) None r u =
 note_spelled d le None (Some rate) (Some due) r u =
     f_bytes _ _ (two_texts (printed_rate rate) (printed_due due)) (f_seq (f_colon d (omega arith)) (behind_blank d (printed_rate rate) (printed_due due) _ _ (rate_spelled d le rate r) (due_spelled d due u)) (λ rest fits. tt))
 note_spelled d le (Some ty) None None r u =
-    f_bytes _ _ (sym (append-nil (codes ": " ++ printed_type ty))) (f_tokens _ _ (ap (λ ks. a_fixed fixed.Colon ∷ ks) (sym (append-nil (type_words ty)))) (f_seq (f_colon d (omega arith)) (type_spelled d ty) (λ rest fits. tt)))
+    f_bytes _ _ (sym (append-nil (codes ": " ++ type_text ty))) (f_tokens _ _ (ap (λ ks. a_fixed fixed.Colon ∷ ks) (sym (append-nil (type_words ty)))) (f_seq (f_colon d (omega arith)) (type_spelled d ty) (λ rest fits. tt)))
 note_spelled d le (Some ty) None (Some due) r u =
-    f_bytes _ _ (two_texts (printed_type ty) (printed_due due)) (f_seq (f_colon d (omega arith)) (behind_blank d (printed_type ty) (printed_due due) _ _ (type_spelled d ty) (due_spelled d due u)) (λ rest fits. tt))
+    f_bytes _ _ (two_texts (type_text ty) (printed_due due)) (f_seq (f_colon d (omega arith)) (behind_blank d (type_text ty) (printed_due due) _ _ (type_spelled d ty) (due_spelled d due u)) (λ rest fits. tt))
 note_spelled d le (Some ty) (Some rate) None r u =
-    f_bytes _ _ (two_texts (printed_type ty) (printed_rate rate)) (f_tokens (a_fixed fixed.Colon ∷ (type_words ty ++ rate_words rate)) _ (ap (λ ks. a_fixed fixed.Colon ∷ (type_words ty ++ ks)) (sym (append-nil (rate_words rate)))) (f_seq (f_colon d (omega arith)) (behind_blank d (printed_type ty) (printed_rate rate) _ _ (type_spelled d ty) (rate_spelled d le rate r)) (λ rest fits. tt)))
+    f_bytes _ _ (two_texts (type_text ty) (printed_rate rate)) (f_tokens (a_fixed fixed.Colon ∷ (type_words ty ++ rate_words rate)) _ (ap (λ ks. a_fixed fixed.Colon ∷ (type_words ty ++ ks)) (sym (append-nil (rate_words rate)))) (f_seq (f_colon d (omega arith)) (behind_blank d (type_text ty) (printed_rate rate) _ _ (type_spelled d ty) (rate_spelled d le rate r)) (λ rest fits. tt)))
 note_spelled d le (Some ty) (Some rate) (Some due) r u =
-    f_bytes _ _ (three_texts (printed_type ty) (printed_rate rate) (printed_due due)) (f_seq (f_colon d (omega arith))
-    (behind_blank d (printed_type ty) (printed_rate rate ++ (codes " " ++ printed_due due)) _ _ (type_spelled d ty) (behind_blank d (printed_rate rate) (printed_due due) _ _ (rate_spelled d le rate r) (due_spelled d due u))) (λ rest fits. tt))
+    f_bytes _ _ (three_texts (type_text ty) (printed_rate rate) (printed_due due)) (f_seq (f_colon d (omega arith))
+    (behind_blank d (type_text ty) (printed_rate rate ++ (codes " " ++ printed_due due)) _ _ (type_spelled d ty) (behind_blank d (printed_rate rate) (printed_due due) _ _ (rate_spelled d le rate r) (due_spelled d due u))) (λ rest fits. tt))
 
-note_leads : (ty : Option Ty) (rate : Option Rate) (due : Option ℕ) (rest : List ℕ) → Fits word rest → Fits word (printed_note (part printed_type ty ++ part printed_rate rate ++ part printed_due due) ++ rest)
+note_leads : (ty : Option Ty) (rate : Option Rate) (due : Option ℕ) (rest : List ℕ) → Fits word rest → Fits word (printed_note (part type_text ty ++ part printed_rate rate ++ part printed_due due) ++ rest)
 note_leads None None None rest fits = fits
 note_leads None None (Some due) rest fits = refl
 note_leads None (Some rate) due rest fits = refl
@@ -130,12 +137,12 @@ wcet_spelled n h = f_seq (f_seq (f_blank 0) (f_wcet 0 n h.0 h.1) (λ rest fits. 
 
 pub returns_spelled : Frag 1 (codes ") returns (") (a_fixed fixed.Close ∷ a_fixed fixed.Returns ∷ one fixed.Open) paren 1
 returns_spelled =
-    f_seq (f_close 0 (omega arith)) (f_seq (f_blank 0) (f_seq (f_keyword 0 fixed.Returns (codes "returns") (refl, omega arith) refl refl (λ l. refl)) (f_seq (f_blank 0) (f_open 0 (omega arith)) (λ rest fits. tt)) (λ rest fits. refl)) (λ rest fits. tt)) (λ rest fits. tt)
+    f_seq (f_close 0 (omega arith)) (f_seq (f_blank 0) (f_seq (f_keyword 0 fixed.Returns (codes "returns") (refl, omega arith) refl refl (refl, refl)) (f_seq (f_blank 0) (f_open 0 (omega arith)) (λ rest fits. tt)) (λ rest fits. refl)) (λ rest fits. tt)) (λ rest fits. tt)
 
 -- what is in parentheses begins with no star
 ports_lead : (ps : List Port) → AllByRecursion IsOwnPort ps → (rest : List ℕ) → Fits word rest → Fits paren (printed_ports ps ++ rest)
 ports_lead [] h rest fits = no_star rest fits
-ports_lead (p ∷ ps) h rest fits = leads_fit (printed_ports (p ∷ ps)) rest (leads_more (printed_port p) _ (leads_more (p.name ++ codes ": ") (printed_type p.ty) (leads_more p.name (codes ": ") (name_leads p.name h.0.0))))
+ports_lead (p ∷ ps) h rest fits = leads_fit (printed_ports (p ∷ ps)) rest (leads_more (printed_port p) _ (leads_more (p.name ++ codes ": ") (type_text p.ty) (leads_more p.name (codes ": ") (name_leads p.name h.0.0))))
 
 pub params_lead : (ps : List Param) → AllByRecursion IsOwnParam ps → (rest : List ℕ) → Fits word rest → Fits paren (printed_params ps ++ rest)
 params_lead [] h rest fits = no_star rest fits
@@ -144,7 +151,7 @@ params_lead (p ∷ ps) h rest fits = leads_fit (printed_params (p ∷ ps)) rest 
 pub signature_spelled : (i : Import) → IsOwnImport i → Frag 0 (printed_signature i) ((((((a_fixed fixed.Imported ∷ one fixed.Node) ++ (a_name i.name ∷ [])) ++ one fixed.Open) ++ ports_words i.ins) ++ (a_fixed fixed.Close ∷ a_fixed fixed.Returns ∷ one fixed.Open)) ++ ports_words i.outs ++ one fixed.Close) free 0
 signature_spelled i h =
     f_seq (f_seq (f_seq (f_seq (f_seq (f_seq
-    (f_seq (f_keyword 0 fixed.Imported (codes "imported") (refl, omega arith) refl refl (λ l. refl)) (f_seq (f_blank 0) (f_seq (f_keyword 0 fixed.Node (codes "node") (refl, omega arith) refl refl (λ l. refl)) (f_blank 0) (λ rest fits. refl)) (λ rest fits. tt)) (λ rest fits. refl))
+    (f_seq (f_keyword 0 fixed.Imported (codes "imported") (refl, omega arith) refl refl (refl, refl)) (f_seq (f_blank 0) (f_seq (f_keyword 0 fixed.Node (codes "node") (refl, omega arith) refl refl (refl, refl)) (f_blank 0) (λ rest fits. refl)) (λ rest fits. tt)) (λ rest fits. refl))
     (f_name 0 i.name h.name.0 h.name.1) (λ rest fits. tt))
     (f_open 0 (omega arith)) (λ rest fits. refl))
     (ports_spelled 1 (omega arith) i.ins h.ins) (ports_lead i.ins h.ins))
@@ -159,7 +166,7 @@ pub device_spelled : (f : Fixed) (text : List ℕ) → Frag 0 text (one f) free 
 device_spelled f text keyword d h = f_seq (f_seq keyword (f_name 0 d.name h.0.0 h.0.1) (λ rest fits. tt)) (wcet_spelled d.wcet h.1) (λ rest fits. refl)
 
 pub sensor_spelled : Frag 0 (codes "sensor ") (one fixed.Sensor) free 0
-sensor_spelled = f_seq (f_keyword 0 fixed.Sensor (codes "sensor") (refl, omega arith) refl refl (λ l. refl)) (f_blank 0) (λ rest fits. refl)
+sensor_spelled = f_seq (f_keyword 0 fixed.Sensor (codes "sensor") (refl, omega arith) refl refl (refl, refl)) (f_blank 0) (λ rest fits. refl)
 
 pub actuator_spelled : Frag 0 (codes "actuator ") (one fixed.Actuator) free 0
-actuator_spelled = f_seq (f_keyword 0 fixed.Actuator (codes "actuator") (refl, omega arith) refl refl (λ l. refl)) (f_blank 0) (λ rest fits. refl)
+actuator_spelled = f_seq (f_keyword 0 fixed.Actuator (codes "actuator") (refl, omega arith) refl refl (refl, refl)) (f_blank 0) (λ rest fits. refl)

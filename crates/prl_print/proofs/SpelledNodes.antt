@@ -12,18 +12,19 @@ use Rattle.prl_ast.specs.Trees.{Tree, tree, Root, const, var, apply, group, Tree
 use Rattle.prl_reader.specs.Lexemes.{Lexeme}
 use Rattle.prl_syntax.specs.declared.words.Fixed.{Fixed}
 use Rattle.prl_syntax.specs.declared.words.Fixed.TheVariants as fixed
-use Rattle.prl_print.specs.Printing.{separated, printed_value, printed_operator, printed_operators, printed_tree, printed_root, printed_trees, printed_others, name_of, printed_lefts, printed_equation, printed_locals, printed_node, printed_import, printed_device, printed}
+use Rattle.prl_base.specs.Texts.{value_text}
+use Rattle.prl_print.specs.Printing.{separated, printed_operator, printed_operators, printed_tree, printed_root, printed_trees, printed_others, name_of, printed_lefts, printed_equation, printed_locals, printed_node, printed_import, printed_device, printed}
 use Rattle.prl_print.proofs.Pieces.{a_name, a_fixed, Leads, leads_more, leads_fit, name_leads, number_no_star}
-use Rattle.prl_print.proofs.Fragments.{word, paren, free, Fits, no_star, Frag, f_nil, f_seq, f_tokens, each_leads, f_each, f_blank, f_feed, f_name, f_keyword, f_close, f_open, f_equals, f_cons, f_shift, f_up, f_down}
+use Rattle.prl_print.proofs.Fragments.{word, paren, free, Fits, no_star, Frag, f_nil, f_seq, f_tokens, each_leads, f_each, f_blank, f_feed, f_name, f_keyword, f_close, f_open, f_equals, f_cons, f_up, f_down}
 use Rattle.prl_print.proofs.Words.{one, operator_words, operators_words, tree_words, root_words, trees_words, others_words, name_words, lefts_words, equation_words, params_words, locals_words, node_words, import_words, device_words, program_words, IsOwnName, IsConstant, IsOwnParam, IsPrefix, IsPostfix, IsOwnTree, IsOwnRoot, AreOwnTrees, IsOwnEquation, IsOwnNode, IsOwnImport, IsOwnDevice, IsPrintable}
-use Rattle.prl_print.proofs.Spelled.{f_weak, f_separated, value_spelled, ratio_spelled, comma_spelled, end_spelled, returns_spelled, params_spelled, params_lead, import_spelled, device_spelled, sensor_spelled, actuator_spelled}
+use Rattle.prl_print.proofs.Spelled.{f_weak, f_separated, value_spelled, shift_spelled, comma_spelled, end_spelled, returns_spelled, params_spelled, params_lead, import_spelled, device_spelled, sensor_spelled, actuator_spelled}
 
 prefix_spelled : (d : ℕ) → d ≤ 64 → (op : Op) → IsPrefix op → Frag d (printed_operator op) (operator_words op) free d
 prefix_spelled d le (ops.Fby v) h =
-    f_seq (value_spelled d le v h) (f_seq (f_blank d) (f_seq (f_keyword d fixed.Fby (codes "fby") (refl, omega arith) refl refl (λ l. refl)) (f_blank d) (λ rest fits. refl)) (λ rest fits. tt)) (λ rest fits. refl)
+    f_seq (value_spelled d le v h) (f_seq (f_blank d) (f_seq (f_keyword d fixed.Fby (codes "fby") (refl, omega arith) refl refl (refl, refl)) (f_blank d) (λ rest fits. refl)) (λ rest fits. tt)) (λ rest fits. refl)
 prefix_spelled d le (ops.Cons v) h =
     f_seq (value_spelled d le v h) (f_seq (f_blank d) (f_seq (f_cons d le) (f_blank d) (λ rest fits. tt)) (λ rest fits. tt)) (λ rest fits. refl)
-prefix_spelled d le ops.Tail h = f_seq (f_keyword d fixed.Tail (codes "tail") (refl, omega arith) refl refl (λ l. refl)) (f_blank d) (λ rest fits. refl)
+prefix_spelled d le ops.Tail h = f_seq (f_keyword d fixed.Tail (codes "tail") (refl, omega arith) refl refl (refl, refl)) (f_blank d) (λ rest fits. refl)
 prefix_spelled d le (ops.Up n) h = absurd h
 prefix_spelled d le (ops.Down n) h = absurd h
 prefix_spelled d le (ops.Shift q) h = absurd h
@@ -34,7 +35,7 @@ postfix_spelled d le (ops.Cons v) h = absurd h
 postfix_spelled d le ops.Tail h = absurd h
 postfix_spelled d le (ops.Up n) h = f_seq (f_blank d) (f_up d n le h.0 h.1) (λ rest fits. tt)
 postfix_spelled d le (ops.Down n) h = f_seq (f_blank d) (f_down d n le h.0 h.1) (λ rest fits. tt)
-postfix_spelled d le (ops.Shift q) h = f_seq (f_blank d) (f_seq (f_shift d le) (f_seq (f_blank d) (ratio_spelled d le q h) (λ rest fits. tt)) (λ rest fits. tt)) (λ rest fits. tt)
+postfix_spelled d le (ops.Shift q) h = f_seq (f_blank d) (shift_spelled d le q h) (λ rest fits. tt)
 
 postfix_leads : (o : PlacedOp) → IsPostfix o.op → (rest : List ℕ) → Fits word (printed_operator o.op ++ rest)
 postfix_leads o h rest = leads o.op h
@@ -55,15 +56,15 @@ postfixes_spelled d le post h = f_each (λ o. IsPostfix o.op) (λ o. printed_ope
 
 -- what an expression begins with
 
-value_leads : (v : Value) → IsConstant v → Leads (printed_value v)
+value_leads : (v : Value) → IsConstant v → Leads (value_text v)
 value_leads (values.Int (pos n)) h = number_no_star n (omega arith)
 value_leads (values.Int (negsuc n)) h = refl
 value_leads (values.Bool true) h = refl
 value_leads (values.Bool false) h = refl
 
 prefix_leads : (op : Op) → IsPrefix op → Leads (printed_operator op)
-prefix_leads (ops.Fby v) h = leads_more (printed_value v) _ (value_leads v h)
-prefix_leads (ops.Cons v) h = leads_more (printed_value v) _ (value_leads v h)
+prefix_leads (ops.Fby v) h = leads_more (value_text v) _ (value_leads v h)
+prefix_leads (ops.Cons v) h = leads_more (value_text v) _ (value_leads v h)
 prefix_leads ops.Tail h = refl
 prefix_leads (ops.Up n) h = absurd h
 prefix_leads (ops.Down n) h = absurd h
@@ -131,7 +132,7 @@ equation_spelled e h = f_tokens _ _ (simp append_assoc)
 locals_spelled : (ps : List Param) → AllByRecursion IsOwnParam ps → Frag 0 (printed_locals ps) (locals_words ps) free 0
 locals_spelled [] h = f_nil 0 free
 locals_spelled (p ∷ ps) h =
-    f_seq (f_seq (f_seq (f_keyword 0 fixed.Var (codes "var") (refl, omega arith) refl refl (λ l. refl)) (f_blank 0) (λ rest fits. refl))
+    f_seq (f_seq (f_seq (f_keyword 0 fixed.Var (codes "var") (refl, omega arith) refl refl (refl, refl)) (f_blank 0) (λ rest fits. refl))
     (params_spelled 0 (omega arith) (p ∷ ps) h) (λ rest fits. tt))
     end_spelled (λ rest fits. refl)
 
@@ -144,7 +145,7 @@ regrouped a b c d e f g h i = simp append_assoc
 node_spelled : (n : NodeTree) → IsOwnNode n → Frag 0 (printed_node n) (node_words n) free 0
 node_spelled n h = f_tokens _ _ (regrouped (a_fixed fixed.Node ∷ a_name n.name ∷ one fixed.Open) (params_words n.ins) (a_fixed fixed.Close ∷ a_fixed fixed.Returns ∷ one fixed.Open) (params_words n.outs) (one fixed.Close) (locals_words n.locals) (one fixed.Let) (flat_map equation_words n.eqs) (one fixed.Tel))
     (f_seq (f_seq (f_seq (f_seq (f_seq (f_seq (f_seq (f_seq (f_seq (f_seq
-    (f_seq (f_keyword 0 fixed.Node (codes "node") (refl, omega arith) refl refl (λ l. refl)) (f_blank 0) (λ rest fits. refl))
+    (f_seq (f_keyword 0 fixed.Node (codes "node") (refl, omega arith) refl refl (refl, refl)) (f_blank 0) (λ rest fits. refl))
     (f_name 0 n.name h.name.0 h.name.1) (λ rest fits. tt))
     (f_open 0 (omega arith)) (λ rest fits. refl))
     (params_spelled 1 (omega arith) n.ins h.ins) (params_lead n.ins h.ins))
@@ -152,9 +153,9 @@ node_spelled n h = f_tokens _ _ (regrouped (a_fixed fixed.Node ∷ a_name n.name
     (params_spelled 1 (omega arith) n.outs h.outs) (params_lead n.outs h.outs))
     (f_seq (f_close 0 (omega arith)) (f_feed 0) (λ rest fits. tt)) (λ rest fits. refl))
     (locals_spelled n.locals h.locals) (λ rest fits. tt))
-    (keyword_line fixed.Let (codes "let") (f_keyword 0 fixed.Let (codes "let") (refl, omega arith) refl refl (λ l. refl))) (λ rest fits. tt))
+    (keyword_line fixed.Let (codes "let") (f_keyword 0 fixed.Let (codes "let") (refl, omega arith) refl refl (refl, refl))) (λ rest fits. tt))
     (f_each IsOwnEquation printed_equation equation_words free 0 equation_spelled (λ e h rest. tt) n.eqs h.eqs) (λ rest fits. tt))
-    (keyword_line fixed.Tel (codes "tel") (f_keyword 0 fixed.Tel (codes "tel") (refl, omega arith) refl refl (λ l. refl))) (λ rest fits. tt))
+    (keyword_line fixed.Tel (codes "tel") (f_keyword 0 fixed.Tel (codes "tel") (refl, omega arith) refl refl (refl, refl))) (λ rest fits. tt))
 
 pub program_spelled : (p : ProgramTree) → IsPrintable p → Frag 0 (printed p) (program_words p) free 0
 program_spelled p h = f_tokens _ _ (simp append_assoc)

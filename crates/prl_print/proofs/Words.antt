@@ -21,6 +21,7 @@ use Rattle.prl_reader.specs.Lexemes.{Lexeme}
 use Rattle.prl_syntax.specs.declared.words.Fixed.{Fixed}
 use Rattle.prl_syntax.specs.declared.words.Fixed.TheVariants as fixed
 use Rattle.prl_syntax.specs.Words.{keyword_of}
+use Rattle.prl_reader.specs.declared.numbers.TheConstants.{MAX_NEGATIVE, MAX_POSITIVE}
 use Rattle.prl_syntax.specs.Values.{ratio_of}
 use Rattle.prl_print.proofs.Pieces.{a_name, a_number, a_fixed}
 
@@ -150,8 +151,8 @@ abbrev pub IsOwnName : List ℕ → Type 0
 IsOwnName name = IsName name × (keyword_of name ≡ None)
 
 abbrev pub IsConstant : Value → Type 0
-IsConstant (values.Int (pos n)) = n ≤ 2147483647
-IsConstant (values.Int (negsuc n)) = suc n ≤ 2147483648
+IsConstant (values.Int (pos n)) = n ≤ MAX_POSITIVE
+IsConstant (values.Int (negsuc n)) = suc n ≤ MAX_NEGATIVE
 IsConstant (values.Bool truth) = Unit {0}
 
 -- one that its own parts are read as
@@ -210,7 +211,7 @@ IsPostfix (ops.Up factor) = IsCount factor
 IsPostfix (ops.Down factor) = IsCount factor
 IsPostfix (ops.Shift ratio) = IsOwnRatio ratio
 
--- behind so many open parentheses
+-- after so many open parentheses
 abbrev mutual
   pub IsOwnTree : ℕ → Tree → Type 0
   IsOwnTree d (tree pre root post at) = AllByRecursion (λ o. IsPrefix o.op) pre × IsOwnRoot d root × AllByRecursion (λ o. IsPostfix o.op) post

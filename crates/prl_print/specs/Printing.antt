@@ -1,14 +1,9 @@
 -- The printed text of a program.
 use Rattle.std.specs.Prelude.{ℕ, ◌==◌, true, false, List, [], ◌∷◌, ◌++◌, map, codes, decimal, Option, Some, None, if◌then◌else◌}
-use Rattle.std.specs.Fmt.{signed_decimal}
 use Rattle.std.specs.List.{flat_map}
 use Rattle.prl_base.specs.declared.operators.Op.{Op}
 use Rattle.prl_base.specs.declared.operators.Op.TheVariants as ops
-use Rattle.prl_base.specs.declared.values.Ty.{Ty}
-use Rattle.prl_base.specs.declared.values.Ty.TheVariants as types
-use Rattle.prl_base.specs.declared.values.Value.{Value}
-use Rattle.prl_base.specs.declared.values.Value.TheVariants as values
-use Rattle.prl_base.specs.Ratios.{Fraction}
+use Rattle.prl_base.specs.Texts.{fraction_text, type_text, value_text}
 use Rattle.prl_ast.specs.declared.declarations.Device.{Device}
 use Rattle.prl_ast.specs.declared.declarations.Import.{Import}
 use Rattle.prl_ast.specs.declared.declarations.Param.{Param}
@@ -23,25 +18,10 @@ abbrev pub separated : List ℕ → List (List ℕ) → List ℕ
 separated between [] = []
 separated between (text ∷ texts) = text ++ flat_map (λ other. between ++ other) texts
 
--- values and types
-
-abbrev pub printed_value : Value → List ℕ
-printed_value (values.Int number) = signed_decimal number
-printed_value (values.Bool true) = codes "true"
-printed_value (values.Bool false) = codes "false"
-
--- a ratio that is whole has no denominator
-abbrev pub printed_ratio : Fraction → List ℕ
-printed_ratio q = signed_decimal q.num ++ (if q.den == 1 then [] else codes "/" ++ decimal q.den)
-
-abbrev pub printed_type : Ty → List ℕ
-printed_type types.Int = codes "int"
-printed_type types.Bool = codes "bool"
-
 -- parameters: a name, and the parts of its note where it has one
 
 abbrev pub printed_rate : Rate → List ℕ
-printed_rate rate = codes "rate (" ++ decimal rate.period ++ codes ", " ++ printed_ratio rate.phase ++ codes ")"
+printed_rate rate = codes "rate (" ++ decimal rate.period ++ codes ", " ++ fraction_text rate.phase ++ codes ")"
 
 abbrev pub printed_due : ℕ → List ℕ
 printed_due due = codes "due " ++ decimal due
@@ -52,7 +32,7 @@ part printed None = []
 part printed (Some x) = printed x ∷ []
 
 abbrev pub note_parts : Param → List (List ℕ)
-note_parts p = part printed_type p.ty ++ part printed_rate p.rate ++ part printed_due p.due
+note_parts p = part type_text p.ty ++ part printed_rate p.rate ++ part printed_due p.due
 
 abbrev pub printed_note : List (List ℕ) → List ℕ
 printed_note [] = []
@@ -67,7 +47,7 @@ printed_params params = separated (codes "; ") (map printed_param params)
 -- imports, sensors and actuators
 
 abbrev pub printed_port : Port → List ℕ
-printed_port p = p.name ++ codes ": " ++ printed_type p.ty
+printed_port p = p.name ++ codes ": " ++ type_text p.ty
 
 abbrev pub printed_ports : List Port → List ℕ
 printed_ports ports = separated (codes "; ") (map printed_port ports)
@@ -86,14 +66,14 @@ printed_device keyword d = keyword ++ d.name ++ printed_wcet d.wcet
 
 -- expressions
 
--- prefixes have a blank behind them, and postfixes before them
+-- prefixes have a blank after them, and postfixes before them
 abbrev pub printed_operator : Op → List ℕ
-printed_operator (ops.Fby value) = printed_value value ++ codes " fby "
-printed_operator (ops.Cons value) = printed_value value ++ codes " :: "
+printed_operator (ops.Fby value) = value_text value ++ codes " fby "
+printed_operator (ops.Cons value) = value_text value ++ codes " :: "
 printed_operator ops.Tail = codes "tail "
 printed_operator (ops.Up factor) = codes " *^ " ++ decimal factor
 printed_operator (ops.Down factor) = codes " /^ " ++ decimal factor
-printed_operator (ops.Shift ratio) = codes " ~> " ++ printed_ratio ratio
+printed_operator (ops.Shift ratio) = codes " ~> " ++ fraction_text ratio
 
 abbrev pub printed_operators : List PlacedOp → List ℕ
 printed_operators operators = flat_map (λ o. printed_operator o.op) operators
@@ -103,7 +83,7 @@ abbrev mutual
   printed_tree (tree pre root post at) = printed_operators pre ++ printed_root root ++ printed_operators post
 
   pub printed_root : Root → List ℕ
-  printed_root (const value) = printed_value value
+  printed_root (const value) = value_text value
   printed_root (var name) = name
   printed_root (apply name at args) = name ++ (codes "(" ++ printed_trees args ++ codes ")")
   printed_root (group parts) = codes "(" ++ printed_trees parts ++ codes ")"
@@ -112,7 +92,7 @@ abbrev mutual
   printed_trees none = []
   printed_trees (more t ts) = printed_tree t ++ printed_others ts
 
-  -- each behind a comma
+  -- each after a comma
   pub printed_others : Trees → List ℕ
   printed_others none = []
   printed_others (more t ts) = (codes ", " ++ printed_tree t) ++ printed_others ts

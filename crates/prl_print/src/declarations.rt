@@ -7,8 +7,8 @@ ghost use Rattle.prl_print.specs.Printing.{name_of, printed_device, printed_equa
 
 use crate::expressions::push_expr;
 use crate::notes::{push_locals, push_params};
-use crate::numbers::{push_number, push_type};
 use prl_ast::{Device, Equation, Import, Node, Placed, Port};
+use prl_base::{push_number, push_type};
 use std::alloc::AllocError;
 
 fn push_port(text: &mut Vec<u8>, port: &Port) -> Result<(), AllocError>
@@ -19,7 +19,7 @@ fn push_port(text: &mut Vec<u8>, port: &Port) -> Result<(), AllocError>
     push_type(text, port.ty)
 }
 
-/// The ports, each behind a semicolon.
+/// The ports, each after a semicolon.
 fn push_other_ports(text: &mut Vec<u8>, ports: &[Port]) -> Result<(), AllocError>
     ensures { OnOk result (text.new.items ≡ text.old.items ++ flat_map (λ other. codes "; " ++ other) (map printed_port ports.now)) }
 {
@@ -47,7 +47,7 @@ fn push_wcet(text: &mut Vec<u8>, wcet: u32) -> Result<(), AllocError>
     ensures { OnOk result (text.new.items ≡ text.old.items ++ printed_wcet wcet) }
 {
     text.extend_from_slice(b" wcet ")?;
-    push_number(text, wcet)?;
+    push_number(text, u64::from(wcet))?;
     text.extend_from_slice(b";\n")
 }
 
@@ -81,7 +81,7 @@ pub fn push_device(text: &mut Vec<u8>, keyword: &[u8], device: &Device) -> Resul
     push_wcet(text, device.wcet)
 }
 
-/// The names, each behind a comma.
+/// The names, each after a comma.
 fn push_other_names(text: &mut Vec<u8>, names: &[Placed]) -> Result<(), AllocError>
     ensures { OnOk result (text.new.items ≡ text.old.items ++ flat_map (λ other. codes ", " ++ other) (map name_of names.now)) }
 {

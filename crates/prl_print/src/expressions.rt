@@ -5,9 +5,8 @@ ghost use Rattle.prl_ast.specs.Trees.{root_of, tree_of};
 ghost use Rattle.prl_syntax.specs.Trees.{trees_from};
 ghost use Rattle.prl_print.specs.Printing.{comma_before, printed_operator, printed_operators, printed_root, printed_tree, printed_trees};
 
-use crate::numbers::{push_number, push_ratio, push_value};
 use prl_ast::{Base, Expr, PlacedOp};
-use prl_base::Op;
+use prl_base::{Op, push_number, push_ratio, push_value};
 use std::alloc::AllocError;
 
 fn push_operator(text: &mut Vec<u8>, op: Op) -> Result<(), AllocError>
@@ -25,11 +24,11 @@ fn push_operator(text: &mut Vec<u8>, op: Op) -> Result<(), AllocError>
         Op::Tail => text.extend_from_slice(b"tail "),
         Op::Up(factor) => {
             text.extend_from_slice(b" *^ ")?;
-            push_number(text, factor)
+            push_number(text, u64::from(factor))
         }
         Op::Down(factor) => {
             text.extend_from_slice(b" /^ ")?;
-            push_number(text, factor)
+            push_number(text, u64::from(factor))
         }
         Op::Shift(ratio) => {
             text.extend_from_slice(b" ~> ")?;

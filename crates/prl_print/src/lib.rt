@@ -1,11 +1,10 @@
 //! The printed text of a program: each declaration in one fixed form, so that two programs that differ in their
-//! layout alone are printed alike. It stands on the syntax tree and its parser, and on `itoa` for numbers.
+//! layout alone are printed alike. It stands on the syntax tree and its parser.
 #![tactic(auto)]
 
 mod declarations;
 mod expressions;
 mod notes;
-mod numbers;
 mod printing;
 
 pub use printing::print;

@@ -4,15 +4,15 @@ ghost use Rattle.std.specs.Prelude.{◌≡◌, ◌++◌, OnOk, codes, map};
 ghost use Rattle.std.specs.List.{flat_map};
 ghost use Rattle.prl_print.specs.Printing.{note_parts, printed_due, printed_locals, printed_note, printed_param, printed_params, printed_rate};
 
-use crate::numbers::{push_number, push_ratio, push_type};
 use prl_ast::{Param, Rate};
+use prl_base::{push_number, push_ratio, push_type};
 use std::alloc::AllocError;
 
 fn push_rate(text: &mut Vec<u8>, rate: Rate) -> Result<(), AllocError>
     ensures { OnOk result (text.new.items ≡ text.old.items ++ printed_rate rate) }
 {
     text.extend_from_slice(b"rate (")?;
-    push_number(text, rate.period)?;
+    push_number(text, u64::from(rate.period))?;
     text.extend_from_slice(b", ")?;
     push_ratio(text, rate.phase)?;
     text.push(b')')?;
@@ -23,7 +23,7 @@ fn push_due(text: &mut Vec<u8>, due: u32) -> Result<(), AllocError>
     ensures { OnOk result (text.new.items ≡ text.old.items ++ printed_due due) }
 {
     text.extend_from_slice(b"due ")?;
-    push_number(text, due)
+    push_number(text, u64::from(due))
 }
 
 /// The note of the parameter, if it has one.
@@ -55,7 +55,7 @@ fn push_param(text: &mut Vec<u8>, param: &Param) -> Result<(), AllocError>
     push_note(text, param)
 }
 
-/// The parameters, each behind a semicolon.
+/// The parameters, each after a semicolon.
 fn push_others(text: &mut Vec<u8>, params: &[Param]) -> Result<(), AllocError>
     ensures { OnOk result (text.new.items ≡ text.old.items ++ flat_map (λ other. codes "; " ++ other) (map printed_param params.now)) }
 {

@@ -28,7 +28,7 @@ pub bind_err : {A B : Type 0} (r : Read A) (f : A × List Lexeme → Read B) (s 
 bind_err (Ok x) f s e = inr (record { a = x.0; between = x.1; one = refl; two = e })
 bind_err (Err t) f s e = inl cc
 
--- behind the same tokens the next one is of the same class
+-- after the same tokens the next one is of the same class
 pub next_class-append : (w rest other : List Lexeme) → next_class rest ≡ next_class other → next_class (w ++ rest) ≡ next_class (w ++ other)
 next_class-append [] rest other e = e
 next_class-append (t ∷ w) rest other e = refl

@@ -60,7 +60,7 @@ module _ {R : Type 0} (i : Inner R) (I : R → List Lexeme → Type 0) (p : List
   grammar_reads (placed g) h = placed_reads n (grammar_reads g h.0) h.1
   grammar_reads inner h = reads
 
--- with the depth of what is behind a token
+-- with the depth of what is after a token
 module _ {R : Type 0} (i : Inner R) (I : R → List Lexeme → Type 0) (p : List Lexeme → Read R) (n : ℕ) (reads : Reads n I i.shape p) where
   after : {A B : Type 0} (g : Grammar R A) (f : A → Grammar R B) (b : Bool) → (shape i g).nullable ≡ b → Where b ((a : A) → IsGuarded i (f a))
       → Reads (suc n) (written I g) (shape i g) (read i p g)

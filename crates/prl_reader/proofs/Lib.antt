@@ -10,3 +10,4 @@ pub mod Alike
 pub mod Nesting
 pub mod Loops
 pub mod Ending
+pub mod RangeFaults

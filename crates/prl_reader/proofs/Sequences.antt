@@ -107,7 +107,7 @@ bind_reads {A} {B} {W} {V} {s} {r} {p} {q} k n m one two apart room = record {
         })
         (bind_err (p ts) (λ x. q x.0 x.1) (Stuck left) e)
 
-    -- the first part reads the same where what follows changes behind the next token
+    -- the first part reads the same where what follows changes after the next token
     moved : (a : A) (w u v rest other : List Lexeme) → next_class rest ≡ next_class other → w ≡ u ++ v → p (w ++ rest) ≡ Ok (a, v ++ rest) → p (w ++ other) ≡ Ok (a, v ++ other)
     moved a w u v rest other n e h =
         ap (λ x. p (x ++ other)) e ∙ ap p (append_assoc u v other)

@@ -9,3 +9,5 @@ pub mod Productions
 pub mod Language
 pub mod Loops
 pub mod LookAhead
+pub mod Numbers
+pub mod Ranges

@@ -1,4 +1,4 @@
--- Loops that read one text after another behind those that were read before.
+-- Loops that read one text after another after those that were read before.
 use Rattle.std.specs.Prelude.{◌≡◌, List, ◌++◌, Ok}
 use Rattle.prl_base.specs.Reading.{◌>>=◌}
 use Rattle.prl_reader.specs.Lexemes.{Lexeme}

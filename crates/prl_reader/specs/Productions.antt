@@ -13,7 +13,7 @@ pub data Grammar (R : Type 0) : Type 0 → Type 1 where
   bind : {A B : Type 0} → Grammar R A → (A → Grammar R B) → Grammar R B
   either : {A : Type 0} → Grammar R A → Grammar R A → Grammar R A
   many : {A : Type 0} → Grammar R A → Grammar R (List A)
-  -- one, and others behind a separator each
+  -- one, and others after a separator each
   separated : {A S : Type 0} → Grammar R S → Grammar R A → Grammar R (A × List (S × A))
   -- with the place of the first token
   placed : {A : Type 0} → Grammar R A → Grammar R (Span × A)
@@ -23,7 +23,7 @@ infixl 10 ◌>>=◌
 abbrev pub ◌>>=◌ : {R A B : Type 0} → Grammar R A → (A → Grammar R B) → Grammar R B
 g >>= f = bind g f
 
--- one, and others behind a separator each
+-- one, and others after a separator each
 abbrev pub Row : {A S : Type 0} → (S → List Lexeme → Type 0) → (A → List Lexeme → Type 0) → A × List (S × A) → List Lexeme → Type 0
 Row {A} {S} V W = Then W (λ first. Then (Many {A = S × A} (Then V (λ x. Then W (λ y. Give (x, y))))) (λ rest. Give (first, rest)))
 
@@ -57,7 +57,7 @@ sample r (separated s g) = (sample r g, [])
 sample r (placed g) = (record { at = 0; len = 0 }, sample r g)
 sample r inner = r
 
--- a separator and what stands behind it
+-- a separator and what stands after it
 abbrev pub link_shape : Shape → Shape → Shape
 link_shape s g = then_shape s (then_shape g (record { first = []; nullable = true; more = [] }))
 

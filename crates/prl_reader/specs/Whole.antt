@@ -1,9 +1,18 @@
 -- Whole texts, and the first token that is unexpected.
-use Rattle.std.specs.Prelude.{◌≡◌, ℕ, List, [], ◌∷◌, ◌++◌, length, Result, Ok, Err}
+use Rattle.std.specs.Prelude.{◌≡◌, ℕ, ◌-◌, List, [], ◌∷◌, ◌++◌, length, drop, Result, Ok, Err}
 use Rattle.prl_base.specs.Reading.{◌>>=◌}
 use Rattle.prl_reader.specs.Lexemes.{Lexeme}
 use Rattle.prl_reader.specs.Readers.{Stop, Stuck, Read}
 use Rattle.prl_reader.specs.Reads.{next_class}
+
+-- the place of the first of the tokens, or the end of the text
+abbrev pub place_or : ℕ → List Lexeme → ℕ
+place_or end [] = end
+place_or end (t ∷ ts) = t.at.at
+
+-- the place of the first of so many tokens that are left, or the end of the text
+abbrev pub place_of : List Lexeme → ℕ → ℕ → ℕ
+place_of ts left end = place_or end (drop (length ts - left) ts)
 
 -- all tokens are read
 abbrev pub ended : {A : Type 0} → A → List Lexeme → Result A Stop

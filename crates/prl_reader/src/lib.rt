@@ -1,10 +1,13 @@
 //! Readers of tokens, with which programs and bodies are read: the tokens of a text as a grammar sees them,
-//! and readers of one token. Its definitions say what a grammar is, as a relation between lists of tokens and
-//! trees, and when a reader reads it with one token of look-ahead. It stands on names and places.
+//! readers of one token, and the ranges of numbers. Its definitions say what a grammar is, as data and as a
+//! relation between lists of tokens and trees, and when a reader reads it with one token of look-ahead. It
+//! stands on names, places and values.
 #![tactic(auto)]
 
+mod numbers;
 mod reading;
 mod terminals;
 
-pub use reading::{Stop, expect, name, next_is, number};
+pub use numbers::{MAX_NEGATIVE, MAX_POSITIVE, Ranged, negative, out_of_range, positive};
+pub use reading::{Stop, expect, name, next_is, number, place_of};
 pub use terminals::Terminal;

@@ -4,6 +4,7 @@ ghost use Rattle.std.specs.Prelude.{◌≡◌, ◌∷◌, [], ◌≤◌, ◌+◌
 ghost use Rattle.prl_base.specs.Reading.{Gives};
 ghost use Rattle.prl_reader.specs.Readers.{next_in, place_at, name_at, number_at};
 ghost use Rattle.prl_reader.specs.Stops.{stop_of};
+ghost use Rattle.prl_reader.specs.Whole.{place_of, place_or};
 
 use crate::terminals::Terminal;
 use prl_base::{Name, Span};
@@ -49,7 +50,7 @@ pub fn next_is(terminals: &[Terminal], class: u8) -> bool
     }
 }
 
-/// Takes a token of the class, and answers its place and the tokens behind it.
+/// Takes a token of the class, and answers its place and the tokens after it.
 pub fn expect(terminals: &[Terminal], class: u8) -> Result<(Span, &[Terminal]), Stop>
     ensures { Gives (λ x. (x.0, x.1.now)) stop_of result (place_at class terminals.now) }
 {
@@ -64,7 +65,7 @@ pub fn expect(terminals: &[Terminal], class: u8) -> Result<(Span, &[Terminal]), 
     }
 }
 
-/// Takes a number, and answers it, its place and the tokens behind it.
+/// Takes a number, and answers it, its place and the tokens after it.
 pub fn number(terminals: &[Terminal]) -> Result<(u64, Span, &[Terminal]), Stop>
     ensures { Gives (λ x. ((x.0, x.1), x.2.now)) stop_of result (number_at terminals.now) }
 {
@@ -79,7 +80,7 @@ pub fn number(terminals: &[Terminal]) -> Result<(u64, Span, &[Terminal]), Stop>
     }
 }
 
-/// Takes a name, and answers it, its place and the tokens behind it.
+/// Takes a name, and answers it, its place and the tokens after it.
 pub fn name(alloc: Global, terminals: &[Terminal]) -> Result<(Name, Span, &[Terminal]), Stop>
     ensures { Gives (λ x. ((x.0, x.1), x.2.now)) stop_of result (name_at terminals.now) }
 {
@@ -90,4 +91,22 @@ pub fn name(alloc: Global, terminals: &[Terminal]) -> Result<(Name, Span, &[Term
             None => Err(Stop::Unexpected(terminals.len())),
         },
     }
+}
+
+/// The place of the first of the tokens, or the end of the text.
+fn place_or(end: u32, terminals: &[Terminal]) -> u32
+    ensures { result ≡ place_or end terminals.now }
+{
+    match terminals {
+        [] => end,
+        [first, ..] => first.at().at,
+    }
+}
+
+/// The place of the first of so many tokens that are left, or the end of the text.
+pub fn place_of(terminals: &[Terminal], left: usize, end: u32) -> u32
+    ensures { result ≡ place_of terminals.now left end }
+{
+    let (_, rest) = terminals.split_at(terminals.len().saturating_sub(left));
+    place_or(end, rest)
 }

@@ -1,37 +1,19 @@
 -- What the functions that read expressions answer, step by step.
-use Rattle.std.proofs.Common.{cond, ◌<◌, Result, Ok, Err, ◌≡◌, ◌==◌, ◌&&◌, ⊎_elim, Bool, ℕ, zero, suc, ◌≤◌, true, false, List, [], ◌∷◌, ◌++◌, length, Option, Some, None, refl, sym, ap, ◌∙◌, subst, inl, inr, arith, append_assoc, length-append}
-use Rattle.std.proofs.lemmas.List.{append-nil}
-use Rattle.std.proofs.lemmas.Bool.{false≢true, and_parts, or_cases, eqb-true, cases_Bool}
+use Rattle.std.proofs.Common.{Ok, Err, ◌≡◌, ℕ, true, false, List, [], ◌∷◌, ◌++◌, Option, Some, refl, sym, ap, ◌∙◌}
 use Rattle.prl_ast.specs.declared.expressions.PlacedOp.{PlacedOp}
-use Rattle.prl_base.specs.declared.values.Value.{Value}
-use Rattle.prl_ast.specs.Trees.{Tree, tree, Root, const, var, apply, group, Trees, none, more, tree_list}
+use Rattle.prl_ast.specs.Trees.{Tree, tree, Root, apply, group, Trees, none, more}
 use Rattle.prl_syntax.specs.Trees.{trees_from}
-use Rattle.prl_base.specs.declared.operators.Op.TheVariants as ops
 use Rattle.prl_base.specs.declared.places.Span.{Span}
 use Rattle.prl_base.specs.Reading.{◌>>=◌, FailsAs}
 use Rattle.prl_reader.specs.Stops.{stop_of}
 use Rattle.prl_reader.specs.declared.reading.Stop.{Stop}
 use Rattle.prl_reader.specs.declared.reading.Stop.TheVariants as stops
 use Rattle.prl_reader.specs.Lexemes.{Lexeme, first_place}
-use Rattle.prl_reader.specs.Grammars.{Then, Give, Either, Many, Maybe, FromFirst, Place, Named, Numbered}
-use Rattle.prl_reader.specs.Readers.{Stop as Stopped, Stuck, Read, is_in, next_in, many_up_to, choice, many_at, maybe_at, place_at, name_at, number_at}
-use Rattle.prl_reader.specs.Reads.{Shape, then_shape, either_shape, many_shape, Begins, Reads}
-use Rattle.prl_reader.specs.LookAhead.{disjoint}
-use Rattle.prl_reader.proofs.Basics.{Apart, apart, is_in-append, bind_ok, chosen, same_rest, same_tree, Both}
-use Rattle.prl_reader.proofs.Steps.{one_shape, give, give_shape, give_reads}
-use Rattle.prl_reader.proofs.Sequences.{then_read, bind_reads, choice_reads}
-use Rattle.prl_reader.proofs.Repeats.{Widens, lower, restate, deep_reads, too_deep, at_length, same_bind, many_reads, many_step, leaves_fewer}
-use Rattle.prl_reader.proofs.Tokens.{followed, either, place_reads, name_reads, number_reads, solid, loose, maybe_reads, first_reads}
-use Rattle.prl_syntax.specs.declared.words.Fixed.{Fixed}
+use Rattle.prl_reader.specs.Readers.{Stop as Stopped, Stuck, Read, next_in, choice, many_at, maybe_at, name_at}
+use Rattle.prl_reader.proofs.Basics.{same_rest, same_tree}
 use Rattle.prl_syntax.specs.declared.words.Fixed.TheVariants as fixed
-use Rattle.prl_syntax.specs.Words.{class_of}
-use Rattle.prl_syntax.proofs.Loops.{Steps}
-use Rattle.prl_syntax.specs.Grammar.{The, ConstantText, RatioText, TailText, FbyText, ConsText, PrefixText, UpText, DownText, ShiftText, PostfixText, NameText, Enclosed, Beside, CommaText, Nothing, TreeText, RootText, OthersText}
-use Rattle.prl_syntax.specs.Readers.{the_at, only, constant_at, ratio_at, constant_first, postfix_at, postfix_first, up_at, down_at, shift_at, Chain, prefixed, parts_by, tree_of_parts, tree_by, comma_tree_by, trees_by, closed_trees_by, no_trees_at, group_by, arguments_by, root_of_name, named_by, applied_by, last_by, tail_by, fby_by, cons_by, constant_end, constant_by, chain_by, chain_up_to, chain_at, tree_at}
-use Rattle.prl_syntax.proofs.Simple.{steps, the_reads, constant_reads, ratio_reads}
-use Rattle.prl_syntax.specs.Links.{Step, prefix, last, fby_step, cons_step, constant_step, constant_link_at, tail_step, last_step, link_at, with_prefixes, after_step}
-use Rattle.prl_syntax.proofs.Trees.{chain_reads, chain_step, expression_reads}
-use Rattle.prl_syntax.proofs.Chains.{postfix_reads, postfix_steps, ChainText, chain_first, chain_more, tree_more, alone, same_shape, tree_reads, comma_tree_reads, behind, TailChain, FbyChain, ConsChain, ConstantChain, LastText, ChainParts, AppliedText, applied_reads, constant_chain_reads, within, in_within, out_within, parts_more, last_root, to_chain, root_parts}
+use Rattle.prl_syntax.specs.Readers.{the_at, only, postfix_at, postfix_first, Chain, tree_of_parts, tree_by, comma_tree_by, closed_trees_by, no_trees_at, arguments_by, root_of_name, applied_by, chain_at, tree_at}
+use Rattle.prl_syntax.specs.Links.{with_prefixes}
 use Rattle.std.proofs.lemmas.Bool.{cond-true, cond-false}
 use Rattle.prl_syntax.specs.Loops.{with_front}
 
@@ -62,7 +44,7 @@ pub args_read : (f : List Lexeme → Read Chain) (ts rest between after : List L
 args_read f ts rest between after x o es n a m b k d =
     named_read f ts rest after x es n a m (ap (λ r. r >>= λ o. choice (only fixed.Close) no_trees_at (closed_trees_by f) o.1) b ∙ cond-false (next_in (only fixed.Close) between) _ _ k ∙ d)
 
--- the readers behind the first expression in parentheses
+-- the readers after the first expression in parentheses
 abbrev others : List Lexeme → Read (List Tree)
 others = many_at (only fixed.Comma) (comma_tree_by chain_at)
 

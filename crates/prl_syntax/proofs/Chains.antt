@@ -1,5 +1,5 @@
 -- The readers of expressions read their grammar.
-use Rattle.std.proofs.Common.{◌≡◌, ◌==◌, ◌&&◌, ⊎_elim, Bool, ℕ, zero, suc, ◌≤◌, true, false, List, [], ◌∷◌, ◌++◌, length, Option, Some, None, refl, sym, ap, ◌∙◌, subst, inl, inr, arith, append_assoc, length-append}
+use Rattle.std.proofs.Common.{◌≡◌, ◌==◌, ◌&&◌, ⊎_elim, Bool, ℕ, suc, ◌≤◌, true, false, List, [], ◌∷◌, ◌++◌, length, Option, Some, None, refl, sym, ap, ◌∙◌, subst, inl, inr, arith, append_assoc, length-append}
 use Rattle.std.proofs.lemmas.List.{append-nil}
 use Rattle.std.proofs.lemmas.Bool.{false≢true, and_parts, or_cases, eqb-true, cases_Bool}
 use Rattle.prl_ast.specs.declared.expressions.PlacedOp.{PlacedOp}
@@ -8,22 +8,21 @@ use Rattle.prl_ast.specs.Trees.{Tree, tree, Root, const, var, apply, group, Tree
 use Rattle.prl_syntax.specs.Trees.{trees_from}
 use Rattle.prl_base.specs.declared.operators.Op.TheVariants as ops
 use Rattle.prl_base.specs.declared.places.Span.{Span}
-use Rattle.prl_reader.specs.Lexemes.{Lexeme, first_place}
-use Rattle.prl_reader.specs.Grammars.{Then, Give, Either, Many, Maybe, FromFirst, Place, Named, Numbered}
-use Rattle.prl_reader.specs.Readers.{Read, is_in, choice, many_at, maybe_at, place_at, name_at, number_at}
-use Rattle.prl_reader.specs.Reads.{Shape, then_shape, either_shape, many_shape, Begins, Reads}
+use Rattle.prl_reader.specs.Lexemes.{Lexeme}
+use Rattle.prl_reader.specs.Grammars.{Then, Give, Either, Many, Maybe, FromFirst, Named}
+use Rattle.prl_reader.specs.Readers.{Read, is_in}
+use Rattle.prl_reader.specs.Reads.{Shape, then_shape, Begins, Reads}
 use Rattle.prl_reader.specs.LookAhead.{disjoint}
-use Rattle.prl_reader.proofs.Basics.{Apart, apart, is_in-append}
-use Rattle.prl_reader.proofs.Steps.{one_shape, give, give_shape, give_reads}
-use Rattle.prl_reader.proofs.Sequences.{then_read, bind_reads, choice_reads}
-use Rattle.prl_reader.proofs.Repeats.{Widens, restate, deep_reads, too_deep, at_length, same_bind, many_reads, many_step, leaves_fewer}
-use Rattle.prl_reader.proofs.Tokens.{followed, either, place_reads, name_reads, number_reads, solid, loose, maybe_reads, first_reads}
-use Rattle.prl_syntax.specs.declared.words.Fixed.{Fixed}
+use Rattle.prl_reader.proofs.Basics.{apart}
+use Rattle.prl_reader.proofs.Steps.{give_reads}
+use Rattle.prl_reader.proofs.Sequences.{then_read, bind_reads}
+use Rattle.prl_reader.proofs.Repeats.{Widens, restate, many_reads}
+use Rattle.prl_reader.proofs.Tokens.{followed, either, name_reads, number_reads, solid, maybe_reads, first_reads}
 use Rattle.prl_syntax.specs.declared.words.Fixed.TheVariants as fixed
 use Rattle.prl_syntax.specs.Words.{class_of}
 use Rattle.prl_syntax.proofs.Loops.{Steps}
-use Rattle.prl_syntax.specs.Grammar.{The, ConstantText, RatioText, TailText, FbyText, ConsText, PrefixText, UpText, DownText, ShiftText, PostfixText, NameText, Enclosed, Beside, CommaText, Nothing, TreeText, RootText, OthersText}
-use Rattle.prl_syntax.specs.Readers.{the_at, only, constant_at, ratio_at, constant_first, postfix_at, postfix_first, up_at, down_at, shift_at, Chain, prefixed, parts_by, tree_of_parts, tree_by, comma_tree_by, trees_by, closed_trees_by, no_trees_at, group_by, arguments_by, root_of_name, named_by, applied_by, last_by, tail_by, fby_by, cons_by, constant_end, constant_by, chain_by, chain_up_to, chain_at, tree_at}
+use Rattle.prl_syntax.specs.Grammar.{The, ConstantText, PrefixText, PostfixText, NameText, Enclosed, Beside, Nothing, TreeText, RootText, OthersText}
+use Rattle.prl_syntax.specs.Readers.{only, constant_first, postfix_at, postfix_first, Chain, prefixed, parts_by, tree_of_parts, tree_by, comma_tree_by, trees_by, closed_trees_by, group_by, arguments_by, root_of_name, named_by, applied_by, constant_by}
 use Rattle.prl_syntax.proofs.Simple.{steps, the_reads, constant_reads, ratio_reads}
 
 pub postfix_reads : (n : ℕ) → Reads n PostfixText (solid postfix_first (only fixed.Slash)) postfix_at
@@ -55,7 +54,7 @@ PartsText = Then ChainText (λ c. Then (Many PostfixText) (λ post. Give (c, pos
 pub TreeParts : Tree → List Lexeme → Type 0
 TreeParts = Then (FromFirst PartsText) (λ x. Give (tree_of_parts x.0 x.1))
 
--- a text and nothing behind it
+-- a text and nothing after it
 pub alone : (w u v : List Lexeme) → w ≡ u ++ v → v ≡ [] → w ≡ u
 alone w u v e none_behind = e ∙ ap (λ x. u ++ x) none_behind ∙ append-nil u
 
@@ -164,7 +163,7 @@ pub trees_reads : (n : ℕ) (f : List Lexeme → Read Chain) → Reads n ChainTe
 unfolding TreesParts
 trees_reads n f chain = restate n (followed n (tree_reads n f chain) (λ t. followed n (many_reads n (comma_tree_reads f n chain) refl (apart tree_more (only fixed.Comma) refl)) (λ others. give_reads n _) refl) refl) to_trees from_trees same_shape
 
--- what stands behind a text that is not empty is shorter
+-- what stands after a text that is not empty is shorter
 pub behind : {A B : Type 0} {W : A → List Lexeme → Type 0} {V : A → B → List Lexeme → Type 0} {r : Shape} {p : List Lexeme → Read A} {q : A → List Lexeme → Read B} (first on : List ℕ) (n : ℕ)
     → Reads (suc n) W (solid first on) p → ((a : A) → Reads n (V a) r (q a)) → disjoint on r.first ≡ true → Reads (suc n) (Then W V) (then_shape (solid first on) r) (then_read p q)
 behind {r} first on n one two d = bind_reads (suc n) (suc n) n one two (apart on r.first d) room

@@ -1,14 +1,14 @@
 -- Names that wait for their note get the next one.
-use Rattle.std.proofs.Common.{◌≡◌, List, [], ◌∷◌, ◌++◌, map, Option, Some, None, refl, sym, ap, ◌∙◌, append_assoc}
-use Rattle.std.proofs.lemmas.List.{map_push, append-nil}
+use Rattle.std.proofs.Common.{◌≡◌, List, [], ◌∷◌, ◌++◌, map, Option, Some, None, sym, ap, ◌∙◌, append_assoc}
+use Rattle.std.proofs.lemmas.List.{map_push}
 use Rattle.prl_ast.specs.declared.declarations.Param.{Param}
 use Rattle.prl_ast.specs.declared.declarations.Placed.{Placed}
 use Rattle.prl_syntax.specs.declared.notes.Note.{Note}
 use Rattle.prl_syntax.specs.declared.parameters.Item.{Item}
-use Rattle.prl_syntax.specs.Trees.{param_of, first_note, params_before, params_of}
+use Rattle.prl_syntax.specs.Trees.{param_of, first_note, params_before}
 use Rattle.prl_syntax.specs.Groups.{noted, params_after, waiting_after}
 
--- what comes of the names that wait and of the items behind them
+-- what comes of the names that wait and of the items after them
 abbrev pub still : List Placed → List Item → List Param
 still waiting items = noted (first_note items None) waiting ++ params_before items None
 

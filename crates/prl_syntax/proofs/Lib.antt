@@ -9,5 +9,4 @@ pub mod Program
 pub mod Links
 pub mod Rows
 pub mod Applied
-pub mod RangeFaults
 pub mod WholeTexts

@@ -1,23 +1,17 @@
 -- The readers of parameters, ports and declarations read their grammars.
-use Rattle.std.proofs.Common.{◌≡◌, ℕ, true, false, List, [], ◌∷◌, ◌++◌, refl}
-use Rattle.prl_base.specs.declared.places.Span.{Span}
-use Rattle.prl_reader.specs.Lexemes.{Lexeme}
-use Rattle.prl_reader.specs.Grammars.{Then, Give, Either, Many, Maybe, Place, Named, Numbered}
-use Rattle.prl_reader.specs.Readers.{Read, choice, many_at, maybe_at, place_at, name_at, number_at}
-use Rattle.prl_reader.specs.Reads.{Shape, then_shape, either_shape, many_shape, Reads}
-use Rattle.prl_reader.specs.LookAhead.{disjoint}
-use Rattle.prl_reader.proofs.Basics.{Apart, apart}
-use Rattle.prl_reader.proofs.Steps.{one_shape, give, give_shape, give_reads}
-use Rattle.prl_reader.proofs.Sequences.{then_read, choice_reads}
-use Rattle.prl_reader.proofs.Repeats.{many_reads, many_step, leaves_fewer}
-use Rattle.prl_reader.proofs.Tokens.{followed, either, place_reads, name_reads, number_reads, solid, loose, maybe_reads, first_reads}
+use Rattle.std.proofs.Common.{ℕ, List, [], ◌∷◌, ◌++◌, refl}
+use Rattle.prl_reader.specs.Reads.{Reads}
+use Rattle.prl_reader.proofs.Basics.{apart}
+use Rattle.prl_reader.proofs.Steps.{give_reads}
+use Rattle.prl_reader.proofs.Repeats.{many_reads}
+use Rattle.prl_reader.proofs.Tokens.{followed, either, name_reads, number_reads, solid, loose, maybe_reads}
 use Rattle.prl_syntax.specs.declared.words.Fixed.{Fixed}
 use Rattle.prl_syntax.specs.declared.words.Fixed.TheVariants as fixed
 use Rattle.prl_syntax.specs.Words.{class_of}
 use Rattle.prl_syntax.proofs.Loops.{Steps}
-use Rattle.prl_syntax.specs.Grammar.{The, ColonNote, ItemText, CommaItem, RunText, SemicolonRun, ParamsText, EnclosedParams, ClosedParams, NoParams, MaybeParams, EndedRun, LocalsText, MaybeLocals, PortGroup, NextGroup, PortsText, ClosedPorts, EnclosedPorts, NoPorts, MaybePorts, WcetText, ImportText, DeviceText}
-use Rattle.prl_syntax.specs.Readers.{the_at, only, colon_note_at, item_at, comma_item_at, run_at, semicolon_run_at, params_at, closed_params_at, enclosed_params_at, maybe_params_at, ended_run_at, locals_at, maybe_locals_at, comma_semicolon, port_group_at, next_group_at, ports_at, closed_ports_at, enclosed_ports_at, maybe_ports_at, wcet_at, import_at, device_at}
-use Rattle.prl_syntax.proofs.Simple.{steps, the_reads, placed_reads, names_reads, type_reads, note_first, note_more, note_reads}
+use Rattle.prl_syntax.specs.Grammar.{ColonNote, ItemText, CommaItem, RunText, SemicolonRun, ParamsText, EnclosedParams, ClosedParams, MaybeParams, EndedRun, LocalsText, MaybeLocals, PortGroup, NextGroup, PortsText, ClosedPorts, EnclosedPorts, MaybePorts, WcetText, ImportText, DeviceText}
+use Rattle.prl_syntax.specs.Readers.{only, colon_note_at, item_at, comma_item_at, run_at, semicolon_run_at, params_at, closed_params_at, enclosed_params_at, maybe_params_at, ended_run_at, locals_at, maybe_locals_at, comma_semicolon, port_group_at, next_group_at, ports_at, closed_ports_at, enclosed_ports_at, maybe_ports_at, wcet_at, import_at, device_at}
+use Rattle.prl_syntax.proofs.Simple.{steps, the_reads, placed_reads, names_reads, type_reads, note_more, note_reads}
 
 colon_note_reads : (n : ℕ) → Reads n ColonNote (solid (only fixed.Colon) note_more) colon_note_at
 unfolding colon_note_at

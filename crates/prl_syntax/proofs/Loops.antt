@@ -1,10 +1,10 @@
 -- A loop that reads one text after another gives what the reader of many gives.
-use Rattle.std.proofs.Common.{◌≡◌, ℕ, ◌<◌, true, false, cond, List, [], ◌∷◌, ◌++◌, length, Result, Ok, Err, Option, Some, None, refl, sym, ap, ◌∙◌, append_assoc}
+use Rattle.std.proofs.Common.{◌≡◌, ℕ, ◌<◌, true, false, List, [], ◌∷◌, ◌++◌, length, Ok, Err, refl, sym, ap, ◌∙◌, append_assoc}
 use Rattle.std.proofs.lemmas.Bool.{cond-true, cond-false}
 use Rattle.std.proofs.lemmas.List.{append-nil}
 use Rattle.prl_base.specs.Reading.{◌>>=◌, FailsAs}
 use Rattle.prl_reader.specs.Lexemes.{Lexeme}
-use Rattle.prl_reader.specs.Readers.{Stop as Stopped, Read, next_in, choice, many_at}
+use Rattle.prl_reader.specs.Readers.{Read, next_in, choice, many_at}
 use Rattle.prl_reader.specs.Stops.{stop_of}
 use Rattle.prl_reader.specs.declared.reading.Stop.{Stop}
 use Rattle.prl_reader.specs.declared.reading.Stop.TheVariants as stops

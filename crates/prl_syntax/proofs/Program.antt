@@ -1,22 +1,14 @@
 -- The readers of equations, nodes and programs read their grammars.
-use Rattle.std.proofs.Common.{◌≡◌, ℕ, true, false, List, [], ◌∷◌, ◌++◌, refl}
-use Rattle.prl_base.specs.declared.places.Span.{Span}
-use Rattle.prl_reader.specs.Lexemes.{Lexeme}
-use Rattle.prl_reader.specs.Grammars.{Then, Give, Either, Many, Maybe, Place, Named, Numbered}
-use Rattle.prl_reader.specs.Readers.{Read, choice, many_at, maybe_at, place_at, name_at, number_at}
-use Rattle.prl_reader.specs.Reads.{Shape, then_shape, either_shape, many_shape, Reads}
-use Rattle.prl_reader.specs.LookAhead.{disjoint}
-use Rattle.prl_reader.proofs.Basics.{Apart, apart}
-use Rattle.prl_reader.proofs.Steps.{one_shape, give, give_shape, give_reads}
-use Rattle.prl_reader.proofs.Sequences.{then_read, choice_reads}
-use Rattle.prl_reader.proofs.Repeats.{many_reads, many_step, leaves_fewer}
-use Rattle.prl_reader.proofs.Tokens.{followed, either, place_reads, name_reads, number_reads, solid, loose, maybe_reads, first_reads}
-use Rattle.prl_syntax.specs.declared.words.Fixed.{Fixed}
+use Rattle.std.proofs.Common.{ℕ, [], ◌++◌, refl}
+use Rattle.prl_reader.specs.Reads.{Reads}
+use Rattle.prl_reader.proofs.Basics.{apart}
+use Rattle.prl_reader.proofs.Steps.{give_reads}
+use Rattle.prl_reader.proofs.Repeats.{many_reads}
+use Rattle.prl_reader.proofs.Tokens.{followed, either, name_reads, solid, loose, maybe_reads, first_reads}
 use Rattle.prl_syntax.specs.declared.words.Fixed.TheVariants as fixed
-use Rattle.prl_syntax.specs.Words.{class_of}
 use Rattle.prl_syntax.proofs.Loops.{Steps}
-use Rattle.prl_syntax.specs.Grammar.{The, LeftsText, SidesText, EquationText, NodeText, DeclarationText, ProgramText}
-use Rattle.prl_syntax.specs.Readers.{the_at, only, lefts_at, sides_at, equation_at, equation_first, node_at, declaration_at, declaration_first, program_at}
+use Rattle.prl_syntax.specs.Grammar.{LeftsText, SidesText, EquationText, NodeText, DeclarationText, ProgramText}
+use Rattle.prl_syntax.specs.Readers.{only, lefts_at, sides_at, equation_at, equation_first, node_at, declaration_at, declaration_first, program_at}
 use Rattle.prl_syntax.proofs.Simple.{steps, the_reads, placed_reads, names_reads}
 use Rattle.prl_syntax.proofs.Lists.{maybe_params_reads, enclosed_params_reads, maybe_locals_reads, import_reads, device_reads}
 use Rattle.prl_syntax.proofs.Trees.{expression_reads}

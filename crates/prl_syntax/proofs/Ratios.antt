@@ -1,11 +1,12 @@
 -- The greatest common divisor, and reduced ratios.
-use Rattle.std.proofs.Common.{◌≡◌, pos, ℕ, zero, suc, ◌+◌, ◌*◌, ◌/◌, ◌%◌, ◌<◌, ◌≤◌, ◌^◌, Bool, true, false, cond, ◌&&◌, ◌==◌, refl, sym, ap, ◌∙◌, subst, inl, inr, ⊎_elim, arith}
+use Rattle.std.proofs.Common.{◌≡◌, pos, ℕ, zero, suc, ◌*◌, ◌/◌, ◌%◌, ◌<◌, ◌≤◌, true, ◌&&◌, ◌==◌, sym, ◌∙◌, subst, ⊎_elim, arith}
 use Rattle.std.proofs.lemmas.Bool.{cond-true, cond-false, cases_lt, cases_Bool, and_parts, and_from, eqb-true, eq-eqb, true≢false}
-use Rattle.std.proofs.lemmas.Nat.Gcd.{dvd_of_mod-eq-zero, mod-eq-zero_of_dvd, le_of_dvd, dvd_trans}
+use Rattle.std.proofs.lemmas.Nat.Gcd.{dvd_of_mod-eq-zero, mod-eq-zero_of_dvd, le_of_dvd}
 use Rattle.std.proofs.Math.Nat.{dvd_of_mul-dvd-mul_left, mul-dvd-mul_left, mul-div_cancel', one-dvd, eq-zero_of_zero-dvd, div-le_self, mul-zero}
 use Rattle.std.specs.Int.{IsGcd, ◌∣◌}
-use Rattle.prl_base.specs.Ratios.{Fraction, IsSmallFraction}
-use Rattle.prl_syntax.specs.Values.{divisor_up_to, common_divisor, reduced}
+use Rattle.prl_base.specs.declared.ratios.TheConstants.{MAX_PART}
+use Rattle.prl_base.specs.Ratios.{IsSmallFraction}
+use Rattle.prl_syntax.specs.Values.{divisor_up_to, common_divisor}
 
 greatest : (k a b g : ℕ) → IsGcd a b g → 0 < g → g ≤ k → 0 < b → divisor_up_to k a b ≡ g
 greatest zero a b g h above le some = absurd (omega arith)
@@ -36,7 +37,7 @@ divisor_is a b g h some =
     greatest b a b g h above (le_of_dvd some h.1) some
 
 -- what both parts are divided by is their greatest divisor, so nothing divides both any more
-pub reduced_fits : (num den g : ℕ) → IsGcd num den g → 0 < g → num < 2 ^ 31 → 0 < den → den < 2 ^ 31 → IsSmallFraction (record { num = pos (num / g); den = den / g })
+pub reduced_fits : (num den g : ℕ) → IsGcd num den g → 0 < g → num ≤ MAX_PART → 0 < den → den ≤ MAX_PART → IsSmallFraction (record { num = pos (num / g); den = den / g })
 reduced_fits num den g h positive below some den_below =
     let num_is : g * (num / g) ≡ num = mul-div_cancel' g h.0 in
     let den_is : g * (den / g) ≡ den = mul-div_cancel' g h.1 in

@@ -1,9 +1,9 @@
 -- What a vector of expressions is seen as.
-use Rattle.std.proofs.Common.{◌≡◌, ℕ, Vec, Global, List, [], ◌∷◌, map, refl, sym, ap, ◌∙◌}
+use Rattle.std.proofs.Common.{◌≡◌, ℕ, Vec, Global, List, map, refl, ap, ◌∙◌}
 use Rattle.prl_base.specs.declared.places.Span.{Span}
 use Rattle.prl_ast.specs.declared.expressions.Expr.{Expr}
 use Rattle.prl_ast.specs.declared.expressions.Base.{Base, Const, Var, Apply', Group', Apply, Group, Row_of-Expr, end_of-Expr, more_of-Expr, items-the_row-Expr, items_hidden-the_row-Expr-0}
-use Rattle.prl_ast.specs.Trees.{Tree, tree, Root, apply, group, Trees, more, root_of, trees_of, tree_of}
+use Rattle.prl_ast.specs.Trees.{tree, apply, group, more, root_of, trees_of, tree_of}
 use Rattle.prl_syntax.specs.Trees.{trees_from}
 
 pub row_trees : (m : _) (row : Row_of-Expr m) → trees_of row ≡ trees_from (map tree_of (items-the_row-Expr m row))

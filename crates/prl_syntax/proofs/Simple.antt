@@ -1,16 +1,13 @@
 -- The readers of constants, names, notes, parameters, ports and declarations read their grammars.
-use Rattle.std.proofs.Common.{◌≡◌, ℕ, true, false, List, [], ◌∷◌, ◌++◌, refl}
-use Rattle.prl_base.specs.declared.places.Span.{Span}
+use Rattle.std.proofs.Common.{◌≡◌, ℕ, false, List, [], ◌∷◌, refl}
 use Rattle.prl_reader.specs.Lexemes.{Lexeme}
-use Rattle.prl_reader.specs.Grammars.{Then, Give, Either, Many, Maybe, Place, Named, Numbered}
-use Rattle.prl_reader.specs.Readers.{Read, choice, many_at, maybe_at, place_at, name_at, number_at}
-use Rattle.prl_reader.specs.Reads.{Shape, then_shape, either_shape, many_shape, Reads}
-use Rattle.prl_reader.specs.LookAhead.{disjoint}
+use Rattle.prl_reader.specs.Grammars.{Maybe}
+use Rattle.prl_reader.specs.Readers.{Read, maybe_at}
+use Rattle.prl_reader.specs.Reads.{Shape, Reads}
 use Rattle.prl_reader.proofs.Basics.{Apart, apart}
-use Rattle.prl_reader.proofs.Steps.{one_shape, give, give_shape, give_reads}
-use Rattle.prl_reader.proofs.Sequences.{then_read, choice_reads}
+use Rattle.prl_reader.proofs.Steps.{give_reads}
 use Rattle.prl_reader.proofs.Repeats.{many_reads, many_step, leaves_fewer}
-use Rattle.prl_reader.proofs.Tokens.{followed, either, place_reads, name_reads, number_reads, solid, loose, maybe_reads, first_reads}
+use Rattle.prl_reader.proofs.Tokens.{followed, either, place_reads, name_reads, number_reads, solid, loose, maybe_reads}
 use Rattle.prl_syntax.specs.declared.words.Fixed.{Fixed}
 use Rattle.prl_syntax.specs.declared.words.Fixed.TheVariants as fixed
 use Rattle.prl_syntax.specs.Words.{class_of}

@@ -1,32 +1,27 @@
 -- Expressions are read as deep as their tokens reach.
-use Rattle.std.proofs.Common.{cond, ◌<◌, Result, Ok, Err, ◌≡◌, ◌==◌, ◌&&◌, ⊎_elim, Bool, ℕ, zero, suc, ◌≤◌, true, false, List, [], ◌∷◌, ◌++◌, length, Option, Some, None, refl, sym, ap, ◌∙◌, subst, inl, inr, arith, append_assoc, length-append}
+use Rattle.std.proofs.Common.{cond, ◌<◌, Ok, ◌≡◌, ℕ, zero, suc, true, List, [], ◌∷◌, ◌++◌, length, Option, Some, None, refl, sym, ap, ◌∙◌, subst, inl, inr, arith, append_assoc}
 use Rattle.std.proofs.lemmas.List.{append-nil}
-use Rattle.std.proofs.lemmas.Bool.{false≢true, and_parts, or_cases, eqb-true, cases_Bool}
+use Rattle.std.proofs.lemmas.Bool.{false≢true}
 use Rattle.prl_ast.specs.declared.expressions.PlacedOp.{PlacedOp}
 use Rattle.prl_base.specs.declared.values.Value.{Value}
-use Rattle.prl_ast.specs.Trees.{Tree, tree, Root, const, var, apply, group, Trees, none, more, tree_list}
+use Rattle.prl_ast.specs.Trees.{Tree, Root, const, var, apply, group, Trees, none, more}
 use Rattle.prl_syntax.specs.Trees.{trees_from}
 use Rattle.prl_base.specs.declared.operators.Op.TheVariants as ops
 use Rattle.prl_base.specs.declared.places.Span.{Span}
 use Rattle.prl_base.specs.Reading.{◌>>=◌}
 use Rattle.prl_reader.specs.Lexemes.{Lexeme, first_place}
-use Rattle.prl_reader.specs.Grammars.{Then, Give, Either, Many, Maybe, FromFirst, Place, Named, Numbered}
-use Rattle.prl_reader.specs.Readers.{Read, is_in, next_in, many_up_to, choice, many_at, maybe_at, place_at, name_at, number_at}
-use Rattle.prl_reader.specs.Reads.{Shape, then_shape, either_shape, many_shape, Begins, Reads}
-use Rattle.prl_reader.specs.LookAhead.{disjoint}
-use Rattle.prl_reader.proofs.Basics.{Apart, apart, is_in-append}
-use Rattle.prl_reader.proofs.Steps.{one_shape, give, give_shape, give_reads}
-use Rattle.prl_reader.proofs.Sequences.{then_read, bind_reads, choice_reads}
-use Rattle.prl_reader.proofs.Repeats.{Widens, lower, restate, deep_reads, too_deep, at_length, same_bind, many_reads, many_step, leaves_fewer}
-use Rattle.prl_reader.proofs.Tokens.{followed, either, place_reads, name_reads, number_reads, solid, loose, maybe_reads, first_reads}
+use Rattle.prl_reader.specs.Grammars.{Many}
+use Rattle.prl_reader.specs.Readers.{Read, next_in, many_up_to, choice, many_at, name_at}
+use Rattle.prl_reader.specs.Reads.{Begins, Reads}
+use Rattle.prl_reader.proofs.Steps.{give_reads}
+use Rattle.prl_reader.proofs.Repeats.{lower, restate, deep_reads, at_length, same_bind, leaves_fewer}
+use Rattle.prl_reader.proofs.Tokens.{followed, either, name_reads, solid}
 use Rattle.prl_syntax.specs.declared.words.Fixed.{Fixed}
 use Rattle.prl_syntax.specs.declared.words.Fixed.TheVariants as fixed
-use Rattle.prl_syntax.specs.Words.{class_of}
-use Rattle.prl_syntax.proofs.Loops.{Steps}
-use Rattle.prl_syntax.specs.Grammar.{The, ConstantText, RatioText, TailText, FbyText, ConsText, PrefixText, UpText, DownText, ShiftText, PostfixText, NameText, Enclosed, Beside, CommaText, Nothing, TreeText, RootText, OthersText}
-use Rattle.prl_syntax.specs.Readers.{the_at, only, constant_at, ratio_at, constant_first, postfix_at, postfix_first, up_at, down_at, shift_at, Chain, prefixed, parts_by, tree_of_parts, tree_by, comma_tree_by, trees_by, closed_trees_by, no_trees_at, group_by, arguments_by, root_of_name, named_by, applied_by, last_by, tail_by, fby_by, cons_by, constant_end, constant_by, chain_by, chain_up_to, chain_at, tree_at}
-use Rattle.prl_syntax.proofs.Simple.{steps, the_reads, constant_reads, ratio_reads}
-use Rattle.prl_syntax.proofs.Chains.{postfix_reads, postfix_steps, ChainText, chain_first, chain_more, tree_more, alone, same_shape, tree_reads, comma_tree_reads, behind, TailChain, FbyChain, ConsChain, ConstantChain, LastText, ChainParts, AppliedText, applied_reads, constant_chain_reads, within, in_within, out_within, parts_more, last_root, to_chain, root_parts}
+use Rattle.prl_syntax.specs.Grammar.{PrefixText, TreeText, RootText}
+use Rattle.prl_syntax.specs.Readers.{the_at, only, constant_at, constant_first, postfix_at, postfix_first, Chain, prefixed, tree_of_parts, tree_by, comma_tree_by, closed_trees_by, no_trees_at, group_by, arguments_by, root_of_name, named_by, applied_by, last_by, tail_by, fby_by, cons_by, constant_end, constant_by, chain_by, chain_up_to, chain_at, tree_at}
+use Rattle.prl_syntax.proofs.Simple.{the_reads, constant_reads}
+use Rattle.prl_syntax.proofs.Chains.{ChainText, chain_first, chain_more, tree_more, alone, tree_reads, comma_tree_reads, behind, TailChain, FbyChain, ConsChain, ConstantChain, LastText, ChainParts, applied_reads, constant_chain_reads, within, in_within, out_within, parts_more, last_root, to_chain, root_parts}
 
 -- what is read so far is a chain with a prefix more
 prefix_parts : (op : PlacedOp) (pre : List PlacedOp) (root : Root) (w u v : List Lexeme) → w ≡ u ++ v → PrefixText op u → ChainText (pre, root) v → ChainParts (op ∷ pre, root) w
@@ -156,7 +151,7 @@ many_agree ks p q n same fewer (suc k) ts lt =
 token_fewer : (f : Fixed) → Consumes (the_at f)
 token_fewer f = leaves_fewer 0 (the_reads 0 f) refl
 
--- what the readers do behind their first reading
+-- what the readers do after their first reading
 abbrev parts_behind : Read Chain → Read (Chain × List PlacedOp)
 parts_behind r = r >>= λ c. (many_at postfix_first postfix_at c.1 >>= λ post. Ok ((c.0, post.0), post.1))
 

@@ -1,7 +1,7 @@
 -- What the parser answers, in terms of the grammar.
-use Rattle.std.proofs.Common.{◌≡◌, ◌≤◌, ◌⊎◌, ℕ, Bool, true, false, cond, leb, List, [], ◌∷◌, length, Option, Some, None, Result, Ok, Err, IfOk, IfErr, refl, sym, ap, ◌∙◌, subst, inl, inr, ⊎_elim}
+use Rattle.std.proofs.Common.{◌≡◌, ℕ, Bool, true, false, cond, leb, List, length, Option, Some, None, Result, Ok, Err, IfOk, IfErr, refl, sym, ap, ◌∙◌, subst, inl, inr, ⊎_elim}
 use Rattle.std.proofs.lemmas.Bool.{leb-true, leb-false, le-leb, cond-true, cond-false, cases_Bool}
-use Rattle.prl_base.specs.Reading.{◌>>=◌, Gives}
+use Rattle.prl_base.specs.Reading.{◌>>=◌, GivesBut}
 use Rattle.prl_ast.specs.Trees.{ProgramTree}
 use Rattle.prl_base.specs.declared.limits.What.TheVariants as limits
 use Rattle.prl_lex.specs.declared.tokens.LexFault.{LexFault}
@@ -10,14 +10,15 @@ use Rattle.prl_lex.specs.declared.tokens.Token.{Token}
 use Rattle.prl_lex.specs.Lexing.{tokens_of}
 use Rattle.prl_reader.specs.Lexemes.{Lexeme}
 use Rattle.prl_reader.specs.Readers.{Stop, Stuck, Deep}
-use Rattle.prl_reader.specs.Whole.{all_at}
+use Rattle.prl_reader.specs.Whole.{place_of, all_at}
 use Rattle.prl_reader.proofs.Whole.{all_ok, all_only, all_stuck}
 use Rattle.prl_syntax.specs.declared.parsing.ParseFault.{ParseFault}
 use Rattle.prl_syntax.specs.declared.parsing.ParseFault.TheVariants as faults
 use Rattle.prl_syntax.specs.Grammar.{ProgramText}
 use Rattle.prl_syntax.specs.Lexing.{lexemes_of}
-use Rattle.prl_syntax.specs.Parsing.{fault_of, of_lexical, lexed, place_of, of_stop, placed, limited, ranged, program_of_tokens, parse_of, IsProgramOf, IsUnexpectedAt, IsOutOfRangeAt, Explains}
-use Rattle.prl_syntax.specs.Ranges.{out_of_range}
+use Rattle.prl_syntax.specs.Parsing.{of_lexical, lexed, placed, ranged, program_of_tokens, parse_of, IsProgramOf, Explains}
+use Rattle.prl_reader.specs.Ranges.{out_of_range}
+use Rattle.prl_syntax.specs.Ranges.{program_ranges}
 use Rattle.prl_syntax.specs.Readers.{program_at}
 use Rattle.prl_syntax.proofs.Program.{program_reads}
 
@@ -38,18 +39,18 @@ module _ (text : List ℕ) (tokens : List Token) (is : tokens_of text ≡ Ok tok
   abbrev ts : List Lexeme
   ts = lexemes_of text tokens
 
-  in_range_ok : (o : Option ℕ) (t tree : ProgramTree) → out_of_range 0 0 ts ≡ o → ProgramText t ts → ranged o t ≡ Ok tree → IsProgramOf text tree
+  in_range_ok : (o : Option ℕ) (t tree : ProgramTree) → out_of_range program_ranges false 0 ts ≡ o → ProgramText t ts → ranged o t ≡ Ok tree → IsProgramOf text tree
   in_range_ok None t tree o w h =
       let same = chosen_tree (leb (length t.nodes) 256) t _ tree h in
       let P : ProgramTree → Type 0 = IsProgramOf text in
       subst P same.1 (record { tokens = tokens; lexical = is; written = w; ranges = o; nodes = leb-true (length t.nodes) 256 same.0 })
   in_range_ok (Some at) t tree o w h = cc
 
-  pub tokens_ok : (r : Result ProgramTree Stop) (tree : ProgramTree) → all_at program_at ts ≡ r → (placed ts (length text) r >>= λ tree. ranged (out_of_range 0 0 ts) tree) ≡ Ok tree → IsProgramOf text tree
-  tokens_ok (Ok t) tree e h = in_range_ok (out_of_range 0 0 ts) t tree refl (all_ok program_reads ts t e) h
+  pub tokens_ok : (r : Result ProgramTree Stop) (tree : ProgramTree) → all_at program_at ts ≡ r → (placed ts (length text) r >>= λ tree. ranged (out_of_range program_ranges false 0 ts) tree) ≡ Ok tree → IsProgramOf text tree
+  tokens_ok (Ok t) tree e h = in_range_ok (out_of_range program_ranges false 0 ts) t tree refl (all_ok program_reads ts t e) h
   tokens_ok (Err s) tree e h = cc
 
-  in_range_err : (o : Option ℕ) (t : ProgramTree) (fault : ParseFault) → out_of_range 0 0 ts ≡ o → ProgramText t ts → ranged o t ≡ Err fault → Explains text fault
+  in_range_err : (o : Option ℕ) (t : ProgramTree) (fault : ParseFault) → out_of_range program_ranges false 0 ts ≡ o → ProgramText t ts → ranged o t ≡ Err fault → Explains text fault
   in_range_err (Some at) t fault o w h =
       let same : faults.NumberRange at ≡ fault = cc in
       let P : ParseFault → Type 0 = Explains text in
@@ -63,8 +64,8 @@ module _ (text : List ℕ) (tokens : List Token) (is : tokens_of text ≡ Ok tok
       subst P same (inr (record { tokens = tokens; tree = t; lexical = is; written = w; ranges = o; many = leb-false (length t.nodes) 256 e; is = refl })))
       (cases_Bool (leb (length t.nodes) 256))
 
-  pub tokens_err : (r : Result ProgramTree Stop) (fault : ParseFault) → all_at program_at ts ≡ r → (placed ts (length text) r >>= λ tree. ranged (out_of_range 0 0 ts) tree) ≡ Err fault → Explains text fault
-  tokens_err (Ok t) fault e h = in_range_err (out_of_range 0 0 ts) t fault refl (all_ok program_reads ts t e) h
+  pub tokens_err : (r : Result ProgramTree Stop) (fault : ParseFault) → all_at program_at ts ≡ r → (placed ts (length text) r >>= λ tree. ranged (out_of_range program_ranges false 0 ts) tree) ≡ Err fault → Explains text fault
+  tokens_err (Ok t) fault e h = in_range_err (out_of_range program_ranges false 0 ts) t fault refl (all_ok program_reads ts t e) h
   tokens_err (Err (Stuck left)) fault e h =
       let same : faults.Unexpected (place_of ts left (length text)) ≡ fault = cc in
       let P : ParseFault → Type 0 = Explains text in
@@ -104,18 +105,18 @@ pub only_program : (text : List ℕ) (tree : ProgramTree) → IsProgramOf text t
 unfolding parse_of program_of_tokens
 only_program text tree is =
     ap (λ r. lexed r >>= λ tokens. program_of_tokens (lexemes_of text tokens) (length text)) is.lexical
-    ∙ ap (λ r. placed (lexemes_of text is.tokens) (length text) r >>= λ tree. ranged (out_of_range 0 0 (lexemes_of text is.tokens)) tree) (all_only program_reads (lexemes_of text is.tokens) tree is.written)
+    ∙ ap (λ r. placed (lexemes_of text is.tokens) (length text) r >>= λ tree. ranged (out_of_range program_ranges false 0 (lexemes_of text is.tokens)) tree) (all_only program_reads (lexemes_of text is.tokens) tree is.written)
     ∙ ap (λ o. ranged o tree) is.ranges
     ∙ cond-true (leb (length tree.nodes) 256) _ _ (le-leb (length tree.nodes) 256 is.nodes)
 
-pub given_program : {X : Type 0} (view : X → ProgramTree) (r : Result X ParseFault) (text : List ℕ) → Gives view fault_of r (parse_of text) → IfOk r (λ x. IsProgramOf text (view x))
+pub given_program : {X : Type 0} (view : X → ProgramTree) (r : Result X ParseFault) (text : List ℕ) → GivesBut faults.Memory view r (parse_of text) → IfOk r (λ x. IsProgramOf text (view x))
 given_program view (Ok x) text h = parsed text (view x) h
 given_program view (Err e) text h = tt
 
-pub given_fault : {X : Type 0} (view : X → ProgramTree) (r : Result X ParseFault) (text : List ℕ) → Gives view fault_of r (parse_of text) → IfErr r (Explains text)
+pub given_fault : {X : Type 0} (view : X → ProgramTree) (r : Result X ParseFault) (text : List ℕ) → GivesBut faults.Memory view r (parse_of text) → IfErr r (Explains text)
 given_fault view (Ok x) text h = tt
-given_fault view (Err (faults.BadToken at)) text h = explained text (faults.BadToken at) h
-given_fault view (Err (faults.Unexpected at)) text h = explained text (faults.Unexpected at) h
-given_fault view (Err (faults.NumberRange at)) text h = explained text (faults.NumberRange at) h
-given_fault view (Err (faults.Limit limit)) text h = explained text (faults.Limit limit) h
+given_fault view (Err (faults.BadToken at)) text h = explained text (faults.BadToken at) (h (λ e. cc))
+given_fault view (Err (faults.Unexpected at)) text h = explained text (faults.Unexpected at) (h (λ e. cc))
+given_fault view (Err (faults.NumberRange at)) text h = explained text (faults.NumberRange at) (h (λ e. cc))
+given_fault view (Err (faults.Limit limit)) text h = explained text (faults.Limit limit) (h (λ e. cc))
 given_fault view (Err faults.Memory) text h = tt

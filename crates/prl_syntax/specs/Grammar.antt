@@ -1,5 +1,5 @@
 -- The grammar of programs: which trees the lists of tokens stand for.
-use Rattle.std.specs.Prelude.{◌≡◌, ℕ, Bool, true, false, List, [], ◌∷◌, ◌++◌, map, Option, Some, None}
+use Rattle.std.specs.Prelude.{◌≡◌, ℕ, true, false, List, [], ◌∷◌, ◌++◌, map, Some, None}
 use Rattle.prl_base.specs.declared.operators.Op.TheVariants as ops
 use Rattle.prl_base.specs.declared.places.Span.{Span}
 use Rattle.prl_base.specs.declared.values.Ty.{Ty}
@@ -16,13 +16,14 @@ use Rattle.prl_ast.specs.declared.declarations.Rate.{Rate}
 use Rattle.prl_ast.specs.declared.expressions.PlacedOp.{PlacedOp}
 use Rattle.prl_ast.specs.Trees.{Tree, tree, Root, const, var, apply, group, Trees, none, more, EquationTree, NodeTree, ProgramTree}
 use Rattle.prl_reader.specs.Lexemes.{Lexeme, first_place}
-use Rattle.prl_reader.specs.Grammars.{Then, ◌>>=◌, Give, Either, Many, Maybe, FromFirst, Place, Named, Numbered}
+use Rattle.prl_reader.specs.Grammars.{◌>>=◌, Give, Either, Many, Maybe, FromFirst, Place, Named, Numbered}
+use Rattle.prl_reader.specs.Numbers.{positive, negative}
 use Rattle.prl_syntax.specs.declared.words.Fixed.{Fixed}
 use Rattle.prl_syntax.specs.declared.words.Fixed.TheVariants as fixed
 use Rattle.prl_syntax.specs.declared.notes.Note.{Note}
 use Rattle.prl_syntax.specs.declared.parameters.Item.{Item}
 use Rattle.prl_syntax.specs.Words.{class_of}
-use Rattle.prl_syntax.specs.Values.{small, positive, negative, ratio_with}
+use Rattle.prl_syntax.specs.Values.{small, ratio_with}
 use Rattle.prl_syntax.specs.Trees.{joined, params_of, port_of, Declared, imported, sensor, actuator, node, program_of}
 
 -- a keyword or a symbol, of which the place counts
@@ -318,7 +319,7 @@ NameText = do
   n ← Named
   Give n.0
 
--- the parts of a text that is a name and what stands in parentheses behind it, or this alone
+-- the parts of a text that is a name and what stands in parentheses after it, or this alone
 pub record Enclosed (P : List Lexeme → Type 0) (w : List Lexeme) : Type 0 where
   pub open_at : Span
   pub close_at : Span

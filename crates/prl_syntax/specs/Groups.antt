@@ -9,7 +9,7 @@ use Rattle.prl_syntax.specs.Trees.{param_of}
 abbrev pub noted : Option Note → List Placed → List Param
 noted note names = map (λ n. param_of n note) names
 
--- the parameters behind an item, and the names that wait then
+-- the parameters after an item, and the names that wait then
 abbrev pub params_after : List Param → List Placed → Placed → Option Note → List Param
 params_after params waiting name None = params
 params_after params waiting name (Some note) = params ++ noted (Some note) (waiting ++ name ∷ [])

@@ -1,5 +1,5 @@
--- Loops that read one text after another behind those that were read before.
-use Rattle.std.specs.Prelude.{List, ◌++◌, Result, Ok, Err}
+-- Loops that read one text after another after those that were read before.
+use Rattle.std.specs.Prelude.{List, ◌++◌, Ok}
 use Rattle.prl_base.specs.Reading.{◌>>=◌}
 use Rattle.prl_reader.specs.Readers.{Read}
 use Rattle.prl_syntax.specs.Trees.{joined}

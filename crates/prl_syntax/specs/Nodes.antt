@@ -1,6 +1,6 @@
 -- Declarations as the code keeps them, and as the grammar speaks of them.
-use Rattle.std.specs.Prelude.{List, [], ◌∷◌, ◌++◌, map}
-use Rattle.prl_ast.specs.Trees.{NodeTree, ProgramTree, node_tree}
+use Rattle.std.specs.Prelude.{[], ◌∷◌, ◌++◌, map}
+use Rattle.prl_ast.specs.Trees.{ProgramTree, node_tree}
 use Rattle.prl_syntax.specs.declared.nodes.Declaration.{Declaration}
 use Rattle.prl_syntax.specs.declared.nodes.Declaration.TheVariants as kinds
 use Rattle.prl_syntax.specs.declared.nodes.Parts.{Parts}

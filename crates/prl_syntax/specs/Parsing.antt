@@ -1,7 +1,7 @@
 -- The program that a text is, or its first fault.
 use Rattle.prl_reader.specs.declared.reading.Stop.{Stop as Stopped}
 use Rattle.prl_reader.specs.declared.reading.Stop.TheVariants as stops
-use Rattle.std.specs.Prelude.{◌≡◌, ◌<◌, ◌≤◌, ◌⊎◌, ℕ, ◌-◌, nat_le, List, [], ◌∷◌, length, drop, Option, Some, None, Result, Ok, Err, if◌then◌else◌}
+use Rattle.std.specs.Prelude.{◌≡◌, ◌<◌, ◌≤◌, ◌⊎◌, ◌+◌, ℕ, nat_le, false, List, length, Option, Some, None, Result, Ok, Err, if◌then◌else◌}
 use Rattle.prl_base.specs.Reading.{◌>>=◌}
 use Rattle.prl_base.specs.declared.limits.Limit.{Limit}
 use Rattle.prl_base.specs.declared.limits.What.TheVariants as limits
@@ -11,22 +11,16 @@ use Rattle.prl_lex.specs.declared.tokens.LexFault.TheVariants as lexical
 use Rattle.prl_lex.specs.declared.tokens.Token.{Token}
 use Rattle.prl_lex.specs.Lexing.{tokens_of}
 use Rattle.prl_reader.specs.Lexemes.{Lexeme}
+use Rattle.prl_reader.specs.Ranges.{out_of_range}
 use Rattle.prl_reader.specs.Readers.{Stop, Stuck, Deep}
-use Rattle.prl_reader.specs.Whole.{all_at, IsFirstUnexpected}
+use Rattle.prl_reader.specs.Whole.{place_of, all_at, IsFirstUnexpected}
+use Rattle.prl_syntax.specs.declared.parsing.TheConstants.{MAX_NODES}
 use Rattle.prl_syntax.specs.declared.parsing.ParseFault.{ParseFault}
 use Rattle.prl_syntax.specs.declared.parsing.ParseFault.TheVariants as faults
 use Rattle.prl_syntax.specs.Grammar.{ProgramText}
 use Rattle.prl_syntax.specs.Lexing.{lexemes_of}
-use Rattle.prl_syntax.specs.Ranges.{out_of_range}
+use Rattle.prl_syntax.specs.Ranges.{program_ranges}
 use Rattle.prl_syntax.specs.Readers.{program_at}
-
--- want of memory is no fault of the text
-abbrev pub fault_of : ParseFault → Option ParseFault
-fault_of (faults.BadToken at) = Some (faults.BadToken at)
-fault_of (faults.Unexpected at) = Some (faults.Unexpected at)
-fault_of (faults.NumberRange at) = Some (faults.NumberRange at)
-fault_of (faults.Limit limit) = Some (faults.Limit limit)
-fault_of faults.Memory = None
 
 abbrev pub of_lexical : LexFault → ParseFault
 of_lexical (lexical.BadToken at) = faults.BadToken at
@@ -37,15 +31,6 @@ of_lexical lexical.Memory = faults.Memory
 abbrev pub lexed : Result (List Token) LexFault → Result (List Token) ParseFault
 lexed (Ok tokens) = Ok tokens
 lexed (Err fault) = Err (of_lexical fault)
-
--- the place of the first of the tokens, or the end of the text
-abbrev pub place_or : ℕ → List Lexeme → ℕ
-place_or end [] = end
-place_or end (t ∷ ts) = t.at.at
-
--- the place behind which so many tokens are left, its own among them
-abbrev pub place_of : List Lexeme → ℕ → ℕ → ℕ
-place_of ts left end = place_or end (drop (length ts - left) ts)
 
 abbrev pub of_stop : List Lexeme → ℕ → Stop → ParseFault
 of_stop ts end (Stuck left) = faults.Unexpected (place_of ts left end)
@@ -60,9 +45,9 @@ abbrev pub FaultOfStop : List Lexeme → ℕ → Stopped → ParseFault → Type
 FaultOfStop ts end (stops.Unexpected left) fault = fault ≡ faults.Unexpected (place_of ts left end)
 FaultOfStop ts end stops.Memory fault = fault ≡ faults.Memory
 
--- at most 256 nodes
+-- not too many nodes
 abbrev pub limited : ProgramTree → Result ProgramTree ParseFault
-limited tree = if nat_le (length tree.nodes) 256 then Ok tree else Err (faults.Limit (record { what = limits.Nodes; found = 257 }))
+limited tree = if nat_le (length tree.nodes) MAX_NODES then Ok tree else Err (faults.Limit (record { what = limits.Nodes; found = MAX_NODES + 1 }))
 
 abbrev pub ranged : Option ℕ → ProgramTree → Result ProgramTree ParseFault
 ranged None tree = limited tree
@@ -71,7 +56,7 @@ ranged (Some at) tree = Err (faults.NumberRange at)
 unfoldable pub program_of_tokens : List Lexeme → ℕ → Result ProgramTree ParseFault
 program_of_tokens ts end = do
   tree ← placed ts end (all_at program_at ts)
-  ranged (out_of_range 0 0 ts) tree
+  ranged (out_of_range program_ranges false 0 ts) tree
 
 unfoldable pub parse_of : List ℕ → Result ProgramTree ParseFault
 parse_of text = do
@@ -83,8 +68,8 @@ pub record IsProgramOf (text : List ℕ) (tree : ProgramTree) : Type 0 where
   pub tokens : List Token
   pub lexical : tokens_of text ≡ Ok tokens
   pub written : ProgramText tree (lexemes_of text tokens)
-  pub ranges : out_of_range 0 0 (lexemes_of text tokens) ≡ None
-  pub nodes : length tree.nodes ≤ 256
+  pub ranges : out_of_range program_ranges false 0 (lexemes_of text tokens) ≡ None
+  pub nodes : length tree.nodes ≤ MAX_NODES
 
 -- The first unexpected token of the text is at the place: no text of the grammar begins with the tokens up to it.
 pub record IsUnexpectedAt (text : List ℕ) (at : ℕ) : Type 0 where
@@ -100,17 +85,17 @@ pub record IsOutOfRangeAt (text : List ℕ) (at : ℕ) : Type 0 where
   pub tree : ProgramTree
   pub lexical : tokens_of text ≡ Ok tokens
   pub written : ProgramText tree (lexemes_of text tokens)
-  pub first : out_of_range 0 0 (lexemes_of text tokens) ≡ Some at
+  pub first : out_of_range program_ranges false 0 (lexemes_of text tokens) ≡ Some at
 
--- The text is of the grammar and in range, and has more than 256 nodes.
+-- The text is of the grammar and in range, and has too many nodes.
 pub record HasTooManyNodes (text : List ℕ) (limit : Limit) : Type 0 where
   pub tokens : List Token
   pub tree : ProgramTree
   pub lexical : tokens_of text ≡ Ok tokens
   pub written : ProgramText tree (lexemes_of text tokens)
-  pub ranges : out_of_range 0 0 (lexemes_of text tokens) ≡ None
-  pub many : 256 < length tree.nodes
-  pub is : limit ≡ record { what = limits.Nodes; found = 257 }
+  pub ranges : out_of_range program_ranges false 0 (lexemes_of text tokens) ≡ None
+  pub many : MAX_NODES < length tree.nodes
+  pub is : limit ≡ record { what = limits.Nodes; found = MAX_NODES + 1 }
 
 -- what each fault means for the text: it is one of its tokens, or one of the grammar, a range or the limit of nodes
 abbrev pub Explains : List ℕ → ParseFault → Type 0

@@ -1,25 +1,31 @@
--- Ranges of numbers. What stands before a number tells its range.
-use Rattle.std.specs.Prelude.{ℕ, ◌==◌, ◌&&◌, ◌||◌, not, nat_le, Bool, List, [], ◌∷◌, Option, Some, None, if◌then◌else◌}
-use Rattle.prl_reader.specs.Lexemes.{Lexeme}
+-- The ranges of the numbers of programs. What stands before a number tells its range: whether a rate is being read there,
+-- from `rate` to its `)`, and the token just before it.
+use Rattle.std.specs.Prelude.{ℕ, ◌==◌, ◌&&◌, ◌||◌, nat_le, Bool, if◌then◌else◌}
+use Rattle.prl_base.specs.declared.ratios.TheConstants.{MAX_PART}
+use Rattle.prl_reader.specs.Ranges.{Ranges}
+use Rattle.prl_reader.specs.declared.numbers.TheConstants.{MAX_NEGATIVE, MAX_POSITIVE}
 use Rattle.prl_syntax.specs.declared.words.Fixed.TheVariants as fixed
 use Rattle.prl_syntax.specs.Words.{class_of}
 
 -- the period of a rate, a worst-case execution time, a factor or a denominator is next
-abbrev pub is_count : ℕ → ℕ → Bool
-is_count before last =
-    ((last == class_of fixed.Open) && (before == class_of fixed.Rate)) || (last == class_of fixed.Wcet) || (last == class_of fixed.Up)
+abbrev pub is_count : Bool → ℕ → Bool
+is_count in_rate last =
+    ((last == class_of fixed.Open) && in_rate) || (last == class_of fixed.Wcet) || (last == class_of fixed.Up)
     || (last == class_of fixed.Down) || (last == class_of fixed.Slash)
 
--- Counts are from 1 to 2^31 - 1, and other numbers from 0. Behind a minus 2^31 is in range too.
-abbrev pub in_range : ℕ → ℕ → ℕ → Bool
-in_range before last n =
-    if last == class_of fixed.Minus then nat_le n 2147483648
-    else (if is_count before last then nat_le 1 n && nat_le n 2147483647 else nat_le n 2147483647)
+-- the numerator of a rate or of a shift, or a due, is next
+abbrev pub is_part : Bool → ℕ → Bool
+is_part in_rate last = in_rate || (last == class_of fixed.Due) || (last == class_of fixed.Shift)
 
-abbrev pub is_fault : ℕ → ℕ → Lexeme → Bool
-is_fault before last t = (t.class == 1) && not (in_range before last t.number)
+-- the greatest number of a constant
+abbrev pub greatest : ℕ → ℕ
+greatest last = if last == class_of fixed.Minus then MAX_NEGATIVE else MAX_POSITIVE
 
--- the place of the first number out of its range, behind two tokens of these classes
-unfoldable pub out_of_range : ℕ → ℕ → List Lexeme → Option ℕ
-out_of_range before last [] = None
-out_of_range before last (t ∷ ts) = if is_fault before last t then Some t.at.at else out_of_range last t.class ts
+-- counts are from 1, numerators and dues from 0, and all other numbers are constants
+abbrev pub in_range : Bool → ℕ → ℕ → Bool
+in_range in_rate last n =
+    if is_count in_rate last then nat_le 1 n && nat_le n MAX_PART
+    else (if is_part in_rate last then nat_le n MAX_PART else nat_le n (greatest last))
+
+abbrev pub program_ranges : Ranges
+program_ranges = record { begins = class_of fixed.Rate; ends = class_of fixed.Close; fits = in_range }

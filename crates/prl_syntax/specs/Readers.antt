@@ -1,6 +1,6 @@
--- How programs are read, with one token of look-ahead: each reader answers a tree and the tokens behind it, or where it
+-- How programs are read, with one token of look-ahead: each reader answers a tree and the tokens after it, or where it
 -- is stuck.
-use Rattle.std.specs.Prelude.{ℕ, zero, suc, true, false, List, [], ◌∷◌, ◌++◌, length, map, Option, Some, None, Result, Ok, Err}
+use Rattle.std.specs.Prelude.{ℕ, zero, suc, true, false, List, [], ◌∷◌, ◌++◌, length, map, Option, Some, None, Ok, Err}
 use Rattle.prl_base.specs.Ratios.{Fraction}
 use Rattle.prl_base.specs.Reading.{◌>>=◌}
 use Rattle.prl_base.specs.declared.operators.Op.TheVariants as ops
@@ -17,15 +17,15 @@ use Rattle.prl_ast.specs.declared.declarations.Port.{Port}
 use Rattle.prl_ast.specs.declared.declarations.Rate.{Rate}
 use Rattle.prl_ast.specs.declared.expressions.PlacedOp.{PlacedOp}
 use Rattle.prl_ast.specs.Trees.{Tree, tree, Root, const, var, apply, group, Trees, none, more, EquationTree, NodeTree, ProgramTree}
-use Rattle.prl_reader.specs.Lexemes.{Lexeme, first_place}
-use Rattle.prl_reader.specs.Readers.{Stop, Stuck, Deep, Read, choice, many_at, maybe_at, from_first, place_at, name_at, number_at}
-use Rattle.prl_reader.specs.Whole.{all_at}
+use Rattle.prl_reader.specs.Lexemes.{Lexeme}
+use Rattle.prl_reader.specs.Readers.{Deep, Read, choice, many_at, maybe_at, from_first, place_at, name_at, number_at}
+use Rattle.prl_reader.specs.Numbers.{positive, negative}
 use Rattle.prl_syntax.specs.declared.words.Fixed.{Fixed}
 use Rattle.prl_syntax.specs.declared.words.Fixed.TheVariants as fixed
 use Rattle.prl_syntax.specs.declared.notes.Note.{Note}
 use Rattle.prl_syntax.specs.declared.parameters.Item.{Item}
 use Rattle.prl_syntax.specs.Words.{class_of}
-use Rattle.prl_syntax.specs.Values.{small, positive, negative, ratio_with}
+use Rattle.prl_syntax.specs.Values.{small, ratio_with}
 use Rattle.prl_syntax.specs.Trees.{joined, params_of, port_of, trees_from, Declared, imported, sensor, actuator, node, program_of}
 
 abbrev pub the_at : Fixed → List Lexeme → Read Span

@@ -1,6 +1,5 @@
 -- Parts of the syntax tree that the grammar speaks of.
-use Rattle.std.specs.Prelude.{ℕ, List, [], ◌∷◌, ◌++◌, Option, Some, None}
-use Rattle.prl_base.specs.declared.places.Span.{Span}
+use Rattle.std.specs.Prelude.{List, [], ◌∷◌, ◌++◌, Option, Some, None}
 use Rattle.prl_base.specs.declared.values.Ty.{Ty}
 use Rattle.prl_ast.specs.declared.declarations.Device.{Device}
 use Rattle.prl_ast.specs.declared.declarations.Import.{Import}
@@ -24,7 +23,7 @@ abbrev pub note_or : Option Note → Option Note → Option Note
 note_or None other = other
 note_or (Some note) other = Some note
 
--- the first note of the items, or the one behind them
+-- the first note of the items, or the one after them
 abbrev pub first_note : List Item → Option Note → Option Note
 first_note [] behind = behind
 first_note (item ∷ items) behind = note_or item.note (first_note items behind)

@@ -1,20 +1,12 @@
--- The values of numbers, constants and ratios. Numbers past the greatest of their range count as that one here:
--- that all are in range is said apart.
-use Rattle.std.specs.Prelude.{ℕ, zero, suc, ◌*◌, ◌/◌, ◌%◌, ◌==◌, ◌&&◌, min, pos, neg_ℤ, Option, Some, None, if◌then◌else◌}
+-- The values of numbers and ratios. Numbers past the greatest of their range count as that one here: that all are in
+-- range is said apart.
+use Rattle.std.specs.Prelude.{ℕ, zero, suc, ◌/◌, ◌%◌, ◌==◌, ◌&&◌, min, pos, Option, Some, None, if◌then◌else◌}
 use Rattle.prl_base.specs.Ratios.{Fraction}
-use Rattle.prl_base.specs.declared.values.Value.{Value}
-use Rattle.prl_base.specs.declared.values.Value.TheVariants as values
+use Rattle.prl_base.specs.declared.ratios.TheConstants.{MAX_PART}
 
--- at most 2^31 - 1
+-- a count, a numerator or a due
 abbrev pub small : ℕ → ℕ
-small n = min n 2147483647
-
-abbrev pub positive : ℕ → Value
-positive n = values.Int (pos (small n))
-
--- at least -2^31
-abbrev pub negative : ℕ → Value
-negative n = values.Int (neg_ℤ (pos (min n 2147483648)))
+small n = min n MAX_PART
 
 -- among the numbers up to k, the greatest that divides both; 1 where there is none
 abbrev pub divisor_up_to : ℕ → ℕ → ℕ → ℕ

@@ -61,7 +61,7 @@ fn begins_group(terminals: &[Terminal]) -> bool
     next_is(terminals, Fixed::Comma) || next_is(terminals, Fixed::Semicolon)
 }
 
-/// Takes groups behind the first ones.
+/// Takes groups after the first ones.
 fn more_groups(
     alloc: Global,
     front: Vec<Port>,

@@ -50,7 +50,7 @@ fn begins_postfix(terminals: &[Terminal]) -> bool
         || next_is(terminals, Fixed::Shift)
 }
 
-/// Takes postfixes behind the first ones.
+/// Takes postfixes after the first ones.
 fn more_postfixes(
     alloc: Global,
     front: Vec<PlacedOp>,
@@ -152,7 +152,7 @@ fn comma_expr(alloc: Global, terminals: &[Terminal]) -> Result<(Expr, &[Terminal
     expr(alloc, rest)
 }
 
-/// Takes expressions behind the first ones, each with a comma before it.
+/// Takes expressions after the first ones, each with a comma before it.
 #[cycle(expression)]
 fn more_exprs(
     alloc: Global,
@@ -184,7 +184,7 @@ fn closed_exprs(alloc: Global, terminals: &[Terminal]) -> Result<(Vec<Expr>, &[T
     Ok((exprs, rest))
 }
 
-/// Takes prefixes behind the first ones, and what they are applied to.
+/// Takes prefixes after the first ones, and what they are applied to.
 #[cycle(expression)]
 fn chain(
     alloc: Global,

@@ -31,7 +31,7 @@ fn comma_name(alloc: Global, terminals: &[Terminal]) -> Result<(Placed, &[Termin
     placed(alloc, rest)
 }
 
-/// Takes names behind the first ones, each with a comma before it.
+/// Takes names after the first ones, each with a comma before it.
 fn more_names(
     alloc: Global,
     front: Vec<Placed>,

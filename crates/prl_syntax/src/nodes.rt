@@ -59,7 +59,7 @@ fn begins_equation(terminals: &[Terminal]) -> bool
     next_is(terminals, Fixed::Open) || prl_reader::next_is(terminals, 0)
 }
 
-/// Takes equations behind the first ones.
+/// Takes equations after the first ones.
 fn more_equations(
     alloc: Global,
     front: Vec<Equation>,
@@ -167,7 +167,7 @@ fn read_declaration(
     Ok((Declaration::Node(node), rest))
 }
 
-/// Takes declarations behind the first ones.
+/// Takes declarations after the first ones.
 fn more_declarations(
     alloc: Global,
     front: Vec<Declaration>,

@@ -17,7 +17,7 @@ use prl_ast::{Param, Placed};
 use prl_reader::{Stop, Terminal};
 use std::alloc::{AllocError, Global};
 
-/// A name, with the note that stands behind it.
+/// A name, with the note that stands after it.
 #[derive(Debug, Drop)]
 pub struct Item {
     pub name: Placed,
@@ -53,7 +53,7 @@ fn comma_item(alloc: Global, terminals: &[Terminal]) -> Result<(Item, &[Terminal
     read_item(alloc, rest)
 }
 
-/// Takes items behind the first ones, each with a comma before it.
+/// Takes items after the first ones, each with a comma before it.
 fn more_items(
     alloc: Global,
     front: Vec<Item>,
@@ -191,7 +191,7 @@ fn semicolon_run(alloc: Global, terminals: &[Terminal]) -> Result<(Vec<Param>, &
     run(alloc, rest)
 }
 
-/// Takes runs behind the first ones, each with a semicolon before it.
+/// Takes runs after the first ones, each with a semicolon before it.
 fn more_runs(
     alloc: Global,
     front: Vec<Param>,
@@ -265,7 +265,7 @@ fn ended_run(alloc: Global, terminals: &[Terminal]) -> Result<(Vec<Param>, &[Ter
     Ok((params, rest))
 }
 
-/// Takes runs behind the first ones, each with a semicolon behind it.
+/// Takes runs after the first ones, each with a semicolon after it.
 fn more_ended_runs(
     alloc: Global,
     front: Vec<Param>,

@@ -1,17 +1,17 @@
 //! From a text to its program, or to its first fault.
 
 ghost use Rattle.std.specs.Prelude.{◌≡◌, ◌<◌, ◌^◌, length, IfOk, IfErr, Ok};
-ghost use Rattle.prl_base.specs.Reading.{Gives};
+ghost use Rattle.prl_base.specs.Reading.{GivesBut};
 ghost use Rattle.prl_ast.specs.Trees.{ProgramTree, program_tree};
-ghost use Rattle.prl_syntax.specs.Parsing.{fault_of, of_lexical, place_or, FaultOfStop, limited, program_of_tokens, parse_of, IsProgramOf, Explains};
+ghost use Rattle.prl_syntax.specs.Parsing.{of_lexical, FaultOfStop, limited, program_of_tokens, parse_of, IsProgramOf, Explains};
 
 use crate::nodes::program;
-use crate::ranges::out_of_range;
+use crate::ranges::ProgramRanges;
 use crate::terminals::terminals;
 use prl_ast::Program;
 use prl_base::{Limit, What};
 use prl_lex::{LexFault, lex};
-use prl_reader::{Stop, Terminal};
+use prl_reader::{Stop, Terminal, out_of_range, place_of};
 use std::alloc::{AllocError, Global};
 
 /// The most nodes of a program.
@@ -53,36 +53,23 @@ fn of_lexical(fault: LexFault) -> ParseFault
     }
 }
 
-/// The place of the first of the tokens, or the end of the text.
-fn place_or(end: u32, terminals: &[Terminal]) -> u32
-    ensures { result ≡ place_or end terminals.now }
-{
-    match terminals {
-        [] => end,
-        [first, ..] => first.at().at,
-    }
-}
-
 fn of_stop(terminals: &[Terminal], end: u32, stop: Stop) -> ParseFault
     ensures { FaultOfStop terminals.now end stop result }
 {
     match stop {
-        Stop::Unexpected(left) => {
-            let (_, rest) = terminals.split_at(terminals.len().saturating_sub(left));
-            ParseFault::Unexpected(place_or(end, rest))
-        }
+        Stop::Unexpected(left) => ParseFault::Unexpected(place_of(terminals, left, end)),
         Stop::Memory => ParseFault::Memory,
     }
 }
 
 /// The program, if it has at most 256 nodes.
 fn limited(program: Program) -> Result<Program, ParseFault>
-    ensures { Gives program_tree fault_of result (limited (program_tree program)) }
+    ensures { GivesBut ParseFault.Memory program_tree result (limited (program_tree program)) }
 {
     if program.nodes.len() > MAX_NODES {
         return Err(ParseFault::Limit(Limit {
             what: What::Nodes,
-            found: 257,
+            found: MAX_NODES as u64 + 1,
         }));
     }
     Ok(program)
@@ -91,13 +78,13 @@ fn limited(program: Program) -> Result<Program, ParseFault>
 /// The program that the tokens are.
 #[tactic(auto, unfolding(crate::specs::Parsing::program_of_tokens))]
 fn program_of_tokens(alloc: Global, terminals: &[Terminal], end: u32) -> Result<Program, ParseFault>
-    ensures { Gives program_tree fault_of result (program_of_tokens terminals.now end) }
+    ensures { GivesBut ParseFault.Memory program_tree result (program_of_tokens terminals.now end) }
 {
     let program = match program(alloc, terminals) {
         Ok(program) => program,
         Err(stop) => return Err(of_stop(terminals, end, stop)),
     };
-    match out_of_range(terminals) {
+    match out_of_range::<ProgramRanges>(terminals) {
         Some(at) => Err(ParseFault::NumberRange(at)),
         None => limited(program),
     }
@@ -106,7 +93,7 @@ fn program_of_tokens(alloc: Global, terminals: &[Terminal], end: u32) -> Result<
 #[tactic(auto, unfolding(crate::specs::Parsing::parse_of))]
 fn parsed(alloc: Global, text: &[u8]) -> Result<Program, ParseFault>
     requires { length text.now < 2 ^ 32 }
-    ensures { Gives program_tree fault_of result (parse_of text.now) }
+    ensures { GivesBut ParseFault.Memory program_tree result (parse_of text.now) }
 {
     let tokens = match lex(alloc, text) {
         Ok(tokens) => tokens,
@@ -124,11 +111,11 @@ pub fn parse(alloc: Global, text: &[u8]) -> Result<Program, ParseFault>
     // What is read is a program of the grammar, in range and within the limits.
     ensures found { IfOk result (λ p. IsProgramOf text.now (program_tree p)) }
     // Each program of the grammar is read, with its tree, unless memory runs out.
-    ensures only { (tree : ProgramTree) → IsProgramOf text.now tree → Gives program_tree fault_of result (Ok tree) }
+    ensures only { (tree : ProgramTree) → IsProgramOf text.now tree → GivesBut ParseFault.Memory program_tree result (Ok tree) }
     // What each fault means for the text.
     ensures fault { IfErr result (Explains text.now) }
     // The program, or the first fault in this order.
-    ensures exact { Gives program_tree fault_of result (parse_of text.now) }
+    ensures exact { GivesBut ParseFault.Memory program_tree result (parse_of text.now) }
 {
     parsed(alloc, text)
 }

@@ -1,54 +1,67 @@
 //! Ranges of numbers. What stands before a number tells its range.
 
 ghost use Rattle.std.specs.Prelude.{◌≡◌};
-ghost use Rattle.prl_syntax.specs.Ranges.{is_count, in_range, is_fault, out_of_range};
+ghost use Rattle.prl_syntax.specs.Ranges.{greatest, in_range, is_count, is_part};
 
 use crate::words::{Fixed, class_of};
-use prl_reader::Terminal;
+use prl_base::MAX_PART;
+use prl_reader::{MAX_NEGATIVE, MAX_POSITIVE, Ranged};
 
-/// Whether a count is next, behind two tokens of these classes.
-fn is_count(before: u8, last: u8) -> bool
-    ensures { result ≡ is_count before last }
+/// Whether a count is next, in a rate or not, and after a token of the class.
+fn is_count(in_rate: bool, last: u8) -> bool
+    ensures { result ≡ is_count in_rate last }
 {
-    (last == class_of(Fixed::Open) && before == class_of(Fixed::Rate))
+    (last == class_of(Fixed::Open) && in_rate)
         || last == class_of(Fixed::Wcet)
         || last == class_of(Fixed::Up)
         || last == class_of(Fixed::Down)
         || last == class_of(Fixed::Slash)
 }
 
-/// Whether the number is in its range, behind two tokens of these classes.
-fn is_in_range(before: u8, last: u8, number: u64) -> bool
-    ensures { result ≡ in_range before last number }
+/// Whether a numerator or a due is next, in a rate or not, and after a token of the class.
+fn is_part(in_rate: bool, last: u8) -> bool
+    ensures { result ≡ is_part in_rate last }
+{
+    in_rate || last == class_of(Fixed::Due) || last == class_of(Fixed::Shift)
+}
+
+/// The greatest number of a constant, after a token of the class.
+fn greatest(last: u8) -> u64
+    ensures { result ≡ greatest last }
 {
     if last == class_of(Fixed::Minus) {
-        return number <= 2_147_483_648;
+        MAX_NEGATIVE
+    } else {
+        MAX_POSITIVE
     }
-    if is_count(before, last) {
-        return 1 <= number && number <= 2_147_483_647;
-    }
-    number <= 2_147_483_647
 }
 
-/// Whether the token is a number out of its range, behind two tokens of these classes.
-fn is_fault(before: u8, last: u8, terminal: &Terminal) -> bool
-    ensures { result ≡ is_fault before last terminal.now }
+/// Whether the number is in its range, in a rate or not, and after a token of the class.
+fn is_in_range(in_rate: bool, last: u8, number: u64) -> bool
+    ensures { result ≡ in_range in_rate last number }
 {
-    terminal.class() == 1 && !is_in_range(before, last, terminal.value())
+    if is_count(in_rate, last) {
+        return 1 <= number && number <= MAX_PART;
+    }
+    if is_part(in_rate, last) {
+        return number <= MAX_PART;
+    }
+    number <= greatest(last)
 }
 
-/// The place of the first number out of its range.
-pub fn out_of_range(terminals: &[Terminal]) -> Option<u32>
-    ensures { result ≡ out_of_range 0 0 terminals.now }
-{
-    let mut before = 0;
-    let mut last = 0;
-    'each: for terminal in terminals {
-        if is_fault(before, last, terminal) {
-            return Some(terminal.at().at);
-        }
-        before = last;
-        last = terminal.class();
+/// The ranges of programs.
+pub struct ProgramRanges;
+
+impl Ranged for ProgramRanges {
+    ghost use Rattle.prl_syntax.specs.Ranges.{program_ranges};
+
+    ghost ranges = { program_ranges };
+
+    fn inside_after(inside: bool, class: u8) -> bool {
+        class == class_of(Fixed::Rate) || (class != class_of(Fixed::Close) && inside)
     }
-    None
+
+    fn fits(inside: bool, last: u8, number: u64) -> bool {
+        is_in_range(inside, last, number)
+    }
 }

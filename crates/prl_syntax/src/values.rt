@@ -1,40 +1,23 @@
 //! Constants and ratios.
 
-ghost use Rattle.std.specs.Prelude.{◌≡◌, ◌<◌, ◌^◌};
-ghost use Rattle.std.specs.Int.{IsGcd};
+ghost use Rattle.std.specs.Prelude.{◌≡◌, ◌<◌, ◌≤◌};
 ghost use Rattle.prl_base.specs.Reading.{Gives};
 ghost use Rattle.prl_reader.specs.Readers.{maybe_at};
 ghost use Rattle.prl_reader.specs.Stops.{stop_of};
-ghost use Rattle.prl_syntax.specs.Values.{small, positive, negative, reduced, ratio_of};
+ghost use Rattle.prl_base.specs.declared.ratios.TheConstants.{MAX_PART};
+ghost use Rattle.prl_syntax.specs.Values.{small, reduced, ratio_of};
 ghost use Rattle.prl_syntax.specs.Readers.{constant_at, ratio_at, denominator_at, only};
 ghost use Rattle.prl_syntax.specs.declared.words.Fixed.TheVariants as kinds;
 
 use crate::words::{Fixed, expect, next_is};
-use prl_base::{Ratio, Value};
-use prl_reader::{Stop, Terminal, number};
-
-/// The greatest number that is in a range: 2^31 - 1.
-const MOST: u64 = 2_147_483_647;
+use prl_base::{MAX_PART, Ratio, Value, gcd};
+use prl_reader::{Stop, Terminal, negative, number, positive};
 
 /// The number, or the greatest one that is in a range.
 pub fn small(number: u64) -> u32
     ensures { result ≡ small number }
 {
-    number.min(MOST) as u32
-}
-
-/// The constant without a sign.
-fn positive(number: u64) -> Value
-    ensures { result ≡ positive number }
-{
-    Value::Int(number.min(MOST) as i32)
-}
-
-/// The constant behind a minus.
-fn negative(number: u64) -> Value
-    ensures { result ≡ negative number }
-{
-    Value::Int(-(number.min(MOST + 1) as i64) as i32)
+    number.min(MAX_PART) as u32
 }
 
 /// Takes a constant.
@@ -59,33 +42,17 @@ pub fn constant(terminals: &[Terminal]) -> Result<(Value, &[Terminal]), Stop>
     Ok((positive(value), rest))
 }
 
-/// The greatest common divisor, of which the second number is not 0.
-fn common_divisor(first: u32, second: u32) -> u32
-    requires { 0 < second }
-    ensures divisor { IsGcd first second result }
-    ensures positive { 0 < result }
-{
-    let mut a = first;
-    let mut b = second;
-    while a != 0 {
-        let rest = b % a;
-        b = a;
-        a = rest;
-    }
-    b
-}
-
 /// The reduced ratio of numbers that are in range.
-fn reduced(num: u32, den: u32) -> Ratio
-    requires num { num < 2 ^ 31 }
+fn reduced(num: u64, den: u64) -> Ratio
+    requires num { num ≤ MAX_PART }
     requires positive { 0 < den }
-    requires den { den < 2 ^ 31 }
+    requires den { den ≤ MAX_PART }
     ensures { result ≡ reduced num den }
 {
-    let divisor = common_divisor(num, den);
+    let divisor = gcd(num, den);
     Ratio {
-        num: i64::from(num / divisor),
-        den: u64::from(den / divisor),
+        num: (num / divisor) as i64,
+        den: den / divisor,
     }
 }
 
@@ -96,7 +63,7 @@ pub fn ratio_of(num: u64, den: u64) -> Ratio
     if small(den) == 0 {
         return Ratio { num: 0, den: 1 };
     }
-    reduced(small(num), small(den))
+    reduced(u64::from(small(num)), u64::from(small(den)))
 }
 
 /// Takes a denominator and its `/`, if they are there.

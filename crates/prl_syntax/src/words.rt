@@ -166,7 +166,7 @@ pub fn next_is(terminals: &[Terminal], fixed: Fixed) -> bool
     prl_reader::next_is(terminals, fixed as u8)
 }
 
-/// Takes this token, and answers its place and the tokens behind it.
+/// Takes this token, and answers its place and the tokens after it.
 pub fn expect(terminals: &[Terminal], fixed: Fixed) -> Result<(Span, &[Terminal]), Stop>
     ensures { Gives (λ x. (x.0, x.1.now)) stop_of result (place_at (class_of fixed) terminals.now) }
 {

@@ -10,7 +10,7 @@ use Rattle.prl_lex.proofs.lexing.tokens_of.Goals as goal
 
 pub returns-in-Bad : goal.returns-in-Bad
 returns-in-Bad c =
-    bad_step c.args.text.now _ c.loop-at.at c.loop-at.depth c.loop-at.tokens.items _
+    λ other. bad_step c.args.text.now _ c.loop-at.at c.loop-at.depth c.loop-at.tokens.items _
     (record { left = c.loop-at-test.true; rest_is = take_rest c.args.text.now c.loop-at.at; piece_is = c.in-Bad.ensures.exact; fits = c.in-Bad.ensures.fits; so_far = c.loop-at.invariant.exact })
 
 pub loop-at-preserved-in-Gap : goal.loop-at-preserved-in-Gap
@@ -30,7 +30,7 @@ checked-requires-clause-digits c = digits_of_number _ c.in-Token.kind (c.in-Toke
 pub returns-in_err-checked-in-Token : goal.returns-in_err-checked-in-Token
 returns-in_err-checked-in-Token c =
     let p = err_from_is_err_and c.from_residual.result c.from_residual.ensures.1 in
-    rw (p.1, p.2) (fault_step c.args.text.now _ c.split_at.result.0.now c.loop-at.at c.loop-at.depth c.in-Token.len c.depth_after-depth.result c.in-Token.kind c.loop-at.tokens.items c.in_err-checked-in-Token.field-0.0 _
+    rw (p.1, p.2) (λ other. fault_step c.args.text.now _ c.split_at.result.0.now c.loop-at.at c.loop-at.depth c.in-Token.len c.depth_after-depth.result c.in-Token.kind c.loop-at.tokens.items c.in_err-checked-in-Token.field-0.0 _
     (record { left = c.loop-at-test.true; rest_is = take_rest c.args.text.now c.loop-at.at; piece_is = c.in-Token.ensures.exact; fits = c.in-Token.ensures.fits; so_far = c.loop-at.invariant.exact })
     c.split_at.ensures.front c.depth_after-depth.ensures.exact (sym c.in_err-checked-in-Token.ensures))
 

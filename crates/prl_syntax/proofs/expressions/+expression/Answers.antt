@@ -1,4 +1,4 @@
-use Rattle.std.proofs.Common.{◌≡◌, ◌++◌, ◌∷◌, [], List, Vec, Global, map, Ok, refl, sym, ap, ◌∙◌, subst, length, arith}
+use Rattle.std.proofs.Common.{◌≡◌, ◌++◌, ◌∷◌, [], List, map, Ok, sym, ap, ◌∙◌, subst, arith}
 use Rattle.std.proofs.lemmas.List.{map_push}
 use Rattle.std.proofs.lemmas.Result.{err_from_is_err_and}
 use Rattle.prl_base.specs.declared.places.Span.{Span}
@@ -12,8 +12,8 @@ use Rattle.prl_syntax.specs.declared.words.Fixed.TheVariants as fixed
 use Rattle.prl_syntax.specs.Links.{Step, link_view, with_prefixes}
 use Rattle.prl_syntax.specs.Loops.{with_front}
 use Rattle.prl_syntax.specs.Trees.{trees_from}
-use Rattle.prl_syntax.specs.Readers.{only, chain_at, comma_tree_by, tree_at}
-use Rattle.prl_syntax.proofs.Loops.{Steps, goes_on, halts, fails}
+use Rattle.prl_syntax.specs.Readers.{only, chain_at, comma_tree_by}
+use Rattle.prl_syntax.proofs.Loops.{goes_on, halts, fails}
 use Rattle.prl_syntax.proofs.Links.{chain_goes_on, chain_ends, chain_fails, link_fewer, comma_tree_steps, expression_fewer}
 use Rattle.prl_syntax.proofs.Rows.{root_group, root_apply}
 use Rattle.prl_syntax.proofs.Applied.{group_read, no_args_read, args_read, closed_fails, closed_others_fail, closed_close_fail, closed_read, tree_fails, tree_post_fails, tree_read, comma_is}

@@ -4,10 +4,8 @@ use Rattle.prl_reader.specs.Readers.{many_at}
 use Rattle.prl_syntax.specs.Loops.{with_front}
 use Rattle.prl_syntax.specs.Readers.{declaration_first, declaration_at}
 use Rattle.prl_syntax.specs.Nodes.{declared_view}
-use Rattle.std.proofs.lemmas.Result.{err_from_is_err_and}
-use Rattle.prl_ast.specs.Trees.{EquationTree}
 use Rattle.prl_syntax.specs.Trees.{Declared}
-use Rattle.prl_syntax.proofs.Loops.{Steps, goes_on, halts, fails}
+use Rattle.prl_syntax.proofs.Loops.{goes_on, halts, fails}
 use Rattle.prl_syntax.proofs.Program.{declaration_steps}
 use Rattle.prl_syntax.proofs.nodes.more_declarations.Goals as goal
 

@@ -1,7 +1,6 @@
-use Rattle.std.proofs.Common.{◌≡◌, ◌∷◌, [], map, length}
+use Rattle.std.proofs.Common.{◌≡◌, map, length}
 use Rattle.prl_ast.specs.Trees.{equation_tree}
 use Rattle.prl_reader.specs.Readers.{many_at}
-use Rattle.prl_syntax.specs.declared.words.Fixed.TheVariants as fixed
 use Rattle.prl_syntax.specs.Readers.{equation_first, equation_at}
 use Rattle.prl_syntax.specs.Loops.{with_front}
 use Rattle.prl_syntax.proofs.nodes.more_equations.Given as goal

@@ -1,6 +1,5 @@
 use Rattle.std.proofs.Common.{◌≡◌, ◌∷◌, [], length}
 use Rattle.prl_reader.specs.Readers.{many_at}
-use Rattle.prl_syntax.specs.declared.words.Fixed.TheVariants as fixed
 use Rattle.prl_syntax.specs.Readers.{ended_run_at}
 use Rattle.prl_syntax.specs.Loops.{with_joined}
 use Rattle.prl_syntax.proofs.parameters.more_ended_runs.Given as goal

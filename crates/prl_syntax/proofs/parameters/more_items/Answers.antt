@@ -1,6 +1,5 @@
 use Rattle.std.proofs.Common.{sym, ◌∙◌}
-use Rattle.std.proofs.lemmas.Result.{err_from_is_err_and}
-use Rattle.prl_syntax.proofs.Loops.{Steps, goes_on, halts, fails}
+use Rattle.prl_syntax.proofs.Loops.{goes_on, halts, fails}
 use Rattle.prl_syntax.proofs.Lists.{comma_item_steps}
 use Rattle.prl_syntax.proofs.parameters.more_items.Goals as goal
 

@@ -1,6 +1,5 @@
 use Rattle.std.proofs.Common.{sym, ◌∙◌}
-use Rattle.std.proofs.lemmas.Result.{err_from_is_err_and}
-use Rattle.prl_syntax.proofs.Loops.{Steps, goes_on_joined, halts_joined, fails_joined}
+use Rattle.prl_syntax.proofs.Loops.{goes_on_joined, halts_joined, fails_joined}
 use Rattle.prl_syntax.proofs.Lists.{semicolon_run_steps}
 use Rattle.prl_syntax.proofs.parameters.more_runs.Goals as goal
 

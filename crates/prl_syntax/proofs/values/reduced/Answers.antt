@@ -1,29 +1,34 @@
-use Rattle.std.proofs.Common.{◌≡◌, ◌/◌, ℤ, ℕ, pos, sym, ap, ◌∙◌, subst, arith}
-use Rattle.std.proofs.lemmas.Int.{ints, to_z-of_z}
-use Rattle.std.specs.Prelude.{FitsSigned}
-use Rattle.std.specs.Int.{w64}
+use Rattle.std.proofs.Common.{◌≡◌, ◌/◌, ◌<◌, ◌^◌, ℕ, ℤ, pos, w64, sym, ap, ◌∙◌, subst, arith}
+use mir.Val.{to_z}
+use Rattle.std.proofs.Math.Nat.{div-le_self}
+use Rattle.std.proofs.lemmas.Int.{to_z_pos}
 use Rattle.prl_base.specs.Ratios.{Fraction, IsSmallFraction}
-use Rattle.prl_syntax.specs.Values.{common_divisor}
-use Rattle.prl_syntax.proofs.Ratios.{divisor_is, reduced_fits}
+use Rattle.prl_syntax.proofs.Ratios.{divisor_is, positive_divisor, reduced_fits}
 use Rattle.prl_syntax.proofs.values.reduced.Goals as goal
 
 abbrev fraction : ℤ → ℕ → Fraction
 fraction num den = record { num = num; den = den }
 
+same_number : (num g : ℕ) → num < 2 ^ 31 → to_z w64 (num / g) ≡ pos (num / g)
+same_number num g below = to_z_pos w64 (num / g) (omega (arith, div-le_self num g))
+
+pub nonzero_div-result : goal.nonzero_div-result
+nonzero_div-result c = positive_divisor c.args.num c.args.den c.gcd-divisor.result c.gcd-divisor.ensures c.requires.positive
+
+pub nonzero_div-result-2 : goal.nonzero_div-result-2
+nonzero_div-result-2 c = positive_divisor c.args.num c.args.den c.gcd-divisor.result c.gcd-divisor.ensures c.requires.positive
+
 pub invariant_of-result : goal.invariant_of-result
 invariant_of-result c =
-    let g = c.common_divisor-divisor.result in
-    let fits : FitsSigned w64 c.from.result = omega (arith, ints) in
-    let num_is = to_z-of_z w64 c.from.result fits ∙ c.from.ensures in
-    let P : Fraction → Type 0 = IsSmallFraction in
-    subst P (sym (ap (λ n. fraction n c.from-2.result) num_is ∙ ap (λ d. fraction (pos (c.args.num / g)) d) c.from-2.ensures))
-    (reduced_fits c.args.num c.args.den g c.common_divisor-divisor.ensures.divisor c.common_divisor-divisor.ensures.positive c.requires.num c.requires.positive c.requires.den)
+    let g = c.gcd-divisor.result in
+    let above = positive_divisor c.args.num c.args.den g c.gcd-divisor.ensures c.requires.positive in
+    let P : ℤ → Type 0 = λ n. IsSmallFraction (fraction n (c.args.den / g)) in
+    subst P (sym (same_number c.args.num g (omega (arith, c.requires.num))))
+    (reduced_fits c.args.num c.args.den g c.gcd-divisor.ensures above c.requires.num c.requires.positive c.requires.den)
 
 pub returns : goal.returns
 returns c =
-    let g = c.common_divisor-divisor.result in
-    let fits : FitsSigned w64 c.from.result = omega (arith, ints) in
-    let num_is = to_z-of_z w64 c.from.result fits ∙ c.from.ensures in
-    let same = divisor_is c.args.num c.args.den g c.common_divisor-divisor.ensures.divisor c.requires.positive in
-    ap (λ n. fraction n c.from-2.result) num_is ∙ ap (λ d. fraction (pos (c.args.num / g)) d) c.from-2.ensures
+    let g = c.gcd-divisor.result in
+    let same = divisor_is c.args.num c.args.den g c.gcd-divisor.ensures c.requires.positive in
+    ap (λ n. fraction n (c.args.den / g)) (same_number c.args.num g (omega (arith, c.requires.num)))
     ∙ ap (λ k. fraction (pos (c.args.num / k)) (c.args.den / k)) (sym same)
