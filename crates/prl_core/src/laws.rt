@@ -1,13 +1,9 @@
 //! Laws of values by instance along the job table of a plan, as functions that do nothing: the contract of each is the law.
 
-ghost use Rattle.std.specs.Prelude.{◌≡◌, ◌<◌, ◌↔◌, ℕ, List, Some, length, map, take, slice_get};
+ghost use Rattle.std.specs.Prelude.{◌≡◌, ◌<◌, ℕ, List, Some, length, map, take, slice_get};
 ghost use Rattle.prl_body.specs.declared.bodies.CheckedBody.{CheckedBody};
-ghost use Rattle.prl_base.specs.declared.operators.Clock.{Clock};
-ghost use Rattle.prl_base.specs.declared.operators.Op.{Op};
-ghost use Rattle.prl_base.specs.Operators.{IsResultClock};
 ghost use Rattle.prl_flow.specs.Rows.{Rows};
 ghost use Rattle.prl_flow.specs.JobValues.{value_of, step_of, given_by};
-ghost use Rattle.prl_plan.specs.Graphs.{TakesClock};
 ghost use Rattle.prl_plan.specs.Jobs.{IsHorizonJob};
 ghost use Rattle.prl_plan.specs.Operands.{operand_of};
 ghost use Rattle.prl_plan.specs.JobTables.{TableRow, IsJobTable};
@@ -50,8 +46,3 @@ pub fn device_values_are_rows()
     operands_are_of_horizon_jobs();
     sensors_give_rows();
 }
-
-/// The clock of an operator's result is the same for the flows of programs and for the edges of task graphs.
-pub fn operator_clocks_agree()
-    ensures { (op : Op) (x y : Clock) → TakesClock op x y ↔ IsResultClock op x y }
-{}

@@ -6,12 +6,10 @@ mod columns;
 mod cores;
 mod laws;
 mod seen;
-#[cfg(test)]
-mod tests;
 
 pub use cores::Core;
 pub use laws::{
-    device_values_are_rows, job_reads_stand, job_values_are_steps, operator_clocks_agree,
+    device_values_are_rows, job_reads_stand, job_values_are_steps,
 };
 pub use prl_plan::{Event, Rule};
 pub use seen::{Illegal, Seen, Unfinished};

@@ -4,7 +4,7 @@ use Rattle.std.specs.Prelude.{ℤ, pos, negsuc, ◌+ℤ◌, ◌*ℤ◌, ◌≤�
 use Rattle.std.proofs.lemmas.Int.{ints, by_lt_z}
 use Rattle.std.proofs.Math.IntN.{zero-*ℤ, suc_ℤ-*ℤ, pos-*ℤ-pos, pos-*ℤ-negsuc}
 use lib.IntN.{suc_ℤ, pred_ℤ}
-use Rattle.prl_plan.specs.Precedence.{floor_div}
+use Rattle.prl_base.specs.Operators.{floor_div}
 
 pub suc-is : (n : ℤ) → suc_ℤ n ≡ n +ℤ pos 1
 suc-is (pos n) = omega (arith, ints)

@@ -6,14 +6,15 @@ use lib.IntN.{suc_ℤ, pred_ℤ}
 use Rattle.prl_base.specs.declared.values.Ty.{Ty}
 use Rattle.prl_base.specs.declared.operators.Op.{Op}
 use Rattle.prl_base.specs.declared.operators.Op.TheVariants as operators
-use Rattle.prl_plan.specs.Graphs.{IsOperatorFor}
-use Rattle.prl_plan.specs.Precedence.{step_back, preceding}
+use Rattle.prl_base.specs.Operators.{IsOperatorFor}
+use Rattle.prl_base.specs.Operators.{preceding_number}
+use Rattle.prl_plan.specs.Precedence.{preceding}
 use Rattle.prl_plan.specs.declared.deadlines.Interval.{Interval}
 use Rattle.prl_plan.specs.Intervals.{IsIn, preimage, successors}
 use Rattle.prl_plan.specs.Ranges.{HasFactor, PreimageFits}
 use Rattle.prl_plan.proofs.Floors.{floor-least, floor-most, ceiling-least, suc-is, pred-is}
 
-pub preceding-step : (op : Op) (ops : List Op) (n : ℤ) → preceding (op ∷ ops) n ≡ preceding ops (step_back op n)
+pub preceding-step : (op : Op) (ops : List Op) (n : ℤ) → preceding (op ∷ ops) n ≡ preceding ops (preceding_number op n)
 preceding-step (operators.Up k) ops n = refl
 preceding-step (operators.Down k) ops n = refl
 preceding-step (operators.Shift q) ops n = refl
@@ -38,7 +39,7 @@ factor-of ty operators.Tail is = tt
 factor-of ty (operators.Cons c) is = tt
 factor-of ty (operators.Fby c) is = tt
 
-pub preimage-in : (op : Op) → HasFactor op → (n : ℤ) (s : Interval) → IsIn n (preimage op s) ↔ IsIn (step_back op n) s
+pub preimage-in : (op : Op) → HasFactor op → (n : ℤ) (s : Interval) → IsIn n (preimage op s) ↔ IsIn (preceding_number op n) s
 preimage-in (operators.Up k) is n s =
     let low = floor-least n s.lowest k is in
     let high = floor-most n s.highest k is in
@@ -64,7 +65,7 @@ pub following-in : (ty : Ty) (ops : List Op) → ((k : ℕ) (op : Op) → slice_
 following-in ty [] are m n = ((λ h. (let a = h.0 in let b = h.1 in omega (arith, ints, a, b))), (λ h. ((omega (arith, ints, h)), (omega (arith, ints, h)))))
 following-in ty (op ∷ ops) are m n =
     let here = preimage-in op (factor-of ty op (are 0 op refl)) n (successors ops m) in
-    let rest = following-in ty ops (λ k x is. are (suc k) x is) m (step_back op n) in
+    let rest = following-in ty ops (λ k x is. are (suc k) x is) m (preceding_number op n) in
     ((λ h. preceding-step op ops n ∙ rest.0 (here.0 h)), (λ h. here.1 (rest.1 (sym (preceding-step op ops n) ∙ h))))
 
 -- one operator more
@@ -74,8 +75,8 @@ numbers-before op ops m rest is None h has = tt
 numbers-before op ops m rest is (Some s) h has =
     subst (λ (x : Interval). (n : ℤ) → IsIn n x ↔ (preceding (op ∷ ops) n ≡ m)) (sym h)
     (λ n. (
-      (λ g. preceding-step op ops n ∙ (is (step_back op n)).0 ((preimage-in op has n rest).0 g)),
-      (λ g. (preimage-in op has n rest).1 ((is (step_back op n)).1 (sym (preceding-step op ops n) ∙ g))),
+      (λ g. preceding-step op ops n ∙ (is (preceding_number op n)).0 ((preimage-in op has n rest).0 g)),
+      (λ g. (preimage-in op has n rest).1 ((is (preceding_number op n)).1 (sym (preceding-step op ops n) ∙ g))),
     ))
 
 -- the same of a list, its first operator and what is behind it

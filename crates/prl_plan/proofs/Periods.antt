@@ -10,8 +10,10 @@ use Rattle.prl_base.specs.declared.values.Ty.{Ty}
 use Rattle.prl_base.specs.declared.operators.Clock.{Clock}
 use Rattle.prl_base.specs.declared.operators.Op.{Op}
 use Rattle.prl_base.specs.declared.operators.Op.TheVariants as operators
-use Rattle.prl_plan.specs.Graphs.{Divides, TakeClock, IsOperatorFor}
-use Rattle.prl_plan.specs.Precedence.{floor_div, preceding}
+use Rattle.prl_base.specs.Operators.{IsOperatorFor}
+use Rattle.prl_plan.specs.Graphs.{Divides, TakeClock}
+use Rattle.prl_base.specs.Operators.{floor_div}
+use Rattle.prl_plan.specs.Precedence.{preceding}
 use Rattle.prl_plan.specs.declared.deadlines.Interval.{Interval}
 use Rattle.prl_plan.specs.Intervals.{preimage, successors}
 use Rattle.prl_plan.proofs.Floors.{floor-least, suc-is, pred-is}

@@ -14,9 +14,10 @@ use Rattle.prl_plan.specs.declared.graphs.Producer.{Producer}
 use Rattle.prl_plan.specs.declared.graphs.Producer.TheVariants as producers
 use Rattle.prl_plan.specs.declared.walks.Operand.{Operand}
 use Rattle.prl_plan.specs.declared.walks.Operand.TheVariants as operands
-use Rattle.prl_plan.specs.Graphs.{IsOperatorFor}
+use Rattle.prl_base.specs.Operators.{IsOperatorFor}
 use Rattle.prl_plan.specs.Operands.{walk, operand_from}
-use Rattle.prl_plan.specs.Precedence.{floor_div, preceding, ComesFrom}
+use Rattle.prl_base.specs.Operators.{floor_div}
+use Rattle.prl_plan.specs.Precedence.{preceding, ComesFrom}
 use Rattle.prl_plan.specs.Intervals.{natural}
 use Rattle.prl_plan.specs.Cells.{Reads, IsUsed}
 use Rattle.prl_plan.specs.FirstReaders.{IsFirstReader, first_reader, first_instance}

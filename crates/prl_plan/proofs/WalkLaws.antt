@@ -17,7 +17,8 @@ use Rattle.prl_plan.specs.declared.walks.Operand.TheVariants as operands
 use Rattle.prl_plan.specs.Jobs.{task_at}
 use Rattle.prl_plan.specs.Operands.{walk, operand_from, operand_of}
 use Rattle.prl_plan.specs.Precedence.{preceding, ComesFrom}
-use Rattle.prl_plan.specs.Graphs.{IsOperatorFor, TakeClock, IsSource, IsEdge}
+use Rattle.prl_base.specs.Operators.{IsOperatorFor}
+use Rattle.prl_plan.specs.Graphs.{TakeClock, IsSource, IsEdge}
 
 pub walk-preceding : (ops : List Op) (n m : ℕ) → walk ops n ≡ operands.From m → preceding ops (pos n) ≡ pos m
 walk-preceding [] n m h = (let e : n ≡ m = cc in ap (λ (x : ℕ). pos x) e)

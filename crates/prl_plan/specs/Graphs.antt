@@ -1,13 +1,11 @@
 -- Well-formed task graphs.
-use Rattle.std.specs.Prelude.{◌≡◌, ◌≢◌, ◌+◌, ◌*◌, ◌/◌, ◌≤◌, ◌<◌, ◌^◌, ◌++◌, ◌⊎◌, ℕ, pos, ◌≤ℤ◌, Bool, true, false, List, [], ◌∷◌, map, sum, length, Some, slice_get, nat_abs}
+use Rattle.std.specs.Prelude.{◌≡◌, ◌≢◌, ◌+◌, ◌*◌, ◌/◌, ◌≤◌, ◌<◌, ◌^◌, ◌++◌, ◌⊎◌, ℕ, Bool, true, false, List, [], ◌∷◌, map, sum, length, Some, slice_get}
 use Rattle.std.specs.Fmt.{decimal}
 use Rattle.prl_base.specs.Names.{IsName}
-use Rattle.prl_base.specs.Values.{type_of, FitsValue}
-use Rattle.prl_base.specs.declared.values.Ty.{Ty}
-use Rattle.prl_base.specs.declared.values.Value.{Value}
+use Rattle.prl_base.specs.Operators.{IsResultClock, IsOperatorFor}
+use Rattle.prl_base.specs.Values.{IsOfType}
 use Rattle.prl_base.specs.declared.operators.Clock.{Clock}
 use Rattle.prl_base.specs.declared.operators.Op.{Op}
-use Rattle.prl_base.specs.declared.operators.Op.TheVariants as operators
 use Rattle.prl_plan.specs.declared.graphs.Edge.{Edge}
 use Rattle.prl_plan.specs.declared.graphs.Task.{Task}
 use Rattle.prl_plan.specs.declared.graphs.TaskGraph.{TaskGraph}
@@ -22,34 +20,12 @@ use Rattle.prl_plan.specs.Jobs.{task_at}
 abbrev pub Divides : ℕ → ℕ → Type 0
 Divides k n = (times : ℕ) × (n ≡ times * k)
 
--- The operator takes a flow on the clock x to a flow on the clock y.
-abbrev pub TakesClock : Op → Clock → Clock → Type 0
-TakesClock (operators.Fby c) x y = (y.period ≡ x.period) × (y.start ≡ x.start)
-TakesClock (operators.Cons c) x y = (y.period ≡ x.period) × (y.start + x.period ≡ x.start)
-TakesClock operators.Tail x y = (y.period ≡ x.period) × (y.start ≡ x.start + x.period)
-TakesClock (operators.Up k) x y = (k * y.period ≡ x.period) × (y.start ≡ x.start)
-TakesClock (operators.Down k) x y = (y.period ≡ k * x.period) × (y.start ≡ x.start)
-TakesClock (operators.Shift q) x y = (y.period ≡ x.period) × (q.den * y.start ≡ q.den * x.start + nat_abs q.num * x.period)
-
 -- The operators, from the consumer's end on, take the producer's clock to the consumer's, and each clock on the way
 -- has a period of at least 1 that divides the hyperperiod.
 abbrev pub TakeClock : ℕ → List Op → Clock → Clock → Type 0
 TakeClock hyper [] producer consumer = (1 ≤ consumer.period) × Divides consumer.period hyper × (consumer ≡ producer)
 TakeClock hyper (op ∷ ops) producer consumer =
-    (1 ≤ consumer.period) × Divides consumer.period hyper × ((between : Clock) × TakesClock op between consumer × TakeClock hyper ops producer between)
-
--- a value of this type, within its range
-abbrev pub IsOfType : Ty → Value → Type 0
-IsOfType ty value = (type_of value ≡ ty) × FitsValue value
-
--- a factor is 1 to 2^31 - 1, a shift is a fraction that is not negative, and a constant has the type of the edge
-abbrev pub IsOperatorFor : Ty → Op → Type 0
-IsOperatorFor ty (operators.Fby c) = IsOfType ty c
-IsOperatorFor ty (operators.Cons c) = IsOfType ty c
-IsOperatorFor ty operators.Tail = Unit {0}
-IsOperatorFor ty (operators.Up k) = (1 ≤ k) × (k < 2 ^ 31)
-IsOperatorFor ty (operators.Down k) = (1 ≤ k) × (k < 2 ^ 31)
-IsOperatorFor ty (operators.Shift q) = (1 ≤ q.den) × (pos 0 ≤ℤ q.num)
+    (1 ≤ consumer.period) × Divides consumer.period hyper × ((between : Clock) × IsResultClock op between consumer × TakeClock hyper ops producer between)
 
 abbrev pub is_sensor : Kind → Bool
 is_sensor (kinds.Sensor k) = true

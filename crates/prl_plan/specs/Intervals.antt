@@ -4,7 +4,7 @@ use lib.IntN.{suc_ℤ, pred_ℤ}
 use Rattle.prl_base.specs.declared.operators.Op.{Op}
 use Rattle.prl_base.specs.declared.operators.Op.TheVariants as operators
 use Rattle.prl_plan.specs.declared.deadlines.Interval.{Interval}
-use Rattle.prl_plan.specs.Precedence.{floor_div}
+use Rattle.prl_base.specs.Operators.{floor_div}
 
 -- n is in the interval
 abbrev pub IsIn : ℤ → Interval → Type 0

@@ -1,5 +1,6 @@
 -- The operand of a job on an edge.
 use Rattle.std.specs.Prelude.{◌+◌, ◌*◌, ◌/◌, ◌<◌, ◌≤◌, ◌^◌, ℕ, zero, suc, List, [], ◌∷◌}
+use Rattle.prl_base.specs.Operators.{Origin, instance, constant, origin_of}
 use Rattle.prl_base.specs.declared.operators.Op.{Op}
 use Rattle.prl_base.specs.declared.operators.Op.TheVariants as operators
 use Rattle.prl_plan.specs.declared.graphs.Edge.{Edge}
@@ -8,29 +9,22 @@ use Rattle.prl_plan.specs.declared.graphs.Producer.TheVariants as producers
 use Rattle.prl_plan.specs.declared.walks.Operand.{Operand}
 use Rattle.prl_plan.specs.declared.walks.Operand.TheVariants as operands
 
+-- what comes from an instance of a flow, or from an operator's constant
+abbrev pub operand_at : (ℕ → Operand) → Origin → Operand
+operand_at flow (instance m) = flow m
+operand_at flow (constant c) = operands.Const c
+
 -- What instance n is, seen through the operators, which stand from the consumer's end on: an instance of the
 -- producer's flow, or a constant that an operator gives.
 abbrev pub walk : List Op → ℕ → Operand
 walk [] n = operands.From n
--- `*^ k`: each value k times
-walk (operators.Up k ∷ ops) n = walk ops (n / k)
--- `/^ k`: the first of each k values
-walk (operators.Down k ∷ ops) n = walk ops (k * n)
--- `~> q`: later, in the same order
-walk (operators.Shift q ∷ ops) n = walk ops n
--- `tail`: without the first value
-walk (operators.Tail ∷ ops) n = walk ops (n + 1)
--- `c ::` and `c fby`: the constant first
-walk (operators.Cons c ∷ ops) zero = operands.Const c
-walk (operators.Cons c ∷ ops) (suc n) = walk ops n
-walk (operators.Fby c ∷ ops) zero = operands.Const c
-walk (operators.Fby c ∷ ops) (suc n) = walk ops n
+walk (op ∷ ops) n = operand_at (walk ops) (origin_of op n)
 
 -- an instance of a constant is that constant
 abbrev pub operand_from : Producer → Operand → Operand
 operand_from (producers.Port task out) operand = operand
 operand_from (producers.Constant value) (operands.Const c) = operands.Const c
-operand_from (producers.Constant value) (operands.From instance) = operands.Const value
+operand_from (producers.Constant value) (operands.From m) = operands.Const value
 
 -- what job n of the consumer reads on the edge
 abbrev pub operand_of : Edge → ℕ → Operand

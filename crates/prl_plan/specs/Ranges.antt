@@ -8,7 +8,8 @@ use Rattle.prl_plan.specs.declared.graphs.Edge.{Edge}
 use Rattle.prl_plan.specs.declared.graphs.Task.{Task}
 use Rattle.prl_plan.specs.declared.graphs.TaskGraph.{TaskGraph}
 use Rattle.prl_plan.specs.Jobs.{task_at, release_of, deadline_of}
-use Rattle.prl_plan.specs.Precedence.{floor_div, preceding, ComesFrom}
+use Rattle.prl_base.specs.Operators.{floor_div}
+use Rattle.prl_plan.specs.Precedence.{preceding, ComesFrom}
 use Rattle.prl_plan.specs.Intervals.{successors, count_in}
 use Rattle.prl_plan.specs.Rounds.{releases_after}
 use Rattle.prl_plan.specs.Deadlines.{deadlines_after}

@@ -14,8 +14,6 @@ mod limits;
 mod plans;
 mod rounds;
 mod tables;
-#[cfg(test)]
-mod tests;
 mod turns;
 mod walks;
 

@@ -6,7 +6,8 @@ ghost use Rattle.prl_plan.specs.declared.graphs.TaskGraph.{TaskGraph};
 ghost use Rattle.prl_plan.specs.Dates.{Family, AreReleases, AreLeastReleases};
 ghost use Rattle.prl_plan.specs.Graphs.{IsWellFormed};
 ghost use Rattle.prl_plan.specs.Jobs.{task_at, release_of};
-ghost use Rattle.prl_plan.specs.Precedence.{preceding, floor_div, ComesFrom};
+ghost use Rattle.prl_base.specs.Operators.{floor_div};
+ghost use Rattle.prl_plan.specs.Precedence.{preceding, ComesFrom};
 ghost use Rattle.prl_plan.specs.Ranges.{Fits64, PrecedingFits, DateFits, ReleaseFits, AskFits};
 ghost use Rattle.prl_plan.specs.Rounds.{asked_of, latest, releases_after, AreFixedReleases};
 

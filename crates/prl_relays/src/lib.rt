@@ -12,6 +12,3 @@ mod runs;
 pub use laws::{horizons_end_one_way, replays_end_one_way, whole_runs_are_replayed};
 pub use plans::{horizon_limit, is_in_time};
 pub use relays::{RelayFault, replay_text};
-
-#[cfg(test)]
-mod tests;

@@ -7,6 +7,3 @@ mod schedules;
 
 pub use replays::{ReplayFault, replay};
 pub use schedules::{ScheduleFault, read_schedule};
-
-#[cfg(test)]
-mod tests;

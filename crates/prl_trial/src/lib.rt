@@ -6,8 +6,6 @@ mod counts;
 mod instances;
 mod readers;
 mod tables;
-#[cfg(test)]
-mod tests;
 
 pub use readers::first_job;
 pub use tables::{CellTable, least_cells};

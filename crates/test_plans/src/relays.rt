@@ -4,20 +4,18 @@ ghost use Rattle.std.specs.Prelude.{◌≡◌, ◌<◌, ◌≤◌, IfOk};
 ghost use Rattle.prl_chains.specs.Facts.{IsChain};
 ghost use Rattle.prl_relays.specs.Relays.{HasValues};
 
-use crate::{RelayFault, is_in_time, replay_text};
+use crate::schedules::{WHOLE, WHOLE_CELLS};
 use prl_base::{TaskNo, Value};
 use prl_chains::{Chain, chain_of};
 use prl_flow::dates_before;
 use prl_plan::Rule;
+use prl_relays::{RelayFault, is_in_time, replay_text};
 use prl_syntax::parse;
 use std::alloc::Global;
 use std::test::Fail;
 
 const PROGRAM: &[u8] =
     b"sensor i wcet 1; actuator o wcet 1; node main (i: int rate (10, 0)) returns (o) let o = i; tel";
-
-const WHOLE: &str =
-    "act i\nact i\nact i\ntick\nact o\nact o\nact o\ntick\ntick\ntick\ntick\ntick\ntick\ntick\ntick\ntick\nact i\nact i\nact i\ntick\nact o\nact o\nact o";
 
 fn chain(alloc: Global) -> Result<Chain, Fail>
     ensures { IfOk result IsChain }
@@ -51,6 +49,13 @@ fn replays(rt: HostRuntime) -> Result<(), Fail> {
             RelayFault::Illegal {
                 line: 1,
                 rule: Rule::L1,
+            },
+        ),
+        (
+            WHOLE_CELLS,
+            RelayFault::Illegal {
+                line: 4,
+                rule: Rule::L3,
             },
         ),
         (

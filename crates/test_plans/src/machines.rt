@@ -1,8 +1,10 @@
+//! The machine over the plan of a sensor and its actuator.
+
 ghost use Rattle.std.specs.Prelude.{◌≡◌, codes};
 ghost use Rattle.prl_plan.specs.TwoTasks.{two_plan};
 
-use crate::{Core, Event, Illegal, Rule, Seen, Unfinished};
 use prl_base::{CellNo, EdgeNo, Seq, TaskNo, Value};
+use prl_core::{Core, Event, Illegal, Rule, Seen, Unfinished};
 use prl_flow::Sensors;
 use prl_plan::{Horizon, Plan};
 use std::test::Fail;

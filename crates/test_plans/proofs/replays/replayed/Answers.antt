@@ -6,7 +6,7 @@ use Rattle.prl_plan.specs.TwoTasks.{two_plan}
 use Rattle.prl_plan.specs.declared.events.Event.{Event}
 use Rattle.prl_plan.specs.declared.events.Event.TheVariants as events
 use Rattle.prl_replay.specs.Schedules.{IsOfTasks}
-use Rattle.prl_replay.proofs.tests.replayed.Goals as goal
+use Rattle.test_plans.proofs.replays.replayed.Goals as goal
 
 -- an event of two tasks is one of the plan of two tasks
 of_plan : (event : Event) → IsOfTasks 2 event → IsOfPlan (two_plan (codes "i") (codes "o") 10 1 1) event

@@ -1,9 +1,11 @@
-use crate::{
-    Action, AnyJob, Edge, Horizon, Kind, Operand, Plan, Producer, Task, TaskGraph, deadline_after,
-    release_after, rounds_reach_dates, walk_back,
+//! Plans: operands, encoded dates, look-ups and horizons.
+
+use crate::graphs::{fast_and_slow, sensor_and_actuator};
+use prl_base::{CellNo, EdgeNo, Limit, Op, Ratio, TaskNo, Value, What};
+use prl_plan::{
+    Action, AnyJob, Horizon, Operand, Plan, TaskGraph, deadline_after, release_after,
+    rounds_reach_dates, walk_back,
 };
-use prl_base::{CellNo, Clock, EdgeNo, Label, Limit, Op, Ratio, Seq, TaskNo, Ty, Value, What};
-use std::alloc::AllocError;
 use std::test::Fail;
 
 // A sensor task and an actuator task on period 10, both with WCET 1.
@@ -61,75 +63,6 @@ fn operands_by_walk(rt: HostRuntime) -> Result<(), Fail> {
     let never = [Op::Tail, Op::Cons(Value::Int(9))];
     assert_eq!(rt; walk_back(&never, 0), Operand::From(0));
     Ok(())
-}
-
-fn task(
-    rt: &HostRuntime,
-    name: &[u8],
-    kind: Kind,
-    period: u64,
-    wcet: u32,
-) -> Result<Task, AllocError> {
-    Ok(Task {
-        name: Label::new(rt.alloc(), name)?,
-        kind,
-        clock: Clock { period, start: 0 },
-        wcet,
-        due: period,
-    })
-}
-
-fn edge(from: u32, to: u32, port: u32, period: u64, ops: Vec<Op>) -> Edge {
-    Edge {
-        from: Producer::Port {
-            task: TaskNo(from),
-            out: 0,
-        },
-        to: TaskNo(to),
-        port,
-        ops: Seq::new(ops),
-        period,
-        ty: Ty::Int,
-    }
-}
-
-/// A fast task F between a sensor and an actuator, which reads a slow task S that reads it.
-fn fast_and_slow(rt: &HostRuntime, slow_wcet: u32) -> Result<TaskGraph, AllocError> {
-    let tasks = vec![in rt.alloc();
-        task(rt, b"i", Kind::Sensor(0), 10, 1)?,
-        task(rt, b"F@0", Kind::Node(0), 10, 2)?,
-        task(rt, b"S@1", Kind::Node(1), 30, slow_wcet)?,
-        task(rt, b"o", Kind::Actuator(0), 10, 1)?,
-    ]?;
-    let late = vec![in rt.alloc(); Op::Up(3), Op::Fby(Value::Int(0))]?;
-    let seldom = vec![in rt.alloc(); Op::Down(3)]?;
-    let edges = vec![in rt.alloc();
-        edge(0, 1, 0, 10, Vec::new(rt.alloc())),
-        edge(2, 1, 1, 30, late),
-        edge(1, 2, 0, 10, seldom),
-        edge(1, 3, 0, 10, Vec::new(rt.alloc())),
-    ]?;
-    Ok(TaskGraph {
-        tasks: Seq::new(tasks),
-        edges: Seq::new(edges),
-        hyper: 30,
-    })
-}
-
-/// A sensor and an actuator of WCET 1 on period 10, with these operators between them, and another start of the actuator.
-fn sensor_and_actuator(
-    rt: &HostRuntime,
-    ops: Vec<Op>,
-    start: u64,
-) -> Result<TaskGraph, AllocError> {
-    let mut actuator = task(rt, b"o", Kind::Actuator(0), 10, 1)?;
-    actuator.clock.start = start;
-    let tasks = vec![in rt.alloc(); task(rt, b"i", Kind::Sensor(0), 10, 1)?, actuator]?;
-    Ok(TaskGraph {
-        tasks: Seq::new(tasks),
-        edges: Seq::new(vec![in rt.alloc(); edge(0, 1, 0, 10, ops)]?),
-        hyper: 30,
-    })
 }
 
 /// A job with its encoded release and deadline.

@@ -4,11 +4,12 @@ ghost use Rattle.std.specs.Prelude.{◌≡◌, All, IfOk, codes, length};
 ghost use Rattle.prl_plan.specs.TwoTasks.{two_plan};
 ghost use Rattle.prl_replay.specs.Schedules.{IsOfTasks};
 
-use crate::{ReplayFault, ScheduleFault, read_schedule, replay};
+use crate::schedules::WHOLE;
 use prl_base::{CellNo, EdgeNo, Label, Seq, TaskNo, Value};
 use prl_core::{Core, Seen};
 use prl_flow::Sensors;
 use prl_plan::{Event, Horizon, Plan, Rule};
+use prl_replay::{ReplayFault, ScheduleFault, read_schedule, replay};
 use std::alloc::Global;
 use std::test::Fail;
 
@@ -48,10 +49,7 @@ fn outcome_of(alloc: Global, text: &str) -> Result<Result<Vec<Seen>, ReplayFault
     Ok(replayed(alloc, &mut core, &events))
 }
 
-const WHOLE: &str =
-    "act i\nact i\nact i\ntick\nact o\nact o\nact o\ntick\ntick\ntick\ntick\ntick\ntick\ntick\ntick\ntick\nact i\nact i\nact i\ntick\nact o\nact o\nact o";
-
-fn read(job: u64, value: i32) -> Seen {
+fn read(job: u64, value: i64) -> Seen {
     Seen::Read {
         task: TaskNo(1),
         job,
