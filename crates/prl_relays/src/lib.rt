@@ -1,6 +1,5 @@
 //! The replay of a schedule for a chain that only hands its input on: from the chain, the values of its sensor, the date and
-//! the text of the schedule to the reads and the actuator's rows. It stands on chains,
-//! plans, the machine and schedules; the syntax serves its tests.
+//! the text of the schedule to the reads and the actuator's rows. It stands on chains, plans, the machine and schedules.
 #![tactic(auto)]
 
 mod laws;

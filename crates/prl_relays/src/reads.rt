@@ -4,10 +4,9 @@ ghost use Rattle.std.specs.Prelude.{◌≡◌, ◌++◌, [], IfOk, OnOk};
 ghost use Rattle.std.specs.List.{flat_map};
 ghost use Rattle.std.specs.Vec.{vec_items};
 ghost use Rattle.prl_base.specs.Texts.{value_text};
-ghost use Rattle.prl_relays.specs.Reads.{name_at, read_line, value_line};
+ghost use Rattle.prl_relays.specs.Reads.{name_at, field, read_line};
 
-use itoa::Buffer;
-use prl_base::{Label, TaskNo, Value};
+use prl_base::{Label, TaskNo, push_number, push_value};
 use prl_core::Seen;
 use std::alloc::{AllocError, Global};
 
@@ -21,28 +20,12 @@ pub fn name_at(names: &[Label], task: TaskNo) -> &[u8]
     }
 }
 
-fn push_pieces(text: &mut Vec<u8>, pieces: &[&[u8]]) -> Result<(), AllocError>
-    ensures { OnOk result (text.new.items ≡ text.old.items ++ flat_map (λ piece. piece.now) pieces.now) }
+/// A blank and a number.
+fn push_field(text: &mut Vec<u8>, number: u64) -> Result<(), AllocError>
+    ensures { OnOk result (text.new.items ≡ text.old.items ++ field number) }
 {
-    for piece in pieces {
-        text.extend_from_slice(piece)?;
-    }
-    Ok(())
-}
-
-/// The end of a line: the value and a line feed.
-fn push_value(text: &mut Vec<u8>, value: Value) -> Result<(), AllocError>
-    ensures { OnOk result (text.new.items ≡ text.old.items ++ value_line value) }
-{
-    match value {
-        Value::Int(number) => {
-            let mut buffer = Buffer::new();
-            let end = b"\n".as_slice();
-            push_pieces(text, &[buffer.format(number).as_bytes(), end])
-        }
-        Value::Bool(true) => text.extend_from_slice(b"true\n"),
-        Value::Bool(false) => text.extend_from_slice(b"false\n"),
-    }
+    text.push(b' ')?;
+    push_number(text, number)
 }
 
 /// The line of what was seen, where it is a read of an instance.
@@ -59,24 +42,16 @@ fn push_read(text: &mut Vec<u8>, names: &[Label], seen: &Seen) -> Result<(), All
             value,
             ..
         } => {
-            let mut first = Buffer::new();
-            let mut second = Buffer::new();
-            let mut third = Buffer::new();
-            let mut fourth = Buffer::new();
-            let job = first.format(*job).as_bytes();
-            let port = second.format(*port).as_bytes();
-            let instance = third.format(*instance).as_bytes();
-            let cell = fourth.format(cell.0).as_bytes();
-            let front = b"read ".as_slice();
-            let task = name_at(names, *task);
-            let blank = b" ".as_slice();
-            push_pieces(
-                text,
-                &[
-                    front, task, blank, job, blank, port, blank, instance, blank, cell, blank,
-                ],
-            )?;
-            push_value(text, *value)
+            text.extend_from_slice(b"read ")?;
+            text.extend_from_slice(name_at(names, *task))?;
+            push_field(text, *job)?;
+            push_field(text, u64::from(*port))?;
+            push_field(text, *instance)?;
+            push_field(text, u64::from(cell.0))?;
+            text.push(b' ')?;
+            push_value(text, *value)?;
+            text.push(b'\n')?;
+            Ok(())
         }
         Seen::ReadConst { .. } => Ok(()),
         Seen::Ticked(_) => Ok(()),
@@ -86,7 +61,7 @@ fn push_read(text: &mut Vec<u8>, names: &[Label], seen: &Seen) -> Result<(), All
     }
 }
 
-/// The lines of what was seen, in order, and the rows behind them.
+/// The lines of what was seen, in order, and the rows after them.
 pub fn reads_text(
     alloc: Global,
     names: &[Label],

@@ -1,5 +1,5 @@
 -- What it is to replay a list of events.
-use Rattle.std.specs.Prelude.{◌≡◌, ◌+◌, ◌-◌, ◌<◌, ◌≤◌, ℕ, Bool, true, false, List, [], ◌∷◌, length, take, filter, Some, slice_get}
+use Rattle.std.specs.Prelude.{◌≡◌, ◌+◌, ◌-◌, ◌≤◌, ℕ, Bool, true, false, List, [], ◌∷◌, length, take, filter, Some, slice_get}
 use Rattle.prl_plan.specs.declared.events.Event.{Event}
 use Rattle.prl_plan.specs.Runs.{after_event, after_events}
 use Rattle.prl_plan.specs.Rules.{IsLegal, IsComplete, FirstBroken, IsFirstUnfinished}

@@ -1,5 +1,5 @@
 -- Texts of schedules.
-use Rattle.std.specs.Prelude.{◌≡◌, ◌==◌, ◌+◌, ◌-◌, ◌<◌, ℕ, List, [], ◌∷◌, length, take, drop, Bool, Option, Some, None, Result, Ok, Err, nat_lt, slice_index, if◌then◌else◌, codes}
+use Rattle.std.specs.Prelude.{◌==◌, ◌+◌, ◌-◌, ◌<◌, ℕ, List, [], ◌∷◌, length, take, drop, Option, Some, None, Result, Ok, Err, slice_index, if◌then◌else◌, codes}
 use Rattle.std.specs.Str.{bytes_eq}
 use Rattle.prl_base.specs.Lines.{lines_of}
 use Rattle.prl_base.specs.Reading.{◌>>=◌}
@@ -53,11 +53,6 @@ events_from names k (line ∷ next ∷ lines) = do
 -- not. One carriage return before a line feed belongs to the end of its line, and the text may stop without a last line feed.
 abbrev pub schedule_of : List (List ℕ) → List ℕ → Result (List Event) ScheduleFault
 schedule_of names text = events_from names 1 (lines_of text)
-
--- want of memory is free
-abbrev pub schedule_fault : ScheduleFault → Option ScheduleFault
-schedule_fault (faults.Syntax line) = Some (faults.Syntax line)
-schedule_fault faults.Memory = None
 
 -- an act is of one of so many tasks
 abbrev pub IsOfTasks : ℕ → Event → Type 0

@@ -3,8 +3,9 @@
 ghost use Rattle.std.specs.Prelude.{◌≡◌, ◌<◌, ◌≤◌, ◌^◌, All, IfOk, IfSome, length};
 ghost use Rattle.std.specs.Option.{option_map};
 ghost use Rattle.std.specs.Vec.{vec_items};
-ghost use Rattle.prl_base.specs.Reading.{Gives};
-ghost use Rattle.prl_replay.specs.Schedules.{task_of, event_of, without_return, or_line, schedule_of, schedule_fault, IsOfTasks};
+ghost use Rattle.prl_base.specs.Reading.{GivesBut};
+ghost use Rattle.prl_replay.specs.declared.schedules.ScheduleFault.TheVariants as faults;
+ghost use Rattle.prl_replay.specs.Schedules.{task_of, event_of, without_return, or_line, schedule_of, IsOfTasks};
 
 use prl_base::{Label, TaskNo, cut_line};
 use prl_plan::Event;
@@ -74,7 +75,7 @@ fn without_return(line: &[u8]) -> &[u8]
 /// The event of a line, where it is one.
 fn event_at(names: &[Label], line: &[u8], number: u64) -> Result<Event, ScheduleFault>
     requires { length names.now < 2 ^ 32 }
-    ensures exact { Gives (λ event. event) schedule_fault result (or_line number (event_of names.now line.now)) }
+    ensures exact { GivesBut faults.Memory (λ event. event) result (or_line number (event_of names.now line.now)) }
     ensures tasks { IfOk result (IsOfTasks (length names.now)) }
 {
     match event_of(names, line) {
@@ -91,26 +92,20 @@ pub fn read_schedule(
     names: &[Label],
 ) -> Result<Vec<Event>, ScheduleFault>
     requires { length names.now < 2 ^ 32 }
-    ensures exact { Gives vec_items schedule_fault result (schedule_of names.now text.now) }
+    ensures exact { GivesBut faults.Memory vec_items result (schedule_of names.now text.now) }
     ensures tasks { IfOk result (λ events. All (IsOfTasks (length names.now)) events.items) }
 {
     let mut events = Vec::new(alloc);
     let mut rest = text;
     let mut number: u64 = 1;
-    while let Some((line, behind)) = cut_line(rest) {
-        match event_at(names, without_return(line), number) {
-            Ok(event) => events.push(event)?,
-            Err(fault) => return Err(fault),
-        }
-        rest = behind;
+    while let Some((line, after)) = cut_line(rest) {
+        events.push(event_at(names, without_return(line), number)?)?;
+        rest = after;
         number += 1;
     }
     if rest.is_empty() {
         return Ok(events);
     }
-    match event_at(names, rest, number) {
-        Ok(event) => events.push(event)?,
-        Err(fault) => return Err(fault),
-    }
+    events.push(event_at(names, rest, number)?)?;
     Ok(events)
 }

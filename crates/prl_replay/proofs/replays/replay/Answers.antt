@@ -1,4 +1,4 @@
-use Rattle.std.proofs.Common.{◌≡◌, ℕ, ◌+◌, ◌++◌, ◌<◌, [], ◌∷◌, List, Result, Err, length, get_or, take, refl, sym, subst, ◌∙◌, ap, arith, vec_items}
+use Rattle.std.proofs.Common.{◌≡◌, ◌+◌, ◌<◌, List, Result, Err, length, get_or, take, refl, sym, subst, ◌∙◌, ap, arith, vec_items}
 use Rattle.std.specs.Prelude.{MatchResult}
 use Rattle.std.proofs.lemmas.Result.{err_from_is_err_and}
 use Rattle.std.proofs.lemmas.Option.{slice_get-get_or}

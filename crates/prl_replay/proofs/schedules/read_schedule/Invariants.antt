@@ -1,4 +1,4 @@
-use Rattle.std.proofs.Common.{◌≡◌, ◌+◌, ◌≤◌, All, length, vec_items, vec_len}
+use Rattle.std.proofs.Common.{◌≡◌, ◌+◌, ◌≤◌, All, length, vec_items}
 use Rattle.prl_base.specs.Lines.{lines_of}
 use Rattle.prl_replay.specs.Schedules.{events_from, schedule_of, IsOfTasks}
 use Rattle.prl_replay.proofs.Lines.{with_front}
