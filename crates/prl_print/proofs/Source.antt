@@ -1,6 +1,6 @@
 -- What holds of the tree of a text of the grammar, where its tokens are of a text.
 use Rattle.std.proofs.Common.{◌≡◌, ◌==◌, ◌≤◌, ◌+◌, ◌-◌, ◌&&◌, ℕ, Bool, true, false, cond, not, leb, List, [], ◌∷◌, ◌++◌, Some, None, refl, sym, ap, ◌∙◌, subst, inl, inr, arith}
-use Rattle.std.proofs.lemmas.Bool.{cond-true, cond-false, and_parts, leb-true}
+use Rattle.std.proofs.lemmas.Bool.{cond-true, and_parts, leb-true}
 use Rattle.std.specs.List.{AllByRecursion}
 use Rattle.prl_base.specs.declared.places.Span.{Span}
 use Rattle.prl_reader.specs.Lexemes.{Lexeme}
@@ -157,7 +157,7 @@ m_counted_later {B} {V} {Q} g f count after = record { means = means }
         let state : ℕ → ℕ → Bool = λ a b. inside_after program_ranges (inside_after program_ranges fine.at.inside a) b in
         let fits : is_fault program_ranges (state s.0.class t.0.class) t.0.class u.0 ≡ false = all.3.3.0 in
         let low : 1 ≤ u.0.number = counted (state (class_of g) (class_of f)) (class_of f) u.0 u.2 (count fine.at.inside)
-            (ap (λ c. is_fault program_ranges (state c (class_of f)) (class_of f) u.0) (sym s.2) ∙ ap (λ c. is_fault program_ranges (state s.0.class c) c u.0) (sym t.2) ∙ fits) in
+        (ap (λ c. is_fault program_ranges (state c (class_of f)) (class_of f) u.0) (sym s.2) ∙ ap (λ c. is_fault program_ranges (state s.0.class c) c u.0) (sym t.2) ∙ fits) in
         let right = fine_right w z.left z.right z.whole fine in
         let last = fine_right z.right x.left x.right x.whole right in
         (after z.first x.first y.first (omega (arith, u.3, low))).means b y.right (fine_right x.right y.left y.right y.whole last) y.tail

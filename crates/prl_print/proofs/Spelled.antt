@@ -41,8 +41,8 @@ f_separated P f g between ls d each sep leads (x ∷ xs) all =
 pub value_spelled : (d : ℕ) → d ≤ 64 → (v : Value) → IsConstant v → Frag d (value_text v) (value_words v) word d
 value_spelled d le (values.Int (pos n)) h = f_constant d n h
 value_spelled d le (values.Int (negsuc n)) h = f_minus d (suc n) le h
-value_spelled d le (values.Bool true) h = f_keyword d fixed.True (codes "true") (refl, omega arith) refl refl (λ l. refl)
-value_spelled d le (values.Bool false) h = f_keyword d fixed.False (codes "false") (refl, omega arith) refl refl (λ l. refl)
+value_spelled d le (values.Bool true) h = f_keyword d fixed.True (codes "true") (refl, omega arith) refl refl (refl, refl)
+value_spelled d le (values.Bool false) h = f_keyword d fixed.False (codes "false") (refl, omega arith) refl refl (refl, refl)
 
 pub denominator_spelled : {i : Bool} (d : ℕ) → d ≤ 64 → (b : Bool) (den : ℕ) → 1 ≤ den → den ≤ 2147483647 → Part i d (cond b [] (codes "/" ++ decimal den)) (denominator_words b den) word i d
 denominator_spelled d le true den low high = f_nil d word
@@ -64,8 +64,8 @@ shift_spelled d le q h =
     (f_seq (f_shift d (nat_abs q.num) le h.num_high) (denominator_spelled d le (q.den == 1) q.den h.den_low h.den_high) (denominator_leads (q.den == 1) q.den))
 
 pub type_spelled : (d : ℕ) (ty : Ty) → Frag d (type_text ty) (type_words ty) word d
-type_spelled d types.Int = f_keyword d fixed.Int (codes "int") (refl, omega arith) refl refl (λ l. refl)
-type_spelled d types.Bool = f_keyword d fixed.Bool (codes "bool") (refl, omega arith) refl refl (λ l. refl)
+type_spelled d types.Int = f_keyword d fixed.Int (codes "int") (refl, omega arith) refl refl (refl, refl)
+type_spelled d types.Bool = f_keyword d fixed.Bool (codes "bool") (refl, omega arith) refl refl (refl, refl)
 
 -- a comma and a blank, a semicolon and a blank
 pub comma_spelled : {i : Bool} (d : ℕ) → d ≤ 64 → Part i d (codes ", ") (one fixed.Comma) free i d

@@ -43,7 +43,7 @@ fn registers(rt: HostRuntime) -> Result<(), Fail> {
     Ok(())
 }
 
-/// `a and not b - 1 - c < 0`: two operands of `and`, the second a comparison behind a `not`.
+/// `a and not b - 1 - c < 0`: two operands of `and`, the second a comparison after a `not`.
 fn binds_as_it_should(right: &Expr) -> bool {
     match right {
         Expr::Chain { first: _, links } => match links.as_slice() {
@@ -130,7 +130,7 @@ fn unexpected(rt: HostRuntime) -> Result<(), Fail> {
     assert!(rt; is_syntax(alloc, b"body F { o = a < b < c; }", 19));
     assert!(rt; is_syntax(alloc, b"body F { o = not - not a; }", 19));
     assert!(rt; is_syntax(alloc, b"body F { o = a *^ 2; }", 15));
-    assert!(rt; is_syntax(alloc, b"body F { o = 2147483648; } x", 27));
+    assert!(rt; is_syntax(alloc, b"body F { o = 9223372036854775808; } x", 36));
     assert!(rt; is_syntax(alloc, b"body body 99999999999999999999", 10));
     assert!(rt; parse_bodies(alloc, b"body F { o = if(a, b, - - (c)); }").is_ok());
     Ok(())
@@ -139,11 +139,12 @@ fn unexpected(rt: HostRuntime) -> Result<(), Fail> {
 #[test]
 fn ranges(rt: HostRuntime) -> Result<(), Fail> {
     let alloc = rt.alloc();
-    assert!(rt; is_syntax(alloc, b"body F { o = 2147483648; }", 13));
-    assert!(rt; is_syntax(alloc, b"body F { o = -2147483648; }", 14));
-    assert!(rt; is_syntax(alloc, b"body F { reg a = -2147483649; }", 18));
-    assert!(rt; is_syntax(alloc, b"body F { reg a = 2147483648; }", 17));
-    assert!(rt; parse_bodies(alloc, b"body F { reg a = -2147483648; o = -2147483647; }").is_ok());
+    assert!(rt; is_syntax(alloc, b"body F { o = 9223372036854775808; }", 13));
+    assert!(rt; is_syntax(alloc, b"body F { o = -9223372036854775808; }", 14));
+    assert!(rt; is_syntax(alloc, b"body F { reg a = -9223372036854775809; }", 18));
+    assert!(rt; is_syntax(alloc, b"body F { reg a = 9223372036854775808; }", 17));
+    let text = b"body F { reg a = -9223372036854775808; o = -9223372036854775807; }";
+    assert!(rt; parse_bodies(alloc, text).is_ok());
     Ok(())
 }
 

@@ -38,3 +38,22 @@ fn operators_and_notes(rt: HostRuntime) -> Result<(), Fail> {
     assert!(rt; text.as_slice() == OPERATORS_PRINTED);
     Ok(())
 }
+
+const CONSTANTS: &[u8] = b"node n (i: rate (10, 2147483647)) returns (o, p)
+let o=9999999999; p=-9223372036854775808 fby 9223372036854775807::i; tel";
+
+const CONSTANTS_PRINTED: &[u8] = b"node n(i: rate (10, 2147483647)) returns (o; p)
+let
+  o = 9999999999;
+  p = -9223372036854775808 fby 9223372036854775807 :: i;
+tel
+";
+
+#[test]
+fn constants(rt: HostRuntime) -> Result<(), Fail> {
+    let alloc = rt.alloc();
+    let program = parse(alloc, CONSTANTS)?;
+    let text = print(alloc, &program)?;
+    assert!(rt; text.as_slice() == CONSTANTS_PRINTED);
+    Ok(())
+}

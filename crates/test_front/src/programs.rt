@@ -108,12 +108,58 @@ fn ranges(rt: HostRuntime) -> Result<(), Fail> {
         )
     );
     assert!(rt; parse(alloc, b"sensor i wcet 2147483647;").is_ok());
-    assert!(rt; parse(alloc, b"node n () returns (o) let o = -2147483648; tel",).is_ok());
+    assert!(rt;
+        parse(
+            alloc,
+            b"node n () returns (o) let o = -9223372036854775808; tel",
+        )
+        .is_ok()
+    );
     assert!(rt;
         matches!(
-            parse(alloc, b"node n () returns (o) let o = 2147483648; tel",),
+            parse(
+                alloc,
+                b"node n () returns (o) let o = 9223372036854775808; tel",
+            ),
             Err(ParseFault::NumberRange(30))
         )
+    );
+    Ok(())
+}
+
+/// A sensor and an actuator, and a node that gives this constant.
+const GREATEST: &[u8] = b"sensor i wcet 1;
+actuator o wcet 1;
+node main (i: int rate (10, 0)) returns (o)
+let
+  o = 9223372036854775807;
+tel
+";
+
+const PAST_GREATEST: &[u8] = b"sensor i wcet 1;
+actuator o wcet 1;
+node main (i: int rate (10, 0)) returns (o)
+let
+  o = 9223372036854775808;
+tel
+";
+
+#[test]
+fn greatest_constant(rt: HostRuntime) -> Result<(), Fail> {
+    let alloc = rt.alloc();
+    let program = parse(alloc, GREATEST)?;
+    match program.nodes.as_slice() {
+        [node] => match node.eqs.as_slice() {
+            [o] => {
+                assert!(rt; matches!(o.right.base, Base::Const(Value::Int(c)) if c == i64::MAX))
+            }
+            _ => assert!(rt; false),
+        },
+        _ => assert!(rt; false),
+    }
+    assert_eq!(rt;
+        fault(alloc, PAST_GREATEST),
+        Some(ParseFault::NumberRange(90))
     );
     Ok(())
 }
@@ -195,7 +241,7 @@ fn unexpected_tokens(rt: HostRuntime) -> Result<(), Fail> {
     Ok(())
 }
 
-/// What is in front of a number and behind it.
+/// What is in front of a number and after it.
 type Around = (&'static str, &'static str);
 
 /// Where numbers from 1 to 2^31 - 1 stand.
@@ -211,17 +257,28 @@ const FROM_ONE: [Around; 8] = [
 ];
 
 /// Where numbers from 0 to 2^31 - 1 stand.
-const FROM_ZERO: [Around; 6] = [
+const FROM_ZERO: [Around; 4] = [
     ("node n (i: rate (10, ", ")) returns (o) let tel"),
     ("node n (i: due ", ") returns (o) let tel"),
+    ("node n (i: rate (10, 0) due ", ") returns (o) let tel"),
     ("node n () returns (o) let o = i ~> ", "; tel"),
+];
+
+/// Where constants without a sign stand.
+const CONSTANTS: [Around; 6] = [
     ("node n () returns (o) let o = ", "; tel"),
     ("node n () returns (o) let o = ", " fby i; tel"),
     ("node n () returns (o) let o = ", " :: i; tel"),
+    ("node n () returns (o) let o = f(1, ", "); tel"),
+    ("node n () returns (o) let o = ((", ")); tel"),
+    (
+        "node n (i: rate (10, 0)) returns (o) let o = i ~> 1/2; (o, p) = (1, ",
+        "); tel",
+    ),
 ];
 
-/// Where digits behind a minus stand.
-const BEHIND_MINUS: [Around; 3] = [
+/// Where digits after a minus stand.
+const AFTER_MINUS: [Around; 3] = [
     ("node n () returns (o) let o = -", "; tel"),
     ("node n () returns (o) let o = -", " fby i; tel"),
     ("node n () returns (o) let o = -", " :: i; tel"),
@@ -277,13 +334,23 @@ fn edges_of_ranges(rt: HostRuntime) -> Result<(), Fail> {
     check_range(&rt, alloc, &FROM_ONE, &from_one)?;
     let from_zero = [("0", true), ("2147483647", true), ("2147483648", false)];
     check_range(&rt, alloc, &FROM_ZERO, &from_zero)?;
-    let behind_minus = [("0", true), ("2147483648", true), ("2147483649", false)];
-    check_range(&rt, alloc, &BEHIND_MINUS, &behind_minus)
+    let constants = [
+        ("0", true),
+        ("9223372036854775807", true),
+        ("9223372036854775808", false),
+    ];
+    check_range(&rt, alloc, &CONSTANTS, &constants)?;
+    let after_minus = [
+        ("0", true),
+        ("9223372036854775808", true),
+        ("9223372036854775809", false),
+    ];
+    check_range(&rt, alloc, &AFTER_MINUS, &after_minus)
 }
 
 #[test]
 fn order_of_the_faults(rt: HostRuntime) -> Result<(), Fail> {
-    // A number past 2^64 - 1 is no token, and so comes before what is unexpected; others come behind it.
+    // A number past 2^64 - 1 is no token, and so comes before what is unexpected; others come after it.
     let texts = [
         (
             "sensor sensor 18446744073709551616",
@@ -305,7 +372,7 @@ fn order_of_the_faults(rt: HostRuntime) -> Result<(), Fail> {
     Ok(())
 }
 
-/// A text of so many nodes, with this WCET of a sensor behind them.
+/// A text of so many nodes, with this WCET of a sensor after them.
 fn nodes(alloc: Global, count: u32, wcet: &str) -> Result<Vec<u8>, Fail> {
     let mut text = Vec::new(alloc);
     for _ in 0..count {
