@@ -9,15 +9,16 @@ use Rattle.prl_lex.specs.declared.tokens.LexFault.TheVariants as lexical
 use Rattle.prl_lex.specs.declared.tokens.Token.{Token}
 use Rattle.prl_lex.specs.Lexing.{tokens_of}
 use Rattle.prl_reader.specs.Lexemes.{Lexeme}
+use Rattle.prl_reader.specs.Lexing.{lexemes_of}
 use Rattle.prl_reader.specs.Readers.{Stop, Stuck, Deep}
 use Rattle.prl_reader.specs.Language.{Text, read_at}
 use Rattle.prl_reader.specs.Whole.{place_of, all_at}
 use Rattle.prl_reader.proofs.Whole.{all_ok, all_only, all_stuck}
 use Rattle.prl_bodytext.specs.Grammar.{Bodies, bodies}
-use Rattle.prl_bodytext.specs.Lexing.{lexemes_of}
 use Rattle.prl_bodytext.specs.Parsing.{of_lexical, lexed, placed, ranged, bodies_of_tokens, bodies_of, AreBodiesOf, Explains}
 use Rattle.prl_reader.specs.Ranges.{out_of_range}
 use Rattle.prl_bodytext.specs.Ranges.{body_ranges}
+use Rattle.prl_bodytext.specs.Words.{body_vocabulary}
 use Rattle.prl_bodytext.proofs.Right.{bodies_reads}
 
 abbrev failed : BodyFault → Result (List TextTree) BodyFault
@@ -34,7 +35,7 @@ ok_same a b h = cc
 
 module _ (text : List ℕ) (tokens : List Token) (is : tokens_of text ≡ Ok tokens) where
   abbrev ts : List Lexeme
-  ts = lexemes_of text tokens
+  ts = lexemes_of body_vocabulary text tokens
 
   in_range_ok : (o : Option ℕ) (t trees : List TextTree) → out_of_range body_ranges false 0 ts ≡ o → Text bodies Bodies t ts → ranged o t ≡ Ok trees → AreBodiesOf text trees
   in_range_ok None t trees o w h =
@@ -63,9 +64,9 @@ module _ (text : List ℕ) (tokens : List Token) (is : tokens_of text ≡ Ok tok
       subst P (err_same faults.Memory fault h) tt
 
 -- the tokens, or the fault that they have
-by_tokens : (text : List ℕ) (r : Result (List Token) LexFault) (trees : List TextTree) → tokens_of text ≡ r → (lexed r >>= λ tokens. bodies_of_tokens (lexemes_of text tokens) (length text)) ≡ Ok trees → AreBodiesOf text trees
+by_tokens : (text : List ℕ) (r : Result (List Token) LexFault) (trees : List TextTree) → tokens_of text ≡ r → (lexed r >>= λ tokens. bodies_of_tokens (lexemes_of body_vocabulary text tokens) (length text)) ≡ Ok trees → AreBodiesOf text trees
 unfolding bodies_of_tokens
-by_tokens text (Ok tokens) trees e h = tokens_ok text tokens e (all_at (read_at bodies Bodies) (lexemes_of text tokens)) trees refl h
+by_tokens text (Ok tokens) trees e h = tokens_ok text tokens e (all_at (read_at bodies Bodies) (lexemes_of body_vocabulary text tokens)) trees refl h
 by_tokens text (Err fault) trees e h = cc
 
 lexical_fault : (text : List ℕ) (lex : LexFault) (fault : BodyFault) → tokens_of text ≡ Err lex → of_lexical lex ≡ fault → Explains text fault
@@ -74,9 +75,9 @@ lexical_fault text (lexical.NumberRange at) fault e h = let P : BodyFault → Ty
 lexical_fault text (lexical.Limit limit) fault e h = let P : BodyFault → Type 0 = Explains text in subst P h e
 lexical_fault text lexical.Memory fault e h = let P : BodyFault → Type 0 = Explains text in subst P h tt
 
-by_fault : (text : List ℕ) (r : Result (List Token) LexFault) (fault : BodyFault) → tokens_of text ≡ r → (lexed r >>= λ tokens. bodies_of_tokens (lexemes_of text tokens) (length text)) ≡ Err fault → Explains text fault
+by_fault : (text : List ℕ) (r : Result (List Token) LexFault) (fault : BodyFault) → tokens_of text ≡ r → (lexed r >>= λ tokens. bodies_of_tokens (lexemes_of body_vocabulary text tokens) (length text)) ≡ Err fault → Explains text fault
 unfolding bodies_of_tokens
-by_fault text (Ok tokens) fault e h = tokens_err text tokens e (all_at (read_at bodies Bodies) (lexemes_of text tokens)) fault refl h
+by_fault text (Ok tokens) fault e h = tokens_err text tokens e (all_at (read_at bodies Bodies) (lexemes_of body_vocabulary text tokens)) fault refl h
 by_fault text (Err lex) fault e h = lexical_fault text lex fault e (err_same (of_lexical lex) fault h)
 
 parsed : (text : List ℕ) (trees : List TextTree) → bodies_of text ≡ Ok trees → AreBodiesOf text trees
@@ -91,8 +92,8 @@ explained text fault h = by_fault text (tokens_of text) fault refl h
 pub only_bodies : (text : List ℕ) (trees : List TextTree) → AreBodiesOf text trees → bodies_of text ≡ Ok trees
 unfolding bodies_of bodies_of_tokens
 only_bodies text trees are =
-    ap (λ r. lexed r >>= λ tokens. bodies_of_tokens (lexemes_of text tokens) (length text)) are.lexical
-    ∙ ap (λ r. placed (lexemes_of text are.tokens) (length text) r >>= λ trees. ranged (out_of_range body_ranges false 0 (lexemes_of text are.tokens)) trees) (all_only bodies_reads (lexemes_of text are.tokens) trees are.written)
+    ap (λ r. lexed r >>= λ tokens. bodies_of_tokens (lexemes_of body_vocabulary text tokens) (length text)) are.lexical
+    ∙ ap (λ r. placed (lexemes_of body_vocabulary text are.tokens) (length text) r >>= λ trees. ranged (out_of_range body_ranges false 0 (lexemes_of body_vocabulary text are.tokens)) trees) (all_only bodies_reads (lexemes_of body_vocabulary text are.tokens) trees are.written)
     ∙ ap (λ o. ranged o trees) are.ranges
 
 pub given_bodies : {X : Type 0} (view : X → List TextTree) (r : Result X BodyFault) (text : List ℕ) → GivesBut faults.Memory view r (bodies_of text) → IfOk r (λ x. AreBodiesOf text (view x))

@@ -1,5 +1,4 @@
 pub mod Words
-pub mod Lexing
 pub mod Trees
 pub mod Grammar
 pub mod Parses

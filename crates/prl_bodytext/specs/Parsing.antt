@@ -11,13 +11,14 @@ use Rattle.prl_lex.specs.declared.tokens.LexFault.TheVariants as lexical
 use Rattle.prl_lex.specs.declared.tokens.Token.{Token}
 use Rattle.prl_lex.specs.Lexing.{tokens_of}
 use Rattle.prl_reader.specs.Lexemes.{Lexeme}
+use Rattle.prl_reader.specs.Lexing.{lexemes_of}
 use Rattle.prl_reader.specs.Ranges.{out_of_range}
 use Rattle.prl_reader.specs.Readers.{Stop, Stuck, Deep}
 use Rattle.prl_reader.specs.Language.{Text, read_at}
 use Rattle.prl_reader.specs.Whole.{place_of, all_at, IsFirstUnexpected}
 use Rattle.prl_bodytext.specs.Grammar.{Bodies, bodies}
-use Rattle.prl_bodytext.specs.Lexing.{lexemes_of}
 use Rattle.prl_bodytext.specs.Ranges.{body_ranges}
+use Rattle.prl_bodytext.specs.Words.{body_vocabulary}
 
 abbrev pub of_lexical : LexFault → BodyFault
 of_lexical (lexical.BadToken at) = faults.Syntax at
@@ -54,30 +55,30 @@ bodies_of_tokens ts end = do
 unfoldable pub bodies_of : List ℕ → Result (List TextTree) BodyFault
 bodies_of text = do
   tokens ← lexed (tokens_of text)
-  bodies_of_tokens (lexemes_of text tokens) (length text)
+  bodies_of_tokens (lexemes_of body_vocabulary text tokens) (length text)
 
 -- The text has these bodies: its tokens are a text of the grammar, with these trees, and its numbers are in range.
 pub record AreBodiesOf (text : List ℕ) (trees : List TextTree) : Type 0 where
   pub tokens : List Token
   pub lexical : tokens_of text ≡ Ok tokens
-  pub written : Text bodies Bodies trees (lexemes_of text tokens)
-  pub ranges : out_of_range body_ranges false 0 (lexemes_of text tokens) ≡ None
+  pub written : Text bodies Bodies trees (lexemes_of body_vocabulary text tokens)
+  pub ranges : out_of_range body_ranges false 0 (lexemes_of body_vocabulary text tokens) ≡ None
 
 -- The first unexpected token of the text is at the place: no text of the grammar begins with the tokens up to it.
 pub record IsUnexpectedAt (text : List ℕ) (at : ℕ) : Type 0 where
   pub tokens : List Token
   pub left : ℕ
   pub lexical : tokens_of text ≡ Ok tokens
-  pub first : IsFirstUnexpected (Text bodies Bodies) (lexemes_of text tokens) left
-  pub place : at ≡ place_of (lexemes_of text tokens) left (length text)
+  pub first : IsFirstUnexpected (Text bodies Bodies) (lexemes_of body_vocabulary text tokens) left
+  pub place : at ≡ place_of (lexemes_of body_vocabulary text tokens) left (length text)
 
 -- The number at the place is the first out of its range, in a text of the grammar.
 pub record IsOutOfRangeAt (text : List ℕ) (at : ℕ) : Type 0 where
   pub tokens : List Token
   pub trees : List TextTree
   pub lexical : tokens_of text ≡ Ok tokens
-  pub written : Text bodies Bodies trees (lexemes_of text tokens)
-  pub first : out_of_range body_ranges false 0 (lexemes_of text tokens) ≡ Some at
+  pub written : Text bodies Bodies trees (lexemes_of body_vocabulary text tokens)
+  pub first : out_of_range body_ranges false 0 (lexemes_of body_vocabulary text tokens) ≡ Some at
 
 -- no token begins at the place, or a number above 2^64 - 1 does
 abbrev pub IsBadTokenAt : List ℕ → ℕ → Type 0

@@ -1,6 +1,7 @@
 -- The keywords and symbols of bodies.
-use Rattle.std.specs.Prelude.{ℕ, List, [], ◌∷◌, Option, Some, None, codes, if◌then◌else◌}
-use Rattle.std.specs.Str.{bytes_eq}
+use Rattle.std.specs.Prelude.{ℕ, List, [], ◌∷◌, Option, Some, None, codes}
+use Rattle.std.specs.Option.{option_map, option_or}
+use Rattle.prl_reader.specs.Lexing.{Vocabulary, row_of}
 use Rattle.prl_bodytext.specs.declared.words.Fixed.{Fixed}
 use Rattle.prl_bodytext.specs.declared.words.Fixed.TheVariants as fixed
 
@@ -33,11 +34,6 @@ class_of fixed.Star = 25
 class_of fixed.Slash = 26
 class_of fixed.Percent = 27
 class_of fixed.Foreign = 28
-
--- the first row with these bytes
-abbrev pub row_of : List (List ℕ × Fixed) → List ℕ → Option Fixed
-row_of [] bytes = None
-row_of (row ∷ rows) bytes = if bytes_eq bytes row.0 then Some row.1 else row_of rows bytes
 
 abbrev pub plain_keywords : List (List ℕ × Fixed)
 plain_keywords =
@@ -80,18 +76,17 @@ arithmetic =
     (codes "/", fixed.Slash) ∷
     (codes "%", fixed.Percent) ∷ []
 
-abbrev pub or_else : Option Fixed → Option Fixed → Option Fixed
-or_else None other = other
-or_else (Some f) other = Some f
-
 abbrev pub or_foreign : Option Fixed → Fixed
 or_foreign None = fixed.Foreign
 or_foreign (Some f) = f
 
 -- the keyword that a word is
 abbrev pub keyword_of : List ℕ → Option Fixed
-keyword_of word = or_else (row_of plain_keywords word) (row_of operator_keywords word)
+keyword_of word = option_or (row_of plain_keywords word) (row_of operator_keywords word)
 
 -- the symbol that the bytes are
 abbrev pub symbol_of : List ℕ → Fixed
-symbol_of bytes = or_foreign (or_else (row_of punctuation bytes) (or_else (row_of comparisons bytes) (row_of arithmetic bytes)))
+symbol_of bytes = or_foreign (option_or (row_of punctuation bytes) (option_or (row_of comparisons bytes) (row_of arithmetic bytes)))
+
+abbrev pub body_vocabulary : Vocabulary
+body_vocabulary = record { keyword = λ word. option_map class_of (keyword_of word); symbol = λ bytes. class_of (symbol_of bytes) }

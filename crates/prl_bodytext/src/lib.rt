@@ -8,7 +8,6 @@ mod parser;
 mod parsing;
 mod ranges;
 mod repeats;
-mod terminals;
 mod trees;
 mod words;
 

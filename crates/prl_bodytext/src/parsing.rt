@@ -7,10 +7,10 @@ ghost use Rattle.prl_bodytext.specs.Parsing.{of_lexical, FaultOfStop, bodies_of_
 
 use crate::bodies::bodies;
 use crate::ranges::BodyRanges;
-use crate::terminals::terminals;
+use crate::words::BodySpelling;
 use prl_body::{BodyFault, BodyTexts};
 use prl_lex::{LexFault, lex};
-use prl_reader::{Stop, Terminal, out_of_range, place_of};
+use prl_reader::{Stop, Terminal, out_of_range, place_of, terminals_of};
 use std::alloc::Global;
 
 fn of_lexical(fault: LexFault) -> BodyFault
@@ -56,7 +56,7 @@ fn parsed(alloc: Global, text: &[u8]) -> Result<BodyTexts, BodyFault>
         Ok(tokens) => tokens,
         Err(fault) => return Err(of_lexical(fault)),
     };
-    let terminals = terminals(alloc, text, tokens.as_slice())?;
+    let terminals = terminals_of::<BodySpelling>(alloc, text, tokens.as_slice())?;
     bodies_of_tokens(alloc, terminals.as_slice(), text.len() as u32)
 }
 

@@ -1,7 +1,10 @@
 //! The keywords and symbols of bodies.
 
 ghost use Rattle.std.specs.Prelude.{◌≡◌, ◌≤◌};
-ghost use Rattle.prl_bodytext.specs.Words.{class_of, row_of, plain_keywords, operator_keywords, punctuation, comparisons, arithmetic, keyword_of, symbol_of};
+ghost use Rattle.prl_reader.specs.Lexing.{row_of};
+ghost use Rattle.prl_bodytext.specs.Words.{class_of, plain_keywords, operator_keywords, punctuation, comparisons, arithmetic, keyword_of, symbol_of};
+
+use prl_reader::Spelling;
 
 /// A keyword or a symbol of bodies.
 #[derive(Clone, Copy, Debug, PartialEq, Eq)]
@@ -144,4 +147,24 @@ pub fn class_of(fixed: Fixed) -> u8
     ensures from_two { 2 ≤ result }
 {
     fixed as u8
+}
+
+/// The keywords and symbols of bodies.
+pub struct BodySpelling;
+
+impl Spelling for BodySpelling {
+    ghost use Rattle.prl_bodytext.specs.Words.{body_vocabulary};
+
+    ghost vocabulary = { body_vocabulary };
+
+    fn keyword(word: &[u8]) -> Option<u8> {
+        match keyword_of(word) {
+            Some(keyword) => Some(class_of(keyword)),
+            None => None,
+        }
+    }
+
+    fn symbol(bytes: &[u8]) -> u8 {
+        class_of(symbol_of(bytes))
+    }
 }

@@ -3,6 +3,7 @@ use Rattle.std.proofs.Common.{◌≡◌, ◌==◌, ◌≤◌, ◌+◌, ◌-◌, 
 use Rattle.std.proofs.lemmas.Bool.{cond-false, cond_both, and_parts, leb-true, not-true, cases_Bool, false≢true, eqb-true}
 use Rattle.std.proofs.lemmas.List.{drop-drop, length-take-le}
 use Rattle.std.specs.List.{list_all}
+use Rattle.std.specs.Option.{option_or}
 use Rattle.std.specs.Str.{bytes_eq}
 use Rattle.prl_base.specs.Names.{is_word, IsName}
 use Rattle.prl_base.specs.Reading.{◌>>=◌}
@@ -16,8 +17,9 @@ use Rattle.prl_lex.specs.Tokens.{is_number, kind_of, piece_of, FitsPiece}
 use Rattle.prl_lex.specs.Lexing.{token_text, token_at, depth_after, checked, with_piece, tokens_from}
 use Rattle.prl_lex.proofs.Fits.{piece_of-fits}
 use Rattle.prl_reader.specs.Lexemes.{Lexeme}
+use Rattle.prl_reader.specs.Lexing.{row_of}
 use Rattle.prl_syntax.specs.declared.words.Fixed.{Fixed}
-use Rattle.prl_syntax.specs.Words.{class_of, row_of, declaration_keywords, flow_keywords, punctuation, operators, or_else, or_foreign, keyword_of, symbol_of}
+use Rattle.prl_syntax.specs.Words.{class_of, declaration_keywords, flow_keywords, punctuation, operators, or_foreign, keyword_of, symbol_of}
 use Rattle.prl_syntax.specs.Lexing.{word_lexeme, kind_lexeme, lexeme_of, lexemes_of}
 use Rattle.prl_reader.specs.Ranges.{inside_after, is_fault, out_of_range}
 use Rattle.prl_syntax.specs.Ranges.{program_ranges}
@@ -36,7 +38,7 @@ row_passes P (row ∷ rows) w h =
     let parts = and_parts (P row.1) (list_all (λ r. P r.1) rows) h in
     cond_both (bytes_eq w row.0) (Some row.1) (row_of rows w) (λ o. passes P o ≡ true) (λ same. parts.0) (λ other. row_passes P rows w parts.1)
 
-or_passes : (P : Fixed → Bool) (a b : Option Fixed) → passes P a ≡ true → passes P b ≡ true → passes P (or_else a b) ≡ true
+or_passes : (P : Fixed → Bool) (a b : Option Fixed) → passes P a ≡ true → passes P b ≡ true → passes P (option_or a b) ≡ true
 or_passes P None b h g = g
 or_passes P (Some f) b h g = h
 
@@ -100,7 +102,7 @@ flat_symbol : (p : List ℕ) → IsNeither p → IsFlat (class_of (symbol_of p))
 flat_symbol p h =
     let front : row_of punctuation p ≡ row_of (drop 2 punctuation) p = cond-false (bytes_eq p (codes "(")) _ _ h.opening ∙ cond-false (bytes_eq p (codes ")")) _ _ h.closing in
     let all = or_passes is_flat (row_of (drop 2 punctuation) p) (row_of operators p) (row_passes is_flat (drop 2 punctuation) p refl) (row_passes is_flat operators p refl) in
-    foreign (or_else (row_of punctuation p) (row_of operators p)) (ap (λ o. passes is_flat (or_else o (row_of operators p))) front ∙ all)
+    foreign (option_or (row_of punctuation p) (row_of operators p)) (ap (λ o. passes is_flat (option_or o (row_of operators p))) front ∙ all)
   where
     foreign : (o : Option Fixed) → passes is_flat o ≡ true → IsFlat (class_of (or_foreign o))
     foreign None e = record { opening = refl; closing = refl; name = refl }

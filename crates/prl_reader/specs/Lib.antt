@@ -11,3 +11,4 @@ pub mod Loops
 pub mod LookAhead
 pub mod Numbers
 pub mod Ranges
+pub mod Lexing

@@ -4,10 +4,12 @@
 //! stands on names, places and values.
 #![tactic(auto)]
 
+mod lexing;
 mod numbers;
 mod reading;
 mod terminals;
 
+pub use lexing::{Spelling, terminals_of};
 pub use numbers::{MAX_NEGATIVE, MAX_POSITIVE, Ranged, negative, out_of_range, positive};
 pub use reading::{Stop, expect, name, next_is, number, place_of};
 pub use terminals::Terminal;

@@ -15,7 +15,7 @@ use Rattle.prl_syntax.specs.declared.words.Fixed.TheVariants as fixed
 use Rattle.prl_syntax.specs.Readers.{the_at, only, postfix_at, postfix_first, Chain, tree_of_parts, tree_by, comma_tree_by, closed_trees_by, no_trees_at, arguments_by, root_of_name, applied_by, chain_at, tree_at}
 use Rattle.prl_syntax.specs.Links.{with_prefixes}
 use Rattle.std.proofs.lemmas.Bool.{cond-true, cond-false}
-use Rattle.prl_syntax.specs.Loops.{with_front}
+use Rattle.prl_reader.specs.Loops.{with_front}
 
 abbrev some_behind : Read Trees → Read (Option Trees)
 some_behind r = r >>= λ a. Ok (Some a.0, a.1)

@@ -20,7 +20,7 @@ use Rattle.prl_reader.proofs.Repeats.{Widens, restate, many_reads}
 use Rattle.prl_reader.proofs.Tokens.{followed, either, name_reads, number_reads, solid, maybe_reads, first_reads}
 use Rattle.prl_syntax.specs.declared.words.Fixed.TheVariants as fixed
 use Rattle.prl_syntax.specs.Words.{class_of}
-use Rattle.prl_syntax.proofs.Loops.{Steps}
+use Rattle.prl_reader.proofs.Loops.{Steps}
 use Rattle.prl_syntax.specs.Grammar.{The, ConstantText, PrefixText, PostfixText, NameText, Enclosed, Beside, Nothing, TreeText, RootText, OthersText}
 use Rattle.prl_syntax.specs.Readers.{only, constant_first, postfix_at, postfix_first, Chain, prefixed, parts_by, tree_of_parts, tree_by, comma_tree_by, trees_by, closed_trees_by, group_by, arguments_by, root_of_name, named_by, applied_by, constant_by}
 use Rattle.prl_syntax.proofs.Simple.{steps, the_reads, constant_reads, ratio_reads}

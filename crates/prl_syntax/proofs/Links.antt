@@ -16,7 +16,7 @@ use Rattle.prl_reader.proofs.Repeats.{same_bind, leaves_fewer}
 use Rattle.prl_reader.proofs.Tokens.{name_reads}
 use Rattle.prl_syntax.specs.declared.words.Fixed.{Fixed}
 use Rattle.prl_syntax.specs.declared.words.Fixed.TheVariants as fixed
-use Rattle.prl_syntax.proofs.Loops.{Steps}
+use Rattle.prl_reader.proofs.Loops.{Steps}
 use Rattle.prl_syntax.specs.Readers.{the_at, only, constant_at, constant_first, Chain, prefixed, comma_tree_by, applied_by, tail_by, fby_by, constant_end, constant_by, chain_by, chain_at, tree_at}
 use Rattle.prl_syntax.proofs.Simple.{steps, the_reads, constant_reads}
 use Rattle.prl_syntax.specs.Links.{Step, prefix, last, fby_step, cons_step, constant_step, constant_link_at, tail_step, last_step, link_at, with_prefixes, after_step}

@@ -8,7 +8,7 @@ use Rattle.prl_reader.proofs.Tokens.{followed, either, name_reads, number_reads,
 use Rattle.prl_syntax.specs.declared.words.Fixed.{Fixed}
 use Rattle.prl_syntax.specs.declared.words.Fixed.TheVariants as fixed
 use Rattle.prl_syntax.specs.Words.{class_of}
-use Rattle.prl_syntax.proofs.Loops.{Steps}
+use Rattle.prl_reader.proofs.Loops.{Steps}
 use Rattle.prl_syntax.specs.Grammar.{ColonNote, ItemText, CommaItem, RunText, SemicolonRun, ParamsText, EnclosedParams, ClosedParams, MaybeParams, EndedRun, LocalsText, MaybeLocals, PortGroup, NextGroup, PortsText, ClosedPorts, EnclosedPorts, MaybePorts, WcetText, ImportText, DeviceText}
 use Rattle.prl_syntax.specs.Readers.{only, colon_note_at, item_at, comma_item_at, run_at, semicolon_run_at, params_at, closed_params_at, enclosed_params_at, maybe_params_at, ended_run_at, locals_at, maybe_locals_at, comma_semicolon, port_group_at, next_group_at, ports_at, closed_ports_at, enclosed_ports_at, maybe_ports_at, wcet_at, import_at, device_at}
 use Rattle.prl_syntax.proofs.Simple.{steps, the_reads, placed_reads, names_reads, type_reads, note_more, note_reads}

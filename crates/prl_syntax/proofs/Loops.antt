@@ -1,43 +1,16 @@
--- A loop that reads one text after another gives what the reader of many gives.
-use Rattle.std.proofs.Common.{◌≡◌, ℕ, ◌<◌, true, false, List, [], ◌∷◌, ◌++◌, length, Ok, Err, refl, sym, ap, ◌∙◌, append_assoc}
+-- A loop that reads one list after another gives what the reader of many gives.
+use Rattle.std.proofs.Common.{◌≡◌, ℕ, true, false, List, [], ◌∷◌, ◌++◌, Ok, Err, refl, sym, ap, ◌∙◌, append_assoc}
 use Rattle.std.proofs.lemmas.Bool.{cond-true, cond-false}
 use Rattle.std.proofs.lemmas.List.{append-nil}
 use Rattle.prl_base.specs.Reading.{◌>>=◌, FailsAs}
 use Rattle.prl_reader.specs.Lexemes.{Lexeme}
-use Rattle.prl_reader.specs.Readers.{Read, next_in, choice, many_at}
+use Rattle.prl_reader.specs.Readers.{Read, next_in, many_at}
 use Rattle.prl_reader.specs.Stops.{stop_of}
 use Rattle.prl_reader.specs.declared.reading.Stop.{Stop}
 use Rattle.prl_reader.specs.declared.reading.Stop.TheVariants as stops
-use Rattle.prl_reader.proofs.Steps.{give}
-use Rattle.prl_reader.proofs.Sequences.{then_read}
+use Rattle.prl_reader.proofs.Loops.{Steps}
 use Rattle.prl_syntax.specs.Trees.{joined}
-use Rattle.prl_syntax.specs.Loops.{with_front, with_joined}
-
--- the reader of many reads one and the others
-pub record Steps {A : Type 0} (ks : List ℕ) (p : List Lexeme → Read A) : Type 0 where
-  pub step : (ts : List Lexeme) → many_at ks p ts ≡ choice ks (then_read p (λ a. then_read (many_at ks p) (λ rest. give (a ∷ rest)))) (give []) ts
-  pub fewer : (ts : List Lexeme) (a : A) (rest : List Lexeme) → p ts ≡ Ok (a, rest) → length rest < length ts
-
-regroup : {A : Type 0} (front : List A) (a : A) (r : Read (List A)) → with_front front (r >>= λ x. Ok (a ∷ x.0, x.1)) ≡ with_front (front ++ a ∷ []) r
-regroup front a (Ok x) = ap (λ xs. Ok (xs, x.1)) (sym (append_assoc front (a ∷ []) x.0))
-regroup front a (Err e) = refl
-
-pub goes_on : {A : Type 0} {ks : List ℕ} {p : List Lexeme → Read A} → Steps ks p → (front : List A) (rest after : List Lexeme) (a : A) (total : Read (List A)) → next_in ks rest ≡ true → p rest ≡ Ok (a, after)
-    → with_front front (many_at ks p rest) ≡ total → with_front (front ++ a ∷ []) (many_at ks p after) ≡ total
-goes_on {A} {ks} {p} s front rest after a total n e so_far =
-    sym (ap (with_front front) (s.step rest ∙ cond-true (next_in ks rest) _ _ n ∙ ap (λ r. r >>= λ x. (many_at ks p x.1 >>= λ y. Ok (x.0 ∷ y.0, y.1))) e) ∙ regroup front a (many_at ks p after))
-    ∙ so_far
-
-pub halts : {A : Type 0} {ks : List ℕ} {p : List Lexeme → Read A} → Steps ks p → (front : List A) (rest : List Lexeme) (total : Read (List A)) → next_in ks rest ≡ false
-    → with_front front (many_at ks p rest) ≡ total → total ≡ Ok (front, rest)
-halts {A} {ks} {p} s front rest total n so_far =
-    sym so_far ∙ ap (with_front front) (s.step rest ∙ cond-false (next_in ks rest) _ _ n) ∙ ap (λ xs. Ok (xs, rest)) (append-nil front)
-
-pub fails : {A : Type 0} {ks : List ℕ} {p : List Lexeme → Read A} → Steps ks p → (e : Stop) (front : List A) (rest : List Lexeme) (total : Read (List A)) → next_in ks rest ≡ true → FailsAs (stop_of e) (p rest)
-    → with_front front (many_at ks p rest) ≡ total → FailsAs (stop_of e) total
-fails {A} {ks} {p} s stops.Memory front rest total n h so_far = tt
-fails {A} {ks} {p} s (stops.Unexpected left) front rest total n h so_far =
-    sym so_far ∙ ap (with_front front) (s.step rest ∙ cond-true (next_in ks rest) _ _ n ∙ ap (λ r. r >>= λ x. (many_at ks p x.1 >>= λ y. Ok (x.0 ∷ y.0, y.1))) h)
+use Rattle.prl_syntax.specs.Loops.{with_joined}
 
 regroup_joined : {A : Type 0} (front a : List A) (r : Read (List (List A))) → with_joined front (r >>= λ x. Ok (a ∷ x.0, x.1)) ≡ with_joined (front ++ a) r
 regroup_joined front a (Ok x) = ap (λ xs. Ok (xs, x.1)) (sym (append_assoc front a (joined x.0)))

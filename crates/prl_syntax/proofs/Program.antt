@@ -6,7 +6,7 @@ use Rattle.prl_reader.proofs.Steps.{give_reads}
 use Rattle.prl_reader.proofs.Repeats.{many_reads}
 use Rattle.prl_reader.proofs.Tokens.{followed, either, name_reads, solid, loose, maybe_reads, first_reads}
 use Rattle.prl_syntax.specs.declared.words.Fixed.TheVariants as fixed
-use Rattle.prl_syntax.proofs.Loops.{Steps}
+use Rattle.prl_reader.proofs.Loops.{Steps}
 use Rattle.prl_syntax.specs.Grammar.{LeftsText, SidesText, EquationText, NodeText, DeclarationText, ProgramText}
 use Rattle.prl_syntax.specs.Readers.{only, lefts_at, sides_at, equation_at, equation_first, node_at, declaration_at, declaration_first, program_at}
 use Rattle.prl_syntax.proofs.Simple.{steps, the_reads, placed_reads, names_reads}

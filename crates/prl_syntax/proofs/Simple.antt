@@ -11,7 +11,7 @@ use Rattle.prl_reader.proofs.Tokens.{followed, either, place_reads, name_reads, 
 use Rattle.prl_syntax.specs.declared.words.Fixed.{Fixed}
 use Rattle.prl_syntax.specs.declared.words.Fixed.TheVariants as fixed
 use Rattle.prl_syntax.specs.Words.{class_of}
-use Rattle.prl_syntax.proofs.Loops.{Steps}
+use Rattle.prl_reader.proofs.Loops.{Steps}
 use Rattle.prl_syntax.specs.Grammar.{The, ConstantText, RatioText, DenominatorText, PlacedText, CommaName, NamesText, TypeText, RateText, DueText, DueNote, RateNote, TypedNote, NoteText}
 use Rattle.prl_syntax.specs.Readers.{the_at, only, constant_at, ratio_at, denominator_at, placed_at, comma_name_at, names_at, type_at, rate_at, due_at, due_note_at, rate_note_at, typed_note_at, note_at, constant_first}
 

@@ -1,26 +1,22 @@
 -- The tokens of a text as the grammar of programs sees them.
-use Rattle.std.specs.Prelude.{ℕ, List, [], map, Option, Some, None}
+use Rattle.std.specs.Prelude.{ℕ, List, Option}
+use Rattle.std.specs.Option.{option_map}
 use Rattle.prl_base.specs.declared.places.Span.{Span}
 use Rattle.prl_lex.specs.declared.tokens.Kind.{Kind}
-use Rattle.prl_lex.specs.declared.tokens.Kind.TheVariants as kinds
 use Rattle.prl_lex.specs.declared.tokens.Token.{Token}
-use Rattle.prl_lex.specs.Lexing.{token_text}
 use Rattle.prl_reader.specs.Lexemes.{Lexeme}
+use Rattle.prl_reader.specs.Lexing.{word_lexeme as word_of_class, kind_lexeme as kind_in, lexeme_of as lexeme_in, lexemes_of as lexemes_in}
 use Rattle.prl_syntax.specs.declared.words.Fixed.{Fixed}
-use Rattle.prl_syntax.specs.Words.{class_of, keyword_of, symbol_of}
+use Rattle.prl_syntax.specs.Words.{class_of, program_vocabulary}
 
--- a word is a keyword or a name
 abbrev pub word_lexeme : Option Fixed → List ℕ → Span → Lexeme
-word_lexeme None bytes at = record { class = 0; name = bytes; number = 0; at = at }
-word_lexeme (Some f) bytes at = record { class = class_of f; name = []; number = 0; at = at }
+word_lexeme keyword = word_of_class (option_map class_of keyword)
 
 abbrev pub kind_lexeme : Kind → List ℕ → Token → Lexeme
-kind_lexeme kinds.Word bytes t = word_lexeme (keyword_of bytes) bytes t.span
-kind_lexeme kinds.Number bytes t = record { class = 1; name = []; number = t.number; at = t.span }
-kind_lexeme kinds.Symbol bytes t = record { class = class_of (symbol_of bytes); name = []; number = 0; at = t.span }
+kind_lexeme = kind_in program_vocabulary
 
 abbrev pub lexeme_of : List ℕ → Token → Lexeme
-lexeme_of text t = kind_lexeme t.kind (token_text text t) t
+lexeme_of = lexeme_in program_vocabulary
 
 abbrev pub lexemes_of : List ℕ → List Token → List Lexeme
-lexemes_of text tokens = map (lexeme_of text) tokens
+lexemes_of = lexemes_in program_vocabulary

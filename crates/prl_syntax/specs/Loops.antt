@@ -1,12 +1,9 @@
--- Loops that read one text after another after those that were read before.
+-- Loops that read one text after another, each of which is a list.
 use Rattle.std.specs.Prelude.{List, ◌++◌, Ok}
 use Rattle.prl_base.specs.Reading.{◌>>=◌}
 use Rattle.prl_reader.specs.Readers.{Read}
 use Rattle.prl_syntax.specs.Trees.{joined}
 
-abbrev pub with_front : {A : Type 0} → List A → Read (List A) → Read (List A)
-with_front front read = read >>= λ x. Ok (front ++ x.0, x.1)
-
--- where each text is a list
+-- what was read before, and then what is still to be read
 abbrev pub with_joined : {A : Type 0} → List A → Read (List (List A)) → Read (List A)
 with_joined front read = read >>= λ x. Ok (front ++ joined x.0, x.1)

@@ -1,6 +1,7 @@
 -- The keywords and symbols of programs.
-use Rattle.std.specs.Prelude.{ℕ, List, [], ◌∷◌, Option, Some, None, codes, if◌then◌else◌}
-use Rattle.std.specs.Str.{bytes_eq}
+use Rattle.std.specs.Prelude.{ℕ, List, [], ◌∷◌, Option, Some, None, codes}
+use Rattle.std.specs.Option.{option_map, option_or}
+use Rattle.prl_reader.specs.Lexing.{Vocabulary, row_of}
 use Rattle.prl_syntax.specs.declared.words.Fixed.{Fixed}
 use Rattle.prl_syntax.specs.declared.words.Fixed.TheVariants as fixed
 
@@ -36,11 +37,6 @@ class_of fixed.Up = 28
 class_of fixed.Down = 29
 class_of fixed.Shift = 30
 class_of fixed.Foreign = 31
-
--- the first row with these bytes
-abbrev pub row_of : List (List ℕ × Fixed) → List ℕ → Option Fixed
-row_of [] bytes = None
-row_of (row ∷ rows) bytes = if bytes_eq bytes row.0 then Some row.1 else row_of rows bytes
 
 abbrev pub declaration_keywords : List (List ℕ × Fixed)
 declaration_keywords =
@@ -83,18 +79,17 @@ operators =
     (codes "/^", fixed.Down) ∷
     (codes "~>", fixed.Shift) ∷ []
 
-abbrev pub or_else : Option Fixed → Option Fixed → Option Fixed
-or_else None other = other
-or_else (Some f) other = Some f
-
 abbrev pub or_foreign : Option Fixed → Fixed
 or_foreign None = fixed.Foreign
 or_foreign (Some f) = f
 
 -- the keyword that a word is
 abbrev pub keyword_of : List ℕ → Option Fixed
-keyword_of word = or_else (row_of declaration_keywords word) (row_of flow_keywords word)
+keyword_of word = option_or (row_of declaration_keywords word) (row_of flow_keywords word)
 
 -- the symbol that the bytes are
 abbrev pub symbol_of : List ℕ → Fixed
-symbol_of bytes = or_foreign (or_else (row_of punctuation bytes) (row_of operators bytes))
+symbol_of bytes = or_foreign (option_or (row_of punctuation bytes) (row_of operators bytes))
+
+abbrev pub program_vocabulary : Vocabulary
+program_vocabulary = record { keyword = λ word. option_map class_of (keyword_of word); symbol = λ bytes. class_of (symbol_of bytes) }

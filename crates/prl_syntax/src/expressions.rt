@@ -6,7 +6,7 @@ ghost use Rattle.prl_ast.specs.Trees.{root_of, tree_of};
 ghost use Rattle.prl_reader.specs.Lexemes.{first_place};
 ghost use Rattle.prl_reader.specs.Readers.{next_in, many_at, maybe_at};
 ghost use Rattle.prl_reader.specs.Stops.{stop_of};
-ghost use Rattle.prl_syntax.specs.Loops.{with_front};
+ghost use Rattle.prl_reader.specs.Loops.{with_front};
 ghost use Rattle.prl_syntax.specs.Links.{link_view, constant_link_at, link_at, with_prefixes};
 ghost use Rattle.prl_syntax.specs.Readers.{only, postfix_first, postfix_at, constant_first, applied_by, chain_at, comma_tree_by, closed_trees_by, tree_at};
 ghost use Rattle.prl_syntax.specs.Trees.{trees_from};

@@ -19,7 +19,6 @@ mod notes;
 mod parameters;
 mod parsing;
 mod ranges;
-mod terminals;
 mod values;
 mod words;
 

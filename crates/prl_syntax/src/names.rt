@@ -5,7 +5,7 @@ ghost use Rattle.prl_base.specs.Reading.{Gives};
 ghost use Rattle.prl_reader.specs.Readers.{many_at};
 ghost use Rattle.prl_reader.specs.Stops.{stop_of};
 ghost use Rattle.prl_syntax.specs.Readers.{only, placed_at, comma_name_at, names_at};
-ghost use Rattle.prl_syntax.specs.Loops.{with_front};
+ghost use Rattle.prl_reader.specs.Loops.{with_front};
 ghost use Rattle.prl_syntax.specs.declared.words.Fixed.TheVariants as kinds;
 
 use crate::words::{Fixed, expect, next_is};

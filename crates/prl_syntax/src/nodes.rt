@@ -6,7 +6,7 @@ ghost use Rattle.prl_ast.specs.Trees.{equation_tree, node_tree, program_tree};
 ghost use Rattle.prl_reader.specs.Readers.{next_in, many_at, maybe_at};
 ghost use Rattle.prl_reader.specs.Stops.{stop_of};
 ghost use Rattle.prl_reader.specs.Whole.{all_at};
-ghost use Rattle.prl_syntax.specs.Loops.{with_front};
+ghost use Rattle.prl_reader.specs.Loops.{with_front};
 ghost use Rattle.prl_syntax.specs.Nodes.{declared_view, parts_view, with_last};
 ghost use Rattle.prl_syntax.specs.Readers.{only, the_at, lefts_at, equation_first, equation_at, node_at, declaration_first, declaration_at, program_at};
 ghost use Rattle.prl_syntax.specs.Trees.{program_of};

@@ -4,7 +4,8 @@ ghost use Rattle.std.specs.Prelude.{◌≡◌, ◌∷◌, [], ◌++◌, reverse,
 ghost use Rattle.prl_base.specs.Reading.{Gives};
 ghost use Rattle.prl_reader.specs.Readers.{many_at, maybe_at};
 ghost use Rattle.prl_reader.specs.Stops.{stop_of};
-ghost use Rattle.prl_syntax.specs.Loops.{with_front, with_joined};
+ghost use Rattle.prl_reader.specs.Loops.{with_front};
+ghost use Rattle.prl_syntax.specs.Loops.{with_joined};
 ghost use Rattle.prl_syntax.specs.Readers.{only, colon_note_at, item_at, comma_item_at, items_at, run_at, semicolon_run_at, params_at, enclosed_params_at, closed_params_at, maybe_params_at, ended_run_at, maybe_locals_at};
 ghost use Rattle.prl_syntax.specs.Trees.{param_of, params_of};
 ghost use Rattle.prl_syntax.specs.Groups.{noted, params_after, waiting_after};

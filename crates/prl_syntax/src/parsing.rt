@@ -7,11 +7,11 @@ ghost use Rattle.prl_syntax.specs.Parsing.{of_lexical, FaultOfStop, limited, pro
 
 use crate::nodes::program;
 use crate::ranges::ProgramRanges;
-use crate::terminals::terminals;
+use crate::words::ProgramSpelling;
 use prl_ast::Program;
 use prl_base::{Limit, What};
 use prl_lex::{LexFault, lex};
-use prl_reader::{Stop, Terminal, out_of_range, place_of};
+use prl_reader::{Stop, Terminal, out_of_range, place_of, terminals_of};
 use std::alloc::{AllocError, Global};
 
 /// The most nodes of a program.
@@ -99,7 +99,7 @@ fn parsed(alloc: Global, text: &[u8]) -> Result<Program, ParseFault>
         Ok(tokens) => tokens,
         Err(fault) => return Err(of_lexical(fault)),
     };
-    let terminals = terminals(alloc, text, tokens.as_slice())?;
+    let terminals = terminals_of::<ProgramSpelling>(alloc, text, tokens.as_slice())?;
     program_of_tokens(alloc, terminals.as_slice(), text.len() as u32)
 }
 

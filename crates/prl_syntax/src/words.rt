@@ -4,10 +4,11 @@ ghost use Rattle.std.specs.Prelude.{◌≡◌, ◌≤◌, ◌∷◌, []};
 ghost use Rattle.prl_base.specs.Reading.{Gives};
 ghost use Rattle.prl_reader.specs.Readers.{next_in, place_at};
 ghost use Rattle.prl_reader.specs.Stops.{stop_of};
-ghost use Rattle.prl_syntax.specs.Words.{class_of, row_of, declaration_keywords, flow_keywords, punctuation, operators, keyword_of, symbol_of};
+ghost use Rattle.prl_reader.specs.Lexing.{row_of};
+ghost use Rattle.prl_syntax.specs.Words.{class_of, declaration_keywords, flow_keywords, punctuation, operators, keyword_of, symbol_of};
 
 use prl_base::Span;
-use prl_reader::{Stop, Terminal};
+use prl_reader::{Spelling, Stop, Terminal};
 
 /// A keyword or a symbol of programs.
 #[derive(Clone, Copy, Debug, PartialEq, Eq)]
@@ -157,6 +158,26 @@ pub fn class_of(fixed: Fixed) -> u8
     ensures from_two { 2 ≤ result }
 {
     fixed as u8
+}
+
+/// The keywords and symbols of programs.
+pub struct ProgramSpelling;
+
+impl Spelling for ProgramSpelling {
+    ghost use Rattle.prl_syntax.specs.Words.{program_vocabulary};
+
+    ghost vocabulary = { program_vocabulary };
+
+    fn keyword(word: &[u8]) -> Option<u8> {
+        match keyword_of(word) {
+            Some(keyword) => Some(class_of(keyword)),
+            None => None,
+        }
+    }
+
+    fn symbol(bytes: &[u8]) -> u8 {
+        class_of(symbol_of(bytes))
+    }
 }
 
 /// Whether the next token is this one.

@@ -10,10 +10,10 @@ use Rattle.prl_reader.specs.Readers.{Read, many_at}
 use Rattle.prl_syntax.specs.declared.expressions.Link.{Link}
 use Rattle.prl_syntax.specs.declared.words.Fixed.TheVariants as fixed
 use Rattle.prl_syntax.specs.Links.{Step, link_view, with_prefixes}
-use Rattle.prl_syntax.specs.Loops.{with_front}
+use Rattle.prl_reader.specs.Loops.{with_front}
 use Rattle.prl_syntax.specs.Trees.{trees_from}
 use Rattle.prl_syntax.specs.Readers.{only, chain_at, comma_tree_by}
-use Rattle.prl_syntax.proofs.Loops.{goes_on, halts, fails}
+use Rattle.prl_reader.proofs.Loops.{step_goes_on as goes_on, step_halts as halts, step_fails as fails}
 use Rattle.prl_syntax.proofs.Links.{chain_goes_on, chain_ends, chain_fails, link_fewer, comma_tree_steps, expression_fewer}
 use Rattle.prl_syntax.proofs.Rows.{root_group, root_apply}
 use Rattle.prl_syntax.proofs.Applied.{group_read, no_args_read, args_read, closed_fails, closed_others_fail, closed_close_fail, closed_read, tree_fails, tree_post_fails, tree_read, comma_is}

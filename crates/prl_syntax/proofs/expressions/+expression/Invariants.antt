@@ -3,7 +3,7 @@ use Rattle.prl_ast.specs.Trees.{tree_of}
 use Rattle.prl_reader.specs.Readers.{many_at}
 use Rattle.prl_syntax.specs.declared.words.Fixed.TheVariants as fixed
 use Rattle.prl_syntax.specs.Links.{with_prefixes}
-use Rattle.prl_syntax.specs.Loops.{with_front}
+use Rattle.prl_reader.specs.Loops.{with_front}
 use Rattle.prl_syntax.specs.Readers.{only, comma_tree_by, chain_at}
 use Rattle.prl_syntax.proofs.expressions.+expression.Given as goal
 

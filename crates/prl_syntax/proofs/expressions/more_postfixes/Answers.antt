@@ -1,5 +1,5 @@
 use Rattle.std.proofs.Common.{sym, ◌∙◌}
-use Rattle.prl_syntax.proofs.Loops.{goes_on, halts, fails}
+use Rattle.prl_reader.proofs.Loops.{step_goes_on as goes_on, step_halts as halts, step_fails as fails}
 use Rattle.prl_syntax.proofs.Chains.{postfix_steps}
 use Rattle.prl_syntax.proofs.expressions.more_postfixes.Goals as goal
 

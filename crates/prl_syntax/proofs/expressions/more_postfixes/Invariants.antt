@@ -1,7 +1,7 @@
 use Rattle.std.proofs.Common.{◌≡◌, length}
 use Rattle.prl_reader.specs.Readers.{many_at}
 use Rattle.prl_syntax.specs.Readers.{postfix_first, postfix_at}
-use Rattle.prl_syntax.specs.Loops.{with_front}
+use Rattle.prl_reader.specs.Loops.{with_front}
 use Rattle.prl_syntax.proofs.expressions.more_postfixes.Given as goal
 
 abbrev pub invariant-more : goal.invariant-more

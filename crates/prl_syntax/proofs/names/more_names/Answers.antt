@@ -1,6 +1,6 @@
 use Rattle.std.proofs.Common.{sym, ◌∙◌}
 use Rattle.std.proofs.lemmas.Result.{err_from_is_err_and}
-use Rattle.prl_syntax.proofs.Loops.{goes_on, halts, fails}
+use Rattle.prl_reader.proofs.Loops.{step_goes_on as goes_on, step_halts as halts, step_fails as fails}
 use Rattle.prl_syntax.proofs.Simple.{comma_name_steps}
 use Rattle.prl_syntax.proofs.names.more_names.Goals as goal
 

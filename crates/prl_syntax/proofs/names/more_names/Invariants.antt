@@ -2,7 +2,7 @@ use Rattle.std.proofs.Common.{◌≡◌, length}
 use Rattle.prl_reader.specs.Readers.{many_at}
 use Rattle.prl_syntax.specs.declared.words.Fixed.TheVariants as fixed
 use Rattle.prl_syntax.specs.Readers.{only, comma_name_at}
-use Rattle.prl_syntax.specs.Loops.{with_front}
+use Rattle.prl_reader.specs.Loops.{with_front}
 use Rattle.prl_syntax.proofs.names.more_names.Given as goal
 
 abbrev pub invariant-more : goal.invariant-more

@@ -2,7 +2,7 @@ use Rattle.std.proofs.Common.{◌≡◌, map, length}
 use Rattle.prl_syntax.specs.Nodes.{declared_view}
 use Rattle.prl_reader.specs.Readers.{many_at}
 use Rattle.prl_syntax.specs.Readers.{declaration_first, declaration_at}
-use Rattle.prl_syntax.specs.Loops.{with_front}
+use Rattle.prl_reader.specs.Loops.{with_front}
 use Rattle.prl_syntax.proofs.nodes.more_declarations.Given as goal
 
 abbrev pub invariant-more : goal.invariant-more

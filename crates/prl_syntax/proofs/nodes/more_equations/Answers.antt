@@ -1,11 +1,11 @@
 use Rattle.std.proofs.Common.{◌≡◌, List, map, sym, ap, ◌∙◌, subst}
 use Rattle.std.proofs.lemmas.List.{map_push}
 use Rattle.prl_reader.specs.Readers.{many_at}
-use Rattle.prl_syntax.specs.Loops.{with_front}
+use Rattle.prl_reader.specs.Loops.{with_front}
 use Rattle.prl_syntax.specs.Readers.{equation_first, equation_at}
 use Rattle.prl_ast.specs.Trees.{equation_tree}
 use Rattle.prl_ast.specs.Trees.{EquationTree}
-use Rattle.prl_syntax.proofs.Loops.{goes_on, halts, fails}
+use Rattle.prl_reader.proofs.Loops.{step_goes_on as goes_on, step_halts as halts, step_fails as fails}
 use Rattle.prl_syntax.proofs.Program.{equation_steps}
 use Rattle.prl_syntax.proofs.nodes.more_equations.Goals as goal
 
