@@ -1,12 +1,15 @@
 pub mod Quotients
 pub mod Chains
-pub mod Steps
 pub mod Sound
-pub mod TextChains
 pub mod Typing
 pub mod Lists
 pub mod Inversion
 pub mod TypedSound
 pub mod BodySound
 pub mod BodyList
+-- for the crates above: lists that a loop fills, element by element
+pub mod Steps
+-- for the crates above: the trees of chains of operators
+pub mod TextChains
+-- for the crates above: the bodies of used imports
 pub mod UsedBodies

@@ -1,7 +1,6 @@
 pub mod Operators
 pub mod Expressions
 pub mod Codes
-pub mod Faults
 pub mod Values
 pub mod Types
 pub mod Bodies
