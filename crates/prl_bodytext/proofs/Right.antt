@@ -68,11 +68,11 @@ negation_apart = ((the_apart fixed.Not, refl, refl), (λ ats. (comparison_apart,
 
 pub conjunction_apart : IsApart (inner_of bodies) Conjunction
 unfolding bodies Expression Conjunction Negation Comparison Sum Product Unary RunOf PairOf ChainOf LinkOf Operators Primary Enclosed Conditional
-conjunction_apart = ((link_apart levels.Conjunction, negation_apart, record { solid = refl; behind = refl; again = refl; more = refl }), (λ row. tt), (λ row. refl), refl)
+conjunction_apart = ((link_apart levels.Conjunction, negation_apart, record { solid = refl; later = refl; again = refl; more = refl }), (λ row. tt), (λ row. refl), refl)
 
 pub expression_apart : IsApart (inner_of bodies) Expression
 unfolding bodies Expression Conjunction Negation Comparison Sum Product Unary RunOf PairOf ChainOf LinkOf Operators Primary Enclosed Conditional
-expression_apart = ((link_apart levels.Disjunction, conjunction_apart, record { solid = refl; behind = refl; again = refl; more = refl }), (λ row. tt), (λ row. refl), refl)
+expression_apart = ((link_apart levels.Disjunction, conjunction_apart, record { solid = refl; later = refl; again = refl; more = refl }), (λ row. tt), (λ row. refl), refl)
 
 primary_guarded : IsGuarded (inner_of bodies) Primary
 unfolding Primary Enclosed Conditional

@@ -46,9 +46,9 @@ comment_fits b (c ∷ bs) e = of_closing (closing_len bs) (closing_fits bs)
     of_closing None h = tt
     of_closing (Some k) h = (omega arith, omega arith)
 
-pub piece_of-fits : (text : List ℕ) → FitsPiece text (piece_of text)
-piece_of-fits [] = tt
-piece_of-fits (b ∷ bs) =
+pub piece_of_fits : (text : List ℕ) → FitsPiece text (piece_of text)
+piece_of_fits [] = tt
+piece_of_fits (b ∷ bs) =
     let text : List ℕ = b ∷ bs in
     cond_both (is_blank b) _ _ (FitsPiece text) (λ _. (omega arith, omega arith))
     (λ other. cond_both (begins 45 45 text) _ _ (FitsPiece text) (λ _. line_fits b bs other)

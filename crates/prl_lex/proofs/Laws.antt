@@ -17,7 +17,7 @@ use Rattle.prl_lex.specs.declared.pieces.Piece.{Piece}
 use Rattle.prl_lex.specs.declared.pieces.Piece.TheVariants as pieces
 use Rattle.prl_lex.specs.Tokens.{is_number, kind_of, piece_of, FitsPiece}
 use Rattle.prl_lex.specs.Lexing.{token_text, token_at, depth_after, checked, with_piece, tokens_from, tokens_of, IsTokenOf, AreInOrder}
-use Rattle.prl_lex.proofs.Fits.{piece_of-fits}
+use Rattle.prl_lex.proofs.Fits.{piece_of_fits}
 
 kind_by_tests : Bool → Bool → Kind
 kind_by_tests word number = cond word Word (cond number Number Symbol)
@@ -105,20 +105,20 @@ with_piece_follow : (text rest : List ℕ) (at depth : ℕ) (piece : Piece) (rea
     → with_piece at depth rest piece read ≡ Ok ts → FollowFrom text at ts
 with_piece_follow text rest at depth pieces.Bad read ts e some fits rec h = cc
 with_piece_follow text rest at depth (pieces.Gap n) read ts e some fits rec h =
-    let behind = rec depth (n - 1) ts h in
-    record { each = behind.each; order = earlier (at + 1 + (n - 1)) at ts (omega arith) behind.order }
+    let later = rec depth (n - 1) ts h in
+    record { each = later.each; order = earlier (at + 1 + (n - 1)) at ts (omega arith) later.order }
 with_piece_follow text rest at depth (pieces.Token kind n) read ts e some fits rec h =
     let deep : ℕ = depth_after depth (take n rest) in
     let first = ok_bind (checked at deep kind (take n rest)) _ ts h in
     let t : Token = first.0 in
     let others = ok_cons (read deep (n - 1)) t ts first.2 in
     let is : IsChecked at kind (take n rest) t = checked_is at deep kind (take n rest) t first.1 in
-    let behind : FollowFrom text (at + 1 + (n - 1)) others.0 = rec deep (n - 1) others.0 others.1 in
+    let later : FollowFrom text (at + 1 + (n - 1)) others.0 = rec deep (n - 1) others.0 others.1 in
     let len : length (take n rest) ≡ n = length-take-le n rest fits.1 in
     let P : List Token → Type 0 = FollowFrom text at in
     subst P others.2 (record {
-      each = (piece_token text rest at n kind t e fits.1 some fits.2 is, behind.each);
-      order = (omega (arith, is.at_is), earlier (at + 1 + (n - 1)) (t.span.at + t.span.len) others.0 (omega (arith, is.at_is, is.len_is, fits.0)) behind.order);
+      each = (piece_token text rest at n kind t e fits.1 some fits.2 is, later.each);
+      order = (omega (arith, is.at_is), earlier (at + 1 + (n - 1)) (t.span.at + t.span.len) others.0 (omega (arith, is.at_is, is.len_is, fits.0)) later.order);
     })
 
 follow : (text rest : List ℕ) (at depth past : ℕ) (ts : List Token) → rest ≡ drop at text → tokens_from at depth past rest ≡ Ok ts → FollowFrom text (at + past) ts
@@ -131,7 +131,7 @@ follow text (b ∷ bs) at depth (suc past) ts e h =
 follow text (b ∷ bs) at depth zero ts e h =
     let P : ℕ → Type 0 = λ place. FollowFrom text place ts in
     let same : at ≡ at + zero = omega arith in
-    subst P same (with_piece_follow text (b ∷ bs) at depth (piece_of (b ∷ bs)) (λ deep past. tokens_from (at + 1) deep past bs) ts e (omega arith) (piece_of-fits (b ∷ bs))
+    subst P same (with_piece_follow text (b ∷ bs) at depth (piece_of (b ∷ bs)) (λ deep past. tokens_from (at + 1) deep past bs) ts e (omega arith) (piece_of_fits (b ∷ bs))
     (λ deep past others. follow text bs (at + 1) deep past others (ap (drop 1) e ∙ drop-drop 1 at text)) h)
 
 -- what a call knows that gives the tokens of a text, seen by `view`

@@ -144,10 +144,10 @@ symbol_piece b (c ∷ cs) word digit =
     others (suc j) lt le = symbol_token b (take j (c ∷ cs)) word digit ∙ long_no_symbol b c cs (suc j) lt le
 
 -- the longest token is the one that the first byte tells
-pub token_by_first-longest : (text : List ℕ) → ((k : ℕ) → get_or text k 0 < 256) → token_by_first text ≡ token_of_len text (longest text)
+pub token_by_first_longest : (text : List ℕ) → ((k : ℕ) → get_or text k 0 < 256) → token_by_first text ≡ token_of_len text (longest text)
 unfolding longest_up_to
-token_by_first-longest [] bytes = refl
-token_by_first-longest (b ∷ bs) bytes = cond_both (is_word_start b) _ _ (λ piece. piece ≡ token_of_len (b ∷ bs) (longest (b ∷ bs)))
+token_by_first_longest [] bytes = refl
+token_by_first_longest (b ∷ bs) bytes = cond_both (is_word_start b) _ _ (λ piece. piece ≡ token_of_len (b ∷ bs) (longest (b ∷ bs)))
     (word_piece b bs (bytes 0))
     (λ word. cond_both (is_ascii_digit b) _ _ (λ piece. piece ≡ token_of_len (b ∷ bs) (longest (b ∷ bs)))
     (number_piece b bs (bytes 0) word) (symbol_piece b bs word))

@@ -34,9 +34,9 @@ after_piece at depth text (pieces.Token kind n) = do
   token ← checked at (depth_after depth (take n text)) kind (take n text)
   with_front (token ∷ []) (tokens_from (at + n) (depth_after depth (take n text)) 0 (drop n text))
 
-behind : (at depth n b : ℕ) (bs : List ℕ) → 0 < n → n ≤ length (b ∷ bs) → tokens_from (at + 1) depth (n - 1) bs ≡ tokens_from (at + n) depth 0 (drop n (b ∷ bs))
-behind at depth zero b bs lt le = absurd (omega arith)
-behind at depth (suc n) b bs lt le =
+later : (at depth n b : ℕ) (bs : List ℕ) → 0 < n → n ≤ length (b ∷ bs) → tokens_from (at + 1) depth (n - 1) bs ≡ tokens_from (at + n) depth 0 (drop n (b ∷ bs))
+later at depth zero b bs lt le = absurd (omega arith)
+later at depth (suc n) b bs lt le =
     let e : suc n - 1 ≡ n = omega arith in
     let f : at + 1 + n ≡ at + suc n = omega arith in
     ap (λ i. tokens_from (at + 1) depth i bs) e ∙ skip n (at + 1) depth bs (omega arith) ∙ ap (λ i. tokens_from i depth 0 (drop n bs)) f
@@ -44,10 +44,10 @@ behind at depth (suc n) b bs lt le =
 piece_step : (at depth b : ℕ) (bs : List ℕ) (piece : Piece) → FitsPiece (b ∷ bs) piece
     → with_piece at depth (b ∷ bs) piece (λ deep past. tokens_from (at + 1) deep past bs) ≡ after_piece at depth (b ∷ bs) piece
 piece_step at depth b bs pieces.Bad fits = refl
-piece_step at depth b bs (pieces.Gap n) fits = behind at depth n b bs fits.0 fits.1
+piece_step at depth b bs (pieces.Gap n) fits = later at depth n b bs fits.0 fits.1
 piece_step at depth b bs (pieces.Token kind n) fits =
     let deep : ℕ = depth_after depth (take n (b ∷ bs)) in
-    ap (λ r. checked at deep kind (take n (b ∷ bs)) >>= λ token. (r >>= λ tokens. Ok (token ∷ tokens))) (behind at deep n b bs fits.0 fits.1)
+    ap (λ r. checked at deep kind (take n (b ∷ bs)) >>= λ token. (r >>= λ tokens. Ok (token ∷ tokens))) (later at deep n b bs fits.0 fits.1)
 
 -- one piece, and what follows it
 pub step : (at depth : ℕ) (text : List ℕ) (piece : Piece) → 0 < length text → piece ≡ piece_of text → FitsPiece text piece → tokens_from at depth 0 text ≡ after_piece at depth text piece
@@ -91,10 +91,10 @@ pub token_step : (text rest bytes : List ℕ) (at depth n deep : ℕ) (kind : Ki
 token_step text rest bytes at depth n deep kind front token total s e f g =
     let deep_is : depth_after depth (take n rest) ≡ deep = ap (depth_after depth) (sym e) ∙ sym f in
     let ok : checked at deep kind (take n rest) ≡ Ok token = ap (checked at deep kind) (sym e) ∙ g in
-    let behind : Result (List Token) LexFault = tokens_from (at + n) deep 0 (drop n rest) in
+    let later : Result (List Token) LexFault = tokens_from (at + n) deep 0 (drop n rest) in
     sym (ap (λ d. with_front front (checked at d kind (take n rest) >>= λ t. with_front (t ∷ []) (tokens_from (at + n) d 0 (drop n rest)))) deep_is
-    ∙ ap (λ r. with_front front (r >>= λ t. with_front (t ∷ []) behind)) ok
-    ∙ regroup front token behind
+    ∙ ap (λ r. with_front front (r >>= λ t. with_front (t ∷ []) later)) ok
+    ∙ regroup front token later
     ∙ ap (with_front (front ++ token ∷ [])) (further text rest at n deep s.rest_is))
     ∙ one_step text rest at depth front (pieces.Token kind n) total s
 

@@ -15,7 +15,7 @@ use Rattle.prl_lex.specs.declared.pieces.Piece.{Piece}
 use Rattle.prl_lex.specs.declared.pieces.Piece.TheVariants as pieces
 use Rattle.prl_lex.specs.Tokens.{is_number, kind_of, piece_of, FitsPiece}
 use Rattle.prl_lex.specs.Lexing.{token_text, token_at, depth_after, checked, with_piece, tokens_from}
-use Rattle.prl_lex.proofs.Fits.{piece_of-fits}
+use Rattle.prl_lex.proofs.Fits.{piece_of_fits}
 use Rattle.prl_reader.specs.Lexemes.{Lexeme}
 use Rattle.prl_reader.specs.Lexing.{row_of}
 use Rattle.prl_syntax.specs.declared.words.Fixed.{Fixed}
@@ -224,7 +224,7 @@ unfolding tokens_from
 lexed text [] at depth past d ts e high le h = none_lexed text d ts cc
 lexed text (b ∷ bs) at depth (suc past) d ts e high le h = lexed text bs (at + 1) depth past d ts (ap (drop 1) e ∙ drop-drop 1 at text) high le h
 lexed text (b ∷ bs) at depth zero d ts e high le h =
-    with_piece_lexed text (b ∷ bs) at depth d (piece_of (b ∷ bs)) (λ deep past. tokens_from (at + 1) deep past bs) ts e (piece_of-fits (b ∷ bs)) high le
+    with_piece_lexed text (b ∷ bs) at depth d (piece_of (b ∷ bs)) (λ deep past. tokens_from (at + 1) deep past bs) ts e (piece_of_fits (b ∷ bs)) high le
     (λ deep past d others high le. lexed text bs (at + 1) deep past d others (ap (drop 1) e ∙ drop-drop 1 at text) high le) h
 
 -- and in range

@@ -17,7 +17,7 @@ use Rattle.prl_syntax.specs.Trees.{Declared, imported, sensor, actuator, node, w
 use Rattle.prl_syntax.proofs.Chains.{name_text}
 use Rattle.prl_syntax.specs.Grammar.{The, ConstantText, RatioText, PrefixText, PostfixText, NameText, Enclosed, Beside, CommaText, Nothing, TreeText, RootText, OthersText, LeftsText, SidesText, EquationText, NodeText, DeclarationText, ProgramText}
 use Rattle.prl_print.proofs.Words.{IsOwnName, IsPrefix, IsPostfix, IsOwnTree, IsOwnRoot, AreOwnTrees, IsOwnEquation, IsOwnNode, IsOwnImport, IsOwnDevice, IsSome}
-use Rattle.prl_print.proofs.Source.{deeper, FineAt, Fine, depth_along, front_at, back_at, depth-append, token_of, Means, m_then, m_give, m_ends, m_any, m_either, m_many, m_named, m_counted, m_first}
+use Rattle.prl_print.proofs.Source.{deeper, FineAt, Fine, depth_along, front_at, back_at, depth_append, token_of, Means, m_then, m_give, m_ends, m_any, m_either, m_many, m_named, m_counted, m_first}
 use Rattle.prl_print.proofs.Meant.{constant_means, ratio_means, placed_means, names_mean, enclosed_params_mean, maybe_params_mean, locals_mean, import_means, device_means}
 
 -- texts without parentheses
@@ -26,7 +26,7 @@ record Flat {A : Type 0} (W : A → List Lexeme → Type 0) : Type 0 where
   flat : (a : A) (w : List Lexeme) → W a w → (d : ℕ) → depth_along d w ≡ d
 
 both_flat : (w u v : List Lexeme) (d e f : ℕ) → w ≡ u ++ v → depth_along d u ≡ e → depth_along e v ≡ f → depth_along d w ≡ f
-both_flat w u v d e f whole one two = ap (depth_along d) whole ∙ depth-append d u v ∙ ap (λ k. depth_along k v) one ∙ two
+both_flat w u v d e f whole one two = ap (depth_along d) whole ∙ depth_append d u v ∙ ap (λ k. depth_along k v) one ∙ two
 
 fl_then : {A B : Type 0} {W : A → List Lexeme → Type 0} {V : A → B → List Lexeme → Type 0} → Flat W → ((a : A) → Flat (V a)) → Flat (Then W V)
 fl_then one two = record { flat = λ b w x d. both_flat w x.left x.right d d d x.whole (one.flat x.first x.left x.head d) ((two x.first).flat b x.right x.tail d) }
@@ -125,14 +125,14 @@ inside_of P d w fine e =
     let left = front_at w e.left (e.inner ++ e.right) e.whole fine in
     let first = front_at e.left (o.0 ∷ []) [] o.1 left in
     let opens : depth_along d e.left ≡ d + 1 = ap (depth_along d) o.1 ∙ ap (deeper d) o.2 in
-    let behind = at_depth (depth_along d e.left) (d + 1) (e.inner ++ e.right) opens (back_at w e.left (e.inner ++ e.right) e.whole fine) in
+    let later = at_depth (depth_along d e.left) (d + 1) (e.inner ++ e.right) opens (back_at w e.left (e.inner ++ e.right) e.whole fine) in
     let closing : depth_along (d + 1) e.right ≡ d = ap (depth_along (d + 1)) c.1 ∙ ap (deeper (d + 1)) c.2 ∙ omega arith in
     let deep : deeper d o.0.class ≡ d + 1 = ap (deeper d) o.2 in
     record {
       inner = e.inner;
       is = e.inside;
       within = omega (arith, deep, first.from.2);
-      fine = front_at (e.inner ++ e.right) e.inner e.right refl behind;
+      fine = front_at (e.inner ++ e.right) e.inner e.right refl later;
       closes = λ h. both_flat w e.left (e.inner ++ e.right) d (d + 1) d e.whole opens (both_flat (e.inner ++ e.right) e.inner e.right (d + 1) (d + 1) d refl h closing);
     }
 

@@ -20,7 +20,7 @@ use Rattle.prl_syntax.specs.Lexing.{word_lexeme}
 use Rattle.prl_reader.specs.Ranges.{inside_after, is_fault}
 use Rattle.prl_syntax.specs.Ranges.{program_ranges}
 use Rattle.prl_print.specs.Places.{nowhere}
-use Rattle.prl_print.proofs.Scanning.{bare, AreBytes, bytes-append, Scan, scan_token, first_piece, begins_other}
+use Rattle.prl_print.proofs.Scanning.{bare, AreBytes, bytes_append, Scan, scan_token, first_piece, begins_other}
 
 -- tokens without their places
 abbrev pub a_name : List ℕ → Lexeme
@@ -104,7 +104,7 @@ scan_word inside last depth (c ∷ cs) rest o ks name key stops fits s =
     let other = word_no_other c small.0 parts.0 in
     let many : prefix_len is_word_byte (cs ++ rest) + 1 ≡ length (c ∷ cs) = omega (arith, run is_word_byte cs rest parts.1 stops) in
     scan_token inside last depth depth Word (c ∷ cs) rest (word_lexeme o (c ∷ cs) nowhere) ks small (omega arith)
-    (first_piece c (cs ++ rest) (small.0, bytes-append cs rest small.1 s.bytes) other.blank (begins_other 45 45 c (cs ++ rest) other.dash) (begins_other 40 42 c (cs ++ rest) other.opening)
+    (first_piece c (cs ++ rest) (small.0, bytes_append cs rest small.1 s.bytes) other.blank (begins_other 45 45 c (cs ++ rest) other.dash) (begins_other 40 42 c (cs ++ rest) other.opening)
     ∙ cond-true (is_word_start c) _ _ parts.0 ∙ ap (λ n. pieces.Token Word n) many)
     (record {
       deep_is = same_depth depth c cs other;
@@ -145,7 +145,7 @@ scan_digits inside last depth n (d ∷ ds) rest ks digits some value fits stops 
     let other = digit_no_other d small.0 pass.0 in
     let many : prefix_len is_ascii_digit (ds ++ rest) + 1 ≡ length (d ∷ ds) = omega (arith, run is_ascii_digit ds rest pass.1 (stops_digits rest stops)) in
     scan_token inside last depth depth Number (d ∷ ds) rest (a_number n) ks small (omega arith)
-    (first_piece d (ds ++ rest) (small.0, bytes-append ds rest small.1 s.bytes) other.blank (begins_other 45 45 d (ds ++ rest) other.dash) (begins_other 40 42 d (ds ++ rest) other.opening)
+    (first_piece d (ds ++ rest) (small.0, bytes_append ds rest small.1 s.bytes) other.blank (begins_other 45 45 d (ds ++ rest) other.dash) (begins_other 40 42 d (ds ++ rest) other.opening)
     ∙ cond-false (is_word_start d) _ _ (digit_no_word d small.0 pass.0) ∙ cond-true (is_ascii_digit d) _ _ pass.0 ∙ ap (λ n. pieces.Token Number n) many)
     (record {
       deep_is = same_depth depth d ds other;

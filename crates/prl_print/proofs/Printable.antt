@@ -24,7 +24,7 @@ scanned p h =
     let P : List ℕ → Type 0 = λ text. Plain false 0 text (program_words p ++ []) in
     let Q : List Lexeme → Type 0 = λ ks. Plain false 0 (printed p) ks in
     let whole = subst Q (append-nil (program_words p)) (subst P (append-nil (printed p)) all) in
-    (whole.scan 0 refl).behind []
+    (whole.scan 0 refl).later []
 
 few_nodes : (t p : ProgramTree) → SamePlacesAside t p → length p.nodes ≤ 256 → length t.nodes ≤ 256
 few_nodes t p e h =

@@ -101,9 +101,9 @@ item_reads p h =
 run_reads : (p : Param) → IsOwnParam p → Prints RunText (λ run. map unplaced_param run ≡ unplaced_param p ∷ []) (param_words p)
 run_reads p h = p_tokens _ _ (append-nil (param_words p)) (p_then (item_reads p h) (λ i e. p_ends (λ others. params_of (i ∷ others)) p_none (λ others f. ap (λ os. map unplaced_param (params_of (i ∷ os))) f ∙ ap (λ x. x ∷ []) e)))
 
-map-joined : {A B : Type 0} (u : A → B) (xss : List (List A)) → map u (joined xss) ≡ joined (map (map u) xss)
-map-joined u [] = refl
-map-joined u (xs ∷ xss) = map-append u xs (joined xss) ∙ ap (λ ys. map u xs ++ ys) (map-joined u xss)
+map_joined : {A B : Type 0} (u : A → B) (xss : List (List A)) → map u (joined xss) ≡ joined (map (map u) xss)
+map_joined u [] = refl
+map_joined u (xs ∷ xss) = map-append u xs (joined xss) ∙ ap (λ ys. map u xs ++ ys) (map_joined u xss)
 
 joined_singles : {A B : Type 0} (u : A → B) (xs : List A) → joined (map (λ x. u x ∷ []) xs) ≡ map u xs
 joined_singles u [] = refl
@@ -112,7 +112,7 @@ joined_singles u (x ∷ xs) = ap (λ ys. u x ∷ ys) (joined_singles u xs)
 -- texts of one each, one after another
 grouped : {A : Type 0} (u : A → A) (r : List A) (others : List (List A)) (x : A) (xs : List A) → map u r ≡ u x ∷ [] → map (map u) others ≡ map (λ y. u y ∷ []) xs → map u (r ++ joined others) ≡ map u (x ∷ xs)
 grouped u r others x xs e f =
-    map-append u r (joined others) ∙ ap (λ ys. ys ++ map u (joined others)) e ∙ ap (λ ys. u x ∷ ys) (map-joined u others ∙ ap joined f ∙ joined_singles u xs)
+    map-append u r (joined others) ∙ ap (λ ys. ys ++ map u (joined others)) e ∙ ap (λ ys. u x ∷ ys) (map_joined u others ∙ ap joined f ∙ joined_singles u xs)
 
 params_read : (p : Param) (ps : List Param) → AllByRecursion IsOwnParam (p ∷ ps) → Prints ParamsText (λ xs. map unplaced_param xs ≡ map unplaced_param (p ∷ ps)) (params_words (p ∷ ps))
 params_read p ps h =

@@ -334,11 +334,11 @@ with_unplaced (sensor d) p = refl
 with_unplaced (actuator d) p = refl
 with_unplaced (node n) p = refl
 
-unplaced-program_of : (ds : List Declared) → unplaced (program_of ds) ≡ program_of (map unplaced_declared ds)
-unplaced-program_of [] = refl
-unplaced-program_of (d ∷ ds) = with_unplaced d (program_of ds) ∙ ap (with_declared (unplaced_declared d)) (unplaced-program_of ds)
+unplaced_program_of : (ds : List Declared) → unplaced (program_of ds) ≡ program_of (map unplaced_declared ds)
+unplaced_program_of [] = refl
+unplaced_program_of (d ∷ ds) = with_unplaced d (program_of ds) ∙ ap (with_declared (unplaced_declared d)) (unplaced_program_of ds)
 
 pub program_reads : (p : ProgramTree) → IsPrintable p → Prints ProgramText (λ x. unplaced x ≡ unplaced p) (program_words p)
 program_reads p h =
     p_tokens _ _ (all_words p) (p_ends program_of (p_many IsOwnDeclared unplaced_declared unplaced_declared declared_words declared_reads (declarations p) (all_own p h))
-    (λ ds e. unplaced-program_of ds ∙ ap program_of e ∙ sym (unplaced-program_of (declarations p)) ∙ ap unplaced (program_again p)))
+    (λ ds e. unplaced_program_of ds ∙ ap program_of e ∙ sym (unplaced_program_of (declarations p)) ∙ ap unplaced (program_again p)))

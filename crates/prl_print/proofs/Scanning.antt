@@ -10,8 +10,8 @@ use Rattle.prl_lex.specs.declared.pieces.Piece.TheVariants as pieces
 use Rattle.prl_lex.specs.Tokens.{is_blank, begins, piece_of, FitsPiece}
 use Rattle.prl_lex.specs.FirstByte.{token_by_first}
 use Rattle.prl_lex.specs.Lexing.{token_text, token_at, depth_after, checked, tokens_from}
-use Rattle.prl_lex.proofs.Fits.{piece_of-fits}
-use Rattle.prl_lex.proofs.Longest.{token_by_first-longest}
+use Rattle.prl_lex.proofs.Fits.{piece_of_fits}
+use Rattle.prl_lex.proofs.Longest.{token_by_first_longest}
 use Rattle.prl_lex.proofs.Steps.{with_front, step}
 use Rattle.prl_reader.specs.Lexemes.{Lexeme}
 use Rattle.prl_syntax.specs.Lexing.{kind_lexeme, lexeme_of, lexemes_of}
@@ -32,9 +32,9 @@ byte_at [] h k = omega arith
 byte_at (b ∷ bs) h zero = h.0
 byte_at (b ∷ bs) h (suc k) = byte_at bs h.1 k
 
-pub bytes-append : (xs ys : List ℕ) → AreBytes xs → AreBytes ys → AreBytes (xs ++ ys)
-bytes-append [] ys h g = g
-bytes-append (x ∷ xs) ys h g = (h.0, bytes-append xs ys h.1 g)
+pub bytes_append : (xs ys : List ℕ) → AreBytes xs → AreBytes ys → AreBytes (xs ++ ys)
+bytes_append [] ys h g = g
+bytes_append (x ∷ xs) ys h g = (h.0, bytes_append xs ys h.1 g)
 
 -- The rest of a text, after any front, has these tokens, which are in range in a rate or not, and after a token of the class.
 pub record Scanned (inside : Bool) (last depth : ℕ) (front text : List ℕ) (ks : List Lexeme) : Type 0 where
@@ -45,22 +45,22 @@ pub record Scanned (inside : Bool) (last depth : ℕ) (front text : List ℕ) (k
 
 pub record Scan (inside : Bool) (last depth : ℕ) (text : List ℕ) (ks : List Lexeme) : Type 0 where
   pub bytes : AreBytes text
-  pub behind : (front : List ℕ) → Scanned inside last depth front text ks
+  pub later : (front : List ℕ) → Scanned inside last depth front text ks
 
 pub scan_end : (inside : Bool) (last depth : ℕ) → Scan inside last depth [] []
 unfolding tokens_from out_of_range
-scan_end inside last depth = record { bytes = tt; behind = λ front. record { tokens = []; are = refl; seen = refl; ranges = refl } }
+scan_end inside last depth = record { bytes = tt; later = λ front. record { tokens = []; are = refl; seen = refl; ranges = refl } }
 
 no_token : (depth at b : ℕ) (bs : List ℕ) → is_blank b ≡ true → tokens_from at depth 0 (b ∷ bs) ≡ tokens_from (at + 1) depth 0 bs
 no_token depth at b bs h = step at depth (b ∷ bs) (pieces.Gap 1) (omega arith) (sym (cond-true (is_blank b) _ _ h)) (omega arith, omega arith)
 
 -- white space
 pub scan_blank : (inside : Bool) (last depth b : ℕ) (rest : List ℕ) (ks : List Lexeme) → b < 256 → is_blank b ≡ true → Scan inside last depth rest ks → Scan inside last depth (b ∷ rest) ks
-scan_blank inside last depth b rest ks small h s = record { bytes = (small, s.bytes); behind = behind }
+scan_blank inside last depth b rest ks small h s = record { bytes = (small, s.bytes); later = later }
   where
-    behind : (front : List ℕ) → Scanned inside last depth front (b ∷ rest) ks
-    behind front =
-        let there = s.behind (front ++ b ∷ []) in
+    later : (front : List ℕ) → Scanned inside last depth front (b ∷ rest) ks
+    later front =
+        let there = s.later (front ++ b ∷ []) in
         let text : (front ++ b ∷ []) ++ rest ≡ front ++ b ∷ rest = append_assoc front (b ∷ []) rest in
         let len : length (front ++ b ∷ []) ≡ length front + 1 = length-append front (b ∷ []) in
         record {
@@ -87,7 +87,7 @@ first_token depth deep at kind p rest k ts some piece w h =
     let P : Piece → Type 0 = FitsPiece text in
     let front : take n text ≡ p = take-append_seam p rest in
     let back : drop n text ≡ rest = drop-append_seam p rest in
-    step at depth text (pieces.Token kind n) (omega (arith, length-append p rest)) (sym piece) (subst P piece (piece_of-fits text))
+    step at depth text (pieces.Token kind n) (omega (arith, length-append p rest)) (sym piece) (subst P piece (piece_of_fits text))
     ∙ ap (λ t. checked at (depth_after depth t) kind t >>= λ token. with_front (token ∷ []) (tokens_from (at + n) (depth_after depth t) 0 (drop n text))) front
     ∙ ap (λ d. checked at d kind p >>= λ token. with_front (token ∷ []) (tokens_from (at + n) d 0 (drop n text))) w.deep_is
     ∙ ap (λ r. r >>= λ token. with_front (token ∷ []) (tokens_from (at + n) deep 0 (drop n text))) (w.ok at)
@@ -102,11 +102,11 @@ range_later inside last t k ts e fits rest =
 -- one token, and what follows it
 pub scan_token : (inside : Bool) (last depth deep : ℕ) (kind : Kind) (p rest : List ℕ) (k : Lexeme) (ks : List Lexeme) → AreBytes p → 0 < length p → piece_of (p ++ rest) ≡ pieces.Token kind (length p) → IsWritten depth deep kind p k
     → is_fault program_ranges inside last k ≡ false → Scan (inside_after program_ranges inside k.class) k.class deep rest ks → Scan inside last depth (p ++ rest) (k ∷ ks)
-scan_token inside last depth deep kind p rest k ks small some piece w fits s = record { bytes = bytes-append p rest small s.bytes; behind = behind }
+scan_token inside last depth deep kind p rest k ks small some piece w fits s = record { bytes = bytes_append p rest small s.bytes; later = later }
   where
-    behind : (front : List ℕ) → Scanned inside last depth front (p ++ rest) (k ∷ ks)
-    behind front =
-        let there = s.behind (front ++ p) in
+    later : (front : List ℕ) → Scanned inside last depth front (p ++ rest) (k ∷ ks)
+    later front =
+        let there = s.later (front ++ p) in
         let at : ℕ = length front in
         let text : (front ++ p) ++ rest ≡ front ++ (p ++ rest) = append_assoc front p rest in
         let len : length (front ++ p) ≡ at + length p = length-append front p in
@@ -124,7 +124,7 @@ scan_token inside last depth deep kind p rest k ks small some piece w fits s = r
 -- what stands at the front is the token that its first byte tells
 pub first_piece : (b : ℕ) (bs : List ℕ) → AreBytes (b ∷ bs) → is_blank b ≡ false → begins 45 45 (b ∷ bs) ≡ false → begins 40 42 (b ∷ bs) ≡ false → piece_of (b ∷ bs) ≡ token_by_first (b ∷ bs)
 first_piece b bs small blank line comment =
-    cond-false (is_blank b) _ _ blank ∙ cond-false (begins 45 45 (b ∷ bs)) _ _ line ∙ cond-false (begins 40 42 (b ∷ bs)) _ _ comment ∙ sym (token_by_first-longest (b ∷ bs) (byte_at (b ∷ bs) small))
+    cond-false (is_blank b) _ _ blank ∙ cond-false (begins 45 45 (b ∷ bs)) _ _ line ∙ cond-false (begins 40 42 (b ∷ bs)) _ _ comment ∙ sym (token_by_first_longest (b ∷ bs) (byte_at (b ∷ bs) small))
 
 pub begins_other : (x y a : ℕ) (rest : List ℕ) → (a == x) ≡ false → begins x y (a ∷ rest) ≡ false
 begins_other x y a [] h = refl

@@ -55,9 +55,9 @@ fine_left w u v e h = record { depth = h.depth; at = front_at w u v e h.at }
 pub fine_right : (w u v : List Lexeme) → w ≡ u ++ v → Fine w → Fine v
 fine_right w u v e h = record { depth = depth_along h.depth u; at = back_at w u v e h.at }
 
-pub depth-append : (d : ℕ) (u v : List Lexeme) → depth_along d (u ++ v) ≡ depth_along (depth_along d u) v
-depth-append d [] v = refl
-depth-append d (t ∷ u) v = depth-append (deeper d t.class) u v
+pub depth_append : (d : ℕ) (u v : List Lexeme) → depth_along d (u ++ v) ≡ depth_along (depth_along d u) v
+depth_append d [] v = refl
+depth_append d (t ∷ u) v = depth_append (deeper d t.class) u v
 
 -- The trees of the grammar's texts are such as P says.
 pub record Means {A : Type 0} (W : A → List Lexeme → Type 0) (P : A → Type 0) : Type 0 where

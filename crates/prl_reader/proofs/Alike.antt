@@ -72,7 +72,7 @@ row_alike : {A S : Type 0} {V : S → List Lexeme → Type 0} {W : A → List Le
     → Alike n (read_row (link_shape s g).first q p) (read_row (link_shape s g).first q' p')
 row_alike {s} {g} k by one h other same =
     let link = then_alike other (shrinks k by) (λ x. then_alike same (shrinks k one) (λ y. same_alike)) in
-    let link_reads = then_reads k by (λ x. then_reads k one (λ y. give_reads k (x, y)) (λ c h. refl)) (apart _ _ h.behind) in
+    let link_reads = then_reads k by (λ x. then_reads k one (λ y. give_reads k (x, y)) (λ c h. refl)) (apart _ _ h.later) in
     then_alike same (shrinks k one) (λ first. end_alike _ (many_alike (link_shape s g).first link (shrinks k link_reads)))
 
 module _ {R : Type 0} (i : Inner R) (I : R → List Lexeme → Type 0) (p q : List Lexeme → Read R) (k : ℕ) (reads : Reads k I i.shape p) (n : ℕ) (agree : Alike n p q) where

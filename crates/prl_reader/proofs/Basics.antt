@@ -29,19 +29,19 @@ bind_err (Ok x) f s e = inr (record { a = x.0; between = x.1; one = refl; two = 
 bind_err (Err t) f s e = inl cc
 
 -- after the same tokens the next one is of the same class
-pub next_class-append : (w rest other : List Lexeme) → next_class rest ≡ next_class other → next_class (w ++ rest) ≡ next_class (w ++ other)
-next_class-append [] rest other e = e
-next_class-append (t ∷ w) rest other e = refl
+pub next_class_append : (w rest other : List Lexeme) → next_class rest ≡ next_class other → next_class (w ++ rest) ≡ next_class (w ++ other)
+next_class_append [] rest other e = e
+next_class_append (t ∷ w) rest other e = refl
 
-pub next_in-class : (ks : List ℕ) (x y : List Lexeme) → next_class x ≡ next_class y → next_in ks x ≡ next_in ks y
-next_in-class ks [] [] e = refl
-next_in-class ks [] (t ∷ y) e = cc
-next_in-class ks (t ∷ x) [] e = cc
-next_in-class ks (t ∷ x) (u ∷ y) e = let same : t.class ≡ u.class = cc in ap (λ c. is_in c ks) same
+pub next_in_class : (ks : List ℕ) (x y : List Lexeme) → next_class x ≡ next_class y → next_in ks x ≡ next_in ks y
+next_in_class ks [] [] e = refl
+next_in_class ks [] (t ∷ y) e = cc
+next_in_class ks (t ∷ x) [] e = cc
+next_in_class ks (t ∷ x) (u ∷ y) e = let same : t.class ≡ u.class = cc in ap (λ c. is_in c ks) same
 
-pub is_in-append : (c : ℕ) (ks ls : List ℕ) → is_in c (ks ++ ls) ≡ (is_in c ks || is_in c ls)
-is_in-append c [] ls = refl
-is_in-append c (k ∷ ks) ls = ap (λ b. (k == c) || b) (is_in-append c ks ls) ∙ regroup (k == c) (is_in c ks) (is_in c ls)
+pub is_in_append : (c : ℕ) (ks ls : List ℕ) → is_in c (ks ++ ls) ≡ (is_in c ks || is_in c ls)
+is_in_append c [] ls = refl
+is_in_append c (k ∷ ks) ls = ap (λ b. (k == c) || b) (is_in_append c ks ls) ∙ regroup (k == c) (is_in c ks) (is_in c ls)
   where
     regroup : (x y z : Bool) → (x || (y || z)) ≡ ((x || y) || z)
     regroup true y z = refl

@@ -38,7 +38,7 @@ fewer_fit n s solid (t ∷ u) v b le = (omega (arith, length-append u v), omega 
 pub row_reads : {A S : Type 0} {V : S → List Lexeme → Type 0} {W : A → List Lexeme → Type 0} {s g : Shape} {q : List Lexeme → Read S} {p : List Lexeme → Read A} (n : ℕ) → Reads n V s q → Reads n W g p → IsRow s g
     → Reads n (Row V W) (separated_shape s g) (read_row (link_shape s g).first q p)
 row_reads n by one h =
-    then_reads n one (λ first. then_reads n (many_reads n (then_reads n by (λ x. then_reads n one (λ y. give_reads n (x, y)) (λ c h. refl)) (apart _ _ h.behind)) h.solid (apart _ _ h.again)) (λ rest. give_reads n _) (λ c h. refl)) (apart _ _ h.more)
+    then_reads n one (λ first. then_reads n (many_reads n (then_reads n by (λ x. then_reads n one (λ y. give_reads n (x, y)) (λ c h. refl)) (apart _ _ h.later)) h.solid (apart _ _ h.again)) (λ rest. give_reads n _) (λ c h. refl)) (apart _ _ h.more)
 
 pub placed_reads : {A : Type 0} {W : A → List Lexeme → Type 0} {s : Shape} {p : List Lexeme → Read A} (n : ℕ) → Reads n W s p → s.nullable ≡ false → Reads n (FromFirst W) s (from_first p)
 placed_reads {A} {W} {s} {p} n one h =

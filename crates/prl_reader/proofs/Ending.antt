@@ -63,7 +63,7 @@ give_ends x = record { ends = λ ts lt e. cc }
 row_ends : {A S : Type 0} {V : S → List Lexeme → Type 0} {W : A → List Lexeme → Type 0} {s g : Shape} {q : List Lexeme → Read S} {p : List Lexeme → Read A} (k : ℕ) {n : ℕ} → Reads k V s q → Reads k W g p → IsRow s g → Ends n q → Ends n p → Ends n (read_row (link_shape s g).first q p)
 row_ends {s} {g} k by one h other same =
     let link = then_ends other (shrinks k by) (λ x. then_ends same (shrinks k one) (λ y. give_ends (x, y))) in
-    let link_reads = then_reads k by (λ x. then_reads k one (λ y. give_reads k (x, y)) (λ c h. refl)) (apart _ _ h.behind) in
+    let link_reads = then_reads k by (λ x. then_reads k one (λ y. give_reads k (x, y)) (λ c h. refl)) (apart _ _ h.later) in
     let links = many_ends (link_shape s g).first link (leaves_fewer k link_reads h.solid) in
     then_ends same (shrinks k one) (λ first. record { ends = λ ts lt e. ⊎_elim (λ j. links.ends ts lt j) (λ j. let no_error = j.two in cc) (bind_err _ (λ rest. Ok ((first, rest.0), rest.1)) Deep e) })
 

@@ -7,7 +7,7 @@ use Rattle.prl_reader.specs.Lexemes.{Lexeme}
 use Rattle.prl_reader.specs.Grammars.{Then, Give, Either, Many}
 use Rattle.prl_reader.specs.Readers.{Deep, Read, is_in, next_in, choice, many_up_to, many_at}
 use Rattle.prl_reader.specs.Reads.{Shape, then_shape, either_shape, many_shape, Begins, Reads}
-use Rattle.prl_reader.proofs.Basics.{Apart, is_in-append}
+use Rattle.prl_reader.proofs.Basics.{Apart, is_in_append}
 use Rattle.prl_reader.proofs.Steps.{give, give_shape, give_reads}
 use Rattle.prl_reader.proofs.Sequences.{stops_in, not_left, not_right, then_read, bind_reads, choice_reads}
 
@@ -169,7 +169,7 @@ module _ {A : Type 0} {W : A → List Lexeme → Type 0} {s : Shape} {p : List L
   }
     where
       again : (c : ℕ) → is_in c (s.first ++ s.more) ≡ false → is_in c ((s.first ++ s.more) ++ s.more) ≡ false
-      again c h = is_in-append c (s.first ++ s.more) s.more ∙ or_from (is_in c (s.first ++ s.more)) (is_in c s.more) h (not_right s.first s.more c h)
+      again c h = is_in_append c (s.first ++ s.more) s.more ∙ or_from (is_in c (s.first ++ s.more)) (is_in c s.more) h (not_right s.first s.more c h)
 
   apart_nil : (ks : List ℕ) → Apart ks []
   apart_nil ks c h = refl
@@ -183,16 +183,16 @@ module _ {A : Type 0} {W : A → List Lexeme → Type 0} {s : Shape} {p : List L
   }
     where
       again : (c : ℕ) → is_in c (s.first ++ s.more) ≡ false → is_in c ((s.first ++ s.more) ++ [] ++ s.first) ≡ false
-      again c h = ap (is_in c) (ap (λ ks. ks ++ s.first) (append-nil (s.first ++ s.more))) ∙ is_in-append c (s.first ++ s.more) s.first ∙ or_from (is_in c (s.first ++ s.more)) (is_in c s.first) h (not_left s.first s.more c h)
+      again c h = ap (is_in c) (ap (λ ks. ks ++ s.first) (append-nil (s.first ++ s.more))) ∙ is_in_append c (s.first ++ s.more) s.first ∙ or_from (is_in c (s.first ++ s.more)) (is_in c s.first) h (not_left s.first s.more c h)
 
   step : (n k m : ℕ) → k ≤ bound → m ≤ k → ((u v : List Lexeme) → Begins s u → length (u ++ v) ≤ k → (length u ≤ k) × (length v ≤ m))
       → Reads m (Many W) (many_shape s) (many_up_to s.first p n) → Reads k (Many W) (many_shape s) (many_up_to s.first p (suc n))
   unfolding many_up_to item_shape Item
   step n k m within small room others =
-      let behind : (a : A) → Reads m (Then (Many W) (λ rest. Give (a ∷ rest))) (then_shape (many_shape s) give_shape) (then_read (many_up_to s.first p n) (λ rest. give (a ∷ rest))) =
+      let later : (a : A) → Reads m (Then (Many W) (λ rest. Give (a ∷ rest))) (then_shape (many_shape s) give_shape) (then_read (many_up_to s.first p n) (λ rest. give (a ∷ rest))) =
       λ a. bind_reads m m m others (λ rest. give_reads m (a ∷ rest)) (apart_nil (s.first ++ s.more)) (λ u v b le. (omega (arith, length-append u v), omega (arith, length-append u v))) in
       let one : Reads k Item (then_shape s (then_shape (many_shape s) give_shape)) (then_read p (λ a. then_read (many_up_to s.first p n) (λ rest. give (a ∷ rest)))) =
-      bind_reads k k m (lower k bound within reads) behind (λ c h. ap (is_in c) (append-nil s.first) ∙ apart c h) room in
+      bind_reads k k m (lower k bound within reads) later (λ c h. ap (is_in c) (append-nil s.first) ∙ apart c h) room in
       restate k (choice_reads k (restate {r = item_shape} k one (λ xs w h. h) (λ xs w h. h) item_widens) (give_reads k []) refl (apart_nil s.first)) to_many from_many many_widens
 
   family : (n k : ℕ) → k ≤ n → k ≤ bound → Reads k (Many W) (many_shape s) (many_up_to s.first p n)

@@ -7,23 +7,23 @@ use Rattle.prl_reader.specs.Lexemes.{Lexeme}
 use Rattle.prl_reader.specs.Grammars.{Then, Either}
 use Rattle.prl_reader.specs.Readers.{Stuck, Read, is_in, next_in, choice}
 use Rattle.prl_reader.specs.Reads.{Shape, then_shape, either_shape, StopsBefore, Begins, next_class, CanComplete, Taken, Reads}
-use Rattle.prl_reader.proofs.Basics.{bind_ok, bind_err, next_class-append, next_in-class, is_in-append, Apart, same_cut, chosen}
+use Rattle.prl_reader.proofs.Basics.{bind_ok, bind_err, next_class_append, next_in_class, is_in_append, Apart, same_cut, chosen}
 
 pub stops_in : (ks ls : List ℕ) (rest : List Lexeme) → ((c : ℕ) → is_in c ls ≡ false → is_in c ks ≡ false) → StopsBefore ls rest → StopsBefore ks rest
 stops_in ks ls [] h stops = tt
 stops_in ks ls (t ∷ rest) h stops = h t.class stops
 
 pub not_left : (ks ls : List ℕ) (c : ℕ) → is_in c (ks ++ ls) ≡ false → is_in c ks ≡ false
-not_left ks ls c h = (or_parts (is_in c ks) (is_in c ls) (sym (is_in-append c ks ls) ∙ h)).0
+not_left ks ls c h = (or_parts (is_in c ks) (is_in c ls) (sym (is_in_append c ks ls) ∙ h)).0
 
 pub not_right : (ks ls : List ℕ) (c : ℕ) → is_in c (ks ++ ls) ≡ false → is_in c ls ≡ false
-not_right ks ls c h = (or_parts (is_in c ks) (is_in c ls) (sym (is_in-append c ks ls) ∙ h)).1
+not_right ks ls c h = (or_parts (is_in c ks) (is_in c ls) (sym (is_in_append c ks ls) ∙ h)).1
 
 pub in_left : (ks ls : List ℕ) (c : ℕ) → is_in c ks ≡ true → is_in c (ks ++ ls) ≡ true
-in_left ks ls c h = is_in-append c ks ls ∙ or_left (is_in c ks) (is_in c ls) h
+in_left ks ls c h = is_in_append c ks ls ∙ or_left (is_in c ks) (is_in c ls) h
 
 pub in_right : (ks ls : List ℕ) (c : ℕ) → is_in c ls ≡ true → is_in c (ks ++ ls) ≡ true
-in_right ks ls c h = is_in-append c ks ls ∙ or_right (is_in c ks) (is_in c ls) h
+in_right ks ls c h = is_in_append c ks ls ∙ or_right (is_in c ks) (is_in c ls) h
 
 apart_back : (ks ls : List ℕ) (c : ℕ) → Apart ks ls → is_in c ls ≡ true → is_in c ks ≡ false
 apart_back ks ls c apart h = ⊎_elim (λ yes_in. absurd (false≢true (sym (apart c yes_in) ∙ h))) (λ not_in. not_in) (cases_Bool (is_in c ks))
@@ -111,7 +111,7 @@ bind_reads {A} {B} {W} {V} {s} {r} {p} {q} k n m one two apart room = record {
     moved : (a : A) (w u v rest other : List Lexeme) → next_class rest ≡ next_class other → w ≡ u ++ v → p (w ++ rest) ≡ Ok (a, v ++ rest) → p (w ++ other) ≡ Ok (a, v ++ other)
     moved a w u v rest other n e h =
         ap (λ x. p (x ++ other)) e ∙ ap p (append_assoc u v other)
-        ∙ one.local u (v ++ rest) (v ++ other) a (next_class-append v rest other n) (sym (ap (λ x. p (x ++ rest)) e ∙ ap p (append_assoc u v rest)) ∙ h)
+        ∙ one.local u (v ++ rest) (v ++ other) a (next_class_append v rest other n) (sym (ap (λ x. p (x ++ rest)) e ∙ ap p (append_assoc u v rest)) ∙ h)
 
     local : (w rest other : List Lexeme) (b : B) → next_class rest ≡ next_class other → then_read p q (w ++ rest) ≡ Ok (b, rest) → then_read p q (w ++ other) ≡ Ok (b, other)
     local w rest other b n e =
@@ -180,7 +180,7 @@ choice_reads {A} {W} {V} {s} {r} {p} {q} n one two solid apart = record {
         (chosen (next_in s.first ts) _ _ _ e)
 
     same : (w rest other : List Lexeme) → next_class rest ≡ next_class other → next_in s.first (w ++ other) ≡ next_in s.first (w ++ rest)
-    same w rest other n = next_in-class s.first (w ++ other) (w ++ rest) (sym (next_class-append w rest other n))
+    same w rest other n = next_in_class s.first (w ++ other) (w ++ rest) (sym (next_class_append w rest other n))
 
     local : (w rest other : List Lexeme) (a : A) → next_class rest ≡ next_class other → choice s.first p q (w ++ rest) ≡ Ok (a, rest) → choice s.first p q (w ++ other) ≡ Ok (a, other)
     local w rest other a n e = ⊎_elim

@@ -63,14 +63,14 @@ first_reads {A} {W} {p} first more n reads = record {
   local_stuck = local_stuck;
   complete = λ x w rest le h stops.
       ap (λ r. r >>= λ y. Ok ((first_place (w ++ rest), y.0), y.1)) (reads.complete x.1 w rest le h.1 stops)
-      ∙ ap (λ at. Ok ((at, x.1), rest)) (behind w rest (reads.begins x.1 w h.1) ∙ sym h.0);
+      ∙ ap (λ at. Ok ((at, x.1), rest)) (later w rest (reads.begins x.1 w h.1) ∙ sym h.0);
   begins = λ x w h. reads.begins x.1 w h.1;
   example = (let e = reads.example in ((first_place e.1, e.0), e.1, (refl, e.2)));
 }
   where
-    behind : (w rest : List Lexeme) → Begins (solid first more) w → first_place (w ++ rest) ≡ first_place w
-    behind [] rest b = absurd (false≢true b)
-    behind (t ∷ w) rest b = refl
+    later : (w rest : List Lexeme) → Begins (solid first more) w → first_place (w ++ rest) ≡ first_place w
+    later [] rest b = absurd (false≢true b)
+    later (t ∷ w) rest b = refl
 
     sound : (ts : List Lexeme) (x : Span × A) (rest : List Lexeme) → from_first p ts ≡ Ok (x, rest) → Taken (FromFirst W) ts x rest
     sound ts x rest e =
@@ -79,7 +79,7 @@ first_reads {A} {W} {p} first more n reads = record {
         let tree : pair_of (first_place ts) parts.a ≡ x = same_tree (first_place ts, parts.a) x parts.between rest _ refl parts.two in
         let left : parts.between ≡ rest = same_rest (first_place ts, parts.a) x parts.between rest _ refl parts.two in
         let P : Span × A → Type 0 = λ y. FromFirst W y t.text in
-        let there : first_place ts ≡ first_place t.text = ap first_place t.whole ∙ behind t.text parts.between (reads.begins parts.a t.text t.written) in
+        let there : first_place ts ≡ first_place t.text = ap first_place t.whole ∙ later t.text parts.between (reads.begins parts.a t.text t.written) in
         record { text = t.text; whole = t.whole ∙ ap (λ r. t.text ++ r) left; written = subst P tree (there, t.written) }
 
     stuck : (ts : List Lexeme) (left : ℕ) → from_first p ts ≡ Err (Stuck left) → CanComplete (FromFirst W) ts left
@@ -107,7 +107,7 @@ first_reads {A} {W} {p} first more n reads = record {
         let P : List Lexeme → Type 0 = Begins (solid first more) in
         let b : Begins (solid first more) w = subst P (sym own) (reads.begins parts.a t.text t.written) in
         ap (λ r. r >>= λ y. Ok ((first_place (w ++ other), y.0), y.1)) (reads.local w rest other parts.a n read)
-        ∙ ap (λ at. Ok ((at, parts.a), other)) (behind w other b ∙ sym (behind w rest b))
+        ∙ ap (λ at. Ok ((at, parts.a), other)) (later w other b ∙ sym (later w rest b))
         ∙ ap (λ y. Ok (y, other)) tree
 
     local_stuck : (w rest other : List Lexeme) → next_class rest ≡ next_class other → from_first p (w ++ rest) ≡ Err (Stuck (length rest)) → from_first p (w ++ other) ≡ Err (Stuck (length other))

@@ -12,7 +12,7 @@ disjoint (k ∷ ks) ls = not (is_in k ls) && disjoint ks ls
 -- one token decides where a row of texts with separators between them ends
 pub record IsRow (s g : Shape) : Type 0 where
   pub solid : (link_shape s g).nullable ≡ false
-  pub behind : disjoint s.more (then_shape g (record { first = []; nullable = true; more = [] })).first ≡ true
+  pub later : disjoint s.more (then_shape g (record { first = []; nullable = true; more = [] })).first ≡ true
   pub again : disjoint (link_shape s g).more (link_shape s g).first ≡ true
   pub more : disjoint g.more (rest_shape s g).first ≡ true
 

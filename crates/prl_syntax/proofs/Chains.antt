@@ -164,9 +164,9 @@ unfolding TreesParts
 trees_reads n f chain = restate n (followed n (tree_reads n f chain) (λ t. followed n (many_reads n (comma_tree_reads f n chain) refl (apart tree_more (only fixed.Comma) refl)) (λ others. give_reads n _) refl) refl) to_trees from_trees same_shape
 
 -- what stands after a text that is not empty is shorter
-pub behind : {A B : Type 0} {W : A → List Lexeme → Type 0} {V : A → B → List Lexeme → Type 0} {r : Shape} {p : List Lexeme → Read A} {q : A → List Lexeme → Read B} (first on : List ℕ) (n : ℕ)
+pub one_later : {A B : Type 0} {W : A → List Lexeme → Type 0} {V : A → B → List Lexeme → Type 0} {r : Shape} {p : List Lexeme → Read A} {q : A → List Lexeme → Read B} (first on : List ℕ) (n : ℕ)
     → Reads (suc n) W (solid first on) p → ((a : A) → Reads n (V a) r (q a)) → disjoint on r.first ≡ true → Reads (suc n) (Then W V) (then_shape (solid first on) r) (then_read p q)
-behind {r} first on n one two d = bind_reads (suc n) (suc n) n one two (apart on r.first d) room
+one_later {r} first on n one two d = bind_reads (suc n) (suc n) n one two (apart on r.first d) room
   where
     room : (u v : List Lexeme) → Begins (solid first on) u → length (u ++ v) ≤ suc n → (length u ≤ suc n) × (length v ≤ n)
     room [] v b le = absurd (false≢true b)
@@ -184,7 +184,7 @@ GroupText = Then (The fixed.Open) (λ o. Then ClosedTrees (λ es. Give (group es
 
 pub group_reads : (n : ℕ) (f : List Lexeme → Read Chain) → Reads n ChainText (solid chain_first chain_more) f → Reads (suc n) GroupText (solid (only fixed.Open) []) (group_by f)
 unfolding GroupText
-group_reads n f chain = behind (only fixed.Open) [] n (the_reads (suc n) fixed.Open) (λ o. followed n (closed_trees_reads n f chain) (λ es. give_reads n _) refl) refl
+group_reads n f chain = one_later (only fixed.Open) [] n (the_reads (suc n) fixed.Open) (λ o. followed n (closed_trees_reads n f chain) (λ es. give_reads n _) refl) refl
 
 pub NoTrees : Trees → List Lexeme → Type 0
 NoTrees = Then (The fixed.Close) (λ c. Give none)
@@ -201,7 +201,7 @@ NamedText = Then Named (λ x. Then (Maybe ArgumentsText) (λ args. Give (root_of
 
 pub named_reads : (n : ℕ) (f : List Lexeme → Read Chain) → Reads n ChainText (solid chain_first chain_more) f → Reads (suc n) NamedText (solid (0 ∷ []) (only fixed.Open)) (named_by f)
 unfolding NamedText
-named_reads n f chain = behind (0 ∷ []) [] n (name_reads (suc n)) (λ x. followed n (maybe_reads (only fixed.Open) [] n (arguments_reads n f chain)) (λ args. give_reads n _) refl) refl
+named_reads n f chain = one_later (0 ∷ []) [] n (name_reads (suc n)) (λ x. followed n (maybe_reads (only fixed.Open) [] n (arguments_reads n f chain)) (λ args. give_reads n _) refl) refl
 
 unfoldable pub AppliedText : Root → List Lexeme → Type 0
 AppliedText = Either GroupText NamedText
@@ -231,7 +231,7 @@ ChainParts = Either TailChain (Either ConstantChain LastText)
 pub constant_chain_reads : (n : ℕ) (f : List Lexeme → Read Chain) → Reads n ChainText (solid chain_first chain_more) f → Reads (suc n) ConstantChain (solid constant_first ((chain_more ++ (chain_more ++ only fixed.Cons)) ++ only fixed.Fby)) (constant_by f)
 unfolding ConstantChain FbyChain ConsChain
 constant_chain_reads n f chain =
-    behind constant_first [] n (constant_reads (suc n)) (λ v.
+    one_later constant_first [] n (constant_reads (suc n)) (λ v.
     either n (followed n (the_reads n fixed.Fby) (λ p. followed n chain (λ c. give_reads n _) refl) refl)
     (either n (followed n (the_reads n fixed.Cons) (λ p. followed n chain (λ c. give_reads n _) refl) refl) (give_reads n _) refl refl) refl refl) refl
 

@@ -21,7 +21,7 @@ use Rattle.prl_syntax.specs.declared.words.Fixed.TheVariants as fixed
 use Rattle.prl_syntax.specs.Grammar.{PrefixText, TreeText, RootText}
 use Rattle.prl_syntax.specs.Readers.{the_at, only, constant_at, constant_first, postfix_at, postfix_first, Chain, prefixed, tree_of_parts, tree_by, comma_tree_by, closed_trees_by, no_trees_at, group_by, arguments_by, root_of_name, named_by, applied_by, last_by, tail_by, fby_by, cons_by, constant_end, constant_by, chain_by, chain_up_to, chain_at, tree_at}
 use Rattle.prl_syntax.proofs.Simple.{the_reads, constant_reads}
-use Rattle.prl_syntax.proofs.Chains.{ChainText, chain_first, chain_more, tree_more, alone, tree_reads, comma_tree_reads, behind, TailChain, FbyChain, ConsChain, ConstantChain, LastText, ChainParts, applied_reads, constant_chain_reads, within, in_within, out_within, parts_more, last_root, to_chain, root_parts}
+use Rattle.prl_syntax.proofs.Chains.{ChainText, chain_first, chain_more, tree_more, alone, tree_reads, comma_tree_reads, one_later, TailChain, FbyChain, ConsChain, ConstantChain, LastText, ChainParts, applied_reads, constant_chain_reads, within, in_within, out_within, parts_more, last_root, to_chain, root_parts}
 
 -- what is read so far is a chain with a prefix more
 prefix_parts : (op : PlacedOp) (pre : List PlacedOp) (root : Root) (w u v : List Lexeme) → w ≡ u ++ v → PrefixText op u → ChainText (pre, root) v → ChainParts (op ∷ pre, root) w
@@ -118,7 +118,7 @@ chain_parts_reads : (n : ℕ) (f : List Lexeme → Read Chain) → Reads n Chain
 unfolding ChainParts TailChain LastText
 chain_parts_reads n f chain =
     restate (suc n)
-    (either (suc n) (behind (only fixed.Tail) [] n (the_reads (suc n) fixed.Tail) (λ p. followed n chain (λ c. give_reads n _) refl) refl)
+    (either (suc n) (one_later (only fixed.Tail) [] n (the_reads (suc n) fixed.Tail) (λ p. followed n chain (λ c. give_reads n _) refl) refl)
     (either (suc n) (constant_chain_reads n f chain) (followed (suc n) (applied_reads n f chain) (λ r. give_reads (suc n) _) refl) refl refl) refl refl)
     to_chain from_chain
     (record { first = λ c h. h; nullable = λ h. h; more = λ c h. out_within parts_more chain_more refl c h })

@@ -3,7 +3,7 @@ use Rattle.std.specs.Prelude.{[], ◌∷◌, ◌++◌, map}
 use Rattle.prl_ast.specs.Trees.{ProgramTree, node_tree}
 use Rattle.prl_syntax.specs.declared.nodes.Declaration.{Declaration}
 use Rattle.prl_syntax.specs.declared.nodes.Declaration.TheVariants as kinds
-use Rattle.prl_syntax.specs.declared.nodes.Parts.{Parts}
+use Rattle.prl_syntax.specs.declared.nodes.Declarations.{Declarations}
 use Rattle.prl_syntax.specs.Trees.{Declared, imported, sensor, actuator, node}
 
 abbrev pub declared_view : Declaration → Declared
@@ -12,8 +12,8 @@ declared_view (kinds.Sensor d) = sensor d
 declared_view (kinds.Actuator d) = actuator d
 declared_view (kinds.Node n) = node (node_tree n)
 
-abbrev pub parts_view : Parts → ProgramTree
-parts_view p = record { imports = p.imports.items; sensors = p.sensors.items; actuators = p.actuators.items; nodes = map node_tree p.nodes.items }
+abbrev pub declarations_view : Declarations → ProgramTree
+declarations_view p = record { imports = p.imports.items; sensors = p.sensors.items; actuators = p.actuators.items; nodes = map node_tree p.nodes.items }
 
 -- a program with one declaration more at the end of its kind
 abbrev pub with_last : ProgramTree → Declared → ProgramTree

@@ -25,13 +25,13 @@ note_or (Some note) other = Some note
 
 -- the first note of the items, or the one after them
 abbrev pub first_note : List Item → Option Note → Option Note
-first_note [] behind = behind
-first_note (item ∷ items) behind = note_or item.note (first_note items behind)
+first_note [] later = later
+first_note (item ∷ items) later = note_or item.note (first_note items later)
 
 -- A name without a note of its own has the note of the next one that has one.
 abbrev pub params_before : List Item → Option Note → List Param
-params_before [] behind = []
-params_before (item ∷ items) behind = param_of item.name (first_note (item ∷ items) behind) ∷ params_before items behind
+params_before [] later = []
+params_before (item ∷ items) later = param_of item.name (first_note (item ∷ items) later) ∷ params_before items later
 
 abbrev pub params_of : List Item → List Param
 params_of items = params_before items None

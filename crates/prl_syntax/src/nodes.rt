@@ -7,7 +7,7 @@ ghost use Rattle.prl_reader.specs.Readers.{next_in, many_at, maybe_at};
 ghost use Rattle.prl_reader.specs.Stops.{stop_of};
 ghost use Rattle.prl_reader.specs.Whole.{all_at};
 ghost use Rattle.prl_reader.specs.Loops.{with_front};
-ghost use Rattle.prl_syntax.specs.Nodes.{declared_view, parts_view, with_last};
+ghost use Rattle.prl_syntax.specs.Nodes.{declared_view, declarations_view, with_last};
 ghost use Rattle.prl_syntax.specs.Readers.{only, the_at, lefts_at, equation_first, equation_at, node_at, declaration_first, declaration_at, program_at};
 ghost use Rattle.prl_syntax.specs.Trees.{program_of};
 ghost use Rattle.prl_syntax.specs.declared.words.Fixed.TheVariants as kinds;
@@ -185,7 +185,7 @@ fn more_declarations(
     Ok((declarations, rest))
 }
 
-fn declarations(
+fn read_declarations(
     alloc: Global,
     terminals: &[Terminal],
 ) -> Result<(Vec<Declaration>, &[Terminal]), Stop>
@@ -196,7 +196,7 @@ fn declarations(
 
 /// Declarations by kind.
 #[derive(Debug, Drop)]
-struct Parts {
+struct Declarations {
     imports: Vec<Import>,
     sensors: Vec<Device>,
     actuators: Vec<Device>,
@@ -204,34 +204,34 @@ struct Parts {
 }
 
 /// One declaration more at the end of its kind.
-fn with_declaration(parts: Parts, declaration: Declaration) -> Result<Parts, AllocError>
-    ensures { IfOk result (λ p. parts_view p ≡ with_last (parts_view parts) (declared_view declaration)) }
+fn with_declaration(sorted: Declarations, declaration: Declaration) -> Result<Declarations, AllocError>
+    ensures { IfOk result (λ p. declarations_view p ≡ with_last (declarations_view sorted) (declared_view declaration)) }
 {
-    let mut parts = parts;
+    let mut sorted = sorted;
     match declaration {
-        Declaration::Import(import) => parts.imports.push(import)?,
-        Declaration::Sensor(sensor) => parts.sensors.push(sensor)?,
-        Declaration::Actuator(actuator) => parts.actuators.push(actuator)?,
-        Declaration::Node(node) => parts.nodes.push(node)?,
+        Declaration::Import(import) => sorted.imports.push(import)?,
+        Declaration::Sensor(sensor) => sorted.sensors.push(sensor)?,
+        Declaration::Actuator(actuator) => sorted.actuators.push(actuator)?,
+        Declaration::Node(node) => sorted.nodes.push(node)?,
     }
-    Ok(parts)
+    Ok(sorted)
 }
 
 /// The declarations, the last one first, by kind.
-fn parts_of(alloc: Global, backward: Vec<Declaration>) -> Result<Parts, AllocError>
-    ensures { IfOk result (λ p. parts_view p ≡ program_of (map declared_view (reverse backward.items))) }
+fn by_kind(alloc: Global, backward: Vec<Declaration>) -> Result<Declarations, AllocError>
+    ensures { IfOk result (λ p. declarations_view p ≡ program_of (map declared_view (reverse backward.items))) }
 {
     let mut declarations = backward;
-    let mut parts = Parts {
+    let mut sorted = Declarations {
         imports: Vec::new(alloc),
         sensors: Vec::new(alloc),
         actuators: Vec::new(alloc),
         nodes: Vec::new(alloc),
     };
     'each: while let Some(declaration) = declarations.pop() {
-        parts = with_declaration(parts, declaration)?;
+        sorted = with_declaration(sorted, declaration)?;
     }
-    Ok(parts)
+    Ok(sorted)
 }
 
 /// The declarations by kind.
@@ -240,13 +240,13 @@ fn program_of(alloc: Global, declarations: Vec<Declaration>) -> Result<Program, 
 {
     let mut declarations = declarations;
     declarations.reverse();
-    let parts = parts_of(alloc, declarations)?;
-    let Parts {
+    let sorted = by_kind(alloc, declarations)?;
+    let Declarations {
         imports,
         sensors,
         actuators,
         nodes,
-    } = parts;
+    } = sorted;
     let imports = Seq::new(imports);
     let sensors = Seq::new(sensors);
     let actuators = Seq::new(actuators);
@@ -264,7 +264,7 @@ fn program_of(alloc: Global, declarations: Vec<Declaration>) -> Result<Program, 
 pub fn program(alloc: Global, terminals: &[Terminal]) -> Result<Program, Stop>
     ensures { Gives program_tree stop_of result (all_at program_at terminals.now) }
 {
-    let (declarations, rest) = attempt!(declarations(alloc, terminals));
+    let (declarations, rest) = attempt!(read_declarations(alloc, terminals));
     match rest {
         [] => Ok(program_of(alloc, declarations)?),
         [_, ..] => Err(Stop::Unexpected(rest.len())),
