@@ -12,10 +12,10 @@ use Rattle.prl_reader.specs.Lexemes.{Lexeme}
 use Rattle.prl_reader.specs.Lexing.{lexemes_of}
 use Rattle.prl_reader.specs.Readers.{Stop, Stuck, Deep}
 use Rattle.prl_reader.specs.Language.{Text, read_at}
-use Rattle.prl_reader.specs.Whole.{place_of, all_at}
+use Rattle.prl_reader.specs.Whole.{place_of, told, all_at}
 use Rattle.prl_reader.proofs.Whole.{all_ok, all_only, all_stuck}
 use Rattle.prl_bodytext.specs.Grammar.{Bodies, bodies}
-use Rattle.prl_bodytext.specs.Parsing.{of_lexical, lexed, placed, ranged, bodies_of_tokens, bodies_of, AreBodiesOf, Explains}
+use Rattle.prl_bodytext.specs.Parsing.{of_lexical, of_stop, ranged, bodies_of_tokens, bodies_of, AreBodiesOf, Explains}
 use Rattle.prl_reader.specs.Ranges.{out_of_range}
 use Rattle.prl_bodytext.specs.Ranges.{body_ranges}
 use Rattle.prl_bodytext.specs.Words.{body_vocabulary}
@@ -44,7 +44,7 @@ module _ (text : List ℕ) (tokens : List Token) (is : tokens_of text ≡ Ok tok
       subst P same (record { tokens = tokens; lexical = is; written = w; ranges = o })
   in_range_ok (Some at) t trees o w h = cc
 
-  pub tokens_ok : (r : Result (List TextTree) Stop) (trees : List TextTree) → all_at (read_at bodies Bodies) ts ≡ r → (placed ts (length text) r >>= λ trees. ranged (out_of_range body_ranges false 0 ts) trees) ≡ Ok trees → AreBodiesOf text trees
+  pub tokens_ok : (r : Result (List TextTree) Stop) (trees : List TextTree) → all_at (read_at bodies Bodies) ts ≡ r → (told (of_stop ts (length text)) r >>= λ trees. ranged (out_of_range body_ranges false 0 ts) trees) ≡ Ok trees → AreBodiesOf text trees
   tokens_ok (Ok t) trees e h = in_range_ok (out_of_range body_ranges false 0 ts) t trees refl (all_ok bodies_reads ts t e) h
   tokens_ok (Err s) trees e h = cc
 
@@ -54,7 +54,7 @@ module _ (text : List ℕ) (tokens : List Token) (is : tokens_of text ≡ Ok tok
       subst P (err_same (faults.Syntax at) fault h) (inr (inr (record { tokens = tokens; trees = t; lexical = is; written = w; first = o })))
   in_range_err None t fault o w h = cc
 
-  pub tokens_err : (r : Result (List TextTree) Stop) (fault : BodyFault) → all_at (read_at bodies Bodies) ts ≡ r → (placed ts (length text) r >>= λ trees. ranged (out_of_range body_ranges false 0 ts) trees) ≡ Err fault → Explains text fault
+  pub tokens_err : (r : Result (List TextTree) Stop) (fault : BodyFault) → all_at (read_at bodies Bodies) ts ≡ r → (told (of_stop ts (length text)) r >>= λ trees. ranged (out_of_range body_ranges false 0 ts) trees) ≡ Err fault → Explains text fault
   tokens_err (Ok t) fault e h = in_range_err (out_of_range body_ranges false 0 ts) t fault refl (all_ok bodies_reads ts t e) h
   tokens_err (Err (Stuck left)) fault e h =
       let P : BodyFault → Type 0 = Explains text in
@@ -64,7 +64,7 @@ module _ (text : List ℕ) (tokens : List Token) (is : tokens_of text ≡ Ok tok
       subst P (err_same faults.Memory fault h) tt
 
 -- the tokens, or the fault that they have
-by_tokens : (text : List ℕ) (r : Result (List Token) LexFault) (trees : List TextTree) → tokens_of text ≡ r → (lexed r >>= λ tokens. bodies_of_tokens (lexemes_of body_vocabulary text tokens) (length text)) ≡ Ok trees → AreBodiesOf text trees
+by_tokens : (text : List ℕ) (r : Result (List Token) LexFault) (trees : List TextTree) → tokens_of text ≡ r → (told of_lexical r >>= λ tokens. bodies_of_tokens (lexemes_of body_vocabulary text tokens) (length text)) ≡ Ok trees → AreBodiesOf text trees
 unfolding bodies_of_tokens
 by_tokens text (Ok tokens) trees e h = tokens_ok text tokens e (all_at (read_at bodies Bodies) (lexemes_of body_vocabulary text tokens)) trees refl h
 by_tokens text (Err fault) trees e h = cc
@@ -75,7 +75,7 @@ lexical_fault text (lexical.NumberRange at) fault e h = let P : BodyFault → Ty
 lexical_fault text (lexical.Limit limit) fault e h = let P : BodyFault → Type 0 = Explains text in subst P h e
 lexical_fault text lexical.Memory fault e h = let P : BodyFault → Type 0 = Explains text in subst P h tt
 
-by_fault : (text : List ℕ) (r : Result (List Token) LexFault) (fault : BodyFault) → tokens_of text ≡ r → (lexed r >>= λ tokens. bodies_of_tokens (lexemes_of body_vocabulary text tokens) (length text)) ≡ Err fault → Explains text fault
+by_fault : (text : List ℕ) (r : Result (List Token) LexFault) (fault : BodyFault) → tokens_of text ≡ r → (told of_lexical r >>= λ tokens. bodies_of_tokens (lexemes_of body_vocabulary text tokens) (length text)) ≡ Err fault → Explains text fault
 unfolding bodies_of_tokens
 by_fault text (Ok tokens) fault e h = tokens_err text tokens e (all_at (read_at bodies Bodies) (lexemes_of body_vocabulary text tokens)) fault refl h
 by_fault text (Err lex) fault e h = lexical_fault text lex fault e (err_same (of_lexical lex) fault h)
@@ -92,8 +92,8 @@ explained text fault h = by_fault text (tokens_of text) fault refl h
 pub only_bodies : (text : List ℕ) (trees : List TextTree) → AreBodiesOf text trees → bodies_of text ≡ Ok trees
 unfolding bodies_of bodies_of_tokens
 only_bodies text trees are =
-    ap (λ r. lexed r >>= λ tokens. bodies_of_tokens (lexemes_of body_vocabulary text tokens) (length text)) are.lexical
-    ∙ ap (λ r. placed (lexemes_of body_vocabulary text are.tokens) (length text) r >>= λ trees. ranged (out_of_range body_ranges false 0 (lexemes_of body_vocabulary text are.tokens)) trees) (all_only bodies_reads (lexemes_of body_vocabulary text are.tokens) trees are.written)
+    ap (λ r. told of_lexical r >>= λ tokens. bodies_of_tokens (lexemes_of body_vocabulary text tokens) (length text)) are.lexical
+    ∙ ap (λ r. told (of_stop (lexemes_of body_vocabulary text are.tokens) (length text)) r >>= λ trees. ranged (out_of_range body_ranges false 0 (lexemes_of body_vocabulary text are.tokens)) trees) (all_only bodies_reads (lexemes_of body_vocabulary text are.tokens) trees are.written)
     ∙ ap (λ o. ranged o trees) are.ranges
 
 pub given_bodies : {X : Type 0} (view : X → List TextTree) (r : Result X BodyFault) (text : List ℕ) → GivesBut faults.Memory view r (bodies_of text) → IfOk r (λ x. AreBodiesOf text (view x))

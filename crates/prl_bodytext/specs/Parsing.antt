@@ -15,7 +15,7 @@ use Rattle.prl_reader.specs.Lexing.{lexemes_of}
 use Rattle.prl_reader.specs.Ranges.{out_of_range}
 use Rattle.prl_reader.specs.Readers.{Stop, Stuck, Deep}
 use Rattle.prl_reader.specs.Language.{Text, read_at}
-use Rattle.prl_reader.specs.Whole.{place_of, all_at, IsFirstUnexpected}
+use Rattle.prl_reader.specs.Whole.{place_of, told, all_at, IsFirstUnexpected}
 use Rattle.prl_bodytext.specs.Grammar.{Bodies, bodies}
 use Rattle.prl_bodytext.specs.Ranges.{body_ranges}
 use Rattle.prl_bodytext.specs.Words.{body_vocabulary}
@@ -26,17 +26,9 @@ of_lexical (lexical.NumberRange at) = faults.Syntax at
 of_lexical (lexical.Limit limit) = faults.Limit limit
 of_lexical lexical.Memory = faults.Memory
 
-abbrev pub lexed : Result (List Token) LexFault → Result (List Token) BodyFault
-lexed (Ok tokens) = Ok tokens
-lexed (Err fault) = Err (of_lexical fault)
-
 abbrev pub of_stop : List Lexeme → ℕ → Stop → BodyFault
 of_stop ts end (Stuck left) = faults.Syntax (place_of ts left end)
 of_stop ts end Deep = faults.Memory
-
-abbrev pub placed : List Lexeme → ℕ → Result (List TextTree) Stop → Result (List TextTree) BodyFault
-placed ts end (Ok trees) = Ok trees
-placed ts end (Err stop) = Err (of_stop ts end stop)
 
 -- what the code answers where its reader stopped
 abbrev pub FaultOfStop : List Lexeme → ℕ → Stopped → BodyFault → Type 0
@@ -49,12 +41,12 @@ ranged (Some at) trees = Err (faults.Syntax at)
 
 unfoldable pub bodies_of_tokens : List Lexeme → ℕ → Result (List TextTree) BodyFault
 bodies_of_tokens ts end = do
-  trees ← placed ts end (all_at (read_at bodies Bodies) ts)
+  trees ← told (of_stop ts end) (all_at (read_at bodies Bodies) ts)
   ranged (out_of_range body_ranges false 0 ts) trees
 
 unfoldable pub bodies_of : List ℕ → Result (List TextTree) BodyFault
 bodies_of text = do
-  tokens ← lexed (tokens_of text)
+  tokens ← told of_lexical (tokens_of text)
   bodies_of_tokens (lexemes_of body_vocabulary text tokens) (length text)
 
 -- The text has these bodies: its tokens are a text of the grammar, with these trees, and its numbers are in range.

@@ -14,6 +14,11 @@ place_or end (t ∷ ts) = t.at.at
 abbrev pub place_of : List Lexeme → ℕ → ℕ → ℕ
 place_of ts left end = place_or end (drop (length ts - left) ts)
 
+-- the same, or what a language tells of this fault
+abbrev pub told : {A E F : Type 0} → (E → F) → Result A E → Result A F
+told fault (Ok x) = Ok x
+told fault (Err e) = Err (fault e)
+
 -- all tokens are read
 abbrev pub ended : {A : Type 0} → A → List Lexeme → Result A Stop
 ended a [] = Ok a

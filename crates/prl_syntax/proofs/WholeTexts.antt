@@ -10,13 +10,13 @@ use Rattle.prl_lex.specs.declared.tokens.Token.{Token}
 use Rattle.prl_lex.specs.Lexing.{tokens_of}
 use Rattle.prl_reader.specs.Lexemes.{Lexeme}
 use Rattle.prl_reader.specs.Readers.{Stop, Stuck, Deep}
-use Rattle.prl_reader.specs.Whole.{place_of, all_at}
+use Rattle.prl_reader.specs.Whole.{place_of, told, all_at}
 use Rattle.prl_reader.proofs.Whole.{all_ok, all_only, all_stuck}
 use Rattle.prl_syntax.specs.declared.parsing.ParseFault.{ParseFault}
 use Rattle.prl_syntax.specs.declared.parsing.ParseFault.TheVariants as faults
 use Rattle.prl_syntax.specs.Grammar.{ProgramText}
 use Rattle.prl_syntax.specs.Lexing.{lexemes_of}
-use Rattle.prl_syntax.specs.Parsing.{of_lexical, lexed, placed, ranged, program_of_tokens, parse_of, IsProgramOf, Explains}
+use Rattle.prl_syntax.specs.Parsing.{of_lexical, of_stop, ranged, program_of_tokens, parse_of, IsProgramOf, Explains}
 use Rattle.prl_reader.specs.Ranges.{out_of_range}
 use Rattle.prl_syntax.specs.Ranges.{program_ranges}
 use Rattle.prl_syntax.specs.Readers.{program_at}
@@ -46,7 +46,7 @@ module _ (text : List ℕ) (tokens : List Token) (is : tokens_of text ≡ Ok tok
       subst P same.1 (record { tokens = tokens; lexical = is; written = w; ranges = o; nodes = leb-true (length t.nodes) 256 same.0 })
   in_range_ok (Some at) t tree o w h = cc
 
-  pub tokens_ok : (r : Result ProgramTree Stop) (tree : ProgramTree) → all_at program_at ts ≡ r → (placed ts (length text) r >>= λ tree. ranged (out_of_range program_ranges false 0 ts) tree) ≡ Ok tree → IsProgramOf text tree
+  pub tokens_ok : (r : Result ProgramTree Stop) (tree : ProgramTree) → all_at program_at ts ≡ r → (told (of_stop ts (length text)) r >>= λ tree. ranged (out_of_range program_ranges false 0 ts) tree) ≡ Ok tree → IsProgramOf text tree
   tokens_ok (Ok t) tree e h = in_range_ok (out_of_range program_ranges false 0 ts) t tree refl (all_ok program_reads ts t e) h
   tokens_ok (Err s) tree e h = cc
 
@@ -64,7 +64,7 @@ module _ (text : List ℕ) (tokens : List Token) (is : tokens_of text ≡ Ok tok
       subst P same (inr (record { tokens = tokens; tree = t; lexical = is; written = w; ranges = o; many = leb-false (length t.nodes) 256 e; is = refl })))
       (cases_Bool (leb (length t.nodes) 256))
 
-  pub tokens_err : (r : Result ProgramTree Stop) (fault : ParseFault) → all_at program_at ts ≡ r → (placed ts (length text) r >>= λ tree. ranged (out_of_range program_ranges false 0 ts) tree) ≡ Err fault → Explains text fault
+  pub tokens_err : (r : Result ProgramTree Stop) (fault : ParseFault) → all_at program_at ts ≡ r → (told (of_stop ts (length text)) r >>= λ tree. ranged (out_of_range program_ranges false 0 ts) tree) ≡ Err fault → Explains text fault
   tokens_err (Ok t) fault e h = in_range_err (out_of_range program_ranges false 0 ts) t fault refl (all_ok program_reads ts t e) h
   tokens_err (Err (Stuck left)) fault e h =
       let same : faults.Unexpected (place_of ts left (length text)) ≡ fault = cc in
@@ -76,7 +76,7 @@ module _ (text : List ℕ) (tokens : List Token) (is : tokens_of text ≡ Ok tok
       subst P same tt
 
 -- the tokens, or the fault that they have
-by_tokens : (text : List ℕ) (r : Result (List Token) LexFault) (tree : ProgramTree) → tokens_of text ≡ r → (lexed r >>= λ tokens. program_of_tokens (lexemes_of text tokens) (length text)) ≡ Ok tree → IsProgramOf text tree
+by_tokens : (text : List ℕ) (r : Result (List Token) LexFault) (tree : ProgramTree) → tokens_of text ≡ r → (told of_lexical r >>= λ tokens. program_of_tokens (lexemes_of text tokens) (length text)) ≡ Ok tree → IsProgramOf text tree
 unfolding program_of_tokens
 by_tokens text (Ok tokens) tree e h = tokens_ok text tokens e (all_at program_at (lexemes_of text tokens)) tree refl h
 by_tokens text (Err fault) tree e h = cc
@@ -87,7 +87,7 @@ lexical_fault text (lexical.NumberRange at) fault e h = let P : ParseFault → T
 lexical_fault text (lexical.Limit limit) fault e h = let P : ParseFault → Type 0 = Explains text in subst P h (inl e)
 lexical_fault text lexical.Memory fault e h = let P : ParseFault → Type 0 = Explains text in subst P h tt
 
-by_fault : (text : List ℕ) (r : Result (List Token) LexFault) (fault : ParseFault) → tokens_of text ≡ r → (lexed r >>= λ tokens. program_of_tokens (lexemes_of text tokens) (length text)) ≡ Err fault → Explains text fault
+by_fault : (text : List ℕ) (r : Result (List Token) LexFault) (fault : ParseFault) → tokens_of text ≡ r → (told of_lexical r >>= λ tokens. program_of_tokens (lexemes_of text tokens) (length text)) ≡ Err fault → Explains text fault
 unfolding program_of_tokens
 by_fault text (Ok tokens) fault e h = tokens_err text tokens e (all_at program_at (lexemes_of text tokens)) fault refl h
 by_fault text (Err lex) fault e h = lexical_fault text lex fault e (err_same (of_lexical lex) fault h)
@@ -104,8 +104,8 @@ explained text fault h = by_fault text (tokens_of text) fault refl h
 pub only_program : (text : List ℕ) (tree : ProgramTree) → IsProgramOf text tree → parse_of text ≡ Ok tree
 unfolding parse_of program_of_tokens
 only_program text tree is =
-    ap (λ r. lexed r >>= λ tokens. program_of_tokens (lexemes_of text tokens) (length text)) is.lexical
-    ∙ ap (λ r. placed (lexemes_of text is.tokens) (length text) r >>= λ tree. ranged (out_of_range program_ranges false 0 (lexemes_of text is.tokens)) tree) (all_only program_reads (lexemes_of text is.tokens) tree is.written)
+    ap (λ r. told of_lexical r >>= λ tokens. program_of_tokens (lexemes_of text tokens) (length text)) is.lexical
+    ∙ ap (λ r. told (of_stop (lexemes_of text is.tokens) (length text)) r >>= λ tree. ranged (out_of_range program_ranges false 0 (lexemes_of text is.tokens)) tree) (all_only program_reads (lexemes_of text is.tokens) tree is.written)
     ∙ ap (λ o. ranged o tree) is.ranges
     ∙ cond-true (leb (length tree.nodes) 256) _ _ (le-leb (length tree.nodes) 256 is.nodes)
 

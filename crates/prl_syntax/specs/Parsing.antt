@@ -13,7 +13,7 @@ use Rattle.prl_lex.specs.Lexing.{tokens_of}
 use Rattle.prl_reader.specs.Lexemes.{Lexeme}
 use Rattle.prl_reader.specs.Ranges.{out_of_range}
 use Rattle.prl_reader.specs.Readers.{Stop, Stuck, Deep}
-use Rattle.prl_reader.specs.Whole.{place_of, all_at, IsFirstUnexpected}
+use Rattle.prl_reader.specs.Whole.{place_of, told, all_at, IsFirstUnexpected}
 use Rattle.prl_syntax.specs.declared.parsing.TheConstants.{MAX_NODES}
 use Rattle.prl_syntax.specs.declared.parsing.ParseFault.{ParseFault}
 use Rattle.prl_syntax.specs.declared.parsing.ParseFault.TheVariants as faults
@@ -28,17 +28,9 @@ of_lexical (lexical.NumberRange at) = faults.NumberRange at
 of_lexical (lexical.Limit limit) = faults.Limit limit
 of_lexical lexical.Memory = faults.Memory
 
-abbrev pub lexed : Result (List Token) LexFault → Result (List Token) ParseFault
-lexed (Ok tokens) = Ok tokens
-lexed (Err fault) = Err (of_lexical fault)
-
 abbrev pub of_stop : List Lexeme → ℕ → Stop → ParseFault
 of_stop ts end (Stuck left) = faults.Unexpected (place_of ts left end)
 of_stop ts end Deep = faults.Memory
-
-abbrev pub placed : List Lexeme → ℕ → Result ProgramTree Stop → Result ProgramTree ParseFault
-placed ts end (Ok tree) = Ok tree
-placed ts end (Err stop) = Err (of_stop ts end stop)
 
 -- what the code answers where its reader stopped
 abbrev pub FaultOfStop : List Lexeme → ℕ → Stopped → ParseFault → Type 0
@@ -55,12 +47,12 @@ ranged (Some at) tree = Err (faults.NumberRange at)
 
 unfoldable pub program_of_tokens : List Lexeme → ℕ → Result ProgramTree ParseFault
 program_of_tokens ts end = do
-  tree ← placed ts end (all_at program_at ts)
+  tree ← told (of_stop ts end) (all_at program_at ts)
   ranged (out_of_range program_ranges false 0 ts) tree
 
 unfoldable pub parse_of : List ℕ → Result ProgramTree ParseFault
 parse_of text = do
-  tokens ← lexed (tokens_of text)
+  tokens ← told of_lexical (tokens_of text)
   program_of_tokens (lexemes_of text tokens) (length text)
 
 -- The text is the program: its tokens are a text of the grammar, with this tree, and it is within ranges and limits.

@@ -204,7 +204,10 @@ struct Declarations {
 }
 
 /// One declaration more at the end of its kind.
-fn with_declaration(sorted: Declarations, declaration: Declaration) -> Result<Declarations, AllocError>
+fn with_declaration(
+    sorted: Declarations,
+    declaration: Declaration,
+) -> Result<Declarations, AllocError>
     ensures { IfOk result (λ p. declarations_view p ≡ with_last (declarations_view sorted) (declared_view declaration)) }
 {
     let mut sorted = sorted;
