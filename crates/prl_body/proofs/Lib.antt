@@ -7,6 +7,8 @@ pub mod Inversion
 pub mod TypedSound
 pub mod BodySound
 pub mod BodyList
+pub mod FirstOf
+pub mod Lookups
 -- for the crates above: lists that a loop fills, element by element
 pub mod Steps
 -- for the crates above: the trees of chains of operators

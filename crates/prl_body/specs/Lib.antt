@@ -10,3 +10,4 @@ pub mod NameChecks
 pub mod TypeChecks
 pub mod Checks
 pub mod Used
+pub mod Scopes

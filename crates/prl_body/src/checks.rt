@@ -1,147 +1,104 @@
 //! Bodies, checked against their imports.
 
 ghost use Rattle.std.specs.Prelude.{◌≡◌, ◌++◌, [], map, IfOk, OnOk};
-ghost use Rattle.std.specs.Option.{option_copied, option_map};
+ghost use Rattle.std.specs.Option.{option_map};
 ghost use Rattle.prl_base.specs.Reading.{GivesBut};
 ghost use Rattle.prl_base.specs.Values.{type_of};
-ghost use Rattle.prl_body.specs.Checks.{body_tree, register_tree, typed_as, port_type, register_type, left_type, typed_statement, typed_statements, statement_named, output_value, output_values, next_value, resolved_registers, checked_body};
+ghost use Rattle.prl_names.specs.Tables.{AreIndices};
+ghost use Rattle.prl_body.specs.Checks.{body_tree, register_tree, typed_as, left_type, typed_statement, typed_statements, statement_named, output_value, output_values, next_value, resolved_registers, checked_body};
 ghost use Rattle.prl_body.specs.Codes.{expression_of};
+ghost use Rattle.prl_body.specs.Scopes.{left_names};
 ghost use Rattle.prl_body.specs.Texts.{statement_tree, text_tree};
 
 use crate::bodies::{Body, CheckedBody, Register};
 use crate::codes::{Code, Variable};
 use crate::faults::BodyFault;
 use crate::names::name_fault;
+use crate::scopes::{Scope, left_indices, statement_named};
 use crate::texts::{BodyText, RegisterText, Statement};
 use crate::types::{is_same_type, typed};
 use prl_ast::{Import, Port};
-use prl_base::{Name, Seq, Ty};
+use prl_base::{Seq, Ty};
+use prl_names::Indices;
 use std::alloc::{AllocError, Global};
 
 /// The right side of a statement whose left name has this type.
 fn typed_as(
     alloc: Global,
-    ins: &[Port],
-    registers: &[RegisterText],
+    scope: &Scope<'_>,
     ty: Ty,
     statement: &Statement,
 ) -> Result<Code, BodyFault>
-    ensures { GivesBut BodyFault.Memory expression_of result (typed_as ins.now registers.now ty (statement_tree statement.now)) }
+    ensures { GivesBut BodyFault.Memory expression_of result (typed_as scope.now.ins scope.now.registers ty (statement_tree statement.now)) }
 {
-    let (code, found) = typed(alloc, ins, registers, &statement.right)?;
+    let (code, found) = typed(alloc, scope, &statement.right)?;
     if !is_same_type(found, ty) {
         return Err(BodyFault::BodyType(statement.at.at));
     }
     Ok(code)
 }
 
-fn port_type(ports: &[Port], name: &Name) -> Option<Ty>
-    ensures { result ≡ port_type ports.now name.now }
-{
-    for port in ports {
-        if port.name.bytes() == name.bytes() {
-            return Some(port.ty);
-        }
-    }
-    None
-}
-
-fn register_type(registers: &[RegisterText], name: &Name) -> Option<Ty>
-    ensures { result ≡ register_type registers.now name.now }
-{
-    for register in registers {
-        if register.name.bytes() == name.bytes() {
-            return Some(register.first.ty());
-        }
-    }
-    None
-}
-
-/// The type of the output or the register of this name.
-fn left_type(outs: &[Port], registers: &[RegisterText], name: &Name) -> Option<Ty>
-    ensures { result ≡ left_type outs.now registers.now name.now }
-{
-    match port_type(outs, name) {
-        Some(ty) => Some(ty),
-        None => register_type(registers, name),
-    }
-}
-
 /// Checks the types of a statement.
 fn check_statement(
     alloc: Global,
-    ins: &[Port],
-    outs: &[Port],
-    registers: &[RegisterText],
+    scope: &Scope<'_>,
     statement: &Statement,
 ) -> Result<Code, BodyFault>
-    ensures { GivesBut BodyFault.Memory expression_of result (typed_statement ins.now registers.now (left_type outs.now registers.now statement.now.left) (statement_tree statement.now)) }
+    ensures { GivesBut BodyFault.Memory expression_of result (typed_statement scope.now.ins scope.now.registers (left_type scope.now.outs scope.now.registers statement.now.left) (statement_tree statement.now)) }
 {
-    match left_type(outs, registers, &statement.left) {
+    match scope.left_type(&statement.left) {
         None => Err(BodyFault::BodyName(statement.at.at)),
-        Some(ty) => typed_as(alloc, ins, registers, ty, statement),
+        Some(ty) => typed_as(alloc, scope, ty, statement),
     }
 }
 
 /// Checks the types of the statements in the order of the text.
 fn check_statements(
     alloc: Global,
-    ins: &[Port],
-    outs: &[Port],
-    registers: &[RegisterText],
+    scope: &Scope<'_>,
     statements: &[Statement],
 ) -> Result<(), BodyFault>
-    ensures { GivesBut BodyFault.Memory (λ x. x) result (typed_statements ins.now outs.now registers.now (map statement_tree statements.now)) }
+    ensures { GivesBut BodyFault.Memory (λ x. x) result (typed_statements scope.now.ins scope.now.outs scope.now.registers (map statement_tree statements.now)) }
 {
     for statement in statements {
-        let _code = check_statement(alloc, ins, outs, registers, statement)?;
+        let _code = check_statement(alloc, scope, statement)?;
     }
     Ok(())
-}
-
-/// The first statement with this left name.
-fn statement_named<'a>(statements: &'a [Statement], name: &Name) -> Option<&'a Statement>
-    ensures { option_map (λ s. statement_tree s.now) result ≡ statement_named (map statement_tree statements.now) name.now }
-{
-    for statement in statements {
-        if statement.left.bytes() == name.bytes() {
-            return Some(statement);
-        }
-    }
-    None
 }
 
 /// The value of an output of this name and type, for a body whose name stands at this byte.
 fn output_value(
     alloc: Global,
-    ins: &[Port],
-    registers: &[RegisterText],
+    scope: &Scope<'_>,
     at: u32,
     statements: &[Statement],
+    lefts: &Indices<'_>,
     port: &Port,
 ) -> Result<Code, BodyFault>
-    ensures { GivesBut BodyFault.Memory expression_of result (output_value ins.now registers.now at port.now.ty (statement_named (map statement_tree statements.now) port.now.name)) }
+    requires { AreIndices lefts.now (left_names statements.now) }
+    ensures { GivesBut BodyFault.Memory expression_of result (output_value scope.now.ins scope.now.registers at port.now.ty (statement_named (map statement_tree statements.now) port.now.name)) }
 {
-    match statement_named(statements, &port.name) {
+    match statement_named(statements, lefts, &port.name) {
         None => Err(BodyFault::BodyArity(at)),
-        Some(statement) => typed_as(alloc, ins, registers, port.ty, statement),
+        Some(statement) => typed_as(alloc, scope, port.ty, statement),
     }
 }
 
 /// The value of each output.
 fn output_values(
     alloc: Global,
-    ins: &[Port],
-    registers: &[RegisterText],
+    scope: &Scope<'_>,
     at: u32,
     statements: &[Statement],
+    lefts: &Indices<'_>,
     outs: &[Port],
 ) -> Result<Vec<Code>, BodyFault>
-    ensures { GivesBut BodyFault.Memory (λ v. map expression_of v.items) result (output_values ins.now registers.now at (map statement_tree statements.now) outs.now) }
+    requires { AreIndices lefts.now (left_names statements.now) }
+    ensures { GivesBut BodyFault.Memory (λ v. map expression_of v.items) result (output_values scope.now.ins scope.now.registers at (map statement_tree statements.now) outs.now) }
 {
     let mut values = Vec::new(alloc);
     for port in outs {
-        let value = output_value(alloc, ins, registers, at, statements, port)?;
+        let value = output_value(alloc, scope, at, statements, lefts, port)?;
         values.push(value)?;
     }
     Ok(values)
@@ -150,32 +107,34 @@ fn output_values(
 /// The next value of the register `k`.
 fn next_value(
     alloc: Global,
-    ins: &[Port],
-    registers: &[RegisterText],
+    scope: &Scope<'_>,
     statements: &[Statement],
+    lefts: &Indices<'_>,
     k: usize,
     register: &RegisterText,
 ) -> Result<Code, BodyFault>
-    ensures { GivesBut BodyFault.Memory expression_of result (let s = statement_named (map statement_tree statements.now) register.now.name in next_value ins.now registers.now k (type_of register.now.first) s) }
+    requires { AreIndices lefts.now (left_names statements.now) }
+    ensures { GivesBut BodyFault.Memory expression_of result (let s = statement_named (map statement_tree statements.now) register.now.name in next_value scope.now.ins scope.now.registers k (type_of register.now.first) s) }
 {
-    match statement_named(statements, &register.name) {
+    match statement_named(statements, lefts, &register.name) {
         None => Ok(Code::Name(Variable::Register(k))),
-        Some(statement) => typed_as(alloc, ins, registers, register.first.ty(), statement),
+        Some(statement) => typed_as(alloc, scope, register.first.ty(), statement),
     }
 }
 
 /// The registers with their next values.
 fn resolved_registers(
     alloc: Global,
-    ins: &[Port],
-    registers: &[RegisterText],
+    scope: &Scope<'_>,
     statements: &[Statement],
+    lefts: &Indices<'_>,
 ) -> Result<Vec<Register>, BodyFault>
-    ensures { GivesBut BodyFault.Memory (λ v. map register_tree v.items) result (resolved_registers ins.now registers.now (map statement_tree statements.now) 0 registers.now) }
+    requires { AreIndices lefts.now (left_names statements.now) }
+    ensures { GivesBut BodyFault.Memory (λ v. map register_tree v.items) result (resolved_registers scope.now.ins scope.now.registers (map statement_tree statements.now) 0 scope.now.registers) }
 {
     let mut resolved = Vec::new(alloc);
-    for (k, register) in registers.iter().enumerate() {
-        let next = next_value(alloc, ins, registers, statements, k, register)?;
+    for (k, register) in scope.registers().iter().enumerate() {
+        let next = next_value(alloc, scope, statements, lefts, k, register)?;
         let name = register.name.copy(alloc)?;
         resolved.push(Register {
             name,
@@ -208,14 +167,15 @@ fn checked_parts(alloc: Global, import: &Import, body: &BodyText) -> Result<Chec
 {
     let ins = import.ins.as_slice();
     let outs = import.outs.as_slice();
-    let registers = body.registers.as_slice();
     let statements = body.statements.as_slice();
-    if let Some(at) = name_fault(ins, outs, body) {
+    let scope = Scope::new(alloc, ins, outs, body.registers.as_slice())?;
+    let lefts = left_indices(alloc, statements)?;
+    if let Some(at) = name_fault(&scope, statements, &lefts) {
         return Err(BodyFault::BodyName(at));
     }
-    check_statements(alloc, ins, outs, registers, statements)?;
-    let values = output_values(alloc, ins, registers, body.at.at, statements, outs)?;
-    let resolved = resolved_registers(alloc, ins, registers, statements)?;
+    check_statements(alloc, &scope, statements)?;
+    let values = output_values(alloc, &scope, body.at.at, statements, &lefts, outs)?;
+    let resolved = resolved_registers(alloc, &scope, statements, &lefts)?;
     let name = body.name.copy(alloc)?;
     let ins = copied(alloc, ins)?;
     let outs = copied(alloc, outs)?;

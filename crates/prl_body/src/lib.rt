@@ -11,6 +11,7 @@ mod machines;
 mod names;
 mod operators;
 mod program_bodies;
+mod scopes;
 mod texts;
 mod types;
 mod values;

@@ -1,48 +1,23 @@
 //! The first name of a body that it may not have there.
 
 ghost use Rattle.std.specs.Prelude.{◌≡◌, [], ◌∷◌, map};
-ghost use Rattle.prl_body.specs.NameChecks.{has_port, has_register, has_statement, register_fault, unknown_name, statement_fault, name_fault};
-ghost use Rattle.prl_body.specs.Texts.{tree_of, statement_tree, text_tree};
+ghost use Rattle.prl_names.specs.Tables.{AreIndices};
+ghost use Rattle.prl_body.specs.NameChecks.{either_fault, register_fault, unknown_name, statement_fault};
+ghost use Rattle.prl_body.specs.Scopes.{left_names};
+ghost use Rattle.prl_body.specs.Texts.{tree_of, statement_tree};
 
-use crate::texts::{BodyText, Expr, RegisterText, Statement};
-use prl_ast::Port;
-use prl_base::Name;
-
-/// Whether a port has the name.
-pub fn has_port(ports: &[Port], name: &Name) -> bool
-    ensures { result ≡ has_port ports.now name.now }
-{
-    ports.iter().any(|port| port.name.bytes() == name.bytes())
-}
-
-/// Whether a register has the name.
-pub fn has_register(registers: &[RegisterText], name: &Name) -> bool
-    ensures { result ≡ has_register registers.now name.now }
-{
-    registers
-        .iter()
-        .any(|register| register.name.bytes() == name.bytes())
-}
-
-/// Whether a statement has the name on its left.
-pub fn has_statement(statements: &[Statement], name: &Name) -> bool
-    ensures { result ≡ has_statement (map statement_tree statements.now) name.now }
-{
-    for statement in statements {
-        if statement.left.bytes() == name.bytes() {
-            return true;
-        }
-    }
-    false
-}
+use crate::scopes::{Scope, has_statement};
+use crate::texts::{Expr, Statement};
+use prl_names::Indices;
 
 /// Where the first register stands with the name of an input, an output or an earlier register.
-fn register_fault(ins: &[Port], outs: &[Port], registers: &[RegisterText]) -> Option<u32>
-    ensures { result ≡ register_fault ins.now outs.now [] registers.now }
+fn register_fault(scope: &Scope<'_>) -> Option<u32>
+    ensures { result ≡ register_fault scope.now.ins scope.now.outs [] scope.now.registers }
 {
+    let registers = scope.registers();
     for (k, register) in registers.iter().enumerate() {
         let name = &register.name;
-        if has_port(ins, name) || has_port(outs, name) || has_register(&registers[..k], name) {
+        if scope.has_input(name) || scope.has_output(name) || scope.has_earlier_register(name, k) {
             return Some(register.at.at);
         }
     }
@@ -50,25 +25,25 @@ fn register_fault(ins: &[Port], outs: &[Port], registers: &[RegisterText]) -> Op
 }
 
 /// Where the first name stands that is no input or register.
-fn unknown_name(ins: &[Port], registers: &[RegisterText], expr: &Expr) -> Option<u32>
-    ensures { result ≡ unknown_name ins.now registers.now (tree_of expr.now) }
+fn unknown_name(scope: &Scope<'_>, expr: &Expr) -> Option<u32>
+    ensures { result ≡ unknown_name scope.now.ins scope.now.registers (tree_of expr.now) }
 {
     match expr {
         Expr::Const(_) => None,
         Expr::Name { name, at } => {
-            if has_port(ins, name) || has_register(registers, name) {
+            if scope.has_input(name) || scope.has_register(name) {
                 None
             } else {
                 Some(at.at)
             }
         }
-        Expr::Run { of, .. } => unknown_name(ins, registers, of),
+        Expr::Run { of, .. } => unknown_name(scope, of),
         Expr::Chain { first, links } => {
-            if let Some(at) = unknown_name(ins, registers, first) {
+            if let Some(at) = unknown_name(scope, first) {
                 return Some(at);
             }
             for link in links {
-                if let Some(at) = unknown_name(ins, registers, &link.right) {
+                if let Some(at) = unknown_name(scope, &link.right) {
                     return Some(at);
                 }
             }
@@ -80,34 +55,30 @@ fn unknown_name(ins: &[Port], registers: &[RegisterText], expr: &Expr) -> Option
             other,
             ..
         } => {
-            if let Some(at) = unknown_name(ins, registers, test) {
+            if let Some(at) = unknown_name(scope, test) {
                 return Some(at);
             }
-            if let Some(at) = unknown_name(ins, registers, chosen) {
+            if let Some(at) = unknown_name(scope, chosen) {
                 return Some(at);
             }
-            unknown_name(ins, registers, other)
+            unknown_name(scope, other)
         }
     }
 }
 
 /// Where the first left name stands that is no output or register or has an earlier statement, or the first
 /// name on the right that is no input or register.
-fn statement_fault(
-    ins: &[Port],
-    outs: &[Port],
-    registers: &[RegisterText],
-    statements: &[Statement],
-) -> Option<u32>
-    ensures { result ≡ statement_fault ins.now outs.now registers.now [] (map statement_tree statements.now) }
+fn statement_fault(scope: &Scope<'_>, statements: &[Statement], lefts: &Indices<'_>) -> Option<u32>
+    requires { AreIndices lefts.now (left_names statements.now) }
+    ensures { result ≡ statement_fault scope.now.ins scope.now.outs scope.now.registers [] (map statement_tree statements.now) }
 {
     for (k, statement) in statements.iter().enumerate() {
         let left = &statement.left;
-        let known = has_port(outs, left) || has_register(registers, left);
-        if !known || has_statement(&statements[..k], left) {
+        let known = scope.has_output(left) || scope.has_register(left);
+        if !known || has_statement(statements, lefts, left, k) {
             return Some(statement.at.at);
         }
-        if let Some(at) = unknown_name(ins, registers, &statement.right) {
+        if let Some(at) = unknown_name(scope, &statement.right) {
             return Some(at);
         }
     }
@@ -115,12 +86,13 @@ fn statement_fault(
 }
 
 /// Where the first name stands that the body may not have there.
-pub fn name_fault(ins: &[Port], outs: &[Port], body: &BodyText) -> Option<u32>
-    ensures { result ≡ name_fault ins.now outs.now (text_tree body.now) }
+pub fn name_fault(scope: &Scope<'_>, statements: &[Statement], lefts: &Indices<'_>) -> Option<u32>
+    requires { AreIndices lefts.now (left_names statements.now) }
+    ensures { result ≡ either_fault (register_fault scope.now.ins scope.now.outs [] scope.now.registers)
+        (statement_fault scope.now.ins scope.now.outs scope.now.registers [] (map statement_tree statements.now)) }
 {
-    let registers = body.registers.as_slice();
-    if let Some(at) = register_fault(ins, outs, registers) {
+    if let Some(at) = register_fault(scope) {
         return Some(at);
     }
-    statement_fault(ins, outs, registers, body.statements.as_slice())
+    statement_fault(scope, statements, lefts)
 }

@@ -4,15 +4,15 @@ ghost use Rattle.std.specs.Prelude.{◌≡◌};
 ghost use Rattle.prl_base.specs.Reading.{GivesBut};
 ghost use Rattle.prl_body.specs.Codes.{expression_of, link_expressions};
 ghost use Rattle.prl_body.specs.Texts.{tree_of, link_trees};
-ghost use Rattle.prl_body.specs.TypeChecks.{input_named, register_named, named, last_at, typed, typed_links};
+ghost use Rattle.prl_body.specs.TypeChecks.{last_at, typed, typed_links};
 ghost use Rattle.prl_body.specs.Types.{is_same_type, are_allowed, operand_type, result_type, prefix_type};
 
-use crate::codes::{Code, Link, Variable};
+use crate::codes::{Code, Link};
 use crate::faults::BodyFault;
 use crate::operators::{Operator, Prefix};
-use crate::texts::{Expr, ExprLink, RegisterText};
-use prl_ast::Port;
-use prl_base::{Name, Span, Ty};
+use crate::scopes::Scope;
+use crate::texts::{Expr, ExprLink};
+use prl_base::{Span, Ty};
 use std::alloc::Global;
 
 impl Operator {
@@ -79,40 +79,6 @@ pub fn is_same_type(a: Ty, b: Ty) -> bool
     a == b
 }
 
-/// The input of this name, and its type.
-fn input_named(ins: &[Port], name: &Name) -> Option<(Variable, Ty)>
-    ensures { result ≡ input_named 0 ins.now name.now }
-{
-    for (k, port) in ins.iter().enumerate() {
-        if port.name.bytes() == name.bytes() {
-            return Some((Variable::Input(k), port.ty));
-        }
-    }
-    None
-}
-
-/// The register of this name, and its type.
-fn register_named(registers: &[RegisterText], name: &Name) -> Option<(Variable, Ty)>
-    ensures { result ≡ register_named 0 registers.now name.now }
-{
-    for (k, register) in registers.iter().enumerate() {
-        if register.name.bytes() == name.bytes() {
-            return Some((Variable::Register(k), register.first.ty()));
-        }
-    }
-    None
-}
-
-/// What a name of an expression stands for.
-fn named(ins: &[Port], registers: &[RegisterText], name: &Name) -> Option<(Variable, Ty)>
-    ensures { result ≡ named ins.now registers.now name.now }
-{
-    match input_named(ins, name) {
-        Some(variable) => Some(variable),
-        None => register_named(registers, name),
-    }
-}
-
 /// Where the operator next to the operand stands, in bytes.
 fn last_at(ats: &[Span]) -> u32
     ensures { result ≡ last_at ats.now }
@@ -127,17 +93,16 @@ fn last_at(ats: &[Span]) -> u32
 #[cycle(typing)]
 fn typed_links(
     alloc: Global,
-    ins: &[Port],
-    registers: &[RegisterText],
+    scope: &Scope<'_>,
     left: Ty,
     links: &[ExprLink],
 ) -> Result<(Vec<Link>, Ty), BodyFault>
-    ensures { GivesBut BodyFault.Memory (λ x. (link_expressions x.0.items, x.1)) result (typed_links ins.now registers.now left (link_trees links.now)) }
+    ensures { GivesBut BodyFault.Memory (λ x. (link_expressions x.0.items, x.1)) result (typed_links scope.now.ins scope.now.registers left (link_trees links.now)) }
 {
     let mut ty = left;
     let mut typed_ones = Vec::new(alloc);
     for link in links {
-        let (right, right_ty) = typed(alloc, ins, registers, &link.right)?;
+        let (right, right_ty) = typed(alloc, scope, &link.right)?;
         if !link.operator.allows(ty, right_ty) {
             return Err(BodyFault::BodyType(link.at.at));
         }
@@ -152,22 +117,17 @@ fn typed_links(
 
 /// The expression with its names resolved, and its type; or its first fault, parts before the whole.
 #[cycle(typing)]
-pub fn typed(
-    alloc: Global,
-    ins: &[Port],
-    registers: &[RegisterText],
-    expr: &Expr,
-) -> Result<(Code, Ty), BodyFault>
-    ensures { GivesBut BodyFault.Memory (λ x. (expression_of x.0, x.1)) result (typed ins.now registers.now (tree_of expr.now)) }
+pub fn typed(alloc: Global, scope: &Scope<'_>, expr: &Expr) -> Result<(Code, Ty), BodyFault>
+    ensures { GivesBut BodyFault.Memory (λ x. (expression_of x.0, x.1)) result (typed scope.now.ins scope.now.registers (tree_of expr.now)) }
 {
     match expr {
         Expr::Const(value) => Ok((Code::Const(*value), value.ty())),
-        Expr::Name { name, at } => match named(ins, registers, name) {
+        Expr::Name { name, at } => match scope.named(name) {
             Some((variable, ty)) => Ok((Code::Name(variable), ty)),
             None => Err(BodyFault::BodyName(at.at)),
         },
         Expr::Run { prefix, ats, of } => {
-            let (code, ty) = typed(alloc, ins, registers, of)?;
+            let (code, ty) = typed(alloc, scope, of)?;
             if !is_same_type(ty, prefix.ty()) {
                 return Err(BodyFault::BodyType(last_at(ats.as_slice())));
             }
@@ -183,9 +143,9 @@ pub fn typed(
             ))
         }
         Expr::Chain { first, links } => {
-            let (code, left) = typed(alloc, ins, registers, first)?;
+            let (code, left) = typed(alloc, scope, first)?;
             let first = Box::new(alloc, code)?;
-            let (links, ty) = typed_links(alloc, ins, registers, left, links)?;
+            let (links, ty) = typed_links(alloc, scope, left, links)?;
             Ok((Code::Chain { first, links }, ty))
         }
         Expr::If {
@@ -194,9 +154,9 @@ pub fn typed(
             chosen,
             other,
         } => {
-            let (test, test_ty) = typed(alloc, ins, registers, test)?;
-            let (chosen, ty) = typed(alloc, ins, registers, chosen)?;
-            let (other, other_ty) = typed(alloc, ins, registers, other)?;
+            let (test, test_ty) = typed(alloc, scope, test)?;
+            let (chosen, ty) = typed(alloc, scope, chosen)?;
+            let (other, other_ty) = typed(alloc, scope, other)?;
             if !is_same_type(test_ty, Ty::Bool) || !is_same_type(ty, other_ty) {
                 return Err(BodyFault::BodyType(at.at));
             }

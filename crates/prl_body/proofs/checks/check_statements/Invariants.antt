@@ -5,5 +5,5 @@ use Rattle.prl_body.proofs.checks.check_statements.Given as goal
 
 abbrev pub invariant-loop-statement : goal.invariant-loop-statement
 invariant-loop-statement l =
-    typed_statements l.ins l.outs l.registers (map statement_tree (drop l.statement-index l.statements))
-    ≡ typed_statements l.ins l.outs l.registers (map statement_tree l.statements)
+    typed_statements l.scope.ins l.scope.outs l.scope.registers (map statement_tree (drop l.statement-index l.statements))
+    ≡ typed_statements l.scope.ins l.scope.outs l.scope.registers (map statement_tree l.statements)

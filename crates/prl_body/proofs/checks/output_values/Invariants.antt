@@ -7,5 +7,5 @@ use Rattle.prl_body.proofs.checks.output_values.Given as goal
 
 abbrev pub invariant-loop-port : goal.invariant-loop-port
 invariant-loop-port l =
-    added_to (map expression_of l.values.items) (output_values l.ins l.registers l.at (map statement_tree l.statements) (drop l.port-index l.outs))
-    ≡ output_values l.ins l.registers l.at (map statement_tree l.statements) l.outs
+    added_to (map expression_of l.values.items) (output_values l.scope.ins l.scope.registers l.at (map statement_tree l.statements) (drop l.port-index l.outs))
+    ≡ output_values l.scope.ins l.scope.registers l.at (map statement_tree l.statements) l.outs

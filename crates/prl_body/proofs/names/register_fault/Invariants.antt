@@ -3,4 +3,4 @@ use Rattle.prl_body.specs.NameChecks.{register_fault}
 use Rattle.prl_body.proofs.names.register_fault.Given as goal
 
 abbrev pub invariant-loop-k : goal.invariant-loop-k
-invariant-loop-k l = register_fault l.ins l.outs (take l.k l.registers) (drop l.k l.registers) ≡ register_fault l.ins l.outs [] l.registers
+invariant-loop-k l = register_fault l.scope.ins l.scope.outs (take l.k l.scope.registers) (drop l.k l.scope.registers) ≡ register_fault l.scope.ins l.scope.outs [] l.scope.registers

@@ -15,8 +15,8 @@ use Rattle.prl_body.proofs.types.+typing.Goals as goal
 
 pub typed-returns-in_err-links-in-Chain : goal.typed-returns-in_err-links-in-Chain
 typed-returns-in_err-links-in-Chain t c =
-    let ins = c.args.ins.now in
-    let registers = c.args.registers.now in
+    let ins = c.args.scope.now.ins in
+    let registers = c.args.scope.now.registers in
     let tree = tree_of c.in-Chain.first.value in
     let links = link_trees c.in-Chain.links.items in
     let p = err_from_is_err_and c.from_residual-in_err-links-in-Chain.result c.from_residual-in_err-links-in-Chain.ensures.1 in
@@ -29,8 +29,8 @@ typed-returns-in_err-links-in-Chain t c =
 
 pub typed-returns-in_ok-links-in-Chain : goal.typed-returns-in_ok-links-in-Chain
 typed-returns-in_ok-links-in-Chain t c =
-    let ins = c.args.ins.now in
-    let registers = c.args.registers.now in
+    let ins = c.args.scope.now.ins in
+    let registers = c.args.scope.now.registers in
     let tree = tree_of c.in-Chain.first.value in
     let links = link_trees c.in-Chain.links.items in
     let code = c.in_ok-code-in-Chain.code in
@@ -46,8 +46,8 @@ typed-returns-in_ok-links-in-Chain t c =
 
 pub typed_links-loop-link-preserved : goal.typed_links-loop-link-preserved
 typed_links-loop-link-preserved t c =
-    let ins = c.args.ins.now in
-    let registers = c.args.registers.now in
+    let ins = c.args.scope.now.ins in
+    let registers = c.args.scope.now.registers in
     let links = c.args.links.now in
     let k = c.loop-link.link-index in
     let whole = typed_links ins registers c.args.left (link_trees links) in
