@@ -1,5 +1,6 @@
 //! The language of bodies: what an imported node computes at each of its jobs, from its inputs and its
-//! registers. It stands on the names and values of `prl_base` and the imports of `prl_ast`.
+//! registers. It stands on the names and values of `prl_base`, the imports of `prl_ast` and the tables of
+//! names of `prl_names`.
 #![tactic(auto)]
 
 mod bodies;

@@ -1,5 +1,5 @@
-//! The names of a program: what each stands for, and the checks that come before those of types. It stands on
-//! the syntax tree of `prl_ast`.
+//! The names of a program: what each stands for, and the checks that come before those of types; and tables of
+//! the first index of each name of a list. It stands on the syntax tree of `prl_ast`.
 #![tactic(auto)]
 
 mod absences;
