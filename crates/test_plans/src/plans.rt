@@ -45,9 +45,9 @@ fn horizons_of_two_tasks(rt: HostRuntime) -> Result<(), Fail> {
     assert_eq!(rt; Horizon::new(&plan, 1_000_001), Err(jobs));
     let events = Limit {
         what: What::Events,
-        found: 1_000_006,
+        found: 1_000_016,
     };
-    assert_eq!(rt; Horizon::new(&plan, 714_290), Err(events));
+    assert_eq!(rt; Horizon::new(&plan, 625_001), Err(events));
     Ok(())
 }
 
