@@ -35,12 +35,12 @@ opened plan rows horizon is has facts values columns slots room = record {
 }
 
 -- the same, of lists that are zeros
-pub opened-at : (plan : PlanView) (rows : Rows) (horizon : Horizon) → IsHorizon plan horizon → HasRows plan horizon.until rows →
+pub opened_at : (plan : PlanView) (rows : Rows) (horizon : Horizon) → IsHorizon plan horizon → HasRows plan horizon.until rows →
     HasPlanFacts (constants_of plan horizon) → (values : List Value) (columns : List (List Value)) →
     length values ≡ (constants_of plan horizon).slots → HasRoom plan horizon.until columns → (ended places tags : List ℕ) →
     ended ≡ replicate (constants_of plan horizon).tasks 0 → places ≡ replicate (constants_of plan horizon).tasks 0 → tags ≡ replicate (constants_of plan horizon).slots 0 →
     IsWhole (record { plan = plan; rows = rows; horizon = horizon; state = record { now = 0; ended = ended; places = places; tags = tags } }) values columns
-opened-at plan rows horizon is has facts values columns slots room ended places tags is_ended is_places is_tags =
+opened_at plan rows horizon is has facts values columns slots room ended places tags is_ended is_places is_tags =
     subst (λ (x : List ℕ). IsWhole (record { plan = plan; rows = rows; horizon = horizon; state = record { now = 0; ended = x; places = places; tags = tags } }) values columns) (sym is_ended)
     (subst (λ (x : List ℕ). IsWhole (record { plan = plan; rows = rows; horizon = horizon; state = record { now = 0; ended = replicate (constants_of plan horizon).tasks 0; places = x; tags = tags } }) values columns) (sym is_places)
     (subst (λ (x : List ℕ). IsWhole (record { plan = plan; rows = rows; horizon = horizon; state = record { now = 0; ended = replicate (constants_of plan horizon).tasks 0; places = replicate (constants_of plan horizon).tasks 0; tags = x } }) values columns) (sym is_tags)

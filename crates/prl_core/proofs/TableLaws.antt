@@ -37,10 +37,10 @@ mapped plan [] k later at = cc
 mapped plan (x ∷ table) zero later at = (x, refl, (let e : later ≡ job_row plan x = cc in e))
 mapped plan (x ∷ table) (suc k) later at = mapped plan table k later at
 
-pub row-mapped : (plan : PlanView) (table : List TableRow) (k : ℕ) (row : TableRow) → slice_get table k ≡ Some row → slice_get (map (job_row plan) table) k ≡ Some (job_row plan row)
-row-mapped plan [] k row at = cc
-row-mapped plan (x ∷ table) zero row at = (let e : x ≡ row = cc in ap (λ (y : TableRow). Some (job_row plan y)) e)
-row-mapped plan (x ∷ table) (suc k) row at = row-mapped plan table k row at
+pub row_mapped : (plan : PlanView) (table : List TableRow) (k : ℕ) (row : TableRow) → slice_get table k ≡ Some row → slice_get (map (job_row plan) table) k ≡ Some (job_row plan row)
+row_mapped plan [] k row at = cc
+row_mapped plan (x ∷ table) zero row at = (let e : x ≡ row = cc in ap (λ (y : TableRow). Some (job_row plan y)) e)
+row_mapped plan (x ∷ table) (suc k) row at = row_mapped plan table k row at
 
 dropped : (table : List TableRow) (j k : ℕ) → slice_get (drop j table) k ≡ slice_get table (j + k)
 dropped table zero k = ap (λ (n : ℕ). slice_get table n) (let e : k ≡ 0 + k = omega arith in e)
@@ -79,19 +79,19 @@ others plan until table made k row at j later stands =
     let place : slice_get table (suc k + j) ≡ Some from.0 = sym (dropped table (suc k) j) ∙ from.1 in
     ap (λ (x : JobRow). is_job x row.task row.job) from.2 ∙ once plan until table made k (suc k + j) row from.0 (omega arith) at place
 
-pub step-at : (plan : PlanView) (until : ℕ) (table : List TableRow) → IsJobTable plan until table → (bodies : ℕ → CheckedBody) (rows : Rows) (k : ℕ) (row : TableRow) →
+pub step_at : (plan : PlanView) (until : ℕ) (table : List TableRow) → IsJobTable plan until table → (bodies : ℕ → CheckedBody) (rows : Rows) (k : ℕ) (row : TableRow) →
     slice_get table k ≡ Some row →
     ((front back : List JobRow) (job : JobRow) → ((j : ℕ) (later : JobRow) → slice_get back j ≡ Some later → is_job later job.task job.job ≡ false) →
     (given_by rows (roles_of plan bodies) (front ++ job ∷ back)).outputs job.task job.job ≡ (step_of rows (roles_of plan bodies) (given_by rows (roles_of plan bodies) front) job).outputs) →
     (values_by_instance plan bodies rows table).outputs row.task row.job
     ≡ (step_of rows (roles_of plan bodies) (values_by_instance plan bodies rows (take k table)) (job_row plan row)).outputs
-step-at plan until table made bodies rows k row at law =
+step_at plan until table made bodies rows k row at law =
     ap (λ (l : List JobRow). (given_by rows (roles_of plan bodies) l).outputs row.task row.job) (parted plan table k row at)
     ∙ law (map (job_row plan) (take k table)) (map (job_row plan) (drop (suc k) table)) (job_row plan row) (others plan until table made k row at)
 
-first-of : (o : Option Value) → slice_get (at_most_one o) 0 ≡ o
-first-of None = refl
-first-of (Some v) = refl
+first_of : (o : Option Value) → slice_get (at_most_one o) 0 ≡ o
+first_of None = refl
+first_of (Some v) = refl
 
 module _ (plan : PlanView) (good : IsPlan plan) (devices : LinksDevices plan) (until : ℕ) (table : List TableRow) (made : IsJobTable plan until table)
     (bodies : ℕ → CheckedBody) (rows : Rows)
@@ -100,23 +100,23 @@ module _ (plan : PlanView) (good : IsPlan plan) (devices : LinksDevices plan) (u
     (given : (l sensor : ℕ) (row : JobRow) → slice_get (map (job_row plan) table) l ≡ Some row → roles_of plan bodies row.task ≡ Tells sensor →
     (values_by_instance plan bodies rows table).outputs row.task row.job ≡ at_most_one (slice_get (rows_of rows sensor) row.job)) where
   -- what a sensor task's horizon job gives
-  from-sensor : (i m k : ℕ) → IsHorizonJob plan.graph until i m → (task_at plan.graph i).kind ≡ kinds.Sensor k →
+  from_sensor : (i m k : ℕ) → IsHorizonJob plan.graph until i m → (task_at plan.graph i).kind ≡ kinds.Sensor k →
       (values_by_instance plan bodies rows table).outputs i m ≡ at_most_one (slice_get (rows_of rows k) m)
-  from-sensor i m k job kind =
+  from_sensor i m k job kind =
       let found = made.all i m job in
       let role : roles_of plan bodies found.1.task ≡ Tells k = ap (λ (x : ℕ). roles_of plan bodies x) found.3 ∙ ap (role_of bodies) kind in
-      let at = given found.0 k (job_row plan found.1) (row-mapped plan table found.0 found.1 found.2) role in
+      let at = given found.0 k (job_row plan found.1) (row_mapped plan table found.0 found.1 found.2) role in
       sym (ap (λ (x : ℕ). (values_by_instance plan bodies rows table).outputs x found.1.job) found.3 ∙ ap (λ (x : ℕ). (values_by_instance plan bodies rows table).outputs i x) found.4)
       ∙ at ∙ ap (λ (x : ℕ). at_most_one (slice_get (rows_of rows k) x)) found.4
 
-  no-instance : (value : Value) (o : Operand) (m : ℕ) → operand_from (producers.Constant value) o ≡ operands.From m → ⊥
-  no-instance value (operands.Const c) m h = cc
-  no-instance value (operands.From k) m h = cc
+  no_instance : (value : Value) (o : Operand) (m : ℕ) → operand_from (producers.Constant value) o ≡ operands.From m → ⊥
+  no_instance value (operands.Const c) m h = cc
+  no_instance value (operands.From k) m h = cc
 
-  pub device-value : (e n : ℕ) → e < length plan.graph.edges → IsHorizonJob plan.graph until (edge_at plan.graph e).to.0 n →
+  pub device_value : (e n : ℕ) → e < length plan.graph.edges → IsHorizonJob plan.graph until (edge_at plan.graph e).to.0 n →
       value_of (values_by_instance plan bodies rows table) (source_on (edge_at plan.graph e) n)
       ≡ operand_value plan.graph rows (edge_at plan.graph e) (operand_of (edge_at plan.graph e) n)
-  device-value e n at job = go (edge_at plan.graph e).from refl (operand_of (edge_at plan.graph e) n) refl
+  device_value e n at job = go (edge_at plan.graph e).from refl (operand_of (edge_at plan.graph e) n) refl
     where
       edge : Edge
       edge = edge_at plan.graph e
@@ -124,11 +124,11 @@ module _ (plan : PlanView) (good : IsPlan plan) (devices : LinksDevices plan) (u
       is : IsEdge plan.graph (edge_at plan.graph e)
       is = good.graph.edges e (edge_at plan.graph e) (slice_get-get_or plan.graph.edges e no_edge at)
 
-      to-go : (from : Producer) (o : Operand) → (edge_at plan.graph e).from ≡ from → operand_of (edge_at plan.graph e) n ≡ o →
+      to_go : (from : Producer) (o : Operand) → (edge_at plan.graph e).from ≡ from → operand_of (edge_at plan.graph e) n ≡ o →
           value_of (values_by_instance plan bodies rows table) (source_from from o) ≡ operand_value plan.graph rows (edge_at plan.graph e) o →
           value_of (values_by_instance plan bodies rows table) (source_on (edge_at plan.graph e) n)
           ≡ operand_value plan.graph rows (edge_at plan.graph e) (operand_of (edge_at plan.graph e) n)
-      to-go from o f w h =
+      to_go from o f w h =
           subst (λ (x : Operand). value_of (values_by_instance plan bodies rows table) (source_from (edge_at plan.graph e).from x)
           ≡ operand_value plan.graph rows (edge_at plan.graph e) x) (sym w)
           (subst (λ (y : Producer). value_of (values_by_instance plan bodies rows table) (source_from y o) ≡ operand_value plan.graph rows (edge_at plan.graph e) o) (sym f) h)
@@ -136,9 +136,9 @@ module _ (plan : PlanView) (good : IsPlan plan) (devices : LinksDevices plan) (u
       go : (from : Producer) → (edge_at plan.graph e).from ≡ from → (o : Operand) → operand_of (edge_at plan.graph e) n ≡ o →
           value_of (values_by_instance plan bodies rows table) (source_on (edge_at plan.graph e) n)
           ≡ operand_value plan.graph rows (edge_at plan.graph e) (operand_of (edge_at plan.graph e) n)
-      go from f (operands.Const c) w = to-go from (operands.Const c) f w refl
+      go from f (operands.Const c) w = to_go from (operands.Const c) f w refl
       go (producers.Constant value) f (operands.From m) w =
-          absurd (no-instance value (walk (edge_at plan.graph e).ops n) m
+          absurd (no_instance value (walk (edge_at plan.graph e).ops n) m
           (subst (λ (y : Producer). operand_from y (walk (edge_at plan.graph e).ops n) ≡ operands.From m) f w))
       go (producers.Port task out) f (operands.From m) w =
           let comes : ComesFrom (edge_at plan.graph e).from task.0 = subst (λ (y : Producer). ComesFrom y task.0) (sym f) refl in
@@ -146,12 +146,12 @@ module _ (plan : PlanView) (good : IsPlan plan) (devices : LinksDevices plan) (u
           let source : IsSource plan.graph (edge_at plan.graph e) is.clocks.0 (producers.Port task out) =
           subst (λ (y : Producer). IsSource plan.graph (edge_at plan.graph e) is.clocks.0 y) f is.clocks.2 in
           let none : out ≡ 0 = source.2 (ap is_sensor sensor.1) in
-          let value = from-sensor task.0 m sensor.0 (inside e task.0 n m at comes job w) sensor.1 in
+          let value = from_sensor task.0 m sensor.0 (inside e task.0 n m at comes job w) sensor.1 in
           let mine : value_from plan.graph rows (edge_at plan.graph e).from m ≡ slice_get (rows_of rows sensor.0) m =
           ap (λ (y : Producer). value_from plan.graph rows y m) f ∙ ap (λ (y : Kind). value_of_job rows y m) sensor.1 in
-          to-go (producers.Port task out) (operands.From m) f w
+          to_go (producers.Port task out) (operands.From m) f w
           (ap (λ (l : List Value). slice_get l out) value ∙ ap (λ (x : ℕ). slice_get (at_most_one (slice_get (rows_of rows sensor.0) m)) x) none
-          ∙ first-of (slice_get (rows_of rows sensor.0) m) ∙ sym mine)
+          ∙ first_of (slice_get (rows_of rows sensor.0) m) ∙ sym mine)
 
 taken : (table : List TableRow) (k x : ℕ) (row : TableRow) → slice_get (take k table) x ≡ Some row → slice_get table x ≡ Some row
 taken table zero x row at = cc
@@ -159,11 +159,11 @@ taken [] (suc k) x row at = at
 taken (t ∷ table) (suc k) zero row at = at
 taken (t ∷ table) (suc k) (suc x) row at = taken table k x row at
 
-taken-at : (table : List TableRow) (k l : ℕ) → l < k → slice_get (take k table) l ≡ slice_get table l
-taken-at table zero l before = absurd (omega (arith, before))
-taken-at [] (suc k) l before = refl
-taken-at (t ∷ table) (suc k) zero before = refl
-taken-at (t ∷ table) (suc k) (suc l) before = taken-at table k l (omega (arith, before))
+taken_at : (table : List TableRow) (k l : ℕ) → l < k → slice_get (take k table) l ≡ slice_get table l
+taken_at table zero l before = absurd (omega (arith, before))
+taken_at [] (suc k) l before = refl
+taken_at (t ∷ table) (suc k) zero before = refl
+taken_at (t ∷ table) (suc k) (suc l) before = taken_at table k l (omega (arith, before))
 
 shorter : (table : List TableRow) (k l : ℕ) → l < k → take l (take k table) ≡ take l table
 shorter table k zero before = refl
@@ -178,11 +178,11 @@ module _ (plan : PlanView) (until : ℕ) (table : List TableRow) (made : IsJobTa
   settled : (k l : ℕ) (row : TableRow) → l < k → slice_get table l ≡ Some row →
       (values_by_instance plan bodies rows (take k table)).outputs row.task row.job ≡ (values_by_instance plan bodies rows table).outputs row.task row.job
   settled k l row before at =
-      let here : slice_get (take k table) l ≡ Some row = taken-at table k l before ∙ at in
+      let here : slice_get (take k table) l ≡ Some row = taken_at table k l before ∙ at in
       ap (λ (jobs : List JobRow). (given_by rows (roles_of plan bodies) jobs).outputs row.task row.job) (parted plan (take k table) l row here)
       ∙ law (map (job_row plan) (take l (take k table))) (map (job_row plan) (drop (suc l) (take k table))) (job_row plan row) rest
       ∙ ap (λ (front : List TableRow). (step_of rows (roles_of plan bodies) (values_by_instance plan bodies rows front) (job_row plan row)).outputs) (shorter table k l before)
-      ∙ sym (step-at plan until table made bodies rows l row at law)
+      ∙ sym (step_at plan until table made bodies rows l row at law)
     where
       rest : (j : ℕ) (later : JobRow) → slice_get (map (job_row plan) (drop (suc l) (take k table))) j ≡ Some later → is_job later row.task row.job ≡ false
       rest j later stands =
@@ -190,11 +190,11 @@ module _ (plan : PlanView) (until : ℕ) (table : List TableRow) (made : IsJobTa
           let place = taken table k (suc l + j) from.0 (sym (dropped (take k table) (suc l) j) ∙ from.1) in
           ap (λ (x : JobRow). is_job x row.task row.job) from.2 ∙ once plan until table made l (suc l + j) row from.0 (omega arith) at place
 
-  pub reads-stand : (k : ℕ) (row : TableRow) → (edge : Edge) →
+  pub reads_stand : (k : ℕ) (row : TableRow) → (edge : Edge) →
       ((i m : ℕ) → ComesFrom edge.from i → operand_of edge row.job ≡ operands.From m →
       (l : ℕ) × (earlier : TableRow) × (l < k) × (slice_get table l ≡ Some earlier) × (earlier.task ≡ i) × (earlier.job ≡ m)) →
       value_of (values_by_instance plan bodies rows (take k table)) (source_on edge row.job) ≡ value_of (values_by_instance plan bodies rows table) (source_on edge row.job)
-  reads-stand k row edge stands = go edge.from refl (operand_of edge row.job) refl
+  reads_stand k row edge stands = go edge.from refl (operand_of edge row.job) refl
     where
       same : (from : Producer) (o : Operand) → edge.from ≡ from → operand_of edge row.job ≡ o →
           value_of (values_by_instance plan bodies rows (take k table)) (source_from from o) ≡ value_of (values_by_instance plan bodies rows table) (source_from from o) →

@@ -17,8 +17,8 @@ Overtakes c s j deadline =
     IsUnfinished c s j (first_unfinished s j) × (c.release j (first_unfinished s j) ≤ s.now) × (c.deadline j (first_unfinished s j) < deadline)
 
 -- none of them is
-abbrev pub StaysBehind : RunConstants → ExecState → ℕ → ℕ → Type 0
-StaysBehind c s j deadline = (n : ℕ) → IsUnfinished c s j n → c.release j n ≤ s.now → deadline ≤ c.deadline j n
+abbrev pub IsNotEarlier : RunConstants → ExecState → ℕ → ℕ → Type 0
+IsNotEarlier c s j deadline = (n : ℕ) → IsUnfinished c s j n → c.release j n ≤ s.now → deadline ≤ c.deadline j n
 
 -- the first unfinished job of task j is due at the next tick
 abbrev pub IsDueFirst : RunConstants → ExecState → ℕ → Type 0

@@ -9,7 +9,7 @@ ghost use Rattle.prl_base.specs.declared.numbers.EdgeNo.{EdgeNo};
 ghost use Rattle.prl_plan.specs.declared.events.Action.TheVariants as actions;
 ghost use Rattle.prl_plan.specs.Runs.{opening, moved, next_action, after_action, after_event};
 ghost use Rattle.prl_core.specs.Machine.{cell_no, sight_of_write};
-ghost use Rattle.prl_core.specs.Tests.{Overtakes, StaysBehind, IsDueFirst, IsInTime};
+ghost use Rattle.prl_core.specs.Tests.{Overtakes, IsNotEarlier, IsDueFirst, IsInTime};
 ghost use Rattle.prl_plan.specs.Jobs.{task_at};
 ghost use Rattle.prl_plan.specs.declared.graphs.Kind.TheVariants as kinds;
 ghost use Rattle.prl_core.specs.Values.{HasRows, HasRoom, value_of_job};
@@ -136,7 +136,7 @@ impl<'a> Core<'a> {
     fn overtakes(&self, j: TaskNo, deadline: u64) -> bool
         requires { j.0 < length self.now.plan.graph.tasks }
         ensures yes { OnTrue result (Overtakes (constants self.entry.now) self.entry.now.state j.0 deadline) }
-        ensures no { OnFalse result (StaysBehind (constants self.entry.now) self.entry.now.state j.0 deadline) }
+        ensures no { OnFalse result (IsNotEarlier (constants self.entry.now) self.entry.now.state j.0 deadline) }
     {
         plan_facts(self.plan, self.horizon);
         match self.unfinished(j) {
@@ -148,7 +148,7 @@ impl<'a> Core<'a> {
     /// Whether a released unfinished job is due before `deadline`.
     fn is_overtaken(&self, deadline: u64) -> bool
         ensures yes { OnTrue result ((j : ℕ) × Overtakes (constants self.entry.now) self.entry.now.state j deadline) }
-        ensures no { OnFalse result ((j : ℕ) → j < length self.entry.now.plan.graph.tasks → StaysBehind (constants self.entry.now) self.entry.now.state j deadline) }
+        ensures no { OnFalse result ((j : ℕ) → j < length self.entry.now.plan.graph.tasks → IsNotEarlier (constants self.entry.now) self.entry.now.state j deadline) }
     {
         for j in 0..self.tasks() {
             if self.overtakes(TaskNo(j), deadline) {

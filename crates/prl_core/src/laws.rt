@@ -15,7 +15,7 @@ ghost use Rattle.prl_core.specs.TableValues.{source_on, job_row, roles_of, value
 use prl_flow::{jobs_give_once, sensors_give_rows};
 use prl_plan::{operands_are_of_horizon_jobs, operands_stand_earlier};
 
-/// What a job of the job table gives is its step behind the jobs before it: it depends on these alone.
+/// What a job of the job table gives is its step after the jobs before it: it depends on these alone.
 pub fn job_values_are_steps()
     ensures { (plan : PlanView) (until : ℕ) (table : List TableRow) → IsJobTable plan until table → (bodies : ℕ → CheckedBody) (rows : Rows) →
         (k : ℕ) (row : TableRow) → slice_get table k ≡ Some row →

@@ -13,7 +13,7 @@ use Rattle.prl_plan.specs.declared.walks.Operand.TheVariants as operands
 use Rattle.prl_plan.specs.Operands.{operand_of}
 use Rattle.prl_plan.specs.Precedence.{ComesFrom}
 use Rattle.prl_plan.specs.Plans.{PlanView, place_on, cell_of, low, high, both_writes, IsHalfOf, reading, reads_of, writing, writes_of, actions_of}
-use Rattle.prl_plan.proofs.UsedLaws.{test-same}
+use Rattle.prl_plan.proofs.UsedLaws.{test_same}
 
 -- the action is no end; it is a write to edge f and slot h
 abbrev pub GoesOn : Action → Type 0
@@ -37,54 +37,54 @@ NoneOf P xs = (k : ℕ) → P (get_or xs k actions.End) → ⊥
 abbrev pub Unique : (Action → Type 0) → List Action → Type 0
 Unique P xs = (k l : ℕ) → P (get_or xs k actions.End) → P (get_or xs l actions.End) → k ≡ l
 
-pub each-both : (P : Action → Type 0) → (xs ys : List Action) → Each P xs → Each P ys → Each P (xs ++ ys)
-each-both P [] ys first second k inside = second k inside
-each-both P (x ∷ xs) ys first second zero inside = first 0 (omega arith)
-each-both P (x ∷ xs) ys first second (suc k) inside = each-both P xs ys (λ n h. first (suc n) (omega (arith, h))) second k (omega arith)
+pub each_both : (P : Action → Type 0) → (xs ys : List Action) → Each P xs → Each P ys → Each P (xs ++ ys)
+each_both P [] ys first second k inside = second k inside
+each_both P (x ∷ xs) ys first second zero inside = first 0 (omega arith)
+each_both P (x ∷ xs) ys first second (suc k) inside = each_both P xs ys (λ n h. first (suc n) (omega (arith, h))) second k (omega arith)
 
-each-single : (P : Action → Type 0) → (x : Action) → P x → Each P (x ∷ [])
-each-single P x is zero inside = is
-each-single P x is (suc k) inside = absurd (omega arith)
+each_single : (P : Action → Type 0) → (x : Action) → P x → Each P (x ∷ [])
+each_single P x is zero inside = is
+each_single P x is (suc k) inside = absurd (omega arith)
 
-each-test : (P : Action → Type 0) → (b : Bool) (xs : List Action) → Each P xs → Each P (cond b xs [])
-each-test P true xs is k inside = is k inside
-each-test P false xs is k inside = absurd (omega arith)
+each_test : (P : Action → Type 0) → (b : Bool) (xs : List Action) → Each P xs → Each P (cond b xs [])
+each_test P true xs is k inside = is k inside
+each_test P false xs is k inside = absurd (omega arith)
 
--- behind the end there is nothing but the end
-pub last-end : (xs : List Action) → Each GoesOn xs → (place later : ℕ) → get_or (xs ++ actions.End ∷ []) place actions.End ≡ actions.End → place < later →
+-- after the end there is nothing but the end
+pub last_end : (xs : List Action) → Each GoesOn xs → (place later : ℕ) → get_or (xs ++ actions.End ∷ []) place actions.End ≡ actions.End → place < later →
     get_or (xs ++ actions.End ∷ []) later actions.End ≡ actions.End
-last-end [] on place zero ends before = refl
-last-end [] on place (suc later) ends before = refl
-last-end (x ∷ xs) on zero later ends before = absurd (subst (λ (a : Action). GoesOn a) (let e : x ≡ actions.End = ends in e) (on 0 (omega arith)))
-last-end (x ∷ xs) on (suc place) zero ends before = absurd (omega arith)
-last-end (x ∷ xs) on (suc place) (suc later) ends before = last-end xs (λ n h. on (suc n) (omega (arith, h))) place later ends (omega arith)
+last_end [] on place zero ends before = refl
+last_end [] on place (suc later) ends before = refl
+last_end (x ∷ xs) on zero later ends before = absurd (subst (λ (a : Action). GoesOn a) (let e : x ≡ actions.End = ends in e) (on 0 (omega arith)))
+last_end (x ∷ xs) on (suc place) zero ends before = absurd (omega arith)
+last_end (x ∷ xs) on (suc place) (suc later) ends before = last_end xs (λ n h. on (suc n) (omega (arith, h))) place later ends (omega arith)
 
 -- what stands in the first list only
-none-second : (P : Action → Type 0) → (xs ys : List Action) → NoneOf P ys → (k : ℕ) → P (get_or (xs ++ ys) k actions.End) → P (get_or xs k actions.End)
-none-second P [] ys none k h = absurd (none k h)
-none-second P (x ∷ xs) ys none zero h = h
-none-second P (x ∷ xs) ys none (suc k) h = none-second P xs ys none k h
+none_second : (P : Action → Type 0) → (xs ys : List Action) → NoneOf P ys → (k : ℕ) → P (get_or (xs ++ ys) k actions.End) → P (get_or xs k actions.End)
+none_second P [] ys none k h = absurd (none k h)
+none_second P (x ∷ xs) ys none zero h = h
+none_second P (x ∷ xs) ys none (suc k) h = none_second P xs ys none k h
 
-pub unique-first : (P : Action → Type 0) → (xs ys : List Action) → Unique P xs → NoneOf P ys → Unique P (xs ++ ys)
-unique-first P xs ys unique none k l h g = unique k l (none-second P xs ys none k h) (none-second P xs ys none l g)
+pub unique_first : (P : Action → Type 0) → (xs ys : List Action) → Unique P xs → NoneOf P ys → Unique P (xs ++ ys)
+unique_first P xs ys unique none k l h g = unique k l (none_second P xs ys none k h) (none_second P xs ys none l g)
 
-pub unique-second : (P : Action → Type 0) → (xs ys : List Action) → NoneOf P xs → Unique P ys → Unique P (xs ++ ys)
-unique-second P [] ys none unique k l h g = unique k l h g
-unique-second P (x ∷ xs) ys none unique zero l h g = absurd (none 0 h)
-unique-second P (x ∷ xs) ys none unique (suc k) zero h g = absurd (none 0 g)
-unique-second P (x ∷ xs) ys none unique (suc k) (suc l) h g =
-    ap (λ (n : ℕ). suc n) (unique-second P xs ys (λ n. none (suc n)) unique k l h g)
+pub unique_second : (P : Action → Type 0) → (xs ys : List Action) → NoneOf P xs → Unique P ys → Unique P (xs ++ ys)
+unique_second P [] ys none unique k l h g = unique k l h g
+unique_second P (x ∷ xs) ys none unique zero l h g = absurd (none 0 h)
+unique_second P (x ∷ xs) ys none unique (suc k) zero h g = absurd (none 0 g)
+unique_second P (x ∷ xs) ys none unique (suc k) (suc l) h g =
+    ap (λ (n : ℕ). suc n) (unique_second P xs ys (λ n. none (suc n)) unique k l h g)
 
-unique-test : (P : Action → Type 0) → (P actions.End → ⊥) → (b : Bool) (x : Action) → Unique P (cond b (x ∷ []) [])
-unique-test P end true x zero zero h g = refl
-unique-test P end true x zero (suc l) h g = absurd (end g)
-unique-test P end true x (suc k) l h g = absurd (end h)
-unique-test P end false x k l h g = absurd (end h)
+unique_test : (P : Action → Type 0) → (P actions.End → ⊥) → (b : Bool) (x : Action) → Unique P (cond b (x ∷ []) [])
+unique_test P end true x zero zero h g = refl
+unique_test P end true x zero (suc l) h g = absurd (end g)
+unique_test P end true x (suc k) l h g = absurd (end h)
+unique_test P end false x k l h g = absurd (end h)
 
-none-test : (P : Action → Type 0) → (P actions.End → ⊥) → (b : Bool) (x : Action) → (P x → ⊥) → NoneOf P (cond b (x ∷ []) [])
-none-test P end true x not zero h = not h
-none-test P end true x not (suc k) h = end h
-none-test P end false x not k h = end h
+none_test : (P : Action → Type 0) → (P actions.End → ⊥) → (b : Bool) (x : Action) → (P x → ⊥) → NoneOf P (cond b (x ∷ []) [])
+none_test P end true x not zero h = not h
+none_test P end true x not (suc k) h = end h
+none_test P end false x not k h = end h
 
 -- an action stands at a place of the list
 pub record Stands (xs : List Action) (x : Action) : Type 0 where
@@ -92,220 +92,220 @@ pub record Stands (xs : List Action) (x : Action) : Type 0 where
   pub inside : place < length xs
   pub is : get_or xs place actions.End ≡ x
 
-pub stands-first : (xs ys : List Action) (x : Action) → Stands xs x → Stands (xs ++ ys) x
-stands-first xs ys x s = record {
+pub stands_first : (xs ys : List Action) (x : Action) → Stands xs x → Stands (xs ++ ys) x
+stands_first xs ys x s = record {
   place = s.place;
   inside = (let a = s.inside in let b = length-append xs ys in omega (arith, a, b));
   is = get_or_append_left xs ys actions.End s.place s.inside ∙ s.is;
 }
 
-pub stands-second : (xs ys : List Action) (x : Action) → Stands ys x → Stands (xs ++ ys) x
-stands-second xs ys x s = record {
+pub stands_second : (xs ys : List Action) (x : Action) → Stands ys x → Stands (xs ++ ys) x
+stands_second xs ys x s = record {
   place = length xs + s.place;
   inside = (let a = s.inside in let b = length-append xs ys in omega (arith, a, b));
   is = get_or-append-add xs ys s.place actions.End ∙ s.is;
 }
 
-length-test : (b : Bool) (xs : List Action) → length (cond b xs []) ≤ length xs
-length-test true xs = omega arith
-length-test false xs = omega arith
+length_test : (b : Bool) (xs : List Action) → length (cond b xs []) ≤ length xs
+length_test true xs = omega arith
+length_test false xs = omega arith
 
-each-pair : (P : Action → Type 0) → (x y : Action) → P x → P y → Each P (x ∷ y ∷ [])
-each-pair P x y is is' zero inside = is
-each-pair P x y is is' (suc zero) inside = is'
-each-pair P x y is is' (suc (suc k)) inside = absurd (omega arith)
+each_pair : (P : Action → Type 0) → (x y : Action) → P x → P y → Each P (x ∷ y ∷ [])
+each_pair P x y is is' zero inside = is
+each_pair P x y is is' (suc zero) inside = is'
+each_pair P x y is is' (suc (suc k)) inside = absurd (omega arith)
 
 -- under a test, at most as much holds as of the list itself
-unique-if : (P : Action → Type 0) → (P actions.End → ⊥) → (b : Bool) (xs : List Action) → Unique P xs → Unique P (cond b xs [])
-unique-if P end true xs unique k l h g = unique k l h g
-unique-if P end false xs unique k l h g = absurd (end h)
+unique_if : (P : Action → Type 0) → (P actions.End → ⊥) → (b : Bool) (xs : List Action) → Unique P xs → Unique P (cond b xs [])
+unique_if P end true xs unique k l h g = unique k l h g
+unique_if P end false xs unique k l h g = absurd (end h)
 
-none-if : (P : Action → Type 0) → (P actions.End → ⊥) → (b : Bool) (xs : List Action) → NoneOf P xs → NoneOf P (cond b xs [])
-none-if P end true xs none k h = none k h
-none-if P end false xs none k h = end h
+none_if : (P : Action → Type 0) → (P actions.End → ⊥) → (b : Bool) (xs : List Action) → NoneOf P xs → NoneOf P (cond b xs [])
+none_if P end true xs none k h = none k h
+none_if P end false xs none k h = end h
 
-pub stands-if : (b : Bool) → b ≡ true → (xs : List Action) (x : Action) → Stands xs x → Stands (cond b xs []) x
-stands-if true is xs x s = s
-stands-if false is xs x s = cc
+pub stands_if : (b : Bool) → b ≡ true → (xs : List Action) (x : Action) → Stands xs x → Stands (cond b xs []) x
+stands_if true is xs x s = s
+stands_if false is xs x s = cc
 
 module _ (plan : PlanView) (i n : ℕ) where
-  reading-on : (e : ℕ) (edge : Edge) (operand : Operand) → Each GoesOn (reading plan e edge operand)
-  reading-on e edge (operands.Const c) = each-single GoesOn (actions.ReadConst edge.port c) tt
-  reading-on e edge (operands.From m) =
-      each-pair GoesOn (actions.Read edge.port (record { 0 = e }) m (record { 0 = low (cell_of plan e m) }))
+  reading_on : (e : ℕ) (edge : Edge) (operand : Operand) → Each GoesOn (reading plan e edge operand)
+  reading_on e edge (operands.Const c) = each_single GoesOn (actions.ReadConst edge.port c) tt
+  reading_on e edge (operands.From m) =
+      each_pair GoesOn (actions.Read edge.port (record { 0 = e }) m (record { 0 = low (cell_of plan e m) }))
       (actions.Read edge.port (record { 0 = e }) m (record { 0 = high (cell_of plan e m) })) tt tt
 
-  reading-no-write : (f h e : ℕ) (edge : Edge) (operand : Operand) → NoneOf (WritesTo f h) (reading plan e edge operand)
-  reading-no-write f h e edge (operands.Const c) zero x = x
-  reading-no-write f h e edge (operands.Const c) (suc k) x = x
-  reading-no-write f h e edge (operands.From m) zero x = x
-  reading-no-write f h e edge (operands.From m) (suc zero) x = x
-  reading-no-write f h e edge (operands.From m) (suc (suc k)) x = x
+  reading_no_write : (f h e : ℕ) (edge : Edge) (operand : Operand) → NoneOf (WritesTo f h) (reading plan e edge operand)
+  reading_no_write f h e edge (operands.Const c) zero x = x
+  reading_no_write f h e edge (operands.Const c) (suc k) x = x
+  reading_no_write f h e edge (operands.From m) zero x = x
+  reading_no_write f h e edge (operands.From m) (suc zero) x = x
+  reading_no_write f h e edge (operands.From m) (suc (suc k)) x = x
 
-  reads-on : (e : ℕ) (edges : List Edge) → Each GoesOn (reads_of plan i n e edges)
-  reads-on e [] k inside = absurd (omega arith)
-  reads-on e (edge ∷ edges) k inside =
-      each-both GoesOn (cond (eqb edge.to.0 i) (reading plan e edge (operand_of edge n)) []) (reads_of plan i n (e + 1) edges)
-      (each-test GoesOn (eqb edge.to.0 i) (reading plan e edge (operand_of edge n)) (reading-on e edge (operand_of edge n)))
-      (reads-on (e + 1) edges) k inside
+  reads_on : (e : ℕ) (edges : List Edge) → Each GoesOn (reads_of plan i n e edges)
+  reads_on e [] k inside = absurd (omega arith)
+  reads_on e (edge ∷ edges) k inside =
+      each_both GoesOn (cond (eqb edge.to.0 i) (reading plan e edge (operand_of edge n)) []) (reads_of plan i n (e + 1) edges)
+      (each_test GoesOn (eqb edge.to.0 i) (reading plan e edge (operand_of edge n)) (reading_on e edge (operand_of edge n)))
+      (reads_on (e + 1) edges) k inside
 
-  reads-no-write : (f h e : ℕ) (edges : List Edge) → NoneOf (WritesTo f h) (reads_of plan i n e edges)
-  reads-no-write f h e [] k x = x
-  reads-no-write f h e (edge ∷ edges) k x =
-      none-if (WritesTo f h) (λ y. y) (eqb edge.to.0 i) (reading plan e edge (operand_of edge n)) (reading-no-write f h e edge (operand_of edge n)) k
-      (none-second (WritesTo f h) (cond (eqb edge.to.0 i) (reading plan e edge (operand_of edge n)) []) (reads_of plan i n (e + 1) edges)
-      (reads-no-write f h (e + 1) edges) k x)
+  reads_no_write : (f h e : ℕ) (edges : List Edge) → NoneOf (WritesTo f h) (reads_of plan i n e edges)
+  reads_no_write f h e [] k x = x
+  reads_no_write f h e (edge ∷ edges) k x =
+      none_if (WritesTo f h) (λ y. y) (eqb edge.to.0 i) (reading plan e edge (operand_of edge n)) (reading_no_write f h e edge (operand_of edge n)) k
+      (none_second (WritesTo f h) (cond (eqb edge.to.0 i) (reading plan e edge (operand_of edge n)) []) (reads_of plan i n (e + 1) edges)
+      (reads_no_write f h (e + 1) edges) k x)
 
-  both-on : (e : ℕ) → Each GoesOn (both_writes plan e n)
-  both-on e =
-      each-pair GoesOn (actions.Write (record { 0 = e }) n (record { 0 = low (cell_of plan e n) }))
+  both_on : (e : ℕ) → Each GoesOn (both_writes plan e n)
+  both_on e =
+      each_pair GoesOn (actions.Write (record { 0 = e }) n (record { 0 = low (cell_of plan e n) }))
       (actions.Write (record { 0 = e }) n (record { 0 = high (cell_of plan e n) })) tt tt
 
-  writing-on : (e : ℕ) (from : Producer) → Each GoesOn (writing plan i n e from)
-  writing-on e (producers.Constant value) k inside = absurd (omega arith)
-  writing-on e (producers.Port task out) k inside =
-      each-test GoesOn (eqb task.0 i) (cond (is_some (place_on plan e n)) (both_writes plan e n) [])
-      (each-test GoesOn (is_some (place_on plan e n)) (both_writes plan e n) (both-on e)) k inside
+  writing_on : (e : ℕ) (from : Producer) → Each GoesOn (writing plan i n e from)
+  writing_on e (producers.Constant value) k inside = absurd (omega arith)
+  writing_on e (producers.Port task out) k inside =
+      each_test GoesOn (eqb task.0 i) (cond (is_some (place_on plan e n)) (both_writes plan e n) [])
+      (each_test GoesOn (is_some (place_on plan e n)) (both_writes plan e n) (both_on e)) k inside
 
-  writes-on : (e : ℕ) (edges : List Edge) → Each GoesOn (writes_of plan i n e edges)
-  writes-on e [] k inside = absurd (omega arith)
-  writes-on e (edge ∷ edges) k inside =
-      each-both GoesOn (writing plan i n e edge.from) (writes_of plan i n (e + 1) edges) (writing-on e edge.from) (writes-on (e + 1) edges) k inside
+  writes_on : (e : ℕ) (edges : List Edge) → Each GoesOn (writes_of plan i n e edges)
+  writes_on e [] k inside = absurd (omega arith)
+  writes_on e (edge ∷ edges) k inside =
+      each_both GoesOn (writing plan i n e edge.from) (writes_of plan i n (e + 1) edges) (writing_on e edge.from) (writes_on (e + 1) edges) k inside
 
   -- the writes of edge e on are to edge e and later ones
-  both-else : (f h e : ℕ) → (e ≡ f → ⊥) → NoneOf (WritesTo f h) (both_writes plan e n)
-  both-else f h e other zero x = other x.0
-  both-else f h e other (suc zero) x = other x.0
-  both-else f h e other (suc (suc k)) x = x
+  both_else : (f h e : ℕ) → (e ≡ f → ⊥) → NoneOf (WritesTo f h) (both_writes plan e n)
+  both_else f h e other zero x = other x.0
+  both_else f h e other (suc zero) x = other x.0
+  both_else f h e other (suc (suc k)) x = x
 
-  writing-else : (f h e : ℕ) → (e ≡ f → ⊥) → (from : Producer) → NoneOf (WritesTo f h) (writing plan i n e from)
-  writing-else f h e other (producers.Constant value) k x = x
-  writing-else f h e other (producers.Port task out) k x =
-      none-if (WritesTo f h) (λ y. y) (eqb task.0 i) (cond (is_some (place_on plan e n)) (both_writes plan e n) [])
-      (none-if (WritesTo f h) (λ y. y) (is_some (place_on plan e n)) (both_writes plan e n) (both-else f h e other)) k x
+  writing_else : (f h e : ℕ) → (e ≡ f → ⊥) → (from : Producer) → NoneOf (WritesTo f h) (writing plan i n e from)
+  writing_else f h e other (producers.Constant value) k x = x
+  writing_else f h e other (producers.Port task out) k x =
+      none_if (WritesTo f h) (λ y. y) (eqb task.0 i) (cond (is_some (place_on plan e n)) (both_writes plan e n) [])
+      (none_if (WritesTo f h) (λ y. y) (is_some (place_on plan e n)) (both_writes plan e n) (both_else f h e other)) k x
 
-  writes-later : (f h e : ℕ) (edges : List Edge) → f < e → NoneOf (WritesTo f h) (writes_of plan i n e edges)
-  writes-later f h e [] before k x = x
-  writes-later f h e (edge ∷ edges) before k x =
-      writing-else f h e (λ same. omega (arith, same, before)) edge.from k
-      (none-second (WritesTo f h) (writing plan i n e edge.from) (writes_of plan i n (e + 1) edges) (writes-later f h (e + 1) edges (omega arith)) k x)
+  writes_later : (f h e : ℕ) (edges : List Edge) → f < e → NoneOf (WritesTo f h) (writes_of plan i n e edges)
+  writes_later f h e [] before k x = x
+  writes_later f h e (edge ∷ edges) before k x =
+      writing_else f h e (λ same. omega (arith, same, before)) edge.from k
+      (none_second (WritesTo f h) (writing plan i n e edge.from) (writes_of plan i n (e + 1) edges) (writes_later f h (e + 1) edges (omega arith)) k x)
 
   -- the two writes are to different halves
-  both-once : (f h e : ℕ) → Unique (WritesTo f h) (both_writes plan e n)
-  both-once f h e zero zero x y = refl
-  both-once f h e zero (suc zero) x y = absurd (let a : 2 * cell_of plan e n ≡ h = x.1 in let b : 2 * cell_of plan e n + 1 ≡ h = y.1 in omega (arith, a, b))
-  both-once f h e zero (suc (suc l)) x y = absurd y
-  both-once f h e (suc zero) zero x y = absurd (let a : 2 * cell_of plan e n + 1 ≡ h = x.1 in let b : 2 * cell_of plan e n ≡ h = y.1 in omega (arith, a, b))
-  both-once f h e (suc zero) (suc zero) x y = refl
-  both-once f h e (suc zero) (suc (suc l)) x y = absurd y
-  both-once f h e (suc (suc k)) l x y = absurd x
+  both_once : (f h e : ℕ) → Unique (WritesTo f h) (both_writes plan e n)
+  both_once f h e zero zero x y = refl
+  both_once f h e zero (suc zero) x y = absurd (let a : 2 * cell_of plan e n ≡ h = x.1 in let b : 2 * cell_of plan e n + 1 ≡ h = y.1 in omega (arith, a, b))
+  both_once f h e zero (suc (suc l)) x y = absurd y
+  both_once f h e (suc zero) zero x y = absurd (let a : 2 * cell_of plan e n + 1 ≡ h = x.1 in let b : 2 * cell_of plan e n ≡ h = y.1 in omega (arith, a, b))
+  both_once f h e (suc zero) (suc zero) x y = refl
+  both_once f h e (suc zero) (suc (suc l)) x y = absurd y
+  both_once f h e (suc (suc k)) l x y = absurd x
 
-  writing-once : (f h e : ℕ) (from : Producer) → Unique (WritesTo f h) (writing plan i n e from)
-  writing-once f h e (producers.Constant value) k l x y = absurd x
-  writing-once f h e (producers.Port task out) k l x y =
-      unique-if (WritesTo f h) (λ z. z) (eqb task.0 i) (cond (is_some (place_on plan e n)) (both_writes plan e n) [])
-      (unique-if (WritesTo f h) (λ z. z) (is_some (place_on plan e n)) (both_writes plan e n) (both-once f h e)) k l x y
+  writing_once : (f h e : ℕ) (from : Producer) → Unique (WritesTo f h) (writing plan i n e from)
+  writing_once f h e (producers.Constant value) k l x y = absurd x
+  writing_once f h e (producers.Port task out) k l x y =
+      unique_if (WritesTo f h) (λ z. z) (eqb task.0 i) (cond (is_some (place_on plan e n)) (both_writes plan e n) [])
+      (unique_if (WritesTo f h) (λ z. z) (is_some (place_on plan e n)) (both_writes plan e n) (both_once f h e)) k l x y
 
-  writes-once : (f h e : ℕ) (edges : List Edge) → Unique (WritesTo f h) (writes_of plan i n e edges)
-  writes-once f h e [] k l x y = absurd x
-  writes-once f h e (edge ∷ edges) k l x y =
+  writes_once : (f h e : ℕ) (edges : List Edge) → Unique (WritesTo f h) (writes_of plan i n e edges)
+  writes_once f h e [] k l x y = absurd x
+  writes_once f h e (edge ∷ edges) k l x y =
       elim (cases_eq e f) [
-        | inl same ↦ unique-first (WritesTo f h) (writing plan i n e edge.from) (writes_of plan i n (e + 1) edges)
-            (writing-once f h e edge.from) (writes-later f h (e + 1) edges (omega (arith, same))) k l x y
-        | inr other ↦ unique-second (WritesTo f h) (writing plan i n e edge.from) (writes_of plan i n (e + 1) edges)
-            (writing-else f h e other edge.from) (writes-once f h (e + 1) edges) k l x y
+        | inl same ↦ unique_first (WritesTo f h) (writing plan i n e edge.from) (writes_of plan i n (e + 1) edges)
+            (writing_once f h e edge.from) (writes_later f h (e + 1) edges (omega (arith, same))) k l x y
+        | inr other ↦ unique_second (WritesTo f h) (writing plan i n e edge.from) (writes_of plan i n (e + 1) edges)
+            (writing_else f h e other edge.from) (writes_once f h (e + 1) edges) k l x y
       ]
 
-  no-end : (f h : ℕ) → NoneOf (WritesTo f h) (actions.End ∷ [])
-  no-end f h zero x = x
-  no-end f h (suc k) x = x
+  no_end : (f h : ℕ) → NoneOf (WritesTo f h) (actions.End ∷ [])
+  no_end f h zero x = x
+  no_end f h (suc k) x = x
 
   -- a job writes to each half on an edge at most once
-  pub once-on : (f h : ℕ) → Unique (WritesTo f h) (actions_of plan i n)
-  once-on f h =
-      unique-first (WritesTo f h) (reads_of plan i n 0 plan.graph.edges ++ writes_of plan i n 0 plan.graph.edges) (actions.End ∷ [])
-      (unique-second (WritesTo f h) (reads_of plan i n 0 plan.graph.edges) (writes_of plan i n 0 plan.graph.edges)
-      (reads-no-write f h 0 plan.graph.edges) (writes-once f h 0 plan.graph.edges)) (no-end f h)
+  pub once_on : (f h : ℕ) → Unique (WritesTo f h) (actions_of plan i n)
+  once_on f h =
+      unique_first (WritesTo f h) (reads_of plan i n 0 plan.graph.edges ++ writes_of plan i n 0 plan.graph.edges) (actions.End ∷ [])
+      (unique_second (WritesTo f h) (reads_of plan i n 0 plan.graph.edges) (writes_of plan i n 0 plan.graph.edges)
+      (reads_no_write f h 0 plan.graph.edges) (writes_once f h 0 plan.graph.edges)) (no_end f h)
 
-  pub ends-last : (place later : ℕ) → get_or (actions_of plan i n) place actions.End ≡ actions.End → place < later →
+  pub ends_last : (place later : ℕ) → get_or (actions_of plan i n) place actions.End ≡ actions.End → place < later →
       get_or (actions_of plan i n) later actions.End ≡ actions.End
-  ends-last place later ends before =
-      last-end (reads_of plan i n 0 plan.graph.edges ++ writes_of plan i n 0 plan.graph.edges)
-      (each-both GoesOn (reads_of plan i n 0 plan.graph.edges) (writes_of plan i n 0 plan.graph.edges)
-      (reads-on 0 plan.graph.edges) (writes-on 0 plan.graph.edges)) place later ends before
+  ends_last place later ends before =
+      last_end (reads_of plan i n 0 plan.graph.edges ++ writes_of plan i n 0 plan.graph.edges)
+      (each_both GoesOn (reads_of plan i n 0 plan.graph.edges) (writes_of plan i n 0 plan.graph.edges)
+      (reads_on 0 plan.graph.edges) (writes_on 0 plan.graph.edges)) place later ends before
 
-  writing-stands : (e : ℕ) (from : Producer) → ComesFrom from i → is_some (place_on plan e n) ≡ true → (x : Action) → Stands (both_writes plan e n) x →
+  writing_stands : (e : ℕ) (from : Producer) → ComesFrom from i → is_some (place_on plan e n) ≡ true → (x : Action) → Stands (both_writes plan e n) x →
       Stands (writing plan i n e from) x
-  writing-stands e (producers.Constant value) comes used x s = absurd comes
-  writing-stands e (producers.Port task out) comes used x s =
-      stands-if (eqb task.0 i) (test-same task.0 i comes) (cond (is_some (place_on plan e n)) (both_writes plan e n) []) x
-      (stands-if (is_some (place_on plan e n)) used (both_writes plan e n) x s)
+  writing_stands e (producers.Constant value) comes used x s = absurd comes
+  writing_stands e (producers.Port task out) comes used x s =
+      stands_if (eqb task.0 i) (test_same task.0 i comes) (cond (is_some (place_on plan e n)) (both_writes plan e n) []) x
+      (stands_if (is_some (place_on plan e n)) used (both_writes plan e n) x s)
 
-  writes-stand : (e : ℕ) (edges : List Edge) (k : ℕ) (edge : Edge) → slice_get edges k ≡ Some edge → ComesFrom edge.from i →
+  writes_stand : (e : ℕ) (edges : List Edge) (k : ℕ) (edge : Edge) → slice_get edges k ≡ Some edge → ComesFrom edge.from i →
       is_some (place_on plan (e + k) n) ≡ true → (x : Action) → Stands (both_writes plan (e + k) n) x →
       Stands (writes_of plan i n e edges) x
-  writes-stand e [] k edge is comes used a s = cc
-  writes-stand e (x ∷ edges) zero edge is comes used a s =
+  writes_stand e [] k edge is comes used a s = cc
+  writes_stand e (x ∷ edges) zero edge is comes used a s =
       let one : x ≡ edge = cc in
       let at : e + 0 ≡ e = omega arith in
-      stands-first (writing plan i n e x.from) (writes_of plan i n (e + 1) edges) a
-      (writing-stands e x.from (subst (λ (y : Edge). ComesFrom y.from i) (sym one) comes)
+      stands_first (writing plan i n e x.from) (writes_of plan i n (e + 1) edges) a
+      (writing_stands e x.from (subst (λ (y : Edge). ComesFrom y.from i) (sym one) comes)
       (subst (λ (f : ℕ). is_some (place_on plan f n) ≡ true) at used) a (subst (λ (f : ℕ). Stands (both_writes plan f n) a) at s))
-  writes-stand e (x ∷ edges) (suc k) edge is comes used a s =
+  writes_stand e (x ∷ edges) (suc k) edge is comes used a s =
       let at : e + 1 + k ≡ e + suc k = omega arith in
-      stands-second (writing plan i n e x.from) (writes_of plan i n (e + 1) edges) a
-      (writes-stand (e + 1) edges k edge is comes (subst (λ (f : ℕ). is_some (place_on plan f n) ≡ true) (sym at) used) a
+      stands_second (writing plan i n e x.from) (writes_of plan i n (e + 1) edges) a
+      (writes_stand (e + 1) edges k edge is comes (subst (λ (f : ℕ). is_some (place_on plan f n) ≡ true) (sym at) used) a
       (subst (λ (f : ℕ). Stands (both_writes plan f n) a) (sym at) s))
 
   -- to each edge from its task whose instance is used, a job writes both halves
-  pub write-stands : (e : ℕ) (edge : Edge) → slice_get plan.graph.edges e ≡ Some edge → ComesFrom edge.from i → is_some (place_on plan e n) ≡ true →
+  pub write_stands : (e : ℕ) (edge : Edge) → slice_get plan.graph.edges e ≡ Some edge → ComesFrom edge.from i → is_some (place_on plan e n) ≡ true →
       (x : Action) → Stands (both_writes plan e n) x → Stands (actions_of plan i n) x
-  write-stands e edge is comes used x s =
+  write_stands e edge is comes used x s =
       let at : 0 + e ≡ e = omega arith in
-      stands-first (reads_of plan i n 0 plan.graph.edges ++ writes_of plan i n 0 plan.graph.edges) (actions.End ∷ []) x
-      (stands-second (reads_of plan i n 0 plan.graph.edges) (writes_of plan i n 0 plan.graph.edges) x
-      (writes-stand 0 plan.graph.edges e edge is comes (subst (λ (f : ℕ). is_some (place_on plan f n) ≡ true) (sym at) used) x
+      stands_first (reads_of plan i n 0 plan.graph.edges ++ writes_of plan i n 0 plan.graph.edges) (actions.End ∷ []) x
+      (stands_second (reads_of plan i n 0 plan.graph.edges) (writes_of plan i n 0 plan.graph.edges) x
+      (writes_stand 0 plan.graph.edges e edge is comes (subst (λ (f : ℕ). is_some (place_on plan f n) ≡ true) (sym at) used) x
       (subst (λ (f : ℕ). Stands (both_writes plan f n) x) (sym at) s)))
 
   -- a half of the cell is one of the two that are written
-  pub half-stands : (e slot : ℕ) → IsHalfOf (cell_of plan e n) slot → Stands (both_writes plan e n) (actions.Write (record { 0 = e }) n (record { 0 = slot }))
-  half-stands e slot (inl is) = record { place = 0; inside = (let z : 0 < 2 = omega arith in z); is = ap (λ (x : ℕ). actions.Write (record { 0 = e }) n (record { 0 = x })) (sym is) }
-  half-stands e slot (inr is) = record { place = 1; inside = (let z : 1 < 2 = omega arith in z); is = ap (λ (x : ℕ). actions.Write (record { 0 = e }) n (record { 0 = x })) (sym is) }
+  pub half_stands : (e slot : ℕ) → IsHalfOf (cell_of plan e n) slot → Stands (both_writes plan e n) (actions.Write (record { 0 = e }) n (record { 0 = slot }))
+  half_stands e slot (inl is) = record { place = 0; inside = (let z : 0 < 2 = omega arith in z); is = ap (λ (x : ℕ). actions.Write (record { 0 = e }) n (record { 0 = x })) (sym is) }
+  half_stands e slot (inr is) = record { place = 1; inside = (let z : 1 < 2 = omega arith in z); is = ap (λ (x : ℕ). actions.Write (record { 0 = e }) n (record { 0 = x })) (sym is) }
 
-  length-writing : (e : ℕ) (from : Producer) → length (writing plan i n e from) ≤ 2
-  length-writing e (producers.Constant value) = omega arith
-  length-writing e (producers.Port task out) =
-      let a = length-test (eqb task.0 i) (cond (is_some (place_on plan e n)) (both_writes plan e n) []) in
-      let b = length-test (is_some (place_on plan e n)) (both_writes plan e n) in
+  length_writing : (e : ℕ) (from : Producer) → length (writing plan i n e from) ≤ 2
+  length_writing e (producers.Constant value) = omega arith
+  length_writing e (producers.Port task out) =
+      let a = length_test (eqb task.0 i) (cond (is_some (place_on plan e n)) (both_writes plan e n) []) in
+      let b = length_test (is_some (place_on plan e n)) (both_writes plan e n) in
       omega (arith, a, b)
 
-  length-writes : (e : ℕ) (edges : List Edge) → length (writes_of plan i n e edges) ≤ 2 * length edges
-  length-writes e [] = omega arith
-  length-writes e (edge ∷ edges) =
+  length_writes : (e : ℕ) (edges : List Edge) → length (writes_of plan i n e edges) ≤ 2 * length edges
+  length_writes e [] = omega arith
+  length_writes e (edge ∷ edges) =
       let a = length-append (writing plan i n e edge.from) (writes_of plan i n (e + 1) edges) in
-      let b = length-writing e edge.from in
-      let c = length-writes (e + 1) edges in
+      let b = length_writing e edge.from in
+      let c = length_writes (e + 1) edges in
       omega (arith, a, b, c)
 
-  length-reading : (e : ℕ) (edge : Edge) (operand : Operand) → length (reading plan e edge operand) ≤ 2
-  length-reading e edge (operands.Const c) = omega arith
-  length-reading e edge (operands.From m) = omega arith
+  length_reading : (e : ℕ) (edge : Edge) (operand : Operand) → length (reading plan e edge operand) ≤ 2
+  length_reading e edge (operands.Const c) = omega arith
+  length_reading e edge (operands.From m) = omega arith
 
-  length-reads : (e : ℕ) (edges : List Edge) → length (reads_of plan i n e edges) ≤ 2 * length edges
-  length-reads e [] = omega arith
-  length-reads e (edge ∷ edges) =
+  length_reads : (e : ℕ) (edges : List Edge) → length (reads_of plan i n e edges) ≤ 2 * length edges
+  length_reads e [] = omega arith
+  length_reads e (edge ∷ edges) =
       let a = length-append (cond (eqb edge.to.0 i) (reading plan e edge (operand_of edge n)) []) (reads_of plan i n (e + 1) edges) in
-      let b = length-test (eqb edge.to.0 i) (reading plan e edge (operand_of edge n)) in
-      let d = length-reading e edge (operand_of edge n) in
-      let c = length-reads (e + 1) edges in
+      let b = length_test (eqb edge.to.0 i) (reading plan e edge (operand_of edge n)) in
+      let d = length_reading e edge (operand_of edge n) in
+      let c = length_reads (e + 1) edges in
       omega (arith, a, b, c, d)
 
-  pub length-actions : length (actions_of plan i n) ≤ 4 * length plan.graph.edges + 1
-  length-actions =
+  pub length_actions : length (actions_of plan i n) ≤ 4 * length plan.graph.edges + 1
+  length_actions =
       let r = reads_of plan i n 0 plan.graph.edges in
       let w = writes_of plan i n 0 plan.graph.edges in
       let a = length-append (reads_of plan i n 0 plan.graph.edges ++ writes_of plan i n 0 plan.graph.edges) (actions.End ∷ []) in
       let b = length-append (reads_of plan i n 0 plan.graph.edges) (writes_of plan i n 0 plan.graph.edges) in
-      let c = length-reads 0 plan.graph.edges in
-      let d = length-writes 0 plan.graph.edges in
+      let c = length_reads 0 plan.graph.edges in
+      let d = length_writes 0 plan.graph.edges in
       omega (arith, a, b, c, d)

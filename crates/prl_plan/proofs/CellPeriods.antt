@@ -15,11 +15,11 @@ use Rattle.prl_plan.specs.Graphs.{IsWellFormed, IsEdge, IsSource}
 use Rattle.prl_plan.specs.Dates.{Family}
 use Rattle.prl_plan.specs.Cells.{used_at, EnumeratesUsed, Fits}
 use Rattle.prl_plan.specs.FirstReaders.{first_reader, first_instance}
-use Rattle.prl_plan.specs.CellTurns.{IsAsked, IsAskedBehind, ListsGaps, FitsInPeriod, span_of}
-use Rattle.prl_plan.proofs.RoundPeriods.{task-is, edge-precedes}
-use Rattle.prl_plan.proofs.RoundLaws.{source-inside}
-use Rattle.prl_plan.proofs.ReaderLaws.{first-precedes, reads-is, used-is}
-use Rattle.prl_plan.proofs.GapLaws.{offset, split, inside, offset-shift, offset-rises, offset-each, offset-all}
+use Rattle.prl_plan.specs.CellTurns.{IsAsked, IsAskedFrom, ListsGaps, FitsInPeriod, span_of}
+use Rattle.prl_plan.proofs.RoundPeriods.{task_is, edge_precedes}
+use Rattle.prl_plan.proofs.RoundLaws.{source_inside}
+use Rattle.prl_plan.proofs.ReaderLaws.{first_precedes, reads_is, used_is}
+use Rattle.prl_plan.proofs.GapLaws.{offset, split, inside, offset_shift, offset_rises, offset_each, offset_all}
 
 module _ (graph : TaskGraph) (good : IsWellFormed graph) (edge : Edge) (is : IsEdge graph edge) (i : ℕ) (comes : ComesFrom edge.from i) where
   abbrev span : ℕ
@@ -29,13 +29,13 @@ module _ (graph : TaskGraph) (good : IsWellFormed graph) (edge : Edge) (is : IsE
   first = first_instance edge.ops
 
   abbrev R : ℕ → Type 0
-  R = IsAskedBehind edge.ops (first_instance edge.ops)
+  R = IsAskedFrom edge.ops (first_instance edge.ops)
 
-  inside-from : i < length graph.tasks
-  inside-from = source-inside graph edge is edge.from refl i comes
+  inside_from : i < length graph.tasks
+  inside_from = source_inside graph edge is edge.from refl i comes
 
-  period-is : edge.period ≡ (task_at graph i).clock.period
-  period-is = go edge.from refl
+  period_is : edge.period ≡ (task_at graph i).clock.period
+  period_is = go edge.from refl
     where
       go : (from : Producer) → edge.from ≡ from → edge.period ≡ (task_at graph i).clock.period
       go (producers.Constant value) from = absurd (subst (λ (f : Producer). ComesFrom f i) from comes)
@@ -46,30 +46,30 @@ module _ (graph : TaskGraph) (good : IsWellFormed graph) (edge : Edge) (is : IsE
 
   pub spans : graph.hyper ≡ span_of graph edge * (task_at graph i).clock.period
   spans =
-      let t = task-is graph good i inside-from in
+      let t = task_is graph good i inside_from in
       let e : graph.hyper / edge.period ≡ t.divides.0 =
-      ap (λ (x : ℕ). x / edge.period) t.divides.1 ∙ ap (λ (x : ℕ). t.divides.0 * (task_at graph i).clock.period / x) period-is ∙ mul-div_cancel t.divides.0 t.period.0 in
+      ap (λ (x : ℕ). x / edge.period) t.divides.1 ∙ ap (λ (x : ℕ). t.divides.0 * (task_at graph i).clock.period / x) period_is ∙ mul-div_cancel t.divides.0 t.period.0 in
       t.divides.1 ∙ ap (λ (x : ℕ). x * (task_at graph i).clock.period) (sym e)
 
   positive : (c p : ℕ) → 1 ≤ graph.hyper → graph.hyper ≡ c * p → 1 ≤ c
   positive zero p some is = absurd (let e : 0 * p ≡ 0 = omega arith in omega (arith, some, is, e))
   positive (suc c) p some is = omega arith
 
-  some-span : 1 ≤ span_of graph edge
-  some-span = positive (span_of graph edge) (task_at graph i).clock.period good.hyper spans
+  some_span : 1 ≤ span_of graph edge
+  some_span = positive (span_of graph edge) (task_at graph i).clock.period good.hyper spans
 
   -- how many jobs the consumer has in a hyperperiod
   abbrev turn : ℕ
-  turn = (task-is graph good edge.to.0 is.to).divides.0
+  turn = (task_is graph good edge.to.0 is.to).divides.0
 
-  turns : graph.hyper ≡ (task-is graph good edge.to.0 is.to).divides.0 * (task_at graph edge.to.0).clock.period
-  turns = (task-is graph good edge.to.0 is.to).divides.1
+  turns : graph.hyper ≡ (task_is graph good edge.to.0 is.to).divides.0 * (task_at graph edge.to.0).clock.period
+  turns = (task_is graph good edge.to.0 is.to).divides.1
 
-  some-turn : 1 ≤ (task-is graph good edge.to.0 is.to).divides.0
-  some-turn = positive (task-is graph good edge.to.0 is.to).divides.0 (task_at graph edge.to.0).clock.period good.hyper turns
+  some_turn : 1 ≤ (task_is graph good edge.to.0 is.to).divides.0
+  some_turn = positive (task_is graph good edge.to.0 is.to).divides.0 (task_at graph edge.to.0).clock.period good.hyper turns
 
   once : (n : ℤ) → preceding edge.ops (n +ℤ pos turn) ≡ preceding edge.ops n +ℤ pos (span_of graph edge)
-  once n = edge-precedes graph good edge is i turn (span_of graph edge) comes turns spans n
+  once n = edge_precedes graph good edge is i turn (span_of graph edge) comes turns spans n
 
   often : (q : ℕ) (n : ℤ) → preceding edge.ops (n +ℤ pos (q * turn)) ≡ preceding edge.ops n +ℤ pos (q * span_of graph edge)
   often zero n =
@@ -85,10 +85,10 @@ module _ (graph : TaskGraph) (good : IsWellFormed graph) (edge : Edge) (is : IsE
       let y = often q n in
       ap (λ (z : ℤ). preceding edge.ops z) e ∙ (omega (arith, ints, b, x, y))
 
-  here : IsAskedBehind edge.ops (first_instance edge.ops) 0
-  here = (pos (first_reader edge.ops), (let e = first-precedes edge.ty edge.ops is.operators in omega (arith, ints, e)))
+  here : IsAskedFrom edge.ops (first_instance edge.ops) 0
+  here = (pos (first_reader edge.ops), (let e = first_precedes edge.ty edge.ops is.operators in omega (arith, ints, e)))
 
-  again : (x : ℕ) → IsAskedBehind edge.ops (first_instance edge.ops) x ↔ IsAskedBehind edge.ops (first_instance edge.ops) (x + span_of graph edge)
+  again : (x : ℕ) → IsAskedFrom edge.ops (first_instance edge.ops) x ↔ IsAskedFrom edge.ops (first_instance edge.ops) (x + span_of graph edge)
   again x = (
     (λ h. (h.0 +ℤ pos turn, (let o = once h.0 in let at = h.1 in omega (arith, ints, o, at)))),
     (λ h.
@@ -99,94 +99,94 @@ module _ (graph : TaskGraph) (good : IsWellFormed graph) (edge : Edge) (is : IsE
         (h.0 -ℤ pos turn, omega (arith, ints, o, b, at)))),
   )
 
-  module _ (gaps : List ℕ) (lists : ListsGaps (IsAskedBehind edge.ops (first_instance edge.ops)) (span_of graph edge) gaps) where
+  module _ (gaps : List ℕ) (lists : ListsGaps (IsAskedFrom edge.ops (first_instance edge.ops)) (span_of graph edge) gaps) where
     abbrev used : Used
     used = record { first = first_instance edge.ops; gaps = gaps }
 
-    used-offset : (k : ℕ) → used_at used k ≡ first_instance edge.ops + offset gaps k
-    used-offset k = omega arith
+    used_offset : (k : ℕ) → used_at used k ≡ first_instance edge.ops + offset gaps k
+    used_offset k = omega arith
 
     pub enumerates : EnumeratesUsed edge (record { first = first_instance edge.ops; gaps = gaps })
     enumerates = record {
       rising = λ k.
-          (let a = used-offset k in let b = used-offset (k + 1) in
-          let up = offset-rises (IsAskedBehind edge.ops (first_instance edge.ops)) (span_of graph edge) gaps some-span here again lists k in omega (arith, a, b, up));
+          (let a = used_offset k in let b = used_offset (k + 1) in
+          let up = offset_rises (IsAskedFrom edge.ops (first_instance edge.ops)) (span_of graph edge) gaps some_span here again lists k in omega (arith, a, b, up));
       each = λ k.
-          (let a = used-offset k in
-          let asked = offset-each (IsAskedBehind edge.ops (first_instance edge.ops)) (span_of graph edge) gaps some-span here again lists k in
-          (used-is edge i comes is.operators (used_at used k)).1 ((omega (arith, a)), (subst (λ (x : ℕ). IsAsked edge.ops (pos x)) (sym a) asked)));
+          (let a = used_offset k in
+          let asked = offset_each (IsAskedFrom edge.ops (first_instance edge.ops)) (span_of graph edge) gaps some_span here again lists k in
+          (used_is edge i comes is.operators (used_at used k)).1 ((omega (arith, a)), (subst (λ (x : ℕ). IsAsked edge.ops (pos x)) (sym a) asked)));
       all = λ m h.
-          (let r = (used-is edge i comes is.operators m).0 h in
+          (let r = (used_is edge i comes is.operators m).0 h in
           let late = r.0 in
           let x : ℕ = m - first_instance edge.ops in
           let e : first_instance edge.ops + (m - first_instance edge.ops) ≡ m = omega (arith, late) in
-          let at = offset-all (IsAskedBehind edge.ops (first_instance edge.ops)) (span_of graph edge) gaps some-span here again lists (m - first_instance edge.ops)
+          let at = offset_all (IsAskedFrom edge.ops (first_instance edge.ops)) (span_of graph edge) gaps some_span here again lists (m - first_instance edge.ops)
           (subst (λ (x : ℕ). IsAsked edge.ops (pos x)) (sym e) r.1) in
-          (at.0, (let a = used-offset at.0 in let o = at.1 in omega (arith, a, o, e))));
+          (at.0, (let a = used_offset at.0 in let o = at.1 in omega (arith, a, o, e))));
     }
 
-    used-shift : (k q : ℕ) → used_at used (k + q * length gaps) ≡ used_at used k + q * span_of graph edge
-    used-shift k q =
-        let s = offset-shift (IsAskedBehind edge.ops (first_instance edge.ops)) (span_of graph edge) gaps some-span here again lists k q in
-        let a = used-offset k in
-        let b = used-offset (k + q * length gaps) in
+    used_shift : (k q : ℕ) → used_at used (k + q * length gaps) ≡ used_at used k + q * span_of graph edge
+    used_shift k q =
+        let s = offset_shift (IsAskedFrom edge.ops (first_instance edge.ops)) (span_of graph edge) gaps some_span here again lists k q in
+        let a = used_offset k in
+        let b = used_offset (k + q * length gaps) in
         omega (arith, s, a, b)
 
     module _ (release deadline : Family) (releases : (m : ℤ) → release i (m +ℤ pos (span_of graph edge)) ≡ release i m +ℤ pos graph.hyper)
         (deadlines : (n : ℤ) → deadline edge.to.0 (n +ℤ pos turn) ≡ deadline edge.to.0 n +ℤ pos graph.hyper) (cells : ℕ) where
-      releases-often : (q : ℕ) (m : ℤ) → release i (m +ℤ pos (q * span_of graph edge)) ≡ release i m +ℤ pos (q * graph.hyper)
-      releases-often zero m =
+      releases_often : (q : ℕ) (m : ℤ) → release i (m +ℤ pos (q * span_of graph edge)) ≡ release i m +ℤ pos (q * graph.hyper)
+      releases_often zero m =
           let a : 0 * span_of graph edge ≡ 0 = omega arith in
           let b : 0 * graph.hyper ≡ 0 = omega arith in
           let e : m +ℤ pos (0 * span_of graph edge) ≡ m = omega (arith, ints, a) in
           ap (λ (z : ℤ). release i z) e ∙ (omega (arith, ints, b))
-      releases-often (suc q) m =
+      releases_often (suc q) m =
           let a : suc q * span_of graph edge ≡ q * span_of graph edge + span_of graph edge = omega arith in
           let b : suc q * graph.hyper ≡ q * graph.hyper + graph.hyper = omega arith in
           let e : m +ℤ pos (suc q * span_of graph edge) ≡ (m +ℤ pos (q * span_of graph edge)) +ℤ pos (span_of graph edge) = omega (arith, ints, a) in
           let x = releases (m +ℤ pos (q * span_of graph edge)) in
-          let y = releases-often q m in
+          let y = releases_often q m in
           ap (λ (z : ℤ). release i z) e ∙ (omega (arith, ints, b, x, y))
 
-      deadlines-often : (q : ℕ) (n : ℤ) → deadline edge.to.0 (n +ℤ pos (q * turn)) ≡ deadline edge.to.0 n +ℤ pos (q * graph.hyper)
-      deadlines-often zero n =
+      deadlines_often : (q : ℕ) (n : ℤ) → deadline edge.to.0 (n +ℤ pos (q * turn)) ≡ deadline edge.to.0 n +ℤ pos (q * graph.hyper)
+      deadlines_often zero n =
           let a : 0 * turn ≡ 0 = omega arith in
           let b : 0 * graph.hyper ≡ 0 = omega arith in
           let e : n +ℤ pos (0 * turn) ≡ n = omega (arith, ints, a) in
           ap (λ (z : ℤ). deadline edge.to.0 z) e ∙ (omega (arith, ints, b))
-      deadlines-often (suc q) n =
+      deadlines_often (suc q) n =
           let a : suc q * turn ≡ q * turn + turn = omega arith in
           let b : suc q * graph.hyper ≡ q * graph.hyper + graph.hyper = omega arith in
           let e : n +ℤ pos (suc q * turn) ≡ (n +ℤ pos (q * turn)) +ℤ pos turn = omega (arith, ints, a) in
           let x = deadlines (n +ℤ pos (q * turn)) in
-          let y = deadlines-often q n in
+          let y = deadlines_often q n in
           ap (λ (z : ℤ). deadline edge.to.0 z) e ∙ (omega (arith, ints, b, x, y))
 
       -- the date that the reader n of the k-th instance has to keep, so many hyperperiods later
       moved : (k q : ℕ) (n : ℤ) → (deadline edge.to.0 n ≤ℤ release i (pos (used_at used (k + cells))))
           ↔ (deadline edge.to.0 (n +ℤ pos (q * turn)) ≤ℤ release i (pos (used_at used (k + q * length gaps + cells))))
       moved k q n =
-          let d = deadlines-often q n in
-          let r = releases-often q (pos (used_at used (k + cells))) in
-          let s = used-shift (k + cells) q in
+          let d = deadlines_often q n in
+          let r = releases_often q (pos (used_at used (k + cells))) in
+          let s = used_shift (k + cells) q in
           let order : k + q * length gaps + cells ≡ k + cells + q * length gaps = omega arith in
           let u : used_at used (k + q * length gaps + cells) ≡ used_at used (k + cells) + q * span_of graph edge = ap (used_at used) order ∙ s in
           let z : pos (used_at used (k + q * length gaps + cells)) ≡ pos (used_at used (k + cells)) +ℤ pos (q * span_of graph edge) = omega (arith, ints, u) in
           let e = ap (λ (y : ℤ). release i y) z in
           ((λ h. omega (arith, ints, d, r, e, h)), (λ h. omega (arith, ints, d, r, e, h)))
 
-      pub fits-in-period : FitsInPeriod edge i release deadline used cells → Fits edge i release deadline used cells
-      fits-in-period once k n reads =
+      pub fits_in_period : FitsInPeriod edge i release deadline used cells → Fits edge i release deadline used cells
+      fits_in_period once k n reads =
           let q : ℕ = k / length gaps in
           let r : ℕ = k % length gaps in
-          let s = split (IsAskedBehind edge.ops (first_instance edge.ops)) (span_of graph edge) gaps some-span here again lists k in
-          let below = inside (IsAskedBehind edge.ops (first_instance edge.ops)) (span_of graph edge) gaps some-span here again lists k in
+          let s = split (IsAskedFrom edge.ops (first_instance edge.ops)) (span_of graph edge) gaps some_span here again lists k in
+          let below = inside (IsAskedFrom edge.ops (first_instance edge.ops)) (span_of graph edge) gaps some_span here again lists k in
           let order : k ≡ r + q * length gaps = omega (arith, s) in
           let back : (pos n -ℤ pos (q * turn)) +ℤ pos (q * turn) ≡ pos n = omega (arith, ints) in
-          let at : preceding edge.ops (pos n) ≡ pos (used_at used k) = ((reads-is edge i comes is.operators n (used_at used k)).0 reads).1 in
+          let at : preceding edge.ops (pos n) ≡ pos (used_at used k) = ((reads_is edge i comes is.operators n (used_at used k)).0 reads).1 in
           let o = often q (pos n -ℤ pos (q * turn)) in
           let b = ap (λ (z : ℤ). preceding edge.ops z) back in
-          let u : used_at used k ≡ used_at used r + q * span_of graph edge = ap (used_at used) order ∙ used-shift r q in
+          let u : used_at used k ≡ used_at used r + q * span_of graph edge = ap (used_at used) order ∙ used_shift r q in
           let early : preceding edge.ops (pos n -ℤ pos (q * turn)) ≡ pos (used_at used r) = omega (arith, ints, at, o, b, u) in
           let kept = (moved r q (pos n -ℤ pos (q * turn))).0 (once r below (pos n -ℤ pos (q * turn)) early) in
           let x = ap (λ (z : ℤ). deadline edge.to.0 z) back in
@@ -198,7 +198,7 @@ module _ (graph : TaskGraph) (good : IsWellFormed graph) (edge : Edge) (is : IsE
       far : (n : ℤ) → (q : ℕ) × (job : ℕ) × (n +ℤ pos (q * turn) ≡ pos job) × (first_reader edge.ops ≤ job)
       far (pos n) =
           let p : ℕ = first_reader edge.ops in
-          let up : p ≤ p * turn = enough p turn some-turn in
+          let up : p ≤ p * turn = enough p turn some_turn in
           (p, n + p * turn, (omega (arith, ints)), (omega (arith, up)))
         where
           enough : (p t : ℕ) → 1 ≤ t → p ≤ p * t
@@ -206,23 +206,23 @@ module _ (graph : TaskGraph) (good : IsWellFormed graph) (edge : Edge) (is : IsE
           enough p (suc t) some = (let e : p * suc t ≡ p * t + p = omega arith in omega (arith, e))
       far (negsuc n) =
           let p : ℕ = first_reader edge.ops + suc n in
-          let up : p ≤ p * turn = enough p turn some-turn in
+          let up : p ≤ p * turn = enough p turn some_turn in
           (p, p * turn - suc n, (omega (arith, ints, up)), (omega (arith, up)))
         where
           enough : (p t : ℕ) → 1 ≤ t → p ≤ p * t
           enough p zero some = absurd (omega (arith, some))
           enough p (suc t) some = (let e : p * suc t ≡ p * t + p = omega arith in omega (arith, e))
 
-      pub fits-over-period : Fits edge i release deadline used cells → FitsInPeriod edge i release deadline used cells
-      fits-over-period fits k below n at =
+      pub fits_over_period : Fits edge i release deadline used cells → FitsInPeriod edge i release deadline used cells
+      fits_over_period fits k below n at =
           let f = far n in
           let q : ℕ = f.0 in
           let job : ℕ = f.1 in
           let o = often q n in
           let b = ap (λ (z : ℤ). preceding edge.ops z) f.2 in
-          let u = used-shift k q in
+          let u = used_shift k q in
           let later : preceding edge.ops (pos job) ≡ pos (used_at used (k + q * length gaps)) = omega (arith, ints, at, o, b, u) in
-          let reads = (reads-is edge i comes is.operators job (used_at used (k + q * length gaps))).1 (f.3, later) in
+          let reads = (reads_is edge i comes is.operators job (used_at used (k + q * length gaps))).1 (f.3, later) in
           let kept = fits (k + q * length gaps) job reads in
           let x = ap (λ (z : ℤ). deadline edge.to.0 z) f.2 in
           (moved k q n).1 (omega (arith, ints, kept, x))

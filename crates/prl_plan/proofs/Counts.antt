@@ -8,8 +8,8 @@ use Rattle.prl_plan.specs.declared.graphs.TaskGraph.{TaskGraph}
 use Rattle.prl_plan.specs.Jobs.{task_at, job_count, IsHorizonJob}
 
 -- number n is below the count of multiples of T, from s on, that are below `until`
-pub count-below : (s T until n : ℕ) → 1 ≤ T → n < (until - s + (T - 1)) / T → s + n * T < until
-count-below s T until n some h =
+pub count_below : (s T until n : ℕ) → 1 ≤ T → n < (until - s + (T - 1)) / T → s + n * T < until
+count_below s T until n some h =
     let x : ℕ = until - s + (T - 1) in
     let q : ℕ = x / T in
     let up : (n + 1) * T ≤ q * T = mul-le-mul_right T (let g : n + 1 ≤ q = omega arith in g) in
@@ -17,8 +17,8 @@ count-below s T until n some h =
     let e : (n + 1) * T ≡ n * T + T = omega arith in
     omega (arith, up, down, e)
 
-pub below-count : (s T until n : ℕ) → 1 ≤ T → s + n * T < until → n < (until - s + (T - 1)) / T
-below-count s T until n some h =
+pub below_count : (s T until n : ℕ) → 1 ≤ T → s + n * T < until → n < (until - s + (T - 1)) / T
+below_count s T until n some h =
     let x : ℕ = until - s + (T - 1) in
     let q : ℕ = x / T in
     elim (cases_lt n q) [
@@ -30,16 +30,16 @@ below-count s T until n some h =
     ]
 
 -- a task's horizon jobs are those with a number below their count
-pub IsHorizonJob-count : (graph : TaskGraph) (until i n : ℕ) → i < length graph.tasks → 1 ≤ (task_at graph i).clock.period →
+pub IsHorizonJob_count : (graph : TaskGraph) (until i n : ℕ) → i < length graph.tasks → 1 ≤ (task_at graph i).clock.period →
     n < job_count (task_at graph i) until → IsHorizonJob graph until i n
-IsHorizonJob-count graph until i n task some h =
+IsHorizonJob_count graph until i n task some h =
     let c = (task_at graph i).clock in
-    let below : c.start + n * c.period < until = count-below c.start c.period until n some h in
+    let below : c.start + n * c.period < until = count_below c.start c.period until n some h in
     record { task = task; early = omega (arith, ints, below) }
 
-pub job_count-horizon : (graph : TaskGraph) (until i n : ℕ) → 1 ≤ (task_at graph i).clock.period →
+pub job_count_horizon : (graph : TaskGraph) (until i n : ℕ) → 1 ≤ (task_at graph i).clock.period →
     IsHorizonJob graph until i n → n < job_count (task_at graph i) until
-job_count-horizon graph until i n some is =
+job_count_horizon graph until i n some is =
     let c = (task_at graph i).clock in
     let below : c.start + n * c.period < until = (let e : (pos c.start +ℤ (pos n *ℤ pos c.period)) <ℤ pos until = is.early in omega (arith, ints, e)) in
-    below-count c.start c.period until n some below
+    below_count c.start c.period until n some below

@@ -15,8 +15,8 @@ use Rattle.prl_plan.specs.Dates.{Family, AreDeadlines, AreGreatestDeadlines}
 use Rattle.prl_plan.specs.declared.deadlines.Interval.{Interval}
 use Rattle.prl_plan.specs.Intervals.{IsIn, natural, count_in, successors}
 use Rattle.prl_plan.specs.Deadlines.{earliest_of, needed_by, earliest, deadlines_after, AreFixedDeadlines}
-use Rattle.prl_plan.proofs.RoundLaws.{source-inside}
-use Rattle.prl_plan.proofs.IntervalLaws.{following-in}
+use Rattle.prl_plan.proofs.RoundLaws.{source_inside}
+use Rattle.prl_plan.proofs.IntervalLaws.{following_in}
 
 equal : (x y : ℕ) → eqb x y ≡ true → x ≡ y
 equal x y h = grind (arith, nat_tests)
@@ -24,127 +24,127 @@ equal x y h = grind (arith, nat_tests)
 same : (x y : ℕ) → x ≡ y → eqb x y ≡ true
 same x y h = grind (arith, nat_tests)
 
-le-through : (a b c : ℤ) → a ≤ℤ b → b ≤ℤ c → a ≤ℤ c
-le-through a b c h k = omega (arith, ints)
+le_through : (a b c : ℤ) → a ≤ℤ b → b ≤ℤ c → a ≤ℤ c
+le_through a b c h k = omega (arith, ints)
 
-le-self : (a : ℤ) → a ≤ℤ a
-le-self a = omega (arith, ints)
+le_self : (a : ℤ) → a ≤ℤ a
+le_self a = omega (arith, ints)
 
-min-above : (a b c : ℤ) → c ≤ℤ a → c ≤ℤ b → c ≤ℤ int_min a b
-min-above a b c h k = omega (arith, ints, clamps)
+min_above : (a b c : ℤ) → c ≤ℤ a → c ≤ℤ b → c ≤ℤ int_min a b
+min_above a b c h k = omega (arith, ints, clamps)
 
-min-first : (a b : ℤ) → int_min a b ≤ℤ a
-min-first a b = omega (arith, ints, clamps)
+min_first : (a b : ℤ) → int_min a b ≤ℤ a
+min_first a b = omega (arith, ints, clamps)
 
-min-second : (a b : ℤ) → int_min a b ≤ℤ b
-min-second a b = omega (arith, ints, clamps)
+min_second : (a b : ℤ) → int_min a b ≤ℤ b
+min_second a b = omega (arith, ints, clamps)
 
 -- the numbers that are counted are those of the interval
-natural-above : (z : ℤ) (k : ℕ) → k < natural z → pos (k + 1) ≤ℤ z
-natural-above (pos n) k h = omega (arith, ints, h)
-natural-above (negsuc n) k h = absurd (omega arith)
+natural_above : (z : ℤ) (k : ℕ) → k < natural z → pos (k + 1) ≤ℤ z
+natural_above (pos n) k h = omega (arith, ints, h)
+natural_above (negsuc n) k h = absurd (omega arith)
 
-natural-below : (z : ℤ) (k : ℕ) → pos (k + 1) ≤ℤ z → k < natural z
-natural-below (pos n) k h = omega (arith, ints, h)
-natural-below (negsuc n) k h = absurd (omega (arith, ints, h))
+natural_below : (z : ℤ) (k : ℕ) → pos (k + 1) ≤ℤ z → k < natural z
+natural_below (pos n) k h = omega (arith, ints, h)
+natural_below (negsuc n) k h = absurd (omega (arith, ints, h))
 
-counted-in : (s : Interval) (k : ℕ) → k < count_in s → IsIn (s.lowest +ℤ pos k) s
-counted-in s k h =
-    let g = natural-above ((s.highest -ℤ s.lowest) +ℤ pos 1) k h in
+counted_in : (s : Interval) (k : ℕ) → k < count_in s → IsIn (s.lowest +ℤ pos k) s
+counted_in s k h =
+    let g = natural_above ((s.highest -ℤ s.lowest) +ℤ pos 1) k h in
     ((omega (arith, ints)), (omega (arith, ints, g)))
 
 -- a number of the interval stands at a place
-place-in : (s : Interval) (n : ℤ) → IsIn n s → (k : ℕ) × (k < count_in s) × (n ≡ s.lowest +ℤ pos k)
-place-in s n h = go (n -ℤ s.lowest) refl
+stands_in : (s : Interval) (n : ℤ) → IsIn n s → (k : ℕ) × (k < count_in s) × (n ≡ s.lowest +ℤ pos k)
+stands_in s n h = go (n -ℤ s.lowest) refl
   where
     go : (d : ℤ) → n -ℤ s.lowest ≡ d → (k : ℕ) × (k < count_in s) × (n ≡ s.lowest +ℤ pos k)
     go (pos k) e =
-        (k, natural-below ((s.highest -ℤ s.lowest) +ℤ pos 1) k (let b = h.1 in omega (arith, ints, b, e)), omega (arith, ints, e))
+        (k, natural_below ((s.highest -ℤ s.lowest) +ℤ pos 1) k (let b = h.1 in omega (arith, ints, b, e)), omega (arith, ints, e))
     go (negsuc k) e = absurd (let a = h.0 in omega (arith, ints, a, e))
 
 module _ (graph : TaskGraph) (date : Family) where
   -- a bound of a date and of what each job asks is one of the earliest
-  each-above : (j : ℕ) (n : ℤ) (count : ℕ) (best bound : ℤ) → bound ≤ℤ best →
+  each_above : (j : ℕ) (n : ℤ) (count : ℕ) (best bound : ℤ) → bound ≤ℤ best →
       ((k : ℕ) → k < count → bound ≤ℤ (date j (n +ℤ pos k) -ℤ pos (task_at graph j).wcet)) → bound ≤ℤ earliest_of graph date j n count best
-  each-above j n zero best bound h each = h
-  each-above j n (suc count) best bound h each =
+  each_above j n zero best bound h each = h
+  each_above j n (suc count) best bound h each =
       let here : n +ℤ pos 0 ≡ n = omega (arith, ints) in
       let first : bound ≤ℤ (date j n -ℤ pos (task_at graph j).wcet) =
       subst (λ (x : ℤ). bound ≤ℤ (date j x -ℤ pos (task_at graph j).wcet)) here (each 0 (omega arith)) in
-      each-above j (n +ℤ pos 1) count (int_min best (date j n -ℤ pos (task_at graph j).wcet)) bound
-      (min-above best (date j n -ℤ pos (task_at graph j).wcet) bound h first)
+      each_above j (n +ℤ pos 1) count (int_min best (date j n -ℤ pos (task_at graph j).wcet)) bound
+      (min_above best (date j n -ℤ pos (task_at graph j).wcet) bound h first)
       (λ k inside. (let e : n +ℤ pos (suc k) ≡ n +ℤ pos 1 +ℤ pos k = omega (arith, ints) in
       subst (λ (x : ℤ). bound ≤ℤ (date j x -ℤ pos (task_at graph j).wcet)) e (each (suc k) (omega arith))))
 
-  of-below : (j : ℕ) (n : ℤ) (count : ℕ) (best : ℤ) → earliest_of graph date j n count best ≤ℤ best
-  of-below j n zero best = le-self best
-  of-below j n (suc count) best =
-      le-through (earliest_of graph date j (n +ℤ pos 1) count (int_min best (date j n -ℤ pos (task_at graph j).wcet)))
+  of_below : (j : ℕ) (n : ℤ) (count : ℕ) (best : ℤ) → earliest_of graph date j n count best ≤ℤ best
+  of_below j n zero best = le_self best
+  of_below j n (suc count) best =
+      le_through (earliest_of graph date j (n +ℤ pos 1) count (int_min best (date j n -ℤ pos (task_at graph j).wcet)))
       (int_min best (date j n -ℤ pos (task_at graph j).wcet)) best
-      (of-below j (n +ℤ pos 1) count (int_min best (date j n -ℤ pos (task_at graph j).wcet))) (min-first best (date j n -ℤ pos (task_at graph j).wcet))
+      (of_below j (n +ℤ pos 1) count (int_min best (date j n -ℤ pos (task_at graph j).wcet))) (min_first best (date j n -ℤ pos (task_at graph j).wcet))
 
-  of-each : (j : ℕ) (n : ℤ) (count : ℕ) (best : ℤ) (k : ℕ) → k < count → earliest_of graph date j n count best ≤ℤ (date j (n +ℤ pos k) -ℤ pos (task_at graph j).wcet)
-  of-each j n zero best k inside = absurd (omega arith)
-  of-each j n (suc count) best zero inside =
+  of_each : (j : ℕ) (n : ℤ) (count : ℕ) (best : ℤ) (k : ℕ) → k < count → earliest_of graph date j n count best ≤ℤ (date j (n +ℤ pos k) -ℤ pos (task_at graph j).wcet)
+  of_each j n zero best k inside = absurd (omega arith)
+  of_each j n (suc count) best zero inside =
       let here : n ≡ n +ℤ pos 0 = omega (arith, ints) in
       subst (λ (x : ℤ). earliest_of graph date j n (suc count) best ≤ℤ (date j x -ℤ pos (task_at graph j).wcet)) here
-      (le-through (earliest_of graph date j (n +ℤ pos 1) count (int_min best (date j n -ℤ pos (task_at graph j).wcet)))
+      (le_through (earliest_of graph date j (n +ℤ pos 1) count (int_min best (date j n -ℤ pos (task_at graph j).wcet)))
       (int_min best (date j n -ℤ pos (task_at graph j).wcet)) (date j n -ℤ pos (task_at graph j).wcet)
-      (of-below j (n +ℤ pos 1) count (int_min best (date j n -ℤ pos (task_at graph j).wcet))) (min-second best (date j n -ℤ pos (task_at graph j).wcet)))
-  of-each j n (suc count) best (suc k) inside =
+      (of_below j (n +ℤ pos 1) count (int_min best (date j n -ℤ pos (task_at graph j).wcet))) (min_second best (date j n -ℤ pos (task_at graph j).wcet)))
+  of_each j n (suc count) best (suc k) inside =
       let e : n +ℤ pos 1 +ℤ pos k ≡ n +ℤ pos (suc k) = omega (arith, ints) in
       subst (λ (x : ℤ). earliest_of graph date j n (suc count) best ≤ℤ (date j x -ℤ pos (task_at graph j).wcet)) e
-      (of-each j (n +ℤ pos 1) count (int_min best (date j n -ℤ pos (task_at graph j).wcet)) k (omega arith))
+      (of_each j (n +ℤ pos 1) count (int_min best (date j n -ℤ pos (task_at graph j).wcet)) k (omega arith))
 
-  cond-below : (b : Bool) (x best : ℤ) → x ≤ℤ best → cond b x best ≤ℤ best
-  cond-below true x best h = h
-  cond-below false x best h = le-self best
+  cond_below : (b : Bool) (x best : ℤ) → x ≤ℤ best → cond b x best ≤ℤ best
+  cond_below true x best h = h
+  cond_below false x best h = le_self best
 
-  needed-below : (i : ℕ) (m : ℤ) (edge : Edge) (from : Producer) (best : ℤ) → needed_by graph date i m edge from best ≤ℤ best
-  needed-below i m edge (producers.Constant value) best = le-self best
-  needed-below i m edge (producers.Port task out) best =
-      cond-below (eqb task.0 i) (earliest_of graph date edge.to.0 (successors edge.ops m).lowest (count_in (successors edge.ops m)) best) best
-      (of-below edge.to.0 (successors edge.ops m).lowest (count_in (successors edge.ops m)) best)
+  needed_below : (i : ℕ) (m : ℤ) (edge : Edge) (from : Producer) (best : ℤ) → needed_by graph date i m edge from best ≤ℤ best
+  needed_below i m edge (producers.Constant value) best = le_self best
+  needed_below i m edge (producers.Port task out) best =
+      cond_below (eqb task.0 i) (earliest_of graph date edge.to.0 (successors edge.ops m).lowest (count_in (successors edge.ops m)) best) best
+      (of_below edge.to.0 (successors edge.ops m).lowest (count_in (successors edge.ops m)) best)
 
-  earliest-below : (i : ℕ) (m : ℤ) (edges : List Edge) (best : ℤ) → earliest graph date i m edges best ≤ℤ best
-  earliest-below i m [] best = le-self best
-  earliest-below i m (edge ∷ rest) best =
-      le-through (earliest graph date i m rest (needed_by graph date i m edge edge.from best)) (needed_by graph date i m edge edge.from best) best
-      (earliest-below i m rest (needed_by graph date i m edge edge.from best)) (needed-below i m edge edge.from best)
+  earliest_below : (i : ℕ) (m : ℤ) (edges : List Edge) (best : ℤ) → earliest graph date i m edges best ≤ℤ best
+  earliest_below i m [] best = le_self best
+  earliest_below i m (edge ∷ rest) best =
+      le_through (earliest graph date i m rest (needed_by graph date i m edge edge.from best)) (needed_by graph date i m edge edge.from best) best
+      (earliest_below i m rest (needed_by graph date i m edge edge.from best)) (needed_below i m edge edge.from best)
 
   -- an edge from the task asks for each job in its interval
-  asks-this : (i : ℕ) (m : ℤ) (edge : Edge) (from : Producer) (best : ℤ) → ComesFrom from i → (n : ℤ) → IsIn n (successors edge.ops m) →
+  asks_this : (i : ℕ) (m : ℤ) (edge : Edge) (from : Producer) (best : ℤ) → ComesFrom from i → (n : ℤ) → IsIn n (successors edge.ops m) →
       needed_by graph date i m edge from best ≤ℤ (date edge.to.0 n -ℤ pos (task_at graph edge.to.0).wcet)
-  asks-this i m edge (producers.Constant value) best comes n inside = absurd comes
-  asks-this i m edge (producers.Port task out) best comes n inside =
-      let at = place-in (successors edge.ops m) n inside in
+  asks_this i m edge (producers.Constant value) best comes n inside = absurd comes
+  asks_this i m edge (producers.Port task out) best comes n inside =
+      let at = stands_in (successors edge.ops m) n inside in
       subst (λ (b : Bool). cond b (earliest_of graph date edge.to.0 (successors edge.ops m).lowest (count_in (successors edge.ops m)) best) best
       ≤ℤ (date edge.to.0 n -ℤ pos (task_at graph edge.to.0).wcet)) (sym (same task.0 i comes))
       (subst (λ (x : ℤ). earliest_of graph date edge.to.0 (successors edge.ops m).lowest (count_in (successors edge.ops m)) best
       ≤ℤ (date edge.to.0 x -ℤ pos (task_at graph edge.to.0).wcet)) (sym at.2)
-      (of-each edge.to.0 (successors edge.ops m).lowest (count_in (successors edge.ops m)) best at.0 at.1))
+      (of_each edge.to.0 (successors edge.ops m).lowest (count_in (successors edge.ops m)) best at.0 at.1))
 
-  earliest-asks : (i : ℕ) (m : ℤ) (edges : List Edge) (best : ℤ) (k : ℕ) (edge : Edge) → slice_get edges k ≡ Some edge → ComesFrom edge.from i →
+  earliest_asks : (i : ℕ) (m : ℤ) (edges : List Edge) (best : ℤ) (k : ℕ) (edge : Edge) → slice_get edges k ≡ Some edge → ComesFrom edge.from i →
       (n : ℤ) → IsIn n (successors edge.ops m) → earliest graph date i m edges best ≤ℤ (date edge.to.0 n -ℤ pos (task_at graph edge.to.0).wcet)
-  earliest-asks i m [] best k edge is comes n inside = cc
-  earliest-asks i m (x ∷ rest) best zero edge is comes n inside =
+  earliest_asks i m [] best k edge is comes n inside = cc
+  earliest_asks i m (x ∷ rest) best zero edge is comes n inside =
       let one : x ≡ edge = cc in
-      le-through (earliest graph date i m rest (needed_by graph date i m x x.from best)) (needed_by graph date i m x x.from best)
+      le_through (earliest graph date i m rest (needed_by graph date i m x x.from best)) (needed_by graph date i m x x.from best)
       (date edge.to.0 n -ℤ pos (task_at graph edge.to.0).wcet)
-      (earliest-below i m rest (needed_by graph date i m x x.from best))
+      (earliest_below i m rest (needed_by graph date i m x x.from best))
       (subst (λ (y : Edge). needed_by graph date i m y y.from best ≤ℤ (date edge.to.0 n -ℤ pos (task_at graph edge.to.0).wcet)) (sym one)
-      (asks-this i m edge edge.from best comes n inside))
-  earliest-asks i m (x ∷ rest) best (suc k) edge is comes n inside =
-      earliest-asks i m rest (needed_by graph date i m x x.from best) k edge is comes n inside
+      (asks_this i m edge edge.from best comes n inside))
+  earliest_asks i m (x ∷ rest) best (suc k) edge is comes n inside =
+      earliest_asks i m rest (needed_by graph date i m x x.from best) k edge is comes n inside
 
 module _ (graph : TaskGraph) (good : IsWellFormed graph) where
   -- what is above another family of deadlines stays so in a round
-  needed-above : (date other : Family) → AreDeadlines graph other → ((j : ℕ) (n : ℤ) → j < length graph.tasks → other j n ≤ℤ date j n) →
+  needed_above : (date other : Family) → AreDeadlines graph other → ((j : ℕ) (n : ℤ) → j < length graph.tasks → other j n ≤ℤ date j n) →
       (i : ℕ) (m : ℤ) (edge : Edge) (e : ℕ) → slice_get graph.edges e ≡ Some edge → (from : Producer) → edge.from ≡ from → (best : ℤ) → other i m ≤ℤ best →
       other i m ≤ℤ needed_by graph date i m edge from best
-  needed-above date other are above i m edge e stands (producers.Constant value) from best h = h
-  needed-above date other are above i m edge e stands (producers.Port task out) from best h =
-      step (eqb task.0 i) (λ test. each-above graph date edge.to.0 (successors edge.ops m).lowest (count_in (successors edge.ops m)) best (other i m) h
+  needed_above date other are above i m edge e stands (producers.Constant value) from best h = h
+  needed_above date other are above i m edge e stands (producers.Port task out) from best h =
+      step (eqb task.0 i) (λ test. each_above graph date edge.to.0 (successors edge.ops m).lowest (count_in (successors edge.ops m)) best (other i m) h
       (λ k inside. asks (equal task.0 i test) k inside))
     where
       step : (b : Bool) → (b ≡ true → other i m ≤ℤ earliest_of graph date edge.to.0 (successors edge.ops m).lowest (count_in (successors edge.ops m)) best) →
@@ -158,7 +158,7 @@ module _ (graph : TaskGraph) (good : IsWellFormed graph) where
           let n : ℤ = (successors edge.ops m).lowest +ℤ pos k in
           let is : IsEdge graph edge = good.edges e edge stands in
           let number : preceding edge.ops n ≡ m =
-          (following-in edge.ty edge.ops is.operators m n).0 (counted-in (successors edge.ops m) k inside) in
+          (following_in edge.ty edge.ops is.operators m n).0 (counted_in (successors edge.ops m) k inside) in
           let comes : ComesFrom edge.from i = subst (λ (p : Producer). ComesFrom p i) (sym from) own in
           let along : (other i m +ℤ pos (task_at graph edge.to.0).wcet) ≤ℤ other edge.to.0 n =
           are.along (record { task = i; number = m }) (record { task = edge.to.0; number = n })
@@ -166,25 +166,25 @@ module _ (graph : TaskGraph) (good : IsWellFormed graph) where
           let upper : other edge.to.0 n ≤ℤ date edge.to.0 n = above edge.to.0 n is.to in
           omega (arith, ints, along, upper)
 
-  earliest-above : (date other : Family) → AreDeadlines graph other → ((j : ℕ) (n : ℤ) → j < length graph.tasks → other j n ≤ℤ date j n) →
+  earliest_above : (date other : Family) → AreDeadlines graph other → ((j : ℕ) (n : ℤ) → j < length graph.tasks → other j n ≤ℤ date j n) →
       (i : ℕ) (m : ℤ) (edges : List Edge) → ((k : ℕ) (edge : Edge) → slice_get edges k ≡ Some edge → (e : ℕ) × (slice_get graph.edges e ≡ Some edge)) →
       (best : ℤ) → other i m ≤ℤ best → other i m ≤ℤ earliest graph date i m edges best
-  earliest-above date other are above i m [] stand best h = h
-  earliest-above date other are above i m (edge ∷ rest) stand best h =
+  earliest_above date other are above i m [] stand best h = h
+  earliest_above date other are above i m (edge ∷ rest) stand best h =
       let here = stand 0 edge refl in
-      earliest-above date other are above i m rest (λ k x is. stand (suc k) x is) (needed_by graph date i m edge edge.from best)
-      (needed-above date other are above i m edge here.0 here.1 edge.from refl best h)
+      earliest_above date other are above i m rest (λ k x is. stand (suc k) x is) (needed_by graph date i m edge edge.from best)
+      (needed_above date other are above i m edge here.0 here.1 edge.from refl best h)
 
-  pub rounds-above : (other : Family) → AreDeadlines graph other → (rounds i : ℕ) (m : ℤ) → i < length graph.tasks → other i m ≤ℤ deadlines_after graph rounds i m
-  rounds-above other are zero i m inside = are.below i m inside
-  rounds-above other are (suc rounds) i m inside =
-      earliest-above (deadlines_after graph rounds) other are (λ j n h. rounds-above other are rounds j n h) i m graph.edges (λ k edge is. (k, is))
+  pub rounds_above : (other : Family) → AreDeadlines graph other → (rounds i : ℕ) (m : ℤ) → i < length graph.tasks → other i m ≤ℤ deadlines_after graph rounds i m
+  rounds_above other are zero i m inside = are.below i m inside
+  rounds_above other are (suc rounds) i m inside =
+      earliest_above (deadlines_after graph rounds) other are (λ j n h. rounds_above other are rounds j n h) i m graph.edges (λ k edge is. (k, is))
       (deadline_of (task_at graph i) m) (are.below i m inside)
 
-  fixed-deadlines : (rounds : ℕ) → AreFixedDeadlines graph rounds → AreDeadlines graph (deadlines_after graph rounds)
-  fixed-deadlines rounds still = record {
+  fixed_deadlines : (rounds : ℕ) → AreFixedDeadlines graph rounds → AreDeadlines graph (deadlines_after graph rounds)
+  fixed_deadlines rounds still = record {
     below = λ i m inside. subst (λ (x : ℤ). x ≤ℤ deadline_of (task_at graph i) m) (still i m inside)
-        (earliest-below graph (deadlines_after graph rounds) i m graph.edges (deadline_of (task_at graph i) m));
+        (earliest_below graph (deadlines_after graph rounds) i m graph.edges (deadline_of (task_at graph i) m));
     along = along;
   }
     where
@@ -194,21 +194,21 @@ module _ (graph : TaskGraph) (good : IsWellFormed graph) where
           let edge : Edge = h.1 in
           let is : PrecedesAlong graph edge before after = h.3 in
           let wf : IsEdge graph edge = good.edges h.0 edge h.2 in
-          let inside : before.task < length graph.tasks = source-inside graph edge wf edge.from refl before.task is.from in
+          let inside : before.task < length graph.tasks = source_inside graph edge wf edge.from refl before.task is.from in
           let there : IsIn after.number (successors edge.ops before.number) =
-          (following-in edge.ty edge.ops wf.operators before.number after.number).1 (sym is.number) in
+          (following_in edge.ty edge.ops wf.operators before.number after.number).1 (sym is.number) in
           let asked : earliest graph (deadlines_after graph rounds) before.task before.number graph.edges (deadline_of (task_at graph before.task) before.number)
           ≤ℤ (deadlines_after graph rounds after.task after.number -ℤ pos (task_at graph after.task).wcet) =
           subst (λ (x : ℕ). earliest graph (deadlines_after graph rounds) before.task before.number graph.edges (deadline_of (task_at graph before.task) before.number)
           ≤ℤ (deadlines_after graph rounds x after.number -ℤ pos (task_at graph x).wcet)) is.to
-          (earliest-asks graph (deadlines_after graph rounds) before.task before.number graph.edges (deadline_of (task_at graph before.task) before.number)
+          (earliest_asks graph (deadlines_after graph rounds) before.task before.number graph.edges (deadline_of (task_at graph before.task) before.number)
           h.0 edge h.2 is.from after.number there) in
           let now : deadlines_after graph rounds before.task before.number ≤ℤ (deadlines_after graph rounds after.task after.number -ℤ pos (task_at graph after.task).wcet) =
           subst (λ (x : ℤ). x ≤ℤ (deadlines_after graph rounds after.task after.number -ℤ pos (task_at graph after.task).wcet)) (still before.task before.number inside) asked in
           omega (arith, ints, now)
 
-  pub still-greatest : (rounds : ℕ) → AreFixedDeadlines graph rounds → AreGreatestDeadlines graph (deadlines_after graph rounds)
-  still-greatest rounds still = record {
-    deadlines = fixed-deadlines rounds still;
-    greatest = λ other are i m inside. rounds-above other are rounds i m inside;
+  pub still_greatest : (rounds : ℕ) → AreFixedDeadlines graph rounds → AreGreatestDeadlines graph (deadlines_after graph rounds)
+  still_greatest rounds still = record {
+    deadlines = fixed_deadlines rounds still;
+    greatest = λ other are i m inside. rounds_above other are rounds i m inside;
   }

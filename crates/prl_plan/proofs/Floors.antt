@@ -6,33 +6,33 @@ use Rattle.std.proofs.Math.IntN.{zero-*ℤ, suc_ℤ-*ℤ, pos-*ℤ-pos, pos-*ℤ
 use lib.IntN.{suc_ℤ, pred_ℤ}
 use Rattle.prl_base.specs.Operators.{floor_div}
 
-pub suc-is : (n : ℤ) → suc_ℤ n ≡ n +ℤ pos 1
-suc-is (pos n) = omega (arith, ints)
-suc-is (negsuc zero) = refl
-suc-is (negsuc (suc n)) = omega (arith, ints)
+pub suc_is : (n : ℤ) → suc_ℤ n ≡ n +ℤ pos 1
+suc_is (pos n) = omega (arith, ints)
+suc_is (negsuc zero) = refl
+suc_is (negsuc (suc n)) = omega (arith, ints)
 
-pub pred-is : (n : ℤ) → pred_ℤ n +ℤ pos 1 ≡ n
-pred-is (pos zero) = refl
-pred-is (pos (suc n)) = omega (arith, ints)
-pred-is (negsuc n) = omega (arith, ints)
+pub pred_is : (n : ℤ) → pred_ℤ n +ℤ pos 1 ≡ n
+pred_is (pos zero) = refl
+pred_is (pos (suc n)) = omega (arith, ints)
+pred_is (negsuc n) = omega (arith, ints)
 
 -- a product with a natural number keeps the order
 pub mono : (k : ℕ) (a b : ℤ) → a ≤ℤ b → (pos k *ℤ a) ≤ℤ (pos k *ℤ b)
 mono zero a b h = rw (zero-*ℤ a, zero-*ℤ b) (omega (arith, ints))
 mono (suc k) a b h = rw (suc_ℤ-*ℤ (pos k) a, suc_ℤ-*ℤ (pos k) b) (let g = mono k a b h in omega (arith, ints, g, h))
 
-mul-next : (k : ℕ) (a : ℤ) → pos k *ℤ (a +ℤ pos 1) ≡ (pos k *ℤ a) +ℤ pos k
-mul-next zero a = rw (zero-*ℤ (a +ℤ pos 1), zero-*ℤ a) refl
-mul-next (suc k) a = rw (suc_ℤ-*ℤ (pos k) (a +ℤ pos 1), suc_ℤ-*ℤ (pos k) a) (let g = mul-next k a in omega (arith, ints, g))
+mul_next : (k : ℕ) (a : ℤ) → pos k *ℤ (a +ℤ pos 1) ≡ (pos k *ℤ a) +ℤ pos k
+mul_next zero a = rw (zero-*ℤ (a +ℤ pos 1), zero-*ℤ a) refl
+mul_next (suc k) a = rw (suc_ℤ-*ℤ (pos k) (a +ℤ pos 1), suc_ℤ-*ℤ (pos k) a) (let g = mul_next k a in omega (arith, ints, g))
 
-mul-neg : (k : ℕ) (a : ℤ) → pos k *ℤ neg_ℤ a ≡ neg_ℤ (pos k *ℤ a)
-mul-neg zero a = rw (zero-*ℤ (neg_ℤ a), zero-*ℤ a) refl
-mul-neg (suc k) a = rw (suc_ℤ-*ℤ (pos k) (neg_ℤ a), suc_ℤ-*ℤ (pos k) a) (let g = mul-neg k a in omega (arith, ints, g))
+mul_neg : (k : ℕ) (a : ℤ) → pos k *ℤ neg_ℤ a ≡ neg_ℤ (pos k *ℤ a)
+mul_neg zero a = rw (zero-*ℤ (neg_ℤ a), zero-*ℤ a) refl
+mul_neg (suc k) a = rw (suc_ℤ-*ℤ (pos k) (neg_ℤ a), suc_ℤ-*ℤ (pos k) a) (let g = mul_neg k a in omega (arith, ints, g))
 
--- what is left of n behind the quotient
-floor-rest : (n : ℤ) (k : ℕ) → 1 ≤ k → (r : ℕ) × (r < k) × (n ≡ (pos k *ℤ floor_div n k) +ℤ pos r)
-floor-rest (pos n) k some = (n % k, omega arith, (let e : k * (n / k) + n % k ≡ n = omega arith in let z = pos-*ℤ-pos k (n / k) in omega (arith, ints, e, z)))
-floor-rest (negsuc n) k some = (
+-- what is left of n after the quotient
+floor_rest : (n : ℤ) (k : ℕ) → 1 ≤ k → (r : ℕ) × (r < k) × (n ≡ (pos k *ℤ floor_div n k) +ℤ pos r)
+floor_rest (pos n) k some = (n % k, omega arith, (let e : k * (n / k) + n % k ≡ n = omega arith in let z = pos-*ℤ-pos k (n / k) in omega (arith, ints, e, z)))
+floor_rest (negsuc n) k some = (
   k - 1 - n % k,
   omega arith,
   (let e : k * (n / k) + n % k ≡ n = omega arith in
@@ -42,35 +42,35 @@ floor-rest (negsuc n) k some = (
       omega (arith, ints, e, s, b, z)),
 )
 
-pub floor-least : (n x : ℤ) (k : ℕ) → 1 ≤ k → (x ≤ℤ floor_div n k) ↔ ((pos k *ℤ x) ≤ℤ n)
-floor-least n x k some =
-    let rest = floor-rest n k some in
+pub floor_least : (n x : ℤ) (k : ℕ) → 1 ≤ k → (x ≤ℤ floor_div n k) ↔ ((pos k *ℤ x) ≤ℤ n)
+floor_least n x k some =
+    let rest = floor_rest n k some in
     let q : ℤ = floor_div n k in (
       (λ h. (let g = mono k x q h in omega (arith, ints, g, rest.2))),
       (λ h. by_lt_z q x
           (λ below. (let g : (pos k *ℤ (q +ℤ pos 1)) ≤ℤ (pos k *ℤ x) = mono k (q +ℤ pos 1) x (omega (arith, ints, below)) in
-          let e = mul-next k q in
+          let e = mul_next k q in
           absurd (omega (arith, ints, g, e, h, rest.1, rest.2))))
           (λ above. above)),
     )
 
-pub floor-most : (n y : ℤ) (k : ℕ) → 1 ≤ k → (floor_div n k ≤ℤ y) ↔ (n ≤ℤ ((pos k *ℤ y) +ℤ pos (k - 1)))
-floor-most n y k some =
-    let rest = floor-rest n k some in
+pub floor_most : (n y : ℤ) (k : ℕ) → 1 ≤ k → (floor_div n k ≤ℤ y) ↔ (n ≤ℤ ((pos k *ℤ y) +ℤ pos (k - 1)))
+floor_most n y k some =
+    let rest = floor_rest n k some in
     let q : ℤ = floor_div n k in (
       (λ h. (let g = mono k q y h in omega (arith, ints, g, rest.1, rest.2))),
       (λ h. by_lt_z y q
           (λ below. (let g : (pos k *ℤ (y +ℤ pos 1)) ≤ℤ (pos k *ℤ q) = mono k (y +ℤ pos 1) q (omega (arith, ints, below)) in
-          let e = mul-next k y in
+          let e = mul_next k y in
           absurd (omega (arith, ints, g, e, h, rest.1, rest.2))))
           (λ above. above)),
     )
 
 -- the quotient rounded up, by that of the opposite
-pub ceiling-least : (l n : ℤ) (k : ℕ) → 1 ≤ k → (neg_ℤ (floor_div (neg_ℤ l) k) ≤ℤ n) ↔ (l ≤ℤ (pos k *ℤ n))
-ceiling-least l n k some =
-    let f = floor-least (neg_ℤ l) (neg_ℤ n) k some in
-    let e = mul-neg k n in (
+pub ceiling_least : (l n : ℤ) (k : ℕ) → 1 ≤ k → (neg_ℤ (floor_div (neg_ℤ l) k) ≤ℤ n) ↔ (l ≤ℤ (pos k *ℤ n))
+ceiling_least l n k some =
+    let f = floor_least (neg_ℤ l) (neg_ℤ n) k some in
+    let e = mul_neg k n in (
       (λ h. (let g = f.0 (omega (arith, ints, h)) in omega (arith, ints, g, e))),
       (λ h. (let g = f.1 (omega (arith, ints, h, e)) in omega (arith, ints, g))),
     )

@@ -16,8 +16,8 @@ use Rattle.prl_plan.specs.Plans.{PlanView, place_on, cell_of, low, high, both_wr
 abbrev pub IsPaired : List Action → Type 0
 IsPaired xs = (k : ℕ) → IsHigh (get_or xs k actions.End) → (j : ℕ) × (k ≡ j + 1) × (get_or xs j actions.End ≡ low_of (get_or xs k actions.End))
 
-pub paired-both : (xs ys : List Action) → IsPaired xs → IsPaired ys → IsPaired (xs ++ ys)
-paired-both xs ys first second k is =
+pub paired_both : (xs ys : List Action) → IsPaired xs → IsPaired ys → IsPaired (xs ++ ys)
+paired_both xs ys first second k is =
     elim (cases_lt k (length xs)) [
       | inl below ↦
           (let e : get_or (xs ++ ys) k actions.End ≡ get_or xs k actions.End = get_or_append_left xs ys actions.End k below in
@@ -34,55 +34,55 @@ paired-both xs ys first second k is =
           (length xs + r.0, omega (arith, at, above), get_or-append-add xs ys r.0 actions.End ∙ r.2 ∙ ap (λ (a : Action). low_of a) (sym e)))
     ]
 
-paired-none : IsPaired []
-paired-none k is = absurd is
+paired_none : IsPaired []
+paired_none k is = absurd is
 
-paired-one : (x : Action) → (IsHigh x → ⊥) → IsPaired (x ∷ [])
-paired-one x not zero is = absurd (not is)
-paired-one x not (suc k) is = absurd is
+paired_one : (x : Action) → (IsHigh x → ⊥) → IsPaired (x ∷ [])
+paired_one x not zero is = absurd (not is)
+paired_one x not (suc k) is = absurd is
 
-paired-two : (x y : Action) → (IsHigh x → ⊥) → x ≡ low_of y → IsPaired (x ∷ y ∷ [])
-paired-two x y not of zero is = absurd (not is)
-paired-two x y not of (suc zero) is = (0, (let e : 1 ≡ 0 + 1 = omega arith in e), of)
-paired-two x y not of (suc (suc k)) is = absurd is
+paired_two : (x y : Action) → (IsHigh x → ⊥) → x ≡ low_of y → IsPaired (x ∷ y ∷ [])
+paired_two x y not of zero is = absurd (not is)
+paired_two x y not of (suc zero) is = (0, (let e : 1 ≡ 0 + 1 = omega arith in e), of)
+paired_two x y not of (suc (suc k)) is = absurd is
 
-paired-if : (b : Bool) (xs : List Action) → IsPaired xs → IsPaired (cond b xs [])
-paired-if true xs is = is
-paired-if false xs is = paired-none
+paired_if : (b : Bool) (xs : List Action) → IsPaired xs → IsPaired (cond b xs [])
+paired_if true xs is = is
+paired_if false xs is = paired_none
 
-not-odd : (cell : ℕ) → (other : ℕ) × (low cell ≡ high other) → ⊥
-not-odd cell is = (let e : 2 * cell ≡ 2 * is.0 + 1 = is.1 in omega (arith, e))
+not_odd : (cell : ℕ) → (other : ℕ) × (low cell ≡ high other) → ⊥
+not_odd cell is = (let e : 2 * cell ≡ 2 * is.0 + 1 = is.1 in omega (arith, e))
 
 module _ (plan : PlanView) (i n : ℕ) where
-  paired-reading : (e : ℕ) (edge : Edge) (operand : Operand) → IsPaired (reading plan e edge operand)
-  paired-reading e edge (operands.Const c) = paired-one (actions.ReadConst edge.port c) (λ x. x)
-  paired-reading e edge (operands.From m) =
-      paired-two (actions.Read edge.port (record { 0 = e }) m (record { 0 = low (cell_of plan e m) }))
-      (actions.Read edge.port (record { 0 = e }) m (record { 0 = high (cell_of plan e m) })) (not-odd (cell_of plan e m))
+  paired_reading : (e : ℕ) (edge : Edge) (operand : Operand) → IsPaired (reading plan e edge operand)
+  paired_reading e edge (operands.Const c) = paired_one (actions.ReadConst edge.port c) (λ x. x)
+  paired_reading e edge (operands.From m) =
+      paired_two (actions.Read edge.port (record { 0 = e }) m (record { 0 = low (cell_of plan e m) }))
+      (actions.Read edge.port (record { 0 = e }) m (record { 0 = high (cell_of plan e m) })) (not_odd (cell_of plan e m))
       (ap (λ (x : ℕ). actions.Read edge.port (record { 0 = e }) m (record { 0 = x })) (let z : low (cell_of plan e m) ≡ high (cell_of plan e m) - 1 = omega arith in z))
 
-  paired-reads : (e : ℕ) (edges : List Edge) → IsPaired (reads_of plan i n e edges)
-  paired-reads e [] = paired-none
-  paired-reads e (edge ∷ edges) =
-      paired-both (cond (eqb edge.to.0 i) (reading plan e edge (operand_of edge n)) []) (reads_of plan i n (e + 1) edges)
-      (paired-if (eqb edge.to.0 i) (reading plan e edge (operand_of edge n)) (paired-reading e edge (operand_of edge n))) (paired-reads (e + 1) edges)
+  paired_reads : (e : ℕ) (edges : List Edge) → IsPaired (reads_of plan i n e edges)
+  paired_reads e [] = paired_none
+  paired_reads e (edge ∷ edges) =
+      paired_both (cond (eqb edge.to.0 i) (reading plan e edge (operand_of edge n)) []) (reads_of plan i n (e + 1) edges)
+      (paired_if (eqb edge.to.0 i) (reading plan e edge (operand_of edge n)) (paired_reading e edge (operand_of edge n))) (paired_reads (e + 1) edges)
 
-  paired-writing : (e : ℕ) (from : Producer) → IsPaired (writing plan i n e from)
-  paired-writing e (producers.Constant value) = paired-none
-  paired-writing e (producers.Port task out) =
-      paired-if (eqb task.0 i) (cond (is_some (place_on plan e n)) (both_writes plan e n) [])
-      (paired-if (is_some (place_on plan e n)) (both_writes plan e n)
-      (paired-two (actions.Write (record { 0 = e }) n (record { 0 = low (cell_of plan e n) }))
-      (actions.Write (record { 0 = e }) n (record { 0 = high (cell_of plan e n) })) (not-odd (cell_of plan e n))
+  paired_writing : (e : ℕ) (from : Producer) → IsPaired (writing plan i n e from)
+  paired_writing e (producers.Constant value) = paired_none
+  paired_writing e (producers.Port task out) =
+      paired_if (eqb task.0 i) (cond (is_some (place_on plan e n)) (both_writes plan e n) [])
+      (paired_if (is_some (place_on plan e n)) (both_writes plan e n)
+      (paired_two (actions.Write (record { 0 = e }) n (record { 0 = low (cell_of plan e n) }))
+      (actions.Write (record { 0 = e }) n (record { 0 = high (cell_of plan e n) })) (not_odd (cell_of plan e n))
       (ap (λ (x : ℕ). actions.Write (record { 0 = e }) n (record { 0 = x })) (let z : low (cell_of plan e n) ≡ high (cell_of plan e n) - 1 = omega arith in z))))
 
-  paired-writes : (e : ℕ) (edges : List Edge) → IsPaired (writes_of plan i n e edges)
-  paired-writes e [] = paired-none
-  paired-writes e (edge ∷ edges) =
-      paired-both (writing plan i n e edge.from) (writes_of plan i n (e + 1) edges) (paired-writing e edge.from) (paired-writes (e + 1) edges)
+  paired_writes : (e : ℕ) (edges : List Edge) → IsPaired (writes_of plan i n e edges)
+  paired_writes e [] = paired_none
+  paired_writes e (edge ∷ edges) =
+      paired_both (writing plan i n e edge.from) (writes_of plan i n (e + 1) edges) (paired_writing e edge.from) (paired_writes (e + 1) edges)
 
-  pub actions-paired : IsPaired (actions_of plan i n)
-  actions-paired =
-      paired-both (reads_of plan i n 0 plan.graph.edges ++ writes_of plan i n 0 plan.graph.edges) (actions.End ∷ [])
-      (paired-both (reads_of plan i n 0 plan.graph.edges) (writes_of plan i n 0 plan.graph.edges)
-      (paired-reads 0 plan.graph.edges) (paired-writes 0 plan.graph.edges)) (paired-one actions.End (λ x. x))
+  pub actions_paired : IsPaired (actions_of plan i n)
+  actions_paired =
+      paired_both (reads_of plan i n 0 plan.graph.edges ++ writes_of plan i n 0 plan.graph.edges) (actions.End ∷ [])
+      (paired_both (reads_of plan i n 0 plan.graph.edges) (writes_of plan i n 0 plan.graph.edges)
+      (paired_reads 0 plan.graph.edges) (paired_writes 0 plan.graph.edges)) (paired_one actions.End (λ x. x))

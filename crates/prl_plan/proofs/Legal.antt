@@ -10,7 +10,7 @@ use Rattle.prl_plan.specs.Runs.{RunConstants, ExecState, next_action, after_even
 use Rattle.prl_plan.specs.Rules.{IsUnfinished, HasJob, ActsReleased, ActsFirst, FindsTag, KeepsGated, KeepsLegal, IsGated, IsLegal}
 use Rattle.prl_plan.specs.Facts.{IsJob, ReadsAt, WritesAt, Provides, HasPlanFacts}
 use Rattle.prl_plan.specs.States.{IsSound}
-use Rattle.prl_plan.proofs.Sound.{sound-event}
+use Rattle.prl_plan.proofs.Sound.{sound_event}
 
 module _ (c : RunConstants) (facts : HasPlanFacts c) where
   -- a legal read finds its instance: its writer comes earlier, and has ended
@@ -47,16 +47,16 @@ module _ (c : RunConstants) (facts : HasPlanFacts c) where
   legal_gated s sound (events.Act task) keeps =
       (keeps.0, keeps.1, legal_finds s sound task.0 keeps.0 keeps.1 keeps.2 (next_action c s task.0) refl)
 
-  pub IsLegal-gated : (s : ExecState) → IsSound c s → (list : List Event) → IsLegal c s list → IsGated c s list
-  IsLegal-gated s sound [] legal = tt
-  IsLegal-gated s sound (event ∷ list) legal =
+  pub IsLegal_gated : (s : ExecState) → IsSound c s → (list : List Event) → IsLegal c s list → IsGated c s list
+  IsLegal_gated s sound [] legal = tt
+  IsLegal_gated s sound (event ∷ list) legal =
       let keeps : KeepsGated c s event = legal_gated s sound event legal.0 in
-      (keeps, IsLegal-gated (after_event c s event) (sound-event c facts s sound event keeps) list legal.1)
+      (keeps, IsLegal_gated (after_event c s event) (sound_event c facts s sound event keeps) list legal.1)
 
-  pub IsGated-sound : (s : ExecState) → IsSound c s → (list : List Event) → IsGated c s list → IsSound c (after_events c s list)
-  IsGated-sound s sound [] gated = sound
-  IsGated-sound s sound (event ∷ list) gated =
-      IsGated-sound (after_event c s event) (sound-event c facts s sound event gated.0) list gated.1
+  pub IsGated_sound : (s : ExecState) → IsSound c s → (list : List Event) → IsGated c s list → IsSound c (after_events c s list)
+  IsGated_sound s sound [] gated = sound
+  IsGated_sound s sound (event ∷ list) gated =
+      IsGated_sound (after_event c s event) (sound_event c facts s sound event gated.0) list gated.1
 
   -- a write finds its cell empty, or holding an instance whose readers have ended
   pub write_finds_free : (s : ExecState) → IsSound c s → (i : ℕ) (e : EdgeNo) (m cell : ℕ) → HasJob c s i → ActsReleased c s i →

@@ -1,34 +1,34 @@
--- for the crates above: lists of numbers with a place set
+-- For the crates above: lemmas over public definitions.
 pub mod Places
-pub mod Halves
-pub mod Ports
-pub mod Tagged
-pub mod Sound
-pub mod Legal
-pub mod Runs
-pub mod TwoTasks
-pub mod Counts
-pub mod TwoFacts
-pub mod TwoHorizon
-pub mod Actions
-pub mod RoundSteps
-pub mod RoundLaws
-pub mod Floors
-pub mod IntervalLaws
-pub mod DeadlineLaws
-pub mod DeadlineSteps
-pub mod WalkLaws
-pub mod UsedLaws
-pub mod ActionPlaces
-pub mod PlanFacts
-pub mod ReadPlaces
-pub mod Periods
-pub mod RoundPeriods
-pub mod JobTableLaws
-pub mod ReaderLaws
-pub mod GapLaws
-pub mod CellPeriods
-pub mod LastTags
-mod Progress
--- for the crates above: lemmas over public definitions
 pub mod StateLaws
+pub mod TwoTasks
+-- For this crate alone.
+mod Halves
+mod Ports
+mod Tagged
+mod Sound
+mod Legal
+mod Runs
+mod Counts
+mod TwoFacts
+mod TwoHorizon
+mod Actions
+mod RoundSteps
+mod RoundLaws
+mod Floors
+mod IntervalLaws
+mod DeadlineLaws
+mod DeadlineSteps
+mod WalkLaws
+mod UsedLaws
+mod ActionPlaces
+mod PlanFacts
+mod ReadPlaces
+mod Periods
+mod RoundPeriods
+mod JobTableLaws
+mod ReaderLaws
+mod GapLaws
+mod CellPeriods
+mod LastTags
+mod Progress

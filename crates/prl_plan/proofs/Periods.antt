@@ -16,38 +16,38 @@ use Rattle.prl_base.specs.Operators.{floor_div}
 use Rattle.prl_plan.specs.Precedence.{preceding}
 use Rattle.prl_plan.specs.declared.deadlines.Interval.{Interval}
 use Rattle.prl_plan.specs.Intervals.{preimage, successors}
-use Rattle.prl_plan.proofs.Floors.{floor-least, suc-is, pred-is}
+use Rattle.prl_plan.proofs.Floors.{floor_least, suc_is, pred_is}
 
-pub mul-plus : (k c : ℕ) (a : ℤ) → pos k *ℤ (a +ℤ pos c) ≡ (pos k *ℤ a) +ℤ pos (k * c)
-mul-plus zero c a = rw (zero-*ℤ (a +ℤ pos c), zero-*ℤ a) (let e : 0 * c ≡ 0 = omega arith in omega (arith, ints, e))
-mul-plus (suc k) c a =
+pub mul_plus : (k c : ℕ) (a : ℤ) → pos k *ℤ (a +ℤ pos c) ≡ (pos k *ℤ a) +ℤ pos (k * c)
+mul_plus zero c a = rw (zero-*ℤ (a +ℤ pos c), zero-*ℤ a) (let e : 0 * c ≡ 0 = omega arith in omega (arith, ints, e))
+mul_plus (suc k) c a =
     rw (suc_ℤ-*ℤ (pos k) (a +ℤ pos c), suc_ℤ-*ℤ (pos k) a)
-    (let g = mul-plus k c a in let e : suc k * c ≡ k * c + c = omega arith in omega (arith, ints, g, e))
+    (let g = mul_plus k c a in let e : suc k * c ≡ k * c + c = omega arith in omega (arith, ints, g, e))
 
-pub plus-mul : (a : ℤ) (c t : ℕ) → (a +ℤ pos c) *ℤ pos t ≡ (a *ℤ pos t) +ℤ pos (c * t)
-plus-mul a c t =
-    *ℤ_comm (a +ℤ pos c) (pos t) ∙ mul-plus t c a ∙ ap (λ (z : ℤ). z +ℤ pos (t * c)) (*ℤ_comm (pos t) a)
+pub plus_mul : (a : ℤ) (c t : ℕ) → (a +ℤ pos c) *ℤ pos t ≡ (a *ℤ pos t) +ℤ pos (c * t)
+plus_mul a c t =
+    *ℤ_comm (a +ℤ pos c) (pos t) ∙ mul_plus t c a ∙ ap (λ (z : ℤ). z +ℤ pos (t * c)) (*ℤ_comm (pos t) a)
     ∙ ap (λ (z : ℕ). (a *ℤ pos t) +ℤ pos z) (let e : t * c ≡ c * t = omega arith in e)
 
-le-self : (a : ℤ) → a ≤ℤ a
-le-self a = omega (arith, ints)
+le_self : (a : ℤ) → a ≤ℤ a
+le_self a = omega (arith, ints)
 
-pub floor-shift : (n : ℤ) (k c : ℕ) → 1 ≤ k → floor_div (n +ℤ pos (k * c)) k ≡ floor_div n k +ℤ pos c
-floor-shift n k c some =
+pub floor_shift : (n : ℤ) (k c : ℕ) → 1 ≤ k → floor_div (n +ℤ pos (k * c)) k ≡ floor_div n k +ℤ pos c
+floor_shift n k c some =
     let q : ℤ = floor_div n k in
     let p : ℤ = floor_div (n +ℤ pos (k * c)) k in
-    let a : (pos k *ℤ q) ≤ℤ n = (floor-least n q k some).0 (le-self q) in
-    let b : (pos k *ℤ p) ≤ℤ (n +ℤ pos (k * c)) = (floor-least (n +ℤ pos (k * c)) p k some).0 (le-self p) in
-    let up : (q +ℤ pos c) ≤ℤ p = (floor-least (n +ℤ pos (k * c)) (q +ℤ pos c) k some).1 (let g = mul-plus k c q in omega (arith, ints, a, g)) in
+    let a : (pos k *ℤ q) ≤ℤ n = (floor_least n q k some).0 (le_self q) in
+    let b : (pos k *ℤ p) ≤ℤ (n +ℤ pos (k * c)) = (floor_least (n +ℤ pos (k * c)) p k some).0 (le_self p) in
+    let up : (q +ℤ pos c) ≤ℤ p = (floor_least (n +ℤ pos (k * c)) (q +ℤ pos c) k some).1 (let g = mul_plus k c q in omega (arith, ints, a, g)) in
     let back : (p -ℤ pos c) +ℤ pos c ≡ p = omega (arith, ints) in
     let down : (p -ℤ pos c) ≤ℤ q =
-    (floor-least n (p -ℤ pos c) k some).1
-    (let g : pos k *ℤ p ≡ (pos k *ℤ (p -ℤ pos c)) +ℤ pos (k * c) = ap (λ (z : ℤ). pos k *ℤ z) (sym back) ∙ mul-plus k c (p -ℤ pos c) in
+    (floor_least n (p -ℤ pos c) k some).1
+    (let g : pos k *ℤ p ≡ (pos k *ℤ (p -ℤ pos c)) +ℤ pos (k * c) = ap (λ (z : ℤ). pos k *ℤ z) (sym back) ∙ mul_plus k c (p -ℤ pos c) in
     omega (arith, ints, b, g)) in
     omega (arith, ints, up, down)
 
-pub cancel-right : (a b p : ℕ) → 1 ≤ p → a * p ≡ b * p → a ≡ b
-cancel-right a b p some same =
+pub cancel_right : (a b p : ℕ) → 1 ≤ p → a * p ≡ b * p → a ≡ b
+cancel_right a b p some same =
     elim (cases_lt a b) [
       | inl below ↦ absurd
           (let up : (a + 1) * p ≤ b * p = mul-le-mul_right p (let g : a + 1 ≤ b = omega arith in g) in
@@ -63,139 +63,139 @@ cancel-right a b p some same =
           ]
     ]
 
-pub clock-divides : (hyper : ℕ) (ops : List Op) (producer consumer : Clock) → TakeClock hyper ops producer consumer →
+pub clock_divides : (hyper : ℕ) (ops : List Op) (producer consumer : Clock) → TakeClock hyper ops producer consumer →
     (1 ≤ consumer.period) × Divides consumer.period hyper
-clock-divides hyper [] producer consumer takes = (takes.0, takes.1)
-clock-divides hyper (op ∷ ops) producer consumer takes = (takes.0, takes.1)
+clock_divides hyper [] producer consumer takes = (takes.0, takes.1)
+clock_divides hyper (op ∷ ops) producer consumer takes = (takes.0, takes.1)
 
-suc-plus : (n : ℤ) (c : ℕ) → suc_ℤ (n +ℤ pos c) ≡ suc_ℤ n +ℤ pos c
-suc-plus n c = (let a = suc-is (n +ℤ pos c) in let b = suc-is n in omega (arith, ints, a, b))
+suc_plus : (n : ℤ) (c : ℕ) → suc_ℤ (n +ℤ pos c) ≡ suc_ℤ n +ℤ pos c
+suc_plus n c = (let a = suc_is (n +ℤ pos c) in let b = suc_is n in omega (arith, ints, a, b))
 
-pred-plus : (n : ℤ) (c : ℕ) → pred_ℤ (n +ℤ pos c) ≡ pred_ℤ n +ℤ pos c
-pred-plus n c = (let a = pred-is (n +ℤ pos c) in let b = pred-is n in omega (arith, ints, a, b))
+pred_plus : (n : ℤ) (c : ℕ) → pred_ℤ (n +ℤ pos c) ≡ pred_ℤ n +ℤ pos c
+pred_plus n c = (let a = pred_is (n +ℤ pos c) in let b = pred_is n in omega (arith, ints, a, b))
 
 -- how often the clock on the other side of an operator repeats
-times-same : (hyper c d y x : ℕ) → 1 ≤ y → hyper ≡ c * y → hyper ≡ d * x → y ≡ x → c ≡ d
-times-same hyper c d y x some hc hd e = cancel-right c d y some (sym hc ∙ hd ∙ ap (λ (z : ℕ). d * z) (sym e))
+times_same : (hyper c d y x : ℕ) → 1 ≤ y → hyper ≡ c * y → hyper ≡ d * x → y ≡ x → c ≡ d
+times_same hyper c d y x some hc hd e = cancel_right c d y some (sym hc ∙ hd ∙ ap (λ (z : ℕ). d * z) (sym e))
 
-times-up : (hyper c d y x k : ℕ) → 1 ≤ y → hyper ≡ c * y → hyper ≡ d * x → k * y ≡ x → c ≡ k * d
-times-up hyper c d y x k some hc hd e =
-    cancel-right c (k * d) y some (sym hc ∙ hd ∙ ap (λ (z : ℕ). d * z) (sym e) ∙ (let g : d * (k * y) ≡ k * d * y = omega arith in g))
+times_up : (hyper c d y x k : ℕ) → 1 ≤ y → hyper ≡ c * y → hyper ≡ d * x → k * y ≡ x → c ≡ k * d
+times_up hyper c d y x k some hc hd e =
+    cancel_right c (k * d) y some (sym hc ∙ hd ∙ ap (λ (z : ℕ). d * z) (sym e) ∙ (let g : d * (k * y) ≡ k * d * y = omega arith in g))
 
 -- the numbers that precede repeat
-pub preceding-shift : (ty : Ty) (hyper : ℕ) (ops : List Op) → ((k : ℕ) (op : Op) → slice_get ops k ≡ Some op → IsOperatorFor ty op) →
+pub preceding_shift : (ty : Ty) (hyper : ℕ) (ops : List Op) → ((k : ℕ) (op : Op) → slice_get ops k ≡ Some op → IsOperatorFor ty op) →
     (producer consumer : Clock) → TakeClock hyper ops producer consumer → (c d : ℕ) → hyper ≡ c * consumer.period → hyper ≡ d * producer.period →
     (n : ℤ) → preceding ops (n +ℤ pos c) ≡ preceding ops n +ℤ pos d
-preceding-shift ty hyper [] are producer consumer takes c d hc hd n =
-    ap (λ (z : ℕ). n +ℤ pos z) (times-same hyper c d consumer.period producer.period takes.0 hc hd (ap (λ (k : Clock). k.period) takes.2))
-preceding-shift ty hyper (operators.Up k ∷ ops) are producer consumer takes c d hc hd n =
+preceding_shift ty hyper [] are producer consumer takes c d hc hd n =
+    ap (λ (z : ℕ). n +ℤ pos z) (times_same hyper c d consumer.period producer.period takes.0 hc hd (ap (λ (k : Clock). k.period) takes.2))
+preceding_shift ty hyper (operators.Up k ∷ ops) are producer consumer takes c d hc hd n =
     let x : Clock = takes.2.0 in
-    let div = clock-divides hyper ops producer x takes.2.2 in
-    let e : c ≡ k * div.1.0 = times-up hyper c div.1.0 consumer.period x.period k takes.0 hc div.1.1 takes.2.1.0 in
+    let div = clock_divides hyper ops producer x takes.2.2 in
+    let e : c ≡ k * div.1.0 = times_up hyper c div.1.0 consumer.period x.period k takes.0 hc div.1.1 takes.2.1.0 in
     ap (λ (z : ℕ). preceding ops (floor_div (n +ℤ pos z) k)) e
-    ∙ ap (λ (z : ℤ). preceding ops z) (floor-shift n k div.1.0 (are 0 (operators.Up k) refl).0)
-    ∙ preceding-shift ty hyper ops (λ j o is. are (suc j) o is) producer x takes.2.2 div.1.0 d div.1.1 hd (floor_div n k)
-preceding-shift ty hyper (operators.Down k ∷ ops) are producer consumer takes c d hc hd n =
+    ∙ ap (λ (z : ℤ). preceding ops z) (floor_shift n k div.1.0 (are 0 (operators.Up k) refl).0)
+    ∙ preceding_shift ty hyper ops (λ j o is. are (suc j) o is) producer x takes.2.2 div.1.0 d div.1.1 hd (floor_div n k)
+preceding_shift ty hyper (operators.Down k ∷ ops) are producer consumer takes c d hc hd n =
     let x : Clock = takes.2.0 in
-    let div = clock-divides hyper ops producer x takes.2.2 in
-    let e : div.1.0 ≡ k * c = times-up hyper div.1.0 c x.period consumer.period k div.0 div.1.1 hc (sym takes.2.1.0) in
-    ap (λ (z : ℤ). preceding ops z) (mul-plus k c n)
+    let div = clock_divides hyper ops producer x takes.2.2 in
+    let e : div.1.0 ≡ k * c = times_up hyper div.1.0 c x.period consumer.period k div.0 div.1.1 hc (sym takes.2.1.0) in
+    ap (λ (z : ℤ). preceding ops z) (mul_plus k c n)
     ∙ ap (λ (z : ℕ). preceding ops ((pos k *ℤ n) +ℤ pos z)) (sym e)
-    ∙ preceding-shift ty hyper ops (λ j o is. are (suc j) o is) producer x takes.2.2 div.1.0 d div.1.1 hd (pos k *ℤ n)
-preceding-shift ty hyper (operators.Shift q ∷ ops) are producer consumer takes c d hc hd n =
+    ∙ preceding_shift ty hyper ops (λ j o is. are (suc j) o is) producer x takes.2.2 div.1.0 d div.1.1 hd (pos k *ℤ n)
+preceding_shift ty hyper (operators.Shift q ∷ ops) are producer consumer takes c d hc hd n =
     let x : Clock = takes.2.0 in
-    let div = clock-divides hyper ops producer x takes.2.2 in
-    let e : c ≡ div.1.0 = times-same hyper c div.1.0 consumer.period x.period takes.0 hc div.1.1 takes.2.1.0 in
+    let div = clock_divides hyper ops producer x takes.2.2 in
+    let e : c ≡ div.1.0 = times_same hyper c div.1.0 consumer.period x.period takes.0 hc div.1.1 takes.2.1.0 in
     ap (λ (z : ℕ). preceding ops (n +ℤ pos z)) e
-    ∙ preceding-shift ty hyper ops (λ j o is. are (suc j) o is) producer x takes.2.2 div.1.0 d div.1.1 hd n
-preceding-shift ty hyper (operators.Tail ∷ ops) are producer consumer takes c d hc hd n =
+    ∙ preceding_shift ty hyper ops (λ j o is. are (suc j) o is) producer x takes.2.2 div.1.0 d div.1.1 hd n
+preceding_shift ty hyper (operators.Tail ∷ ops) are producer consumer takes c d hc hd n =
     let x : Clock = takes.2.0 in
-    let div = clock-divides hyper ops producer x takes.2.2 in
-    let e : c ≡ div.1.0 = times-same hyper c div.1.0 consumer.period x.period takes.0 hc div.1.1 takes.2.1.0 in
-    ap (λ (z : ℕ). preceding ops (suc_ℤ (n +ℤ pos z))) e ∙ ap (λ (z : ℤ). preceding ops z) (suc-plus n div.1.0)
-    ∙ preceding-shift ty hyper ops (λ j o is. are (suc j) o is) producer x takes.2.2 div.1.0 d div.1.1 hd (suc_ℤ n)
-preceding-shift ty hyper (operators.Cons v ∷ ops) are producer consumer takes c d hc hd n =
+    let div = clock_divides hyper ops producer x takes.2.2 in
+    let e : c ≡ div.1.0 = times_same hyper c div.1.0 consumer.period x.period takes.0 hc div.1.1 takes.2.1.0 in
+    ap (λ (z : ℕ). preceding ops (suc_ℤ (n +ℤ pos z))) e ∙ ap (λ (z : ℤ). preceding ops z) (suc_plus n div.1.0)
+    ∙ preceding_shift ty hyper ops (λ j o is. are (suc j) o is) producer x takes.2.2 div.1.0 d div.1.1 hd (suc_ℤ n)
+preceding_shift ty hyper (operators.Cons v ∷ ops) are producer consumer takes c d hc hd n =
     let x : Clock = takes.2.0 in
-    let div = clock-divides hyper ops producer x takes.2.2 in
-    let e : c ≡ div.1.0 = times-same hyper c div.1.0 consumer.period x.period takes.0 hc div.1.1 takes.2.1.0 in
-    ap (λ (z : ℕ). preceding ops (pred_ℤ (n +ℤ pos z))) e ∙ ap (λ (z : ℤ). preceding ops z) (pred-plus n div.1.0)
-    ∙ preceding-shift ty hyper ops (λ j o is. are (suc j) o is) producer x takes.2.2 div.1.0 d div.1.1 hd (pred_ℤ n)
-preceding-shift ty hyper (operators.Fby v ∷ ops) are producer consumer takes c d hc hd n =
+    let div = clock_divides hyper ops producer x takes.2.2 in
+    let e : c ≡ div.1.0 = times_same hyper c div.1.0 consumer.period x.period takes.0 hc div.1.1 takes.2.1.0 in
+    ap (λ (z : ℕ). preceding ops (pred_ℤ (n +ℤ pos z))) e ∙ ap (λ (z : ℤ). preceding ops z) (pred_plus n div.1.0)
+    ∙ preceding_shift ty hyper ops (λ j o is. are (suc j) o is) producer x takes.2.2 div.1.0 d div.1.1 hd (pred_ℤ n)
+preceding_shift ty hyper (operators.Fby v ∷ ops) are producer consumer takes c d hc hd n =
     let x : Clock = takes.2.0 in
-    let div = clock-divides hyper ops producer x takes.2.2 in
-    let e : c ≡ div.1.0 = times-same hyper c div.1.0 consumer.period x.period takes.0 hc div.1.1 takes.2.1.0 in
-    ap (λ (z : ℕ). preceding ops (pred_ℤ (n +ℤ pos z))) e ∙ ap (λ (z : ℤ). preceding ops z) (pred-plus n div.1.0)
-    ∙ preceding-shift ty hyper ops (λ j o is. are (suc j) o is) producer x takes.2.2 div.1.0 d div.1.1 hd (pred_ℤ n)
+    let div = clock_divides hyper ops producer x takes.2.2 in
+    let e : c ≡ div.1.0 = times_same hyper c div.1.0 consumer.period x.period takes.0 hc div.1.1 takes.2.1.0 in
+    ap (λ (z : ℕ). preceding ops (pred_ℤ (n +ℤ pos z))) e ∙ ap (λ (z : ℤ). preceding ops z) (pred_plus n div.1.0)
+    ∙ preceding_shift ty hyper ops (λ j o is. are (suc j) o is) producer x takes.2.2 div.1.0 d div.1.1 hd (pred_ℤ n)
 
 -- an interval moved up
 abbrev pub moved_up : ℕ → Interval → Interval
 moved_up c s = record { lowest = s.lowest +ℤ pos c; highest = s.highest +ℤ pos c }
 
-interval-is : (a b c d : ℤ) → a ≡ c → b ≡ d → (let s : Interval = record { lowest = a; highest = b } in s) ≡ (let t : Interval = record { lowest = c; highest = d } in t)
-interval-is a b c d p q = ap (λ (z : ℤ). (let s : Interval = record { lowest = z; highest = b } in s)) p ∙ ap (λ (z : ℤ). (let s : Interval = record { lowest = c; highest = z } in s)) q
+interval_is : (a b c d : ℤ) → a ≡ c → b ≡ d → (let s : Interval = record { lowest = a; highest = b } in s) ≡ (let t : Interval = record { lowest = c; highest = d } in t)
+interval_is a b c d p q = ap (λ (z : ℤ). (let s : Interval = record { lowest = z; highest = b } in s)) p ∙ ap (λ (z : ℤ). (let s : Interval = record { lowest = c; highest = z } in s)) q
 
 -- the numbers that follow repeat
-pub following-shift : (ty : Ty) (hyper : ℕ) (ops : List Op) → ((k : ℕ) (op : Op) → slice_get ops k ≡ Some op → IsOperatorFor ty op) →
+pub following_shift : (ty : Ty) (hyper : ℕ) (ops : List Op) → ((k : ℕ) (op : Op) → slice_get ops k ≡ Some op → IsOperatorFor ty op) →
     (producer consumer : Clock) → TakeClock hyper ops producer consumer → (c d : ℕ) → hyper ≡ c * consumer.period → hyper ≡ d * producer.period →
     (m : ℤ) → successors ops (m +ℤ pos d) ≡ moved_up c (successors ops m)
-following-shift ty hyper [] are producer consumer takes c d hc hd m =
-    let e : d ≡ c = sym (times-same hyper c d consumer.period producer.period takes.0 hc hd (ap (λ (k : Clock). k.period) takes.2)) in
-    interval-is (m +ℤ pos d) (m +ℤ pos d) (m +ℤ pos c) (m +ℤ pos c) (ap (λ (z : ℕ). m +ℤ pos z) e) (ap (λ (z : ℕ). m +ℤ pos z) e)
-following-shift ty hyper (operators.Up k ∷ ops) are producer consumer takes c d hc hd m =
+following_shift ty hyper [] are producer consumer takes c d hc hd m =
+    let e : d ≡ c = sym (times_same hyper c d consumer.period producer.period takes.0 hc hd (ap (λ (k : Clock). k.period) takes.2)) in
+    interval_is (m +ℤ pos d) (m +ℤ pos d) (m +ℤ pos c) (m +ℤ pos c) (ap (λ (z : ℕ). m +ℤ pos z) e) (ap (λ (z : ℕ). m +ℤ pos z) e)
+following_shift ty hyper (operators.Up k ∷ ops) are producer consumer takes c d hc hd m =
     let x : Clock = takes.2.0 in
-    let div = clock-divides hyper ops producer x takes.2.2 in
-    let e : c ≡ k * div.1.0 = times-up hyper c div.1.0 consumer.period x.period k takes.0 hc div.1.1 takes.2.1.0 in
+    let div = clock_divides hyper ops producer x takes.2.2 in
+    let e : c ≡ k * div.1.0 = times_up hyper c div.1.0 consumer.period x.period k takes.0 hc div.1.1 takes.2.1.0 in
     let s : Interval = successors ops m in
-    let low = mul-plus k div.1.0 s.lowest in
-    let high = mul-plus k div.1.0 s.highest in
-    ap (λ (z : Interval). preimage (operators.Up k) z) (following-shift ty hyper ops (λ j o is. are (suc j) o is) producer x takes.2.2 div.1.0 d div.1.1 hd m)
-    ∙ interval-is (pos k *ℤ (s.lowest +ℤ pos div.1.0)) ((pos k *ℤ (s.highest +ℤ pos div.1.0)) +ℤ pos (k - 1))
+    let low = mul_plus k div.1.0 s.lowest in
+    let high = mul_plus k div.1.0 s.highest in
+    ap (λ (z : Interval). preimage (operators.Up k) z) (following_shift ty hyper ops (λ j o is. are (suc j) o is) producer x takes.2.2 div.1.0 d div.1.1 hd m)
+    ∙ interval_is (pos k *ℤ (s.lowest +ℤ pos div.1.0)) ((pos k *ℤ (s.highest +ℤ pos div.1.0)) +ℤ pos (k - 1))
     ((pos k *ℤ s.lowest) +ℤ pos c) (((pos k *ℤ s.highest) +ℤ pos (k - 1)) +ℤ pos c)
     (omega (arith, ints, low, e)) (omega (arith, ints, high, e))
-following-shift ty hyper (operators.Down k ∷ ops) are producer consumer takes c d hc hd m =
+following_shift ty hyper (operators.Down k ∷ ops) are producer consumer takes c d hc hd m =
     let x : Clock = takes.2.0 in
-    let div = clock-divides hyper ops producer x takes.2.2 in
-    let e : div.1.0 ≡ k * c = times-up hyper div.1.0 c x.period consumer.period k div.0 div.1.1 hc (sym takes.2.1.0) in
+    let div = clock_divides hyper ops producer x takes.2.2 in
+    let e : div.1.0 ≡ k * c = times_up hyper div.1.0 c x.period consumer.period k div.0 div.1.1 hc (sym takes.2.1.0) in
     let s : Interval = successors ops m in
     let some : 1 ≤ k = (are 0 (operators.Down k) refl).0 in
     let away : ℤ = neg_ℤ (s.lowest +ℤ pos div.1.0) in
     let back : away +ℤ pos (k * c) ≡ neg_ℤ s.lowest = omega (arith, ints, e) in
-    let low : floor_div (neg_ℤ s.lowest) k ≡ floor_div away k +ℤ pos c = ap (λ (z : ℤ). floor_div z k) (sym back) ∙ floor-shift away k c some in
-    let high : floor_div (s.highest +ℤ pos div.1.0) k ≡ floor_div s.highest k +ℤ pos c = ap (λ (z : ℕ). floor_div (s.highest +ℤ pos z) k) e ∙ floor-shift s.highest k c some in
-    ap (λ (z : Interval). preimage (operators.Down k) z) (following-shift ty hyper ops (λ j o is. are (suc j) o is) producer x takes.2.2 div.1.0 d div.1.1 hd m)
-    ∙ interval-is (neg_ℤ (floor_div away k)) (floor_div (s.highest +ℤ pos div.1.0) k)
+    let low : floor_div (neg_ℤ s.lowest) k ≡ floor_div away k +ℤ pos c = ap (λ (z : ℤ). floor_div z k) (sym back) ∙ floor_shift away k c some in
+    let high : floor_div (s.highest +ℤ pos div.1.0) k ≡ floor_div s.highest k +ℤ pos c = ap (λ (z : ℕ). floor_div (s.highest +ℤ pos z) k) e ∙ floor_shift s.highest k c some in
+    ap (λ (z : Interval). preimage (operators.Down k) z) (following_shift ty hyper ops (λ j o is. are (suc j) o is) producer x takes.2.2 div.1.0 d div.1.1 hd m)
+    ∙ interval_is (neg_ℤ (floor_div away k)) (floor_div (s.highest +ℤ pos div.1.0) k)
     (neg_ℤ (floor_div (neg_ℤ s.lowest) k) +ℤ pos c) (floor_div s.highest k +ℤ pos c)
     (omega (arith, ints, low)) high
-following-shift ty hyper (operators.Shift q ∷ ops) are producer consumer takes c d hc hd m =
+following_shift ty hyper (operators.Shift q ∷ ops) are producer consumer takes c d hc hd m =
     let x : Clock = takes.2.0 in
-    let div = clock-divides hyper ops producer x takes.2.2 in
-    let e : c ≡ div.1.0 = times-same hyper c div.1.0 consumer.period x.period takes.0 hc div.1.1 takes.2.1.0 in
-    following-shift ty hyper ops (λ j o is. are (suc j) o is) producer x takes.2.2 div.1.0 d div.1.1 hd m
+    let div = clock_divides hyper ops producer x takes.2.2 in
+    let e : c ≡ div.1.0 = times_same hyper c div.1.0 consumer.period x.period takes.0 hc div.1.1 takes.2.1.0 in
+    following_shift ty hyper ops (λ j o is. are (suc j) o is) producer x takes.2.2 div.1.0 d div.1.1 hd m
     ∙ ap (λ (z : ℕ). moved_up z (successors ops m)) (sym e)
-following-shift ty hyper (operators.Tail ∷ ops) are producer consumer takes c d hc hd m =
+following_shift ty hyper (operators.Tail ∷ ops) are producer consumer takes c d hc hd m =
     let x : Clock = takes.2.0 in
-    let div = clock-divides hyper ops producer x takes.2.2 in
-    let e : c ≡ div.1.0 = times-same hyper c div.1.0 consumer.period x.period takes.0 hc div.1.1 takes.2.1.0 in
+    let div = clock_divides hyper ops producer x takes.2.2 in
+    let e : c ≡ div.1.0 = times_same hyper c div.1.0 consumer.period x.period takes.0 hc div.1.1 takes.2.1.0 in
     let s : Interval = successors ops m in
     ap (λ (z : Interval). preimage operators.Tail z)
-    (following-shift ty hyper ops (λ j o is. are (suc j) o is) producer x takes.2.2 div.1.0 d div.1.1 hd m ∙ ap (λ (z : ℕ). moved_up z (successors ops m)) (sym e))
-    ∙ interval-is (pred_ℤ (s.lowest +ℤ pos c)) (pred_ℤ (s.highest +ℤ pos c)) (pred_ℤ s.lowest +ℤ pos c) (pred_ℤ s.highest +ℤ pos c) (pred-plus s.lowest c) (pred-plus s.highest c)
-following-shift ty hyper (operators.Cons v ∷ ops) are producer consumer takes c d hc hd m =
+    (following_shift ty hyper ops (λ j o is. are (suc j) o is) producer x takes.2.2 div.1.0 d div.1.1 hd m ∙ ap (λ (z : ℕ). moved_up z (successors ops m)) (sym e))
+    ∙ interval_is (pred_ℤ (s.lowest +ℤ pos c)) (pred_ℤ (s.highest +ℤ pos c)) (pred_ℤ s.lowest +ℤ pos c) (pred_ℤ s.highest +ℤ pos c) (pred_plus s.lowest c) (pred_plus s.highest c)
+following_shift ty hyper (operators.Cons v ∷ ops) are producer consumer takes c d hc hd m =
     let x : Clock = takes.2.0 in
-    let div = clock-divides hyper ops producer x takes.2.2 in
-    let e : c ≡ div.1.0 = times-same hyper c div.1.0 consumer.period x.period takes.0 hc div.1.1 takes.2.1.0 in
+    let div = clock_divides hyper ops producer x takes.2.2 in
+    let e : c ≡ div.1.0 = times_same hyper c div.1.0 consumer.period x.period takes.0 hc div.1.1 takes.2.1.0 in
     let s : Interval = successors ops m in
     ap (λ (z : Interval). preimage (operators.Cons v) z)
-    (following-shift ty hyper ops (λ j o is. are (suc j) o is) producer x takes.2.2 div.1.0 d div.1.1 hd m ∙ ap (λ (z : ℕ). moved_up z (successors ops m)) (sym e))
-    ∙ interval-is (suc_ℤ (s.lowest +ℤ pos c)) (suc_ℤ (s.highest +ℤ pos c)) (suc_ℤ s.lowest +ℤ pos c) (suc_ℤ s.highest +ℤ pos c) (suc-plus s.lowest c) (suc-plus s.highest c)
-following-shift ty hyper (operators.Fby v ∷ ops) are producer consumer takes c d hc hd m =
+    (following_shift ty hyper ops (λ j o is. are (suc j) o is) producer x takes.2.2 div.1.0 d div.1.1 hd m ∙ ap (λ (z : ℕ). moved_up z (successors ops m)) (sym e))
+    ∙ interval_is (suc_ℤ (s.lowest +ℤ pos c)) (suc_ℤ (s.highest +ℤ pos c)) (suc_ℤ s.lowest +ℤ pos c) (suc_ℤ s.highest +ℤ pos c) (suc_plus s.lowest c) (suc_plus s.highest c)
+following_shift ty hyper (operators.Fby v ∷ ops) are producer consumer takes c d hc hd m =
     let x : Clock = takes.2.0 in
-    let div = clock-divides hyper ops producer x takes.2.2 in
-    let e : c ≡ div.1.0 = times-same hyper c div.1.0 consumer.period x.period takes.0 hc div.1.1 takes.2.1.0 in
+    let div = clock_divides hyper ops producer x takes.2.2 in
+    let e : c ≡ div.1.0 = times_same hyper c div.1.0 consumer.period x.period takes.0 hc div.1.1 takes.2.1.0 in
     let s : Interval = successors ops m in
     ap (λ (z : Interval). preimage (operators.Fby v) z)
-    (following-shift ty hyper ops (λ j o is. are (suc j) o is) producer x takes.2.2 div.1.0 d div.1.1 hd m ∙ ap (λ (z : ℕ). moved_up z (successors ops m)) (sym e))
-    ∙ interval-is (suc_ℤ (s.lowest +ℤ pos c)) (suc_ℤ (s.highest +ℤ pos c)) (suc_ℤ s.lowest +ℤ pos c) (suc_ℤ s.highest +ℤ pos c) (suc-plus s.lowest c) (suc-plus s.highest c)
+    (following_shift ty hyper ops (λ j o is. are (suc j) o is) producer x takes.2.2 div.1.0 d div.1.1 hd m ∙ ap (λ (z : ℕ). moved_up z (successors ops m)) (sym e))
+    ∙ interval_is (suc_ℤ (s.lowest +ℤ pos c)) (suc_ℤ (s.highest +ℤ pos c)) (suc_ℤ s.lowest +ℤ pos c) (suc_ℤ s.highest +ℤ pos c) (suc_plus s.lowest c) (suc_plus s.highest c)
 
 -- what holds of the numbers below c, and of each number exactly where it holds c later, holds of all
 pub everywhere : (P : ℤ → Type 0) → (c : ℕ) → 1 ≤ c → ((n : ℕ) → n < c → P (pos n)) → ((m : ℤ) → P m → P (m +ℤ pos c)) → ((m : ℤ) → P (m +ℤ pos c) → P m) →

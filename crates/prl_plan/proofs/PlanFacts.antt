@@ -27,46 +27,46 @@ use Rattle.prl_plan.specs.Horizons.{IsHorizon, constants_of}
 use Rattle.prl_plan.specs.Runs.{ExecState, next_action}
 use Rattle.prl_plan.specs.Rules.{HasJob}
 use Rattle.prl_plan.specs.States.{IsTagged}
-use Rattle.prl_plan.proofs.Actions.{actions-fit}
-use Rattle.prl_plan.proofs.Halves.{actions-paired}
-use Rattle.prl_plan.proofs.ActionPlaces.{WritesTo, Stands, once-on, ends-last, write-stands, half-stands, length-actions}
-use Rattle.prl_plan.proofs.Counts.{count-below, below-count, IsHorizonJob-count, job_count-horizon}
-use Rattle.prl_plan.proofs.RoundLaws.{source-inside}
-use Rattle.prl_plan.proofs.UsedLaws.{sum-up-to, sum-all, rising-to, place-found, place-stands}
-use Rattle.prl_plan.proofs.WalkLaws.{walk-preceding, operand-walks, edge-back}
+use Rattle.prl_plan.proofs.Actions.{actions_fit}
+use Rattle.prl_plan.proofs.Halves.{actions_paired}
+use Rattle.prl_plan.proofs.ActionPlaces.{WritesTo, Stands, once_on, ends_last, write_stands, half_stands, length_actions}
+use Rattle.prl_plan.proofs.Counts.{count_below, below_count, IsHorizonJob_count, job_count_horizon}
+use Rattle.prl_plan.proofs.RoundLaws.{source_inside}
+use Rattle.prl_plan.proofs.UsedLaws.{sum_up_to, sum_all, rising_to, place_found, place_stands}
+use Rattle.prl_plan.proofs.WalkLaws.{walk_preceding, operand_walks, edge_back}
 
 -- an operand of a horizon job is of a horizon job
-pub operand-job : (graph : TaskGraph) → IsWellFormed graph → (until e i n m : ℕ) → e < length graph.edges → ComesFrom (edge_at graph e).from i →
+pub operand_job : (graph : TaskGraph) → IsWellFormed graph → (until e i n m : ℕ) → e < length graph.edges → ComesFrom (edge_at graph e).from i →
     n < job_count (task_at graph (edge_at graph e).to.0) until → walk (edge_at graph e).ops n ≡ operands.From m →
     (i < length graph.tasks) × (m < job_count (task_at graph i) until)
-operand-job graph good until e i n m inside comes job walks =
+operand_job graph good until e i n m inside comes job walks =
     let edge : Edge = edge_at graph e in
     let fact : IsEdge graph edge = good.edges e edge (slice_get-get_or graph.edges e no_edge inside) in
-    let task : i < length graph.tasks = source-inside graph edge fact edge.from refl i comes in
+    let task : i < length graph.tasks = source_inside graph edge fact edge.from refl i comes in
     let here : IsTask graph.hyper (task_at graph i) = good.tasks i (task_at graph i) (slice_get-get_or graph.tasks i no_task task) in
     let there : IsTask graph.hyper (task_at graph edge.to.0) =
     good.tasks edge.to.0 (task_at graph edge.to.0) (slice_get-get_or graph.tasks edge.to.0 no_task fact.to) in
-    let late = count-below (task_at graph edge.to.0).clock.start (task_at graph edge.to.0).clock.period until n there.period.0 job in
-    let back = edge-back graph edge fact i comes n m walks in
-    (task, below-count (task_at graph i).clock.start (task_at graph i).clock.period until m here.period.0 (omega (arith, late, back)))
+    let late = count_below (task_at graph edge.to.0).clock.start (task_at graph edge.to.0).clock.period until n there.period.0 job in
+    let back = edge_back graph edge fact i comes n m walks in
+    (task, below_count (task_at graph i).clock.start (task_at graph i).clock.period until m here.period.0 (omega (arith, late, back)))
 
-pub operand-horizon : (graph : TaskGraph) → IsWellFormed graph → (until e i n m : ℕ) → e < length graph.edges → ComesFrom (edge_at graph e).from i →
+pub operand_horizon : (graph : TaskGraph) → IsWellFormed graph → (until e i n m : ℕ) → e < length graph.edges → ComesFrom (edge_at graph e).from i →
     IsHorizonJob graph until (edge_at graph e).to.0 n → operand_of (edge_at graph e) n ≡ operands.From m → IsHorizonJob graph until i m
-operand-horizon graph good until e i n m inside comes job reads =
-    let w = operand-walks (edge_at graph e) n m reads in
+operand_horizon graph good until e i n m inside comes job reads =
+    let w = operand_walks (edge_at graph e) n m reads in
     let to : IsTask graph.hyper (task_at graph (edge_at graph e).to.0) =
     good.tasks (edge_at graph e).to.0 (task_at graph (edge_at graph e).to.0) (slice_get-get_or graph.tasks (edge_at graph e).to.0 no_task job.task) in
-    let made = operand-job graph good until e i n m inside comes (job_count-horizon graph until (edge_at graph e).to.0 n to.period.0 job) w.2 in
+    let made = operand_job graph good until e i n m inside comes (job_count_horizon graph until (edge_at graph e).to.0 n to.period.0 job) w.2 in
     let from : IsTask graph.hyper (task_at graph i) = good.tasks i (task_at graph i) (slice_get-get_or graph.tasks i no_task made.0) in
-    IsHorizonJob-count graph until i m made.0 from.period.0 made.1
+    IsHorizonJob_count graph until i m made.0 from.period.0 made.1
 
-comes-one : (from : Producer) (i j : ℕ) → ComesFrom from i → ComesFrom from j → i ≡ j
-comes-one (producers.Constant value) i j a b = absurd a
-comes-one (producers.Port task out) i j a b = sym a ∙ b
+comes_one : (from : Producer) (i j : ℕ) → ComesFrom from i → ComesFrom from j → i ≡ j
+comes_one (producers.Constant value) i j a b = absurd a
+comes_one (producers.Port task out) i j a b = sym a ∙ b
 
 -- places in one cell are at least as far apart as there are cells
-mod-apart : (a b k : ℕ) → a < b → a % k ≡ b % k → a + k ≤ b
-mod-apart a b k before same =
+mod_apart : (a b k : ℕ) → a < b → a % k ≡ b % k → a + k ≤ b
+mod_apart a b k before same =
     let x : k * (a / k) + a % k ≡ a = div-add-mod a k in
     let y : k * (b / k) + b % k ≡ b = div-add-mod b k in
     elim (cases_lt (a / k) (b / k)) [
@@ -80,65 +80,65 @@ mod-apart a b k before same =
     ]
 
 -- a half of a cell below a number is below its double; the cell is known by its half
-half-below : (cell slot n : ℕ) → IsHalfOf cell slot → cell < n → slot < 2 * n
-half-below cell slot n (inl is) below = (let e : slot ≡ 2 * cell = is in omega (arith, e, below))
-half-below cell slot n (inr is) below = (let e : slot ≡ 2 * cell + 1 = is in omega (arith, e, below))
+half_below : (cell slot n : ℕ) → IsHalfOf cell slot → cell < n → slot < 2 * n
+half_below cell slot n (inl is) below = (let e : slot ≡ 2 * cell = is in omega (arith, e, below))
+half_below cell slot n (inr is) below = (let e : slot ≡ 2 * cell + 1 = is in omega (arith, e, below))
 
-half-cell : (a b slot : ℕ) → IsHalfOf a slot → IsHalfOf b slot → a ≡ b
-half-cell a b slot (inl x) (inl y) = (let e : slot ≡ 2 * a = x in let f : slot ≡ 2 * b = y in omega (arith, e, f))
-half-cell a b slot (inl x) (inr y) = (let e : slot ≡ 2 * a = x in let f : slot ≡ 2 * b + 1 = y in omega (arith, e, f))
-half-cell a b slot (inr x) (inl y) = (let e : slot ≡ 2 * a + 1 = x in let f : slot ≡ 2 * b = y in omega (arith, e, f))
-half-cell a b slot (inr x) (inr y) = (let e : slot ≡ 2 * a + 1 = x in let f : slot ≡ 2 * b + 1 = y in omega (arith, e, f))
+half_cell : (a b slot : ℕ) → IsHalfOf a slot → IsHalfOf b slot → a ≡ b
+half_cell a b slot (inl x) (inl y) = (let e : slot ≡ 2 * a = x in let f : slot ≡ 2 * b = y in omega (arith, e, f))
+half_cell a b slot (inl x) (inr y) = (let e : slot ≡ 2 * a = x in let f : slot ≡ 2 * b + 1 = y in omega (arith, e, f))
+half_cell a b slot (inr x) (inl y) = (let e : slot ≡ 2 * a + 1 = x in let f : slot ≡ 2 * b = y in omega (arith, e, f))
+half_cell a b slot (inr x) (inr y) = (let e : slot ≡ 2 * a + 1 = x in let f : slot ≡ 2 * b + 1 = y in omega (arith, e, f))
 
 module _ (plan : PlanView) (is : IsPlan plan) where
-  task-fact : (i : ℕ) → i < length plan.graph.tasks → IsTask plan.graph.hyper (task_at plan.graph i)
-  task-fact i inside = is.graph.tasks i (task_at plan.graph i) (slice_get-get_or plan.graph.tasks i no_task inside)
+  task_fact : (i : ℕ) → i < length plan.graph.tasks → IsTask plan.graph.hyper (task_at plan.graph i)
+  task_fact i inside = is.graph.tasks i (task_at plan.graph i) (slice_get-get_or plan.graph.tasks i no_task inside)
 
-  edge-stands : (e : ℕ) → e < length plan.graph.edges → slice_get plan.graph.edges e ≡ Some (edge_at plan.graph e)
-  edge-stands e inside = slice_get-get_or plan.graph.edges e no_edge inside
+  edge_stands : (e : ℕ) → e < length plan.graph.edges → slice_get plan.graph.edges e ≡ Some (edge_at plan.graph e)
+  edge_stands e inside = slice_get-get_or plan.graph.edges e no_edge inside
 
-  room-at : (i n : ℕ) → i < length plan.graph.tasks → release_at plan i n + (task_at plan.graph i).wcet ≤ deadline_at plan i n
-  room-at i n inside = (let r = is.room.room i (pos n) inside in omega (arith, ints, r))
+  room_at : (i n : ℕ) → i < length plan.graph.tasks → release_at plan i n + (task_at plan.graph i).wcet ≤ deadline_at plan i n
+  room_at i n inside = (let r = is.room.room i (pos n) inside in omega (arith, ints, r))
 
-  apart-at : (i m n : ℕ) → i < length plan.graph.tasks → m < n → deadline_at plan i m ≤ release_at plan i n
-  apart-at i m n inside before =
+  apart_at : (i m n : ℕ) → i < length plan.graph.tasks → m < n → deadline_at plan i m ≤ release_at plan i n
+  apart_at i m n inside before =
       let t = task_at plan.graph i in
       let below : encoded_deadline plan.graph plan.windows i (pos m) ≤ℤ deadline_of (task_at plan.graph i) (pos m) =
       is.dates.deadlines.deadlines.below i (pos m) inside in
-      let due : t.due ≤ t.clock.period = (task-fact i inside).due.1 in
+      let due : t.due ≤ t.clock.period = (task_fact i inside).due.1 in
       let up : (m + 1) * t.clock.period ≤ n * t.clock.period = mul-le-mul_right t.clock.period (let g : m + 1 ≤ n = omega arith in g) in
       let e : (m + 1) * t.clock.period ≡ m * t.clock.period + t.clock.period = omega arith in
       omega (arith, ints, below, due, up, e)
 
   -- a later job is not released earlier
-  later-at : (i m n : ℕ) → i < length plan.graph.tasks → m ≤ n → release_at plan i m ≤ release_at plan i n
-  later-at i m n inside after =
+  later_at : (i m n : ℕ) → i < length plan.graph.tasks → m ≤ n → release_at plan i m ≤ release_at plan i n
+  later_at i m n inside after =
       elim (cases_lt m n) [
-        | inl before ↦ (let a = apart-at i m n inside before in let b = room-at i m inside in omega (arith, a, b))
+        | inl before ↦ (let a = apart_at i m n inside before in let b = room_at i m inside in omega (arith, a, b))
         | inr above ↦ subst (λ (x : ℕ). release_at plan i m ≤ release_at plan i x) (let e : m ≡ n = omega arith in e) (omega arith)
       ]
 
   -- both dates of what is read are earlier than those of its reader
-  pub along-at : (e i n m : ℕ) → e < length plan.graph.edges → ComesFrom (edge_at plan.graph e).from i → walk (edge_at plan.graph e).ops n ≡ operands.From m →
+  pub along_at : (e i n m : ℕ) → e < length plan.graph.edges → ComesFrom (edge_at plan.graph e).from i → walk (edge_at plan.graph e).ops n ≡ operands.From m →
       (release_at plan i m < release_at plan (edge_at plan.graph e).to.0 n) × (deadline_at plan i m < deadline_at plan (edge_at plan.graph e).to.0 n)
-  along-at e i n m inside comes walks =
+  along_at e i n m inside comes walks =
       let edge : Edge = edge_at plan.graph e in
-      let fact : IsEdge plan.graph edge = is.graph.edges e edge (edge-stands e inside) in
-      let task : i < length plan.graph.tasks = source-inside plan.graph edge fact edge.from refl i comes in
+      let fact : IsEdge plan.graph edge = is.graph.edges e edge (edge_stands e inside) in
+      let task : i < length plan.graph.tasks = source_inside plan.graph edge fact edge.from refl i comes in
       let precedes : Precedes plan.graph (record { task = i; number = pos m }) (record { task = edge.to.0; number = pos n }) =
-      (e, edge, edge-stands e inside, record { from = comes; to = refl; number = sym (walk-preceding edge.ops n m walks) }) in
-      let first : 1 ≤ (task_at plan.graph i).wcet = (task-fact i task).wcet.0 in
-      let second : 1 ≤ (task_at plan.graph edge.to.0).wcet = (task-fact edge.to.0 fact.to).wcet.0 in
+      (e, edge, edge_stands e inside, record { from = comes; to = refl; number = sym (walk_preceding edge.ops n m walks) }) in
+      let first : 1 ≤ (task_at plan.graph i).wcet = (task_fact i task).wcet.0 in
+      let second : 1 ≤ (task_at plan.graph edge.to.0).wcet = (task_fact edge.to.0 fact.to).wcet.0 in
       let r = is.dates.releases.releases.along (record { task = i; number = pos m }) (record { task = edge.to.0; number = pos n }) precedes in
       let d = is.dates.deadlines.deadlines.along (record { task = i; number = pos m }) (record { task = edge.to.0; number = pos n }) precedes in
       (omega (arith, ints, first, r), omega (arith, ints, second, d))
 
   -- what is known of the cells of an edge from a task
-  cells-of : (e i : ℕ) → e < length plan.graph.edges → ComesFrom (edge_at plan.graph e).from i →
+  cells_of_edge : (e i : ℕ) → e < length plan.graph.edges → ComesFrom (edge_at plan.graph e).from i →
       (slice_index plan.bases e ≡ sum (take e plan.counts)) × EnumeratesUsed (edge_at plan.graph e) (slice_index_or plan.used e no_used)
       × IsLeastCount (edge_at plan.graph e) i (encoded_release plan.graph plan.windows) (encoded_deadline plan.graph plan.windows)
       (slice_index_or plan.used e no_used) (slice_index plan.counts e)
-  cells-of e i inside comes = go (edge_at plan.graph e).from refl
+  cells_of_edge e i inside comes = go (edge_at plan.graph e).from refl
     where
       go : (from : Producer) → (edge_at plan.graph e).from ≡ from →
           (slice_index plan.bases e ≡ sum (take e plan.counts)) × EnumeratesUsed (edge_at plan.graph e) (slice_index_or plan.used e no_used)
@@ -150,7 +150,7 @@ module _ (plan : PlanView) (is : IsPlan plan) where
           (sum (take e plan.counts)) (slice_index plan.bases e) (slice_index plan.counts e) (slice_index_or plan.used e no_used) =
           subst (λ (f : Producer). HasCells (edge_at plan.graph e) f (encoded_release plan.graph plan.windows) (encoded_deadline plan.graph plan.windows)
           (sum (take e plan.counts)) (slice_index plan.bases e) (slice_index plan.counts e) (slice_index_or plan.used e no_used)) from
-          (is.cells.cells e (edge_at plan.graph e) (edge-stands e inside)) in
+          (is.cells.cells e (edge_at plan.graph e) (edge_stands e inside)) in
           let at : task.0 ≡ i = subst (λ (f : Producer). ComesFrom f i) from comes in (
             has.0,
             has.1,
@@ -158,84 +158,84 @@ module _ (plan : PlanView) (is : IsPlan plan) where
                 (slice_index_or plan.used e no_used) (slice_index plan.counts e)) at has.2,
           )
 
-  cell-range : (e i m : ℕ) → e < length plan.graph.edges → ComesFrom (edge_at plan.graph e).from i →
+  cell_range : (e i m : ℕ) → e < length plan.graph.edges → ComesFrom (edge_at plan.graph e).from i →
       (sum (take e plan.counts) ≤ cell_of plan e m) × (cell_of plan e m < sum (take e plan.counts) + slice_index plan.counts e)
-  cell-range e i m inside comes =
-      let c = cells-of e i inside comes in
+  cell_range e i m inside comes =
+      let c = cells_of_edge e i inside comes in
       let base : slice_index plan.bases e ≡ sum (take e plan.counts) = c.0 in
       let some : 1 ≤ slice_index plan.counts e = c.2.some in
       let small : unwrap_or (place_on plan e m) 0 % slice_index plan.counts e < slice_index plan.counts e =
       mod-lt (unwrap_or (place_on plan e m) 0) (omega (arith, some)) in
       (omega (arith, base), omega (arith, base, small))
 
-  in-cells : (e i m : ℕ) → e < length plan.graph.edges → ComesFrom (edge_at plan.graph e).from i → cell_of plan e m < sum plan.counts
-  in-cells e i m inside comes =
-      let r = cell-range e i m inside comes in
+  within_cells : (e i m : ℕ) → e < length plan.graph.edges → ComesFrom (edge_at plan.graph e).from i → cell_of plan e m < sum plan.counts
+  within_cells e i m inside comes =
+      let r = cell_range e i m inside comes in
       let l : length plan.counts ≡ length plan.graph.edges = is.cells.lengths.1 in
-      let s = sum-all plan.counts e (omega (arith, l, inside)) in
+      let s = sum_all plan.counts e (omega (arith, l, inside)) in
       omega (arith, r.1, s)
 
   -- the cells of two edges are apart
-  before-edge : (e f i j m l : ℕ) → e < length plan.graph.edges → f < length plan.graph.edges → ComesFrom (edge_at plan.graph e).from i →
+  before_edge : (e f i j m l : ℕ) → e < length plan.graph.edges → f < length plan.graph.edges → ComesFrom (edge_at plan.graph e).from i →
       ComesFrom (edge_at plan.graph f).from j → e < f → cell_of plan e m < cell_of plan f l
-  before-edge e f i j m l in_e in_f from_e from_f before =
-      let r = cell-range e i m in_e from_e in
-      let s = cell-range f j l in_f from_f in
+  before_edge e f i j m l in_e in_f from_e from_f before =
+      let r = cell_range e i m in_e from_e in
+      let s = cell_range f j l in_f from_f in
       let l : length plan.counts ≡ length plan.graph.edges = is.cells.lengths.1 in
-      let up = sum-up-to plan.counts e f before (omega (arith, l, in_e)) in
+      let up = sum_up_to plan.counts e f before (omega (arith, l, in_e)) in
       omega (arith, r.1, s.0, up)
 
-  same-edge : (e f i j m l : ℕ) → e < length plan.graph.edges → f < length plan.graph.edges → ComesFrom (edge_at plan.graph e).from i →
+  same_edge : (e f i j m l : ℕ) → e < length plan.graph.edges → f < length plan.graph.edges → ComesFrom (edge_at plan.graph e).from i →
       ComesFrom (edge_at plan.graph f).from j → cell_of plan e m ≡ cell_of plan f l → e ≡ f
-  same-edge e f i j m l in_e in_f from_e from_f same =
+  same_edge e f i j m l in_e in_f from_e from_f same =
       elim (cases_lt e f) [
-        | inl below ↦ absurd (let h = before-edge e f i j m l in_e in_f from_e from_f below in omega (arith, h, same))
+        | inl below ↦ absurd (let h = before_edge e f i j m l in_e in_f from_e from_f below in omega (arith, h, same))
         | inr above ↦
             elim (cases_lt f e) [
-              | inl below ↦ absurd (let h = before-edge f e j i l m in_f in_e from_f from_e below in omega (arith, h, same))
+              | inl below ↦ absurd (let h = before_edge f e j i l m in_f in_e from_f from_e below in omega (arith, h, same))
               | inr under ↦ omega (arith, above, under)
             ]
       ]
 
   -- the life of a used instance is over before a later one takes its cell
-  over-at : (e i k m l : ℕ) → e < length plan.graph.edges → ComesFrom (edge_at plan.graph e).from i → operand_of (edge_at plan.graph e) k ≡ operands.From m →
+  over_at : (e i k m l : ℕ) → e < length plan.graph.edges → ComesFrom (edge_at plan.graph e).from i → operand_of (edge_at plan.graph e) k ≡ operands.From m →
       (a b : ℕ) → used_at (slice_index_or plan.used e no_used) a ≡ m → used_at (slice_index_or plan.used e no_used) b ≡ l → a % slice_index plan.counts e ≡ b % slice_index plan.counts e → m < l →
       deadline_at plan (edge_at plan.graph e).to.0 k ≤ release_at plan i l
-  over-at e i k m l inside comes reads a b at_a at_b same before =
+  over_at e i k m l inside comes reads a b at_a at_b same before =
       let u : Used = slice_index_or plan.used e no_used in
       let count : ℕ = slice_index plan.counts e in
-      let c = cells-of e i inside comes in
+      let c = cells_of_edge e i inside comes in
       let edge : Edge = edge_at plan.graph e in
-      let fact : IsEdge plan.graph edge = is.graph.edges e edge (edge-stands e inside) in
-      let task : i < length plan.graph.tasks = source-inside plan.graph edge fact edge.from refl i comes in
+      let fact : IsEdge plan.graph edge = is.graph.edges e edge (edge_stands e inside) in
+      let task : i < length plan.graph.tasks = source_inside plan.graph edge fact edge.from refl i comes in
       let order : a < b =
       elim (cases_lt a b) [
         | inl below ↦ below
         | inr above ↦ absurd
             (elim (cases_lt b a) [
-              | inl below ↦ (let up = rising-to edge u c.1 a b below in omega (arith, up, at_a, at_b, before))
+              | inl below ↦ (let up = rising_to edge u c.1 a b below in omega (arith, up, at_a, at_b, before))
               | inr under ↦
                   (let one : a ≡ b = omega (arith, above, under) in
                   let f : m ≡ l = sym at_a ∙ ap (λ (x : ℕ). used_at u x) one ∙ at_b in omega (arith, f, before))
             ])
       ] in
-      let far : a + count ≤ b = mod-apart a b count order same in
+      let far : a + count ≤ b = mod_apart a b count order same in
       let next : used_at u (a + count) ≤ l =
       elim (cases_lt (a + count) b) [
-        | inl below ↦ (let up = rising-to edge u c.1 b (a + count) below in omega (arith, up, at_b))
+        | inl below ↦ (let up = rising_to edge u c.1 b (a + count) below in omega (arith, up, at_b))
         | inr above ↦
             (let one : a + count ≡ b = omega (arith, far, above) in
             let f : used_at u (a + count) ≡ l = ap (λ (x : ℕ). used_at u x) one ∙ at_b in omega (arith, f))
       ] in
       let fits = c.2.fits a k (subst (λ (x : ℕ). operand_of (edge_at plan.graph e) k ≡ operands.From x) (sym at_a) reads) in
-      let late = later-at i (used_at u (a + count)) l task next in
+      let late = later_at i (used_at u (a + count)) l task next in
       omega (arith, ints, fits, late)
 
   -- instances in one cell take turns
-  pub instances-take-turns : (e i l m k : ℕ) → e < length plan.graph.edges → ComesFrom (edge_at plan.graph e).from i →
+  pub turns_are_taken : (e i l m k : ℕ) → e < length plan.graph.edges → ComesFrom (edge_at plan.graph e).from i →
       IsSome (place_on plan e l) → IsSome (place_on plan e m) → cell_of plan e l ≡ cell_of plan e m → l < m →
       operand_of (edge_at plan.graph e) k ≡ operands.From l → deadline_at plan (edge_at plan.graph e).to.0 k ≤ release_at plan i m
-  instances-take-turns e i l m k inside comes first second same before operand = turns (place_on plan e l) (place_on plan e m) refl refl
+  turns_are_taken e i l m k inside comes first second same before operand = turns (place_on plan e l) (place_on plan e m) refl refl
     where
       turns : (o p : Option ℕ) → place_on plan e l ≡ o → place_on plan e m ≡ p → deadline_at plan (edge_at plan.graph e).to.0 k ≤ release_at plan i m
       turns (Some a) (Some b) at_l at_m =
@@ -243,79 +243,79 @@ module _ (plan : PlanView) (is : IsPlan plan) where
           ap (λ (o : Option ℕ). slice_index plan.bases e + unwrap_or o 0 % slice_index plan.counts e) at_l in
           let two : cell_of plan e m ≡ slice_index plan.bases e + b % slice_index plan.counts e =
           ap (λ (o : Option ℕ). slice_index plan.bases e + unwrap_or o 0 % slice_index plan.counts e) at_m in
-          over-at e i k l m inside comes operand a b (place-stands (slice_index_or plan.used e no_used) l a at_l) (place-stands (slice_index_or plan.used e no_used) m b at_m)
+          over_at e i k l m inside comes operand a b (place_stands (slice_index_or plan.used e no_used) l a at_l) (place_stands (slice_index_or plan.used e no_used) m b at_m)
           (omega (arith, one, two, same)) before
       turns None p at_l at_m = absurd (let z : ◌≡◌ {A = Bool} false true = subst (λ (o : Option ℕ). IsSome o) at_l first in cc)
       turns (Some a) None at_l at_m = absurd (let z : ◌≡◌ {A = Bool} false true = subst (λ (o : Option ℕ). IsSome o) at_m second in cc)
 
 module _ (plan : PlanView) (is : IsPlan plan) (h : Horizon) (horizon : IsHorizon plan h) where
-  read-fits : (i n place m cell : ℕ) (reads : ReadsAt (constants_of plan h) i n place m cell) →
+  read_fits : (i n place m cell : ℕ) (reads : ReadsAt (constants_of plan h) i n place m cell) →
       IsActionOf plan i n (actions.Read reads.action.0 reads.action.1 m (record { 0 = cell }))
-  read-fits i n place m cell reads = subst (λ (a : Action). IsActionOf plan i n a) reads.action.2 (actions-fit plan i n place)
+  read_fits i n place m cell reads = subst (λ (a : Action). IsActionOf plan i n a) reads.action.2 (actions_fit plan i n place)
 
-  write-fits : (i n place m cell : ℕ) (writes : WritesAt (constants_of plan h) i n place m cell) →
+  write_fits : (i n place m cell : ℕ) (writes : WritesAt (constants_of plan h) i n place m cell) →
       IsActionOf plan i n (actions.Write writes.action.0 m (record { 0 = cell }))
-  write-fits i n place m cell writes = subst (λ (a : Action). IsActionOf plan i n a) writes.action.1 (actions-fit plan i n place)
+  write_fits i n place m cell writes = subst (λ (a : Action). IsActionOf plan i n a) writes.action.1 (actions_fit plan i n place)
 
-  read-in : (i n place m cell : ℕ) → ReadsAt (constants_of plan h) i n place m cell → cell < 2 * sum plan.counts
-  read-in i n place m cell reads =
-      let r = read-fits i n place m cell reads in
-      let w = operand-walks (edge_at plan.graph reads.action.1.0) n m r.3 in
-      let c = in-cells plan is reads.action.1.0 w.0 m r.0 w.1 in
-      half-below (cell_of plan reads.action.1.0 m) cell (sum plan.counts) r.4 c
+  read_in : (i n place m cell : ℕ) → ReadsAt (constants_of plan h) i n place m cell → cell < 2 * sum plan.counts
+  read_in i n place m cell reads =
+      let r = read_fits i n place m cell reads in
+      let w = operand_walks (edge_at plan.graph reads.action.1.0) n m r.3 in
+      let c = within_cells plan is reads.action.1.0 w.0 m r.0 w.1 in
+      half_below (cell_of plan reads.action.1.0 m) cell (sum plan.counts) r.4 c
 
-  write-in : (i n place m cell : ℕ) → WritesAt (constants_of plan h) i n place m cell → cell < 2 * sum plan.counts
-  write-in i n place m cell writes =
-      let w = write-fits i n place m cell writes in
-      let c = in-cells plan is writes.action.0.0 i n w.0 w.1 in
-      half-below (cell_of plan writes.action.0.0 n) cell (sum plan.counts) w.4 c
+  write_in : (i n place m cell : ℕ) → WritesAt (constants_of plan h) i n place m cell → cell < 2 * sum plan.counts
+  write_in i n place m cell writes =
+      let w = write_fits i n place m cell writes in
+      let c = within_cells plan is writes.action.0.0 i n w.0 w.1 in
+      half_below (cell_of plan writes.action.0.0 n) cell (sum plan.counts) w.4 c
 
-  one-edge : (i n place m j k other l cell : ℕ) (first : WritesAt (constants_of plan h) i n place m cell) (second : WritesAt (constants_of plan h) j k other l cell) →
+  one_edge : (i n place m j k other l cell : ℕ) (first : WritesAt (constants_of plan h) i n place m cell) (second : WritesAt (constants_of plan h) j k other l cell) →
       first.action.0.0 ≡ second.action.0.0
-  one-edge i n place m j k other l cell first second =
-      let a = write-fits i n place m cell first in
-      let b = write-fits j k other l cell second in
-      same-edge plan is first.action.0.0 second.action.0.0 i j n k a.0 b.0 a.1 b.1 (half-cell (cell_of plan first.action.0.0 n) (cell_of plan second.action.0.0 k) cell a.4 b.4)
+  one_edge i n place m j k other l cell first second =
+      let a = write_fits i n place m cell first in
+      let b = write_fits j k other l cell second in
+      same_edge plan is first.action.0.0 second.action.0.0 i j n k a.0 b.0 a.1 b.1 (half_cell (cell_of plan first.action.0.0 n) (cell_of plan second.action.0.0 k) cell a.4 b.4)
 
-  read-edge : (j k place m i n written l cell : ℕ) (reads : ReadsAt (constants_of plan h) j k place m cell) (writes : WritesAt (constants_of plan h) i n written l cell) →
+  read_edge : (j k place m i n written l cell : ℕ) (reads : ReadsAt (constants_of plan h) j k place m cell) (writes : WritesAt (constants_of plan h) i n written l cell) →
       reads.action.1.0 ≡ writes.action.0.0
-  read-edge j k place m i n written l cell reads writes =
-      let a = read-fits j k place m cell reads in
-      let b = write-fits i n written l cell writes in
-      let w = operand-walks (edge_at plan.graph reads.action.1.0) k m a.3 in
-      same-edge plan is reads.action.1.0 writes.action.0.0 w.0 i m n a.0 b.0 w.1 b.1 (half-cell (cell_of plan reads.action.1.0 m) (cell_of plan writes.action.0.0 n) cell a.4 b.4)
+  read_edge j k place m i n written l cell reads writes =
+      let a = read_fits j k place m cell reads in
+      let b = write_fits i n written l cell writes in
+      let w = operand_walks (edge_at plan.graph reads.action.1.0) k m a.3 in
+      same_edge plan is reads.action.1.0 writes.action.0.0 w.0 i m n a.0 b.0 w.1 b.1 (half_cell (cell_of plan reads.action.1.0 m) (cell_of plan writes.action.0.0 n) cell a.4 b.4)
 
-  one-writer : (i n place m j k other l cell : ℕ) → WritesAt (constants_of plan h) i n place m cell → WritesAt (constants_of plan h) j k other l cell → i ≡ j
-  one-writer i n place m j k other l cell first second =
-      let a = write-fits i n place m cell first in
-      let b = write-fits j k other l cell second in
-      let e = one-edge i n place m j k other l cell first second in
-      comes-one (edge_at plan.graph second.action.0.0).from i j (subst (λ (x : ℕ). ComesFrom (edge_at plan.graph x).from i) e a.1) b.1
+  one_writer : (i n place m j k other l cell : ℕ) → WritesAt (constants_of plan h) i n place m cell → WritesAt (constants_of plan h) j k other l cell → i ≡ j
+  one_writer i n place m j k other l cell first second =
+      let a = write_fits i n place m cell first in
+      let b = write_fits j k other l cell second in
+      let e = one_edge i n place m j k other l cell first second in
+      comes_one (edge_at plan.graph second.action.0.0).from i j (subst (λ (x : ℕ). ComesFrom (edge_at plan.graph x).from i) e a.1) b.1
 
-  one-place : (i n place m other l cell : ℕ) → WritesAt (constants_of plan h) i n place m cell → WritesAt (constants_of plan h) i n other l cell → place ≡ other
-  one-place i n place m other l cell first second =
-      let e = one-edge i n place m i n other l cell first second in
-      once-on plan i n second.action.0.0 cell place other
+  one_place : (i n place m other l cell : ℕ) → WritesAt (constants_of plan h) i n place m cell → WritesAt (constants_of plan h) i n other l cell → place ≡ other
+  one_place i n place m other l cell first second =
+      let e = one_edge i n place m i n other l cell first second in
+      once_on plan i n second.action.0.0 cell place other
       (subst (λ (a : Action). WritesTo second.action.0.0 cell a) (sym first.action.1) (e, refl))
       (subst (λ (a : Action). WritesTo second.action.0.0 cell a) (sym second.action.1) (refl, refl))
 
   provider : (j k place m cell : ℕ) → ReadsAt (constants_of plan h) j k place m cell →
       (i : ℕ) × (n : ℕ) × (written : ℕ) × Provides (constants_of plan h) m cell j k i n written
   provider j k place m cell reads =
-      let r = read-fits j k place m cell reads in
+      let r = read_fits j k place m cell reads in
       let e : ℕ = reads.action.1.0 in
       let edge : Edge = edge_at plan.graph e in
-      let w = operand-walks (edge_at plan.graph reads.action.1.0) k m r.3 in
+      let w = operand_walks (edge_at plan.graph reads.action.1.0) k m r.3 in
       let i : ℕ = w.0 in
-      let job = operand-job plan.graph is.graph h.until e i k m r.0 w.1
+      let job = operand_job plan.graph is.graph h.until e i k m r.0 w.1
       (subst (λ (x : ℕ). k < job_count (task_at plan.graph x) h.until) (sym r.1) reads.job.job) w.2 in
-      let c = cells-of plan is e i r.0 w.1 in
+      let c = cells_of_edge plan is e i r.0 w.1 in
       let used = c.1.all m (k, r.3) in
-      let at : place_on plan e m ≡ Some used.0 = place-found edge (slice_index_or plan.used e no_used) c.1 m used.0 used.1 in
+      let at : place_on plan e m ≡ Some used.0 = place_found edge (slice_index_or plan.used e no_used) c.1 m used.0 used.1 in
       let stands : Stands (actions_of plan i m) (actions.Write (record { 0 = e }) m (record { 0 = cell })) =
-      write-stands plan i m e edge (edge-stands plan is e r.0) w.1 (ap (λ (o : Option ℕ). is_some o) at)
-      (actions.Write (record { 0 = e }) m (record { 0 = cell })) (half-stands plan i m e cell r.4) in
-      let dates = along-at plan is e i k m r.0 w.1 w.2 in (
+      write_stands plan i m e edge (edge_stands plan is e r.0) w.1 (ap (λ (o : Option ℕ). is_some o) at)
+      (actions.Write (record { 0 = e }) m (record { 0 = cell })) (half_stands plan i m e cell r.4) in
+      let dates = along_at plan is e i k m r.0 w.1 w.2 in (
         i,
         m,
         stands.place,
@@ -329,79 +329,79 @@ module _ (plan : PlanView) (is : IsPlan plan) (h : Horizon) (horizon : IsHorizon
         },
       )
 
-  is-over : (j k place m i n written l cell : ℕ) → ReadsAt (constants_of plan h) j k place m cell → WritesAt (constants_of plan h) i n written l cell → m < l →
+  is_over : (j k place m i n written l cell : ℕ) → ReadsAt (constants_of plan h) j k place m cell → WritesAt (constants_of plan h) i n written l cell → m < l →
       deadline_at plan j k ≤ release_at plan i n
-  is-over j k place m i n written l cell reads writes before =
-      let r = read-fits j k place m cell reads in
-      let w = write-fits i n written l cell writes in
+  is_over j k place m i n written l cell reads writes before =
+      let r = read_fits j k place m cell reads in
+      let w = write_fits i n written l cell writes in
       let e : ℕ = writes.action.0.0 in
-      let same : reads.action.1.0 ≡ e = read-edge j k place m i n written l cell reads writes in
+      let same : reads.action.1.0 ≡ e = read_edge j k place m i n written l cell reads writes in
       let operand : operand_of (edge_at plan.graph e) k ≡ operands.From m =
       subst (λ (x : ℕ). operand_of (edge_at plan.graph x) k ≡ operands.From m) same r.3 in
       let to : (edge_at plan.graph e).to.0 ≡ j = subst (λ (x : ℕ). (edge_at plan.graph x).to.0 ≡ j) same r.1 in
       let read_cell : cell_of plan e m ≡ cell_of plan e n =
-      half-cell (cell_of plan e m) (cell_of plan e n) cell (subst (λ (x : ℕ). IsHalfOf (cell_of plan x m) cell) same r.4) w.4 in
-      let c = cells-of plan is e i w.0 w.1 in
+      half_cell (cell_of plan e m) (cell_of plan e n) cell (subst (λ (x : ℕ). IsHalfOf (cell_of plan x m) cell) same r.4) w.4 in
+      let c = cells_of_edge plan is e i w.0 w.1 in
       let a = c.1.all m (k, operand) in
-      let at : place_on plan e m ≡ Some a.0 = place-found (edge_at plan.graph e) (slice_index_or plan.used e no_used) c.1 m a.0 a.1 in
-      some-place (place_on plan e n) refl w.3 (λ b at_b.
+      let at : place_on plan e m ≡ Some a.0 = place_found (edge_at plan.graph e) (slice_index_or plan.used e no_used) c.1 m a.0 a.1 in
+      some_place (place_on plan e n) refl w.3 (λ b at_b.
       let first : cell_of plan e m ≡ slice_index plan.bases e + a.0 % slice_index plan.counts e =
       ap (λ (o : Option ℕ). slice_index plan.bases e + unwrap_or o 0 % slice_index plan.counts e) at in
       let second : cell_of plan e n ≡ slice_index plan.bases e + b % slice_index plan.counts e =
       ap (λ (o : Option ℕ). slice_index plan.bases e + unwrap_or o 0 % slice_index plan.counts e) at_b in
       let equal : a.0 % slice_index plan.counts e ≡ b % slice_index plan.counts e = omega (arith, first, second, read_cell) in
-      let over = over-at plan is e i k m n w.0 w.1 operand a.0 b a.1 (place-stands (slice_index_or plan.used e no_used) n b at_b) equal
+      let over = over_at plan is e i k m n w.0 w.1 operand a.0 b a.1 (place_stands (slice_index_or plan.used e no_used) n b at_b) equal
       (let own : l ≡ n = w.2 in omega (arith, own, before)) in
       subst (λ (x : ℕ). deadline_at plan x k ≤ release_at plan i n) to over)
     where
-      some-place : (o : Option ℕ) → place_on plan writes.action.0.0 n ≡ o → IsSome (place_on plan writes.action.0.0 n) →
+      some_place : (o : Option ℕ) → place_on plan writes.action.0.0 n ≡ o → IsSome (place_on plan writes.action.0.0 n) →
           ((b : ℕ) → place_on plan writes.action.0.0 n ≡ Some b → deadline_at plan j k ≤ release_at plan i n) → deadline_at plan j k ≤ release_at plan i n
-      some-place (Some b) at some then = then b at
-      some-place None at some then = absurd (let e : ◌≡◌ {A = Bool} false true = subst (λ (o : Option ℕ). IsSome o) at some in cc)
+      some_place (Some b) at some then = then b at
+      some_place None at some then = absurd (let e : ◌≡◌ {A = Bool} false true = subst (λ (o : Option ℕ). IsSome o) at some in cc)
 
-  positive-at : (i n : ℕ) → i < length plan.graph.tasks → 1 ≤ deadline_at plan i n
-  positive-at i n inside =
-      let r = room-at plan is i n inside in
-      let w : 1 ≤ (task_at plan.graph i).wcet = (task-fact plan is i inside).wcet.0 in
+  positive_at : (i n : ℕ) → i < length plan.graph.tasks → 1 ≤ deadline_at plan i n
+  positive_at i n inside =
+      let r = room_at plan is i n inside in
+      let w : 1 ≤ (task_at plan.graph i).wcet = (task_fact plan is i inside).wcet.0 in
       omega (arith, r, w)
 
-  window-at : (i n : ℕ) → i < length plan.graph.tasks → release_at plan i n < deadline_at plan i n
-  window-at i n inside =
-      let r = room-at plan is i n inside in
-      let w : 1 ≤ (task_at plan.graph i).wcet = (task-fact plan is i inside).wcet.0 in
+  window_of_job : (i n : ℕ) → i < length plan.graph.tasks → release_at plan i n < deadline_at plan i n
+  window_of_job i n inside =
+      let r = room_at plan is i n inside in
+      let w : 1 ≤ (task_at plan.graph i).wcet = (task_fact plan is i inside).wcet.0 in
       omega (arith, r, w)
 
-  edge-no : (a b : EdgeNo) → a.0 ≡ b.0 → a ≡ b
-  edge-no a b same = ap (λ (x : ℕ). (let e : EdgeNo = record { 0 = x } in e)) same
+  edge_no : (a b : EdgeNo) → a.0 ≡ b.0 → a ≡ b
+  edge_no a b same = ap (λ (x : ℕ). (let e : EdgeNo = record { 0 = x } in e)) same
 
-  pub plan-facts : HasPlanFacts (constants_of plan h)
-  plan-facts = record {
+  pub plan_has_facts : HasPlanFacts (constants_of plan h)
+  plan_has_facts = record {
     few = (let t = is.graph.few_tasks in omega (arith, t));
-    positive = λ i n job. positive-at i n job.task;
-    within = λ i n job. horizon.end.above i n (IsHorizonJob-count plan.graph h.until i n job.task (task-fact plan is i job.task).period.0 job.job);
-    window = λ i n job. window-at i n job.task;
-    apart = λ i m n job before. apart-at plan is i m n job.task before;
-    short = λ i n job. (let a = length-actions plan i n in let e = is.graph.few_edges in omega (arith, a, e));
-    last = λ i n place later job ends before. ends-last plan i n place later ends before;
-    read_cell = read-in;
-    write_cell = write-in;
-    own = λ i n place m cell writes. (write-fits i n place m cell writes).2;
-    writer = one-writer;
-    once = one-place;
-    paired = λ i n place job is. actions-paired plan i n place is;
+    positive = λ i n job. positive_at i n job.task;
+    within = λ i n job. horizon.end.above i n (IsHorizonJob_count plan.graph h.until i n job.task (task_fact plan is i job.task).period.0 job.job);
+    window = λ i n job. window_of_job i n job.task;
+    apart = λ i m n job before. apart_at plan is i m n job.task before;
+    short = λ i n job. (let a = length_actions plan i n in let e = is.graph.few_edges in omega (arith, a, e));
+    last = λ i n place later job ends before. ends_last plan i n place later ends before;
+    read_cell = read_in;
+    write_cell = write_in;
+    own = λ i n place m cell writes. (write_fits i n place m cell writes).2;
+    writer = one_writer;
+    once = one_place;
+    paired = λ i n place job is. actions_paired plan i n place is;
     edge = λ j k place m i n written l cell reads writes.
-        edge-no reads.action.1 writes.action.0 (read-edge j k place m i n written l cell reads writes);
+        edge_no reads.action.1 writes.action.0 (read_edge j k place m i n written l cell reads writes);
     provided = provider;
-    over = is-over;
+    over = is_over;
   }
 
   -- What a write replaces is over: no reader, of the horizon or not, is due after the writer's release.
-  pub replaced-over : (s : ExecState) → IsTagged (constants_of plan h) s → (i e n slot l k : ℕ) → HasJob (constants_of plan h) s i →
+  pub replaced_over : (s : ExecState) → IsTagged (constants_of plan h) s → (i e n slot l k : ℕ) → HasJob (constants_of plan h) s i →
       next_action (constants_of plan h) s i ≡ actions.Write (record { 0 = e }) n (record { 0 = slot }) → slice_index s.tags slot ≡ l + 1 →
       operand_of (edge_at plan.graph e) k ≡ operands.From l → deadline_at plan (edge_at plan.graph e).to.0 k ≤ release_at plan i n
-  replaced-over s tagged i e n slot l k has acts holds operand =
+  replaced_over s tagged i e n slot l k has acts holds operand =
       let here : WritesAt (constants_of plan h) i (slice_index s.ended i) (slice_index s.places i) n slot = record { job = record { task = has.task; job = has.job }; action = (record { 0 = e }, acts) } in
-      let w = write-fits i (slice_index s.ended i) (slice_index s.places i) n slot here in
+      let w = write_fits i (slice_index s.ended i) (slice_index s.places i) n slot here in
       let own : n ≡ slice_index s.ended i = w.2 in
       let below : slice_index s.tags slot ≤ n = tagged.ahead i (slice_index s.ended i) (slice_index s.places i) n slot here (inr (refl, (let z : slice_index s.places i ≤ slice_index s.places i = omega arith in z))) in
       let before : l < n = omega (arith, below, holds) in
@@ -410,12 +410,12 @@ module _ (plan : PlanView) (is : IsPlan plan) (h : Horizon) (horizon : IsHorizon
         | inr from ↦
             (let from_holds : slice_index s.tags slot ≡ from.instance + 1 = from.holds in
             let same : from.instance ≡ l = omega (arith, from_holds, holds) in
-            let v = write-fits from.task from.job from.place from.instance slot from.writes in
-            let edge : from.writes.action.0.0 ≡ e = one-edge from.task from.job from.place from.instance i (slice_index s.ended i) (slice_index s.places i) n slot from.writes here in
+            let v = write_fits from.task from.job from.place from.instance slot from.writes in
+            let edge : from.writes.action.0.0 ≡ e = one_edge from.task from.job from.place from.instance i (slice_index s.ended i) (slice_index s.places i) n slot from.writes here in
             let was : from.job ≡ l = sym v.2 ∙ same in
             let first : IsSome (place_on plan e l) = subst (λ (x : ℕ). IsSome (place_on plan e x)) was (subst (λ (x : ℕ). IsSome (place_on plan x from.job)) edge v.3) in
             let half : IsHalfOf (cell_of plan e l) slot = subst (λ (x : ℕ). IsHalfOf (cell_of plan e x) slot) was (subst (λ (x : ℕ). IsHalfOf (cell_of plan x from.job) slot) edge v.4) in
             let second : IsSome (place_on plan e n) = subst (λ (x : ℕ). IsSome (place_on plan e x)) (sym own) w.3 in
             let mine : IsHalfOf (cell_of plan e n) slot = subst (λ (x : ℕ). IsHalfOf (cell_of plan e x) slot) (sym own) w.4 in
-            instances-take-turns plan is e i l n k w.0 w.1 first second (half-cell (cell_of plan e l) (cell_of plan e n) slot half mine) before operand)
+            turns_are_taken plan is e i l n k w.0 w.1 first second (half_cell (cell_of plan e l) (cell_of plan e n) slot half mine) before operand)
       ]

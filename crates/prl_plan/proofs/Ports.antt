@@ -12,7 +12,7 @@ use Rattle.prl_plan.specs.declared.walks.Operand.TheVariants as operands
 use Rattle.prl_plan.specs.Graphs.{IsWellFormed, PortsFollow, AreInOrder}
 use Rattle.prl_plan.specs.Operands.{operand_of}
 use Rattle.prl_plan.specs.Plans.{PlanView, place_on, cell_of, low, high, both_writes, reading, reads_of, writing, writes_of, actions_of, operands_in, operands_before, IsAtPort}
-use Rattle.prl_plan.proofs.UsedLaws.{test-same, test-differs}
+use Rattle.prl_plan.proofs.UsedLaws.{test_same, test_differs}
 
 -- the reads of the list are at ports in order, from q on
 abbrev PortsFrom : ℕ → List Action → Type 0
@@ -34,16 +34,16 @@ both (actions.Write edge m slot ∷ xs) ys q first second = both xs ys q first (
 both (actions.End ∷ xs) ys q first second = both xs ys q first (move ys (q + (0 + operands_in xs)) (q + operands_in xs) (omega arith) second)
 
 -- so a read at a place is at the port that is the number of operands before it
-at-port : (xs : List Action) (q r place : ℕ) → PortsFrom q xs → IsAtPort r (get_or xs place actions.End) → r ≡ q + operands_before xs place
-at-port [] q r place h is = absurd is
-at-port (actions.ReadConst port value ∷ xs) q r zero h is = (let e : port ≡ q = h.0 in let f : port ≡ r = is in omega (arith, e, f))
-at-port (actions.Read port edge m slot ∷ xs) q r zero h is = (let e : port ≡ q = h.0 in let f : port ≡ r = is in omega (arith, e, f))
-at-port (actions.Write edge m slot ∷ xs) q r zero h is = absurd is
-at-port (actions.End ∷ xs) q r zero h is = absurd is
-at-port (actions.ReadConst port value ∷ xs) q r (suc place) h is = (let e = at-port xs (q + 1) r place h.1 is in omega (arith, e))
-at-port (actions.Read port edge m slot ∷ xs) q r (suc place) h is = (let e = at-port xs (q + slot.0 % 2) r place h.1 is in omega (arith, e))
-at-port (actions.Write edge m slot ∷ xs) q r (suc place) h is = (let e = at-port xs q r place h is in omega (arith, e))
-at-port (actions.End ∷ xs) q r (suc place) h is = (let e = at-port xs q r place h is in omega (arith, e))
+at_port : (xs : List Action) (q r place : ℕ) → PortsFrom q xs → IsAtPort r (get_or xs place actions.End) → r ≡ q + operands_before xs place
+at_port [] q r place h is = absurd is
+at_port (actions.ReadConst port value ∷ xs) q r zero h is = (let e : port ≡ q = h.0 in let f : port ≡ r = is in omega (arith, e, f))
+at_port (actions.Read port edge m slot ∷ xs) q r zero h is = (let e : port ≡ q = h.0 in let f : port ≡ r = is in omega (arith, e, f))
+at_port (actions.Write edge m slot ∷ xs) q r zero h is = absurd is
+at_port (actions.End ∷ xs) q r zero h is = absurd is
+at_port (actions.ReadConst port value ∷ xs) q r (suc place) h is = (let e = at_port xs (q + 1) r place h.1 is in omega (arith, e))
+at_port (actions.Read port edge m slot ∷ xs) q r (suc place) h is = (let e = at_port xs (q + slot.0 % 2) r place h.1 is in omega (arith, e))
+at_port (actions.Write edge m slot ∷ xs) q r (suc place) h is = (let e = at_port xs q r place h is in omega (arith, e))
+at_port (actions.End ∷ xs) q r (suc place) h is = (let e = at_port xs q r place h is in omega (arith, e))
 
 module _ (plan : PlanView) (i n : ℕ) where
   even : (c : ℕ) → low c % 2 ≡ 0
@@ -52,35 +52,35 @@ module _ (plan : PlanView) (i n : ℕ) where
   odd : (c : ℕ) → high c % 2 ≡ 1
   odd c = omega arith
 
-  reading-ports : (e : ℕ) (edge : Edge) (operand : Operand) (q : ℕ) → edge.port ≡ q → PortsFrom q (reading plan e edge operand)
-  reading-ports e edge (operands.Const c) q at = (at, tt)
-  reading-ports e edge (operands.From m) q at = (at, ((let z = even (cell_of plan e m) in omega (arith, at, z)), tt))
+  reading_ports : (e : ℕ) (edge : Edge) (operand : Operand) (q : ℕ) → edge.port ≡ q → PortsFrom q (reading plan e edge operand)
+  reading_ports e edge (operands.Const c) q at = (at, tt)
+  reading_ports e edge (operands.From m) q at = (at, ((let z = even (cell_of plan e m) in omega (arith, at, z)), tt))
 
-  reading-one : (e : ℕ) (edge : Edge) (operand : Operand) → operands_in (reading plan e edge operand) ≡ 1
-  reading-one e edge (operands.Const c) = refl
-  reading-one e edge (operands.From m) = (let y = even (cell_of plan e m) in let z = odd (cell_of plan e m) in omega (arith, y, z))
+  reading_one : (e : ℕ) (edge : Edge) (operand : Operand) → operands_in (reading plan e edge operand) ≡ 1
+  reading_one e edge (operands.Const c) = refl
+  reading_one e edge (operands.From m) = (let y = even (cell_of plan e m) in let z = odd (cell_of plan e m) in omega (arith, y, z))
 
   -- the reads of one edge, before those of the others
-  one-edge : (e : ℕ) (x : Edge) (edges : List Edge) (q : ℕ) → (x.to.0 ≡ i → q ≡ x.port) → (x.to.0 < i → q ≡ 0) →
+  one_edge : (e : ℕ) (x : Edge) (edges : List Edge) (q : ℕ) → (x.to.0 ≡ i → q ≡ x.port) → (x.to.0 < i → q ≡ 0) →
       ((r : ℕ) → (x.to.0 ≡ i → r ≡ x.port + 1) → (x.to.0 < i → r ≡ 0) → PortsFrom r (reads_of plan i n (e + 1) edges)) → PortsFrom q (reads_of plan i n e (x ∷ edges))
-  one-edge e x edges q same less rest =
+  one_edge e x edges q same less rest =
       elim (cases_eq x.to.0 i) [
         | inl here ↦
             (let at = same here in
-            subst (λ (b : Bool). PortsFrom q (cond b (reading plan e x (operand_of x n)) [] ++ reads_of plan i n (e + 1) edges)) (sym (test-same x.to.0 i here))
-            (both (reading plan e x (operand_of x n)) (reads_of plan i n (e + 1) edges) q (reading-ports e x (operand_of x n) q (sym at))
-            (let one = reading-one e x (operand_of x n) in
+            subst (λ (b : Bool). PortsFrom q (cond b (reading plan e x (operand_of x n)) [] ++ reads_of plan i n (e + 1) edges)) (sym (test_same x.to.0 i here))
+            (both (reading plan e x (operand_of x n)) (reads_of plan i n (e + 1) edges) q (reading_ports e x (operand_of x n) q (sym at))
+            (let one = reading_one e x (operand_of x n) in
             rest (q + operands_in (reading plan e x (operand_of x n))) (λ h. omega (arith, one, at)) (λ h. absurd (omega (arith, h, here))))))
         | inr other ↦
-            (subst (λ (b : Bool). PortsFrom q (cond b (reading plan e x (operand_of x n)) [] ++ reads_of plan i n (e + 1) edges)) (sym (test-differs x.to.0 i other))
+            (subst (λ (b : Bool). PortsFrom q (cond b (reading plan e x (operand_of x n)) [] ++ reads_of plan i n (e + 1) edges)) (sym (test_differs x.to.0 i other))
             (rest q (λ h. absurd (other h)) less))
       ]
 
-  rest-ports : (e : ℕ) (x : Edge) (edges : List Edge) → PortsFollow x.to.0 x.port edges → (q : ℕ) → (x.to.0 ≡ i → q ≡ x.port + 1) → (x.to.0 < i → q ≡ 0) →
+  rest_ports : (e : ℕ) (x : Edge) (edges : List Edge) → PortsFollow x.to.0 x.port edges → (q : ℕ) → (x.to.0 ≡ i → q ≡ x.port + 1) → (x.to.0 < i → q ≡ 0) →
       PortsFrom q (reads_of plan i n e edges)
-  rest-ports e x [] follow q same less = tt
-  rest-ports e x (y ∷ edges) follow q same less =
-      one-edge e y edges q
+  rest_ports e x [] follow q same less = tt
+  rest_ports e x (y ∷ edges) follow q same less =
+      one_edge e y edges q
       (λ at. elim follow.0 [
         | inl next ↦ (let t = next.0 in let p = next.1 in let s = same (omega (arith, t, at)) in omega (arith, s, p))
         | inr later ↦ (let t = later.0 in let p = later.1 in let s = less (omega (arith, t, at)) in omega (arith, s, p))
@@ -89,35 +89,35 @@ module _ (plan : PlanView) (i n : ℕ) where
         | inl next ↦ (let t = next.0 in less (omega (arith, t, under)))
         | inr later ↦ (let t = later.0 in less (omega (arith, t, under)))
       ])
-      (λ r. rest-ports (e + 1) y edges follow.1 r)
+      (λ r. rest_ports (e + 1) y edges follow.1 r)
 
-  all-ports : (edges : List Edge) → AreInOrder edges → PortsFrom 0 (reads_of plan i n 0 edges)
-  all-ports [] order = tt
-  all-ports (x ∷ edges) order = one-edge 0 x edges 0 (λ at. sym order.0) (λ under. refl) (λ r. rest-ports 1 x edges order.1 r)
+  all_ports : (edges : List Edge) → AreInOrder edges → PortsFrom 0 (reads_of plan i n 0 edges)
+  all_ports [] order = tt
+  all_ports (x ∷ edges) order = one_edge 0 x edges 0 (λ at. sym order.0) (λ under. refl) (λ r. rest_ports 1 x edges order.1 r)
 
-  writing-ports : (e : ℕ) (from : Producer) (q : ℕ) → PortsFrom q (writing plan i n e from)
-  writing-ports e (producers.Constant value) q = tt
-  writing-ports e (producers.Port task out) q = go (eqb task.0 i) (is_some (place_on plan e n))
+  writing_ports : (e : ℕ) (from : Producer) (q : ℕ) → PortsFrom q (writing plan i n e from)
+  writing_ports e (producers.Constant value) q = tt
+  writing_ports e (producers.Port task out) q = go (eqb task.0 i) (is_some (place_on plan e n))
     where
       go : (a b : Bool) → PortsFrom q (cond a (cond b (both_writes plan e n) []) [])
       go true true = tt
       go true false = tt
       go false b = tt
 
-  writes-ports : (e : ℕ) (edges : List Edge) (q : ℕ) → PortsFrom q (writes_of plan i n e edges)
-  writes-ports e [] q = tt
-  writes-ports e (edge ∷ edges) q =
-      both (writing plan i n e edge.from) (writes_of plan i n (e + 1) edges) q (writing-ports e edge.from q)
-      (writes-ports (e + 1) edges (q + operands_in (writing plan i n e edge.from)))
+  writes_ports : (e : ℕ) (edges : List Edge) (q : ℕ) → PortsFrom q (writes_of plan i n e edges)
+  writes_ports e [] q = tt
+  writes_ports e (edge ∷ edges) q =
+      both (writing plan i n e edge.from) (writes_of plan i n (e + 1) edges) q (writing_ports e edge.from q)
+      (writes_ports (e + 1) edges (q + operands_in (writing plan i n e edge.from)))
 
-  actions-ports : AreInOrder plan.graph.edges → PortsFrom 0 (actions_of plan i n)
-  actions-ports order =
+  actions_ports : AreInOrder plan.graph.edges → PortsFrom 0 (actions_of plan i n)
+  actions_ports order =
       both (reads_of plan i n 0 plan.graph.edges ++ writes_of plan i n 0 plan.graph.edges) (actions.End ∷ []) 0
-      (both (reads_of plan i n 0 plan.graph.edges) (writes_of plan i n 0 plan.graph.edges) 0 (all-ports plan.graph.edges order)
-      (writes-ports 0 plan.graph.edges (0 + operands_in (reads_of plan i n 0 plan.graph.edges)))) tt
+      (both (reads_of plan i n 0 plan.graph.edges) (writes_of plan i n 0 plan.graph.edges) 0 (all_ports plan.graph.edges order)
+      (writes_ports 0 plan.graph.edges (0 + operands_in (reads_of plan i n 0 plan.graph.edges)))) tt
 
 -- each read is at the port that is the number of operands which the actions before it complete
-pub ports-in-order : (plan : PlanView) → IsWellFormed plan.graph → (i n place port : ℕ) → IsAtPort port (get_or (actions_of plan i n) place actions.End) →
+pub ports_in_order : (plan : PlanView) → IsWellFormed plan.graph → (i n place port : ℕ) → IsAtPort port (get_or (actions_of plan i n) place actions.End) →
     operands_before (actions_of plan i n) place ≡ port
-ports-in-order plan good i n place port is =
-    (let e = at-port (actions_of plan i n) 0 port place (actions-ports plan i n good.order) is in omega (arith, e))
+ports_in_order plan good i n place port is =
+    (let e = at_port (actions_of plan i n) 0 port place (actions_ports plan i n good.order) is in omega (arith, e))

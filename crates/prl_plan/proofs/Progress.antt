@@ -11,8 +11,8 @@ use Rattle.prl_plan.specs.States.{IsSound, IsLeastReleased}
 
 module _ (c : RunConstants) (facts : HasPlanFacts c) where
   -- the first unfinished job of a task is released no later than the others
-  first-earlier : (s : ExecState) (j n : ℕ) → IsUnfinished c s j n → c.release j (first_unfinished s j) ≤ c.release j n
-  first-earlier s j n left =
+  first_earlier : (s : ExecState) (j n : ℕ) → IsUnfinished c s j n → c.release j (first_unfinished s j) ≤ c.release j n
+  first_earlier s j n left =
       elim (cases_lt (get_or s.ended j 0) n) [
         | inl before ↦
             (let first : IsJob c j (get_or s.ended j 0) = record { task = left.task; job = (let h = left.job in omega (arith, h, before)) } in
@@ -26,8 +26,8 @@ module _ (c : RunConstants) (facts : HasPlanFacts c) where
             omega (arith, e))
       ]
 
-  first-left : (s : ExecState) (j n : ℕ) → IsUnfinished c s j n → HasJob c s j
-  first-left s j n left = record {
+  first_left : (s : ExecState) (j n : ℕ) → IsUnfinished c s j n → HasJob c s j
+  first_left s j n left = record {
     task = left.task;
     job = (let h = left.job in let u : get_or s.ended j 0 ≤ n = left.unfinished in let z : get_or s.ended j 0 < c.jobs j = omega (arith, h, u) in z);
     unfinished = (let z : get_or s.ended j 0 ≤ get_or s.ended j 0 = omega arith in z);
@@ -56,9 +56,9 @@ module _ (c : RunConstants) (facts : HasPlanFacts c) where
             (let lower : m + 1 ≤ get_or s.tags slot 0 = sound.tagged.written j k (before.2) m slot provides.writes (inl ended) in omega (arith, upper, lower))
         | inr left ↦ absurd
             (let unfinished : IsUnfinished c s j k = record { task = provides.writes.job.task; job = provides.writes.job.job; unfinished = left } in
-            let first : c.release j (first_unfinished s j) ≤ c.release j k = first-earlier s j k unfinished in
+            let first : c.release j (first_unfinished s j) ≤ c.release j k = first_earlier s j k unfinished in
             let not_before : c.release i n ≤ c.release j (first_unfinished s j) =
-            least.least j (first-left s j k unfinished) (omega (arith, first, earlier, now)) in
+            least.least j (first_left s j k unfinished) (omega (arith, first, earlier, now)) in
             omega (arith, first, not_before, earlier))
       ]
 
@@ -71,8 +71,8 @@ module _ (c : RunConstants) (facts : HasPlanFacts c) where
     where
       ended : (i k : ℕ) → IsUnfinished c s i k → s.now + 1 < c.deadline i k
       ended i k unfinished =
-          let early : s.now < c.release i (first_unfinished s i) = none i (first-left s i k unfinished) in
-          let first : c.release i (first_unfinished s i) ≤ c.release i k = first-earlier s i k unfinished in
+          let early : s.now < c.release i (first_unfinished s i) = none i (first_left s i k unfinished) in
+          let first : c.release i (first_unfinished s i) ≤ c.release i k = first_earlier s i k unfinished in
           let wide : c.release i k < c.deadline i k = facts.window i k (record { task = unfinished.task; job = unfinished.job }) in
           omega (arith, early, first, wide)
 
@@ -92,8 +92,8 @@ module _ (c : RunConstants) (facts : HasPlanFacts c) where
   abbrev Ready : ExecState → ℕ → Type 0
   Ready s k = HasJob c s k × ActsReleased c s k
 
-  ready-or : (s : ExecState) (k : ℕ) → k < c.tasks → Ready s k ⊎ (Ready s k → ⊥)
-  ready-or s k inside =
+  ready_or : (s : ExecState) (k : ℕ) → k < c.tasks → Ready s k ⊎ (Ready s k → ⊥)
+  ready_or s k inside =
       elim (cases_lt (get_or s.ended k 0) (c.jobs k)) [
         | inr over ↦ inr (λ ready. let h : get_or s.ended k 0 < c.jobs k = ready.0.job in omega (arith, over, h))
         | inl some ↦
@@ -106,13 +106,13 @@ module _ (c : RunConstants) (facts : HasPlanFacts c) where
             ])
       ]
 
-  below-or-at : (j k : ℕ) → j < suc k → (j < k) ⊎ (j ≡ k)
-  below-or-at j k below = elim (cases_lt j k) [ inl less ↦ inl less | inr not_less ↦ inr (omega (arith, below, not_less)) ]
+  below_or_at : (j k : ℕ) → j < suc k → (j < k) ⊎ (j ≡ k)
+  below_or_at j k below = elim (cases_lt j k) [ inl less ↦ inl less | inr not_less ↦ inr (omega (arith, below, not_less)) ]
 
   search : (s : ExecState) (k : ℕ) → k ≤ c.tasks → ((i : ℕ) × LeastBelow s k i) ⊎ ((j : ℕ) → j < k → Ready s j → ⊥)
   search s zero within = inr (λ j below ready. omega (arith, below))
   search s (suc k) within =
-      elim (ready-or s k (omega (arith, within))) [
+      elim (ready_or s k (omega (arith, within))) [
         | inr idle ↦
             (elim (search s k (omega (arith, within))) [
               | inl found ↦ inl (
@@ -120,13 +120,13 @@ module _ (c : RunConstants) (facts : HasPlanFacts c) where
                 record {
                   job = found.1.job;
                   released = found.1.released;
-                  least = λ j below has now. elim (below-or-at j k below) [
+                  least = λ j below has now. elim (below_or_at j k below) [
                     | inl less ↦ found.1.least j less has now
                     | inr at ↦ absurd (idle (subst (λ x. HasJob c s x) at has, subst (λ x. ActsReleased c s x) at now))
                   ];
                 },
               )
-              | inr none ↦ inr (λ j below ready. elim (below-or-at j k below) [
+              | inr none ↦ inr (λ j below ready. elim (below_or_at j k below) [
                 | inl less ↦ none j less ready
                 | inr at ↦ idle (subst (λ x. Ready s x) at ready)
               ])
@@ -138,7 +138,7 @@ module _ (c : RunConstants) (facts : HasPlanFacts c) where
                 record {
                   job = ready.0;
                   released = ready.1;
-                  least = λ j below has now. elim (below-or-at j k below) [
+                  least = λ j below has now. elim (below_or_at j k below) [
                     | inl less ↦ absurd (none j less (has, now))
                     | inr at ↦ (let e : c.release j (get_or s.ended j 0) ≡ c.release k (get_or s.ended k 0) = ap (λ x. c.release x (get_or s.ended x 0)) at in omega (arith, e))
                   ];
@@ -151,7 +151,7 @@ module _ (c : RunConstants) (facts : HasPlanFacts c) where
                       record {
                         job = ready.0;
                         released = ready.1;
-                        least = λ j below has now. elim (below-or-at j k below) [
+                        least = λ j below has now. elim (below_or_at j k below) [
                           | inl less ↦ (let h : c.release found.0 (get_or s.ended found.0 0) ≤ c.release j (get_or s.ended j 0) = found.1.least j less has now in omega (arith, h, earlier))
                           | inr at ↦ (let e : c.release j (get_or s.ended j 0) ≡ c.release k (get_or s.ended k 0) = ap (λ x. c.release x (get_or s.ended x 0)) at in omega (arith, e))
                         ];
@@ -162,7 +162,7 @@ module _ (c : RunConstants) (facts : HasPlanFacts c) where
                       record {
                         job = found.1.job;
                         released = found.1.released;
-                        least = λ j below has now. elim (below-or-at j k below) [
+                        least = λ j below has now. elim (below_or_at j k below) [
                           | inl less ↦ found.1.least j less has now
                           | inr at ↦ (let e : c.release j (get_or s.ended j 0) ≡ c.release k (get_or s.ended k 0) = ap (λ x. c.release x (get_or s.ended x 0)) at in omega (arith, e, not_earlier))
                         ];

@@ -21,46 +21,46 @@ use Rattle.prl_plan.specs.Precedence.{preceding, ComesFrom}
 use Rattle.prl_plan.specs.Intervals.{natural}
 use Rattle.prl_plan.specs.Cells.{Reads, IsUsed}
 use Rattle.prl_plan.specs.FirstReaders.{IsFirstReader, first_reader, first_instance}
-use Rattle.prl_plan.specs.CellTurns.{IsAsked, IsAskedBehind}
-use Rattle.prl_plan.proofs.Floors.{floor-least, mono, suc-is, pred-is}
-use Rattle.prl_plan.proofs.WalkLaws.{walk-preceding, operand-walks}
+use Rattle.prl_plan.specs.CellTurns.{IsAsked, IsAskedFrom}
+use Rattle.prl_plan.proofs.Floors.{floor_least, mono, suc_is, pred_is}
+use Rattle.prl_plan.proofs.WalkLaws.{walk_preceding, operand_walks}
 
 -- the operators of an edge of this type
 abbrev pub AreOperators : Ty → List Op → Type 0
 AreOperators ty ops = (k : ℕ) (op : Op) → slice_get ops k ≡ Some op → IsOperatorFor ty op
 
-le-self : (a : ℤ) → a ≤ℤ a
-le-self a = omega (arith, ints)
+le_self : (a : ℤ) → a ≤ℤ a
+le_self a = omega (arith, ints)
 
-floor-rises : (a b : ℤ) (k : ℕ) → 1 ≤ k → a ≤ℤ b → floor_div a k ≤ℤ floor_div b k
-floor-rises a b k some h =
-    let low : (pos k *ℤ floor_div a k) ≤ℤ a = (floor-least a (floor_div a k) k some).0 (le-self (floor_div a k)) in
-    (floor-least b (floor_div a k) k some).1 (omega (arith, ints, low, h))
+floor_rises : (a b : ℤ) (k : ℕ) → 1 ≤ k → a ≤ℤ b → floor_div a k ≤ℤ floor_div b k
+floor_rises a b k some h =
+    let low : (pos k *ℤ floor_div a k) ≤ℤ a = (floor_least a (floor_div a k) k some).0 (le_self (floor_div a k)) in
+    (floor_least b (floor_div a k) k some).1 (omega (arith, ints, low, h))
 
 -- a later job is preceded by no earlier one
-pub preceding-rises : (ty : Ty) (ops : List Op) → AreOperators ty ops → (a b : ℤ) → a ≤ℤ b → preceding ops a ≤ℤ preceding ops b
-preceding-rises ty [] are a b h = h
-preceding-rises ty (operators.Up k ∷ ops) are a b h =
-    preceding-rises ty ops (λ j o is. are (suc j) o is) (floor_div a k) (floor_div b k) (floor-rises a b k (are 0 (operators.Up k) refl).0 h)
-preceding-rises ty (operators.Down k ∷ ops) are a b h =
-    preceding-rises ty ops (λ j o is. are (suc j) o is) (pos k *ℤ a) (pos k *ℤ b) (mono k a b h)
-preceding-rises ty (operators.Shift q ∷ ops) are a b h = preceding-rises ty ops (λ j o is. are (suc j) o is) a b h
-preceding-rises ty (operators.Tail ∷ ops) are a b h =
-    let x = suc-is a in
-    let y = suc-is b in
-    preceding-rises ty ops (λ j o is. are (suc j) o is) _ _ (omega (arith, ints, h, x, y))
-preceding-rises ty (operators.Cons c ∷ ops) are a b h =
-    let x = pred-is a in
-    let y = pred-is b in
-    preceding-rises ty ops (λ j o is. are (suc j) o is) _ _ (omega (arith, ints, h, x, y))
-preceding-rises ty (operators.Fby c ∷ ops) are a b h =
-    let x = pred-is a in
-    let y = pred-is b in
-    preceding-rises ty ops (λ j o is. are (suc j) o is) _ _ (omega (arith, ints, h, x, y))
+pub preceding_rises : (ty : Ty) (ops : List Op) → AreOperators ty ops → (a b : ℤ) → a ≤ℤ b → preceding ops a ≤ℤ preceding ops b
+preceding_rises ty [] are a b h = h
+preceding_rises ty (operators.Up k ∷ ops) are a b h =
+    preceding_rises ty ops (λ j o is. are (suc j) o is) (floor_div a k) (floor_div b k) (floor_rises a b k (are 0 (operators.Up k) refl).0 h)
+preceding_rises ty (operators.Down k ∷ ops) are a b h =
+    preceding_rises ty ops (λ j o is. are (suc j) o is) (pos k *ℤ a) (pos k *ℤ b) (mono k a b h)
+preceding_rises ty (operators.Shift q ∷ ops) are a b h = preceding_rises ty ops (λ j o is. are (suc j) o is) a b h
+preceding_rises ty (operators.Tail ∷ ops) are a b h =
+    let x = suc_is a in
+    let y = suc_is b in
+    preceding_rises ty ops (λ j o is. are (suc j) o is) _ _ (omega (arith, ints, h, x, y))
+preceding_rises ty (operators.Cons c ∷ ops) are a b h =
+    let x = pred_is a in
+    let y = pred_is b in
+    preceding_rises ty ops (λ j o is. are (suc j) o is) _ _ (omega (arith, ints, h, x, y))
+preceding_rises ty (operators.Fby c ∷ ops) are a b h =
+    let x = pred_is a in
+    let y = pred_is b in
+    preceding_rises ty ops (λ j o is. are (suc j) o is) _ _ (omega (arith, ints, h, x, y))
 
 -- the quotient rounded up
-ceil-most : (p n k : ℕ) → 1 ≤ k → p ≤ k * n → div_ceil p k ≤ n
-ceil-most p n k some h =
+ceil_most : (p n k : ℕ) → 1 ≤ k → p ≤ k * n → div_ceil p k ≤ n
+ceil_most p n k some h =
     let e : k * (p / k) + p % k ≡ p = omega arith in
     elim (cases_lt n (p / k)) [
       | inl below ↦ absurd
@@ -77,8 +77,8 @@ ceil-most p n k some h =
           ]
     ]
 
-ceil-least : (p n k : ℕ) → 1 ≤ k → div_ceil p k ≤ n → p ≤ k * n
-ceil-least p n k some h =
+ceil_least : (p n k : ℕ) → 1 ≤ k → div_ceil p k ≤ n → p ≤ k * n
+ceil_least p n k some h =
     let e : k * (p / k) + p % k ≡ p = omega arith in
     let b : p % k < k = omega (arith, some) in
     elim (cases_lt (p / k) n) [
@@ -93,81 +93,81 @@ ceil-least p n k some h =
           omega (arith, e, f, none))
     ]
 
-up-most : (p n k : ℕ) → 1 ≤ k → k * p ≤ n → p ≤ n / k
-up-most p n k some h = le-div p n k some (let e : p * k ≡ k * p = omega arith in omega (arith, e, h))
+up_most : (p n k : ℕ) → 1 ≤ k → k * p ≤ n → p ≤ n / k
+up_most p n k some h = le-div p n k some (let e : p * k ≡ k * p = omega arith in omega (arith, e, h))
 
-up-least : (p n k : ℕ) → p ≤ n / k → k * p ≤ n
-up-least p n k h =
+up_least : (p n k : ℕ) → p ≤ n / k → k * p ≤ n
+up_least p n k h =
     let up : k * p ≤ k * (n / k) = mul-le-mul_left k h in
     let e : k * (n / k) + n % k ≡ n = omega arith in
     omega (arith, up, e)
 
-reads-from : (ty : Ty) (ops : List Op) → AreOperators ty ops → (n : ℕ) → first_reader ops ≤ n → (m : ℕ) × (walk ops n ≡ operands.From m)
-reads-from ty [] are n h = (n, refl)
-reads-from ty (operators.Up k ∷ ops) are n h =
-    reads-from ty ops (λ j o is. are (suc j) o is) (n / k) (up-most (first_reader ops) n k (are 0 (operators.Up k) refl).0 h)
-reads-from ty (operators.Down k ∷ ops) are n h =
-    reads-from ty ops (λ j o is. are (suc j) o is) (k * n) (ceil-least (first_reader ops) n k (are 0 (operators.Down k) refl).0 h)
-reads-from ty (operators.Shift q ∷ ops) are n h = reads-from ty ops (λ j o is. are (suc j) o is) n h
-reads-from ty (operators.Tail ∷ ops) are n h = reads-from ty ops (λ j o is. are (suc j) o is) (n + 1) (omega (arith, h))
-reads-from ty (operators.Cons c ∷ ops) are zero h = absurd (omega (arith, h))
-reads-from ty (operators.Cons c ∷ ops) are (suc n) h = reads-from ty ops (λ j o is. are (suc j) o is) n (omega (arith, h))
-reads-from ty (operators.Fby c ∷ ops) are zero h = absurd (omega (arith, h))
-reads-from ty (operators.Fby c ∷ ops) are (suc n) h = reads-from ty ops (λ j o is. are (suc j) o is) n (omega (arith, h))
+reads_from : (ty : Ty) (ops : List Op) → AreOperators ty ops → (n : ℕ) → first_reader ops ≤ n → (m : ℕ) × (walk ops n ≡ operands.From m)
+reads_from ty [] are n h = (n, refl)
+reads_from ty (operators.Up k ∷ ops) are n h =
+    reads_from ty ops (λ j o is. are (suc j) o is) (n / k) (up_most (first_reader ops) n k (are 0 (operators.Up k) refl).0 h)
+reads_from ty (operators.Down k ∷ ops) are n h =
+    reads_from ty ops (λ j o is. are (suc j) o is) (k * n) (ceil_least (first_reader ops) n k (are 0 (operators.Down k) refl).0 h)
+reads_from ty (operators.Shift q ∷ ops) are n h = reads_from ty ops (λ j o is. are (suc j) o is) n h
+reads_from ty (operators.Tail ∷ ops) are n h = reads_from ty ops (λ j o is. are (suc j) o is) (n + 1) (omega (arith, h))
+reads_from ty (operators.Cons c ∷ ops) are zero h = absurd (omega (arith, h))
+reads_from ty (operators.Cons c ∷ ops) are (suc n) h = reads_from ty ops (λ j o is. are (suc j) o is) n (omega (arith, h))
+reads_from ty (operators.Fby c ∷ ops) are zero h = absurd (omega (arith, h))
+reads_from ty (operators.Fby c ∷ ops) are (suc n) h = reads_from ty ops (λ j o is. are (suc j) o is) n (omega (arith, h))
 
-not-before : (ty : Ty) (ops : List Op) → AreOperators ty ops → (n m : ℕ) → walk ops n ≡ operands.From m → first_reader ops ≤ n
-not-before ty [] are n m h = omega arith
-not-before ty (operators.Up k ∷ ops) are n m h =
-    up-least (first_reader ops) n k (not-before ty ops (λ j o is. are (suc j) o is) (n / k) m h)
-not-before ty (operators.Down k ∷ ops) are n m h =
-    ceil-most (first_reader ops) n k (are 0 (operators.Down k) refl).0 (not-before ty ops (λ j o is. are (suc j) o is) (k * n) m h)
-not-before ty (operators.Shift q ∷ ops) are n m h = not-before ty ops (λ j o is. are (suc j) o is) n m h
-not-before ty (operators.Tail ∷ ops) are n m h =
-    (let g = not-before ty ops (λ j o is. are (suc j) o is) (n + 1) m h in omega (arith, g))
-not-before ty (operators.Cons c ∷ ops) are zero m h = cc
-not-before ty (operators.Cons c ∷ ops) are (suc n) m h =
-    (let g = not-before ty ops (λ j o is. are (suc j) o is) n m h in omega (arith, g))
-not-before ty (operators.Fby c ∷ ops) are zero m h = cc
-not-before ty (operators.Fby c ∷ ops) are (suc n) m h =
-    (let g = not-before ty ops (λ j o is. are (suc j) o is) n m h in omega (arith, g))
+never_before : (ty : Ty) (ops : List Op) → AreOperators ty ops → (n m : ℕ) → walk ops n ≡ operands.From m → first_reader ops ≤ n
+never_before ty [] are n m h = omega arith
+never_before ty (operators.Up k ∷ ops) are n m h =
+    up_least (first_reader ops) n k (never_before ty ops (λ j o is. are (suc j) o is) (n / k) m h)
+never_before ty (operators.Down k ∷ ops) are n m h =
+    ceil_most (first_reader ops) n k (are 0 (operators.Down k) refl).0 (never_before ty ops (λ j o is. are (suc j) o is) (k * n) m h)
+never_before ty (operators.Shift q ∷ ops) are n m h = never_before ty ops (λ j o is. are (suc j) o is) n m h
+never_before ty (operators.Tail ∷ ops) are n m h =
+    (let g = never_before ty ops (λ j o is. are (suc j) o is) (n + 1) m h in omega (arith, g))
+never_before ty (operators.Cons c ∷ ops) are zero m h = cc
+never_before ty (operators.Cons c ∷ ops) are (suc n) m h =
+    (let g = never_before ty ops (λ j o is. are (suc j) o is) n m h in omega (arith, g))
+never_before ty (operators.Fby c ∷ ops) are zero m h = cc
+never_before ty (operators.Fby c ∷ ops) are (suc n) m h =
+    (let g = never_before ty ops (λ j o is. are (suc j) o is) n m h in omega (arith, g))
 
-pub first-reader : (ty : Ty) (ops : List Op) → AreOperators ty ops → IsFirstReader ops (first_reader ops)
-first-reader ty ops are = record { reads = reads-from ty ops are; first = not-before ty ops are }
+pub is_first_reader : (ty : Ty) (ops : List Op) → AreOperators ty ops → IsFirstReader ops (first_reader ops)
+is_first_reader ty ops are = record { reads = reads_from ty ops are; first = never_before ty ops are }
 
 -- what the first reader reads is the first instance
-pub first-precedes : (ty : Ty) (ops : List Op) → AreOperators ty ops → preceding ops (pos (first_reader ops)) ≡ pos (first_instance ops)
-first-precedes ty ops are =
-    let r = reads-from ty ops are (first_reader ops) (omega arith) in
-    let e : preceding ops (pos (first_reader ops)) ≡ pos r.0 = walk-preceding ops (first_reader ops) r.0 r.1 in
+pub first_precedes : (ty : Ty) (ops : List Op) → AreOperators ty ops → preceding ops (pos (first_reader ops)) ≡ pos (first_instance ops)
+first_precedes ty ops are =
+    let r = reads_from ty ops are (first_reader ops) (omega arith) in
+    let e : preceding ops (pos (first_reader ops)) ≡ pos r.0 = walk_preceding ops (first_reader ops) r.0 r.1 in
     let f : first_instance ops ≡ r.0 = ap natural e in
     e ∙ ap (λ (x : ℕ). pos x) (sym f)
 
-pub first-asked : (ty : Ty) (ops : List Op) → AreOperators ty ops → IsAskedBehind ops (first_instance ops) 0
-first-asked ty ops are = (pos (first_reader ops), (let e = first-precedes ty ops are in omega (arith, ints, e)))
+pub first_asked : (ty : Ty) (ops : List Op) → AreOperators ty ops → IsAskedFrom ops (first_instance ops) 0
+first_asked ty ops are = (pos (first_reader ops), (let e = first_precedes ty ops are in omega (arith, ints, e)))
 
 module _ (edge : Edge) (i : ℕ) (comes : ComesFrom edge.from i) (are : AreOperators edge.ty edge.ops) where
-  from-walk : (from : Producer) → ComesFrom from i → (o : Operand) → operand_from from o ≡ o
-  from-walk (producers.Port task out) h o = refl
-  from-walk (producers.Constant value) h o = absurd h
+  from_walk : (from : Producer) → ComesFrom from i → (o : Operand) → operand_from from o ≡ o
+  from_walk (producers.Port task out) h o = refl
+  from_walk (producers.Constant value) h o = absurd h
 
   -- a job reads the instance that precedes it, from the first reader on
-  pub reads-is : (n m : ℕ) → Reads edge n m ↔ ((first_reader edge.ops ≤ n) × (preceding edge.ops (pos n) ≡ pos m))
-  reads-is n m = (
-    (λ h. (let w = operand-walks edge n m h in (not-before edge.ty edge.ops are n m w.2, walk-preceding edge.ops n m w.2))),
+  pub reads_is : (n m : ℕ) → Reads edge n m ↔ ((first_reader edge.ops ≤ n) × (preceding edge.ops (pos n) ≡ pos m))
+  reads_is n m = (
+    (λ h. (let w = operand_walks edge n m h in (never_before edge.ty edge.ops are n m w.2, walk_preceding edge.ops n m w.2))),
     (λ h.
-        (let r = reads-from edge.ty edge.ops are n h.0 in
-        let e : pos r.0 ≡ pos m = sym (walk-preceding edge.ops n r.0 r.1) ∙ h.1 in
+        (let r = reads_from edge.ty edge.ops are n h.0 in
+        let e : pos r.0 ≡ pos m = sym (walk_preceding edge.ops n r.0 r.1) ∙ h.1 in
         let same : r.0 ≡ m = cc in
-        from-walk edge.from comes (walk edge.ops n) ∙ r.1 ∙ ap (λ (x : ℕ). operands.From x) same)),
+        from_walk edge.from comes (walk edge.ops n) ∙ r.1 ∙ ap (λ (x : ℕ). operands.From x) same)),
   )
 
   -- the used instances are those from the first on that precede some job
-  pub used-is : (m : ℕ) → IsUsed edge m ↔ ((first_instance edge.ops ≤ m) × IsAsked edge.ops (pos m))
-  used-is m = (
+  pub used_is : (m : ℕ) → IsUsed edge m ↔ ((first_instance edge.ops ≤ m) × IsAsked edge.ops (pos m))
+  used_is m = (
     (λ h.
-        (let r = (reads-is h.0 m).0 h.1 in
-        let up = preceding-rises edge.ty edge.ops are (pos (first_reader edge.ops)) (pos h.0) (let g = r.0 in omega (arith, ints, g)) in
-        let e = first-precedes edge.ty edge.ops are in
+        (let r = (reads_is h.0 m).0 h.1 in
+        let up = preceding_rises edge.ty edge.ops are (pos (first_reader edge.ops)) (pos h.0) (let g = r.0 in omega (arith, ints, g)) in
+        let e = first_precedes edge.ty edge.ops are in
         let at = r.1 in
         (omega (arith, ints, up, e, at), (pos h.0, r.1)))),
     (λ h. go h.0 h.1.0 h.1.1),
@@ -178,16 +178,16 @@ module _ (edge : Edge) (i : ℕ) (comes : ComesFrom edge.from i) (are : AreOpera
         where
           early : first_instance edge.ops ≤ m → (n : ℤ) → preceding edge.ops n ≡ pos m → n ≤ℤ pos (first_reader edge.ops) → IsUsed edge m
           early late n at before =
-              let up = preceding-rises edge.ty edge.ops are n (pos (first_reader edge.ops)) before in
-              let e = first-precedes edge.ty edge.ops are in
+              let up = preceding_rises edge.ty edge.ops are n (pos (first_reader edge.ops)) before in
+              let e = first_precedes edge.ty edge.ops are in
               let same : first_instance edge.ops ≡ m = omega (arith, ints, up, e, at, late) in
-              (first_reader edge.ops, (reads-is (first_reader edge.ops) m).1 (omega arith, e ∙ ap (λ (x : ℕ). pos x) same))
+              (first_reader edge.ops, (reads_is (first_reader edge.ops) m).1 (omega arith, e ∙ ap (λ (x : ℕ). pos x) same))
       go late (pos k) at =
           elim (cases_lt k (first_reader edge.ops)) [
             | inl below ↦
-                (let up = preceding-rises edge.ty edge.ops are (pos k) (pos (first_reader edge.ops)) (omega (arith, ints, below)) in
-                let e = first-precedes edge.ty edge.ops are in
+                (let up = preceding_rises edge.ty edge.ops are (pos k) (pos (first_reader edge.ops)) (omega (arith, ints, below)) in
+                let e = first_precedes edge.ty edge.ops are in
                 let same : first_instance edge.ops ≡ m = omega (arith, ints, up, e, at, late) in
-                (first_reader edge.ops, (reads-is (first_reader edge.ops) m).1 (omega arith, e ∙ ap (λ (x : ℕ). pos x) same)))
-            | inr above ↦ (k, (reads-is k m).1 (above, at))
+                (first_reader edge.ops, (reads_is (first_reader edge.ops) m).1 (omega arith, e ∙ ap (λ (x : ℕ). pos x) same)))
+            | inr above ↦ (k, (reads_is k m).1 (above, at))
           ]

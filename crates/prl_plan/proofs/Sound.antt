@@ -11,22 +11,22 @@ use Rattle.prl_plan.specs.Runs.{RunConstants, ExecState, opening, next_action, m
 use Rattle.prl_plan.specs.Rules.{IsUnfinished, HasJob, ActsReleased, KeepsGated}
 use Rattle.prl_plan.specs.Facts.{IsJob, ReadsAt, WritesAt, HasPlanFacts}
 use Rattle.prl_plan.specs.States.{IsSound}
-use Rattle.prl_plan.proofs.Places.{get-set}
-use Rattle.prl_plan.proofs.Tagged.{tagged-event, tagged-opening}
+use Rattle.prl_plan.proofs.Places.{get_set}
+use Rattle.prl_plan.proofs.Tagged.{tagged_event, tagged_opening}
 
 module _ (c : RunConstants) (facts : HasPlanFacts c) where
   -- no job that was ended is unfinished
-  ended-grows : (s : ExecState) (i j : ℕ) → i < length s.ended → get_or s.ended j 0 ≤ get_or (set s.ended i (get_or s.ended i 0 + 1)) j 0
-  ended-grows s i j inside =
-      elim (get-set s.ended i (get_or s.ended i 0 + 1) j inside) [
+  ended_grows : (s : ExecState) (i j : ℕ) → i < length s.ended → get_or s.ended j 0 ≤ get_or (set s.ended i (get_or s.ended i 0 + 1)) j 0
+  ended_grows s i j inside =
+      elim (get_set s.ended i (get_or s.ended i 0 + 1) j inside) [
         | inl same ↦ (let at : get_or s.ended j 0 ≡ get_or s.ended i 0 = ap (λ x. get_or s.ended x 0) same.0 in omega (arith, same.1, at))
         | inr other ↦ omega (arith, other.1)
       ]
 
   -- no job ends, and no tag changes
-  held-same : (s t : ExecState) → IsSound c s → t.ended ≡ s.ended → t.tags ≡ s.tags → (j k place m slot : ℕ) → ReadsAt c j k place m slot → IsUnfinished c t j k →
+  held_same : (s t : ExecState) → IsSound c s → t.ended ≡ s.ended → t.tags ≡ s.tags → (j k place m slot : ℕ) → ReadsAt c j k place m slot → IsUnfinished c t j k →
       get_or t.tags slot 0 ≤ m + 1
-  held-same s t sound ended tags j k place m slot reads unfinished =
+  held_same s t sound ended tags j k place m slot reads unfinished =
       let before : IsUnfinished c s j k = record {
         task = unfinished.task;
         job = unfinished.job;
@@ -34,16 +34,16 @@ module _ (c : RunConstants) (facts : HasPlanFacts c) where
       } in
       subst (λ xs. get_or xs slot 0 ≤ m + 1) (sym tags) (sound.held j k place m slot reads before)
 
-  held-written : (s : ExecState) → IsSound c s → (i : ℕ) (e : EdgeNo) (m slot : ℕ) → HasJob c s i → ActsReleased c s i →
+  held_written : (s : ExecState) → IsSound c s → (i : ℕ) (e : EdgeNo) (m slot : ℕ) → HasJob c s i → ActsReleased c s i →
       next_action c s i ≡ actions.Write e m (record { 0 = slot }) →
       (j k place l other : ℕ) → ReadsAt c j k place l other → IsUnfinished c s j k → get_or (set s.tags slot (m + 1)) other 0 ≤ l + 1
-  held-written s sound i e m slot has released is j k place l other reads unfinished =
+  held_written s sound i e m slot has released is j k place l other reads unfinished =
       let n : ℕ = get_or s.ended i 0 in
       let now_written : WritesAt c i (get_or s.ended i 0) (get_or s.places i 0) m slot = record { job = record { task = has.task; job = has.job }; action = (e, is) } in
       let in_slots : slot < c.slots = facts.write_cell i n (get_or s.places i 0) m slot now_written in
       let tags : length s.tags ≡ c.slots = sound.tagged.tags in
       let in_tags : slot < length s.tags = omega (arith, tags, in_slots) in
-      elim (get-set s.tags slot (m + 1) other in_tags) [
+      elim (get_set s.tags slot (m + 1) other in_tags) [
         | inl same ↦
             (elim (cases_lt l m) [
               | inl earlier ↦
@@ -56,39 +56,39 @@ module _ (c : RunConstants) (facts : HasPlanFacts c) where
         | inr differs ↦ (let h : get_or s.tags other 0 ≤ l + 1 = sound.held j k place l other reads unfinished in omega (arith, differs.1, h))
       ]
 
-  held-action : (s : ExecState) → IsSound c s → (i : ℕ) → HasJob c s i → ActsReleased c s i → (action : Action) → next_action c s i ≡ action →
+  held_action : (s : ExecState) → IsSound c s → (i : ℕ) → HasJob c s i → ActsReleased c s i → (action : Action) → next_action c s i ≡ action →
       (j k place m slot : ℕ) → ReadsAt c j k place m slot → IsUnfinished c (after_action s i action) j k → get_or (after_action s i action).tags slot 0 ≤ m + 1
-  held-action s sound i has released (actions.ReadConst port value) is j k place m slot reads left = held-same s (moved s i) sound refl refl j k place m slot reads left
-  held-action s sound i has released (actions.Read port e l at) is j k place m slot reads left = held-same s (moved s i) sound refl refl j k place m slot reads left
-  held-action s sound i has released (actions.Write e l at) is j k place m slot reads left =
-      held-written s sound i e l at.0 has released is j k place m slot reads (record { task = left.task; job = left.job; unfinished = left.unfinished })
-  held-action s sound i has released actions.End is j k place m slot reads left =
+  held_action s sound i has released (actions.ReadConst port value) is j k place m slot reads left = held_same s (moved s i) sound refl refl j k place m slot reads left
+  held_action s sound i has released (actions.Read port e l at) is j k place m slot reads left = held_same s (moved s i) sound refl refl j k place m slot reads left
+  held_action s sound i has released (actions.Write e l at) is j k place m slot reads left =
+      held_written s sound i e l at.0 has released is j k place m slot reads (record { task = left.task; job = left.job; unfinished = left.unfinished })
+  held_action s sound i has released actions.End is j k place m slot reads left =
       let inside : i < length s.ended = (let l : length s.ended ≡ c.tasks = sound.tagged.ended in let t : i < c.tasks = has.task in omega (arith, l, t)) in
       sound.held j k place m slot reads (record {
         task = left.task;
         job = left.job;
-        unfinished = (let u : get_or (set s.ended i (get_or s.ended i 0 + 1)) j 0 ≤ k = left.unfinished in let g = ended-grows s i j inside in omega (arith, u, g));
+        unfinished = (let u : get_or (set s.ended i (get_or s.ended i 0 + 1)) j 0 ≤ k = left.unfinished in let g = ended_grows s i j inside in omega (arith, u, g));
       })
 
-  kept-action : (s : ExecState) → IsSound c s → (i : ℕ) → HasJob c s i → (action : Action) →
+  kept_action : (s : ExecState) → IsSound c s → (i : ℕ) → HasJob c s i → (action : Action) →
       (j k : ℕ) → IsJob c j k → c.deadline j k ≤ s.now → k < get_or (after_action s i action).ended j 0
-  kept-action s sound i has (actions.ReadConst port value) j k job due = sound.kept j k job due
-  kept-action s sound i has (actions.Read port e l at) j k job due = sound.kept j k job due
-  kept-action s sound i has (actions.Write e l at) j k job due = sound.kept j k job due
-  kept-action s sound i has actions.End j k job due =
+  kept_action s sound i has (actions.ReadConst port value) j k job due = sound.kept j k job due
+  kept_action s sound i has (actions.Read port e l at) j k job due = sound.kept j k job due
+  kept_action s sound i has (actions.Write e l at) j k job due = sound.kept j k job due
+  kept_action s sound i has actions.End j k job due =
       let inside : i < length s.ended = (let l : length s.ended ≡ c.tasks = sound.tagged.ended in let t : i < c.tasks = has.task in omega (arith, l, t)) in
-      (let h = sound.kept j k job due in let g = ended-grows s i j inside in omega (arith, h, g))
+      (let h = sound.kept j k job due in let g = ended_grows s i j inside in omega (arith, h, g))
 
-  now-same : (s : ExecState) (i : ℕ) (action : Action) → (after_action s i action).now ≡ s.now
-  now-same s i (actions.ReadConst port value) = refl
-  now-same s i (actions.Read port e l at) = refl
-  now-same s i (actions.Write e l at) = refl
-  now-same s i actions.End = refl
+  now_same : (s : ExecState) (i : ℕ) (action : Action) → (after_action s i action).now ≡ s.now
+  now_same s i (actions.ReadConst port value) = refl
+  now_same s i (actions.Read port e l at) = refl
+  now_same s i (actions.Write e l at) = refl
+  now_same s i actions.End = refl
 
   -- an event that a gated list allows keeps a sound state
-  pub sound-event : (s : ExecState) → IsSound c s → (event : Event) → KeepsGated c s event → IsSound c (after_event c s event)
-  sound-event s sound events.Tick keeps = record {
-    tagged = tagged-event c facts s sound.tagged events.Tick keeps.within;
+  pub sound_event : (s : ExecState) → IsSound c s → (event : Event) → KeepsGated c s event → IsSound c (after_event c s event)
+  sound_event s sound events.Tick keeps = record {
+    tagged = tagged_event c facts s sound.tagged events.Tick keeps.within;
     kept = λ i n job due.
         elim (cases_lt n (get_or s.ended i 0)) [
           | inl below ↦ below
@@ -96,18 +96,18 @@ module _ (c : RunConstants) (facts : HasPlanFacts c) where
         ];
     held = λ j k place m slot reads left. sound.held j k place m slot reads (record { task = left.task; job = left.job; unfinished = left.unfinished });
   }
-  sound-event s sound (events.Act task) keeps = record {
-    tagged = tagged-event c facts s sound.tagged (events.Act task) keeps;
+  sound_event s sound (events.Act task) keeps = record {
+    tagged = tagged_event c facts s sound.tagged (events.Act task) keeps;
     kept = λ i n job due.
-        kept-action s sound task.0 keeps.0 (next_action c s task.0) i n job
-        (let e = now-same s task.0 (next_action c s task.0) in let d : c.deadline i n ≤ (after_action s task.0 (next_action c s task.0)).now = due in omega (arith, e, d));
-    held = held-action s sound task.0 keeps.0 keeps.1 (next_action c s task.0) refl;
+        kept_action s sound task.0 keeps.0 (next_action c s task.0) i n job
+        (let e = now_same s task.0 (next_action c s task.0) in let d : c.deadline i n ≤ (after_action s task.0 (next_action c s task.0)).now = due in omega (arith, e, d));
+    held = held_action s sound task.0 keeps.0 keeps.1 (next_action c s task.0) refl;
   }
 
   -- the opening state is sound
-  pub sound-opening : IsSound c (opening c)
-  sound-opening = record {
-    tagged = tagged-opening c facts;
+  pub sound_opening : IsSound c (opening c)
+  sound_opening = record {
+    tagged = tagged_opening c facts;
     kept = λ i n job due. absurd (let p : 1 ≤ c.deadline i n = facts.positive i n job in omega (arith, p, due));
     held = λ j k place m cell reads unfinished. (let z : ◌≡◌ {A = ℕ} (get_or (replicate c.slots 0) cell 0) 0 = get_or-replicate c.slots cell 0 0 (facts.read_cell j k place m cell reads) in omega (arith, z));
   }

@@ -16,9 +16,9 @@ use Rattle.prl_plan.specs.Plans.{PlanView, low, high, actions_of, IsActionOf}
 use Rattle.prl_plan.specs.Rules.{HasJob, ActsReleased, FindsTag, KeepsLegal, KeepsGated, first_unfinished}
 use Rattle.prl_plan.specs.Facts.{ReadsAt, HasPlanFacts}
 use Rattle.prl_plan.specs.States.{IsDone, IsTagged, IsSound}
-use Rattle.prl_plan.proofs.Actions.{actions-fit}
-use Rattle.prl_plan.proofs.Tagged.{done-moved}
-use Rattle.prl_plan.proofs.Sound.{sound-opening, sound-event}
+use Rattle.prl_plan.proofs.Actions.{actions_fit}
+use Rattle.prl_plan.proofs.Tagged.{done_moved}
+use Rattle.prl_plan.proofs.Sound.{sound_opening, sound_event}
 use Rattle.prl_plan.proofs.Legal.{legal_finds, legal_gated, write_finds_free}
 
 -- the low half of a cell has an even number, the high half an odd one
@@ -30,14 +30,14 @@ high_is_odd cell = omega arith
 
 -- an action of a job is as defined
 pub action_is_as_defined : (plan : PlanView) (i n place : ℕ) → IsActionOf plan i n (get_or (actions_of plan i n) place actions.End)
-action_is_as_defined = actions-fit
+action_is_as_defined = actions_fit
 
 module _ (c : RunConstants) (facts : HasPlanFacts c) where
   pub opening_is_sound : IsSound c (opening c)
-  opening_is_sound = sound-opening c facts
+  opening_is_sound = sound_opening c facts
 
   pub gated_event_keeps_sound : (s : ExecState) → IsSound c s → (event : Event) → KeepsGated c s event → IsSound c (after_event c s event)
-  gated_event_keeps_sound = sound-event c facts
+  gated_event_keeps_sound = sound_event c facts
 
   pub legal_event_is_gated : (s : ExecState) → IsSound c s → (event : Event) → KeepsLegal c s event → KeepsGated c s event
   legal_event_is_gated = legal_gated c facts
@@ -51,10 +51,10 @@ module _ (c : RunConstants) (facts : HasPlanFacts c) where
   write_finds_half_free = write_finds_free c facts
 
   -- the end of a job of task i does this end and nothing else
-  one-end : (s : ExecState) → IsTagged c s → (i : ℕ) → HasJob c s i → next_action c s i ≡ actions.End → (j n place : ℕ) →
+  ends_once : (s : ExecState) → IsTagged c s → (i : ℕ) → HasJob c s i → next_action c s i ≡ actions.End → (j n place : ℕ) →
       IsDone (record s { ended = set s.ended i (get_or s.ended i 0 + 1); places = set s.places i 0 }) j n place →
       IsDone s j n place ⊎ ((j ≡ i) × (n ≡ get_or s.ended i 0) × (action_at c j n place ≡ actions.End))
-  one-end s tagged i has is j n place done =
+  ends_once s tagged i has is j n place done =
       let inside : i < length s.ended = (let l = tagged.ended in let t = has.task in omega (arith, l, t)) in
       let inside_places : i < length s.places = (let l = tagged.places in let t = has.task in omega (arith, l, t)) in
       elim (cases_eq j i) [
@@ -76,7 +76,7 @@ module _ (c : RunConstants) (facts : HasPlanFacts c) where
                           | inr apart ↦
                               (elim apart [
                                 | inl before ↦ inl (inr ((omega (arith, now, at)), (omega (arith, before, at_place))))
-                                | inr behind ↦ inr (same, now, its ∙ facts.last i (get_or s.ended i 0) (get_or s.places i 0) place (record { task = has.task; job = has.job }) is behind)
+                                | inr past ↦ inr (same, now, its ∙ facts.last i (get_or s.ended i 0) (get_or s.places i 0) place (record { task = has.task; job = has.job }) is past)
                               ])
                         ])
                   ])
@@ -91,11 +91,11 @@ module _ (c : RunConstants) (facts : HasPlanFacts c) where
             ])
       ]
 
-  one-move : (s : ExecState) → IsTagged c s → (i : ℕ) → HasJob c s i → (action : Action) → next_action c s i ≡ action → (j n place : ℕ) → IsDone (moved s i) j n place →
+  one_move : (s : ExecState) → IsTagged c s → (i : ℕ) → HasJob c s i → (action : Action) → next_action c s i ≡ action → (j n place : ℕ) → IsDone (moved s i) j n place →
       IsDone s j n place ⊎ ((j ≡ i) × (n ≡ get_or s.ended i 0) × (action_at c j n place ≡ action))
-  one-move s tagged i has action is j n place done =
+  one_move s tagged i has action is j n place done =
       let inside : i < length s.places = (let l = tagged.places in let t = has.task in omega (arith, l, t)) in
-      elim (done-moved c facts s i inside j n place done) [
+      elim (done_moved c facts s i inside j n place done) [
         | inl before ↦ inl before
         | inr here ↦ inr (
           here.0,
@@ -109,10 +109,10 @@ module _ (c : RunConstants) (facts : HasPlanFacts c) where
   pub act_does_one_action : (s : ExecState) → IsTagged c s → (i : ℕ) → HasJob c s i → (action : Action) → next_action c s i ≡ action → (j n place : ℕ) →
       IsDone (after_action s i action) j n place →
       IsDone s j n place ⊎ ((j ≡ i) × (n ≡ first_unfinished s i) × (action_at c j n place ≡ action))
-  act_does_one_action s tagged i has (actions.ReadConst port value) is j n place done = one-move s tagged i has (actions.ReadConst port value) is j n place done
-  act_does_one_action s tagged i has (actions.Read port e m slot) is j n place done = one-move s tagged i has (actions.Read port e m slot) is j n place done
+  act_does_one_action s tagged i has (actions.ReadConst port value) is j n place done = one_move s tagged i has (actions.ReadConst port value) is j n place done
+  act_does_one_action s tagged i has (actions.Read port e m slot) is j n place done = one_move s tagged i has (actions.Read port e m slot) is j n place done
   act_does_one_action s tagged i has (actions.Write e m slot) is j n place (inl below) =
-      one-move s tagged i has (actions.Write e m slot) is j n place (inl below)
+      one_move s tagged i has (actions.Write e m slot) is j n place (inl below)
   act_does_one_action s tagged i has (actions.Write e m slot) is j n place (inr here) =
-      one-move s tagged i has (actions.Write e m slot) is j n place (inr here)
-  act_does_one_action s tagged i has actions.End is j n place done = one-end s tagged i has is j n place done
+      one_move s tagged i has (actions.Write e m slot) is j n place (inr here)
+  act_does_one_action s tagged i has actions.End is j n place done = ends_once s tagged i has is j n place done

@@ -15,21 +15,21 @@ use Rattle.prl_plan.specs.Plans.{low, high, IsHigh, low_of}
 use Rattle.prl_plan.specs.Rules.{HasJob, ActsReleased, KeepsGated, KeepsFree, IsFree}
 use Rattle.prl_plan.specs.Facts.{IsJob, WritesAt, HasPlanFacts}
 use Rattle.prl_plan.specs.States.{IsDone, IsAhead, IsOrigin, IsTagged}
-use Rattle.prl_plan.proofs.Places.{get-set}
+use Rattle.prl_plan.proofs.Places.{get_set}
 
 -- a write is no other action
-pub write-not-finish : (e : EdgeNo) (m : ℕ) (cell : SlotNo) → actions.Write e m cell ≡ actions.End → ⊥
-write-not-finish e m cell h = cc
+pub write_not_finish : (e : EdgeNo) (m : ℕ) (cell : SlotNo) → actions.Write e m cell ≡ actions.End → ⊥
+write_not_finish e m cell h = cc
 
-constant-not-write : (port : ℕ) (value : Value) (e : EdgeNo) (m : ℕ) (cell : SlotNo) → actions.ReadConst port value ≡ actions.Write e m cell → ⊥
-constant-not-write port value e m cell h = cc
+constant_not_write : (port : ℕ) (value : Value) (e : EdgeNo) (m : ℕ) (cell : SlotNo) → actions.ReadConst port value ≡ actions.Write e m cell → ⊥
+constant_not_write port value e m cell h = cc
 
-read-not-write : (port : ℕ) (e : EdgeNo) (m : ℕ) (cell : SlotNo) (e' : EdgeNo) (m' : ℕ) (cell' : SlotNo) → actions.Read port e m cell ≡ actions.Write e' m' cell' → ⊥
-read-not-write port e m cell e' m' cell' h = cc
+read_not_write : (port : ℕ) (e : EdgeNo) (m : ℕ) (cell : SlotNo) (e' : EdgeNo) (m' : ℕ) (cell' : SlotNo) → actions.Read port e m cell ≡ actions.Write e' m' cell' → ⊥
+read_not_write port e m cell e' m' cell' h = cc
 
 -- equal writes are to one cell
-same-cell : (e : EdgeNo) (m cell : ℕ) (e' : EdgeNo) (m' cell' : ℕ) → actions.Write e m (record { 0 = cell }) ≡ actions.Write e' m' (record { 0 = cell' }) → cell ≡ cell'
-same-cell e m cell e' m' cell' h =
+same_cell : (e : EdgeNo) (m cell : ℕ) (e' : EdgeNo) (m' cell' : ℕ) → actions.Write e m (record { 0 = cell }) ≡ actions.Write e' m' (record { 0 = cell' }) → cell ≡ cell'
+same_cell e m cell e' m' cell' h =
     let here : SlotNo = record { 0 = cell } in
     let there : SlotNo = record { 0 = cell' } in
     let same : here ≡ there = cc in
@@ -42,8 +42,8 @@ gated_free c s (events.Act task) keeps = keeps
 
 module _ (c : RunConstants) (facts : HasPlanFacts c) where
   -- a tick moves the clock alone, past no deadline of an unfinished job
-  tagged-tick : (s : ExecState) → IsTagged c s → IsTagged c (record s { now = s.now + 1 })
-  tagged-tick s tagged = record {
+  tagged_tick : (s : ExecState) → IsTagged c s → IsTagged c (record s { now = s.now + 1 })
+  tagged_tick s tagged = record {
     ended = tagged.ended;
     places = tagged.places;
     tags = tagged.tags;
@@ -56,12 +56,12 @@ module _ (c : RunConstants) (facts : HasPlanFacts c) where
     ];
   }
 
-  -- done behind a move of task i: done before it, or what the move did
-  pub done-moved : (s : ExecState) (i : ℕ) → i < length s.places → (j n place : ℕ) → IsDone (moved s i) j n place →
+  -- done after a move of task i: done before it, or what the move did
+  pub done_moved : (s : ExecState) (i : ℕ) → i < length s.places → (j n place : ℕ) → IsDone (moved s i) j n place →
       IsDone s j n place ⊎ ((j ≡ i) × (n ≡ get_or s.ended i 0) × (place ≡ get_or s.places i 0))
-  done-moved s i h j n place (inl below) = inl (inl below)
-  done-moved s i h j n place (inr here) =
-      elim (get-set s.places i (get_or s.places i 0 + 1) j h) [
+  done_moved s i h j n place (inl below) = inl (inl below)
+  done_moved s i h j n place (inr here) =
+      elim (get_set s.places i (get_or s.places i 0 + 1) j h) [
         | inl same ↦
             (let at : get_or s.ended j 0 ≡ get_or s.ended i 0 = ap (λ x. get_or s.ended x 0) same.0 in
             let now_at : place < get_or s.places i 0 + 1 = omega (arith, here.1, same.1) in
@@ -72,43 +72,43 @@ module _ (c : RunConstants) (facts : HasPlanFacts c) where
         | inr other ↦ inl (inr (here.0, (omega (arith, here.1, other.1))))
       ]
 
-  -- ahead behind a move of task i: ahead before it
-  ahead-moved : (s : ExecState) (i : ℕ) → i < length s.places → (j n place : ℕ) → IsAhead (moved s i) j n place → IsAhead s j n place
-  ahead-moved s i h j n place (inl later) = inl later
-  ahead-moved s i h j n place (inr here) =
-      elim (get-set s.places i (get_or s.places i 0 + 1) j h) [
+  -- ahead after a move of task i: ahead before it
+  ahead_moved : (s : ExecState) (i : ℕ) → i < length s.places → (j n place : ℕ) → IsAhead (moved s i) j n place → IsAhead s j n place
+  ahead_moved s i h j n place (inl later) = inl later
+  ahead_moved s i h j n place (inr here) =
+      elim (get_set s.places i (get_or s.places i 0 + 1) j h) [
         | inl same ↦ inr (here.0, (let p : get_or s.places j 0 ≡ get_or s.places i 0 = ap (λ x. get_or s.places x 0) same.0 in omega (arith, p, here.1, same.1)))
         | inr other ↦ inr (here.0, (omega (arith, here.1, other.1)))
       ]
 
   -- what is done stays done
-  pub done-stays : (s : ExecState) (i : ℕ) → i < length s.places → (j n place : ℕ) → IsDone s j n place → IsDone (moved s i) j n place
-  done-stays s i h j n place (inl below) = inl below
-  done-stays s i h j n place (inr here) =
+  pub done_stays : (s : ExecState) (i : ℕ) → i < length s.places → (j n place : ℕ) → IsDone s j n place → IsDone (moved s i) j n place
+  done_stays s i h j n place (inl below) = inl below
+  done_stays s i h j n place (inr here) =
       inr (
         here.0,
-        elim (get-set s.places i (get_or s.places i 0 + 1) j h) [
+        elim (get_set s.places i (get_or s.places i 0 + 1) j h) [
           | inl same ↦ (let p : get_or s.places j 0 ≡ get_or s.places i 0 = ap (λ x. get_or s.places x 0) same.0 in omega (arith, p, here.1, same.1))
           | inr other ↦ omega (arith, here.1, other.1)
         ],
       )
 
-  origin-moved : (s : ExecState) (i slot : ℕ) → i < length s.places → (get_or s.tags slot 0 ≡ 0) ⊎ IsOrigin c s slot → (get_or s.tags slot 0 ≡ 0) ⊎ IsOrigin c (moved s i) slot
-  origin-moved s i slot inside (inl none) = inl none
-  origin-moved s i slot inside (inr from) = inr (record {
+  origin_moved : (s : ExecState) (i slot : ℕ) → i < length s.places → (get_or s.tags slot 0 ≡ 0) ⊎ IsOrigin c s slot → (get_or s.tags slot 0 ≡ 0) ⊎ IsOrigin c (moved s i) slot
+  origin_moved s i slot inside (inl none) = inl none
+  origin_moved s i slot inside (inr from) = inr (record {
     task = from.task;
     job = from.job;
     place = from.place;
     instance = from.instance;
     writes = from.writes;
-    done = done-stays s i inside from.task from.job from.place from.done;
+    done = done_stays s i inside from.task from.job from.place from.done;
     holds = from.holds;
   })
 
   -- a place moves past an action that writes nothing
-  tagged-moved : (s : ExecState) → IsTagged c s → (i : ℕ) → i < c.tasks →
+  tagged_moved : (s : ExecState) → IsTagged c s → (i : ℕ) → i < c.tasks →
       ((e : EdgeNo) (m cell : ℕ) → next_action c s i ≡ actions.Write e m (record { 0 = cell }) → ⊥) → IsTagged c (moved s i)
-  tagged-moved s tagged i task no_write =
+  tagged_moved s tagged i task no_write =
       let inside : i < length s.places = omega (arith, tagged.places) in
       record {
         ended = tagged.ended;
@@ -116,7 +116,7 @@ module _ (c : RunConstants) (facts : HasPlanFacts c) where
         tags = tagged.tags;
         counted = tagged.counted;
         written = λ j n place m cell writes done.
-            elim (done-moved s i inside j n place done) [
+            elim (done_moved s i inside j n place done) [
               | inl before ↦ tagged.written j n place m cell writes before
               | inr here ↦ absurd (no_write (writes.action.0) m cell
                   (sym (ap (λ x. action_at c x (get_or s.ended i 0) (get_or s.places i 0)) here.0)
@@ -125,15 +125,15 @@ module _ (c : RunConstants) (facts : HasPlanFacts c) where
                   ∙ writes.action.1))
             ];
         ahead = λ j n place m cell writes ahead.
-            tagged.ahead j n place m cell writes (ahead-moved s i inside j n place ahead);
-        origin = λ slot. origin-moved s i slot inside (tagged.origin slot);
+            tagged.ahead j n place m cell writes (ahead_moved s i inside j n place ahead);
+        origin = λ slot. origin_moved s i slot inside (tagged.origin slot);
       }
 
-  origin-written : (s : ExecState) (i cell m slot : ℕ) → i < length s.places → cell < length s.tags →
+  origin_written : (s : ExecState) (i cell m slot : ℕ) → i < length s.places → cell < length s.tags →
       WritesAt c i (get_or s.ended i 0) (get_or s.places i 0) m cell → (get_or s.tags slot 0 ≡ 0) ⊎ IsOrigin c s slot →
       (get_or (set s.tags cell (m + 1)) slot 0 ≡ 0) ⊎ IsOrigin c (record (moved s i) { tags = set s.tags cell (m + 1) }) slot
-  origin-written s i cell m slot inside in_tags writes before =
-      elim (get-set s.tags cell (m + 1) slot in_tags) [
+  origin_written s i cell m slot inside in_tags writes before =
+      elim (get_set s.tags cell (m + 1) slot in_tags) [
         | inl same ↦ inr (record {
           task = i;
           job = get_or s.ended i 0;
@@ -151,16 +151,16 @@ module _ (c : RunConstants) (facts : HasPlanFacts c) where
             place = from.place;
             instance = from.instance;
             writes = from.writes;
-            done = done-stays s i inside from.task from.job from.place from.done;
+            done = done_stays s i inside from.task from.job from.place from.done;
             holds = other.1 ∙ from.holds;
           })
         ])
       ]
 
   -- a job writes its instance to a cell
-  tagged-write : (s : ExecState) → IsTagged c s → (i : ℕ) (e : EdgeNo) (m cell : ℕ) → HasJob c s i → ActsReleased c s i →
+  tagged_write : (s : ExecState) → IsTagged c s → (i : ℕ) (e : EdgeNo) (m cell : ℕ) → HasJob c s i → ActsReleased c s i →
       next_action c s i ≡ actions.Write e m (record { 0 = cell }) → IsTagged c (record (moved s i) { tags = set s.tags cell (m + 1) })
-  tagged-write s tagged i e m cell has released is =
+  tagged_write s tagged i e m cell has released is =
       let n : ℕ = get_or s.ended i 0 in
       let job : IsJob c i n = record { task = has.task; job = has.job } in
       let now_written : WritesAt c i n (get_or s.places i 0) m cell = record { job = job; action = (e, is) } in
@@ -174,7 +174,7 @@ module _ (c : RunConstants) (facts : HasPlanFacts c) where
         tags = length-set s.tags cell (m + 1) ∙ tagged.tags;
         counted = tagged.counted;
         written = λ j k place l other writes done.
-            elim (get-set s.tags cell (m + 1) other in_tags) [
+            elim (get_set s.tags cell (m + 1) other in_tags) [
               | inl same ↦
                   (let here : WritesAt c j k place l cell = subst (λ x. WritesAt c j k place l x) same.0 writes in
                   let one : j ≡ i = facts.writer j k place l i n (get_or s.places i 0) m cell here now_written in
@@ -185,15 +185,15 @@ module _ (c : RunConstants) (facts : HasPlanFacts c) where
                     | inr present ↦ omega (arith, same.1, its, at, own, present.0)
                   ])
               | inr differs ↦
-                  elim (done-moved s i inside j k place done) [
+                  elim (done_moved s i inside j k place done) [
                     | inl before ↦ (let h : l + 1 ≤ get_or s.tags other 0 = tagged.written j k place l other writes before in omega (arith, differs.1, h))
-                    | inr present ↦ absurd (differs.0 (same-cell (writes.action.0) l other e m cell
+                    | inr present ↦ absurd (differs.0 (same_cell (writes.action.0) l other e m cell
                         (sym (writes.action.1) ∙ ap (λ x. action_at c j k x) present.2 ∙ ap (λ x. action_at c j x (get_or s.places i 0)) present.1
                         ∙ ap (λ x. action_at c x (get_or s.ended i 0) (get_or s.places i 0)) present.0 ∙ is)))
                   ]
             ];
         ahead = λ j k place l other writes ahead.
-            elim (get-set s.tags cell (m + 1) other in_tags) [
+            elim (get_set s.tags cell (m + 1) other in_tags) [
               | inl same ↦
                   (let here : WritesAt c j k place l cell = subst (λ x. WritesAt c j k place l x) same.0 writes in
                   let one : j ≡ i = facts.writer j k place l i n (get_or s.places i 0) m cell here now_written in
@@ -209,17 +209,17 @@ module _ (c : RunConstants) (facts : HasPlanFacts c) where
                         absurd (let p : get_or (set s.places i (get_or s.places i 0 + 1)) j 0 ≤ place = present.1 in omega (arith, p, moved_on, where_now)))
                   ])
               | inr differs ↦
-                  (let h : get_or s.tags other 0 ≤ l = tagged.ahead j k place l other writes (ahead-moved s i inside j k place ahead) in
+                  (let h : get_or s.tags other 0 ≤ l = tagged.ahead j k place l other writes (ahead_moved s i inside j k place ahead) in
                   omega (arith, differs.1, h))
             ];
-        origin = λ slot. origin-written s i cell m slot inside in_tags now_written (tagged.origin slot);
+        origin = λ slot. origin_written s i cell m slot inside in_tags now_written (tagged.origin slot);
       }
 
-  -- done behind the end of a job of task i: done before it
-  done-finished : (s : ExecState) (i : ℕ) → HasJob c s i → next_action c s i ≡ actions.End → i < length s.ended → i < length s.places →
+  -- done after the end of a job of task i: done before it
+  done_finished : (s : ExecState) (i : ℕ) → HasJob c s i → next_action c s i ≡ actions.End → i < length s.ended → i < length s.places →
       (j k place m cell : ℕ) → WritesAt c j k place m cell →
       IsDone (record s { ended = set s.ended i (get_or s.ended i 0 + 1); places = set s.places i 0 }) j k place → IsDone s j k place
-  done-finished s i has is inside inside_places j k place m cell writes done =
+  done_finished s i has is inside inside_places j k place m cell writes done =
       elim (cases_eq j i) [
         | inl same ↦
             (let at : get_or s.ended j 0 ≡ get_or s.ended i 0 = ap (λ x. get_or s.ended x 0) same in
@@ -235,11 +235,11 @@ module _ (c : RunConstants) (facts : HasPlanFacts c) where
                         let its : action_at c i (get_or s.ended i 0) place ≡ actions.Write (writes.action.0) m (record { 0 = cell }) =
                         sym (ap (λ x. action_at c x (get_or s.ended i 0) place) same) ∙ sym (ap (λ x. action_at c j x place) now) ∙ writes.action.1 in
                         elim (cases_order place (get_or s.places i 0)) [
-                          | inl here ↦ absurd (write-not-finish (writes.action.0) m (record { 0 = cell }) (sym its ∙ ap (λ x. action_at c i (get_or s.ended i 0) x) here ∙ is))
+                          | inl here ↦ absurd (write_not_finish (writes.action.0) m (record { 0 = cell }) (sym its ∙ ap (λ x. action_at c i (get_or s.ended i 0) x) here ∙ is))
                           | inr apart ↦
                               (elim apart [
                                 | inl before ↦ inr ((omega (arith, now, at)), (omega (arith, before, at_place)))
-                                | inr behind ↦ absurd (write-not-finish (writes.action.0) m (record { 0 = cell }) (sym its ∙ facts.last i (get_or s.ended i 0) (get_or s.places i 0) place (record { task = has.task; job = has.job }) is behind))
+                                | inr past ↦ absurd (write_not_finish (writes.action.0) m (record { 0 = cell }) (sym its ∙ facts.last i (get_or s.ended i 0) (get_or s.places i 0) place (record { task = has.task; job = has.job }) is past))
                               ])
                         ])
                   ])
@@ -254,10 +254,10 @@ module _ (c : RunConstants) (facts : HasPlanFacts c) where
             ])
       ]
 
-  -- ahead behind the end of a job of task i: ahead before it
-  ahead-finished : (s : ExecState) (i : ℕ) → i < length s.ended → i < length s.places → (j k place : ℕ) →
+  -- ahead after the end of a job of task i: ahead before it
+  ahead_finished : (s : ExecState) (i : ℕ) → i < length s.ended → i < length s.places → (j k place : ℕ) →
       IsAhead (record s { ended = set s.ended i (get_or s.ended i 0 + 1); places = set s.places i 0 }) j k place → IsAhead s j k place
-  ahead-finished s i inside inside_places j k place ahead =
+  ahead_finished s i inside inside_places j k place ahead =
       elim (cases_eq j i) [
         | inl same ↦
             (let at : get_or s.ended j 0 ≡ get_or s.ended i 0 = ap (λ x. get_or s.ended x 0) same in
@@ -275,10 +275,10 @@ module _ (c : RunConstants) (facts : HasPlanFacts c) where
             ])
       ]
 
-  done-stays-finished : (s : ExecState) (i : ℕ) → i < length s.ended → i < length s.places → (j n place : ℕ) → IsDone s j n place →
+  done_stays_finished : (s : ExecState) (i : ℕ) → i < length s.ended → i < length s.places → (j n place : ℕ) → IsDone s j n place →
       IsDone (record s { ended = set s.ended i (get_or s.ended i 0 + 1); places = set s.places i 0 }) j n place
-  done-stays-finished s i inside inside_places j n place done =
-      elim (get-set s.ended i (get_or s.ended i 0 + 1) j inside) [
+  done_stays_finished s i inside inside_places j n place done =
+      elim (get_set s.ended i (get_or s.ended i 0 + 1) j inside) [
         | inl same ↦
             (let at : get_or s.ended j 0 ≡ get_or s.ended i 0 = ap (λ x. get_or s.ended x 0) same.0 in
             elim done [
@@ -293,15 +293,15 @@ module _ (c : RunConstants) (facts : HasPlanFacts c) where
       ]
 
   -- a job ends
-  tagged-finish : (s : ExecState) → IsTagged c s → (i : ℕ) → HasJob c s i → next_action c s i ≡ actions.End →
+  tagged_finish : (s : ExecState) → IsTagged c s → (i : ℕ) → HasJob c s i → next_action c s i ≡ actions.End →
       IsTagged c (record s { ended = set s.ended i (get_or s.ended i 0 + 1); places = set s.places i 0 })
-  tagged-finish s tagged i has is =
+  tagged_finish s tagged i has is =
       let n : ℕ = get_or s.ended i 0 in
       let job : IsJob c i n = record { task = has.task; job = has.job } in
       let inside : i < length s.ended = omega (arith, tagged.ended, has.task) in
       let inside_places : i < length s.places = omega (arith, tagged.places, has.task) in
       let grows : (j : ℕ) → get_or s.ended j 0 ≤ get_or (set s.ended i (n + 1)) j 0 =
-      λ j. elim (get-set s.ended i (n + 1) j inside) [
+      λ j. elim (get_set s.ended i (n + 1) j inside) [
         | inl same ↦ (let at : get_or s.ended j 0 ≡ get_or s.ended i 0 = ap (λ x. get_or s.ended x 0) same.0 in omega (arith, same.1, at))
         | inr other ↦ omega (arith, other.1)
       ] in
@@ -310,12 +310,12 @@ module _ (c : RunConstants) (facts : HasPlanFacts c) where
         places = length-set s.places i 0 ∙ tagged.places;
         tags = tagged.tags;
         counted = λ j task.
-            elim (get-set s.ended i (n + 1) j inside) [
+            elim (get_set s.ended i (n + 1) j inside) [
               | inl same ↦ (let jobs : c.jobs j ≡ c.jobs i = ap (λ x. c.jobs x) same.0 in let below : n < c.jobs i = has.job in omega (arith, same.1, jobs, below))
               | inr other ↦ (let h : get_or s.ended j 0 ≤ c.jobs j = tagged.counted j task in omega (arith, other.1, h))
             ];
-        written = λ j k place m cell writes done. tagged.written j k place m cell writes (done-finished s i has is inside inside_places j k place m cell writes done);
-        ahead = λ j k place m cell writes ahead. tagged.ahead j k place m cell writes (ahead-finished s i inside inside_places j k place ahead);
+        written = λ j k place m cell writes done. tagged.written j k place m cell writes (done_finished s i has is inside inside_places j k place m cell writes done);
+        ahead = λ j k place m cell writes ahead. tagged.ahead j k place m cell writes (ahead_finished s i inside inside_places j k place ahead);
         origin = λ slot. elim (tagged.origin slot) [
           | inl none ↦ inl none
           | inr from ↦ inr (record {
@@ -324,28 +324,28 @@ module _ (c : RunConstants) (facts : HasPlanFacts c) where
             place = from.place;
             instance = from.instance;
             writes = from.writes;
-            done = done-stays-finished s i inside inside_places from.task from.job from.place from.done;
+            done = done_stays_finished s i inside inside_places from.task from.job from.place from.done;
             holds = from.holds;
           })
         ];
       }
 
   -- an act does its next action
-  tagged-action : (s : ExecState) → IsTagged c s → (i : ℕ) → HasJob c s i → ActsReleased c s i → (action : Action) →
+  tagged_action : (s : ExecState) → IsTagged c s → (i : ℕ) → HasJob c s i → ActsReleased c s i → (action : Action) →
       next_action c s i ≡ action → IsTagged c (after_action s i action)
-  tagged-action s tagged i has released (actions.ReadConst port value) is = tagged-moved s tagged i has.task (λ x y z h. constant-not-write port value x y (record { 0 = z }) (sym is ∙ h))
-  tagged-action s tagged i has released (actions.Read port e m cell) is = tagged-moved s tagged i has.task (λ x y z h. read-not-write port e m cell x y (record { 0 = z }) (sym is ∙ h))
-  tagged-action s tagged i has released (actions.Write e m cell) is = tagged-write s tagged i e m cell.0 has released is
-  tagged-action s tagged i has released actions.End is = tagged-finish s tagged i has is
+  tagged_action s tagged i has released (actions.ReadConst port value) is = tagged_moved s tagged i has.task (λ x y z h. constant_not_write port value x y (record { 0 = z }) (sym is ∙ h))
+  tagged_action s tagged i has released (actions.Read port e m cell) is = tagged_moved s tagged i has.task (λ x y z h. read_not_write port e m cell x y (record { 0 = z }) (sym is ∙ h))
+  tagged_action s tagged i has released (actions.Write e m cell) is = tagged_write s tagged i e m cell.0 has released is
+  tagged_action s tagged i has released actions.End is = tagged_finish s tagged i has is
 
   -- an event that a gated list allows keeps a tagged state
-  pub tagged-event : (s : ExecState) → IsTagged c s → (event : Event) → KeepsFree c s event → IsTagged c (after_event c s event)
-  tagged-event s tagged events.Tick keeps = tagged-tick s tagged
-  tagged-event s tagged (events.Act task) keeps = tagged-action s tagged task.0 keeps.0 keeps.1 (next_action c s task.0) refl
+  pub tagged_event : (s : ExecState) → IsTagged c s → (event : Event) → KeepsFree c s event → IsTagged c (after_event c s event)
+  tagged_event s tagged events.Tick keeps = tagged_tick s tagged
+  tagged_event s tagged (events.Act task) keeps = tagged_action s tagged task.0 keeps.0 keeps.1 (next_action c s task.0) refl
 
   -- the opening state is sound
-  pub tagged-opening : IsTagged c (opening c)
-  tagged-opening = record {
+  pub tagged_opening : IsTagged c (opening c)
+  tagged_opening = record {
     ended = length-replicate c.tasks 0;
     places = length-replicate c.tasks 0;
     tags = length-replicate c.slots 0;
@@ -367,8 +367,8 @@ module _ (c : RunConstants) (facts : HasPlanFacts c) where
       ]
 
   -- the high half of a cell holds no later instance than the low half
-  pub high-not-later : (s : ExecState) → IsTagged c s → (cell : ℕ) → get_or s.tags (high cell) 0 ≤ get_or s.tags (low cell) 0
-  high-not-later s tagged cell =
+  pub high_not_later : (s : ExecState) → IsTagged c s → (cell : ℕ) → get_or s.tags (high cell) 0 ≤ get_or s.tags (low cell) 0
+  high_not_later s tagged cell =
       elim (tagged.origin (high cell)) [
         | inl none ↦ omega (arith, none)
         | inr from ↦
@@ -394,6 +394,6 @@ module _ (c : RunConstants) (facts : HasPlanFacts c) where
       ]
 
   -- so it is for lists
-  pub IsFree-tagged : (s : ExecState) → IsTagged c s → (list : List Event) → IsFree c s list → IsTagged c (after_events c s list)
-  IsFree-tagged s tagged [] free = tagged
-  IsFree-tagged s tagged (event ∷ list) free = IsFree-tagged (after_event c s event) (tagged-event s tagged event free.0) list free.1
+  pub IsFree_tagged : (s : ExecState) → IsTagged c s → (list : List Event) → IsFree c s list → IsTagged c (after_events c s list)
+  IsFree_tagged s tagged [] free = tagged
+  IsFree_tagged s tagged (event ∷ list) free = IsFree_tagged (after_event c s event) (tagged_event s tagged event free.0) list free.1

@@ -7,74 +7,74 @@ use Rattle.prl_plan.specs.declared.graphs.Edge.{Edge}
 use Rattle.prl_plan.specs.declared.tables.Used.{Used}
 use Rattle.prl_plan.specs.Cells.{used_at, EnumeratesUsed, place_up_to, place_of}
 
-pub test-same : (x y : ℕ) → x ≡ y → eqb x y ≡ true
-test-same x y h = grind (arith, nat_tests)
+pub test_same : (x y : ℕ) → x ≡ y → eqb x y ≡ true
+test_same x y h = grind (arith, nat_tests)
 
-pub test-differs : (x y : ℕ) → (x ≡ y → ⊥) → eqb x y ≡ false
-test-differs x y h = grind (arith, nat_tests)
+pub test_differs : (x y : ℕ) → (x ≡ y → ⊥) → eqb x y ≡ false
+test_differs x y h = grind (arith, nat_tests)
 
-pub test-equal : (x y : ℕ) → eqb x y ≡ true → x ≡ y
-test-equal x y h = grind (arith, nat_tests)
+pub test_equal : (x y : ℕ) → eqb x y ≡ true → x ≡ y
+test_equal x y h = grind (arith, nat_tests)
 
 -- the elements up to a place, and then that element, are no more than those up to a later place
-pub sum-up-to : (xs : List ℕ) (e f : ℕ) → e < f → e < length xs → sum (take e xs) + get_or xs e 0 ≤ sum (take f xs)
-sum-up-to [] e f before inside = absurd (omega arith)
-sum-up-to (x ∷ xs) zero zero before inside = absurd (omega arith)
-sum-up-to (x ∷ xs) (suc e) zero before inside = absurd (omega arith)
-sum-up-to (x ∷ xs) zero (suc f) before inside =
+pub sum_up_to : (xs : List ℕ) (e f : ℕ) → e < f → e < length xs → sum (take e xs) + get_or xs e 0 ≤ sum (take f xs)
+sum_up_to [] e f before inside = absurd (omega arith)
+sum_up_to (x ∷ xs) zero zero before inside = absurd (omega arith)
+sum_up_to (x ∷ xs) (suc e) zero before inside = absurd (omega arith)
+sum_up_to (x ∷ xs) zero (suc f) before inside =
     let e : sum (take (suc f) (x ∷ xs)) ≡ x + sum (take f xs) = sum_by-cons (λ y. y) x (take f xs) in
     let g : get_or (x ∷ xs) 0 0 ≡ x = refl in
     omega (arith, e, g)
-sum-up-to (x ∷ xs) (suc e) (suc f) before inside =
-    let rest : sum (take e xs) + get_or xs e 0 ≤ sum (take f xs) = sum-up-to xs e f (omega arith) (omega arith) in
+sum_up_to (x ∷ xs) (suc e) (suc f) before inside =
+    let rest : sum (take e xs) + get_or xs e 0 ≤ sum (take f xs) = sum_up_to xs e f (omega arith) (omega arith) in
     let a : sum (take (suc e) (x ∷ xs)) ≡ x + sum (take e xs) = sum_by-cons (λ y. y) x (take e xs) in
     let b : sum (take (suc f) (x ∷ xs)) ≡ x + sum (take f xs) = sum_by-cons (λ y. y) x (take f xs) in
     let g : get_or (x ∷ xs) (suc e) 0 ≡ get_or xs e 0 = refl in
     omega (arith, rest, a, b, g)
 
-pub sum-all : (xs : List ℕ) (e : ℕ) → e < length xs → sum (take e xs) + get_or xs e 0 ≤ sum xs
-sum-all [] e inside = absurd (omega arith)
-sum-all (x ∷ xs) zero inside =
+pub sum_all : (xs : List ℕ) (e : ℕ) → e < length xs → sum (take e xs) + get_or xs e 0 ≤ sum xs
+sum_all [] e inside = absurd (omega arith)
+sum_all (x ∷ xs) zero inside =
     let e : sum (x ∷ xs) ≡ x + sum xs = sum_by-cons (λ y. y) x xs in
     let g : get_or (x ∷ xs) 0 0 ≡ x = refl in
     omega (arith, e, g)
-sum-all (x ∷ xs) (suc e) inside =
-    let rest : sum (take e xs) + get_or xs e 0 ≤ sum xs = sum-all xs e (omega arith) in
+sum_all (x ∷ xs) (suc e) inside =
+    let rest : sum (take e xs) + get_or xs e 0 ≤ sum xs = sum_all xs e (omega arith) in
     let a : sum (take (suc e) (x ∷ xs)) ≡ x + sum (take e xs) = sum_by-cons (λ y. y) x (take e xs) in
     let b : sum (x ∷ xs) ≡ x + sum xs = sum_by-cons (λ y. y) x xs in
     let g : get_or (x ∷ xs) (suc e) 0 ≡ get_or xs e 0 = refl in
     omega (arith, rest, a, b, g)
 
-sum-none : (n : ℕ) → sum (take n []) ≡ 0
-sum-none zero = refl
-sum-none (suc n) = refl
+sum_none : (n : ℕ) → sum (take n []) ≡ 0
+sum_none zero = refl
+sum_none (suc n) = refl
 
 -- without differences there is one instance at most
 flat : (first k : ℕ) (gaps : List ℕ) → length gaps ≡ 0 → first + k / length gaps * sum gaps + sum (take (k % length gaps) gaps) ≡ first
-flat first k [] none = let z = sum-none (k % 0) in omega (arith, z)
+flat first k [] none = let z = sum_none (k % 0) in omega (arith, z)
 flat first k (x ∷ gaps) none = absurd (omega arith)
 
 module _ (edge : Edge) (used : Used) (all : EnumeratesUsed edge used) where
   next : (k : ℕ) → used_at used k < used_at used (suc k)
   next k = subst (λ (x : ℕ). used_at used k < used_at used x) (let e : k + 1 ≡ suc k = omega arith in e) (all.rising k)
 
-  pub rising-to : (j k : ℕ) → k < j → used_at used k < used_at used j
-  rising-to zero k before = absurd (omega arith)
-  rising-to (suc j) k before =
+  pub rising_to : (j k : ℕ) → k < j → used_at used k < used_at used j
+  rising_to zero k before = absurd (omega arith)
+  rising_to (suc j) k before =
       elim (cases_lt k j) [
-        | inl below ↦ (let a = rising-to j k below in let b = next j in omega (arith, a, b))
+        | inl below ↦ (let a = rising_to j k below in let b = next j in omega (arith, a, b))
         | inr above ↦ subst (λ (x : ℕ). used_at used x < used_at used (suc j)) (let e : j ≡ k = omega arith in e) (next j)
       ]
 
-  at-least : (k : ℕ) → k ≤ used_at used k
-  at-least zero = omega arith
-  at-least (suc k) = (let a = at-least k in let b = next k in omega (arith, a, b))
+  at_least : (k : ℕ) → k ≤ used_at used k
+  at_least zero = omega arith
+  at_least (suc k) = (let a = at_least k in let b = next k in omega (arith, a, b))
 
-  some-gaps : length used.gaps ≡ 0 → ⊥
-  some-gaps none =
+  some_gaps : length used.gaps ≡ 0 → ⊥
+  some_gaps none =
       let a : used_at used 0 ≡ used.first = flat used.first 0 used.gaps none in
       let b : used_at used 1 ≡ used.first = flat used.first 1 used.gaps none in
-      let c : used_at used 0 < used_at used 1 = rising-to 1 0 (omega arith) in
+      let c : used_at used 0 < used_at used 1 = rising_to 1 0 (omega arith) in
       omega (arith, a, b, c)
 
   found : (m n k : ℕ) → used_at used k ≡ m → k < n → place_up_to used m n ≡ Some k
@@ -82,37 +82,37 @@ module _ (edge : Edge) (used : Used) (all : EnumeratesUsed edge used) where
   found m (suc j) k at before =
       elim (cases_lt k j) [
         | inl below ↦
-            (let up = rising-to j k below in
-            let other : eqb (used_at used j) m ≡ false = test-differs (used_at used j) m (λ e. omega (arith, up, at, e)) in
+            (let up = rising_to j k below in
+            let other : eqb (used_at used j) m ≡ false = test_differs (used_at used j) m (λ e. omega (arith, up, at, e)) in
             ap (λ (b : Bool). cond b (Some j) (place_up_to used m j)) other ∙ found m j k at below)
         | inr above ↦
             (let e : j ≡ k = omega arith in
-            let here : eqb (used_at used j) m ≡ true = test-same (used_at used j) m (ap (λ (x : ℕ). used_at used x) e ∙ at) in
+            let here : eqb (used_at used j) m ≡ true = test_same (used_at used j) m (ap (λ (x : ℕ). used_at used x) e ∙ at) in
             ap (λ (b : Bool). cond b (Some j) (place_up_to used m j)) here ∙ ap (λ (x : ℕ). Some x) e)
       ]
 
   -- each used instance has its place
-  pub place-found : (m k : ℕ) → used_at used k ≡ m → place_of used m ≡ Some k
-  place-found m k at =
-      let some : eqb (length used.gaps) 0 ≡ false = test-differs (length used.gaps) 0 some-gaps in
-      let small = at-least k in
+  pub place_found : (m k : ℕ) → used_at used k ≡ m → place_of used m ≡ Some k
+  place_found m k at =
+      let some : eqb (length used.gaps) 0 ≡ false = test_differs (length used.gaps) 0 some_gaps in
+      let small = at_least k in
       ap (λ (b : Bool). cond b None (place_up_to used m (m + 1))) some ∙ found m (m + 1) k at (omega (arith, small, at))
 
 -- what has a place stands there
-at-place : (used : Used) (m n k : ℕ) → place_up_to used m n ≡ Some k → used_at used k ≡ m
-at-place used m zero k h = cc
-at-place used m (suc j) k h = go (eqb (used_at used j) m) refl (λ g. at-place used m j k g)
+same_place : (used : Used) (m n k : ℕ) → place_up_to used m n ≡ Some k → used_at used k ≡ m
+same_place used m zero k h = cc
+same_place used m (suc j) k h = go (eqb (used_at used j) m) refl (λ g. same_place used m j k g)
   where
     go : (b : Bool) → eqb (used_at used j) m ≡ b → (place_up_to used m j ≡ Some k → used_at used k ≡ m) → used_at used k ≡ m
     go true test before =
         let e : Some j ≡ Some k = sym (ap (λ (b : Bool). cond b (Some j) (place_up_to used m j)) test) ∙ h in
         let same : j ≡ k = cc in
-        subst (λ (x : ℕ). used_at used x ≡ m) same (test-equal (used_at used j) m test)
+        subst (λ (x : ℕ). used_at used x ≡ m) same (test_equal (used_at used j) m test)
     go false test before = before (sym (ap (λ (b : Bool). cond b (Some j) (place_up_to used m j)) test) ∙ h)
 
-pub place-stands : (used : Used) (m k : ℕ) → place_of used m ≡ Some k → used_at used k ≡ m
-place-stands used m k h = go (eqb (length used.gaps) 0) refl
+pub place_stands : (used : Used) (m k : ℕ) → place_of used m ≡ Some k → used_at used k ≡ m
+place_stands used m k h = go (eqb (length used.gaps) 0) refl
   where
     go : (b : Bool) → eqb (length used.gaps) 0 ≡ b → used_at used k ≡ m
     go true test = absurd (let e : ◌≡◌ {A = Option ℕ} None (Some k) = sym (ap (λ (b : Bool). cond b None (place_up_to used m (m + 1))) test) ∙ h in cc)
-    go false test = at-place used m (m + 1) k (sym (ap (λ (b : Bool). cond b None (place_up_to used m (m + 1))) test) ∙ h)
+    go false test = same_place used m (m + 1) k (sym (ap (λ (b : Bool). cond b None (place_up_to used m (m + 1))) test) ∙ h)

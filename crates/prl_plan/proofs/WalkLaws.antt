@@ -20,22 +20,22 @@ use Rattle.prl_plan.specs.Precedence.{preceding, ComesFrom}
 use Rattle.prl_base.specs.Operators.{IsOperatorFor}
 use Rattle.prl_plan.specs.Graphs.{TakeClock, IsSource, IsEdge}
 
-pub walk-preceding : (ops : List Op) (n m : ℕ) → walk ops n ≡ operands.From m → preceding ops (pos n) ≡ pos m
-walk-preceding [] n m h = (let e : n ≡ m = cc in ap (λ (x : ℕ). pos x) e)
-walk-preceding (operators.Up k ∷ ops) n m h = walk-preceding ops (n / k) m h
-walk-preceding (operators.Down k ∷ ops) n m h =
-    subst (λ (x : ℤ). preceding ops x ≡ pos m) (sym (pos-*ℤ-pos k n)) (walk-preceding ops (k * n) m h)
-walk-preceding (operators.Shift q ∷ ops) n m h = walk-preceding ops n m h
-walk-preceding (operators.Tail ∷ ops) n m h =
-    subst (λ (x : ℕ). preceding ops (pos x) ≡ pos m) (let e : n + 1 ≡ suc n = omega arith in e) (walk-preceding ops (n + 1) m h)
-walk-preceding (operators.Cons c ∷ ops) zero m h = cc
-walk-preceding (operators.Cons c ∷ ops) (suc n) m h = walk-preceding ops n m h
-walk-preceding (operators.Fby c ∷ ops) zero m h = cc
-walk-preceding (operators.Fby c ∷ ops) (suc n) m h = walk-preceding ops n m h
+pub walk_preceding : (ops : List Op) (n m : ℕ) → walk ops n ≡ operands.From m → preceding ops (pos n) ≡ pos m
+walk_preceding [] n m h = (let e : n ≡ m = cc in ap (λ (x : ℕ). pos x) e)
+walk_preceding (operators.Up k ∷ ops) n m h = walk_preceding ops (n / k) m h
+walk_preceding (operators.Down k ∷ ops) n m h =
+    subst (λ (x : ℤ). preceding ops x ≡ pos m) (sym (pos-*ℤ-pos k n)) (walk_preceding ops (k * n) m h)
+walk_preceding (operators.Shift q ∷ ops) n m h = walk_preceding ops n m h
+walk_preceding (operators.Tail ∷ ops) n m h =
+    subst (λ (x : ℕ). preceding ops (pos x) ≡ pos m) (let e : n + 1 ≡ suc n = omega arith in e) (walk_preceding ops (n + 1) m h)
+walk_preceding (operators.Cons c ∷ ops) zero m h = cc
+walk_preceding (operators.Cons c ∷ ops) (suc n) m h = walk_preceding ops n m h
+walk_preceding (operators.Fby c ∷ ops) zero m h = cc
+walk_preceding (operators.Fby c ∷ ops) (suc n) m h = walk_preceding ops n m h
 
 -- a shift that is not negative is not earlier
-shift-later : (den x y more : ℕ) → 1 ≤ den → den * y ≡ den * x + more → x ≤ y
-shift-later den x y more some is =
+shift_later : (den x y more : ℕ) → 1 ≤ den → den * y ≡ den * x + more → x ≤ y
+shift_later den x y more some is =
     elim (cases_lt y x) [
       | inl below ↦ absurd
           (let up : den * (y + 1) ≤ den * x = mul-le-mul_left den (let g : y + 1 ≤ x = omega arith in g) in
@@ -45,63 +45,63 @@ shift-later den x y more some is =
     ]
 
 -- the date of the producer's instance is not after that of the consumer's job
-pub walk-back : (ty : Ty) (hyper : ℕ) (ops : List Op) → ((k : ℕ) (op : Op) → slice_get ops k ≡ Some op → IsOperatorFor ty op) →
+pub walked_back : (ty : Ty) (hyper : ℕ) (ops : List Op) → ((k : ℕ) (op : Op) → slice_get ops k ≡ Some op → IsOperatorFor ty op) →
     (producer consumer : Clock) → TakeClock hyper ops producer consumer → (n m : ℕ) → walk ops n ≡ operands.From m →
     producer.start + m * producer.period ≤ consumer.start + n * consumer.period
-walk-back ty hyper [] are producer consumer takes n m h =
+walked_back ty hyper [] are producer consumer takes n m h =
     let e : n ≡ m = cc in
     let s : consumer.start ≡ producer.start = ap (λ (c : Clock). c.start) takes.2 in
     let p : n * consumer.period ≡ m * producer.period = ap (λ (x : ℕ). x * consumer.period) e ∙ ap (λ (c : Clock). m * c.period) takes.2 in
     omega (arith, s, p)
-walk-back ty hyper (operators.Up k ∷ ops) are producer consumer takes n m h =
+walked_back ty hyper (operators.Up k ∷ ops) are producer consumer takes n m h =
     let x : Clock = takes.2.0 in
-    let rest = walk-back ty hyper ops (λ j o is. are (suc j) o is) producer x takes.2.2 (n / k) m h in
+    let rest = walked_back ty hyper ops (λ j o is. are (suc j) o is) producer x takes.2.2 (n / k) m h in
     let down : n / k * k * consumer.period ≤ n * consumer.period = mul-le-mul_right consumer.period (div-mul-le_self n k) in
     let p : n / k * (k * consumer.period) ≡ n / k * x.period = ap (λ (y : ℕ). n / k * y) takes.2.1.0 in
     let a : n / k * (k * consumer.period) ≡ n / k * k * consumer.period = omega arith in
     let s : consumer.start ≡ x.start = takes.2.1.1 in
     omega (arith, rest, down, p, a, s)
-walk-back ty hyper (operators.Down k ∷ ops) are producer consumer takes n m h =
+walked_back ty hyper (operators.Down k ∷ ops) are producer consumer takes n m h =
     let x : Clock = takes.2.0 in
-    let rest = walk-back ty hyper ops (λ j o is. are (suc j) o is) producer x takes.2.2 (k * n) m h in
+    let rest = walked_back ty hyper ops (λ j o is. are (suc j) o is) producer x takes.2.2 (k * n) m h in
     let p : n * consumer.period ≡ n * (k * x.period) = ap (λ (y : ℕ). n * y) takes.2.1.0 in
     let a : n * (k * x.period) ≡ k * n * x.period = omega arith in
     let s : consumer.start ≡ x.start = takes.2.1.1 in
     omega (arith, rest, p, a, s)
-walk-back ty hyper (operators.Shift q ∷ ops) are producer consumer takes n m h =
+walked_back ty hyper (operators.Shift q ∷ ops) are producer consumer takes n m h =
     let x : Clock = takes.2.0 in
-    let rest = walk-back ty hyper ops (λ j o is. are (suc j) o is) producer x takes.2.2 n m h in
+    let rest = walked_back ty hyper ops (λ j o is. are (suc j) o is) producer x takes.2.2 n m h in
     let p : n * consumer.period ≡ n * x.period = ap (λ (y : ℕ). n * y) takes.2.1.0 in
-    let s : x.start ≤ consumer.start = shift-later q.den x.start consumer.start (nat_abs q.num * x.period) (are 0 (operators.Shift q) refl).0 takes.2.1.1 in
+    let s : x.start ≤ consumer.start = shift_later q.den x.start consumer.start (nat_abs q.num * x.period) (are 0 (operators.Shift q) refl).0 takes.2.1.1 in
     omega (arith, rest, p, s)
-walk-back ty hyper (operators.Tail ∷ ops) are producer consumer takes n m h =
+walked_back ty hyper (operators.Tail ∷ ops) are producer consumer takes n m h =
     let x : Clock = takes.2.0 in
-    let rest = walk-back ty hyper ops (λ j o is. are (suc j) o is) producer x takes.2.2 (n + 1) m h in
+    let rest = walked_back ty hyper ops (λ j o is. are (suc j) o is) producer x takes.2.2 (n + 1) m h in
     let p : n * consumer.period ≡ n * x.period = ap (λ (y : ℕ). n * y) takes.2.1.0 in
     let a : (n + 1) * x.period ≡ n * x.period + x.period = omega arith in
     let s : consumer.start ≡ x.start + x.period = takes.2.1.1 in
     omega (arith, rest, p, a, s)
-walk-back ty hyper (operators.Cons c ∷ ops) are producer consumer takes zero m h = cc
-walk-back ty hyper (operators.Cons c ∷ ops) are producer consumer takes (suc n) m h =
+walked_back ty hyper (operators.Cons c ∷ ops) are producer consumer takes zero m h = cc
+walked_back ty hyper (operators.Cons c ∷ ops) are producer consumer takes (suc n) m h =
     let x : Clock = takes.2.0 in
-    let rest = walk-back ty hyper ops (λ j o is. are (suc j) o is) producer x takes.2.2 n m h in
+    let rest = walked_back ty hyper ops (λ j o is. are (suc j) o is) producer x takes.2.2 n m h in
     let p : suc n * consumer.period ≡ suc n * x.period = ap (λ (y : ℕ). suc n * y) takes.2.1.0 in
     let a : suc n * x.period ≡ n * x.period + x.period = omega arith in
     let s : consumer.start + x.period ≡ x.start = takes.2.1.1 in
     omega (arith, rest, p, a, s)
-walk-back ty hyper (operators.Fby c ∷ ops) are producer consumer takes zero m h = cc
-walk-back ty hyper (operators.Fby c ∷ ops) are producer consumer takes (suc n) m h =
+walked_back ty hyper (operators.Fby c ∷ ops) are producer consumer takes zero m h = cc
+walked_back ty hyper (operators.Fby c ∷ ops) are producer consumer takes (suc n) m h =
     let x : Clock = takes.2.0 in
-    let rest = walk-back ty hyper ops (λ j o is. are (suc j) o is) producer x takes.2.2 n m h in
+    let rest = walked_back ty hyper ops (λ j o is. are (suc j) o is) producer x takes.2.2 n m h in
     let p : suc n * consumer.period ≡ suc n * x.period = ap (λ (y : ℕ). suc n * y) takes.2.1.0 in
     let a : suc n * x.period ≡ n * x.period + x.period = omega arith in
     let s : consumer.start ≡ x.start = takes.2.1.1 in
     omega (arith, rest, p, a, s)
 
 -- an operand that is an instance is one of a task, by the walk
-pub operand-walks : (edge : Edge) (n m : ℕ) → operand_of edge n ≡ operands.From m →
+pub operand_walks : (edge : Edge) (n m : ℕ) → operand_of edge n ≡ operands.From m →
     (i : ℕ) × ComesFrom edge.from i × (walk edge.ops n ≡ operands.From m)
-operand-walks edge n m h = go edge.from refl (walk edge.ops n) refl
+operand_walks edge n m h = go edge.from refl (walk edge.ops n) refl
   where
     go : (from : Producer) → edge.from ≡ from → (w : Operand) → walk edge.ops n ≡ w →
         (i : ℕ) × ComesFrom edge.from i × (walk edge.ops n ≡ operands.From m)
@@ -117,11 +117,11 @@ operand-walks edge n m h = go edge.from refl (walk edge.ops n) refl
         (subst (λ (f : Producer). operand_from f (walk edge.ops n) ≡ operands.From m) is h) in cc)
 
 -- over an edge, the producer's instance is not released later than the job that reads it
-pub edge-back : (graph : TaskGraph) (edge : Edge) → IsEdge graph edge → (i : ℕ) → ComesFrom edge.from i → (n m : ℕ) →
+pub edge_back : (graph : TaskGraph) (edge : Edge) → IsEdge graph edge → (i : ℕ) → ComesFrom edge.from i → (n m : ℕ) →
     walk edge.ops n ≡ operands.From m →
     (task_at graph i).clock.start + m * (task_at graph i).clock.period
     ≤ (task_at graph edge.to.0).clock.start + n * (task_at graph edge.to.0).clock.period
-edge-back graph edge is i comes n m h = go edge.from refl
+edge_back graph edge is i comes n m h = go edge.from refl
   where
     go : (from : Producer) → edge.from ≡ from →
         (task_at graph i).clock.start + m * (task_at graph i).clock.period
@@ -130,6 +130,6 @@ edge-back graph edge is i comes n m h = go edge.from refl
     go (producers.Port task out) from =
         let source : IsSource graph edge is.clocks.0 (producers.Port task out) = subst (λ (f : Producer). IsSource graph edge is.clocks.0 f) from is.clocks.2 in
         let at : task.0 ≡ i = subst (λ (f : Producer). ComesFrom f i) from comes in
-        let back = walk-back edge.ty graph.hyper edge.ops is.operators is.clocks.0 (task_at graph edge.to.0).clock is.clocks.3 n m h in
+        let back = walked_back edge.ty graph.hyper edge.ops is.operators is.clocks.0 (task_at graph edge.to.0).clock is.clocks.3 n m h in
         let clock : is.clocks.0 ≡ (task_at graph i).clock = source.3 ∙ ap (λ (x : ℕ). (task_at graph x).clock) at in
         subst (λ (c : Clock). c.start + m * c.period ≤ (task_at graph edge.to.0).clock.start + n * (task_at graph edge.to.0).clock.period) clock back

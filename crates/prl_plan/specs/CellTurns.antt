@@ -13,8 +13,8 @@ abbrev pub IsAsked : List Op → ℤ → Type 0
 IsAsked ops m = (n : ℤ) × (preceding ops n ≡ m)
 
 -- instance `first + x` is asked for
-abbrev pub IsAskedBehind : List Op → ℕ → ℕ → Type 0
-IsAskedBehind ops first x = IsAsked ops (pos (first + x))
+abbrev pub IsAskedFrom : List Op → ℕ → ℕ → Type 0
+IsAskedFrom ops first x = IsAsked ops (pos (first + x))
 
 -- the differences lead from 0 through all numbers of R up to `upto`, and through no other
 pub record ListsGaps (R : ℕ → Type 0) (upto : ℕ) (gaps : List ℕ) : Type 0 where

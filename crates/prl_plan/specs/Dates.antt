@@ -1,4 +1,4 @@
--- Encoded dates: releases and deadlines that already keep each job behind the jobs that precede it.
+-- Encoded dates: releases and deadlines that already keep each job after the jobs that precede it.
 use Rattle.std.specs.Prelude.{◌≡◌, ◌-◌, ◌<◌, ◌%◌, ℕ, ℤ, pos, negsuc, ◌+ℤ◌, ◌≤ℤ◌, List, [], length, slice_index_or}
 use Rattle.prl_plan.specs.declared.graphs.TaskGraph.{TaskGraph}
 use Rattle.prl_plan.specs.declared.tables.Window.{Window}

@@ -128,7 +128,7 @@ IsAtPort q (actions.Read port edge m slot) = port ≡ q
 IsAtPort q (actions.Write edge m slot) = ⊥
 IsAtPort q actions.End = ⊥
 
--- where the reads of edge e stand among the actions of job n of task i: behind those of the edges before it
+-- where the reads of edge e stand among the actions of job n of task i: after those of the edges before it
 abbrev pub reads_before : PlanView → ℕ → ℕ → ℕ → ℕ
 reads_before plan i n e = length (reads_of plan i n 0 (take e plan.graph.edges))
 

@@ -38,7 +38,7 @@ abbrev pub ActsFirst : RunConstants → ExecState → ℕ → Type 0
 ActsFirst c s i =
     (j n : ℕ) → IsUnfinished c s j n → c.release j n ≤ s.now → c.deadline i (first_unfinished s i) ≤ c.deadline j n
 
--- L4: the tick is not behind the end, and every horizon job that is due by then has ended
+-- L4: the tick is not after the end, and every horizon job that is due by then has ended
 pub record MayTick (c : RunConstants) (s : ExecState) : Type 0 where
   pub within : s.now + 1 ≤ c.end
   pub ended : (j n : ℕ) → IsUnfinished c s j n → s.now + 1 < c.deadline j n

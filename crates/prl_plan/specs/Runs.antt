@@ -30,7 +30,7 @@ pub record ExecState : Type 0 where
 abbrev pub opening : RunConstants → ExecState
 opening c = record { now = 0; ended = replicate c.tasks 0; places = replicate c.tasks 0; tags = replicate c.slots 0 }
 
--- the action at a place of job n of task i; behind the last one stands the job's end
+-- the action at a place of job n of task i; after the last one stands the job's end
 abbrev pub action_at : RunConstants → ℕ → ℕ → ℕ → Action
 action_at c i n place = slice_index_or (c.actions i n) place actions.End
 
@@ -38,7 +38,7 @@ action_at c i n place = slice_index_or (c.actions i n) place actions.End
 abbrev pub next_action : RunConstants → ExecState → ℕ → Action
 next_action c s i = action_at c i (slice_index s.ended i) (slice_index s.places i)
 
--- the state behind a next action that does not end the job: the place moves
+-- the state after a next action that does not end the job: the place moves
 abbrev pub moved : ExecState → ℕ → ExecState
 moved s i = record s { places = slice_set s.places i (slice_index s.places i + 1) }
 
@@ -53,7 +53,7 @@ abbrev pub after_event : RunConstants → ExecState → Event → ExecState
 after_event c s events.Tick = record s { now = s.now + 1 }
 after_event c s (events.Act task) = after_action s task.0 (next_action c s task.0)
 
--- the state behind a list of events
+-- the state after a list of events
 abbrev pub after_events : RunConstants → ExecState → List Event → ExecState
 after_events c s [] = s
 after_events c s (event ∷ events) = after_events c (after_event c s event) events

@@ -3,7 +3,7 @@
 use prl_base::{CellNo, EdgeNo, TaskNo, Value};
 
 /// A half of a buffer cell: twice the cell's number for its low half, and one more for its high half.
-#[derive(Clone, Copy, Debug, PartialEq, Eq, PartialOrd, Ord)]
+#[derive(Clone, Copy, Debug, PartialEq, Eq)]
 pub struct SlotNo(pub u32);
 
 impl SlotNo {

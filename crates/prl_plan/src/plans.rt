@@ -196,7 +196,7 @@ impl Plan {
         1
     }
 
-    /// The action at this place, from 0, of job `n` of task `i`. Behind the last action stands the end. Takes no memory.
+    /// The action at this place, from 0, of job `n` of task `i`. After the last action stands the end. Takes no memory.
     pub fn action(&self, i: TaskNo, n: u64, place: u32) -> Action
         requires { i.0 < length self.now.graph.tasks }
         ensures { result ≡ slice_index_or (actions_of self.now i.0 n) place actions.End }

@@ -123,7 +123,7 @@ fn producer_into(edge: &Edge, i: TaskNo) -> Option<TaskNo>
     }
 }
 
-/// The later of a date and of another with a WCET behind it.
+/// The later of a date and of another with a WCET after it.
 fn later_of(best: i64, date: i64, wcet: u32) -> Option<i64>
     ensures { MatchOption result (¬ (Fits64 (date +ℤ pos wcet))) (λ r. r ≡ int_max best (date +ℤ pos wcet)) }
 {

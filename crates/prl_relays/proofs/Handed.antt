@@ -27,7 +27,7 @@ use Rattle.prl_plan.specs.Rules.{IsComplete, IsLegal, IsGated}
 use Rattle.prl_core.specs.declared.seen.Seen.{Seen}
 use Rattle.prl_core.specs.Values.{HasRows}
 use Rattle.prl_core.specs.Machine.{CoreView, constants, Drives, AreOutputs, IsOfPlan}
-use Rattle.prl_replay.specs.Replays.{behind, IsReplay}
+use Rattle.prl_replay.specs.Replays.{after_all, IsReplay}
 use Rattle.prl_replay.specs.Schedules.{IsOfTasks}
 use Rattle.prl_relays.specs.Reads.{read_line}
 use Rattle.prl_relays.specs.Relays.{Relay, task_names, out_flow, replay_lines, HasValues, IsReady, IsOutput, input_clock, relay_plan, output_of, machine}
@@ -113,12 +113,12 @@ two_outputs r out horizon s i n drives outputs ended enough =
     let here : AreOutputs (machine_in r horizon s) 1 out = subst (λ (j : ℕ). AreOutputs (machine_in r horizon s) j out) (actuator_one r.chain i drives) outputs in
     front_of out r.values n (here.ended ∙ ended) enough (λ k below. here.each 0 k (omega arith) refl (omega (arith, below, ended)))
 
--- behind a whole run the actuator has ended all of its jobs
+-- after a whole run the actuator has ended all of its jobs
 all_ended : (ended n : ℕ) → ended ≤ n → ((k : ℕ) → k < n → k < ended) → ended ≡ n
 all_ended ended n most complete =
     let not_less : ended < n → ⊥ = λ less. let h = complete ended less in omega (arith, h) in omega (arith, not_less, most)
 
--- behind a whole run, what the actuator has read is one value for each date of the input
+-- after a whole run, what the actuator has read is one value for each date of the input
 outputs_of : (r : Relay) (horizon : Horizon) (s : ExecState) (out : List Value) → IsReady r → horizon.until ≡ r.until
     → IsComplete (constants (machine r horizon)) s → slice_index s.ended 1 ≤ jobs_of r.chain horizon.until
     → (i : ℕ) → Drives (relay_plan r.chain) i 0 → AreOutputs (machine_in r horizon s) i out → out ≡ take (jobs_of r.chain r.until) r.values
@@ -174,18 +174,18 @@ GatedIsCounted =
     (c : RunConstants) → HasPlanFacts c → (list : List Event) → IsGated c (opening c) list → (i : ℕ) → i < c.tasks
     → slice_index (after_events c (opening c) list).ended i ≤ c.jobs i
 
--- behind a whole run from the opening, what the actuator has read is the output of the one solution
-pub solved_behind : (r : Relay) (horizon : Horizon) (list : List Event) (reads : List Seen) (left : CoreView) (plan : PlanView) (out : List Value)
+-- after a whole run from the opening, what the actuator has read is the output of the one solution
+pub solved_after : (r : Relay) (horizon : Horizon) (list : List Event) (reads : List Seen) (left : CoreView) (plan : PlanView) (out : List Value)
     → IsReady r → HandsOn r.chain → horizon.until ≡ r.until → plan ≡ relay_plan r.chain → LegalIsGated → GatedIsCounted → HasPlanFacts (constants_of plan horizon)
-    → IsReplay (machine r horizon) list reads → left ≡ behind (machine r horizon) list
+    → IsReplay (machine r horizon) list reads → left ≡ after_all (machine r horizon) list
     → (i : ℕ) × Drives left.plan i 0 × AreOutputs left i out → IsOutput r out
-solved_behind r horizon list reads left plan out ready hands same planned gated counted facts run is outputs =
+solved_after r horizon list reads left plan out ready hands same planned gated counted facts run is outputs =
     let c : RunConstants = constants_of (relay_plan r.chain) horizon in
     let here : HasPlanFacts c = subst (λ (p : PlanView). HasPlanFacts (constants_of p horizon)) planned facts in
-    let most : slice_index (behind (machine r horizon) list).state.ended 1 ≤ jobs_of r.chain horizon.until =
+    let most : slice_index (after_all (machine r horizon) list).state.ended 1 ≤ jobs_of r.chain horizon.until =
     counted c here list (gated c here list run.legal) 1 (omega arith) in
     let (i, drives, told) = subst (λ (m : CoreView). (i : ℕ) × Drives m.plan i 0 × AreOutputs m i out) is outputs in
-    solved_by r horizon (behind (machine r horizon) list).state out ready hands same run.complete most i drives told
+    solved_by r horizon (after_all (machine r horizon) list).state out ready hands same run.complete most i drives told
 
 -- the output of a solution is up to the date
 pub outputs_up_to : (r : Relay) (out : List Value) → IsReady r → IsOutput r out → AreUpTo r.until (out_flow r.chain out ∷ [])

@@ -22,7 +22,7 @@ use Rattle.prl_replay.specs.declared.schedules.ScheduleFault.{ScheduleFault}
 use Rattle.prl_replay.specs.declared.schedules.ScheduleFault.TheVariants as lines
 use Rattle.prl_replay.specs.declared.replays.ReplayFault.{ReplayFault}
 use Rattle.prl_replay.specs.declared.replays.ReplayFault.TheVariants as replays
-use Rattle.prl_replay.specs.Replays.{IsReplay, IsReplayFault, TellsAll, is_read, after, behind}
+use Rattle.prl_replay.specs.Replays.{IsReplay, IsReplayFault, TellsAll, is_read, after, after_all}
 use Rattle.prl_relays.specs.declared.relays.RelayFault.{RelayFault}
 use Rattle.prl_relays.specs.declared.relays.RelayFault.TheVariants as faults
 use Rattle.prl_relays.specs.Relays.{Relay, relay_plan, output_of, machine, replay_lines, of_fault, IsHorizonOf, IsOutput, IsReplayText, IsNoRun, IsRelayFault}
@@ -39,7 +39,7 @@ whole_has_no_fault : (core : CoreView) (list : List Event) (reads : List Seen) (
 whole_has_no_fault core list reads (replays.Illegal line rule) whole h some =
     legal_none_broken (constants core) core.state list h.0 rule whole.legal (breaks core list line rule h)
 whole_has_no_fault core list reads (replays.Unfinished task job) whole h some =
-    complete_finished (constants core) (behind core list).state task.0 job whole.complete h.1
+    complete_finished (constants core) (after_all core list).state task.0 job whole.complete h.1
 whole_has_no_fault core list reads replays.Memory whole h some = some refl
 
 one_fault : (core : CoreView) (list : List Event) (a b : ReplayFault) → IsReplayFault core list a → IsReplayFault core list b → a ≢ replays.Memory
@@ -56,7 +56,7 @@ one_fault core list (replays.Illegal line rule) (replays.Unfinished task job) h 
 one_fault core list (replays.Unfinished task job) (replays.Illegal line rule) h k p q =
     absurd (legal_none_broken (constants core) core.state list k.0 rule h.0 (breaks core list line rule k))
 one_fault core list (replays.Unfinished task job) (replays.Unfinished other left) h k p q =
-    let same = one_unfinished (constants core) (behind core list).state task.0 job other.0 left h.1 k.1 in
+    let same = one_unfinished (constants core) (after_all core list).state task.0 job other.0 left h.1 k.1 in
     let tasks : task ≡ other = ap (λ (n : ℕ). record { 0 = n }) same.0 in
     ap (λ (t : TaskNo). replays.Unfinished t job) tasks ∙ ap (replays.Unfinished other) same.1
 one_fault core list replays.Memory b h k p q = absurd (p refl)

@@ -17,7 +17,7 @@ use Rattle.prl_plan.specs.Rules.{IsLegal, KeepsLegal, first_unfinished}
 use Rattle.prl_core.specs.declared.seen.Seen.{Seen}
 use Rattle.prl_core.specs.Values.{instance_value}
 use Rattle.prl_core.specs.Machine.{CoreView, constants, cell_no, sight_of_write, Tells, IsSightOf, IsSightOfRead, Drives, AreOutputs}
-use Rattle.prl_replay.specs.Replays.{IsReplay, TellsAll, behind, is_read}
+use Rattle.prl_replay.specs.Replays.{IsReplay, TellsAll, after_all, is_read}
 use Rattle.prl_relays.specs.Relays.{Relay, relay_plan, machine, IsOperand, AreOperands}
 use Rattle.prl_relays.proofs.Handed.{jobs_of, machine_in, actuator_one}
 
@@ -93,13 +93,13 @@ module _ (r : Relay) (horizon : Horizon) (out : List Value) (front : AreFront r 
       (list_is (after_event (constants (machine r horizon)) s event) list seens legal.1 told.1)
 
 -- in a whole run, each read tells the value that the actuator's job of its number has
-pub operands_behind : (r : Relay) (horizon : Horizon) (list : List Event) (reads : List Seen) (left : CoreView) (out : List Value)
-    → IsReplay (machine r horizon) list reads → left ≡ behind (machine r horizon) list
+pub operands_after : (r : Relay) (horizon : Horizon) (list : List Event) (reads : List Seen) (left : CoreView) (out : List Value)
+    → IsReplay (machine r horizon) list reads → left ≡ after_all (machine r horizon) list
     → (i : ℕ) × Drives left.plan i 0 × AreOutputs left i out → AreOperands out reads
-operands_behind r horizon list reads left out run is outputs =
+operands_after r horizon list reads left out run is outputs =
     let (i, drives, told) = subst (λ (m : CoreView). (i : ℕ) × Drives m.plan i 0 × AreOutputs m i out) is outputs in
-    let here : AreOutputs (behind (machine r horizon) list) 1 out =
-    subst (λ (j : ℕ). AreOutputs (behind (machine r horizon) list) j out) (actuator_one r.chain i drives) told in
+    let here : AreOutputs (after_all (machine r horizon) list) 1 out =
+    subst (λ (j : ℕ). AreOutputs (after_all (machine r horizon) list) j out) (actuator_one r.chain i drives) told in
     let front : AreFront r horizon out = λ k below. here.each 0 k (omega arith) refl (run.complete 1 k (omega arith) below) in
     subst (AreOperands out) (sym run.kept)
     (All-filter is_read (IsOperand out) run.seens (list_is r horizon out front (machine r horizon).state list run.seens run.legal run.told))

@@ -22,12 +22,12 @@ use Rattle.prl_plan.specs.Facts.{HasPlanFacts, ReadsAt}
 use Rattle.prl_plan.specs.Horizons.{IsEnd, IsHorizon, constants_of}
 use Rattle.prl_plan.specs.Runs.{RunConstants, ExecState, opening, next_action, after_event, after_events}
 use Rattle.prl_plan.specs.Rules.{IsLegal, IsGated, IsComplete, KeepsLegal, FindsTag, HasJob, ActsReleased, first_unfinished}
-use Rattle.prl_plan.proofs.TwoTasks.{two-plan}
+use Rattle.prl_plan.proofs.TwoTasks.{two_is_plan}
 use Rattle.prl_core.specs.declared.seen.Seen.{Seen}
 use Rattle.prl_core.specs.declared.seen.Seen.TheVariants as sights
 use Rattle.prl_core.specs.Values.{instance_value}
 use Rattle.prl_core.specs.Machine.{constants, cell_no, sight_of_write, Tells, IsSightOf, IsSightOfRead, IsSlotFree}
-use Rattle.prl_replay.specs.Replays.{TellsAll, behind, is_read}
+use Rattle.prl_replay.specs.Replays.{TellsAll, after_all, is_read}
 use Rattle.prl_replay.specs.Schedules.{schedule_of}
 use Rattle.prl_relays.specs.Relays.{Relay, relay_plan, machine, input_clock, task_names, replay_lines, IsReady, IsOperand, IsHorizonOf, IsReplayText}
 use Rattle.prl_relays.proofs.Solutions.{both, HandsOver}
@@ -138,7 +138,7 @@ has_facts : (r : Relay) (horizon : Horizon) → IsReady r → IsHorizon (relay_p
 has_facts r horizon ready is keep =
     subst HasPlanFacts (constants_same r horizon)
     (keep (other_plan r) horizon
-    (two-plan (codes "a") (codes "ab") some_names (input_clock r.chain).period (wcet_of r.chain.flat.in_devices 0) (wcet_of r.chain.flat.out_devices 0) (in_period r ready))
+    (two_is_plan (codes "a") (codes "ab") some_names (input_clock r.chain).period (wcet_of r.chain.flat.in_devices 0) (wcet_of r.chain.flat.out_devices 0) (in_period r ready))
     (other_horizon r horizon is))
 
 element_at : {A : Type 0} (xs : List A) (n : ℕ) → n < length xs → (x : A) × (slice_get xs n ≡ Some x)
@@ -157,8 +157,8 @@ module _ (r : Relay) (horizon : Horizon) (enough : jobs_of r.chain horizon.until
   abbrev c : RunConstants
   c = constants (machine r horizon)
 
-  abbrev state_behind : List Event → ExecState
-  state_behind = after_events c (opening c)
+  abbrev state_after : List Event → ExecState
+  state_after = after_events c (opening c)
 
   read_sight : (s : ExecState) (task : TaskNo) (n port : ℕ) (edge : EdgeNo) (instance : ℕ) (cell : CellNo) (half : ℕ)
       → (task.0 ≡ 1) × (edge.0 ≡ 0) × (instance ≡ n) → n < c.jobs task.0
@@ -188,21 +188,21 @@ module _ (r : Relay) (horizon : Horizon) (enough : jobs_of r.chain horizon.until
   sight s task n actions.End of below tag free = (sights.Ended task n, refl)
 
   module _ (facts : HasPlanFacts c) (gate : LegalIsGated) (state : StateOfTwo) (legal_two : LegalOfTwo) (gated_two : GatedOfTwo) (free : WritesFree) where
-    told_of : (done : List Event) (event : Event) → KeepsLegal c (state_behind done) event → IsGated c (opening c) (done ++ event ∷ [])
-        → (seen : Seen) × Tells (machine_in r horizon (state_behind done)) event seen
-    told_of done events.Tick keeps gated = (sights.Ticked ((state_behind done).now + 1), refl)
+    told_of : (done : List Event) (event : Event) → KeepsLegal c (state_after done) event → IsGated c (opening c) (done ++ event ∷ [])
+        → (seen : Seen) × Tells (machine_in r horizon (state_after done)) event seen
+    told_of done events.Tick keeps gated = (sights.Ticked ((state_after done).now + 1), refl)
     told_of done (events.Act task) keeps gated =
-        let n : ℕ = first_unfinished (state_behind done) task.0 in
+        let n : ℕ = first_unfinished (state_after done) task.0 in
         let parts = (gated_two c (opening c) done (events.Act task ∷ [])).0 gated in
-        sight (state_behind done) task n (next_action c (state_behind done) task.0) (action_of_two r horizon task.0 n _ keeps.0.task) keeps.0.job
+        sight (state_after done) task n (next_action c (state_after done) task.0) (action_of_two r horizon task.0 n _ keeps.0.task) keeps.0.job
         parts.1.0.2 (λ edge m slot is. free c facts done parts.0 task.0 edge m slot keeps.0 keeps.1 is)
 
-    told_from : (done rest : List Event) → IsLegal c (opening c) done → IsLegal c (state_behind done) rest
-        → (seens : List Seen) × TellsAll (machine_in r horizon (state_behind done)) rest seens
+    told_from : (done rest : List Event) → IsLegal c (opening c) done → IsLegal c (state_after done) rest
+        → (seens : List Seen) × TellsAll (machine_in r horizon (state_after done)) rest seens
     told_from done [] legal keeps = ([], tt)
     told_from done (event ∷ rest) legal keeps =
         let more : List Event = done ++ event ∷ [] in
-        let moved : state_behind more ≡ after_event c (state_behind done) event = state c (opening c) done (event ∷ []) in
+        let moved : state_after more ≡ after_event c (state_after done) event = state c (opening c) done (event ∷ []) in
         let longer : IsLegal c (opening c) more = (legal_two c (opening c) done (event ∷ [])).1 (legal, (keeps.0, tt)) in
         let (seen, told) = told_of done event keeps.0 (gate c facts more longer) in
         let (seens, all) = told_from more rest longer (subst (λ (s : ExecState). IsLegal c s rest) (sym moved) keeps.1) in
@@ -215,7 +215,7 @@ module _ (r : Relay) (horizon : Horizon) (enough : jobs_of r.chain horizon.until
 pub whole_text : (r : Relay) (horizon : Horizon) (schedule : List ℕ) (list : List Event) → HandsOn r.chain → PlansKeepFacts → LegalIsGated → StateOfTwo → LegalOfTwo
     → GatedOfTwo → WritesFree → IsReady r → IsHorizonOf r horizon → schedule_of (task_names r.chain) schedule ≡ Ok list
     → IsLegal (constants (machine r horizon)) (machine r horizon).state list
-    → IsComplete (constants (machine r horizon)) (behind (machine r horizon) list).state → (text : List ℕ) × IsReplayText r schedule text
+    → IsComplete (constants (machine r horizon)) (after_all (machine r horizon) list).state → (text : List ℕ) × IsReplayText r schedule text
 whole_text r horizon schedule list hands keep gate state legal_two gated_two free ready of written legal complete =
     let n : ℕ = jobs_of r.chain r.until in
     let out : List Value = take n r.values in

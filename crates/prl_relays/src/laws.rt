@@ -9,7 +9,7 @@ ghost use Rattle.prl_plan.specs.Horizons.{IsPastLimit};
 ghost use Rattle.prl_plan.specs.Rules.{IsLegal, IsComplete};
 ghost use Rattle.prl_core.specs.Machine.{constants};
 ghost use Rattle.prl_replay.specs.Schedules.{schedule_of};
-ghost use Rattle.prl_replay.specs.Replays.{behind};
+ghost use Rattle.prl_replay.specs.Replays.{after_all};
 ghost use Rattle.prl_relays.specs.declared.relays.RelayFault.{RelayFault};
 ghost use Rattle.prl_relays.specs.declared.relays.RelayFault.TheVariants as faults;
 ghost use Rattle.prl_relays.specs.Relays.{Relay, relay_plan, machine, task_names, IsReady, IsHorizonOf, IsHorizonUpTo, IsReplayText, IsRelayFault};
@@ -37,7 +37,7 @@ pub fn horizons_end_one_way()
 pub fn whole_runs_are_replayed()
     ensures { (r : Relay) (horizon : Horizon) (schedule : List ℕ) (events : List Event) → IsReady r → IsHorizonOf r horizon
         → schedule_of (task_names r.chain) schedule ≡ Ok events → IsLegal (constants (machine r horizon)) (machine r horizon).state events
-        → IsComplete (constants (machine r horizon)) (behind (machine r horizon) events).state → (text : List ℕ) × IsReplayText r schedule text }
+        → IsComplete (constants (machine r horizon)) (after_all (machine r horizon) events).state → (text : List ℕ) × IsReplayText r schedule text }
 {
     copies_hand_on();
     plans_keep_facts();

@@ -18,13 +18,13 @@ is_read (sights.Half task job edge cell) = false
 is_read (sights.Wrote task job edge cell) = false
 is_read (sights.Ended task job) = false
 
--- the machine behind an event
+-- the machine after an event
 abbrev pub after : CoreView → Event → CoreView
 after core event = record core { state = after_event (constants core) core.state event }
 
--- the machine behind a list of events
-abbrev pub behind : CoreView → List Event → CoreView
-behind core events = record core { state = after_events (constants core) core.state events }
+-- the machine after a list of events
+abbrev pub after_all : CoreView → List Event → CoreView
+after_all core events = record core { state = after_events (constants core) core.state events }
 
 -- what is told of each event, one after another
 abbrev pub TellsAll : CoreView → List Event → List Seen → Type 0
@@ -36,7 +36,7 @@ TellsAll core (event ∷ events) (seen ∷ seens) = Tells core event seen × Tel
 -- The events are legal and complete, and these are the reads among what is told of them.
 pub record IsReplay (core : CoreView) (events : List Event) (reads : List Seen) : Type 0 where
   pub legal : IsLegal (constants core) core.state events
-  pub complete : IsComplete (constants core) (behind core events).state
+  pub complete : IsComplete (constants core) (after_all core events).state
   pub seens : List Seen
   pub told : TellsAll core events seens
   pub kept : reads ≡ filter is_read seens
@@ -45,14 +45,14 @@ pub record IsReplay (core : CoreView) (events : List Event) (reads : List Seen) 
 abbrev pub IsReplayFault : CoreView → List Event → ReplayFault → Type 0
 IsReplayFault core events (faults.Illegal line rule) =
     (i : ℕ) × (event : Event) × (line ≡ i + 1) × (slice_get events i ≡ Some event)
-    × IsLegal (constants core) core.state (take i events) × FirstBroken (constants core) (behind core (take i events)).state event rule
+    × IsLegal (constants core) core.state (take i events) × FirstBroken (constants core) (after_all core (take i events)).state event rule
 IsReplayFault core events (faults.Unfinished task job) =
-    IsLegal (constants core) core.state events × IsFirstUnfinished (constants core) (behind core events).state task.0 job
+    IsLegal (constants core) core.state events × IsFirstUnfinished (constants core) (after_all core events).state task.0 job
 IsReplayFault core events faults.Memory = Unit {0}
 
--- Where the machine stands when the events were no whole run: behind those before the one that breaks a rule, or behind all
--- of them, or, where memory ran out, behind a front of them.
+-- Where the machine stands when the events were no whole run: after those before the one that breaks a rule, or after all
+-- of them, or, where memory ran out, after a front of them.
 abbrev pub StopsAt : CoreView → List Event → CoreView → ReplayFault → Type 0
-StopsAt core events left (faults.Illegal line rule) = left ≡ behind core (take (line - 1) events)
-StopsAt core events left (faults.Unfinished task job) = left ≡ behind core events
-StopsAt core events left faults.Memory = (done : ℕ) × (done ≤ length events) × (left ≡ behind core (take done events))
+StopsAt core events left (faults.Illegal line rule) = left ≡ after_all core (take (line - 1) events)
+StopsAt core events left (faults.Unfinished task job) = left ≡ after_all core events
+StopsAt core events left faults.Memory = (done : ℕ) × (done ≤ length events) × (left ≡ after_all core (take done events))

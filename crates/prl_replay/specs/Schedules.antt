@@ -35,12 +35,12 @@ abbrev pub or_line : ℕ → Option Event → Result Event ScheduleFault
 or_line line None = Err (faults.Syntax line)
 or_line line (Some event) = Ok event
 
--- what stands behind the last line feed: nothing, or a line
+-- what stands after the last line feed: nothing, or a line
 abbrev pub last_line : List (List ℕ) → ℕ → List ℕ → Result (List Event) ScheduleFault
 last_line names k [] = Ok []
 last_line names k (b ∷ bs) = or_line k (event_of names (b ∷ bs)) >>= λ event. Ok (event ∷ [])
 
--- the events of the lines of a text from line k on; the last of the list is what stands behind the last line feed
+-- the events of the lines of a text from line k on; the last of the list is what stands after the last line feed
 abbrev pub events_from : List (List ℕ) → ℕ → List (List ℕ) → Result (List Event) ScheduleFault
 events_from names k [] = Ok []
 events_from names k (line ∷ []) = last_line names k line

@@ -4,7 +4,7 @@ ghost use Rattle.std.specs.Prelude.{◌≡◌, ◌<◌, ◌≤◌, ◌++◌, [],
 ghost use Rattle.std.specs.Vec.{vec_items};
 ghost use Rattle.prl_plan.specs.Runs.{opening};
 ghost use Rattle.prl_core.specs.Machine.{CoreView, constants, IsOfPlan};
-ghost use Rattle.prl_replay.specs.Replays.{is_read, behind, IsReplay, IsReplayFault, StopsAt};
+ghost use Rattle.prl_replay.specs.Replays.{is_read, after_all, IsReplay, IsReplayFault, StopsAt};
 
 use prl_base::TaskNo;
 use prl_core::{Core, Seen, Unfinished};
@@ -59,7 +59,7 @@ fn keep_read(reads: &mut Vec<Seen>, seen: Seen) -> Result<(), AllocFailed<Seen>>
 }
 
 /// Does the events in order, from the state of the machine on, and tells what their jobs read. At Ok every event kept the
-/// rules and every job of the horizon has ended. An event that breaks a rule leaves the machine behind the events before it.
+/// rules and every job of the horizon has ended. An event that breaks a rule leaves the machine after the events before it.
 pub fn replay(
     alloc: Global,
     core: &mut Core<'_>,
@@ -67,7 +67,7 @@ pub fn replay(
 ) -> Result<Vec<Seen>, ReplayFault>
     requires plan { All (IsOfPlan core.old.plan) events.now }
     ensures run { MatchResult result (λ reads. IsReplay core.entry.now events.now reads.items) (IsReplayFault core.entry.now events.now) }
-    ensures state { MatchResult result (λ _. core.exit.now ≡ behind core.entry.now events.now) (StopsAt core.entry.now events.now core.exit.now) }
+    ensures state { MatchResult result (λ _. core.exit.now ≡ after_all core.entry.now events.now) (StopsAt core.entry.now events.now core.exit.now) }
 {
     let mut reads = Vec::new(alloc);
     for (i, event) in events.iter().enumerate() {

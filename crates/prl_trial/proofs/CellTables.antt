@@ -20,27 +20,27 @@ use Rattle.prl_plan.specs.Rounds.{releases_after}
 use Rattle.prl_plan.specs.Deadlines.{deadlines_after}
 use Rattle.prl_plan.specs.Cells.{used_at, EnumeratesUsed, Fits, IsLeastCount, HasCells, AreLeastCells, no_used}
 use Rattle.prl_plan.specs.FirstReaders.{first_instance}
-use Rattle.prl_plan.specs.CellTurns.{IsAskedBehind, ListsGaps, FitsInPeriod, span_of}
+use Rattle.prl_plan.specs.CellTurns.{IsAskedFrom, ListsGaps, FitsInPeriod, span_of}
 use Rattle.prl_trial.specs.Searches.{IsUsedList, IsLeastFrom1, FitAfter, base_of, AreEdgeCells, HaveCellsUpTo}
 
-pub used-list : (graph : TaskGraph) (edge : Edge) (ops : List Op) (first : ℕ) (items gaps : List ℕ) → ops ≡ edge.ops → first ≡ first_instance ops →
-    (IsAskedBehind ops first 0 → ListsGaps (IsAskedBehind ops first) (span_of graph edge) items) → gaps ≡ items →
-    IsAskedBehind edge.ops (first_instance edge.ops) 0 → IsUsedList graph edge (record { first = first; gaps = gaps })
-used-list graph edge ops first items gaps same at lists is here =
+pub used_list : (graph : TaskGraph) (edge : Edge) (ops : List Op) (first : ℕ) (items gaps : List ℕ) → ops ≡ edge.ops → first ≡ first_instance ops →
+    (IsAskedFrom ops first 0 → ListsGaps (IsAskedFrom ops first) (span_of graph edge) items) → gaps ≡ items →
+    IsAskedFrom edge.ops (first_instance edge.ops) 0 → IsUsedList graph edge (record { first = first; gaps = gaps })
+used_list graph edge ops first items gaps same at lists is here =
     let place : first ≡ first_instance edge.ops = at ∙ ap first_instance same in
-    let asked : IsAskedBehind ops first 0 =
-    subst (λ (x : ℕ). IsAskedBehind ops x 0) (sym place) (subst (λ (l : List Op). IsAskedBehind l (first_instance edge.ops) 0) (sym same) here) in
+    let asked : IsAskedFrom ops first 0 =
+    subst (λ (x : ℕ). IsAskedFrom ops x 0) (sym place) (subst (λ (l : List Op). IsAskedFrom l (first_instance edge.ops) 0) (sym same) here) in
     record {
       first = place;
-      gaps = subst (λ (l : List ℕ). ListsGaps (IsAskedBehind edge.ops (first_instance edge.ops)) (span_of graph edge) l) (sym is)
-          (subst (λ (x : ℕ). ListsGaps (IsAskedBehind edge.ops x) (span_of graph edge) items) place
-          (subst (λ (l : List Op). ListsGaps (IsAskedBehind l first) (span_of graph edge) items) same (lists asked)));
+      gaps = subst (λ (l : List ℕ). ListsGaps (IsAskedFrom edge.ops (first_instance edge.ops)) (span_of graph edge) l) (sym is)
+          (subst (λ (x : ℕ). ListsGaps (IsAskedFrom edge.ops x) (span_of graph edge) items) place
+          (subst (λ (l : List Op). ListsGaps (IsAskedFrom l first) (span_of graph edge) items) same (lists asked)));
     }
 
 -- a task that an edge comes from is one of the graph
-source-inside : (graph : TaskGraph) (edge : Edge) → IsEdge graph edge → (from : Producer) → edge.from ≡ from → (i : ℕ) → ComesFrom from i → i < length graph.tasks
-source-inside graph edge is (producers.Constant value) from i comes = absurd comes
-source-inside graph edge is (producers.Port task out) from i comes =
+source_inside : (graph : TaskGraph) (edge : Edge) → IsEdge graph edge → (from : Producer) → edge.from ≡ from → (i : ℕ) → ComesFrom from i → i < length graph.tasks
+source_inside graph edge is (producers.Constant value) from i comes = absurd comes
+source_inside graph edge is (producers.Port task out) from i comes =
     let source : IsSource graph edge is.clocks.0 (producers.Port task out) = subst (λ (p : Producer). IsSource graph edge is.clocks.0 p) from is.clocks.2 in
     subst (λ (x : ℕ). x < length graph.tasks) comes source.0
 
@@ -50,20 +50,20 @@ plain edge gaps = record { first = first_instance edge.ops; gaps = gaps }
 -- what one hyperperiod shows of this edge
 abbrev pub ShowsUsed : TaskGraph → Edge → Type 0
 ShowsUsed graph edge =
-    (gaps : List ℕ) → ListsGaps (IsAskedBehind edge.ops (first_instance edge.ops)) (span_of graph edge) gaps →
+    (gaps : List ℕ) → ListsGaps (IsAskedFrom edge.ops (first_instance edge.ops)) (span_of graph edge) gaps →
     EnumeratesUsed edge (record { first = first_instance edge.ops; gaps = gaps })
 
 abbrev pub ShowsCells : TaskGraph → ℕ → Edge → ℕ → Type 0
 ShowsCells graph rounds edge i =
-    (gaps : List ℕ) → ListsGaps (IsAskedBehind edge.ops (first_instance edge.ops)) (span_of graph edge) gaps → (cells : ℕ) →
+    (gaps : List ℕ) → ListsGaps (IsAskedFrom edge.ops (first_instance edge.ops)) (span_of graph edge) gaps → (cells : ℕ) →
     FitsInPeriod edge i (releases_after graph rounds) (deadlines_after graph rounds) (record { first = first_instance edge.ops; gaps = gaps }) cells
     ↔ Fits edge i (releases_after graph rounds) (deadlines_after graph rounds) (record { first = first_instance edge.ops; gaps = gaps }) cells
 
 module _ (graph : TaskGraph) (rounds : ℕ) (edge : Edge) (i : ℕ) (shows_used : ShowsUsed graph edge) (shows_cells : ShowsCells graph rounds edge i) where
-  least-plain : (gaps : List ℕ) → ListsGaps (IsAskedBehind edge.ops (first_instance edge.ops)) (span_of graph edge) gaps → (count : ℕ) →
+  least_plain : (gaps : List ℕ) → ListsGaps (IsAskedFrom edge.ops (first_instance edge.ops)) (span_of graph edge) gaps → (count : ℕ) →
       IsLeastFrom1 (FitAfter graph rounds edge i (plain edge gaps)) count →
       EnumeratesUsed edge (plain edge gaps) × IsLeastCount edge i (releases_after graph rounds) (deadlines_after graph rounds) (plain edge gaps) count
-  least-plain gaps lists count least = (
+  least_plain gaps lists count least = (
     shows_used gaps lists,
     record {
       some = least.some;
@@ -72,29 +72,29 @@ module _ (graph : TaskGraph) (rounds : ℕ) (edge : Edge) (i : ℕ) (shows_used 
     },
   )
 
-  pub least-cells : (used : Used) → IsUsedList graph edge used → (count : ℕ) → IsLeastFrom1 (FitAfter graph rounds edge i used) count →
+  pub are_least_cells : (used : Used) → IsUsedList graph edge used → (count : ℕ) → IsLeastFrom1 (FitAfter graph rounds edge i used) count →
       EnumeratesUsed edge used × IsLeastCount edge i (releases_after graph rounds) (deadlines_after graph rounds) used count
-  least-cells used list count least =
+  are_least_cells used list count least =
       let same : plain edge used.gaps ≡ used = ap (λ (x : ℕ). (let u : Used = record { first = x; gaps = used.gaps } in u)) (sym list.first) in
       subst (λ (u : Used). EnumeratesUsed edge u × IsLeastCount edge i (releases_after graph rounds) (deadlines_after graph rounds) u count) same
-      (least-plain used.gaps list.gaps count (subst (λ (u : Used). IsLeastFrom1 (FitAfter graph rounds edge i u) count) (sym same) least))
+      (least_plain used.gaps list.gaps count (subst (λ (u : Used). IsLeastFrom1 (FitAfter graph rounds edge i u) count) (sym same) least))
 
 -- the cells of an edge, by where it comes from
-pub port-cells : (graph : TaskGraph) (rounds : ℕ) (edge : Edge) (task : TaskNo) (out : ℕ) → ShowsUsed graph edge → ShowsCells graph rounds edge task.0 →
+pub port_cells : (graph : TaskGraph) (rounds : ℕ) (edge : Edge) (task : TaskNo) (out : ℕ) → ShowsUsed graph edge → ShowsCells graph rounds edge task.0 →
     edge.from ≡ producers.Port task out → (used : Used) (count : ℕ) →
     IsUsedList graph edge used × IsLeastFrom1 (FitAfter graph rounds edge task.0 used) count → AreEdgeCells graph rounds edge count used
-port-cells graph rounds edge task out shows_used shows_cells from used zero h = absurd (let s = h.1.some in omega (arith, s))
-port-cells graph rounds edge task out shows_used shows_cells from used (suc count) h = λ before.
-    (let cells = least-cells graph rounds edge task.0 shows_used shows_cells used h.0 (suc count) h.1 in
+port_cells graph rounds edge task out shows_used shows_cells from used zero h = absurd (let s = h.1.some in omega (arith, s))
+port_cells graph rounds edge task out shows_used shows_cells from used (suc count) h = λ before.
+    (let cells = are_least_cells graph rounds edge task.0 shows_used shows_cells used h.0 (suc count) h.1 in
     subst (λ (f : Producer). HasCells edge f (releases_after graph rounds) (deadlines_after graph rounds) before before (suc count) used) (sym from)
     (refl, cells.0, cells.1))
 
 -- one edge more
-pub more-cells : (graph : TaskGraph) (rounds index : ℕ) (bases counts : List ℕ) (used : List Used) (base count : ℕ) (one : Used) →
+pub more_cells : (graph : TaskGraph) (rounds index : ℕ) (bases counts : List ℕ) (used : List Used) (base count : ℕ) (one : Used) →
     length bases ≡ index → length counts ≡ index → length used ≡ index → base ≡ base_of count (sum counts) →
     HaveCellsUpTo graph rounds index bases counts used → ((edge : Edge) → slice_get graph.edges index ≡ Some edge → AreEdgeCells graph rounds edge count one) →
     HaveCellsUpTo graph rounds (index + 1) (bases ++ base ∷ []) (counts ++ count ∷ []) (used ++ one ∷ [])
-more-cells graph rounds index bases counts used base count one in_bases in_counts in_used at before new e edge inside is =
+more_cells graph rounds index bases counts used base count one in_bases in_counts in_used at before new e edge inside is =
     elim (cases_lt e index) [
       | inl below ↦
           (let a = get_or_append_left bases (base ∷ []) 0 e (omega (arith, below, in_bases)) in
@@ -132,19 +132,19 @@ more-cells graph rounds index bases counts used base count one in_bases in_count
 between : (a b : ℤ) → a ≤ℤ b → b ≤ℤ a → a ≡ b
 between a b h k = omega (arith, ints, h, k)
 
-one-release : (graph : TaskGraph) (date other : Family) → AreLeastReleases graph date → AreLeastReleases graph other → (i : ℕ) (m : ℤ) → i < length graph.tasks → date i m ≡ other i m
-one-release graph date other a b i m inside = between (date i m) (other i m) (a.least other b.releases i m inside) (b.least date a.releases i m inside)
+one_release : (graph : TaskGraph) (date other : Family) → AreLeastReleases graph date → AreLeastReleases graph other → (i : ℕ) (m : ℤ) → i < length graph.tasks → date i m ≡ other i m
+one_release graph date other a b i m inside = between (date i m) (other i m) (a.least other b.releases i m inside) (b.least date a.releases i m inside)
 
-one-deadline : (graph : TaskGraph) (date other : Family) → AreGreatestDeadlines graph date → AreGreatestDeadlines graph other → (i : ℕ) (m : ℤ) → i < length graph.tasks →
+one_deadline : (graph : TaskGraph) (date other : Family) → AreGreatestDeadlines graph date → AreGreatestDeadlines graph other → (i : ℕ) (m : ℤ) → i < length graph.tasks →
     date i m ≡ other i m
-one-deadline graph date other a b i m inside = between (date i m) (other i m) (b.greatest date a.deadlines i m inside) (a.greatest other b.deadlines i m inside)
+one_deadline graph date other a b i m inside = between (date i m) (other i m) (b.greatest date a.deadlines i m inside) (a.greatest other b.deadlines i m inside)
 
 -- cells over one family are cells over another that agrees with it
-same-cells : (edge : Edge) (from : Producer) (release deadline release1 deadline1 : Family) → ((i : ℕ) → ComesFrom from i → (m : ℤ) → release i m ≡ release1 i m) →
+same_cells : (edge : Edge) (from : Producer) (release deadline release1 deadline1 : Family) → ((i : ℕ) → ComesFrom from i → (m : ℤ) → release i m ≡ release1 i m) →
     ((n : ℤ) → deadline edge.to.0 n ≡ deadline1 edge.to.0 n) → (before base count : ℕ) (used : Used) →
     HasCells edge from release deadline before base count used → HasCells edge from release1 deadline1 before base count used
-same-cells edge (producers.Constant value) release deadline release1 deadline1 r d before base count used h = h
-same-cells edge (producers.Port task out) release deadline release1 deadline1 r d before base count used h = (
+same_cells edge (producers.Constant value) release deadline release1 deadline1 r d before base count used h = h
+same_cells edge (producers.Port task out) release deadline release1 deadline1 r d before base count used h = (
   h.0,
   h.1,
   record {
@@ -157,43 +157,43 @@ same-cells edge (producers.Port task out) release deadline release1 deadline1 r 
   },
 )
 
-inside-list : (xs : List Edge) (e : ℕ) (edge : Edge) → slice_get xs e ≡ Some edge → e < length xs
-inside-list [] e edge h = cc
-inside-list (x ∷ xs) zero edge h = omega arith
-inside-list (x ∷ xs) (suc e) edge h = (let g = inside-list xs e edge h in omega (arith, g))
+inside_list : (xs : List Edge) (e : ℕ) (edge : Edge) → slice_get xs e ≡ Some edge → e < length xs
+inside_list [] e edge h = cc
+inside_list (x ∷ xs) zero edge h = omega arith
+inside_list (x ∷ xs) (suc e) edge h = (let g = inside_list xs e edge h in omega (arith, g))
 
 -- the cells of all edges, over the encoded dates
-pub table-is : (graph : TaskGraph) (rounds index : ℕ) (bases counts : List ℕ) (used : List Used) → IsWellFormed graph → length graph.edges ≡ index →
+pub table_is : (graph : TaskGraph) (rounds index : ℕ) (bases counts : List ℕ) (used : List Used) → IsWellFormed graph → length graph.edges ≡ index →
     length bases ≡ index → length counts ≡ index → length used ≡ index → HaveCellsUpTo graph rounds index bases counts used →
     AreLeastReleases graph (releases_after graph rounds) → AreGreatestDeadlines graph (deadlines_after graph rounds) → (windows : List (List Window)) →
     AreEncodedDates graph windows → AreLeastCells graph windows bases counts used
-table-is graph rounds index bases counts used good all in_bases in_counts in_used cells least greatest windows dates = record {
+table_is graph rounds index bases counts used good all in_bases in_counts in_used cells least greatest windows dates = record {
   lengths = (in_bases ∙ sym all, in_counts ∙ sym all, in_used ∙ sym all);
   cells = λ e edge is.
       (let at = good.edges e edge is in
-      let inside = inside-list graph.edges e edge is in
-      same-cells edge edge.from (releases_after graph rounds) (deadlines_after graph rounds) (encoded_release graph windows) (encoded_deadline graph windows)
-      (λ i comes m. one-release graph (releases_after graph rounds) (encoded_release graph windows) least dates.releases i m
-      (source-inside graph edge at edge.from refl i comes))
-      (λ n. one-deadline graph (deadlines_after graph rounds) (encoded_deadline graph windows) greatest dates.deadlines edge.to.0 n at.to)
+      let inside = inside_list graph.edges e edge is in
+      same_cells edge edge.from (releases_after graph rounds) (deadlines_after graph rounds) (encoded_release graph windows) (encoded_deadline graph windows)
+      (λ i comes m. one_release graph (releases_after graph rounds) (encoded_release graph windows) least dates.releases i m
+      (source_inside graph edge at edge.from refl i comes))
+      (λ n. one_deadline graph (deadlines_after graph rounds) (encoded_deadline graph windows) greatest dates.deadlines edge.to.0 n at.to)
       (sum (take e counts)) (slice_index bases e) (slice_index counts e) (slice_index_or used e no_used)
       (cells e edge (omega (arith, inside, all)) is));
 }
 
-pub from-port : (edge : Edge) (task : TaskNo) (out : ℕ) → edge.from ≡ producers.Port task out → ComesFrom edge.from task.0
-from-port edge task out from = subst (λ (f : Producer). ComesFrom f task.0) (sym from) refl
+pub from_port : (edge : Edge) (task : TaskNo) (out : ℕ) → edge.from ≡ producers.Port task out → ComesFrom edge.from task.0
+from_port edge task out from = subst (λ (f : Producer). ComesFrom f task.0) (sym from) refl
 
 -- an element that is gone through is one of the list
-pub item-at : (edges items : List Edge) (k : ℕ) (x : Edge) → items ≡ edges → k < length items → x ≡ get_or items k x → slice_get edges k ≡ Some x
-item-at edges items k x same inside is =
+pub item_at : (edges items : List Edge) (k : ℕ) (x : Edge) → items ≡ edges → k < length items → x ≡ get_or items k x → slice_get edges k ≡ Some x
+item_at edges items k x same inside is =
     subst (λ (l : List Edge). slice_get l k ≡ Some x) same (slice_get-get_or items k x inside ∙ ap (λ (y : Edge). Some y) (sym is))
 
-pub more-are : (graph : TaskGraph) (rounds index : ℕ) (bases counts more_bases more_counts : List ℕ) (used more_used : List Used) (base count : ℕ) (one : Used) (item : Edge) →
+pub more_are : (graph : TaskGraph) (rounds index : ℕ) (bases counts more_bases more_counts : List ℕ) (used more_used : List Used) (base count : ℕ) (one : Used) (item : Edge) →
     length bases ≡ index → length counts ≡ index → length used ≡ index → base ≡ base_of count (sum counts) → more_bases ≡ bases ++ base ∷ [] → more_counts ≡ counts ++ count ∷ [] →
     more_used ≡ used ++ one ∷ [] → slice_get graph.edges index ≡ Some item → AreEdgeCells graph rounds item count one →
     HaveCellsUpTo graph rounds index bases counts used → HaveCellsUpTo graph rounds (index + 1) more_bases more_counts more_used
-more-are graph rounds index bases counts more_bases more_counts used more_used base count one item in_bases in_counts in_used at mb mc mu stands cells before =
-    rw (mb, mc, mu) (more-cells graph rounds index bases counts used base count one in_bases in_counts in_used at before
+more_are graph rounds index bases counts more_bases more_counts used more_used base count one item in_bases in_counts in_used at mb mc mu stands cells before =
+    rw (mb, mc, mu) (more_cells graph rounds index bases counts used base count one in_bases in_counts in_used at before
     (λ edge is. subst (λ (x : Edge). AreEdgeCells graph rounds x count one) (same edge (sym stands ∙ is)) cells))
   where
     same : (edge : Edge) → ◌≡◌ {A = Option Edge} (Some item) (Some edge) → item ≡ edge

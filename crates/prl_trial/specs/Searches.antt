@@ -7,19 +7,19 @@ use Rattle.prl_plan.specs.Rounds.{releases_after}
 use Rattle.prl_plan.specs.Deadlines.{deadlines_after}
 use Rattle.prl_plan.specs.Cells.{HasCells, no_used}
 use Rattle.prl_plan.specs.FirstReaders.{first_instance}
-use Rattle.prl_plan.specs.CellTurns.{IsAskedBehind, ListsGaps, FitsInPeriod, span_of}
+use Rattle.prl_plan.specs.CellTurns.{IsAskedFrom, ListsGaps, FitsInPeriod, span_of}
 
 -- the first instance and the differences of one hyperperiod
 pub record IsUsedList (graph : TaskGraph) (edge : Edge) (used : Used) : Type 0 where
   pub first : used.first ≡ first_instance edge.ops
-  pub gaps : ListsGaps (IsAskedBehind edge.ops (first_instance edge.ops)) (span_of graph edge) used.gaps
+  pub gaps : ListsGaps (IsAskedFrom edge.ops (first_instance edge.ops)) (span_of graph edge) used.gaps
 
 -- the first cell of an edge; one without cells has base 0
 abbrev pub base_of : ℕ → ℕ → ℕ
 base_of zero before = 0
 base_of (suc count) before = before
 
--- the cells of an edge behind so many cells of other edges, by the dates after so many rounds
+-- the cells of an edge after so many cells of other edges, by the dates after so many rounds
 abbrev pub AreEdgeCells : TaskGraph → ℕ → Edge → ℕ → Used → Type 0
 AreEdgeCells graph rounds edge count used =
     (before : ℕ) → HasCells edge edge.from (releases_after graph rounds) (deadlines_after graph rounds) before (base_of count before) count used

@@ -3,7 +3,7 @@
 ghost use Rattle.std.specs.Prelude.{◌≡◌, ◌+◌, ◌≤◌, ◌^◌, ℕ, sum, IfOk, MatchOption};
 ghost use Rattle.prl_plan.specs.Cells.{used_at};
 ghost use Rattle.prl_plan.specs.FirstReaders.{first_instance};
-ghost use Rattle.prl_plan.specs.CellTurns.{IsAskedBehind, ListsGaps, span_of};
+ghost use Rattle.prl_plan.specs.CellTurns.{IsAskedFrom, ListsGaps, span_of};
 ghost use Rattle.prl_trial.specs.Searches.{IsUsedList};
 ghost use Rattle.prl_trial.specs.Ranges.{AskedFits, UsedFit, PlaceFits};
 
@@ -13,15 +13,15 @@ use prl_plan::{Edge, TaskGraph, Used};
 use std::alloc::{AllocError, Global};
 
 /// The differences between the instances that precede some job, from the first one on up to `first + span`.
-fn gaps_behind(
+fn gaps_after(
     alloc: Global,
     ops: &[Op],
     first: u64,
     span: u64,
 ) -> Result<Option<Vec<u64>>, AllocError>
-    ensures { IsAskedBehind ops.now first 0 →
+    ensures { IsAskedFrom ops.now first 0 →
         IfOk result (λ r. MatchOption r (¬ ((x : ℕ) → x ≤ span → AskedFits ops.now (first + x)))
-        (λ gaps. ListsGaps (IsAskedBehind ops.now first) span gaps.items)) }
+        (λ gaps. ListsGaps (IsAskedFrom ops.now first) span gaps.items)) }
 {
     let mut gaps = Vec::new(alloc);
     let mut last = 0;
@@ -68,7 +68,7 @@ pub(crate) fn used_of(
     graph: &TaskGraph,
     edge: &Edge,
 ) -> Result<Option<Used>, AllocError>
-    ensures { IsAskedBehind edge.now.ops (first_instance edge.now.ops) 0 →
+    ensures { IsAskedFrom edge.now.ops (first_instance edge.now.ops) 0 →
         IfOk result (λ r. MatchOption r (¬ (UsedFit edge.now (span_of graph.now edge.now))) (IsUsedList graph.now edge.now)) }
 {
     let ops = edge.ops.as_slice();
@@ -78,7 +78,7 @@ pub(crate) fn used_of(
     if edge.period == 0 {
         return Ok(None);
     }
-    let Some(gaps) = gaps_behind(alloc, ops, first, graph.hyper / edge.period)? else {
+    let Some(gaps) = gaps_after(alloc, ops, first, graph.hyper / edge.period)? else {
         return Ok(None);
     };
     Ok(Some(Used {

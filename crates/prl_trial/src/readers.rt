@@ -5,7 +5,7 @@ ghost use Rattle.prl_plan.specs.declared.graphs.Edge.{Edge};
 ghost use Rattle.prl_plan.specs.declared.graphs.TaskGraph.{TaskGraph};
 ghost use Rattle.prl_plan.specs.Graphs.{IsWellFormed};
 ghost use Rattle.prl_plan.specs.FirstReaders.{reader_before, first_reader, first_instance, IsFirstReader};
-ghost use Rattle.prl_plan.specs.CellTurns.{IsAskedBehind};
+ghost use Rattle.prl_plan.specs.CellTurns.{IsAskedFrom};
 ghost use Rattle.prl_trial.specs.Ranges.{StepFits, ReaderFits, InstanceFits, AskedFits};
 
 use prl_base::Op;
@@ -27,12 +27,12 @@ fn reader_through(op: Op, p: u64) -> Option<u64>
 
 /// The number that the walk over the operators reaches from 0. `None` exactly where a number on the way does not fit, or
 /// a factor is 0.
-fn reader_behind(ops: &[Op]) -> Option<u64>
+fn reader_after(ops: &[Op]) -> Option<u64>
     ensures { MatchOption result (¬ (ReaderFits ops.now)) (λ p. ReaderFits ops.now × (p ≡ first_reader ops.now)) }
 {
     match ops {
         [] => Some(0),
-        [op, rest @ ..] => reader_through(*op, reader_behind(rest)?),
+        [op, rest @ ..] => reader_through(*op, reader_after(rest)?),
     }
 }
 
@@ -45,20 +45,20 @@ pub fn first_job(ops: &[Op]) -> Option<u64>
         IfSome result (IsFirstReader ops.now) }
 {
     hyperperiod_shows_cells();
-    reader_behind(ops)
+    reader_after(ops)
 }
 
 /// The first instance that is read through the operators.
 pub(crate) fn first_used(ops: &[Op]) -> Option<u64>
     ensures { MatchOption result (¬ (InstanceFits ops.now)) (λ m. m ≡ first_instance ops.now) }
 {
-    let reader = i64::try_from(reader_behind(ops)?).ok()?;
+    let reader = i64::try_from(reader_after(ops)?).ok()?;
     u64::try_from(preceding_job(ops, reader)?).ok()
 }
 
 /// Whether instance `first + x` precedes some job.
 pub(crate) fn is_asked(ops: &[Op], first: u64, x: u64) -> Option<bool>
-    ensures { MatchOption result (¬ (AskedFits ops.now (first + x))) (λ asked. IsTrue asked ↔ IsAskedBehind ops.now first x) }
+    ensures { MatchOption result (¬ (AskedFits ops.now (first + x))) (λ asked. IsTrue asked ↔ IsAskedFrom ops.now first x) }
 {
     let m = i64::try_from(first.checked_add(x)?).ok()?;
     let jobs = following_jobs(ops, m)?;

@@ -8,7 +8,7 @@ ghost use Rattle.prl_plan.specs.Dates.{AreEncodedDates};
 ghost use Rattle.prl_plan.specs.FixedPoints.{AreFixed};
 ghost use Rattle.prl_plan.specs.Cells.{AreLeastCells};
 ghost use Rattle.prl_plan.specs.FirstReaders.{first_instance};
-ghost use Rattle.prl_plan.specs.CellTurns.{IsAskedBehind};
+ghost use Rattle.prl_plan.specs.CellTurns.{IsAskedFrom};
 ghost use Rattle.prl_trial.specs.Searches.{IsUsedList, base_of, AreEdgeCells, FitAfter, IsLeastFrom1};
 ghost use Rattle.prl_trial.specs.Ranges.{EdgeFits, TableFits};
 
@@ -36,7 +36,7 @@ fn cells_from(
     edge: &Edge,
     task: TaskNo,
 ) -> Result<Option<EdgeCells>, AllocError>
-    ensures { IsAskedBehind edge.now.ops (first_instance edge.now.ops) 0 →
+    ensures { IsAskedFrom edge.now.ops (first_instance edge.now.ops) 0 →
         IfOk result (λ r. MatchOption r (¬ (EdgeFits graph.now rounds edge.now task.0))
         (λ cells. IsUsedList graph.now edge.now cells.used × IsLeastFrom1 (FitAfter graph.now rounds edge.now task.0 cells.used) cells.count)) }
 {
@@ -79,8 +79,8 @@ fn cells_of(
     Ok(Some(cells))
 }
 
-/// The first cell of an edge behind so many cells of other edges.
-fn base_behind(count: u32, before: u64) -> u64
+/// The first cell of an edge after so many cells of other edges.
+fn base_after(count: u32, before: u64) -> u64
     ensures { result ≡ base_of count before }
 {
     if count == 0 { 0 } else { before }
@@ -119,7 +119,7 @@ pub fn least_cells(
         let Some(cells) = cells_of(alloc, graph, rounds, edge)? else {
             return Ok(None);
         };
-        bases.push(base_behind(cells.count, total))?;
+        bases.push(base_after(cells.count, total))?;
         counts.push(cells.count)?;
         used.push(cells.used)?;
         total += u64::from(cells.count);

@@ -42,7 +42,7 @@ fn cells_of_a_task_that_looks_back(rt: HostRuntime) -> Result<(), Fail> {
 }
 
 #[test]
-fn cells_behind_operators(rt: HostRuntime) -> Result<(), Fail> {
+fn cells_after_operators(rt: HostRuntime) -> Result<(), Fail> {
     let held = vec![in rt.alloc(); Op::Up(3), Op::Down(3)]?;
     assert!(rt; has_cells(&rt, &sensor_and_actuator(&rt, held, 0)?, 2, &[0], &[1])?);
     let half = Ratio::new(3, 2).ok().ok_or("a ratio")?;
@@ -59,13 +59,13 @@ fn cells_behind_operators(rt: HostRuntime) -> Result<(), Fail> {
             &[1001]
         )?
     );
-    let behind = [Op::Up(3), Op::Fby(Value::Int(0))];
-    assert_eq!(rt; first_job(&behind), Some(3));
+    let late = [Op::Up(3), Op::Fby(Value::Int(0))];
+    assert_eq!(rt; first_job(&late), Some(3));
     assert_eq!(rt; first_job(&[Op::Tail, Op::Cons(Value::Int(9))]), Some(0));
     Ok(())
 }
 
-/// Whether the used instances of edge `e` are this first one and those behind these differences, repeated.
+/// Whether the used instances of edge `e` are this first one and those after these differences, repeated.
 fn has_used(
     rt: &HostRuntime,
     graph: &TaskGraph,

@@ -105,7 +105,7 @@ fn dates_of_a_fast_and_a_slow_task(rt: HostRuntime) -> Result<(), Fail> {
 }
 
 #[test]
-fn dates_behind_operators(rt: HostRuntime) -> Result<(), Fail> {
+fn dates_after_operators(rt: HostRuntime) -> Result<(), Fail> {
     let held = vec![in rt.alloc(); Op::Up(3), Op::Down(3)]?;
     let jobs = [
         (0, 0, 0, 9),

@@ -2,7 +2,7 @@ use Rattle.std.proofs.Common.{◌≡◌, ℕ, List, [], ◌∷◌, length, Vec, 
 use Rattle.std.proofs.lemmas.List.{length-map, length-append}
 use Rattle.prl_base.specs.declared.values.Value.{Value}
 use Rattle.prl_plan.specs.Jobs.{task_at, job_count}
-use Rattle.prl_core.proofs.ColumnLists.{room-more}
+use Rattle.prl_core.proofs.ColumnLists.{room_more}
 use Rattle.prl_core.proofs.cores.room_for_reads.Goals as goal
 
 pub loop-i-preserved : goal.loop-i-preserved
@@ -11,7 +11,7 @@ loop-i-preserved c =
     let count : ℕ → ℕ = λ j. job_count (task_at c.args.plan.now.graph j) c.args.horizon.until in
     record {
       tasks = (let e = ap length c.in_ok-push.ensures.items in let l = length-append c.loop-i.columns.items (c.in_ok-vec.field-0 ∷ []) in omega (arith, e, l, c.loop-i.invariant.tasks));
-      room = room-more c.loop-i.columns.items c.push.new.self.items c.in_ok-vec.field-0 c.loop-i.i count c.in_ok-push.ensures.items
+      room = room_more c.loop-i.columns.items c.push.new.self.items c.in_ok-vec.field-0 c.loop-i.i count c.in_ok-push.ensures.items
           c.loop-i.invariant.tasks c.loop-i.invariant.room (filled ∙ c.jobs_of-jobs.ensures);
     }
 

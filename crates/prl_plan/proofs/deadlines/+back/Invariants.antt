@@ -14,7 +14,7 @@ decreases-needed_along l = l.rounds * 2 ^ 66 + 2 ^ 65
 abbrev pub decreases-needed_from : goal.decreases-needed_from
 decreases-needed_from l = l.rounds * 2 ^ 66 + l.count + 1
 
--- what the edges behind these ask is left
+-- what the edges after these ask is left
 abbrev pub invariant-deadline_after-loop-edge : goal.invariant-deadline_after-loop-edge
 invariant-deadline_after-loop-edge l = MatchOption l.best (¬ (DeadlineFits l.graph l.rounds l.job.task.0 l.job.number)) (λ b.
     earliest l.graph (deadlines_after l.graph (l.rounds - 1)) l.job.task.0 l.job.number (drop l.edge-index l.graph.edges) b

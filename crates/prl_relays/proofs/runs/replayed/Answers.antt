@@ -4,11 +4,11 @@ use Rattle.prl_base.specs.declared.values.Value.{Value}
 use Rattle.prl_flow.specs.Programs.{wcet_of}
 use Rattle.prl_chains.specs.Relays.{is_relay}
 use Rattle.prl_core.specs.Machine.{CoreView, Drives}
-use Rattle.prl_replay.specs.Replays.{IsReplay, behind}
+use Rattle.prl_replay.specs.Replays.{IsReplay, after_all}
 use Rattle.prl_relays.specs.Relays.{Relay, machine, input_clock, IsOutput, AreOperands}
 use Rattle.prl_relays.proofs.Solutions.{both}
-use Rattle.prl_relays.proofs.Handed.{core_rows, core_is, solved_behind}
-use Rattle.prl_relays.proofs.Operands.{operands_behind}
+use Rattle.prl_relays.proofs.Handed.{core_rows, core_is, solved_after}
+use Rattle.prl_relays.proofs.Operands.{operands_after}
 use Rattle.prl_relays.proofs.runs.replayed.Goals as goal
 
 pub new-requires-clause-rows : goal.new-requires-clause-rows
@@ -21,8 +21,8 @@ output-requires c =
     let r : Relay = record { chain = c.args.chain.now; values = c.args.values.items; until = c.args.horizon.until } in
     let is : c.in-Ok-new.core ≡ machine r c.args.horizon =
     core_is r c.args.horizon c.in-Ok-new.core c.args.plan.now c.in-Ok.sensors c.in-Ok-new.ensures c.requires.plan c.in-Ok.ensures in
-    let left : c.replay.new.core ≡ behind (machine r c.args.horizon) c.args.events.now =
-    c.in_ok-reads.ensures.state ∙ ap (λ (m : CoreView). behind m c.args.events.now) is in
+    let left : c.replay.new.core ≡ after_all (machine r c.args.horizon) c.args.events.now =
+    c.in_ok-reads.ensures.state ∙ ap (λ (m : CoreView). after_all m c.args.events.now) is in
     subst (λ (m : CoreView). (i : ℕ) × Drives m.plan i 0) (sym left) (1, (lit≤ tt, refl))
 
 pub returns-in-Ok-from_slice-clause-run : goal.returns-in-Ok-from_slice-clause-run
@@ -39,10 +39,10 @@ returns-in-Ok-from_slice-clause-solved c =
     core_is r c.args.horizon c.in-Ok-new.core c.args.plan.now c.in-Ok.sensors c.in-Ok-new.ensures c.requires.plan c.in-Ok.ensures in
     let run : IsReplay (machine r c.args.horizon) c.args.events.now c.in_ok-reads.reads.items =
     subst (λ (m : CoreView). IsReplay m c.args.events.now c.in_ok-reads.reads.items) is c.in_ok-reads.ensures.run in
-    let left = c.in_ok-reads.ensures.state ∙ ap (λ (m : CoreView). behind m c.args.events.now) is in
+    let left = c.in_ok-reads.ensures.state ∙ ap (λ (m : CoreView). after_all m c.args.events.now) is in
     let relay = (both (is_relay c.args.chain.now) (nat_le (wcet_of c.args.chain.now.flat.in_devices 0 + wcet_of c.args.chain.now.flat.out_devices 0) (input_clock c.args.chain.now).period) c.requires.ready.in_time).0 in
     subst (IsOutput r) (sym c.in-Ok-from_slice.ensures.items)
-    (solved_behind r c.args.horizon c.args.events.now c.in_ok-reads.reads.items c.replay.new.core c.args.plan.now c.output.result.now
+    (solved_after r c.args.horizon c.args.events.now c.in_ok-reads.reads.items c.replay.new.core c.args.plan.now c.output.result.now
     c.requires.ready (c.copies_hand_on.ensures c.args.chain.now c.requires.ready.chain relay) refl c.requires.plan
     c.legal_list_is_gated.ensures c.gated_list_keeps_halves.ensures.counted c.plan_facts.ensures run left c.output.ensures)
 
@@ -53,6 +53,6 @@ returns-in-Ok-from_slice-clause-operands c =
     core_is r c.args.horizon c.in-Ok-new.core c.args.plan.now c.in-Ok.sensors c.in-Ok-new.ensures c.requires.plan c.in-Ok.ensures in
     let run : IsReplay (machine r c.args.horizon) c.args.events.now c.in_ok-reads.reads.items =
     subst (λ (m : CoreView). IsReplay m c.args.events.now c.in_ok-reads.reads.items) is c.in_ok-reads.ensures.run in
-    let left = c.in_ok-reads.ensures.state ∙ ap (λ (m : CoreView). behind m c.args.events.now) is in
+    let left = c.in_ok-reads.ensures.state ∙ ap (λ (m : CoreView). after_all m c.args.events.now) is in
     subst (λ (out : List Value). AreOperands out c.in_ok-reads.reads.items) (sym c.in-Ok-from_slice.ensures.items)
-    (operands_behind r c.args.horizon c.args.events.now c.in_ok-reads.reads.items c.replay.new.core c.output.result.now run left c.output.ensures)
+    (operands_after r c.args.horizon c.args.events.now c.in_ok-reads.reads.items c.replay.new.core c.output.result.now run left c.output.ensures)

@@ -7,12 +7,12 @@ use Rattle.prl_plan.specs.declared.events.Event.{Event}
 use Rattle.prl_plan.specs.declared.events.Event.TheVariants as events
 use Rattle.prl_plan.specs.Rules.{IsLegal, IsComplete, IsFirstUnfinished, FirstBroken}
 use Rattle.prl_core.specs.Machine.{CoreView, constants}
-use Rattle.prl_replay.specs.Replays.{behind, TellsAll, StopsAt}
+use Rattle.prl_replay.specs.Replays.{after_all, TellsAll, StopsAt}
 use Rattle.prl_replay.proofs.Runs.{legal_on, state_on, told_on}
 use Rattle.prl_replay.proofs.replays.replay.Goals as goal
 
-MatchResult-from_is : {T E : Type 0} {r : Result T E} (P : T → Type 0) (Q : E → Type 0) (d : E) → r ≡ Err d → Q d → MatchResult r P Q
-MatchResult-from_is P Q d is h = subst (λ x. MatchResult x P Q) (sym is) h
+MatchResult_from_is : {T E : Type 0} {r : Result T E} (P : T → Type 0) (Q : E → Type 0) (d : E) → r ≡ Err d → Q d → MatchResult r P Q
+MatchResult_from_is P Q d is h = subst (λ x. MatchResult x P Q) (sym is) h
 
 pub loop-i-preserved : goal.loop-i-preserved
 loop-i-preserved c =
@@ -26,7 +26,7 @@ loop-i-preserved c =
 pub returns-in-Ok-finished-clause-run : goal.returns-in-Ok-finished-clause-run
 returns-in-Ok-finished-clause-run c =
     let whole = take_all c.loop-i.i c.args.events.now (omega arith) in
-    let state = c.loop-i.invariant.state ∙ ap (behind c.args.core.now) whole in
+    let state = c.loop-i.invariant.state ∙ ap (after_all c.args.core.now) whole in
     record {
       legal = subst (IsLegal (constants c.args.core.now) c.args.core.now.state) whole c.loop-i.invariant.legal;
       complete = subst (λ (m : CoreView). IsComplete (constants m) m.state) state c.in-Ok-finished.ensures;
@@ -38,7 +38,7 @@ returns-in-Ok-finished-clause-run c =
 pub returns-in-Err-finished-clause-run : goal.returns-in-Err-finished-clause-run
 returns-in-Err-finished-clause-run c =
     let whole = take_all c.loop-i.i c.args.events.now (omega arith) in
-    let state = c.loop-i.invariant.state ∙ ap (behind c.args.core.now) whole in (
+    let state = c.loop-i.invariant.state ∙ ap (after_all c.args.core.now) whole in (
       subst (IsLegal (constants c.args.core.now) c.args.core.now.state) whole c.loop-i.invariant.legal,
       subst (λ (m : CoreView). IsFirstUnfinished (constants m) m.state c.in-Err-finished.field-0.task.0 c.in-Err-finished.field-0.job) state c.in-Err-finished.ensures,
     )
@@ -48,7 +48,7 @@ returns-in_err-keep_read-in-Ok-clause-state c =
     let p = err_from_is_err_and c.from_residual.result c.from_residual.ensures.1 in
     let more = take_more c.args.events.now c.loop-i.i events.Tick (omega arith) in
     let inside : c.loop-i.i < length c.args.events.now = c.loop-i-test.true in
-    MatchResult-from_is (λ _. c.step.new.self ≡ behind c.args.core.now c.args.events.now) (StopsAt c.args.core.now c.args.events.now c.step.new.self) p.0 p.1
+    MatchResult_from_is (λ _. c.step.new.self ≡ after_all c.args.core.now c.args.events.now) (StopsAt c.args.core.now c.args.events.now c.step.new.self) p.0 p.1
     (subst (StopsAt c.args.core.now c.args.events.now c.step.new.self) (sym p.2) (
       c.loop-i.i + 1,
       (omega (arith, inside)),

@@ -6,7 +6,7 @@ use Rattle.prl_plan.specs.Precedence.{preceding}
 use Rattle.prl_plan.specs.Deadlines.{deadlines_after}
 use Rattle.prl_plan.specs.Intervals.{IsIn, successors}
 use Rattle.prl_trial.specs.Ranges.{JobsFit}
-use Rattle.prl_trial.proofs.CellSteps.{life-of}
+use Rattle.prl_trial.proofs.CellSteps.{life_of}
 use Rattle.prl_trial.proofs.counts.is_over_by.Goals as goal
 
 pub returns : goal.returns
@@ -14,7 +14,7 @@ returns c =
     let fits : SFits w64 c.args.date = search rules in
     let m : to_z w64 (of_z w64 c.in_ok-ok.field-0) ≡ pos c.args.m = search rules in
     let o : c.as_slice.result.now ≡ c.args.edge.now.ops = search rules in
-    life-of c.args.graph.now c.args.rounds c.args.edge.now c.args.m c.in_ok-jobs.jobs c.args.date c.are_due_by.result
+    life_of c.args.graph.now c.args.rounds c.args.edge.now c.args.m c.in_ok-jobs.jobs c.args.date c.are_due_by.result
     (c.in_ok-jobs.ensures.exact ∙ ap (λ (z : ℤ). successors c.as_slice.result.now z) m ∙ ap (λ (l : List Op). successors l (pos c.args.m)) o)
     (λ n. subst (λ (z : ℤ). IsIn n c.in_ok-jobs.jobs ↔ (preceding c.args.edge.now.ops n ≡ z)) m
     (subst (λ (l : List Op). IsIn n c.in_ok-jobs.jobs ↔ (preceding l n ≡ to_z w64 (of_z w64 c.in_ok-ok.field-0))) o (c.in_ok-jobs.ensures.numbers n)))

@@ -1,6 +1,6 @@
 use Rattle.std.proofs.Common.{arith}
 use Rattle.prl_trial.specs.Searches.{FitAfter}
-use Rattle.prl_trial.proofs.CellSteps.{next-least, untried}
+use Rattle.prl_trial.proofs.CellSteps.{next_least, untried}
 use Rattle.prl_trial.proofs.counts.least_count.Goals as goal
 
 pub returns-in_err-do_fit : goal.returns-in_err-do_fit
@@ -10,7 +10,7 @@ returns-in_err-do_fit c =
 
 pub loop-cells-preserved : goal.loop-cells-preserved
 loop-cells-preserved c =
-    next-least (FitAfter c.args.graph.now c.args.rounds c.args.edge.now c.args.task.0 c.args.used.now) c.loop-cells.cells c.in_ok-do_fit.field-0
+    next_least (FitAfter c.args.graph.now c.args.rounds c.args.edge.now c.args.task.0 c.args.used.now) c.loop-cells.cells c.in_ok-do_fit.field-0
     c.loop-cells.invariant c.in_ok-do_fit.ensures c.if-branch.false
 
 pub returns : goal.returns

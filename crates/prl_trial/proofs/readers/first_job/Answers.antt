@@ -7,5 +7,5 @@ use Rattle.prl_trial.proofs.readers.first_job.Goals as goal
 pub returns-clause-first : goal.returns-clause-first
 returns-clause-first c =
     λ graph e edge well at same.
-    found_is_first c.reader_behind.result c.args.ops.now c.reader_behind.ensures
+    found_is_first c.reader_after.result c.args.ops.now c.reader_after.ensures
     (subst (λ (ops : List Op). IsFirstReader ops (first_reader ops)) same (c.hyperperiod_shows_cells.ensures.reader graph well e edge at))

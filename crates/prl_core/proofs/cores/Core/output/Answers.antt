@@ -4,7 +4,7 @@ use Rattle.std.proofs.lemmas.List.{get_or-map, length-map}
 use Rattle.prl_base.specs.declared.values.Value.{Value}
 use Rattle.prl_core.specs.Columns.{column}
 use Rattle.prl_core.specs.Machine.{CoreView, constants, Drives, AreOutputs}
-use Rattle.prl_core.proofs.Kept.{column-is-output}
+use Rattle.prl_core.proofs.Kept.{column_is_output}
 use Rattle.prl_core.proofs.cores.Core.output.Goals as goal
 
 pub returns : goal.returns
@@ -33,5 +33,5 @@ returns c =
       subst (λ (v : CoreView). AreOutputs v i (take c.index-2.result.now c.as_slice.result.now)) seen
           (subst (λ (xs : List Value). AreOutputs core i (take c.index-2.result.now xs)) row
           (subst (λ (n : ℕ). AreOutputs core i (take n (column columns i))) (sym ended)
-          (column-is-output core c.plan_facts.ensures c.plan_links_devices.ensures c.self.inside.values.items columns c.self.invariant i inside))),
+          (column_is_output core c.plan_facts.ensures c.plan_links_devices.ensures c.self.inside.values.items columns c.self.invariant i inside))),
     )

@@ -6,7 +6,7 @@ use Rattle.prl_core.specs.Machine.{CoreView, constants}
 use Rattle.prl_core.specs.Tests.{ReadsLow}
 use Rattle.prl_core.specs.Inside.{IsWhole}
 use Rattle.std.proofs.lemmas.Grind.{get_or_default_zero}
-use Rattle.prl_core.proofs.Kept.{kept-pass}
+use Rattle.prl_core.proofs.Kept.{kept_pass}
 use Rattle.prl_core.proofs.cores.Core.pass.Goals as goal
 
 pub invariant_of-self : goal.invariant_of-self
@@ -26,4 +26,4 @@ invariant_of-self c =
     let place : c.index_mut.result.now ≡ get_or core.state.places c.args.task.0 0 =
     c.index_mut.ensures.value ∙ get_or_default_zero core.state.places c.args.task.0 c.index_mut.result.now (let l = c.self.invariant.sound.tagged.places in let t = keeps.0.task in omega (arith, l, t)) in
     subst (λ (p : ℕ). IsWhole (record core { state = record core.state { places = set core.state.places c.args.task.0 (p + 1) } }) c.self.inside.values.items columns) (sym place)
-    (kept-pass core c.plan_facts.ensures c.plan_links_devices.ensures c.self.inside.values.items columns c.self.invariant c.args.task keeps reads)
+    (kept_pass core c.plan_facts.ensures c.plan_links_devices.ensures c.self.inside.values.items columns c.self.invariant c.args.task keeps reads)

@@ -13,7 +13,7 @@ use Rattle.prl_core.specs.Machine.{CoreView, constants, cell_no, sight_of_write,
 use Rattle.prl_core.specs.Tests.{ReadsValue}
 use Rattle.prl_core.specs.declared.seen.Seen.TheVariants as sights
 use Rattle.prl_plan.proofs.StateLaws.{write_finds_half_free}
-use Rattle.prl_core.proofs.LegalReads.{read-in-range, read-value, read-reads, const-reads, next-is, writes-own}
+use Rattle.prl_core.proofs.LegalReads.{read_in_range, read_value, read_reads, const_reads, next_is, writes_own}
 use Rattle.prl_core.proofs.cores.Core.proceed.Goals as goal
 
 pub take-requires-clause-reads : goal.take-requires-clause-reads
@@ -34,9 +34,9 @@ take-requires-clause-reads c =
     let place : c.index-place.result.now ≡ get_or core.state.places c.args.task.0 0 =
     c.index-place.ensures ∙ get_or_default_zero core.state.places c.args.task.0 c.index-place.result.now (let l = c.self.invariant.sound.tagged.places in let t = keeps.0.task in omega (arith, l, t)) in
     let is : next_action (constants core) core.state c.args.task.0 ≡ actions.ReadConst c.in-ReadConst.port c.in-ReadConst.value =
-    next-is core c.args.task.0 c.args.job c.index-place.result.now (actions.ReadConst c.in-ReadConst.port c.in-ReadConst.value) now place c.in-ReadConst.ensures in
+    next_is core c.args.task.0 c.args.job c.index-place.result.now (actions.ReadConst c.in-ReadConst.port c.in-ReadConst.value) now place c.in-ReadConst.ensures in
     subst (λ (v : CoreView). ReadsValue v c.args.task.0 c.args.job (get_or v.state.places c.args.task.0 0) c.in-ReadConst.value) seen
-    (const-reads core c.plan_facts.ensures c.self.inside.values.items columns c.self.invariant c.args.task keeps c.in-ReadConst.port c.args.job c.in-ReadConst.value now is)
+    (const_reads core c.plan_facts.ensures c.self.inside.values.items columns c.self.invariant c.args.task keeps c.in-ReadConst.port c.args.job c.in-ReadConst.value now is)
 
 pub read-requires-clause-reads : goal.read-requires-clause-reads
 read-requires-clause-reads c =
@@ -54,7 +54,7 @@ read-requires-clause-reads c =
     let place : c.index-place.result.now ≡ get_or core.state.places c.args.task.0 0 =
     c.index-place.ensures ∙ get_or_default_zero core.state.places c.args.task.0 c.index-place.result.now (let l = c.self.invariant.sound.tagged.places in let t = keeps.0.task in omega (arith, l, t)) in
     let is : next_action (constants core) core.state c.args.task.0 ≡ actions.Read c.in-Read.port c.in-Read.edge c.in-Read.instance c.in-Read.slot =
-    next-is core c.args.task.0 c.args.job c.index-place.result.now (actions.Read c.in-Read.port c.in-Read.edge c.in-Read.instance c.in-Read.slot) now place c.in-Read.ensures in
+    next_is core c.args.task.0 c.args.job c.index-place.result.now (actions.Read c.in-Read.port c.in-Read.edge c.in-Read.instance c.in-Read.slot) now place c.in-Read.ensures in
     subst (λ (v : CoreView). next_action (constants v) v.state c.args.task.0 ≡ actions.Read c.in-Read.port c.in-Read.edge c.in-Read.instance c.in-Read.slot) seen is
 
 pub write-requires-clause-writes : goal.write-requires-clause-writes
@@ -75,10 +75,10 @@ write-requires-clause-writes c =
     let place : c.index-place.result.now ≡ get_or core.state.places c.args.task.0 0 =
     c.index-place.ensures ∙ get_or_default_zero core.state.places c.args.task.0 c.index-place.result.now (let l = c.self.invariant.sound.tagged.places in let t = keeps.0.task in omega (arith, l, t)) in
     let is : next_action (constants core) core.state c.args.task.0 ≡ actions.Write c.in-Write.edge c.in-Write.instance c.in-Write.slot =
-    next-is core c.args.task.0 c.args.job c.index-place.result.now (actions.Write c.in-Write.edge c.in-Write.instance c.in-Write.slot) now place c.in-Write.ensures in (
+    next_is core c.args.task.0 c.args.job c.index-place.result.now (actions.Write c.in-Write.edge c.in-Write.instance c.in-Write.slot) now place c.in-Write.ensures in (
       c.in-Write.edge,
       subst (λ (v : CoreView). next_action (constants v) v.state c.args.task.0 ≡ actions.Write c.in-Write.edge c.args.job c.in-Write.slot) seen
-          (writes-own core c.args.task.0 c.args.job c.in-Write.edge c.in-Write.instance c.in-Write.slot now is),
+          (writes_own core c.args.task.0 c.args.job c.in-Write.edge c.in-Write.instance c.in-Write.slot now is),
     )
 
 pub returns-in-Read-clause-tells : goal.returns-in-Read-clause-tells
@@ -97,7 +97,7 @@ returns-in-Read-clause-tells c =
     let place : c.index-place.result.now ≡ get_or core.state.places c.args.task.0 0 =
     c.index-place.ensures ∙ get_or_default_zero core.state.places c.args.task.0 c.index-place.result.now (let l = c.self.invariant.sound.tagged.places in let t = keeps.0.task in omega (arith, l, t)) in
     let is : next_action (constants core) core.state c.args.task.0 ≡ actions.Read c.in-Read.port c.in-Read.edge c.in-Read.instance c.in-Read.slot =
-    next-is core c.args.task.0 c.args.job c.index-place.result.now (actions.Read c.in-Read.port c.in-Read.edge c.in-Read.instance c.in-Read.slot) now place c.in-Read.ensures in
+    next_is core c.args.task.0 c.args.job c.index-place.result.now (actions.Read c.in-Read.port c.in-Read.edge c.in-Read.instance c.in-Read.slot) now place c.in-Read.ensures in
     let told : IsSightOf c.args.self.now c.args.task c.args.job (actions.Read c.in-Read.port c.in-Read.edge c.in-Read.instance c.in-Read.slot) c.read.result = c.read.ensures.tells in
     subst (λ (v : CoreView). IsSightOf v c.args.task (first_unfinished v.state c.args.task.0) (next_action (constants v) v.state c.args.task.0) c.read.result) seen
     (subst (λ (a : Action). IsSightOf core c.args.task (first_unfinished core.state c.args.task.0) a c.read.result) (sym is)
@@ -122,7 +122,7 @@ returns-in-Write-clause-tells c =
     let place : c.index-place.result.now ≡ get_or core.state.places c.args.task.0 0 =
     c.index-place.ensures ∙ get_or_default_zero core.state.places c.args.task.0 c.index-place.result.now (let l = c.self.invariant.sound.tagged.places in let t = keeps.0.task in omega (arith, l, t)) in
     let is : next_action (constants core) core.state c.args.task.0 ≡ actions.Write c.in-Write.edge c.in-Write.instance c.in-Write.slot =
-    next-is core c.args.task.0 c.args.job c.index-place.result.now (actions.Write c.in-Write.edge c.in-Write.instance c.in-Write.slot) now place c.in-Write.ensures in
+    next_is core c.args.task.0 c.args.job c.index-place.result.now (actions.Write c.in-Write.edge c.in-Write.instance c.in-Write.slot) now place c.in-Write.ensures in
     let told : IsSightOf core c.args.task (first_unfinished core.state c.args.task.0) (actions.Write c.in-Write.edge c.in-Write.instance c.in-Write.slot)
     c.sight_of_write.result = (
       write_finds_half_free (constants core) c.plan_facts.ensures core.state c.self.invariant.sound c.args.task.0 c.in-Write.edge c.in-Write.instance c.in-Write.slot.0 keeps.0 keeps.1 is,

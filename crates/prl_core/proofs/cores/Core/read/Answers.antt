@@ -13,7 +13,7 @@ use Rattle.prl_core.specs.Machine.{CoreView, constants, cell_no, IsSightOf, IsSi
 use Rattle.prl_core.specs.Tests.{ReadsValue, ReadsLow}
 use Rattle.prl_core.specs.declared.seen.Seen.TheVariants as sights
 use Rattle.prl_plan.proofs.StateLaws.{legal_read_finds_tag}
-use Rattle.prl_core.proofs.LegalReads.{read-in-range, read-value, read-reads, sight-of-low, sight-of-high, cell-is}
+use Rattle.prl_core.proofs.LegalReads.{read_in_range, read_value, read_reads, sight_of_low, sight_of_high, cell_is}
 use Rattle.prl_core.proofs.cores.Core.read.Goals as goal
 
 pub index-value-requires : goal.index-value-requires
@@ -31,7 +31,7 @@ index-value-requires c =
     subst (λ (v : CoreView). KeepsLegal (constants v) v.state (events.Act c.args.task)) (sym seen) c.requires.allowed in
     let is : next_action (constants core) core.state c.args.task.0 ≡ actions.Read c.args.port c.args.edge c.args.instance c.args.slot =
     subst (λ (v : CoreView). next_action (constants v) v.state c.args.task.0 ≡ actions.Read c.args.port c.args.edge c.args.instance c.args.slot) (sym seen) c.requires.reads in
-    let inside : c.args.slot.0 < length c.self.inside.values.items = read-in-range core c.plan_facts.ensures c.self.inside.values.items columns c.self.invariant c.args.task keeps c.args.port c.args.edge c.args.instance c.args.slot is in
+    let inside : c.args.slot.0 < length c.self.inside.values.items = read_in_range core c.plan_facts.ensures c.self.inside.values.items columns c.self.invariant c.args.task keeps c.args.port c.args.edge c.args.instance c.args.slot is in
     let v = c.self.inside.values.ok.0 in
     omega (arith, inside, v)
 
@@ -52,12 +52,12 @@ take-requires-clause-reads c =
     subst (λ (v : CoreView). c.args.job ≡ first_unfinished v.state c.args.task.0) (sym seen) c.requires.job in
     let is : next_action (constants core) core.state c.args.task.0 ≡ actions.Read c.args.port c.args.edge c.args.instance c.args.slot =
     subst (λ (v : CoreView). next_action (constants v) v.state c.args.task.0 ≡ actions.Read c.args.port c.args.edge c.args.instance c.args.slot) (sym seen) c.requires.reads in
-    let inside : c.args.slot.0 < length c.self.inside.values.items = read-in-range core c.plan_facts.ensures c.self.inside.values.items columns c.self.invariant c.args.task keeps c.args.port c.args.edge c.args.instance c.args.slot is in
+    let inside : c.args.slot.0 < length c.self.inside.values.items = read_in_range core c.plan_facts.ensures c.self.inside.values.items columns c.self.invariant c.args.task keeps c.args.port c.args.edge c.args.instance c.args.slot is in
     let has : instance_value core.plan.graph core.rows (edge_at core.plan.graph c.args.edge.0) c.args.instance ≡ Some c.index-value.result.now =
-    sym (read-value core c.plan_facts.ensures c.self.inside.values.items columns c.self.invariant c.args.task keeps c.args.port c.args.edge c.args.instance c.args.slot is)
+    sym (read_value core c.plan_facts.ensures c.self.inside.values.items columns c.self.invariant c.args.task keeps c.args.port c.args.edge c.args.instance c.args.slot is)
     ∙ slice_get-get_or c.self.inside.values.items c.args.slot.0 c.index-value.result.now inside ∙ ap (λ (x : Value). Some x) (sym c.index-value.ensures) in
     subst (λ (v : CoreView). ReadsValue v c.args.task.0 c.args.job (get_or v.state.places c.args.task.0 0) c.index-value.result.now) seen
-    (read-reads core c.plan_facts.ensures c.self.inside.values.items columns c.self.invariant c.args.task keeps c.args.port c.args.edge c.args.instance c.args.slot c.args.job c.index-value.result.now now is has
+    (read_reads core c.plan_facts.ensures c.self.inside.values.items columns c.self.invariant c.args.task keeps c.args.port c.args.edge c.args.instance c.args.slot c.args.job c.index-value.result.now now is has
     c.if-is_low.ensures.no)
 
 pub returns-then-is_low-clause-tells : goal.returns-then-is_low-clause-tells
@@ -75,9 +75,9 @@ returns-then-is_low-clause-tells c =
     subst (λ (v : CoreView). next_action (constants v) v.state c.args.task.0 ≡ actions.Read c.args.port c.args.edge c.args.instance c.args.slot) (sym seen) c.requires.reads in
     let found : FindsTag core.state (actions.Read c.args.port c.args.edge c.args.instance c.args.slot) =
     subst (FindsTag core.state) is (legal_read_finds_tag (constants core) c.plan_facts.ensures core.state c.self.invariant.sound c.args.task keeps) in
-    let cell : c.cell-cell.result ≡ cell_no c.args.slot = cell-is c.cell-cell.result (cell_no c.args.slot) c.cell-cell.ensures in (
+    let cell : c.cell-cell.result ≡ cell_no c.args.slot = cell_is c.cell-cell.result (cell_no c.args.slot) c.cell-cell.ensures in (
       subst (λ (v : CoreView). FindsTag v.state (actions.Read c.args.port c.args.edge c.args.instance c.args.slot)) seen found,
-      sight-of-low c.args.self.now c.args.task c.args.job c.args.port c.args.edge c.args.instance (cell_no c.args.slot) (c.args.slot.0 % 2)
+      sight_of_low c.args.self.now c.args.task c.args.job c.args.port c.args.edge c.args.instance (cell_no c.args.slot) (c.args.slot.0 % 2)
           (sights.Half c.args.task c.args.job c.args.edge c.cell-cell.result) c.if-is_low.ensures.yes
           (ap (λ (x : CellNo). sights.Half c.args.task c.args.job c.args.edge x) cell),
     )
@@ -97,15 +97,15 @@ returns-clause-tells c =
     subst (λ (v : CoreView). KeepsLegal (constants v) v.state (events.Act c.args.task)) (sym seen) c.requires.allowed in
     let is : next_action (constants core) core.state c.args.task.0 ≡ actions.Read c.args.port c.args.edge c.args.instance c.args.slot =
     subst (λ (v : CoreView). next_action (constants v) v.state c.args.task.0 ≡ actions.Read c.args.port c.args.edge c.args.instance c.args.slot) (sym seen) c.requires.reads in
-    let inside : c.args.slot.0 < length c.self.inside.values.items = read-in-range core c.plan_facts.ensures c.self.inside.values.items columns c.self.invariant c.args.task keeps c.args.port c.args.edge c.args.instance c.args.slot is in
+    let inside : c.args.slot.0 < length c.self.inside.values.items = read_in_range core c.plan_facts.ensures c.self.inside.values.items columns c.self.invariant c.args.task keeps c.args.port c.args.edge c.args.instance c.args.slot is in
     let has : instance_value core.plan.graph core.rows (edge_at core.plan.graph c.args.edge.0) c.args.instance ≡ Some c.index-value.result.now =
-    sym (read-value core c.plan_facts.ensures c.self.inside.values.items columns c.self.invariant c.args.task keeps c.args.port c.args.edge c.args.instance c.args.slot is)
+    sym (read_value core c.plan_facts.ensures c.self.inside.values.items columns c.self.invariant c.args.task keeps c.args.port c.args.edge c.args.instance c.args.slot is)
     ∙ slice_get-get_or c.self.inside.values.items c.args.slot.0 c.index-value.result.now inside ∙ ap (λ (x : Value). Some x) (sym c.index-value.ensures) in
     let found : FindsTag core.state (actions.Read c.args.port c.args.edge c.args.instance c.args.slot) =
     subst (FindsTag core.state) is (legal_read_finds_tag (constants core) c.plan_facts.ensures core.state c.self.invariant.sound c.args.task keeps) in
-    let cell : c.cell-cell.result ≡ cell_no c.args.slot = cell-is c.cell-cell.result (cell_no c.args.slot) c.cell-cell.ensures in (
+    let cell : c.cell-cell.result ≡ cell_no c.args.slot = cell_is c.cell-cell.result (cell_no c.args.slot) c.cell-cell.ensures in (
       subst (λ (v : CoreView). FindsTag v.state (actions.Read c.args.port c.args.edge c.args.instance c.args.slot)) seen found,
-      sight-of-high c.args.self.now c.args.task c.args.job c.args.port c.args.edge c.args.instance (cell_no c.args.slot) (c.args.slot.0 % 2)
+      sight_of_high c.args.self.now c.args.task c.args.job c.args.port c.args.edge c.args.instance (cell_no c.args.slot) (c.args.slot.0 % 2)
           (sights.Read c.args.task c.args.job c.args.port c.args.edge c.args.instance c.cell-cell.result c.index-value.result.now) c.index-value.result.now c.if-is_low.ensures.no
           (ap (λ (x : CellNo). sights.Read c.args.task c.args.job c.args.port c.args.edge c.args.instance x c.index-value.result.now) cell)
           (subst (λ (v : CoreView). instance_value v.plan.graph v.rows (edge_at v.plan.graph c.args.edge.0) c.args.instance ≡ Some c.index-value.result.now) seen has),

@@ -7,7 +7,7 @@ use Rattle.prl_core.specs.Machine.{CoreView, constants}
 use Rattle.prl_core.specs.Tests.{ReadsValue}
 use Rattle.prl_core.specs.Inside.{IsWhole}
 use Rattle.std.proofs.lemmas.Grind.{get_or_default_zero}
-use Rattle.prl_core.proofs.Kept.{kept-take}
+use Rattle.prl_core.proofs.Kept.{kept_take}
 use Rattle.prl_core.proofs.cores.Core.take.Goals as goal
 
 pub invariant_of-self : goal.invariant_of-self
@@ -33,4 +33,4 @@ invariant_of-self c =
     c.self.inside.values.items xs) (sym c.put.ensures)
     (subst (λ (p : ℕ). IsWhole (record core { state = record core.state { places = set core.state.places c.args.task.0 (p + 1) } })
     c.self.inside.values.items (set columns c.args.task.0 (set (column columns c.args.task.0) c.args.job c.args.value))) (sym place)
-    (kept-take core c.plan_facts.ensures c.plan_links_devices.ensures c.self.inside.values.items columns c.self.invariant c.args.task keeps c.args.job c.args.value now reads))
+    (kept_take core c.plan_facts.ensures c.plan_links_devices.ensures c.self.inside.values.items columns c.self.invariant c.args.task keeps c.args.job c.args.value now reads))

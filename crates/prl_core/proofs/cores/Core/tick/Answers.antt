@@ -3,7 +3,7 @@ use Rattle.prl_base.specs.declared.values.Value.{Value}
 use Rattle.prl_plan.specs.Rules.{MayTick}
 use Rattle.prl_core.specs.Machine.{CoreView, constants}
 use Rattle.prl_core.specs.Tests.{IsInTime}
-use Rattle.prl_core.proofs.Kept.{kept-tick}
+use Rattle.prl_core.proofs.Kept.{kept_tick}
 use Rattle.prl_core.proofs.cores.Core.tick.Goals as goal
 
 pub invariant_of-self : goal.invariant_of-self
@@ -23,4 +23,4 @@ invariant_of-self c =
       within = omega (arith, c.if-self.false);
       ended = λ j n unfinished. in_time j unfinished.task n unfinished;
     } in
-    kept-tick core c.plan_facts.ensures c.plan_links_devices.ensures c.self.inside.values.items columns c.self.invariant may
+    kept_tick core c.plan_facts.ensures c.plan_links_devices.ensures c.self.inside.values.items columns c.self.invariant may

@@ -10,8 +10,8 @@ use Rattle.std.proofs.lemmas.Grind.{get_or_default_zero}
 use Rattle.prl_plan.specs.Jobs.{task_at}
 use Rattle.prl_plan.specs.declared.graphs.Kind.TheVariants as kinds
 use Rattle.prl_core.specs.Values.{value_of_job}
-use Rattle.prl_core.proofs.Kept.{kept-write}
-use Rattle.prl_core.proofs.Writers.{writer-is-sensor, written-in-range}
+use Rattle.prl_core.proofs.Kept.{kept_write}
+use Rattle.prl_core.proofs.Writers.{writer_is_sensor, written_in_range}
 use Rattle.prl_core.proofs.cores.Core.write.Goals as goal
 
 pub sensed-value-requires-clause-sensor : goal.sensed-value-requires-clause-sensor
@@ -30,7 +30,7 @@ sensed-value-requires-clause-sensor c =
     let is : next_action (constants core) core.state c.args.task.0 ≡ actions.Write c.requires.writes.0 c.args.job c.args.slot =
     subst (λ (v : CoreView). next_action (constants v) v.state c.args.task.0 ≡ actions.Write c.requires.writes.0 c.args.job c.args.slot) (sym seen) c.requires.writes.1 in
     subst (λ (v : CoreView). (k : ℕ) × ((task_at v.plan.graph c.args.task.0).kind ≡ kinds.Sensor k)) seen
-    (writer-is-sensor core c.plan_links_devices.ensures c.args.task.0 c.requires.writes.0 c.args.job c.args.slot is)
+    (writer_is_sensor core c.plan_links_devices.ensures c.args.task.0 c.requires.writes.0 c.args.job c.args.slot is)
 
 pub index_mut-requires-2 : goal.index_mut-requires-2
 index_mut-requires-2 c =
@@ -47,7 +47,7 @@ index_mut-requires-2 c =
     subst (λ (v : CoreView). c.args.job ≡ first_unfinished v.state c.args.task.0) (sym seen) c.requires.job in
     let is : next_action (constants core) core.state c.args.task.0 ≡ actions.Write c.requires.writes.0 c.args.job c.args.slot =
     subst (λ (v : CoreView). next_action (constants v) v.state c.args.task.0 ≡ actions.Write c.requires.writes.0 c.args.job c.args.slot) (sym seen) c.requires.writes.1 in
-    let inside : c.args.slot.0 < (constants core).slots = written-in-range core c.plan_facts.ensures c.args.task keeps c.requires.writes.0 c.args.job c.args.slot is in
+    let inside : c.args.slot.0 < (constants core).slots = written_in_range core c.plan_facts.ensures c.args.task keeps c.requires.writes.0 c.args.job c.args.slot is in
     let l = c.self.invariant.sound.tagged.tags in
     let v = c.self.inside.tags.ok.0 in
     omega (arith, inside, l, v)
@@ -67,7 +67,7 @@ index_mut-requires-3 c =
     subst (λ (v : CoreView). c.args.job ≡ first_unfinished v.state c.args.task.0) (sym seen) c.requires.job in
     let is : next_action (constants core) core.state c.args.task.0 ≡ actions.Write c.requires.writes.0 c.args.job c.args.slot =
     subst (λ (v : CoreView). next_action (constants v) v.state c.args.task.0 ≡ actions.Write c.requires.writes.0 c.args.job c.args.slot) (sym seen) c.requires.writes.1 in
-    let inside : c.args.slot.0 < (constants core).slots = written-in-range core c.plan_facts.ensures c.args.task keeps c.requires.writes.0 c.args.job c.args.slot is in
+    let inside : c.args.slot.0 < (constants core).slots = written_in_range core c.plan_facts.ensures c.args.task keeps c.requires.writes.0 c.args.job c.args.slot is in
     let l = c.self.invariant.slots in
     let v = c.self.inside.values.ok.0 in
     omega (arith, inside, l, v)
@@ -95,5 +95,5 @@ invariant_of-self c =
     subst (λ (v : CoreView). value_of_job v.rows (task_at v.plan.graph c.args.task.0).kind c.args.job ≡ Some c.sensed-value.result) (sym seen) c.sensed-value.ensures in
     subst (λ (p : ℕ). IsWhole (record core { state = record core.state { places = set core.state.places c.args.task.0 (p + 1); tags = set core.state.tags c.args.slot.0 (c.args.job + 1) } })
     (set c.self.inside.values.items c.args.slot.0 c.sensed-value.result) columns) (sym place)
-    (kept-write core c.plan_facts.ensures c.plan_links_devices.ensures c.self.inside.values.items columns c.self.invariant c.args.task keeps c.requires.writes.0 c.args.job c.args.slot
+    (kept_write core c.plan_facts.ensures c.plan_links_devices.ensures c.self.inside.values.items columns c.self.invariant c.args.task keeps c.requires.writes.0 c.args.job c.args.slot
     now is c.sensed-value.result has)

@@ -3,7 +3,7 @@ use Rattle.prl_plan.specs.declared.graphs.Task.{Task}
 use Rattle.prl_plan.specs.Jobs.{no_task}
 use Rattle.prl_plan.specs.Plans.{IsPlan}
 use Rattle.prl_plan.specs.TwoTasks.{two_plan}
-use Rattle.prl_plan.proofs.TwoTasks.{two-plan}
+use Rattle.prl_plan.proofs.TwoTasks.{two_is_plan}
 use Rattle.prl_plan.proofs.plans.Plan.two.Goals as goal
 
 pub returns-clause-plan : goal.returns-clause-plan
@@ -16,4 +16,4 @@ returns-clause-plan c =
     ap (λ (ts : List Task). (get_or ts 1 no_task).name) tasks ∙ ap (λ (t : Task). t.name) c.in_ok-actuator.ensures in
     subst (λ (x : List ℕ). IsPlan (two_plan x (get_or c.new-3.result 1 no_task).name T c.args.wcet_in c.args.wcet_out)) (sym first)
     (subst (λ (y : List ℕ). IsPlan (two_plan c.args.name_in.now y T c.args.wcet_in c.args.wcet_out)) (sym second)
-    (two-plan c.args.name_in.now c.args.name_out.now c.requires.names T c.args.wcet_in c.args.wcet_out c.requires.period))
+    (two_is_plan c.args.name_in.now c.args.name_out.now c.requires.names T c.args.wcet_in c.args.wcet_out c.requires.period))
