@@ -32,3 +32,5 @@ mod GapLaws
 mod CellPeriods
 mod LastTags
 mod Progress
+mod ChainLaws
+mod Examples

@@ -3,6 +3,7 @@ pub mod Jobs
 pub mod Precedence
 pub mod Graphs
 pub mod Dates
+pub mod Chains
 pub mod Cells
 pub mod Plans
 pub mod JobTables

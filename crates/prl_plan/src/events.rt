@@ -92,9 +92,3 @@ impl Rule {
         }
     }
 }
-
-impl std::fmt::Display for Rule {
-    fn fmt<W: std::fmt::Write>(&self, f: &mut std::fmt::Formatter<W>) -> std::fmt::Result {
-        f.write_str(self.text())
-    }
-}

@@ -1,6 +1,6 @@
 //! What holds of plans, as functions that do nothing: the contract of each is the fact.
 
-ghost use Rattle.std.specs.Prelude.{◌≡◌, ◌+◌, ◌<◌, ◌↔◌, ℕ, pos, List, length, IsSome, slice_get, slice_index_or};
+ghost use Rattle.std.specs.Prelude.{◌≡◌, ◌+◌, ◌*◌, ◌<◌, ◌↔◌, ℕ, ℤ, pos, ◌+ℤ◌, ◌≤ℤ◌, List, length, IsSome, slice_get, slice_index_or};
 ghost use Rattle.prl_base.specs.declared.operators.Op.{Op};
 ghost use Rattle.prl_plan.specs.declared.events.Action.{Action};
 ghost use Rattle.prl_plan.specs.declared.events.Action.TheVariants as actions;
@@ -9,9 +9,12 @@ ghost use Rattle.prl_plan.specs.declared.horizons.Horizon.{Horizon};
 ghost use Rattle.prl_plan.specs.declared.walks.Operand.TheVariants as operands;
 ghost use Rattle.prl_plan.specs.Graphs.{IsWellFormed};
 ghost use Rattle.prl_plan.specs.Operands.{walk, operand_of};
-ghost use Rattle.prl_plan.specs.Precedence.{preceding, ComesFrom};
-ghost use Rattle.prl_plan.specs.Jobs.{task_at, job_count, IsHorizonJob};
-ghost use Rattle.prl_plan.specs.Plans.{PlanView, IsPlan, edge_at, place_on, cell_of, IsHalfOf, reading, actions_of, reads_before, operands_before, IsAtPort, IsActionOf};
+ghost use Rattle.prl_plan.specs.Precedence.{preceding, ComesFrom, Precedes};
+ghost use Rattle.prl_plan.specs.Dates.{AreEncodedDates, encoded_release, encoded_deadline};
+ghost use Rattle.prl_plan.specs.Chains.{IsNarrow, IsBest};
+ghost use Rattle.prl_plan.specs.declared.tables.Window.{Window};
+ghost use Rattle.prl_plan.specs.Jobs.{Job, task_at, job_count, IsHorizonJob};
+ghost use Rattle.prl_plan.specs.Plans.{PlanView, HaveRoom, IsPlan, edge_at, place_on, cell_of, IsHalfOf, reading, actions_of, reads_before, operands_before, IsAtPort, IsActionOf};
 ghost use Rattle.prl_plan.specs.Facts.{HasPlanFacts};
 ghost use Rattle.prl_plan.specs.JobTables.{TableRow, IsJobTable};
 ghost use Rattle.prl_plan.specs.Devices.{LinksDevices};
@@ -89,3 +92,31 @@ pub fn plan_links_devices(plan: &Plan)
 {
     plan.is_two();
 }
+
+/// Where each job has room for its WCET between its encoded dates, no chain of jobs needs longer than its last job has. A job
+/// has one best over chains of at most so many jobs.
+pub fn room_leaves_no_narrow_chain()
+    ensures narrow { (graph : TaskGraph) (windows : List (List Window)) → AreEncodedDates graph windows → HaveRoom graph windows →
+        (first : Job) (rest : List Job) → IsNarrow graph first rest → ⊥ }
+    ensures best { (graph : TaskGraph) (most : ℕ) (job : Job) (a b : ℤ) → IsBest graph most job a → IsBest graph most job b → a ≡ b }
+{}
+
+/// The number of the job that precedes along an edge goes on by the producer's jobs in a hyperperiod where the consumer's does,
+/// and does not fall, over all whole numbers.
+pub fn precedence_repeats_and_rises()
+    ensures repeats { (graph : TaskGraph) → IsWellFormed graph → (e i c d : ℕ) → e < length graph.edges → ComesFrom (edge_at graph e).from i →
+        graph.hyper ≡ c * (task_at graph (edge_at graph e).to.0).clock.period → graph.hyper ≡ d * (task_at graph i).clock.period →
+        (n : ℤ) → preceding (edge_at graph e).ops (n +ℤ pos c) ≡ preceding (edge_at graph e).ops n +ℤ pos d }
+    ensures rises { (graph : TaskGraph) → IsWellFormed graph → (e : ℕ) → e < length graph.edges → (a b : ℤ) → a ≤ℤ b →
+        preceding (edge_at graph e).ops a ≤ℤ preceding (edge_at graph e).ops b }
+{}
+
+/// Along a precedence both encoded dates leave room for the WCETs, over all whole numbers.
+pub fn encoded_dates_keep_order()
+    ensures releases { (plan : PlanView) → IsPlan plan → (before after : Job) → Precedes plan.graph before after →
+        (encoded_release plan.graph plan.windows before.task before.number +ℤ pos (task_at plan.graph before.task).wcet)
+        ≤ℤ encoded_release plan.graph plan.windows after.task after.number }
+    ensures deadlines { (plan : PlanView) → IsPlan plan → (before after : Job) → Precedes plan.graph before after →
+        (encoded_deadline plan.graph plan.windows before.task before.number +ℤ pos (task_at plan.graph after.task).wcet)
+        ≤ℤ encoded_deadline plan.graph plan.windows after.task after.number }
+{}
