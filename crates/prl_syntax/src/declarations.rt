@@ -8,13 +8,12 @@ ghost use Rattle.prl_syntax.specs.Loops.{with_joined};
 ghost use Rattle.prl_syntax.specs.Readers.{comma_semicolon, comma_or_semicolon_at, port_group_at, next_group_at, ports_at, closed_ports_at, enclosed_ports_at, maybe_ports_at, wcet_at, import_at, device_at};
 ghost use Rattle.prl_syntax.specs.Trees.{port_of};
 
-use crate::names::names;
-use crate::notes::ty;
+use crate::parser::Parser;
 use crate::values::small;
-use crate::words::{Fixed, expect, next_is};
+use crate::words::Fixed;
 use prl_ast::{Device, Import, Placed, Port};
 use prl_base::{Seq, Span, Ty};
-use prl_reader::{Stop, Terminal, name, number};
+use prl_reader::Stop;
 use std::alloc::{AllocError, Global};
 
 /// Ports of the names and the type.
@@ -27,142 +26,131 @@ fn ports_of(alloc: Global, names: Vec<Placed>, ty: Ty) -> Result<Vec<Port>, Allo
         .collect(alloc)
 }
 
-/// Takes names and their type.
-#[tactic(auto, unfolding(crate::specs::Readers::port_group_at))]
-fn port_group(alloc: Global, terminals: &[Terminal]) -> Result<(Vec<Port>, &[Terminal]), Stop>
-    ensures { Gives (λ x. (x.0.items, x.1.now)) stop_of result (port_group_at terminals.now) }
-{
-    let (names, rest) = names(alloc, terminals)?;
-    let (_, rest) = expect(rest, Fixed::Colon)?;
-    let (ty, rest) = ty(rest)?;
-    Ok((ports_of(alloc, names, ty)?, rest))
-}
-
-fn comma_or_semicolon(terminals: &[Terminal]) -> Result<(Span, &[Terminal]), Stop>
-    ensures { Gives (λ x. (x.0, x.1.now)) stop_of result (comma_or_semicolon_at terminals.now) }
-{
-    if next_is(terminals, Fixed::Comma) {
-        return expect(terminals, Fixed::Comma);
+impl<'a> Parser<'a> {
+    /// Takes names and their type.
+    #[tactic(auto, unfolding(crate::specs::Readers::port_group_at))]
+    fn port_group(&mut self) -> Result<Vec<Port>, Stop>
+        ensures { Gives (λ x. (x.items, self.exit.now)) stop_of result (port_group_at self.entry.now) }
+    {
+        let names = self.names()?;
+        self.expect(Fixed::Colon)?;
+        let ty = self.ty()?;
+        Ok(ports_of(self.alloc, names, ty)?)
     }
-    expect(terminals, Fixed::Semicolon)
-}
 
-#[tactic(auto, unfolding(crate::specs::Readers::next_group_at))]
-fn next_group(alloc: Global, terminals: &[Terminal]) -> Result<(Vec<Port>, &[Terminal]), Stop>
-    ensures { Gives (λ x. (x.0.items, x.1.now)) stop_of result (next_group_at terminals.now) }
-{
-    let (_, rest) = comma_or_semicolon(terminals)?;
-    port_group(alloc, rest)
-}
-
-fn begins_group(terminals: &[Terminal]) -> bool
-    ensures { result ≡ next_in comma_semicolon terminals.now }
-{
-    next_is(terminals, Fixed::Comma) || next_is(terminals, Fixed::Semicolon)
-}
-
-/// Takes groups after the first ones.
-fn more_groups(
-    alloc: Global,
-    front: Vec<Port>,
-    terminals: &[Terminal],
-) -> Result<(Vec<Port>, &[Terminal]), Stop>
-    ensures { Gives (λ x. (x.0.items, x.1.now)) stop_of result (with_joined front.items (many_at comma_semicolon next_group_at terminals.now)) }
-{
-    let mut ports = front;
-    let mut rest = terminals;
-    'more: while begins_group(rest) {
-        let (mut next, after) = next_group(alloc, rest)?;
-        ports.append(&mut next)?;
-        rest = after;
+    fn comma_or_semicolon(&mut self) -> Result<Span, Stop>
+        ensures { Gives (λ x. (x, self.exit.now)) stop_of result (comma_or_semicolon_at self.entry.now) }
+    {
+        if self.next_is(Fixed::Comma) {
+            return self.expect(Fixed::Comma);
+        }
+        self.expect(Fixed::Semicolon)
     }
-    Ok((ports, rest))
-}
 
-#[tactic(auto, unfolding(crate::specs::Readers::ports_at))]
-fn ports(alloc: Global, terminals: &[Terminal]) -> Result<(Vec<Port>, &[Terminal]), Stop>
-    ensures { Gives (λ x. (x.0.items, x.1.now)) stop_of result (ports_at terminals.now) }
-{
-    let (first, rest) = port_group(alloc, terminals)?;
-    more_groups(alloc, first, rest)
-}
-
-#[tactic(auto, unfolding(crate::specs::Readers::closed_ports_at))]
-fn closed_ports(alloc: Global, terminals: &[Terminal]) -> Result<(Vec<Port>, &[Terminal]), Stop>
-    ensures { Gives (λ x. (x.0.items, x.1.now)) stop_of result (closed_ports_at terminals.now) }
-{
-    let (ports, rest) = ports(alloc, terminals)?;
-    let (_, rest) = expect(rest, Fixed::Close)?;
-    Ok((ports, rest))
-}
-
-#[tactic(auto, unfolding(crate::specs::Readers::enclosed_ports_at))]
-fn enclosed_ports(alloc: Global, terminals: &[Terminal]) -> Result<(Vec<Port>, &[Terminal]), Stop>
-    ensures { Gives (λ x. (x.0.items, x.1.now)) stop_of result (enclosed_ports_at terminals.now) }
-{
-    let (_, rest) = expect(terminals, Fixed::Open)?;
-    closed_ports(alloc, rest)
-}
-
-#[tactic(auto, unfolding(crate::specs::Readers::maybe_ports_at))]
-fn maybe_ports(alloc: Global, terminals: &[Terminal]) -> Result<(Vec<Port>, &[Terminal]), Stop>
-    ensures { Gives (λ x. (x.0.items, x.1.now)) stop_of result (maybe_ports_at terminals.now) }
-{
-    let (_, rest) = expect(terminals, Fixed::Open)?;
-    if next_is(rest, Fixed::Close) {
-        let (_, rest) = expect(rest, Fixed::Close)?;
-        return Ok((Vec::new(alloc), rest));
+    #[tactic(auto, unfolding(crate::specs::Readers::next_group_at))]
+    fn next_group(&mut self) -> Result<Vec<Port>, Stop>
+        ensures { Gives (λ x. (x.items, self.exit.now)) stop_of result (next_group_at self.entry.now) }
+    {
+        let _ = self.comma_or_semicolon()?;
+        self.port_group()
     }
-    closed_ports(alloc, rest)
-}
 
-#[tactic(auto, unfolding(crate::specs::Readers::wcet_at))]
-fn wcet(terminals: &[Terminal]) -> Result<(u32, &[Terminal]), Stop>
-    ensures { Gives (λ x. (x.0, x.1.now)) stop_of result (wcet_at terminals.now) }
-{
-    let (_, rest) = expect(terminals, Fixed::Wcet)?;
-    let (wcet, _, rest) = number(rest)?;
-    let (_, rest) = expect(rest, Fixed::Semicolon)?;
-    Ok((small(wcet), rest))
-}
+    fn begins_group(&self) -> bool
+        ensures { result ≡ next_in comma_semicolon self.now }
+    {
+        self.next_is(Fixed::Comma) || self.next_is(Fixed::Semicolon)
+    }
 
-/// Takes an imported node.
-#[tactic(auto, unfolding(crate::specs::Readers::import_at))]
-pub fn read_import(alloc: Global, terminals: &[Terminal]) -> Result<(Import, &[Terminal]), Stop>
-    ensures { Gives (λ x. (x.0, x.1.now)) stop_of result (import_at terminals.now) }
-{
-    let (_, rest) = expect(terminals, Fixed::Imported)?;
-    let (_, rest) = expect(rest, Fixed::Node)?;
-    let (name, at, rest) = name(alloc, rest)?;
-    let (ins, rest) = maybe_ports(alloc, rest)?;
-    let (_, rest) = expect(rest, Fixed::Returns)?;
-    let (outs, rest) = enclosed_ports(alloc, rest)?;
-    let (wcet, rest) = wcet(rest)?;
-    let ins = Seq::new(ins);
-    let outs = Seq::new(outs);
-    Ok((
-        Import {
+    /// Takes groups after the first ones.
+    fn more_groups(&mut self, front: Vec<Port>) -> Result<Vec<Port>, Stop>
+        ensures { Gives (λ x. (x.items, self.exit.now)) stop_of result (with_joined front.items (many_at comma_semicolon next_group_at self.entry.now)) }
+    {
+        let mut ports = front;
+        'more: while self.begins_group() {
+            let mut next = self.next_group()?;
+            ports.append(&mut next)?;
+        }
+        Ok(ports)
+    }
+
+    #[tactic(auto, unfolding(crate::specs::Readers::ports_at))]
+    fn ports(&mut self) -> Result<Vec<Port>, Stop>
+        ensures { Gives (λ x. (x.items, self.exit.now)) stop_of result (ports_at self.entry.now) }
+    {
+        let first = self.port_group()?;
+        self.more_groups(first)
+    }
+
+    #[tactic(auto, unfolding(crate::specs::Readers::closed_ports_at))]
+    fn closed_ports(&mut self) -> Result<Vec<Port>, Stop>
+        ensures { Gives (λ x. (x.items, self.exit.now)) stop_of result (closed_ports_at self.entry.now) }
+    {
+        let ports = self.ports()?;
+        self.expect(Fixed::Close)?;
+        Ok(ports)
+    }
+
+    #[tactic(auto, unfolding(crate::specs::Readers::enclosed_ports_at))]
+    fn enclosed_ports(&mut self) -> Result<Vec<Port>, Stop>
+        ensures { Gives (λ x. (x.items, self.exit.now)) stop_of result (enclosed_ports_at self.entry.now) }
+    {
+        self.expect(Fixed::Open)?;
+        self.closed_ports()
+    }
+
+    #[tactic(auto, unfolding(crate::specs::Readers::maybe_ports_at))]
+    fn maybe_ports(&mut self) -> Result<Vec<Port>, Stop>
+        ensures { Gives (λ x. (x.items, self.exit.now)) stop_of result (maybe_ports_at self.entry.now) }
+    {
+        self.expect(Fixed::Open)?;
+        if self.next_is(Fixed::Close) {
+            self.expect(Fixed::Close)?;
+            return Ok(Vec::new(self.alloc));
+        }
+        self.closed_ports()
+    }
+
+    #[tactic(auto, unfolding(crate::specs::Readers::wcet_at))]
+    fn wcet(&mut self) -> Result<u32, Stop>
+        ensures { Gives (λ x. (x, self.exit.now)) stop_of result (wcet_at self.entry.now) }
+    {
+        self.expect(Fixed::Wcet)?;
+        let (wcet, _) = self.number()?;
+        self.expect(Fixed::Semicolon)?;
+        Ok(small(wcet))
+    }
+
+    /// Takes an imported node.
+    #[tactic(auto, unfolding(crate::specs::Readers::import_at))]
+    pub fn read_import(&mut self) -> Result<Import, Stop>
+        ensures { Gives (λ x. (x, self.exit.now)) stop_of result (import_at self.entry.now) }
+    {
+        self.expect(Fixed::Imported)?;
+        self.expect(Fixed::Node)?;
+        let (name, at) = self.name()?;
+        let ins = self.maybe_ports()?;
+        self.expect(Fixed::Returns)?;
+        let outs = self.enclosed_ports()?;
+        let wcet = self.wcet()?;
+        let ins = Seq::new(ins);
+        let outs = Seq::new(outs);
+        Ok(Import {
             name,
             ins,
             outs,
             wcet,
             at,
-        },
-        rest,
-    ))
-}
+        })
+    }
 
-/// Takes a sensor or an actuator, whichever its keyword says.
-#[tactic(auto, unfolding(crate::specs::Readers::device_at))]
-pub fn read_device(
-    alloc: Global,
-    keyword: Fixed,
-    terminals: &[Terminal],
-) -> Result<(Device, &[Terminal]), Stop>
-    ensures { Gives (λ x. (x.0, x.1.now)) stop_of result (device_at keyword terminals.now) }
-{
-    let (_, rest) = expect(terminals, keyword)?;
-    let (name, at, rest) = name(alloc, rest)?;
-    let (wcet, rest) = wcet(rest)?;
-    Ok((Device { name, wcet, at }, rest))
+    /// Takes a sensor or an actuator, whichever its keyword says.
+    #[tactic(auto, unfolding(crate::specs::Readers::device_at))]
+    pub fn read_device(&mut self, keyword: Fixed) -> Result<Device, Stop>
+        ensures { Gives (λ x. (x, self.exit.now)) stop_of result (device_at keyword self.entry.now) }
+    {
+        self.expect(keyword)?;
+        let (name, at) = self.name()?;
+        let wcet = self.wcet()?;
+        Ok(Device { name, wcet, at })
+    }
 }

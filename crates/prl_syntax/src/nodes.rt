@@ -12,117 +12,106 @@ ghost use Rattle.prl_syntax.specs.Readers.{only, the_at, lefts_at, equation_firs
 ghost use Rattle.prl_syntax.specs.Trees.{program_of};
 ghost use Rattle.prl_syntax.specs.declared.words.Fixed.TheVariants as kinds;
 
-use crate::declarations::{read_device, read_import};
-use crate::expressions::{expr, place_of_first};
-use crate::names::{names, placed};
-use crate::parameters::{enclosed_params, maybe_locals, maybe_params};
-use crate::words::{Fixed, expect, next_is};
+use crate::parser::Parser;
+use crate::words::Fixed;
 use prl_ast::{Device, Equation, Import, Node, Placed, Program};
 use prl_base::{Seq, Span};
-use prl_reader::{Stop, Terminal, name};
+use prl_reader::{Stop, Terminal};
 use std::alloc::{AllocError, Global};
 
-/// Takes the names on the left of an equation.
-#[tactic(auto, unfolding(crate::specs::Readers::lefts_at))]
-fn lefts(alloc: Global, terminals: &[Terminal]) -> Result<(Vec<Placed>, &[Terminal]), Stop>
-    ensures { Gives (λ x. (x.0.items, x.1.now)) stop_of result (lefts_at terminals.now) }
-{
-    if next_is(terminals, Fixed::Open) {
-        let (_, rest) = expect(terminals, Fixed::Open)?;
-        let (lefts, rest) = names(alloc, rest)?;
-        let (_, rest) = expect(rest, Fixed::Close)?;
-        return Ok((lefts, rest));
+impl<'a> Parser<'a> {
+    /// Takes the names on the left of an equation.
+    #[tactic(auto, unfolding(crate::specs::Readers::lefts_at))]
+    fn lefts(&mut self) -> Result<Vec<Placed>, Stop>
+        ensures { Gives (λ x. (x.items, self.exit.now)) stop_of result (lefts_at self.entry.now) }
+    {
+        if self.next_is(Fixed::Open) {
+            self.expect(Fixed::Open)?;
+            let lefts = self.names()?;
+            self.expect(Fixed::Close)?;
+            return Ok(lefts);
+        }
+        let left = self.placed()?;
+        let mut lefts = Vec::new(self.alloc);
+        lefts.push(left)?;
+        Ok(lefts)
     }
-    let (left, rest) = placed(alloc, terminals)?;
-    let mut lefts = Vec::new(alloc);
-    lefts.push(left)?;
-    Ok((lefts, rest))
-}
 
-/// Takes an equation.
-#[tactic(auto, unfolding(crate::specs::Readers::equation_at, crate::specs::Readers::sides_at))]
-fn read_equation(alloc: Global, terminals: &[Terminal]) -> Result<(Equation, &[Terminal]), Stop>
-    ensures { Gives (λ x. (equation_tree x.0, x.1.now)) stop_of result (equation_at terminals.now) }
-{
-    let at = place_of_first(terminals);
-    let (lefts, rest) = lefts(alloc, terminals)?;
-    let (_, rest) = expect(rest, Fixed::Equals)?;
-    let (right, rest) = attempt!(expr(alloc, rest));
-    let (_, rest) = expect(rest, Fixed::Semicolon)?;
-    let lefts = Seq::new(lefts);
-    Ok((Equation { lefts, right, at }, rest))
-}
-
-fn begins_equation(terminals: &[Terminal]) -> bool
-    ensures { result ≡ next_in equation_first terminals.now }
-{
-    next_is(terminals, Fixed::Open) || prl_reader::next_is(terminals, 0)
-}
-
-/// Takes equations after the first ones.
-fn more_equations(
-    alloc: Global,
-    front: Vec<Equation>,
-    terminals: &[Terminal],
-) -> Result<(Vec<Equation>, &[Terminal]), Stop>
-    ensures { Gives (λ x. (map equation_tree x.0.items, x.1.now)) stop_of result (with_front (map equation_tree front.items) (many_at equation_first equation_at terminals.now)) }
-{
-    let mut equations = front;
-    let mut rest = terminals;
-    'more: while begins_equation(rest) {
-        let (next, after) = attempt!(read_equation(alloc, rest));
-        equations.push(next)?;
-        rest = after;
+    /// Takes an equation.
+    #[tactic(auto, unfolding(crate::specs::Readers::equation_at, crate::specs::Readers::sides_at))]
+    fn read_equation(&mut self) -> Result<Equation, Stop>
+        ensures { Gives (λ x. (equation_tree x, self.exit.now)) stop_of result (equation_at self.entry.now) }
+    {
+        let at = self.place_of_first();
+        let lefts = self.lefts()?;
+        self.expect(Fixed::Equals)?;
+        let right = self.expr()?;
+        self.expect(Fixed::Semicolon)?;
+        let lefts = Seq::new(lefts);
+        Ok(Equation { lefts, right, at })
     }
-    Ok((equations, rest))
-}
 
-fn equations(alloc: Global, terminals: &[Terminal]) -> Result<(Vec<Equation>, &[Terminal]), Stop>
-    ensures { Gives (λ x. (map equation_tree x.0.items, x.1.now)) stop_of result (many_at equation_first equation_at terminals.now) }
-{
-    more_equations(alloc, Vec::new(alloc), terminals)
-}
-
-fn maybe_semicolon(terminals: &[Terminal]) -> Result<(Option<Span>, &[Terminal]), Stop>
-    ensures { Gives (λ x. (x.0, x.1.now)) stop_of result (maybe_at (only kinds.Semicolon) (the_at kinds.Semicolon) terminals.now) }
-{
-    if next_is(terminals, Fixed::Semicolon) {
-        let (at, rest) = expect(terminals, Fixed::Semicolon)?;
-        return Ok((Some(at), rest));
+    fn begins_equation(&self) -> bool
+        ensures { result ≡ next_in equation_first self.now }
+    {
+        self.next_is(Fixed::Open) || self.next_is_name()
     }
-    Ok((None, terminals))
-}
 
-/// Takes a node.
-#[tactic(auto, unfolding(crate::specs::Readers::node_at))]
-fn read_node(alloc: Global, terminals: &[Terminal]) -> Result<(Node, &[Terminal]), Stop>
-    ensures { Gives (λ x. (node_tree x.0, x.1.now)) stop_of result (node_at terminals.now) }
-{
-    let (_, rest) = expect(terminals, Fixed::Node)?;
-    let (name, at, rest) = name(alloc, rest)?;
-    let (ins, rest) = attempt!(maybe_params(alloc, rest));
-    let (_, rest) = expect(rest, Fixed::Returns)?;
-    let (outs, rest) = attempt!(enclosed_params(alloc, rest));
-    let (locals, rest) = attempt!(maybe_locals(alloc, rest));
-    let (_, rest) = expect(rest, Fixed::Let)?;
-    let (eqs, rest) = attempt!(equations(alloc, rest));
-    let (_, rest) = expect(rest, Fixed::Tel)?;
-    let (_, rest) = maybe_semicolon(rest)?;
-    let ins = Seq::new(ins);
-    let outs = Seq::new(outs);
-    let locals = Seq::new(locals);
-    let eqs = Seq::new(eqs);
-    Ok((
-        Node {
+    /// Takes equations after the first ones.
+    fn more_equations(&mut self, front: Vec<Equation>) -> Result<Vec<Equation>, Stop>
+        ensures { Gives (λ x. (map equation_tree x.items, self.exit.now)) stop_of result (with_front (map equation_tree front.items) (many_at equation_first equation_at self.entry.now)) }
+    {
+        let mut equations = front;
+        'more: while self.begins_equation() {
+            equations.push(self.read_equation()?)?;
+        }
+        Ok(equations)
+    }
+
+    fn equations(&mut self) -> Result<Vec<Equation>, Stop>
+        ensures { Gives (λ x. (map equation_tree x.items, self.exit.now)) stop_of result (many_at equation_first equation_at self.entry.now) }
+    {
+        self.more_equations(Vec::new(self.alloc))
+    }
+
+    fn maybe_semicolon(&mut self) -> Result<Option<Span>, Stop>
+        ensures { Gives (λ x. (x, self.exit.now)) stop_of result (maybe_at (only kinds.Semicolon) (the_at kinds.Semicolon) self.entry.now) }
+    {
+        if self.next_is(Fixed::Semicolon) {
+            let at = self.expect(Fixed::Semicolon)?;
+            return Ok(Some(at));
+        }
+        Ok(None)
+    }
+
+    /// Takes a node.
+    #[tactic(auto, unfolding(crate::specs::Readers::node_at))]
+    fn read_node(&mut self) -> Result<Node, Stop>
+        ensures { Gives (λ x. (node_tree x, self.exit.now)) stop_of result (node_at self.entry.now) }
+    {
+        self.expect(Fixed::Node)?;
+        let (name, at) = self.name()?;
+        let ins = self.maybe_params()?;
+        self.expect(Fixed::Returns)?;
+        let outs = self.enclosed_params()?;
+        let locals = self.maybe_locals()?;
+        self.expect(Fixed::Let)?;
+        let eqs = self.equations()?;
+        self.expect(Fixed::Tel)?;
+        self.maybe_semicolon()?;
+        let ins = Seq::new(ins);
+        let outs = Seq::new(outs);
+        let locals = Seq::new(locals);
+        let eqs = Seq::new(eqs);
+        Ok(Node {
             name,
             ins,
             outs,
             locals,
             eqs,
             at,
-        },
-        rest,
-    ))
+        })
+    }
 }
 
 /// A declaration.
@@ -134,64 +123,53 @@ enum Declaration {
     Node(Node),
 }
 
-fn begins_declaration(terminals: &[Terminal]) -> bool
-    ensures { result ≡ next_in declaration_first terminals.now }
-{
-    next_is(terminals, Fixed::Imported)
-        || next_is(terminals, Fixed::Sensor)
-        || next_is(terminals, Fixed::Actuator)
-        || next_is(terminals, Fixed::Node)
-}
+impl<'a> Parser<'a> {
+    fn begins_declaration(&self) -> bool
+        ensures { result ≡ next_in declaration_first self.now }
+    {
+        self.next_is(Fixed::Imported)
+            || self.next_is(Fixed::Sensor)
+            || self.next_is(Fixed::Actuator)
+            || self.next_is(Fixed::Node)
+    }
 
-/// Takes a declaration.
-#[tactic(auto, unfolding(crate::specs::Readers::declaration_at))]
-fn read_declaration(
-    alloc: Global,
-    terminals: &[Terminal],
-) -> Result<(Declaration, &[Terminal]), Stop>
-    ensures { Gives (λ x. (declared_view x.0, x.1.now)) stop_of result (declaration_at terminals.now) }
-{
-    if next_is(terminals, Fixed::Imported) {
-        let (import, rest) = read_import(alloc, terminals)?;
-        return Ok((Declaration::Import(import), rest));
+    /// Takes a declaration.
+    #[tactic(auto, unfolding(crate::specs::Readers::declaration_at))]
+    fn read_declaration(&mut self) -> Result<Declaration, Stop>
+        ensures { Gives (λ x. (declared_view x, self.exit.now)) stop_of result (declaration_at self.entry.now) }
+    {
+        if self.next_is(Fixed::Imported) {
+            let import = self.read_import()?;
+            return Ok(Declaration::Import(import));
+        }
+        if self.next_is(Fixed::Sensor) {
+            let sensor = self.read_device(Fixed::Sensor)?;
+            return Ok(Declaration::Sensor(sensor));
+        }
+        if self.next_is(Fixed::Actuator) {
+            let actuator = self.read_device(Fixed::Actuator)?;
+            return Ok(Declaration::Actuator(actuator));
+        }
+        let node = self.read_node()?;
+        Ok(Declaration::Node(node))
     }
-    if next_is(terminals, Fixed::Sensor) {
-        let (sensor, rest) = read_device(alloc, Fixed::Sensor, terminals)?;
-        return Ok((Declaration::Sensor(sensor), rest));
-    }
-    if next_is(terminals, Fixed::Actuator) {
-        let (actuator, rest) = read_device(alloc, Fixed::Actuator, terminals)?;
-        return Ok((Declaration::Actuator(actuator), rest));
-    }
-    let (node, rest) = attempt!(read_node(alloc, terminals));
-    Ok((Declaration::Node(node), rest))
-}
 
-/// Takes declarations after the first ones.
-fn more_declarations(
-    alloc: Global,
-    front: Vec<Declaration>,
-    terminals: &[Terminal],
-) -> Result<(Vec<Declaration>, &[Terminal]), Stop>
-    ensures { Gives (λ x. (map declared_view x.0.items, x.1.now)) stop_of result (with_front (map declared_view front.items) (many_at declaration_first declaration_at terminals.now)) }
-{
-    let mut declarations = front;
-    let mut rest = terminals;
-    'more: while begins_declaration(rest) {
-        let (next, after) = attempt!(read_declaration(alloc, rest));
-        declarations.push(next)?;
-        rest = after;
+    /// Takes declarations after the first ones.
+    fn more_declarations(&mut self, front: Vec<Declaration>) -> Result<Vec<Declaration>, Stop>
+        ensures { Gives (λ x. (map declared_view x.items, self.exit.now)) stop_of result (with_front (map declared_view front.items) (many_at declaration_first declaration_at self.entry.now)) }
+    {
+        let mut declarations = front;
+        'more: while self.begins_declaration() {
+            declarations.push(self.read_declaration()?)?;
+        }
+        Ok(declarations)
     }
-    Ok((declarations, rest))
-}
 
-fn read_declarations(
-    alloc: Global,
-    terminals: &[Terminal],
-) -> Result<(Vec<Declaration>, &[Terminal]), Stop>
-    ensures { Gives (λ x. (map declared_view x.0.items, x.1.now)) stop_of result (many_at declaration_first declaration_at terminals.now) }
-{
-    more_declarations(alloc, Vec::new(alloc), terminals)
+    fn read_declarations(&mut self) -> Result<Vec<Declaration>, Stop>
+        ensures { Gives (λ x. (map declared_view x.items, self.exit.now)) stop_of result (many_at declaration_first declaration_at self.entry.now) }
+    {
+        self.more_declarations(Vec::new(self.alloc))
+    }
 }
 
 /// Declarations by kind.
@@ -262,14 +240,27 @@ fn program_of(alloc: Global, declarations: Vec<Declaration>) -> Result<Program, 
     })
 }
 
+impl<'a> Parser<'a> {
+    /// Takes declarations up to the end.
+    #[tactic(auto, unfolding(crate::specs::Readers::program_at))]
+    fn whole(&mut self) -> Result<Program, Stop>
+        ensures { Gives program_tree stop_of result (all_at program_at self.entry.now) }
+    {
+        let declarations = self.read_declarations()?;
+        match self.rest {
+            [] => Ok(program_of(self.alloc, declarations)?),
+            [_, ..] => Err(Stop::Unexpected(self.rest.len())),
+        }
+    }
+}
+
 /// The program that all of the tokens are.
-#[tactic(auto, unfolding(crate::specs::Readers::program_at))]
 pub fn program(alloc: Global, terminals: &[Terminal]) -> Result<Program, Stop>
     ensures { Gives program_tree stop_of result (all_at program_at terminals.now) }
 {
-    let (declarations, rest) = attempt!(read_declarations(alloc, terminals));
-    match rest {
-        [] => Ok(program_of(alloc, declarations)?),
-        [_, ..] => Err(Stop::Unexpected(rest.len())),
-    }
+    let mut parser = Parser {
+        alloc,
+        rest: terminals,
+    };
+    parser.whole()
 }

@@ -11,11 +11,11 @@ ghost use Rattle.prl_syntax.specs.Trees.{param_of, params_of};
 ghost use Rattle.prl_syntax.specs.Groups.{noted, params_after, waiting_after};
 ghost use Rattle.prl_syntax.specs.declared.words.Fixed.TheVariants as kinds;
 
-use crate::names::placed;
-use crate::notes::{Note, read_note};
-use crate::words::{Fixed, expect, next_is};
+use crate::notes::Note;
+use crate::parser::Parser;
+use crate::words::Fixed;
 use prl_ast::{Param, Placed};
-use prl_reader::{Stop, Terminal};
+use prl_reader::Stop;
 use std::alloc::{AllocError, Global};
 
 /// A name, with the note that stands after it.
@@ -25,62 +25,57 @@ pub struct Item {
     pub note: Option<Note>,
 }
 
-#[tactic(auto, unfolding(crate::specs::Readers::colon_note_at))]
-fn maybe_note(terminals: &[Terminal]) -> Result<(Option<Note>, &[Terminal]), Stop>
-    ensures { Gives (λ x. (x.0, x.1.now)) stop_of result (maybe_at (only kinds.Colon) colon_note_at terminals.now) }
-{
-    if next_is(terminals, Fixed::Colon) {
-        let (_, rest) = expect(terminals, Fixed::Colon)?;
-        let (note, rest) = attempt!(read_note(rest));
-        return Ok((Some(note), rest));
+impl<'a> Parser<'a> {
+    #[tactic(auto, unfolding(crate::specs::Readers::colon_note_at))]
+    fn maybe_note(&mut self) -> Result<Option<Note>, Stop>
+        ensures { Gives (λ x. (x, self.exit.now)) stop_of result (maybe_at (only kinds.Colon) colon_note_at self.entry.now) }
+    {
+        if self.next_is(Fixed::Colon) {
+            self.expect(Fixed::Colon)?;
+            let note = self.read_note()?;
+            return Ok(Some(note));
+        }
+        Ok(None)
     }
-    Ok((None, terminals))
-}
 
-#[tactic(auto, unfolding(crate::specs::Readers::item_at))]
-fn read_item(alloc: Global, terminals: &[Terminal]) -> Result<(Item, &[Terminal]), Stop>
-    ensures { Gives (λ x. (x.0, x.1.now)) stop_of result (item_at terminals.now) }
-{
-    let (name, rest) = placed(alloc, terminals)?;
-    let (note, rest) = attempt!(maybe_note(rest));
-    Ok((Item { name, note }, rest))
-}
-
-#[tactic(auto, unfolding(crate::specs::Readers::comma_item_at))]
-fn comma_item(alloc: Global, terminals: &[Terminal]) -> Result<(Item, &[Terminal]), Stop>
-    ensures { Gives (λ x. (x.0, x.1.now)) stop_of result (comma_item_at terminals.now) }
-{
-    let (_, rest) = expect(terminals, Fixed::Comma)?;
-    read_item(alloc, rest)
-}
-
-/// Takes items after the first ones, each with a comma before it.
-fn more_items(
-    alloc: Global,
-    front: Vec<Item>,
-    terminals: &[Terminal],
-) -> Result<(Vec<Item>, &[Terminal]), Stop>
-    ensures { Gives (λ x. (x.0.items, x.1.now)) stop_of result (with_front front.items (many_at (only kinds.Comma) comma_item_at terminals.now)) }
-{
-    let mut items = front;
-    let mut rest = terminals;
-    'more: while next_is(rest, Fixed::Comma) {
-        let (next, after) = attempt!(comma_item(alloc, rest));
-        items.push(next)?;
-        rest = after;
+    #[tactic(auto, unfolding(crate::specs::Readers::item_at))]
+    fn read_item(&mut self) -> Result<Item, Stop>
+        ensures { Gives (λ x. (x, self.exit.now)) stop_of result (item_at self.entry.now) }
+    {
+        let name = self.placed()?;
+        let note = self.maybe_note()?;
+        Ok(Item { name, note })
     }
-    Ok((items, rest))
-}
 
-/// Takes names with their notes, with commas between.
-#[tactic(auto, unfolding(crate::specs::Readers::items_at))]
-fn items(alloc: Global, terminals: &[Terminal]) -> Result<(Vec<Item>, &[Terminal]), Stop>
-    ensures { Gives (λ x. (x.0.items, x.1.now)) stop_of result (items_at terminals.now) }
-{
-    let (first, rest) = attempt!(read_item(alloc, terminals));
-    let mut front = Vec::new(alloc);
-    front.push(first)?;
-    more_items(alloc, front, rest)
+    #[tactic(auto, unfolding(crate::specs::Readers::comma_item_at))]
+    fn comma_item(&mut self) -> Result<Item, Stop>
+        ensures { Gives (λ x. (x, self.exit.now)) stop_of result (comma_item_at self.entry.now) }
+    {
+        self.expect(Fixed::Comma)?;
+        self.read_item()
+    }
+
+    /// Takes items after the first ones, each with a comma before it.
+    fn more_items(&mut self, front: Vec<Item>) -> Result<Vec<Item>, Stop>
+        ensures { Gives (λ x. (x.items, self.exit.now)) stop_of result (with_front front.items (many_at (only kinds.Comma) comma_item_at self.entry.now)) }
+    {
+        let mut items = front;
+        'more: while self.next_is(Fixed::Comma) {
+            items.push(self.comma_item()?)?;
+        }
+        Ok(items)
+    }
+
+    /// Takes names with their notes, with commas between.
+    #[tactic(auto, unfolding(crate::specs::Readers::items_at))]
+    fn items(&mut self) -> Result<Vec<Item>, Stop>
+        ensures { Gives (λ x. (x.items, self.exit.now)) stop_of result (items_at self.entry.now) }
+    {
+        let first = self.read_item()?;
+        let mut front = Vec::new(self.alloc);
+        front.push(first)?;
+        self.more_items(front)
+    }
 }
 
 fn param(name: Placed, note: Option<Note>) -> Param
@@ -175,127 +170,108 @@ fn params_of(alloc: Global, items: Vec<Item>) -> Result<Vec<Param>, AllocError>
     Ok(params)
 }
 
-/// Takes names with notes, with commas between.
-#[tactic(auto, unfolding(crate::specs::Readers::run_at, crate::specs::Readers::items_at))]
-fn run(alloc: Global, terminals: &[Terminal]) -> Result<(Vec<Param>, &[Terminal]), Stop>
-    ensures { Gives (λ x. (x.0.items, x.1.now)) stop_of result (run_at terminals.now) }
-{
-    let (items, rest) = attempt!(items(alloc, terminals));
-    Ok((params_of(alloc, items)?, rest))
-}
-
-#[tactic(auto, unfolding(crate::specs::Readers::semicolon_run_at))]
-fn semicolon_run(alloc: Global, terminals: &[Terminal]) -> Result<(Vec<Param>, &[Terminal]), Stop>
-    ensures { Gives (λ x. (x.0.items, x.1.now)) stop_of result (semicolon_run_at terminals.now) }
-{
-    let (_, rest) = expect(terminals, Fixed::Semicolon)?;
-    run(alloc, rest)
-}
-
-/// Takes runs after the first ones, each with a semicolon before it.
-fn more_runs(
-    alloc: Global,
-    front: Vec<Param>,
-    terminals: &[Terminal],
-) -> Result<(Vec<Param>, &[Terminal]), Stop>
-    ensures { Gives (λ x. (x.0.items, x.1.now)) stop_of result (with_joined front.items (many_at (only kinds.Semicolon) semicolon_run_at terminals.now)) }
-{
-    let mut params = front;
-    let mut rest = terminals;
-    'more: while next_is(rest, Fixed::Semicolon) {
-        let (mut next, after) = attempt!(semicolon_run(alloc, rest));
-        params.append(&mut next)?;
-        rest = after;
+impl<'a> Parser<'a> {
+    /// Takes names with notes, with commas between.
+    #[tactic(auto, unfolding(crate::specs::Readers::run_at, crate::specs::Readers::items_at))]
+    fn run(&mut self) -> Result<Vec<Param>, Stop>
+        ensures { Gives (λ x. (x.items, self.exit.now)) stop_of result (run_at self.entry.now) }
+    {
+        let items = self.items()?;
+        Ok(params_of(self.alloc, items)?)
     }
-    Ok((params, rest))
-}
 
-/// Takes parameters: runs with semicolons between.
-#[tactic(auto, unfolding(crate::specs::Readers::params_at))]
-fn params(alloc: Global, terminals: &[Terminal]) -> Result<(Vec<Param>, &[Terminal]), Stop>
-    ensures { Gives (λ x. (x.0.items, x.1.now)) stop_of result (params_at terminals.now) }
-{
-    let (first, rest) = attempt!(run(alloc, terminals));
-    more_runs(alloc, first, rest)
-}
-
-#[tactic(auto, unfolding(crate::specs::Readers::closed_params_at))]
-fn closed_params(alloc: Global, terminals: &[Terminal]) -> Result<(Vec<Param>, &[Terminal]), Stop>
-    ensures { Gives (λ x. (x.0.items, x.1.now)) stop_of result (closed_params_at terminals.now) }
-{
-    let (params, rest) = attempt!(params(alloc, terminals));
-    let (_, rest) = expect(rest, Fixed::Close)?;
-    Ok((params, rest))
-}
-
-/// Takes parameters in parentheses.
-#[tactic(auto, unfolding(crate::specs::Readers::enclosed_params_at, crate::specs::Readers::closed_params_at))]
-pub fn enclosed_params(
-    alloc: Global,
-    terminals: &[Terminal],
-) -> Result<(Vec<Param>, &[Terminal]), Stop>
-    ensures { Gives (λ x. (x.0.items, x.1.now)) stop_of result (enclosed_params_at terminals.now) }
-{
-    let (_, rest) = expect(terminals, Fixed::Open)?;
-    closed_params(alloc, rest)
-}
-
-/// Takes parameters in parentheses, or parentheses alone.
-#[tactic(auto, unfolding(crate::specs::Readers::maybe_params_at))]
-pub fn maybe_params(
-    alloc: Global,
-    terminals: &[Terminal],
-) -> Result<(Vec<Param>, &[Terminal]), Stop>
-    ensures { Gives (λ x. (x.0.items, x.1.now)) stop_of result (maybe_params_at terminals.now) }
-{
-    let (_, rest) = expect(terminals, Fixed::Open)?;
-    if next_is(rest, Fixed::Close) {
-        let (_, rest) = expect(rest, Fixed::Close)?;
-        return Ok((Vec::new(alloc), rest));
+    #[tactic(auto, unfolding(crate::specs::Readers::semicolon_run_at))]
+    fn semicolon_run(&mut self) -> Result<Vec<Param>, Stop>
+        ensures { Gives (λ x. (x.items, self.exit.now)) stop_of result (semicolon_run_at self.entry.now) }
+    {
+        self.expect(Fixed::Semicolon)?;
+        self.run()
     }
-    closed_params(alloc, rest)
-}
 
-/// Takes a run and its semicolon.
-#[tactic(auto, unfolding(crate::specs::Readers::ended_run_at))]
-fn ended_run(alloc: Global, terminals: &[Terminal]) -> Result<(Vec<Param>, &[Terminal]), Stop>
-    ensures { Gives (λ x. (x.0.items, x.1.now)) stop_of result (ended_run_at terminals.now) }
-{
-    let (params, rest) = attempt!(run(alloc, terminals));
-    let (_, rest) = expect(rest, Fixed::Semicolon)?;
-    Ok((params, rest))
-}
-
-/// Takes runs after the first ones, each with a semicolon after it.
-fn more_ended_runs(
-    alloc: Global,
-    front: Vec<Param>,
-    terminals: &[Terminal],
-) -> Result<(Vec<Param>, &[Terminal]), Stop>
-    ensures { Gives (λ x. (x.0.items, x.1.now)) stop_of result (with_joined front.items (many_at (0 ∷ []) ended_run_at terminals.now)) }
-{
-    let mut params = front;
-    let mut rest = terminals;
-    'more: while prl_reader::next_is(rest, 0) {
-        let (mut next, after) = attempt!(ended_run(alloc, rest));
-        params.append(&mut next)?;
-        rest = after;
+    /// Takes runs after the first ones, each with a semicolon before it.
+    fn more_runs(&mut self, front: Vec<Param>) -> Result<Vec<Param>, Stop>
+        ensures { Gives (λ x. (x.items, self.exit.now)) stop_of result (with_joined front.items (many_at (only kinds.Semicolon) semicolon_run_at self.entry.now)) }
+    {
+        let mut params = front;
+        'more: while self.next_is(Fixed::Semicolon) {
+            let mut next = self.semicolon_run()?;
+            params.append(&mut next)?;
+        }
+        Ok(params)
     }
-    Ok((params, rest))
-}
 
-/// Takes the local variables, if there are any.
-#[tactic(auto, unfolding(crate::specs::Readers::maybe_locals_at, crate::specs::Readers::locals_at))]
-pub fn maybe_locals(
-    alloc: Global,
-    terminals: &[Terminal],
-) -> Result<(Vec<Param>, &[Terminal]), Stop>
-    ensures { Gives (λ x. (x.0.items, x.1.now)) stop_of result (maybe_locals_at terminals.now) }
-{
-    if next_is(terminals, Fixed::Var) {
-        let (_, rest) = expect(terminals, Fixed::Var)?;
-        let (first, rest) = attempt!(ended_run(alloc, rest));
-        return more_ended_runs(alloc, first, rest);
+    /// Takes parameters: runs with semicolons between.
+    #[tactic(auto, unfolding(crate::specs::Readers::params_at))]
+    fn params(&mut self) -> Result<Vec<Param>, Stop>
+        ensures { Gives (λ x. (x.items, self.exit.now)) stop_of result (params_at self.entry.now) }
+    {
+        let first = self.run()?;
+        self.more_runs(first)
     }
-    Ok((Vec::new(alloc), terminals))
+
+    #[tactic(auto, unfolding(crate::specs::Readers::closed_params_at))]
+    fn closed_params(&mut self) -> Result<Vec<Param>, Stop>
+        ensures { Gives (λ x. (x.items, self.exit.now)) stop_of result (closed_params_at self.entry.now) }
+    {
+        let params = self.params()?;
+        self.expect(Fixed::Close)?;
+        Ok(params)
+    }
+
+    /// Takes parameters in parentheses.
+    #[tactic(auto, unfolding(crate::specs::Readers::enclosed_params_at, crate::specs::Readers::closed_params_at))]
+    pub fn enclosed_params(&mut self) -> Result<Vec<Param>, Stop>
+        ensures { Gives (λ x. (x.items, self.exit.now)) stop_of result (enclosed_params_at self.entry.now) }
+    {
+        self.expect(Fixed::Open)?;
+        self.closed_params()
+    }
+
+    /// Takes parameters in parentheses, or parentheses alone.
+    #[tactic(auto, unfolding(crate::specs::Readers::maybe_params_at))]
+    pub fn maybe_params(&mut self) -> Result<Vec<Param>, Stop>
+        ensures { Gives (λ x. (x.items, self.exit.now)) stop_of result (maybe_params_at self.entry.now) }
+    {
+        self.expect(Fixed::Open)?;
+        if self.next_is(Fixed::Close) {
+            self.expect(Fixed::Close)?;
+            return Ok(Vec::new(self.alloc));
+        }
+        self.closed_params()
+    }
+
+    /// Takes a run and its semicolon.
+    #[tactic(auto, unfolding(crate::specs::Readers::ended_run_at))]
+    fn ended_run(&mut self) -> Result<Vec<Param>, Stop>
+        ensures { Gives (λ x. (x.items, self.exit.now)) stop_of result (ended_run_at self.entry.now) }
+    {
+        let params = self.run()?;
+        self.expect(Fixed::Semicolon)?;
+        Ok(params)
+    }
+
+    /// Takes runs after the first ones, each with a semicolon after it.
+    fn more_ended_runs(&mut self, front: Vec<Param>) -> Result<Vec<Param>, Stop>
+        ensures { Gives (λ x. (x.items, self.exit.now)) stop_of result (with_joined front.items (many_at (0 ∷ []) ended_run_at self.entry.now)) }
+    {
+        let mut params = front;
+        'more: while self.next_is_name() {
+            let mut next = self.ended_run()?;
+            params.append(&mut next)?;
+        }
+        Ok(params)
+    }
+
+    /// Takes the local variables, if there are any.
+    #[tactic(auto, unfolding(crate::specs::Readers::maybe_locals_at, crate::specs::Readers::locals_at))]
+    pub fn maybe_locals(&mut self) -> Result<Vec<Param>, Stop>
+        ensures { Gives (λ x. (x.items, self.exit.now)) stop_of result (maybe_locals_at self.entry.now) }
+    {
+        if self.next_is(Fixed::Var) {
+            self.expect(Fixed::Var)?;
+            let first = self.ended_run()?;
+            return self.more_ended_runs(first);
+        }
+        Ok(Vec::new(self.alloc))
+    }
 }

@@ -9,9 +9,10 @@ ghost use Rattle.prl_syntax.specs.Values.{small, reduced, ratio_of};
 ghost use Rattle.prl_syntax.specs.Readers.{constant_at, ratio_at, denominator_at, only};
 ghost use Rattle.prl_syntax.specs.declared.words.Fixed.TheVariants as kinds;
 
-use crate::words::{Fixed, expect, next_is};
+use crate::parser::Parser;
+use crate::words::Fixed;
 use prl_base::{MAX_PART, Ratio, Value, gcd};
-use prl_reader::{Stop, Terminal, negative, number, positive};
+use prl_reader::{Stop, negative, positive};
 
 /// The number, or the greatest one that is in a range.
 pub fn small(number: u64) -> u32
@@ -20,26 +21,28 @@ pub fn small(number: u64) -> u32
     number.min(MAX_PART) as u32
 }
 
-/// Takes a constant.
-#[tactic(auto, unfolding(crate::specs::Readers::constant_at))]
-pub fn constant(terminals: &[Terminal]) -> Result<(Value, &[Terminal]), Stop>
-    ensures { Gives (λ x. (x.0, x.1.now)) stop_of result (constant_at terminals.now) }
-{
-    if next_is(terminals, Fixed::True) {
-        let (_, rest) = expect(terminals, Fixed::True)?;
-        return Ok((Value::Bool(true), rest));
+impl<'a> Parser<'a> {
+    /// Takes a constant.
+    #[tactic(auto, unfolding(crate::specs::Readers::constant_at))]
+    pub fn constant(&mut self) -> Result<Value, Stop>
+        ensures { Gives (λ x. (x, self.exit.now)) stop_of result (constant_at self.entry.now) }
+    {
+        if self.next_is(Fixed::True) {
+            self.expect(Fixed::True)?;
+            return Ok(Value::Bool(true));
+        }
+        if self.next_is(Fixed::False) {
+            self.expect(Fixed::False)?;
+            return Ok(Value::Bool(false));
+        }
+        if self.next_is(Fixed::Minus) {
+            self.expect(Fixed::Minus)?;
+            let (value, _) = self.number()?;
+            return Ok(negative(value));
+        }
+        let (value, _) = self.number()?;
+        Ok(positive(value))
     }
-    if next_is(terminals, Fixed::False) {
-        let (_, rest) = expect(terminals, Fixed::False)?;
-        return Ok((Value::Bool(false), rest));
-    }
-    if next_is(terminals, Fixed::Minus) {
-        let (_, rest) = expect(terminals, Fixed::Minus)?;
-        let (value, _, rest) = number(rest)?;
-        return Ok((negative(value), rest));
-    }
-    let (value, _, rest) = number(terminals)?;
-    Ok((positive(value), rest))
 }
 
 /// The reduced ratio of numbers that are in range.
@@ -66,28 +69,30 @@ pub fn ratio_of(num: u64, den: u64) -> Ratio
     reduced(u64::from(small(num)), u64::from(small(den)))
 }
 
-/// Takes a denominator and its `/`, if they are there.
-fn maybe_denominator(terminals: &[Terminal]) -> Result<(Option<u64>, &[Terminal]), Stop>
-    ensures { Gives (λ x. (x.0, x.1.now)) stop_of result (maybe_at (only kinds.Slash) denominator_at terminals.now) }
-{
-    if next_is(terminals, Fixed::Slash) {
-        let (_, rest) = expect(terminals, Fixed::Slash)?;
-        let (den, _, rest) = number(rest)?;
-        return Ok((Some(den), rest));
+impl<'a> Parser<'a> {
+    /// Takes a denominator and its `/`, if they are there.
+    fn maybe_denominator(&mut self) -> Result<Option<u64>, Stop>
+        ensures { Gives (λ x. (x, self.exit.now)) stop_of result (maybe_at (only kinds.Slash) denominator_at self.entry.now) }
+    {
+        if self.next_is(Fixed::Slash) {
+            self.expect(Fixed::Slash)?;
+            let (den, _) = self.number()?;
+            return Ok(Some(den));
+        }
+        Ok(None)
     }
-    Ok((None, terminals))
-}
 
-/// Takes a ratio: a number, or two with a `/` between.
-#[tactic(auto, unfolding(crate::specs::Readers::ratio_at))]
-pub fn ratio(terminals: &[Terminal]) -> Result<(Ratio, &[Terminal]), Stop>
-    ensures { Gives (λ x. (x.0, x.1.now)) stop_of result (ratio_at terminals.now) }
-{
-    let (num, _, rest) = number(terminals)?;
-    let (den, rest) = maybe_denominator(rest)?;
-    let ratio = match den {
-        Some(den) => ratio_of(num, den),
-        None => ratio_of(num, 1),
-    };
-    Ok((ratio, rest))
+    /// Takes a ratio: a number, or two with a `/` between.
+    #[tactic(auto, unfolding(crate::specs::Readers::ratio_at))]
+    pub fn ratio(&mut self) -> Result<Ratio, Stop>
+        ensures { Gives (λ x. (x, self.exit.now)) stop_of result (ratio_at self.entry.now) }
+    {
+        let (num, _) = self.number()?;
+        let den = self.maybe_denominator()?;
+        let ratio = match den {
+            Some(den) => ratio_of(num, den),
+            None => ratio_of(num, 1),
+        };
+        Ok(ratio)
+    }
 }

@@ -1,14 +1,10 @@
 //! The keywords and symbols of programs.
 
-ghost use Rattle.std.specs.Prelude.{◌≡◌, ◌≤◌, ◌∷◌, []};
-ghost use Rattle.prl_base.specs.Reading.{Gives};
-ghost use Rattle.prl_reader.specs.Readers.{next_in, place_at};
-ghost use Rattle.prl_reader.specs.Stops.{stop_of};
+ghost use Rattle.std.specs.Prelude.{◌≡◌, ◌≤◌};
 ghost use Rattle.prl_reader.specs.Lexing.{row_of};
 ghost use Rattle.prl_syntax.specs.Words.{class_of, declaration_keywords, flow_keywords, punctuation, operators, keyword_of, symbol_of};
 
-use prl_base::Span;
-use prl_reader::{Spelling, Stop, Terminal};
+use prl_reader::Spelling;
 
 /// A keyword or a symbol of programs.
 #[derive(Clone, Copy, Debug, PartialEq, Eq)]
@@ -178,18 +174,4 @@ impl Spelling for ProgramSpelling {
     fn symbol(bytes: &[u8]) -> u8 {
         class_of(symbol_of(bytes))
     }
-}
-
-/// Whether the next token is this one.
-pub fn next_is(terminals: &[Terminal], fixed: Fixed) -> bool
-    ensures { result ≡ next_in (class_of fixed ∷ []) terminals.now }
-{
-    prl_reader::next_is(terminals, fixed as u8)
-}
-
-/// Takes this token, and answers its place and the tokens after it.
-pub fn expect(terminals: &[Terminal], fixed: Fixed) -> Result<(Span, &[Terminal]), Stop>
-    ensures { Gives (λ x. (x.0, x.1.now)) stop_of result (place_at (class_of fixed) terminals.now) }
-{
-    prl_reader::expect(terminals, fixed as u8)
 }
