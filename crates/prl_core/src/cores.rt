@@ -18,9 +18,7 @@ use crate::columns::put;
 use crate::{Illegal, Seen, Unfinished};
 use prl_base::{EdgeNo, TaskNo, Value};
 use prl_flow::Sensors;
-use prl_plan::{
-    Action, Event, Horizon, Kind, Plan, Rule, SlotNo, plan_facts, plan_links_devices,
-};
+use prl_plan::{Action, Event, Horizon, Kind, Plan, Rule, SlotNo, plan_facts, plan_links_devices};
 use std::alloc::{AllocError, Global};
 use std::marker::Model;
 
@@ -262,7 +260,15 @@ impl<'a> Core<'a> {
     }
 
     /// The job of the task reads a half of an instance, and tells of it.
-    fn read(&mut self, task: TaskNo, job: u64, port: u32, edge: EdgeNo, instance: u64, slot: SlotNo) -> Seen
+    fn read(
+        &mut self,
+        task: TaskNo,
+        job: u64,
+        port: u32,
+        edge: EdgeNo,
+        instance: u64,
+        slot: SlotNo,
+    ) -> Seen
         requires allowed { KeepsLegal (constants self.old) self.old.state (Event.Act task) }
         requires job { job ≡ first_unfinished self.old.state task.0 }
         requires reads { next_action (constants self.old) self.old.state task.0 ≡ actions.Read port edge instance slot }

@@ -34,3 +34,4 @@ mod LastTags
 mod Progress
 mod ChainLaws
 mod Examples
+mod TableMade

@@ -91,16 +91,16 @@ half_cell a b slot (inr x) (inl y) = (let e : slot ≡ 2 * a + 1 = x in let f : 
 half_cell a b slot (inr x) (inr y) = (let e : slot ≡ 2 * a + 1 = x in let f : slot ≡ 2 * b + 1 = y in omega (arith, e, f))
 
 module _ (plan : PlanView) (is : IsPlan plan) where
-  task_fact : (i : ℕ) → i < length plan.graph.tasks → IsTask plan.graph.hyper (task_at plan.graph i)
+  pub task_fact : (i : ℕ) → i < length plan.graph.tasks → IsTask plan.graph.hyper (task_at plan.graph i)
   task_fact i inside = is.graph.tasks i (task_at plan.graph i) (slice_get-get_or plan.graph.tasks i no_task inside)
 
   edge_stands : (e : ℕ) → e < length plan.graph.edges → slice_get plan.graph.edges e ≡ Some (edge_at plan.graph e)
   edge_stands e inside = slice_get-get_or plan.graph.edges e no_edge inside
 
-  room_at : (i n : ℕ) → i < length plan.graph.tasks → release_at plan i n + (task_at plan.graph i).wcet ≤ deadline_at plan i n
+  pub room_at : (i n : ℕ) → i < length plan.graph.tasks → release_at plan i n + (task_at plan.graph i).wcet ≤ deadline_at plan i n
   room_at i n inside = (let r = is.room.room i (pos n) inside in omega (arith, ints, r))
 
-  apart_at : (i m n : ℕ) → i < length plan.graph.tasks → m < n → deadline_at plan i m ≤ release_at plan i n
+  pub apart_at : (i m n : ℕ) → i < length plan.graph.tasks → m < n → deadline_at plan i m ≤ release_at plan i n
   apart_at i m n inside before =
       let t = task_at plan.graph i in
       let below : encoded_deadline plan.graph plan.windows i (pos m) ≤ℤ deadline_of (task_at plan.graph i) (pos m) =

@@ -1,8 +1,8 @@
 -- The job table of a horizon: its jobs in the order of their encoded releases, each with its operands.
-use Rattle.std.specs.Prelude.{◌≡◌, ◌==◌, ◌<◌, ◌⊎◌, ℕ, List, [], ◌∷◌, Some, slice_get, if◌then◌else◌}
+use Rattle.std.specs.Prelude.{◌≡◌, ◌+◌, ◌++◌, ◌==◌, ◌<◌, ◌⊎◌, ℕ, zero, suc, List, [], ◌∷◌, length, Some, slice_get, if◌then◌else◌}
 use Rattle.prl_plan.specs.declared.graphs.Edge.{Edge}
 use Rattle.prl_plan.specs.declared.walks.Operand.{Operand}
-use Rattle.prl_plan.specs.Jobs.{IsHorizonJob}
+use Rattle.prl_plan.specs.Jobs.{task_at, job_count, IsHorizonJob}
 use Rattle.prl_plan.specs.Operands.{operand_of}
 use Rattle.prl_plan.specs.Plans.{PlanView, release_at}
 
@@ -31,3 +31,26 @@ pub record IsJobTable (plan : PlanView) (until : ℕ) (table : List TableRow) : 
   pub all : (i n : ℕ) → IsHorizonJob plan.graph until i n →
       (k : ℕ) × (row : TableRow) × (slice_get table k ≡ Some row) × (row.task ≡ i) × (row.job ≡ n)
   pub order : (k l : ℕ) (row next : TableRow) → k < l → slice_get table k ≡ Some row → slice_get table l ≡ Some next → ComesBefore plan row next
+
+-- the row of job n of task i
+abbrev pub row_of : PlanView → ℕ → ℕ → TableRow
+row_of plan i n = record { task = i; job = n; operands = operands_over plan.graph.edges i n }
+
+-- of the first n jobs of task i, those whose encoded release is t
+abbrev pub jobs_at : PlanView → ℕ → ℕ → ℕ → List TableRow
+jobs_at plan i t zero = []
+jobs_at plan i t (suc n) = jobs_at plan i t n ++ (if release_at plan i n == t then row_of plan i n ∷ [] else [])
+
+-- of the first i tasks, the horizon jobs whose encoded release is t
+abbrev pub rows_at : PlanView → ℕ → ℕ → ℕ → List TableRow
+rows_at plan until t zero = []
+rows_at plan until t (suc i) = rows_at plan until t i ++ jobs_at plan i t (job_count (task_at plan.graph i) until)
+
+-- the horizon jobs whose encoded release is before t, date by date, and at each date task by task
+abbrev pub rows_before : PlanView → ℕ → ℕ → List TableRow
+rows_before plan until zero = []
+rows_before plan until (suc t) = rows_before plan until t ++ rows_at plan until t (length plan.graph.tasks)
+
+-- the job table: a horizon job is released by its own deadline, so less than a hyperperiod after `until`
+abbrev pub job_table : PlanView → ℕ → List TableRow
+job_table plan until = rows_before plan until (until + plan.graph.hyper)

@@ -16,7 +16,7 @@ ghost use Rattle.prl_plan.specs.declared.tables.Window.{Window};
 ghost use Rattle.prl_plan.specs.Jobs.{Job, task_at, job_count, IsHorizonJob};
 ghost use Rattle.prl_plan.specs.Plans.{PlanView, HaveRoom, IsPlan, edge_at, place_on, cell_of, IsHalfOf, reading, actions_of, reads_before, operands_before, IsAtPort, IsActionOf};
 ghost use Rattle.prl_plan.specs.Facts.{HasPlanFacts};
-ghost use Rattle.prl_plan.specs.JobTables.{TableRow, IsJobTable};
+ghost use Rattle.prl_plan.specs.JobTables.{TableRow, IsJobTable, job_table};
 ghost use Rattle.prl_plan.specs.Devices.{LinksDevices};
 ghost use Rattle.prl_plan.specs.Horizons.{IsHorizon, constants_of};
 
@@ -69,6 +69,12 @@ pub fn operands_stand_earlier()
         (edge_at plan.graph e).to.0 ≡ row.task → ComesFrom (edge_at plan.graph e).from i →
         operand_of (edge_at plan.graph e) row.job ≡ operands.From m →
         (l : ℕ) × (earlier : TableRow) × (l < k) × (slice_get table l ≡ Some earlier) × (earlier.task ≡ i) × (earlier.job ≡ m) }
+{}
+
+/// Each plan has one job table up to a date.
+pub fn plan_has_one_job_table()
+    ensures made { (plan : PlanView) → IsPlan plan → (until : ℕ) → IsJobTable plan until (job_table plan until) }
+    ensures one { (plan : PlanView) (until : ℕ) (a b : List TableRow) → IsJobTable plan until a → IsJobTable plan until b → a ≡ b }
 {}
 
 /// What the jobs of every plan keep, in each of its horizons.

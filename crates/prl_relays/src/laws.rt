@@ -15,7 +15,9 @@ ghost use Rattle.prl_relays.specs.declared.relays.RelayFault.TheVariants as faul
 ghost use Rattle.prl_relays.specs.Relays.{Relay, relay_plan, machine, task_names, IsReady, IsHorizonOf, IsHorizonUpTo, IsReplayText, IsRelayFault};
 
 use prl_chains::copies_hand_on;
-use prl_plan::{legal_list_is_gated, plans_keep_facts, run_of_two_lists, gated_list_finds_halves_free};
+use prl_plan::{
+    gated_list_finds_halves_free, legal_list_is_gated, plans_keep_facts, run_of_two_lists,
+};
 
 /// A replay comes to one end, want of memory aside: it has one text and is not refused, or it is refused for one reason.
 pub fn replays_end_one_way()
