@@ -3,6 +3,7 @@
 
 mod bodies;
 mod expressions;
+mod laws;
 mod levels;
 mod parser;
 mod parsing;
@@ -11,4 +12,5 @@ mod repeats;
 mod trees;
 mod words;
 
+pub use laws::each_text_has_an_outcome;
 pub use parsing::parse_bodies;
