@@ -14,7 +14,7 @@ use Rattle.prl_reader.specs.Numbers.{positive, negative}
 use Rattle.prl_syntax.specs.Values.{small, ratio_with}
 use Rattle.prl_syntax.specs.Words.{class_of}
 use Rattle.prl_syntax.specs.Trees.{Declared, imported, sensor, actuator, node, with_declared, program_of}
-use Rattle.prl_syntax.proofs.Chains.{name_text}
+use Rattle.prl_syntax.proofs.Stems.{name_text}
 use Rattle.prl_syntax.specs.Grammar.{The, ConstantText, RatioText, PrefixText, PostfixText, NameText, Enclosed, Beside, CommaText, Nothing, TreeText, RootText, OthersText, LeftsText, SidesText, EquationText, NodeText, DeclarationText, ProgramText}
 use Rattle.prl_print.proofs.Words.{IsOwnName, IsPrefix, IsPostfix, IsOwnTree, IsOwnRoot, AreOwnTrees, IsOwnEquation, IsOwnNode, IsOwnImport, IsOwnDevice, IsSome}
 use Rattle.prl_print.proofs.Source.{deeper, FineAt, Fine, depth_along, front_at, back_at, depth_append, token_of, Means, m_then, m_give, m_ends, m_any, m_either, m_many, m_named, m_counted, m_first}

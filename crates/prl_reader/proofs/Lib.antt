@@ -1,3 +1,4 @@
+-- for the crates above: readers of one token and of several, and grammars as data
 pub mod Basics
 pub mod Steps
 pub mod Sequences

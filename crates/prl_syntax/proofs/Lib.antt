@@ -1,12 +1,13 @@
 pub mod Simple
 pub mod Loops
-pub mod Ratios
 pub mod Lists
 pub mod Groups
-pub mod Chains
 pub mod Trees
 pub mod Program
 pub mod Links
-pub mod Rows
 pub mod Applied
 pub mod WholeTexts
+-- for the crates above: arguments as rows, reduced ratios, and a name as an expression
+pub mod Rows
+pub mod Ratios
+pub mod Stems

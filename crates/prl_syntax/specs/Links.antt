@@ -1,4 +1,4 @@
--- A chain of prefixes is read link by link.
+-- A stem is read link by link.
 use Rattle.std.specs.Prelude.{List, [], ◌++◌, Ok}
 use Rattle.prl_base.specs.Reading.{◌>>=◌}
 use Rattle.prl_base.specs.declared.operators.Op.TheVariants as ops
@@ -10,7 +10,7 @@ use Rattle.prl_reader.specs.Readers.{Read, choice}
 use Rattle.prl_syntax.specs.declared.words.Fixed.TheVariants as fixed
 use Rattle.prl_syntax.specs.declared.expressions.Link.{Link}
 use Rattle.prl_syntax.specs.declared.expressions.Link.TheVariants as links
-use Rattle.prl_syntax.specs.Readers.{the_at, only, constant_at, constant_first, Chain, prefixed, applied_by}
+use Rattle.prl_syntax.specs.Readers.{the_at, only, constant_at, constant_first, Stem, prefixed, applied_by}
 
 -- a prefix, or what the prefixes are applied to
 pub data Step : Type 0 where
@@ -44,19 +44,19 @@ tail_step ts = do
   p ← the_at fixed.Tail ts
   Ok (prefix (record { op = ops.Tail; at = p.0 }), p.1)
 
-abbrev pub last_step : (List Lexeme → Read Chain) → List Lexeme → Read Step
-last_step chain ts = do
-  r ← applied_by chain ts
+abbrev pub last_step : (List Lexeme → Read Stem) → List Lexeme → Read Step
+last_step stem ts = do
+  r ← applied_by stem ts
   Ok (last r.0, r.1)
 
-abbrev pub link_at : (List Lexeme → Read Chain) → List Lexeme → Read Step
-link_at chain = choice (only fixed.Tail) tail_step (choice constant_first constant_link_at (last_step chain))
+abbrev pub link_at : (List Lexeme → Read Stem) → List Lexeme → Read Step
+link_at stem = choice (only fixed.Tail) tail_step (choice constant_first constant_link_at (last_step stem))
 
 -- prefixes that were read before
-abbrev pub with_prefixes : List PlacedOp → Read Chain → Read Chain
+abbrev pub with_prefixes : List PlacedOp → Read Stem → Read Stem
 with_prefixes front read = read >>= λ c. Ok ((front ++ c.0.0, c.0.1), c.1)
 
 -- what follows a link
-abbrev pub after_step : (List Lexeme → Read Chain) → Step → List Lexeme → Read Chain
-after_step chain (prefix op) ts = chain ts >>= λ c. Ok (prefixed op c.0, c.1)
-after_step chain (last root) ts = Ok (([], root), ts)
+abbrev pub after_step : (List Lexeme → Read Stem) → Step → List Lexeme → Read Stem
+after_step stem (prefix op) ts = stem ts >>= λ c. Ok (prefixed op c.0, c.1)
+after_step stem (last root) ts = Ok (([], root), ts)

@@ -329,42 +329,42 @@ abbrev pub constant_first : List ℕ
 constant_first = class_of fixed.True ∷ class_of fixed.False ∷ class_of fixed.Minus ∷ 1 ∷ []
 
 -- prefixes and what they are applied to
-abbrev pub Chain : Type 0
-Chain = List PlacedOp × Root
+abbrev pub Stem : Type 0
+Stem = List PlacedOp × Root
 
-abbrev pub prefixed : PlacedOp → Chain → Chain
+abbrev pub prefixed : PlacedOp → Stem → Stem
 prefixed op c = (op ∷ c.0, c.1)
 
-abbrev pub parts_by : (List Lexeme → Read Chain) → List Lexeme → Read (Chain × List PlacedOp)
-parts_by chain ts = do
-  c ← chain ts
+abbrev pub parts_by : (List Lexeme → Read Stem) → List Lexeme → Read (Stem × List PlacedOp)
+parts_by stem ts = do
+  c ← stem ts
   post ← many_at postfix_first postfix_at c.1
   Ok ((c.0, post.0), post.1)
 
-abbrev pub tree_of_parts : Span → Chain × List PlacedOp → Tree
+abbrev pub tree_of_parts : Span → Stem × List PlacedOp → Tree
 tree_of_parts at parts = tree parts.0.0 parts.0.1 parts.1 at
 
--- an expression, whose chain of prefixes is read so
-abbrev pub tree_by : (List Lexeme → Read Chain) → List Lexeme → Read Tree
-tree_by chain ts = do
-  x ← from_first (parts_by chain) ts
+-- an expression, whose stem of prefixes is read so
+abbrev pub tree_by : (List Lexeme → Read Stem) → List Lexeme → Read Tree
+tree_by stem ts = do
+  x ← from_first (parts_by stem) ts
   Ok (tree_of_parts x.0.0 x.0.1, x.1)
 
-abbrev pub comma_tree_by : (List Lexeme → Read Chain) → List Lexeme → Read Tree
-comma_tree_by chain ts = do
+abbrev pub comma_tree_by : (List Lexeme → Read Stem) → List Lexeme → Read Tree
+comma_tree_by stem ts = do
   p ← the_at fixed.Comma ts
-  tree_by chain p.1
+  tree_by stem p.1
 
 -- expressions with commas between
-abbrev pub trees_by : (List Lexeme → Read Chain) → List Lexeme → Read Trees
-trees_by chain ts = do
-  t ← tree_by chain ts
-  others ← many_at (only fixed.Comma) (comma_tree_by chain) t.1
+abbrev pub trees_by : (List Lexeme → Read Stem) → List Lexeme → Read Trees
+trees_by stem ts = do
+  t ← tree_by stem ts
+  others ← many_at (only fixed.Comma) (comma_tree_by stem) t.1
   Ok (more t.0 (trees_from others.0), others.1)
 
-abbrev pub closed_trees_by : (List Lexeme → Read Chain) → List Lexeme → Read Trees
-closed_trees_by chain ts = do
-  es ← trees_by chain ts
+abbrev pub closed_trees_by : (List Lexeme → Read Stem) → List Lexeme → Read Trees
+closed_trees_by stem ts = do
+  es ← trees_by stem ts
   c ← the_at fixed.Close es.1
   Ok (es.0, c.1)
 
@@ -373,77 +373,77 @@ no_trees_at ts = do
   c ← the_at fixed.Close ts
   Ok (none, c.1)
 
-abbrev pub group_by : (List Lexeme → Read Chain) → List Lexeme → Read Root
-group_by chain ts = do
+abbrev pub group_by : (List Lexeme → Read Stem) → List Lexeme → Read Root
+group_by stem ts = do
   o ← the_at fixed.Open ts
-  es ← closed_trees_by chain o.1
+  es ← closed_trees_by stem o.1
   Ok (group es.0, es.1)
 
-abbrev pub arguments_by : (List Lexeme → Read Chain) → List Lexeme → Read Trees
-arguments_by chain ts = do
+abbrev pub arguments_by : (List Lexeme → Read Stem) → List Lexeme → Read Trees
+arguments_by stem ts = do
   o ← the_at fixed.Open ts
-  choice (only fixed.Close) no_trees_at (closed_trees_by chain) o.1
+  choice (only fixed.Close) no_trees_at (closed_trees_by stem) o.1
 
 -- a name, with arguments in parentheses where they follow
 abbrev pub root_of_name : List ℕ × Span → Option Trees → Root
 root_of_name name None = var name.0
 root_of_name name (Some args) = apply name.0 name.1 args
 
-abbrev pub named_by : (List Lexeme → Read Chain) → List Lexeme → Read Root
-named_by chain ts = do
+abbrev pub named_by : (List Lexeme → Read Stem) → List Lexeme → Read Root
+named_by stem ts = do
   n ← name_at ts
-  args ← maybe_at (only fixed.Open) (arguments_by chain) n.1
+  args ← maybe_at (only fixed.Open) (arguments_by stem) n.1
   Ok (root_of_name n.0 args.0, args.1)
 
-abbrev pub applied_by : (List Lexeme → Read Chain) → List Lexeme → Read Root
-applied_by chain = choice (only fixed.Open) (group_by chain) (named_by chain)
+abbrev pub applied_by : (List Lexeme → Read Stem) → List Lexeme → Read Root
+applied_by stem = choice (only fixed.Open) (group_by stem) (named_by stem)
 
-abbrev pub last_by : (List Lexeme → Read Chain) → List Lexeme → Read Chain
-last_by chain ts = do
-  r ← applied_by chain ts
+abbrev pub last_by : (List Lexeme → Read Stem) → List Lexeme → Read Stem
+last_by stem ts = do
+  r ← applied_by stem ts
   Ok (([], r.0), r.1)
 
-abbrev pub tail_by : (List Lexeme → Read Chain) → List Lexeme → Read Chain
-tail_by chain ts = do
+abbrev pub tail_by : (List Lexeme → Read Stem) → List Lexeme → Read Stem
+tail_by stem ts = do
   p ← the_at fixed.Tail ts
-  c ← chain p.1
+  c ← stem p.1
   Ok (prefixed (record { op = ops.Tail; at = p.0 }) c.0, c.1)
 
-abbrev pub fby_by : (List Lexeme → Read Chain) → Value → List Lexeme → Read Chain
-fby_by chain value ts = do
+abbrev pub fby_by : (List Lexeme → Read Stem) → Value → List Lexeme → Read Stem
+fby_by stem value ts = do
   p ← the_at fixed.Fby ts
-  c ← chain p.1
+  c ← stem p.1
   Ok (prefixed (record { op = ops.Fby value; at = p.0 }) c.0, c.1)
 
-abbrev pub cons_by : (List Lexeme → Read Chain) → Value → List Lexeme → Read Chain
-cons_by chain value ts = do
+abbrev pub cons_by : (List Lexeme → Read Stem) → Value → List Lexeme → Read Stem
+cons_by stem value ts = do
   p ← the_at fixed.Cons ts
-  c ← chain p.1
+  c ← stem p.1
   Ok (prefixed (record { op = ops.Cons value; at = p.0 }) c.0, c.1)
 
-abbrev pub constant_end : Value → List Lexeme → Read Chain
+abbrev pub constant_end : Value → List Lexeme → Read Stem
 constant_end value ts = Ok (([], const value), ts)
 
 -- a constant is read before it is known whether it belongs to a prefix
-abbrev pub constant_by : (List Lexeme → Read Chain) → List Lexeme → Read Chain
-constant_by chain ts = do
+abbrev pub constant_by : (List Lexeme → Read Stem) → List Lexeme → Read Stem
+constant_by stem ts = do
   v ← constant_at ts
-  choice (only fixed.Fby) (fby_by chain v.0) (choice (only fixed.Cons) (cons_by chain v.0) (constant_end v.0)) v.1
+  choice (only fixed.Fby) (fby_by stem v.0) (choice (only fixed.Cons) (cons_by stem v.0) (constant_end v.0)) v.1
 
--- one step of the reading of a chain
-abbrev pub chain_by : (List Lexeme → Read Chain) → List Lexeme → Read Chain
-chain_by chain = choice (only fixed.Tail) (tail_by chain) (choice constant_first (constant_by chain) (last_by chain))
+-- one step of the reading of a stem
+abbrev pub stem_by : (List Lexeme → Read Stem) → List Lexeme → Read Stem
+stem_by stem = choice (only fixed.Tail) (tail_by stem) (choice constant_first (constant_by stem) (last_by stem))
 
-unfoldable pub chain_up_to : ℕ → List Lexeme → Read Chain
-chain_up_to zero ts = Err Deep
-chain_up_to (suc n) ts = chain_by (chain_up_to n) ts
+unfoldable pub stem_up_to : ℕ → List Lexeme → Read Stem
+stem_up_to zero ts = Err Deep
+stem_up_to (suc n) ts = stem_by (stem_up_to n) ts
 
 -- as deep as there are tokens
-unfoldable pub chain_at : List Lexeme → Read Chain
-chain_at ts = chain_up_to (suc (length ts)) ts
+unfoldable pub stem_at : List Lexeme → Read Stem
+stem_at ts = stem_up_to (suc (length ts)) ts
 
 unfoldable pub tree_at : List Lexeme → Read Tree
-tree_at = tree_by chain_at
+tree_at = tree_by stem_at
 
 -- equations, nodes and programs
 

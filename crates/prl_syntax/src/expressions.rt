@@ -8,7 +8,7 @@ ghost use Rattle.prl_reader.specs.Readers.{next_in, many_at, maybe_at};
 ghost use Rattle.prl_reader.specs.Stops.{stop_of};
 ghost use Rattle.prl_reader.specs.Loops.{with_front};
 ghost use Rattle.prl_syntax.specs.Links.{link_view, constant_link_at, link_at, with_prefixes};
-ghost use Rattle.prl_syntax.specs.Readers.{only, postfix_first, postfix_at, constant_first, applied_by, chain_at, comma_tree_by, closed_trees_by, tree_at};
+ghost use Rattle.prl_syntax.specs.Readers.{only, postfix_first, postfix_at, constant_first, applied_by, stem_at, comma_tree_by, closed_trees_by, tree_at};
 ghost use Rattle.prl_syntax.specs.Trees.{trees_from};
 ghost use Rattle.prl_syntax.specs.declared.words.Fixed.TheVariants as kinds;
 
@@ -100,7 +100,7 @@ impl<'a> Parser<'a> {
     /// Takes a prefix, or what the prefixes are applied to.
     #[cycle(expression)]
     fn read_link(&mut self) -> Result<Link, Stop>
-        ensures { Gives (λ x. (link_view x, self.exit.now)) stop_of result (link_at chain_at self.entry.now) }
+        ensures { Gives (λ x. (link_view x, self.exit.now)) stop_of result (link_at stem_at self.entry.now) }
     {
         if self.next_is(Fixed::Tail) {
             let at = self.expect(Fixed::Tail)?;
@@ -117,7 +117,7 @@ impl<'a> Parser<'a> {
     /// Takes a name, an application or a group.
     #[cycle(expression)]
     fn applied(&mut self) -> Result<Base, Stop>
-        ensures { Gives (λ x. (root_of x, self.exit.now)) stop_of result (applied_by chain_at self.entry.now) }
+        ensures { Gives (λ x. (root_of x, self.exit.now)) stop_of result (applied_by stem_at self.entry.now) }
     {
         if self.next_is(Fixed::Open) {
             self.expect(Fixed::Open)?;
@@ -141,7 +141,7 @@ impl<'a> Parser<'a> {
     /// Takes a comma and an expression.
     #[cycle(expression)]
     fn comma_expr(&mut self) -> Result<Expr, Stop>
-        ensures { Gives (λ x. (tree_of x, self.exit.now)) stop_of result (comma_tree_by chain_at self.entry.now) }
+        ensures { Gives (λ x. (tree_of x, self.exit.now)) stop_of result (comma_tree_by stem_at self.entry.now) }
     {
         self.expect(Fixed::Comma)?;
         self.expr()
@@ -150,7 +150,7 @@ impl<'a> Parser<'a> {
     /// Takes expressions after the first ones, each with a comma before it.
     #[cycle(expression)]
     fn more_exprs(&mut self, front: Vec<Expr>) -> Result<Vec<Expr>, Stop>
-        ensures { Gives (λ x. (map tree_of x.items, self.exit.now)) stop_of result (with_front (map tree_of front.items) (many_at (only kinds.Comma) (comma_tree_by chain_at) self.entry.now)) }
+        ensures { Gives (λ x. (map tree_of x.items, self.exit.now)) stop_of result (with_front (map tree_of front.items) (many_at (only kinds.Comma) (comma_tree_by stem_at) self.entry.now)) }
     {
         let mut exprs = front;
         'more: while self.next_is(Fixed::Comma) {
@@ -162,7 +162,7 @@ impl<'a> Parser<'a> {
     /// Takes expressions with commas between, and the closing parenthesis.
     #[cycle(expression)]
     fn closed_exprs(&mut self) -> Result<Vec<Expr>, Stop>
-        ensures { Gives (λ x. (trees_from (map tree_of x.items), self.exit.now)) stop_of result (closed_trees_by chain_at self.entry.now) }
+        ensures { Gives (λ x. (trees_from (map tree_of x.items), self.exit.now)) stop_of result (closed_trees_by stem_at self.entry.now) }
     {
         let first = self.expr()?;
         let mut front = Vec::new(self.alloc);
@@ -174,8 +174,8 @@ impl<'a> Parser<'a> {
 
     /// Takes prefixes after the first ones, and what they are applied to.
     #[cycle(expression)]
-    fn chain(&mut self, front: Vec<PlacedOp>) -> Result<(Vec<PlacedOp>, Base), Stop>
-        ensures { Gives (λ x. ((x.0.items, root_of x.1), self.exit.now)) stop_of result (with_prefixes front.items (chain_at self.entry.now)) }
+    fn stem(&mut self, front: Vec<PlacedOp>) -> Result<(Vec<PlacedOp>, Base), Stop>
+        ensures { Gives (λ x. ((x.0.items, root_of x.1), self.exit.now)) stop_of result (with_prefixes front.items (stem_at self.entry.now)) }
     {
         let mut prefixes = front;
         'each: loop {
@@ -193,7 +193,7 @@ impl<'a> Parser<'a> {
         ensures { Gives (λ x. (tree_of x, self.exit.now)) stop_of result (tree_at self.entry.now) }
     {
         let at = self.place_of_first();
-        let (pre, base) = self.chain(Vec::new(self.alloc))?;
+        let (pre, base) = self.stem(Vec::new(self.alloc))?;
         let post = self.more_postfixes(Vec::new(self.alloc))?;
         let pre = Seq::new(pre);
         let post = Seq::new(post);

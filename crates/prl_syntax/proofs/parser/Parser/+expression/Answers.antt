@@ -10,9 +10,9 @@ use Rattle.prl_reader.specs.Readers.{Read}
 use Rattle.prl_syntax.specs.declared.expressions.Link.{Link}
 use Rattle.prl_syntax.specs.Links.{Step, link_view, with_prefixes}
 use Rattle.prl_syntax.specs.Trees.{trees_from}
-use Rattle.prl_syntax.specs.Readers.{chain_at}
+use Rattle.prl_syntax.specs.Readers.{stem_at}
 use Rattle.prl_reader.proofs.Loops.{step_goes_on, step_halts, step_fails}
-use Rattle.prl_syntax.proofs.Links.{chain_goes_on, chain_ends, chain_fails, link_fewer, comma_tree_steps, expression_fewer}
+use Rattle.prl_syntax.proofs.Links.{stem_goes_on, stem_ends, stem_fails, link_fewer, comma_tree_steps, expression_fewer}
 use Rattle.prl_syntax.proofs.Rows.{root_group, root_apply}
 use Rattle.prl_syntax.proofs.Applied.{group_read, no_args_read, args_read, closed_fails, closed_others_fail, closed_close_fail, closed_read, tree_fails, tree_post_fails, tree_read, comma_is}
 use Rattle.prl_syntax.proofs.parser.Parser.+expression.Goals as goal
@@ -30,29 +30,29 @@ treed pre root post at rest = Ok (tree pre root post at, rest)
 single : (old new : List Expr) (x : Expr) → new ≡ old ++ x ∷ [] → old ≡ [] → map tree_of new ≡ tree_of x ∷ []
 single old new x e f = ap (map tree_of) (e ∙ ap (λ xs. xs ++ x ∷ []) f)
 
-pub chain-returns-in_err-link : goal.chain-returns-in_err-link
-chain-returns-in_err-link t c =
+pub stem-returns-in_err-link : goal.stem-returns-in_err-link
+stem-returns-in_err-link t c =
     let p = err_from_is_err_and c.from_residual.result c.from_residual.ensures.1 in
-    rw (p.1, p.2) (chain_fails c.in_err-link.field-0.0 c.each.prefixes.items c.each.self _ c.in_err-link.ensures c.each.invariant.exact)
+    rw (p.1, p.2) (stem_fails c.in_err-link.field-0.0 c.each.prefixes.items c.each.self _ c.in_err-link.ensures c.each.invariant.exact)
 
-pub chain-each-smaller : goal.chain-each-smaller
-chain-each-smaller t c = link_fewer c.each.self _ _ c.in_ok-link.ensures
+pub stem-each-smaller : goal.stem-each-smaller
+stem-each-smaller t c = link_fewer c.each.self _ _ c.in_ok-link.ensures
 
-pub chain-each-preserved : goal.chain-each-preserved
-chain-each-preserved t c =
+pub stem-each-preserved : goal.stem-each-preserved
+stem-each-preserved t c =
     let after = c.read_link.new.self in
     let read = c.in_ok-link.ensures ∙ ap (λ l. seen l after) c.in-Prefix.is in
-    let P : List PlacedOp → Type 0 = λ ops. with_prefixes ops (chain_at after) ≡ with_prefixes c.args.front.items (chain_at c.args.self.now) in
+    let P : List PlacedOp → Type 0 = λ ops. with_prefixes ops (stem_at after) ≡ with_prefixes c.args.front.items (stem_at c.args.self.now) in
     let fewer = link_fewer c.each.self _ after c.in_ok-link.ensures in
     record {
-      exact = subst P (sym c.in_ok-push-in-Prefix.ensures.items) (chain_goes_on c.each.prefixes.items c.each.self after c.in-Prefix.op _ read c.each.invariant.exact);
+      exact = subst P (sym c.in_ok-push-in-Prefix.ensures.items) (stem_goes_on c.each.prefixes.items c.each.self after c.in-Prefix.op _ read c.each.invariant.exact);
       shorter = omega (arith, fewer);
     }
 
-pub chain-returns-in-Base : goal.chain-returns-in-Base
-chain-returns-in-Base t c =
+pub stem-returns-in-Base : goal.stem-returns-in-Base
+stem-returns-in-Base t c =
     let after = c.read_link.new.self in
-    chain_ends c.each.prefixes.items c.each.self after _ _ (c.in_ok-link.ensures ∙ ap (λ l. seen l after) c.in-Base.is) c.each.invariant.exact
+    stem_ends c.each.prefixes.items c.each.self after _ _ (c.in_ok-link.ensures ∙ ap (λ l. seen l after) c.in-Base.is) c.each.invariant.exact
 
 pub closed_exprs-returns-in_err-first : goal.closed_exprs-returns-in_err-first
 closed_exprs-returns-in_err-first t c =
@@ -120,15 +120,15 @@ more_exprs-returns t c = step_halts comma_tree_steps _ _ _ (sym c.next_is.ensure
 
 pub applied-returns-then-next_is : goal.applied-returns-then-next_is
 applied-returns-then-next_is t c =
-    group_read chain_at c.args.self.now _ _ _ _ (sym c.next_is.ensures ∙ c.if-next_is.true) c.in_ok-expect.ensures c.in_ok-parts.ensures
+    group_read stem_at c.args.self.now _ _ _ _ (sym c.next_is.ensures ∙ c.if-next_is.true) c.in_ok-expect.ensures c.in_ok-parts.ensures
     ∙ ap (λ r. rooted r c.closed_exprs.new.self) (sym (root_group c.in_ok-parts.parts))
 
 pub applied-returns-then-next_is-2 : goal.applied-returns-then-next_is-2
 applied-returns-then-next_is-2 t c =
-    no_args_read chain_at c.args.self.now _ _ _ _ _ _ (sym c.next_is.ensures ∙ c.if-next_is.false) c.in_ok-name.ensures (sym c.next_is-2.ensures ∙ c.if-not-next_is.false) c.in_ok-expect-2.ensures (sym c.next_is-3.ensures ∙ c.if-next_is-2.true) c.in_ok-expect-3.ensures
+    no_args_read stem_at c.args.self.now _ _ _ _ _ _ (sym c.next_is.ensures ∙ c.if-next_is.false) c.in_ok-name.ensures (sym c.next_is-2.ensures ∙ c.if-not-next_is.false) c.in_ok-expect-2.ensures (sym c.next_is-3.ensures ∙ c.if-next_is-2.true) c.in_ok-expect-3.ensures
     ∙ ap (λ r. rooted r c.expect-then-next_is-2.new.self) (sym (root_apply c.in_ok-name.name c.in_ok-name.at c.new-args.result ∙ ap (λ xs. apply c.in_ok-name.name c.in_ok-name.at (trees_from (map tree_of xs))) c.new-args.ensures.items))
 
 pub applied-returns : goal.applied-returns
 applied-returns t c =
-    args_read chain_at c.args.self.now _ _ _ _ _ _ (sym c.next_is.ensures ∙ c.if-next_is.false) c.in_ok-name.ensures (sym c.next_is-2.ensures ∙ c.if-not-next_is.false) c.in_ok-expect-2.ensures (sym c.next_is-3.ensures ∙ c.if-next_is-2.false) c.in_ok-args.ensures
+    args_read stem_at c.args.self.now _ _ _ _ _ _ (sym c.next_is.ensures ∙ c.if-next_is.false) c.in_ok-name.ensures (sym c.next_is-2.ensures ∙ c.if-not-next_is.false) c.in_ok-expect-2.ensures (sym c.next_is-3.ensures ∙ c.if-next_is-2.false) c.in_ok-args.ensures
     ∙ ap (λ r. rooted r c.closed_exprs-2.new.self) (sym (root_apply c.in_ok-name.name c.in_ok-name.at c.in_ok-args.args))

@@ -22,7 +22,7 @@ use Rattle.prl_syntax.specs.declared.words.Fixed.TheVariants as fixed
 use Rattle.prl_syntax.specs.Words.{class_of}
 use Rattle.prl_reader.proofs.Loops.{Steps}
 use Rattle.prl_syntax.specs.Grammar.{The, ConstantText, PrefixText, PostfixText, NameText, Enclosed, Beside, Nothing, TreeText, RootText, OthersText}
-use Rattle.prl_syntax.specs.Readers.{only, constant_first, postfix_at, postfix_first, Chain, prefixed, parts_by, tree_of_parts, tree_by, comma_tree_by, trees_by, closed_trees_by, group_by, arguments_by, root_of_name, named_by, applied_by, constant_by}
+use Rattle.prl_syntax.specs.Readers.{only, constant_first, postfix_at, postfix_first, Stem, prefixed, parts_by, tree_of_parts, tree_by, comma_tree_by, trees_by, closed_trees_by, group_by, arguments_by, root_of_name, named_by, applied_by, constant_by}
 use Rattle.prl_syntax.proofs.Simple.{steps, the_reads, constant_reads, ratio_reads}
 
 pub postfix_reads : (n : ℕ) → Reads n PostfixText (solid postfix_first (only fixed.Slash)) postfix_at
@@ -36,20 +36,20 @@ pub postfix_steps : Steps postfix_first postfix_at
 postfix_steps = steps postfix_reads refl (apart (only fixed.Slash) postfix_first refl)
 
 -- prefixes, and what they are applied to
-abbrev pub ChainText : Chain → List Lexeme → Type 0
-ChainText c = Beside (Many PrefixText c.0) (RootText c.1)
+abbrev pub StemText : Stem → List Lexeme → Type 0
+StemText c = Beside (Many PrefixText c.0) (RootText c.1)
 
-abbrev pub chain_first : List ℕ
-chain_first = only fixed.Tail ++ (constant_first ++ (only fixed.Open ++ 0 ∷ []))
+abbrev pub stem_first : List ℕ
+stem_first = only fixed.Tail ++ (constant_first ++ (only fixed.Open ++ 0 ∷ []))
 
-abbrev pub chain_more : List ℕ
-chain_more = class_of fixed.Fby ∷ class_of fixed.Cons ∷ class_of fixed.Open ∷ []
+abbrev pub stem_more : List ℕ
+stem_more = class_of fixed.Fby ∷ class_of fixed.Cons ∷ class_of fixed.Open ∷ []
 
 abbrev pub tree_more : List ℕ
-tree_more = (postfix_first ++ only fixed.Slash) ++ chain_more
+tree_more = (postfix_first ++ only fixed.Slash) ++ stem_more
 
-pub PartsText : Chain × List PlacedOp → List Lexeme → Type 0
-PartsText = Then ChainText (λ c. Then (Many PostfixText) (λ post. Give (c, post)))
+pub PartsText : Stem × List PlacedOp → List Lexeme → Type 0
+PartsText = Then StemText (λ c. Then (Many PostfixText) (λ post. Give (c, post)))
 
 pub TreeParts : Tree → List Lexeme → Type 0
 TreeParts = Then (FromFirst PartsText) (λ x. Give (tree_of_parts x.0 x.1))
@@ -95,13 +95,13 @@ from_tree (tree pre root post at) w h = record {
   tail = record { is = refl; whole = refl };
 }
 
-pub parts_reads : (n : ℕ) (f : List Lexeme → Read Chain) → Reads n ChainText (solid chain_first chain_more) f → Reads n PartsText (solid chain_first tree_more) (parts_by f)
+pub parts_reads : (n : ℕ) (f : List Lexeme → Read Stem) → Reads n StemText (solid stem_first stem_more) f → Reads n PartsText (solid stem_first tree_more) (parts_by f)
 unfolding PartsText
-parts_reads n f chain = followed n chain (λ c. followed n (many_reads n (postfix_reads n) refl (apart (only fixed.Slash) postfix_first refl)) (λ post. give_reads n _) refl) refl
+parts_reads n f stem = followed n stem (λ c. followed n (many_reads n (postfix_reads n) refl (apart (only fixed.Slash) postfix_first refl)) (λ post. give_reads n _) refl) refl
 
-pub tree_reads : (n : ℕ) (f : List Lexeme → Read Chain) → Reads n ChainText (solid chain_first chain_more) f → Reads n TreeText (solid chain_first tree_more) (tree_by f)
+pub tree_reads : (n : ℕ) (f : List Lexeme → Read Stem) → Reads n StemText (solid stem_first stem_more) f → Reads n TreeText (solid stem_first tree_more) (tree_by f)
 unfolding TreeParts
-tree_reads n f chain = restate n (followed n (first_reads chain_first tree_more n (parts_reads n f chain)) (λ x. give_reads n _) refl) to_tree from_tree same_shape
+tree_reads n f stem = restate n (followed n (first_reads stem_first tree_more n (parts_reads n f stem)) (λ x. give_reads n _) refl) to_tree from_tree same_shape
 
 -- expressions in parentheses
 
@@ -155,13 +155,13 @@ from_trees (more t ts) w h = record {
   tail = record { first = tree_list ts; left = h.right; right = []; whole = sym (append-nil h.right); head = from_others ts h.right h.second; tail = record { is = ap (more t) (sym (listed ts)); whole = refl } };
 }
 
-pub comma_tree_reads : (f : List Lexeme → Read Chain) (n : ℕ) → Reads n ChainText (solid chain_first chain_more) f → Reads n CommaTree (solid (only fixed.Comma) tree_more) (comma_tree_by f)
+pub comma_tree_reads : (f : List Lexeme → Read Stem) (n : ℕ) → Reads n StemText (solid stem_first stem_more) f → Reads n CommaTree (solid (only fixed.Comma) tree_more) (comma_tree_by f)
 unfolding CommaTree
-comma_tree_reads f n chain = followed n (the_reads n fixed.Comma) (λ p. tree_reads n f chain) refl
+comma_tree_reads f n stem = followed n (the_reads n fixed.Comma) (λ p. tree_reads n f stem) refl
 
-pub trees_reads : (n : ℕ) (f : List Lexeme → Read Chain) → Reads n ChainText (solid chain_first chain_more) f → Reads n TreesText (solid chain_first (class_of fixed.Comma ∷ (tree_more ++ tree_more))) (trees_by f)
+pub trees_reads : (n : ℕ) (f : List Lexeme → Read Stem) → Reads n StemText (solid stem_first stem_more) f → Reads n TreesText (solid stem_first (class_of fixed.Comma ∷ (tree_more ++ tree_more))) (trees_by f)
 unfolding TreesParts
-trees_reads n f chain = restate n (followed n (tree_reads n f chain) (λ t. followed n (many_reads n (comma_tree_reads f n chain) refl (apart tree_more (only fixed.Comma) refl)) (λ others. give_reads n _) refl) refl) to_trees from_trees same_shape
+trees_reads n f stem = restate n (followed n (tree_reads n f stem) (λ t. followed n (many_reads n (comma_tree_reads f n stem) refl (apart tree_more (only fixed.Comma) refl)) (λ others. give_reads n _) refl) refl) to_trees from_trees same_shape
 
 -- what stands after a text that is not empty is shorter
 pub one_later : {A B : Type 0} {W : A → List Lexeme → Type 0} {V : A → B → List Lexeme → Type 0} {r : Shape} {p : List Lexeme → Read A} {q : A → List Lexeme → Read B} (first on : List ℕ) (n : ℕ)
@@ -175,16 +175,16 @@ one_later {r} first on n one two d = bind_reads (suc n) (suc n) n one two (apart
 pub ClosedTrees : Trees → List Lexeme → Type 0
 ClosedTrees = Then TreesText (λ es. Then (The fixed.Close) (λ c. Give es))
 
-pub closed_trees_reads : (n : ℕ) (f : List Lexeme → Read Chain) → Reads n ChainText (solid chain_first chain_more) f → Reads n ClosedTrees (solid chain_first []) (closed_trees_by f)
+pub closed_trees_reads : (n : ℕ) (f : List Lexeme → Read Stem) → Reads n StemText (solid stem_first stem_more) f → Reads n ClosedTrees (solid stem_first []) (closed_trees_by f)
 unfolding ClosedTrees
-closed_trees_reads n f chain = followed n (trees_reads n f chain) (λ es. followed n (the_reads n fixed.Close) (λ c. give_reads n _) refl) refl
+closed_trees_reads n f stem = followed n (trees_reads n f stem) (λ es. followed n (the_reads n fixed.Close) (λ c. give_reads n _) refl) refl
 
 pub GroupText : Root → List Lexeme → Type 0
 GroupText = Then (The fixed.Open) (λ o. Then ClosedTrees (λ es. Give (group es)))
 
-pub group_reads : (n : ℕ) (f : List Lexeme → Read Chain) → Reads n ChainText (solid chain_first chain_more) f → Reads (suc n) GroupText (solid (only fixed.Open) []) (group_by f)
+pub group_reads : (n : ℕ) (f : List Lexeme → Read Stem) → Reads n StemText (solid stem_first stem_more) f → Reads (suc n) GroupText (solid (only fixed.Open) []) (group_by f)
 unfolding GroupText
-group_reads n f chain = one_later (only fixed.Open) [] n (the_reads (suc n) fixed.Open) (λ o. followed n (closed_trees_reads n f chain) (λ es. give_reads n _) refl) refl
+group_reads n f stem = one_later (only fixed.Open) [] n (the_reads (suc n) fixed.Open) (λ o. followed n (closed_trees_reads n f stem) (λ es. give_reads n _) refl) refl
 
 pub NoTrees : Trees → List Lexeme → Type 0
 NoTrees = Then (The fixed.Close) (λ c. Give none)
@@ -192,48 +192,48 @@ NoTrees = Then (The fixed.Close) (λ c. Give none)
 pub ArgumentsText : Trees → List Lexeme → Type 0
 ArgumentsText = Then (The fixed.Open) (λ o. Either NoTrees ClosedTrees)
 
-pub arguments_reads : (n : ℕ) (f : List Lexeme → Read Chain) → Reads n ChainText (solid chain_first chain_more) f → Reads n ArgumentsText (solid (only fixed.Open) []) (arguments_by f)
+pub arguments_reads : (n : ℕ) (f : List Lexeme → Read Stem) → Reads n StemText (solid stem_first stem_more) f → Reads n ArgumentsText (solid (only fixed.Open) []) (arguments_by f)
 unfolding ArgumentsText NoTrees
-arguments_reads n f chain = followed n (the_reads n fixed.Open) (λ o. either n (followed n (the_reads n fixed.Close) (λ c. give_reads n _) refl) (closed_trees_reads n f chain) refl refl) refl
+arguments_reads n f stem = followed n (the_reads n fixed.Open) (λ o. either n (followed n (the_reads n fixed.Close) (λ c. give_reads n _) refl) (closed_trees_reads n f stem) refl refl) refl
 
 pub NamedText : Root → List Lexeme → Type 0
 NamedText = Then Named (λ x. Then (Maybe ArgumentsText) (λ args. Give (root_of_name x args)))
 
-pub named_reads : (n : ℕ) (f : List Lexeme → Read Chain) → Reads n ChainText (solid chain_first chain_more) f → Reads (suc n) NamedText (solid (0 ∷ []) (only fixed.Open)) (named_by f)
+pub named_reads : (n : ℕ) (f : List Lexeme → Read Stem) → Reads n StemText (solid stem_first stem_more) f → Reads (suc n) NamedText (solid (0 ∷ []) (only fixed.Open)) (named_by f)
 unfolding NamedText
-named_reads n f chain = one_later (0 ∷ []) [] n (name_reads (suc n)) (λ x. followed n (maybe_reads (only fixed.Open) [] n (arguments_reads n f chain)) (λ args. give_reads n _) refl) refl
+named_reads n f stem = one_later (0 ∷ []) [] n (name_reads (suc n)) (λ x. followed n (maybe_reads (only fixed.Open) [] n (arguments_reads n f stem)) (λ args. give_reads n _) refl) refl
 
 unfoldable pub AppliedText : Root → List Lexeme → Type 0
 AppliedText = Either GroupText NamedText
 
-pub applied_reads : (n : ℕ) (f : List Lexeme → Read Chain) → Reads n ChainText (solid chain_first chain_more) f → Reads (suc n) AppliedText (solid (only fixed.Open ++ 0 ∷ []) (only fixed.Open)) (applied_by f)
+pub applied_reads : (n : ℕ) (f : List Lexeme → Read Stem) → Reads n StemText (solid stem_first stem_more) f → Reads (suc n) AppliedText (solid (only fixed.Open ++ 0 ∷ []) (only fixed.Open)) (applied_by f)
 unfolding AppliedText
-applied_reads n f chain = either (suc n) (group_reads n f chain) (named_reads n f chain) refl refl
+applied_reads n f stem = either (suc n) (group_reads n f stem) (named_reads n f stem) refl refl
 
-unfoldable pub LastText : Chain → List Lexeme → Type 0
+unfoldable pub LastText : Stem → List Lexeme → Type 0
 LastText = Then AppliedText (λ r. Give ([], r))
 
-unfoldable pub TailChain : Chain → List Lexeme → Type 0
-TailChain = Then (The fixed.Tail) (λ p. Then ChainText (λ c. Give (prefixed (record { op = ops.Tail; at = p }) c)))
+unfoldable pub TailStem : Stem → List Lexeme → Type 0
+TailStem = Then (The fixed.Tail) (λ p. Then StemText (λ c. Give (prefixed (record { op = ops.Tail; at = p }) c)))
 
-unfoldable pub FbyChain : Value → Chain → List Lexeme → Type 0
-FbyChain value = Then (The fixed.Fby) (λ p. Then ChainText (λ c. Give (prefixed (record { op = ops.Fby value; at = p }) c)))
+unfoldable pub FbyStem : Value → Stem → List Lexeme → Type 0
+FbyStem value = Then (The fixed.Fby) (λ p. Then StemText (λ c. Give (prefixed (record { op = ops.Fby value; at = p }) c)))
 
-unfoldable pub ConsChain : Value → Chain → List Lexeme → Type 0
-ConsChain value = Then (The fixed.Cons) (λ p. Then ChainText (λ c. Give (prefixed (record { op = ops.Cons value; at = p }) c)))
+unfoldable pub ConsStem : Value → Stem → List Lexeme → Type 0
+ConsStem value = Then (The fixed.Cons) (λ p. Then StemText (λ c. Give (prefixed (record { op = ops.Cons value; at = p }) c)))
 
-unfoldable pub ConstantChain : Chain → List Lexeme → Type 0
-ConstantChain = Then ConstantText (λ v. Either (FbyChain v) (Either (ConsChain v) (Give ([], const v))))
+unfoldable pub ConstantStem : Stem → List Lexeme → Type 0
+ConstantStem = Then ConstantText (λ v. Either (FbyStem v) (Either (ConsStem v) (Give ([], const v))))
 
-unfoldable pub ChainParts : Chain → List Lexeme → Type 0
-ChainParts = Either TailChain (Either ConstantChain LastText)
+unfoldable pub StemParts : Stem → List Lexeme → Type 0
+StemParts = Either TailStem (Either ConstantStem LastText)
 
-pub constant_chain_reads : (n : ℕ) (f : List Lexeme → Read Chain) → Reads n ChainText (solid chain_first chain_more) f → Reads (suc n) ConstantChain (solid constant_first ((chain_more ++ (chain_more ++ only fixed.Cons)) ++ only fixed.Fby)) (constant_by f)
-unfolding ConstantChain FbyChain ConsChain
-constant_chain_reads n f chain =
+pub constant_stem_reads : (n : ℕ) (f : List Lexeme → Read Stem) → Reads n StemText (solid stem_first stem_more) f → Reads (suc n) ConstantStem (solid constant_first ((stem_more ++ (stem_more ++ only fixed.Cons)) ++ only fixed.Fby)) (constant_by f)
+unfolding ConstantStem FbyStem ConsStem
+constant_stem_reads n f stem =
     one_later constant_first [] n (constant_reads (suc n)) (λ v.
-    either n (followed n (the_reads n fixed.Fby) (λ p. followed n chain (λ c. give_reads n _) refl) refl)
-    (either n (followed n (the_reads n fixed.Cons) (λ p. followed n chain (λ c. give_reads n _) refl) refl) (give_reads n _) refl refl) refl refl) refl
+    either n (followed n (the_reads n fixed.Fby) (λ p. followed n stem (λ c. give_reads n _) refl) refl)
+    (either n (followed n (the_reads n fixed.Cons) (λ p. followed n stem (λ c. give_reads n _) refl) refl) (give_reads n _) refl refl) refl refl) refl
 
 -- each class of the one list is in the other
 abbrev pub within : List ℕ → List ℕ → Bool
@@ -250,10 +250,10 @@ pub out_within : (ks ls : List ℕ) → within ks ls ≡ true → (c : ℕ) → 
 out_within ks ls d c h = ⊎_elim (λ e. absurd (false≢true (sym h ∙ in_within ks ls d c e))) (λ e. e) (cases_Bool (is_in c ks))
 
 abbrev pub parts_more : List ℕ
-parts_more = chain_more ++ (((chain_more ++ (chain_more ++ only fixed.Cons)) ++ only fixed.Fby) ++ only fixed.Open)
+parts_more = stem_more ++ (((stem_more ++ (stem_more ++ only fixed.Cons)) ++ only fixed.Fby) ++ only fixed.Open)
 
 -- one prefix more, in front
-pub first_prefix : (op : PlacedOp) (c : Chain) (w u v : List Lexeme) → w ≡ u ++ v → PrefixText op u → ChainText c v → ChainText (prefixed op c) w
+pub first_prefix : (op : PlacedOp) (c : Stem) (w u v : List Lexeme) → w ≡ u ++ v → PrefixText op u → StemText c v → StemText (prefixed op c) w
 first_prefix op c w u v e p h = record {
   left = u ++ h.left;
   right = h.right;
@@ -262,8 +262,8 @@ first_prefix op c w u v e p h = record {
   second = h.second;
 }
 
--- a chain of no prefix
-pub last_root : (r : Root) (w : List Lexeme) → RootText r w → ChainText ([], r) w
+-- a stem of no prefix
+pub last_root : (r : Root) (w : List Lexeme) → RootText r w → StemText ([], r) w
 last_root r w h = record { left = []; right = w; whole = refl; first = refl; second = h }
 
 -- parentheses round expressions
@@ -393,35 +393,35 @@ cons_prefix v p u x c h = inr (inr (record {
   tail = record { first = p; left = x; right = []; whole = sym (append-nil x); head = h; tail = record { is = refl; whole = refl } };
 }))
 
-pub to_constant : (c : Chain) (w u v : List Lexeme) (value : Value) → w ≡ u ++ v → ConstantText value u → Either (FbyChain value) (Either (ConsChain value) (Give ([], const value))) c v → ChainText c w
-unfolding FbyChain ConsChain
+pub to_constant : (c : Stem) (w u v : List Lexeme) (value : Value) → w ≡ u ++ v → ConstantText value u → Either (FbyStem value) (Either (ConsStem value) (Give ([], const value))) c v → StemText c w
+unfolding FbyStem ConsStem
 to_constant c w u v value e h (inl g) =
     let k = g.tail in
-    let P : Chain → Type 0 = λ c. ChainText c w in
+    let P : Stem → Type 0 = λ c. StemText c w in
     subst P (sym k.tail.is) (first_prefix (record { op = ops.Fby value; at = g.first }) k.first w (u ++ g.left) k.left
     (e ∙ ap (λ x. u ++ x) (g.whole ∙ ap (λ x. g.left ++ x) (alone g.right k.left k.right k.whole k.tail.whole)) ∙ sym (append_assoc u g.left k.left))
     (fby_prefix value g.first u g.left h g.head) k.head)
 to_constant c w u v value e h (inr (inl g)) =
     let k = g.tail in
-    let P : Chain → Type 0 = λ c. ChainText c w in
+    let P : Stem → Type 0 = λ c. StemText c w in
     subst P (sym k.tail.is) (first_prefix (record { op = ops.Cons value; at = g.first }) k.first w (u ++ g.left) k.left
     (e ∙ ap (λ x. u ++ x) (g.whole ∙ ap (λ x. g.left ++ x) (alone g.right k.left k.right k.whole k.tail.whole)) ∙ sym (append_assoc u g.left k.left))
     (cons_prefix value g.first u g.left h g.head) k.head)
 to_constant c w u v value e h (inr (inr g)) =
-    let P : Chain → Type 0 = λ c. ChainText c w in
+    let P : Stem → Type 0 = λ c. StemText c w in
     let Q : List Lexeme → Type 0 = ConstantText value in
     subst P (sym g.is) (last_root (const value) w (subst Q (sym (alone w u v e g.whole)) h))
 
-pub to_chain : (c : Chain) (w : List Lexeme) → ChainParts c w → ChainText c w
-unfolding ChainParts TailChain ConstantChain LastText
-to_chain c w (inl g) =
+pub to_stem : (c : Stem) (w : List Lexeme) → StemParts c w → StemText c w
+unfolding StemParts TailStem ConstantStem LastText
+to_stem c w (inl g) =
     let k = g.tail in
-    let P : Chain → Type 0 = λ c. ChainText c w in
+    let P : Stem → Type 0 = λ c. StemText c w in
     subst P (sym k.tail.is) (first_prefix (record { op = ops.Tail; at = g.first }) k.first w g.left k.left
     (g.whole ∙ ap (λ x. g.left ++ x) (alone g.right k.left k.right k.whole k.tail.whole)) (tail_prefix g.first g.left g.head) k.head)
-to_chain c w (inr (inl g)) = to_constant c w g.left g.right g.first g.whole g.head g.tail
-to_chain c w (inr (inr g)) =
-    let P : Chain → Type 0 = λ c. ChainText c w in
+to_stem c w (inr (inl g)) = to_constant c w g.left g.right g.first g.whole g.head g.tail
+to_stem c w (inr (inr g)) =
+    let P : Stem → Type 0 = λ c. StemText c w in
     let Q : List Lexeme → Type 0 = RootText g.first in
     subst P (sym g.tail.is) (last_root g.first w (subst Q (sym (alone w g.left g.right g.whole g.tail.whole)) (to_root g.first g.left g.head)))
 
@@ -440,8 +440,8 @@ from_enclosed es w h = record {
   tail = closed_parts es (h.inner ++ h.right) h.inner h.right h.close_at refl h.inside h.closed;
 }
 
-pub with_root : (r : Root) (w : List Lexeme) → AppliedText r w → ChainParts ([], r) w
-unfolding ChainParts LastText
+pub with_root : (r : Root) (w : List Lexeme) → AppliedText r w → StemParts ([], r) w
+unfolding StemParts LastText
 with_root r w h = inr (inr (record { first = r; left = w; right = []; whole = sym (append-nil w); head = h; tail = given ([], r) }))
 
 pub group_parts : (t : Tree) (ts : Trees) (w : List Lexeme) → Enclosed (Beside (TreeText t) (OthersText ts)) w → GroupText (group (more t ts)) w
@@ -503,8 +503,8 @@ some_arguments t ts w h =
     let x = from_enclosed (more t ts) w h in
     record { first = x.first; left = x.left; right = x.right; whole = x.whole; head = x.head; tail = inr x.tail }
 
-pub root_parts : (r : Root) (w : List Lexeme) → RootText r w → ChainParts ([], r) w
-unfolding ChainParts ConstantChain AppliedText
+pub root_parts : (r : Root) (w : List Lexeme) → RootText r w → StemParts ([], r) w
+unfolding StemParts ConstantStem AppliedText
 root_parts (const value) w h = inr (inl (record { first = value; left = w; right = []; whole = sym (append-nil w); head = h; tail = inr (inr (given ([], const value))) }))
 root_parts (var name) w h = with_root (var name) w (inr (var_parts name w h))
 root_parts (apply name at none) w h = with_root (apply name at none) w (inr (apply_parts (name, at) none w h.left h.right h.whole h.first (no_arguments h.right h.second)))
