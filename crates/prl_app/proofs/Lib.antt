@@ -1,6 +1,6 @@
 pub mod RowLines
-pub mod BodyStages
 pub mod Outputs
-pub mod Contents
-pub mod Stages
-pub mod Statuses
+pub mod ChainBodies
+pub mod OneEnd
+pub mod Stops
+pub mod Exact

@@ -9,7 +9,7 @@ use Rattle.std.proofs.Common.{◌≡◌, ◌≢◌, ℕ, zero, suc, ◌+◌, ◌
 use Rattle.prl_base.specs.Lines.{cut_line, lines_of}
 use Rattle.prl_base.specs.declared.values.Value.{Value}
 use Rattle.prl_base.proofs.LineCuts.{lines_of_cut, lines_of_end, length_lines_of}
-use Rattle.prl_app.specs.Words.{◌>>=◌}
+use Rattle.prl_base.specs.Options.{◌>>=◌}
 use Rattle.prl_app.specs.Rows.{after_front, row_value, values_from, AreNumbers}
 
 -- values with more values in front of them
@@ -25,51 +25,51 @@ abbrev pub then_values : Option (List Value) → Value → Option (List Value)
 then_values read v = read >>= λ vs. Some (v ∷ vs)
 
 -- a line in front of others is a row
-values_from-cons : (name : List ℕ) (k : ℕ) (line : List ℕ) (lines : List (List ℕ)) → 0 < length lines
+values_from_cons : (name : List ℕ) (k : ℕ) (line : List ℕ) (lines : List (List ℕ)) → 0 < length lines
     → values_from name k (line ∷ lines) ≡ (row_value name k line >>= λ v. then_values (values_from name (k + 1) lines) v)
-values_from-cons name k line [] h = absurd (omega arith)
-values_from-cons name k [] (next ∷ lines) h = refl
-values_from-cons name k (b ∷ bs) (next ∷ lines) h = refl
+values_from_cons name k line [] h = absurd (omega arith)
+values_from_cons name k [] (next ∷ lines) h = refl
+values_from_cons name k (b ∷ bs) (next ∷ lines) h = refl
 
 -- a text that has a line feed begins with a row
-left_in-cut : (name : List ℕ) (k : ℕ) (text line behind : List ℕ) → cut_line text ≡ Some (line, behind)
-    → left_in name k text ≡ (row_value name k line >>= λ v. then_values (left_in name (k + 1) behind) v)
-left_in-cut name k text line behind cut =
-    ap (values_from name k) (lines_of_cut text line behind cut) ∙ values_from-cons name k line (lines_of behind) (length_lines_of behind)
+left_in_cut : (name : List ℕ) (k : ℕ) (text line later : List ℕ) → cut_line text ≡ Some (line, later)
+    → left_in name k text ≡ (row_value name k line >>= λ v. then_values (left_in name (k + 1) later) v)
+left_in_cut name k text line later cut =
+    ap (values_from name k) (lines_of_cut text line later cut) ∙ values_from_cons name k line (lines_of later) (length_lines_of later)
 
 regroup : (front : List Value) (v : Value) (read : Option (List Value))
     → with_front (front ++ v ∷ []) read ≡ with_front front (then_values read v)
 regroup front v None = refl
 regroup front v (Some vs) = ap Some (append_assoc front (v ∷ []) vs)
 
--- a line that is a row puts its value behind those in front
-pub with_front-row : (name : List ℕ) (k : ℕ) (front : List Value) (text line behind : List ℕ) (v : Value) → cut_line text ≡ Some (line, behind)
+-- a line that is a row puts its value after those in front
+pub with_front_row : (name : List ℕ) (k : ℕ) (front : List Value) (text line later : List ℕ) (v : Value) → cut_line text ≡ Some (line, later)
     → row_value name k line ≡ Some v
-    → with_front (front ++ v ∷ []) (left_in name (k + 1) behind) ≡ with_front front (left_in name k text)
-with_front-row name k front text line behind v cut row =
-    regroup front v (left_in name (k + 1) behind)
-    ∙ ap (λ r. with_front front (r >>= λ w. then_values (left_in name (k + 1) behind) w)) (sym row)
-    ∙ ap (with_front front) (sym (left_in-cut name k text line behind cut))
+    → with_front (front ++ v ∷ []) (left_in name (k + 1) later) ≡ with_front front (left_in name k text)
+with_front_row name k front text line later v cut row =
+    regroup front v (left_in name (k + 1) later)
+    ∙ ap (λ r. with_front front (r >>= λ w. then_values (left_in name (k + 1) later) w)) (sym row)
+    ∙ ap (with_front front) (sym (left_in_cut name k text line later cut))
 
 -- a line that is no row leaves no values
-pub with_front-no_row : (name : List ℕ) (k : ℕ) (front : List Value) (text line behind : List ℕ) → cut_line text ≡ Some (line, behind)
+pub with_front_no_row : (name : List ℕ) (k : ℕ) (front : List Value) (text line later : List ℕ) → cut_line text ≡ Some (line, later)
     → row_value name k line ≡ None
     → with_front front (left_in name k text) ≡ None
-with_front-no_row name k front text line behind cut row =
-    ap (with_front front) (left_in-cut name k text line behind cut ∙ ap (λ r. r >>= λ w. then_values (left_in name (k + 1) behind) w) row)
+with_front_no_row name k front text line later cut row =
+    ap (with_front front) (left_in_cut name k text line later cut ∙ ap (λ r. r >>= λ w. then_values (left_in name (k + 1) later) w) row)
 
 -- where nothing is left, the values in front are all
-pub with_front-end : (name : List ℕ) (k : ℕ) (front : List Value) (text : List ℕ) → cut_line text ≡ None → length text ≡ 0
+pub with_front_end : (name : List ℕ) (k : ℕ) (front : List Value) (text : List ℕ) → cut_line text ≡ None → length text ≡ 0
     → with_front front (left_in name k text) ≡ Some front
-with_front-end name k front [] e none =
+with_front_end name k front [] e none =
     ap (λ lines. with_front front (values_from name k lines)) (lines_of_end [] e) ∙ ap Some (append-nil front)
-with_front-end name k front (b ∷ bs) e none = absurd (omega arith)
+with_front_end name k front (b ∷ bs) e none = absurd (omega arith)
 
 -- where more is left, there are no values
-pub with_front-open : (name : List ℕ) (k : ℕ) (front : List Value) (text : List ℕ) → cut_line text ≡ None → length text ≢ 0
+pub with_front_open : (name : List ℕ) (k : ℕ) (front : List Value) (text : List ℕ) → cut_line text ≡ None → length text ≢ 0
     → with_front front (left_in name k text) ≡ None
-with_front-open name k front [] e some = absurd (some refl)
-with_front-open name k front (b ∷ bs) e some = ap (λ lines. with_front front (values_from name k lines)) (lines_of_end (b ∷ bs) e)
+with_front_open name k front [] e some = absurd (some refl)
+with_front_open name k front (b ∷ bs) e some = ap (λ lines. with_front front (values_from name k lines)) (lines_of_end (b ∷ bs) e)
 
 some_inner : {A : Type 0} (x y : A) → Some x ≡ Some y → x ≡ y
 some_inner x y e = cc
@@ -83,9 +83,9 @@ abbrev number_value : Option ℤ → Option Value
 number_value read = read >>= λ number. Some (kinds.Int number)
 
 -- a row's value is a number
-row_value-int : (name : List ℕ) (instance : ℕ) (line : List ℕ) (v : Value) → row_value name instance line ≡ Some v → type_of v ≡ types.Int
+row_value_int : (name : List ℕ) (instance : ℕ) (line : List ℕ) (v : Value) → row_value name instance line ≡ Some v → type_of v ≡ types.Int
 unfolding row_value
-row_value-int name instance line v e =
+row_value_int name instance line v e =
     let first = given (after_front name line) (λ rest. after_front (codes ",") rest >>= λ rest. after_front (decimal instance) rest >>= λ rest. after_front (codes ",") rest >>= λ rest. number_value (integer_of rest)) v e in
     let second = given (after_front (codes ",") first.0) (λ rest. after_front (decimal instance) rest >>= λ rest. after_front (codes ",") rest >>= λ rest. number_value (integer_of rest)) v first.2 in
     let third = given (after_front (decimal instance) second.0) (λ rest. after_front (codes ",") rest >>= λ rest. number_value (integer_of rest)) v second.2 in
@@ -105,11 +105,11 @@ last_numbers name k [] vs e = subst AreNumbers (some_inner [] vs e) no_numbers
 last_numbers name k (b ∷ bs) vs e = cc
 
 -- each of the values of lines is a number
-pub values_from-numbers : (name : List ℕ) (k : ℕ) (lines : List (List ℕ)) (vs : List Value) → values_from name k lines ≡ Some vs → AreNumbers vs
-values_from-numbers name k [] vs e = cc
-values_from-numbers name k (line ∷ []) vs e = last_numbers name k line vs e
-values_from-numbers name k (line ∷ next ∷ lines) vs e =
-    let row = given (row_value name k line) (then_values (values_from name (k + 1) (next ∷ lines))) vs (sym (values_from-cons name k line (next ∷ lines) (omega arith)) ∙ e) in
+pub values_from_numbers : (name : List ℕ) (k : ℕ) (lines : List (List ℕ)) (vs : List Value) → values_from name k lines ≡ Some vs → AreNumbers vs
+values_from_numbers name k [] vs e = cc
+values_from_numbers name k (line ∷ []) vs e = last_numbers name k line vs e
+values_from_numbers name k (line ∷ next ∷ lines) vs e =
+    let row = given (row_value name k line) (then_values (values_from name (k + 1) (next ∷ lines))) vs (sym (values_from_cons name k line (next ∷ lines) (omega arith)) ∙ e) in
     let rest = given (values_from name (k + 1) (next ∷ lines)) (λ ws. Some (row.0 ∷ ws)) vs row.2 in
     subst AreNumbers (some_inner (row.0 ∷ rest.0) vs rest.2)
-    (one_more_number row.0 rest.0 (row_value-int name k line row.0 row.1) (values_from-numbers name (k + 1) (next ∷ lines) rest.0 rest.1))
+    (one_more_number row.0 rest.0 (row_value_int name k line row.0 row.1) (values_from_numbers name (k + 1) (next ∷ lines) rest.0 rest.1))

@@ -1,10 +1,20 @@
+-- The words of a command line.
 pub mod Words
-pub mod OptionViews
+-- What the files of a command give.
+pub mod Given
+-- The program and the bodies that the texts are.
+pub mod Parts
+-- The rows of a sensor.
 pub mod Rows
+-- Scaffolding: the programs and plans that are built so far.
+pub mod Built
+-- What is to be computed, and its text.
 pub mod Runs
-pub mod Asked
-pub mod Outcomes
-pub mod Replays
-pub mod Modes
+-- The stages, and the modes as lists of them.
+pub mod Stages
+-- The lines on err.
+pub mod ErrorLines
+-- Statuses, endings, and what a call says.
 pub mod Endings
-pub mod Statuses
+-- What private functions say to one another.
+pub mod code

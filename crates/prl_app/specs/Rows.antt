@@ -8,9 +8,9 @@ use Rattle.prl_base.specs.Values.{type_of}
 use Rattle.prl_base.specs.declared.values.Ty.TheVariants as types
 use Rattle.prl_base.specs.declared.values.Value.{Value}
 use Rattle.prl_base.specs.declared.values.Value.TheVariants as values
-use Rattle.prl_app.specs.Words.{◌>>=◌}
+use Rattle.prl_base.specs.Options.{◌>>=◌}
 
--- what stands behind the front, where the text begins with it
+-- what stands after the front, where the text begins with it
 abbrev pub after_front : List ℕ → List ℕ → Option (List ℕ)
 after_front front text = if bytes_eq (take (length front) text) front then Some (drop (length front) text) else None
 
@@ -28,7 +28,7 @@ row_value name instance line = do
   number ← integer_of rest
   Some (values.Int number)
 
--- The values of lines that are the rows of a sensor from this instance on. The last of the list is what stands behind
+-- The values of lines that are the rows of a sensor from this instance on. The last of the list is what stands after
 -- the last line's end: nothing.
 abbrev pub values_from : List ℕ → ℕ → List (List ℕ) → Option (List Value)
 values_from name instance [] = None

@@ -1,5 +1,5 @@
 -- What a program, its bodies and its rows ask to be computed, and the text that they mean.
-use Rattle.std.specs.Prelude.{◌≡◌, ◌+◌, ◌<◌, ◌^◌, ℕ, List, [], ◌∷◌, map}
+use Rattle.std.specs.Prelude.{◌≡◌, ◌+◌, ◌<◌, ◌^◌, ℕ, List, [], ◌∷◌, map, Option, Some, None}
 use Rattle.prl_body.specs.declared.bodies.CheckedBody.{CheckedBody}
 use Rattle.prl_body.specs.Checks.{BodyTree, body_tree}
 use Rattle.prl_flow.specs.declared.programs.Clocks.{Clocks}
@@ -13,6 +13,13 @@ use Rattle.prl_flow.specs.Solutions.{Solves, AreClocks, IsOrdered, HasRows, HasT
 use Rattle.prl_flow.specs.Applications.{HaveBodies}
 use Rattle.prl_flow.specs.Actuators.{actuator_text}
 use Rattle.prl_chains.specs.declared.chains.Chain.{Chain}
+use Rattle.prl_base.specs.declared.limits.What.TheVariants as whats
+use Rattle.prl_flow.specs.Counts.{values_before}
+use Rattle.prl_flow.specs.declared.evaluation.FlowFault.{FlowFault}
+use Rattle.prl_flow.specs.declared.evaluation.FlowFault.TheVariants as flows
+use Rattle.prl_flow.specs.declared.evaluation.TheConstants.{MAX_VALUES}
+use Rattle.prl_app.specs.declared.faults.Fault.{Fault}
+use Rattle.prl_app.specs.declared.faults.Fault.TheVariants as faults
 use Rattle.prl_app.specs.declared.runs.Run.{Run}
 
 -- a flat program with its clocks, the trees of its bodies, its rows, and the date up to which it runs
@@ -44,6 +51,20 @@ pub record IsReady (run : Run) : Type 0 where
   pub bodies : HaveBodies run.flat run.bodies
   pub types : HasTypedRows run.flat run.sensors
 
+-- the fault that the flows have so many values
+abbrev pub too_many : ℕ → Fault
+too_many found = faults.Limit (record { what = whats.Values; found = found })
+
+-- its flows have more values than are kept
+abbrev pub HasManyValues : Run → Fault → Type 0
+HasManyValues run fault =
+    (MAX_VALUES < values_before run.until run.clocks.of) × (fault ≡ too_many (values_before run.until run.clocks.of))
+
+-- how the faults of an evaluation are told
+abbrev pub told_flow : FlowFault → Option Fault
+told_flow (flows.Limit limit) = Some (faults.Limit limit)
+told_flow flows.Memory = None
+
 -- the flow of main's output of number k, with its name and clock
 abbrev pub out_flow : Run → List (List Value) → ℕ → FlowNo → OutFlow
 out_flow run flows k flow =
@@ -54,10 +75,12 @@ abbrev pub out_flows : Run → List (List Value) → ℕ → List FlowNo → Lis
 out_flows run flows k [] = []
 out_flows run flows k (flow ∷ rest) = out_flow run flows k flow ∷ out_flows run flows (k + 1) rest
 
--- The program has one solution for the bodies and the rows, and the text is that of its actuators.
+-- The clocks are those of the program; it has one solution on them for the bodies and the rows; and the text is that of
+-- its actuators.
 pub record IsFlowsText (c : Computation) (text : List ℕ) : Type 0 where
   pub run : Run
   pub computed : computation_of run ≡ c
+  pub clocks : AreClocks run.flat run.clocks.of
   pub flows : List (List Value)
   pub solution : Solves run.flat run.clocks.of run.bodies run.sensors run.until flows
   pub only : (others : List (List Value)) → Solves run.flat run.clocks.of run.bodies run.sensors run.until others → others ≡ flows

@@ -1,16 +1,64 @@
 -- The words of the command line.
-use Rattle.std.specs.Prelude.{◌==◌, ◌&&◌, ℕ, Bool, false, not, List, [], ◌∷◌, length, Option, Some, None, Result, Ok, Err, nat_le, if◌then◌else◌, codes}
+use Rattle.std.specs.Prelude.{◌==◌, ◌&&◌, ℕ, Bool, false, not, List, [], ◌∷◌, length, Option, Some, None, nat_le, if◌then◌else◌, codes}
 use Rattle.std.specs.Str.{bytes_eq}
 use Rattle.prl_base.specs.Decimals.{decimal_of}
+use Rattle.prl_base.specs.Options.{◌>>=◌}
+use Rattle.prl_app.specs.declared.words.TheConstants.{MAX_UNTIL}
+use Rattle.prl_app.specs.declared.words.Mode.{Mode}
 use Rattle.prl_app.specs.declared.words.Mode.TheVariants as modes
+use Rattle.prl_app.specs.declared.words.Setting.{Setting}
+use Rattle.prl_app.specs.declared.words.Setting.TheVariants as settings
 use Rattle.prl_app.specs.declared.words.Command.{Command}
-use Rattle.prl_app.specs.declared.words.WordsFault.{WordsFault}
-use Rattle.prl_app.specs.declared.words.WordsFault.TheVariants as faults
 
-infixl 10 ◌>>=◌
-abbrev pub ◌>>=◌ : {A B : Type 0} → Option A → (A → Option B) → Option B
-None >>= f = None
-(Some x) >>= f = f x
+-- the mode of a name
+abbrev pub mode_named : List ℕ → Option Mode
+mode_named name =
+    if bytes_eq name (codes "flows") then Some modes.Flows
+    else if bytes_eq name (codes "print") then Some modes.Print
+    else if bytes_eq name (codes "replay") then Some modes.Replay
+    else None
+
+-- the options that a mode needs, in their order
+abbrev pub needs : Mode → List Setting
+needs modes.Print = settings.Program ∷ []
+needs modes.Flows = settings.Program ∷ settings.Sensors ∷ settings.Until ∷ []
+needs modes.Replay = settings.Program ∷ settings.Sensors ∷ settings.Schedule ∷ settings.Until ∷ []
+
+-- the options that may follow, in their order
+abbrev pub may : Mode → List Setting
+may modes.Print = []
+may modes.Flows = settings.Bodies ∷ settings.Node ∷ []
+may modes.Replay = settings.Bodies ∷ settings.Node ∷ []
+
+-- how an option is written
+abbrev pub name_of : Setting → List ℕ
+name_of settings.Program = codes "--program"
+name_of settings.Bodies = codes "--bodies"
+name_of settings.Sensors = codes "--sensors"
+name_of settings.Schedule = codes "--schedule"
+name_of settings.Node = codes "--node"
+name_of settings.Until = codes "--until"
+
+-- the values of options, where they are given
+pub record Settings : Type 0 where
+  pub program : Option (List ℕ)
+  pub bodies : Option (List ℕ)
+  pub sensors : Option (List ℕ)
+  pub schedule : Option (List ℕ)
+  pub node : Option (List ℕ)
+  pub until : Option (List ℕ)
+
+abbrev pub nothing : Settings
+nothing = record { program = None; bodies = None; sensors = None; schedule = None; node = None; until = None }
+
+-- one more value
+abbrev pub with_value : Settings → Setting → List ℕ → Settings
+with_value given settings.Program value = record given { program = Some value }
+with_value given settings.Bodies value = record given { bodies = Some value }
+with_value given settings.Sensors value = record given { sensors = Some value }
+with_value given settings.Schedule value = record given { schedule = Some value }
+with_value given settings.Node value = record given { node = Some value }
+with_value given settings.Until value = record given { until = Some value }
 
 -- the value of an option is not empty and does not begin with `-`
 abbrev pub is_value : List ℕ → Bool
@@ -23,70 +71,65 @@ number_up_to most text = do
   number ← decimal_of text
   if nat_le (length text) 20 && nat_le number most then Some number else None
 
--- an option of this name at the front, in two words: its value, and the words behind it
+-- an option of this name at the front, in two words: its value, and the words after it
 abbrev pub option_at : List ℕ → List (List ℕ) → Option (List ℕ × List (List ℕ))
 option_at name (word ∷ value ∷ rest) = if bytes_eq word name && is_value value then Some (value, rest) else None
 option_at name (word ∷ []) = None
 option_at name [] = None
 
-abbrev pub at_end : {A : Type 0} → A → List (List ℕ) → Option A
-at_end x [] = Some x
-at_end x (word ∷ words) = None
+-- each of the options in order: the values with theirs, and the words after them
+abbrev pub needed : List Setting → Settings → List (List ℕ) → Option (Settings × List (List ℕ))
+needed [] given words = Some (given, words)
+needed (setting ∷ rest) given words = do
+  taken ← option_at (name_of setting) words
+  needed rest (with_value given setting taken.0) taken.1
 
--- nothing, or an option of this name at the end: its value
-abbrev pub last_option : List ℕ → List (List ℕ) → Option (Option (List ℕ))
-last_option name [] = Some None
-last_option name (word ∷ words) = do
-  given ← option_at name (word ∷ words)
-  at_end (Some given.0) given.1
+-- what an option at the front makes of the values, where there is one
+abbrev pub taken_or : Setting → Settings → List (List ℕ) → Option (List ℕ × List (List ℕ)) → Settings × List (List ℕ)
+taken_or setting given words None = (given, words)
+taken_or setting given words (Some taken) = (with_value given setting taken.0, taken.1)
 
--- `--program NAME --sensors NAME --until N`, and `--bodies NAME` or nothing
-unfoldable pub flows_at : List (List ℕ) → Option Command
-flows_at words = do
-  program ← option_at (codes "--program") words
-  sensors ← option_at (codes "--sensors") program.1
-  until ← option_at (codes "--until") sensors.1
-  number ← number_up_to 2147483647 until.0
-  bodies ← last_option (codes "--bodies") until.1
-  Some (record { mode = modes.Flows; program = Some program.0; bodies = bodies; sensors = Some sensors.0; schedule = None; until = number })
+-- those of the options that stand there, in order: the values with theirs, and the words after them
+abbrev pub allowed : List Setting → Settings → List (List ℕ) → Settings × List (List ℕ)
+allowed [] given words = (given, words)
+allowed (setting ∷ rest) given words =
+    let next = taken_or setting given words (option_at (name_of setting) words) in allowed rest next.0 next.1
 
--- `--program NAME --sensors NAME --schedule NAME --until N`, and `--bodies NAME` or nothing
-unfoldable pub replay_at : List (List ℕ) → Option Command
-replay_at words = do
-  program ← option_at (codes "--program") words
-  sensors ← option_at (codes "--sensors") program.1
-  schedule ← option_at (codes "--schedule") sensors.1
-  until ← option_at (codes "--until") schedule.1
-  number ← number_up_to 2147483647 until.0
-  bodies ← last_option (codes "--bodies") until.1
-  Some (record { mode = modes.Replay; program = Some program.0; bodies = bodies; sensors = Some sensors.0; schedule = Some schedule.0; until = number })
+-- the values, where no word is left after them
+abbrev pub at_end : Settings × List (List ℕ) → Option Settings
+at_end (given, []) = Some given
+at_end (given, word ∷ words) = None
 
--- `--program NAME`, and no more
-unfoldable pub print_at : List (List ℕ) → Option Command
-print_at words = do
-  program ← option_at (codes "--program") words
-  at_end (record { mode = modes.Print; program = Some program.0; bodies = None; sensors = None; schedule = None; until = 0 }) program.1
+-- the date, 0 where none is given
+abbrev pub date_of : Option (List ℕ) → Option ℕ
+date_of None = Some 0
+date_of (Some text) = number_up_to MAX_UNTIL text
 
--- what stands behind the name of a mode
-abbrev pub mode_at : List ℕ → List (List ℕ) → Option Command
-mode_at mode words =
-    if bytes_eq mode (codes "flows") then flows_at words
-    else if bytes_eq mode (codes "print") then print_at words
-    else if bytes_eq mode (codes "replay") then replay_at words
-    else None
+-- the command of a mode whose options have these values
+abbrev pub command_with : Mode → Settings → Option Command
+command_with mode given = do
+  until ← date_of given.until
+  Some (record {
+    mode = mode;
+    program = given.program;
+    bodies = given.bodies;
+    sensors = given.sensors;
+    schedule = given.schedule;
+    node = given.node;
+    until = until;
+  })
 
--- the command that the words ask for, if they are of the form of one: the program's own name, the mode, and what the
--- mode asks for
+-- the command of a mode with these options
+unfoldable pub command_of_mode : Mode → List (List ℕ) → Option Command
+command_of_mode mode words = do
+  first ← needed (needs mode) nothing words
+  given ← at_end (allowed (may mode) first.0 first.1)
+  command_with mode given
+
+-- The command that the words ask for: the program's own name, which is not read, the mode, and its options.
 abbrev pub command_of : List (List ℕ) → Option Command
-command_of (own ∷ mode ∷ rest) = mode_at mode rest
-command_of (own ∷ []) = None
 command_of [] = None
-
--- words that are no command are refused; want of memory is free
-abbrev pub meaning_of : Option Command → Result Command WordsFault
-meaning_of None = Err faults.Refused
-meaning_of (Some command) = Ok command
-
-abbrev pub words_fault : WordsFault → Option WordsFault
-words_fault faults.Refused = Some faults.Refused
-words_fault faults.Memory = None
+command_of (own ∷ []) = None
+command_of (own ∷ name ∷ rest) = do
+  mode ← mode_named name
+  command_of_mode mode rest

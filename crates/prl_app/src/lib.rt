@@ -2,32 +2,25 @@
 //! calls `prelude` and `prelude_alone` stand on the public clauses of the crates below.
 #![tactic(auto)]
 
-mod answers;
-mod bodies;
-mod chains;
+mod built;
 mod endings;
-mod flows;
+mod faults;
+mod laws;
 mod lines;
-mod printing;
+mod pipeline;
 mod programs;
-mod refusals;
-mod replaying;
+mod reading;
 mod rows;
 mod runs;
+mod stages;
 mod top;
 mod words;
 
 pub use endings::Ending;
-pub use refusals::{GrammarFault, Part, Refusal, RunFault};
+pub use faults::{Fault, GrammarFault, Part, RunFault};
+pub use laws::stages_end_one_way;
+pub use reading::Texts;
 pub use runs::Run;
+pub use stages::{Stage, Stop};
 pub use top::{Status, prelude, prelude_alone};
-pub use words::{Command, Mode, WordsFault, read_words};
-
-#[cfg(test)]
-mod bodies_tests;
-#[cfg(test)]
-mod flows_tests;
-#[cfg(test)]
-mod prefix_tests;
-#[cfg(test)]
-mod tests;
+pub use words::{Command, Mode, Setting, WordsFault, read_words};

@@ -2,10 +2,12 @@
 
 ghost use Rattle.std.specs.Prelude.{◌≡◌, ◌<◌, ◌≤◌, [], unwrap_or, OnErr};
 ghost use Rattle.prl_io.specs.Growth.{IsWritten};
-ghost use Rattle.prl_app.specs.Endings.{file_name, named_line, placed_line, grammar_line, type_text, mismatch_line, type_free_line, types_line, limit_line, bodies_line, short_line, illegal_line, unfinished_line, schedule_line, refusal_line, line_of};
+ghost use Rattle.prl_app.specs.ErrorLines.{file_name, named_line, placed_line, grammar_line, type_text, mismatch_line, type_free_line, types_line, limit_line, bodies_line, short_line, illegal_line, unfinished_line, schedule_line, line_of_fault, line_of_stop, line_of};
+ghost use Rattle.prl_app.specs.Endings.{IsTold};
 
 use crate::endings::Ending;
-use crate::refusals::{GrammarFault, Part, Refusal, RunFault};
+use crate::faults::{Fault, GrammarFault, Part, RunFault};
+use crate::stages::Stop;
 use crate::words::Command;
 use itoa::Buffer;
 use prl_base::{Label, Limit, Ty};
@@ -40,18 +42,18 @@ fn file_name(command: &Option<Command>, part: Part) -> &[u8]
 
 /// Writes a line of two parts.
 fn write_two<E: Sink>(err: &mut E, front: &[u8], name: &[u8]) -> Result<(), Failed>
-    ensures grown { IsWritten (E.written err.old) (E.written err.new) (named_line front.now name.now) result }
-    ensures counted { E.faults err.old ≤ E.faults err.new }
-    ensures failed { OnErr result (E.faults err.old < E.faults err.new) }
+    ensures grown { IsWritten (E.seen err.old).written (E.seen err.new).written (named_line front.now name.now) result }
+    ensures counted { (E.seen err.old).faults ≤ (E.seen err.new).faults }
+    ensures failed { OnErr result ((E.seen err.old).faults < (E.seen err.new).faults) }
 {
     write_pieces(err, &[front, name, b"\n".as_slice()])
 }
 
 /// Writes a line that ends in a place of the text, or in the number of a line.
 fn write_placed<E: Sink>(err: &mut E, front: &[u8], at: u64) -> Result<(), Failed>
-    ensures grown { IsWritten (E.written err.old) (E.written err.new) (placed_line front.now at) result }
-    ensures counted { E.faults err.old ≤ E.faults err.new }
-    ensures failed { OnErr result (E.faults err.old < E.faults err.new) }
+    ensures grown { IsWritten (E.seen err.old).written (E.seen err.new).written (placed_line front.now at) result }
+    ensures counted { (E.seen err.old).faults ≤ (E.seen err.new).faults }
+    ensures failed { OnErr result ((E.seen err.old).faults < (E.seen err.new).faults) }
 {
     let mut buffer = Buffer::new();
     write_two(err, front, buffer.format(at).as_bytes())
@@ -59,9 +61,9 @@ fn write_placed<E: Sink>(err: &mut E, front: &[u8], at: u64) -> Result<(), Faile
 
 /// Writes the line of a fault of the grammar.
 fn write_grammar<E: Sink>(err: &mut E, fault: GrammarFault) -> Result<(), Failed>
-    ensures grown { IsWritten (E.written err.old) (E.written err.new) (grammar_line fault) result }
-    ensures counted { E.faults err.old ≤ E.faults err.new }
-    ensures failed { OnErr result (E.faults err.old < E.faults err.new) }
+    ensures grown { IsWritten (E.seen err.old).written (E.seen err.new).written (grammar_line fault) result }
+    ensures counted { (E.seen err.old).faults ≤ (E.seen err.new).faults }
+    ensures failed { OnErr result ((E.seen err.old).faults < (E.seen err.new).faults) }
 {
     match fault {
         GrammarFault::BadToken(at) => write_placed(err, b"1 bad token at ", at as u64),
@@ -81,9 +83,9 @@ fn type_text(ty: Ty) -> &'static [u8]
 
 /// Writes the line of a type that is not the wanted one.
 fn write_mismatch<E: Sink>(err: &mut E, at: u32, wanted: Ty, found: Ty) -> Result<(), Failed>
-    ensures grown { IsWritten (E.written err.old) (E.written err.new) (mismatch_line at wanted found) result }
-    ensures counted { E.faults err.old ≤ E.faults err.new }
-    ensures failed { OnErr result (E.faults err.old < E.faults err.new) }
+    ensures grown { IsWritten (E.seen err.old).written (E.seen err.new).written (mismatch_line at wanted found) result }
+    ensures counted { (E.seen err.old).faults ≤ (E.seen err.new).faults }
+    ensures failed { OnErr result ((E.seen err.old).faults < (E.seen err.new).faults) }
 {
     let mut buffer = Buffer::new();
     let at = buffer.format(at).as_bytes();
@@ -107,9 +109,9 @@ fn write_mismatch<E: Sink>(err: &mut E, at: u32, wanted: Ty, found: Ty) -> Resul
 
 /// Writes the line of a variable whose type the rules leave open.
 fn write_type_free<E: Sink>(err: &mut E, node: &[u8], name: &[u8]) -> Result<(), Failed>
-    ensures grown { IsWritten (E.written err.old) (E.written err.new) (type_free_line node.now name.now) result }
-    ensures counted { E.faults err.old ≤ E.faults err.new }
-    ensures failed { OnErr result (E.faults err.old < E.faults err.new) }
+    ensures grown { IsWritten (E.seen err.old).written (E.seen err.new).written (type_free_line node.now name.now) result }
+    ensures counted { (E.seen err.old).faults ≤ (E.seen err.new).faults }
+    ensures failed { OnErr result ((E.seen err.old).faults < (E.seen err.new).faults) }
 {
     let front = b"17 type free ".as_slice();
     let dot = b".".as_slice();
@@ -119,9 +121,9 @@ fn write_type_free<E: Sink>(err: &mut E, node: &[u8], name: &[u8]) -> Result<(),
 
 /// Writes the line of a fault of names or types.
 fn write_types<E: Sink>(err: &mut E, fault: &TypeFault) -> Result<(), Failed>
-    ensures grown { IsWritten (E.written err.old) (E.written err.new) (types_line fault.now) result }
-    ensures counted { E.faults err.old ≤ E.faults err.new }
-    ensures failed { OnErr result (E.faults err.old < E.faults err.new) }
+    ensures grown { IsWritten (E.seen err.old).written (E.seen err.new).written (types_line fault.now) result }
+    ensures counted { (E.seen err.old).faults ≤ (E.seen err.new).faults }
+    ensures failed { OnErr result ((E.seen err.old).faults < (E.seen err.new).faults) }
 {
     match fault {
         TypeFault::Twice(name) => write_two(err, b"11 twice ", name.bytes()),
@@ -138,9 +140,9 @@ fn write_types<E: Sink>(err: &mut E, fault: &TypeFault) -> Result<(), Failed>
 
 /// Writes the line of a sensor that has too few rows.
 fn write_short<E: Sink>(err: &mut E, name: &[u8], have: u64, need: u64) -> Result<(), Failed>
-    ensures grown { IsWritten (E.written err.old) (E.written err.new) (short_line name.now have need) result }
-    ensures counted { E.faults err.old ≤ E.faults err.new }
-    ensures failed { OnErr result (E.faults err.old < E.faults err.new) }
+    ensures grown { IsWritten (E.seen err.old).written (E.seen err.new).written (short_line name.now have need) result }
+    ensures counted { (E.seen err.old).faults ≤ (E.seen err.new).faults }
+    ensures failed { OnErr result ((E.seen err.old).faults < (E.seen err.new).faults) }
 {
     let mut first = Buffer::new();
     let mut second = Buffer::new();
@@ -154,9 +156,9 @@ fn write_short<E: Sink>(err: &mut E, name: &[u8], have: u64, need: u64) -> Resul
 
 /// Writes the line of a limit that is passed.
 fn write_limit<E: Sink>(err: &mut E, limit: Limit) -> Result<(), Failed>
-    ensures grown { IsWritten (E.written err.old) (E.written err.new) (limit_line limit) result }
-    ensures counted { E.faults err.old ≤ E.faults err.new }
-    ensures failed { OnErr result (E.faults err.old < E.faults err.new) }
+    ensures grown { IsWritten (E.seen err.old).written (E.seen err.new).written (limit_line limit) result }
+    ensures counted { (E.seen err.old).faults ≤ (E.seen err.new).faults }
+    ensures failed { OnErr result ((E.seen err.old).faults < (E.seen err.new).faults) }
 {
     let mut buffer = Buffer::new();
     let found = buffer.format(limit.found).as_bytes();
@@ -171,9 +173,9 @@ fn write_limit<E: Sink>(err: &mut E, limit: Limit) -> Result<(), Failed>
 
 /// Writes the line of a fault of bodies.
 fn write_bodies<E: Sink>(err: &mut E, fault: &BodyFault) -> Result<(), Failed>
-    ensures grown { IsWritten (E.written err.old) (E.written err.new) (bodies_line fault.now) result }
-    ensures counted { E.faults err.old ≤ E.faults err.new }
-    ensures failed { OnErr result (E.faults err.old < E.faults err.new) }
+    ensures grown { IsWritten (E.seen err.old).written (E.seen err.new).written (bodies_line fault.now) result }
+    ensures counted { (E.seen err.old).faults ≤ (E.seen err.new).faults }
+    ensures failed { OnErr result ((E.seen err.old).faults < (E.seen err.new).faults) }
 {
     match fault {
         BodyFault::Syntax(at) => write_placed(err, b"23 body syntax at ", *at as u64),
@@ -188,9 +190,9 @@ fn write_bodies<E: Sink>(err: &mut E, fault: &BodyFault) -> Result<(), Failed>
 
 /// Writes the line of an event that breaks a rule.
 fn write_illegal<E: Sink>(err: &mut E, line: u64, rule: Rule) -> Result<(), Failed>
-    ensures grown { IsWritten (E.written err.old) (E.written err.new) (illegal_line line rule) result }
-    ensures counted { E.faults err.old ≤ E.faults err.new }
-    ensures failed { OnErr result (E.faults err.old < E.faults err.new) }
+    ensures grown { IsWritten (E.seen err.old).written (E.seen err.new).written (illegal_line line rule) result }
+    ensures counted { (E.seen err.old).faults ≤ (E.seen err.new).faults }
+    ensures failed { OnErr result ((E.seen err.old).faults < (E.seen err.new).faults) }
 {
     let mut buffer = Buffer::new();
     let line = buffer.format(line).as_bytes();
@@ -202,9 +204,9 @@ fn write_illegal<E: Sink>(err: &mut E, line: u64, rule: Rule) -> Result<(), Fail
 
 /// Writes the line of a job that has not ended.
 fn write_unfinished<E: Sink>(err: &mut E, name: &[u8], job: u64) -> Result<(), Failed>
-    ensures grown { IsWritten (E.written err.old) (E.written err.new) (unfinished_line name.now job) result }
-    ensures counted { E.faults err.old ≤ E.faults err.new }
-    ensures failed { OnErr result (E.faults err.old < E.faults err.new) }
+    ensures grown { IsWritten (E.seen err.old).written (E.seen err.new).written (unfinished_line name.now job) result }
+    ensures counted { (E.seen err.old).faults ≤ (E.seen err.new).faults }
+    ensures failed { OnErr result ((E.seen err.old).faults < (E.seen err.new).faults) }
 {
     let mut buffer = Buffer::new();
     let job = buffer.format(job).as_bytes();
@@ -216,9 +218,9 @@ fn write_unfinished<E: Sink>(err: &mut E, name: &[u8], job: u64) -> Result<(), F
 
 /// Writes the line of a schedule that is no whole run.
 fn write_schedule<E: Sink>(err: &mut E, fault: &RunFault) -> Result<(), Failed>
-    ensures grown { IsWritten (E.written err.old) (E.written err.new) (schedule_line fault.now) result }
-    ensures counted { E.faults err.old ≤ E.faults err.new }
-    ensures failed { OnErr result (E.faults err.old < E.faults err.new) }
+    ensures grown { IsWritten (E.seen err.old).written (E.seen err.new).written (schedule_line fault.now) result }
+    ensures counted { (E.seen err.old).faults ≤ (E.seen err.new).faults }
+    ensures failed { OnErr result ((E.seen err.old).faults < (E.seen err.new).faults) }
 {
     match fault {
         RunFault::Syntax(line) => write_placed(err, b"70 schedule syntax line ", *line),
@@ -227,45 +229,46 @@ fn write_schedule<E: Sink>(err: &mut E, fault: &RunFault) -> Result<(), Failed>
     }
 }
 
-/// Writes the line of a refusal.
-fn write_refusal<E: Sink>(
-    err: &mut E,
-    command: &Option<Command>,
-    refusal: &Refusal,
-) -> Result<(), Failed>
-    ensures grown { IsWritten (E.written err.old) (E.written err.new) (refusal_line command.now refusal.now) result }
-    ensures counted { E.faults err.old ≤ E.faults err.new }
-    ensures failed { OnErr result (E.faults err.old < E.faults err.new) }
+/// Writes the line of a fault.
+fn write_fault<E: Sink>(err: &mut E, command: &Option<Command>, fault: &Fault) -> Result<(), Failed>
+    ensures grown { IsWritten (E.seen err.old).written (E.seen err.new).written (line_of_fault command.now fault.now) result }
+    ensures counted { (E.seen err.old).faults ≤ (E.seen err.new).faults }
+    ensures failed { OnErr result ((E.seen err.old).faults < (E.seen err.new).faults) }
 {
-    match refusal {
-        Refusal::Absent(part) => write_two(err, b"absent ", file_name(command, *part)),
-        Refusal::TooLong(part) => write_two(err, b"too long ", file_name(command, *part)),
-        Refusal::Grammar(fault) => write_grammar(err, *fault),
-        Refusal::Types(fault) => write_types(err, fault),
-        Refusal::Bodies(fault) => write_bodies(err, fault),
-        Refusal::NotBuilt(part) => write_two(err, b"9 not built ", file_name(command, *part)),
-        Refusal::Short { name, have, need } => write_short(err, name.bytes(), *have, *need),
-        Refusal::Limit(limit) => write_limit(err, *limit),
-        Refusal::Schedule(fault) => write_schedule(err, fault),
-        Refusal::Memory => write_all(err, b"memory\n"),
+    match fault {
+        Fault::Absent(part) => write_two(err, b"absent ", file_name(command, *part)),
+        Fault::TooLong(part) => write_two(err, b"too long ", file_name(command, *part)),
+        Fault::Grammar(fault) => write_grammar(err, *fault),
+        Fault::Types(fault) => write_types(err, fault),
+        Fault::Bodies(fault) => write_bodies(err, fault),
+        Fault::NotBuilt(part) => write_two(err, b"9 not built ", file_name(command, *part)),
+        Fault::Short { name, have, need } => write_short(err, name.bytes(), *have, *need),
+        Fault::Limit(limit) => write_limit(err, *limit),
+        Fault::Schedule(fault) => write_schedule(err, fault),
     }
 }
 
-/// Writes the line that tells the ending; nothing where all is done.
-pub fn write_line<E: Sink>(
-    err: &mut E,
-    command: &Option<Command>,
-    ending: &Ending,
-) -> Result<(), Failed>
-    ensures grown { IsWritten (E.written err.old) (E.written err.new) (line_of command.now ending.now) result }
-    ensures counted { E.faults err.old ≤ E.faults err.new }
-    ensures failed { OnErr result (E.faults err.old < E.faults err.new) }
+/// Writes the line that tells why there is no text.
+fn write_stop<E: Sink>(err: &mut E, command: &Option<Command>, stop: &Stop) -> Result<(), Failed>
+    ensures grown { IsWritten (E.seen err.old).written (E.seen err.new).written (line_of_stop command.now stop.now) result }
+    ensures counted { (E.seen err.old).faults ≤ (E.seen err.new).faults }
+    ensures failed { OnErr result ((E.seen err.old).faults < (E.seen err.new).faults) }
 {
-    match ending {
-        Ending::Done => write_all(err, b""),
-        Ending::Words => write_all(err, b"usage: prelude MODE --OPTION VALUE ..\n"),
-        Ending::Unread(part) => write_two(err, b"read fault ", file_name(command, *part)),
-        Ending::Unwritten => write_all(err, b"write fault\n"),
-        Ending::Refused(refusal) => write_refusal(err, command, refusal),
+    match stop {
+        Stop::Unread(part) => write_two(err, b"read fault ", file_name(command, *part)),
+        Stop::Refused(_, fault) => write_fault(err, command, fault),
+        Stop::Memory => write_all(err, b"memory\n"),
     }
+}
+
+/// Tells on `err` how a call ended: in a line, but where all is done.
+pub fn tell<E: Sink>(err: &mut E, command: &Option<Command>, ending: &Ending)
+    ensures told { IsTold (E.seen err.old) (E.seen err.new) (line_of command.now ending.now) }
+{
+    let _ = match ending {
+        Ending::Done => Ok(()),
+        Ending::Words => write_all(err, b"usage: prelude MODE --OPTION VALUE ..\n"),
+        Ending::Stopped(stop) => write_stop(err, command, stop),
+        Ending::Unwritten => write_all(err, b"write fault\n"),
+    };
 }

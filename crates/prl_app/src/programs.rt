@@ -1,72 +1,136 @@
-//! The first stages, which modes share: from the bytes of a program to the program, with its names and types
-//! checked.
+//! The first stages after the files: the program, its names and types, and its bodies.
 
-ghost use Rattle.std.specs.Prelude.{◌≡◌, ◌≢◌, ◌<◌, ◌^◌, ℕ, List, None, MatchOption, MatchResult, IfOk, length};
-ghost use Rattle.prl_base.specs.Reading.{Gives};
+ghost use Rattle.std.specs.Prelude.{◌≡◌, ◌<◌, ◌≤◌, ◌^◌, IfOk, IfErr, length, map};
+ghost use Rattle.prl_base.specs.Reading.{GivesBut};
 ghost use Rattle.prl_ast.specs.Trees.{program_tree};
-ghost use Rattle.prl_app.specs.Outcomes.{of_parse, of_types, program_outcome, refusal_of};
-ghost use Rattle.prl_types.specs.Typing.{IsTyped, IsFault};
-ghost use Rattle.prl_base.specs.declared.values.Ty.{Ty as AnyTy};
-ghost use Rattle.prl_types.specs.declared.faults.TypeFault.{TypeFault as AnyFault};
+ghost use Rattle.prl_body.specs.Checks.{body_tree, checked};
+ghost use Rattle.prl_body.specs.Texts.{text_trees};
+ghost use Rattle.prl_names.specs.Uses.{used_imports};
+ghost use Rattle.prl_app.specs.Parts.{told_parse, told_types, told_body, IsProgram, IsMain, AreBodies};
+ghost use Rattle.prl_app.specs.Stages.{Holds};
+ghost use Rattle.prl_app.specs.code.Stops.{given_of, stop_of, StopsAt};
 
-use crate::refusals::{GrammarFault, Refusal};
+use crate::faults::{Fault, GrammarFault};
+use crate::reading::{MAX_BODIES, MAX_PROGRAM, Texts};
+use crate::stages::{Stage, Stop};
+use crate::words::Command;
 use prl_ast::Program;
-use prl_names::right_names_stand_for_something;
+use prl_body::{Bodies, BodyFault, BodyTexts, check_bodies};
+use prl_bodytext::parse_bodies;
+use prl_names::{Names, right_names_stand_for_something, used_imports};
 use prl_syntax::{ParseFault, parse};
 use prl_types::{TypeFault, check_names_types};
 use std::alloc::Global;
 
-fn of_parse(fault: ParseFault) -> Refusal
-    ensures { result ≡ of_parse fault }
-{
-    match fault {
-        ParseFault::BadToken(at) => Refusal::Grammar(GrammarFault::BadToken(at)),
-        ParseFault::Unexpected(at) => Refusal::Grammar(GrammarFault::Unexpected(at)),
-        ParseFault::NumberRange(at) => Refusal::Grammar(GrammarFault::NumberRange(at)),
-        ParseFault::Limit(limit) => Refusal::Limit(limit),
-        ParseFault::Memory => Refusal::Memory,
+impl From<ParseFault> for Stop {
+    ghost use Rattle.std.specs.Prelude.{◌≡◌};
+    ghost use Rattle.prl_app.specs.declared.stages.Stage.TheVariants.{Grammar};
+    ghost use Rattle.prl_app.specs.Parts.{told_parse};
+    ghost use Rattle.prl_app.specs.code.Stops.{stop_of};
+
+    ghost from_gives = { λ fault stop. stop ≡ stop_of Grammar (told_parse fault) };
+
+    fn from(fault: ParseFault) -> Stop {
+        let told = match fault {
+            ParseFault::BadToken(at) => Fault::Grammar(GrammarFault::BadToken(at)),
+            ParseFault::Unexpected(at) => Fault::Grammar(GrammarFault::Unexpected(at)),
+            ParseFault::NumberRange(at) => Fault::Grammar(GrammarFault::NumberRange(at)),
+            ParseFault::Limit(limit) => Fault::Limit(limit),
+            ParseFault::Memory => return Stop::Memory,
+        };
+        Stop::Refused(Stage::Grammar, told)
+    }
+}
+
+impl From<TypeFault> for Stop {
+    ghost use Rattle.std.specs.Prelude.{◌≡◌};
+    ghost use Rattle.prl_app.specs.declared.stages.Stage.TheVariants.{Types};
+    ghost use Rattle.prl_app.specs.Parts.{told_types};
+    ghost use Rattle.prl_app.specs.code.Stops.{stop_of};
+
+    ghost from_gives = { λ fault stop. stop ≡ stop_of Types (told_types fault) };
+
+    fn from(fault: TypeFault) -> Stop {
+        match fault {
+            TypeFault::Memory => Stop::Memory,
+            fault => Stop::Refused(Stage::Types, Fault::Types(fault)),
+        }
+    }
+}
+
+impl From<BodyFault> for Stop {
+    ghost use Rattle.std.specs.Prelude.{◌≡◌};
+    ghost use Rattle.prl_app.specs.declared.stages.Stage.TheVariants.{Bodies};
+    ghost use Rattle.prl_app.specs.Parts.{told_body};
+    ghost use Rattle.prl_app.specs.code.Stops.{stop_of};
+
+    ghost from_gives = { λ fault stop. stop ≡ stop_of Bodies (told_body fault) };
+
+    fn from(fault: BodyFault) -> Stop {
+        match fault {
+            BodyFault::Limit(limit) => Stop::Refused(Stage::Bodies, Fault::Limit(limit)),
+            BodyFault::Memory => Stop::Memory,
+            fault => Stop::Refused(Stage::Bodies, Fault::Bodies(fault)),
+        }
     }
 }
 
 /// The program that the text is.
-pub fn program_of(alloc: Global, text: &[u8]) -> Result<Program, Refusal>
-    requires { length text.now < 2 ^ 32 }
-    ensures { Gives program_tree refusal_of result (program_outcome text.now) }
+pub fn read_program(alloc: Global, command: &Command, texts: &Texts) -> Result<Program, Stop>
+    requires { length texts.now.program.items ≤ MAX_PROGRAM }
+    ensures found { IfOk result (λ p. IsProgram (given_of command.now texts.now) (program_tree p)) }
+    ensures holds { IfOk result (λ _. Holds (given_of command.now texts.now) Stage.Grammar) }
+    ensures stop { IfErr result (StopsAt (given_of command.now texts.now) Stage.Grammar) }
 {
-    match parse(alloc, text) {
-        Ok(program) => Ok(program),
-        Err(fault) => Err(of_parse(fault)),
-    }
-}
-
-fn of_types(fault: TypeFault) -> Refusal
-    ensures { result ≡ of_types fault }
-{
-    match fault {
-        TypeFault::Twice(name) => Refusal::Types(TypeFault::Twice(name)),
-        TypeFault::Unknown(name) => Refusal::Types(TypeFault::Unknown(name)),
-        TypeFault::Undefined(name) => Refusal::Types(TypeFault::Undefined(name)),
-        TypeFault::Recursive(name) => Refusal::Types(TypeFault::Recursive(name)),
-        TypeFault::NoMain => Refusal::Types(TypeFault::NoMain),
-        TypeFault::Arity(at) => Refusal::Types(TypeFault::Arity(at)),
-        TypeFault::Mismatch { at, wanted, found } => {
-            Refusal::Types(TypeFault::Mismatch { at, wanted, found })
-        }
-        TypeFault::TypeFree { node, name } => Refusal::Types(TypeFault::TypeFree { node, name }),
-        TypeFault::Memory => Refusal::Memory,
-    }
+    Ok(parse(alloc, &texts.program)?)
 }
 
 /// The place of the main node, where the names and the types of the program are right.
-pub fn check_program(alloc: Global, program: &Program) -> Result<u32, Refusal>
-    ensures below { IfOk result (λ main. main < length (program_tree program.now).nodes) }
-    ensures typed { MatchResult result (λ main. (types : List AnyTy) × IsTyped (program_tree program.now) None main types)
-        (λ refusal. MatchOption (refusal_of refusal) (Unit {0})
-        (λ r. (fault : AnyFault) × IsFault (program_tree program.now) None fault × (fault ≢ TypeFault.Memory) × (r ≡ of_types fault))) }
+pub fn find_main(
+    alloc: Global,
+    command: &Command,
+    texts: &Texts,
+    program: &Program,
+) -> Result<u32, Stop>
+    requires { IsProgram (given_of command.now texts.now) (program_tree program.now) }
+    ensures found { IfOk result (λ main. IsMain (given_of command.now texts.now) (program_tree program.now) main) }
+    ensures holds { IfOk result (λ _. Holds (given_of command.now texts.now) Stage.Types) }
+    ensures stop { IfErr result (StopsAt (given_of command.now texts.now) Stage.Types) }
 {
     right_names_stand_for_something();
-    match check_names_types(alloc, program, None) {
-        Ok(typed) => Ok(typed.main()),
-        Err(fault) => Err(of_types(fault)),
-    }
+    Ok(check_names_types(alloc, program, command.node.as_ref())?.main())
+}
+
+/// The bodies, checked for the imports of the program, of which the expansion of main applies some.
+fn check_texts(
+    alloc: Global,
+    program: &Program,
+    main: u32,
+    written: &BodyTexts,
+) -> Result<Bodies, BodyFault>
+    requires { main < length (program_tree program.now).nodes }
+    ensures { GivesBut BodyFault.Memory (λ bodies. map body_tree bodies) result
+        (checked (program_tree program.now).imports (used_imports (program_tree program.now) main) (text_trees written.now)) }
+{
+    let names = Names::new(alloc, program)?;
+    let used = used_imports(alloc, &names, main as usize)?;
+    check_bodies(alloc, written, program.imports.as_slice(), &used)
+}
+
+/// The bodies of the text, checked for the imports of the program: one for each that the expansion of main applies.
+pub fn read_bodies(
+    alloc: Global,
+    command: &Command,
+    texts: &Texts,
+    program: &Program,
+    main: u32,
+) -> Result<Bodies, Stop>
+    requires main { IsMain (given_of command.now texts.now) (program_tree program.now) main }
+    requires text { length texts.now.bodies.items ≤ MAX_BODIES }
+    ensures found { IfOk result (λ bodies. AreBodies (given_of command.now texts.now) (map body_tree bodies)) }
+    ensures holds { IfOk result (λ _. Holds (given_of command.now texts.now) Stage.Bodies) }
+    ensures stop { IfErr result (StopsAt (given_of command.now texts.now) Stage.Bodies) }
+{
+    let written = parse_bodies(alloc, &texts.bodies)?;
+    Ok(check_texts(alloc, program, main, &written)?)
 }

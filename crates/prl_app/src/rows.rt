@@ -10,7 +10,7 @@ use itoa::Buffer;
 use prl_base::{Value, cut_line, integer_of};
 use std::alloc::{AllocError, Global};
 
-/// What stands behind the front, where the text begins with it.
+/// What stands after the front, where the text begins with it.
 fn after_front<'a>(front: &[u8], text: &'a [u8]) -> Option<&'a [u8]>
     ensures { option_map (λ rest. rest.now) result ≡ after_front front.now text.now }
 {
@@ -39,12 +39,12 @@ pub fn rows_of(alloc: Global, name: &[u8], text: &[u8]) -> Result<Option<Vec<Val
     let lines = text.iter().filter(|byte| **byte == b'\n').count();
     let mut values = Vec::with_capacity(alloc, lines)?;
     let mut rest = text;
-    while let Some((line, behind)) = cut_line(rest) {
+    while let Some((line, later)) = cut_line(rest) {
         match row_value(name, values.len() as u64, line) {
             None => return Ok(None),
             Some(value) => values.push(value)?,
         }
-        rest = behind;
+        rest = later;
     }
     if rest.is_empty() {
         Ok(Some(values))

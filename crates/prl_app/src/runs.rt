@@ -1,14 +1,17 @@
 //! What a program and its rows ask to be computed, and the text of its actuators.
 
-ghost use Rattle.std.specs.Prelude.{◌≡◌, ◌<◌, ◌^◌, IfOk, MatchResult, [], ◌∷◌, length, map, slice_index_or};
+ghost use Rattle.std.specs.Prelude.{◌≡◌, ◌<◌, ◌≤◌, ◌^◌, IfOk, IfErr, [], ◌∷◌, length, map, slice_index_or};
 ghost use Rattle.std.specs.Vec.{vec_items};
 ghost use Rattle.prl_base.specs.Clocks.{IsClock};
 ghost use Rattle.prl_flow.specs.Programs.{IsFlat};
 ghost use Rattle.prl_flow.specs.Solutions.{AreClocks};
-ghost use Rattle.prl_app.specs.Runs.{chain_run, computation_of, IsReady, out_flow, out_flows};
-ghost use Rattle.prl_app.specs.Outcomes.{within_limit, IsTextFor, IsRefusalOf};
+ghost use Rattle.prl_flow.specs.Counts.{values_before};
+ghost use Rattle.prl_flow.specs.declared.evaluation.TheConstants.{MAX_VALUES};
+ghost use Rattle.prl_app.specs.Runs.{chain_run, computation_of, IsReady, IsFlowsText, HasManyValues, out_flow, out_flows};
+ghost use Rattle.prl_app.specs.code.Stops.{StopsBy};
 
-use crate::refusals::Refusal;
+use crate::faults::Fault;
+use crate::stages::{Stage, Stop};
 use prl_base::{FlowNo, Seq, Value};
 use prl_body::Bodies;
 use prl_chains::Chain;
@@ -96,31 +99,39 @@ fn out_flows(alloc: Global, run: &Run, table: &FlowTable) -> Result<Vec<OutFlow>
     Ok(outs)
 }
 
-/// The text of the actuators' flows. `Limit` where the flows have more than 4,000,000 values.
-pub fn run_text(alloc: Global, run: &Run) -> Result<Vec<u8>, Refusal>
+impl From<FlowFault> for Stop {
+    ghost use Rattle.std.specs.Prelude.{◌≡◌};
+    ghost use Rattle.prl_app.specs.declared.stages.Stage.TheVariants.{Values};
+    ghost use Rattle.prl_app.specs.Runs.{told_flow};
+    ghost use Rattle.prl_app.specs.code.Stops.{stop_of};
+
+    ghost from_gives = { λ fault stop. stop ≡ stop_of Values (told_flow fault) };
+
+    fn from(fault: FlowFault) -> Stop {
+        match fault {
+            FlowFault::Limit(limit) => Stop::Refused(Stage::Values, Fault::Limit(limit)),
+            FlowFault::Memory => Stop::Memory,
+        }
+    }
+}
+
+/// The text of the actuators' flows. Refused where the flows have more than `MAX_VALUES` values.
+pub fn run_text(alloc: Global, run: &Run) -> Result<Vec<u8>, Stop>
     requires ready { IsReady run.now }
     requires few { length run.now.flat.outs < 2 ^ 32 }
-    ensures { MatchResult result (λ text. IsTextFor (within_limit (computation_of run.now)) text.items) (IsRefusalOf (within_limit (computation_of run.now))) }
+    ensures text { IfOk result (λ text. IsFlowsText (computation_of run.now) text.items) }
+    ensures few { IfOk result (λ _. values_before run.now.until run.now.clocks.of ≤ MAX_VALUES) }
+    ensures stop { IfErr result (StopsBy Stage.Values (HasManyValues run.now)) }
 {
     let until = run.until as u64;
-    let table = match evaluate(
+    let table = evaluate(
         alloc,
         &run.flat,
         &run.clocks,
         &run.bodies,
         &run.sensors,
         until,
-    ) {
-        Ok(table) => table,
-        Err(FlowFault::Limit(limit)) => return Err(Refusal::Limit(limit)),
-        Err(FlowFault::Memory) => return Err(Refusal::Memory),
-    };
-    let outs = match out_flows(alloc, run, &table) {
-        Ok(outs) => outs,
-        Err(_) => return Err(Refusal::Memory),
-    };
-    match actuator_text(alloc, &outs) {
-        Ok(text) => Ok(text),
-        Err(_) => Err(Refusal::Memory),
-    }
+    )?;
+    let outs = out_flows(alloc, run, &table)?;
+    Ok(actuator_text(alloc, &outs)?)
 }

@@ -1,20 +1,17 @@
 //! The top calls: a command line, its files and its sinks, to a status.
 
-ghost use Rattle.std.specs.Prelude.{◌≡◌, ◌≢◌, ◌<◌, ◌≤◌, ◌↔◌, ◌⊎◌, List, ℕ, Option, Some, None, Ok, Err, map, IsSome, IfSome, IsNone};
+ghost use Rattle.std.specs.Prelude.{map, IsSome, IfSome, ◌≡◌, ◌≤◌};
 ghost use Rattle.std.specs.String.{string_bytes};
-ghost use Rattle.prl_app.specs.Words.{command_of};
-ghost use Rattle.prl_app.specs.Endings.{status_of, status_of_part, status_of_refusal, line_of, Ends, IsToldOn, IsAnswered, IsLater};
-ghost use Rattle.prl_app.specs.Statuses.{SaysAll};
-ghost use Rattle.prl_app.specs.declared.refusals.Refusal.{Refusal as AnyRefusal};
+ghost use Rattle.prl_app.specs.Endings.{Answers};
+ghost use Rattle.prl_app.specs.code.Performed.{Performs, line_is};
 
-use crate::answers::{Stop, answer};
-use crate::endings::Ending;
-use crate::lines::write_line;
-use crate::refusals::{Part, Refusal};
+use crate::endings::{Ending, status_of};
+use crate::laws::stages_end_one_way;
+use crate::lines::tell;
+use crate::pipeline::answer;
+use crate::stages::Stop;
 use crate::words::{Command, WordsFault, read_words};
 use prl_io::{Files, Probe, Sink, write_all};
-use prl_relays::{horizons_end_one_way, replays_end_one_way};
-use prl_types::outcome_is_unique;
 use std::alloc::Global;
 use std::sync::Wait;
 use std::thread::Threads;
@@ -28,43 +25,6 @@ pub struct Status {
     pub code: u8,
 }
 
-fn status_of_part(part: Part) -> u8
-    ensures { result ≡ status_of_part part }
-{
-    match part {
-        Part::Program => 1,
-        Part::Bodies => 1,
-        Part::Sensors => 9,
-        Part::Schedule => 8,
-    }
-}
-
-fn status_of(ending: &Ending) -> u8
-    ensures { result ≡ status_of ending.now }
-{
-    match ending {
-        Ending::Done => 0,
-        Ending::Words => 2,
-        Ending::Unread(_) => 3,
-        Ending::Unwritten => 4,
-        Ending::Refused(refusal) => status_of_refusal(refusal),
-    }
-}
-
-fn status_of_refusal(refusal: &Refusal) -> u8
-    ensures { result ≡ status_of_refusal refusal.now }
-{
-    match refusal {
-        Refusal::Absent(_) | Refusal::TooLong(_) => 7,
-        Refusal::Grammar(_) | Refusal::Types(_) | Refusal::Bodies(_) => 1,
-        Refusal::NotBuilt(part) => status_of_part(*part),
-        Refusal::Short { .. } => 9,
-        Refusal::Limit(_) => 1,
-        Refusal::Schedule(_) => 8,
-        Refusal::Memory => 6,
-    }
-}
-
 /// Does what a command asks for, but for its line on `err`.
 fn perform<F: Files, S: Sink>(
     alloc: Global,
@@ -72,40 +32,24 @@ fn perform<F: Files, S: Sink>(
     files: &mut F,
     out: &mut S,
 ) -> (Option<Command>, Ending)
-    ensures ends { Ends (map string_bytes words.now)
-        (record { folder = F.folder files.old; file_faults = F.faults files.old; out_bytes = S.written out.old; out_faults = S.faults out.old; err_bytes = None; err_faults = 0 })
-        (record { folder = F.folder files.new; file_faults = F.faults files.new; out_bytes = S.written out.new; out_faults = S.faults out.new; err_bytes = None; err_faults = 0 })
-        result.1 }
-    ensures line { line_of result.0 result.1 ≡ line_of (command_of (map string_bytes words.now)) result.1 }
-    ensures kept { F.folder files.new ≡ F.folder files.old }
-    ensures files_counted { F.faults files.old ≤ F.faults files.new }
-    ensures out_counted { S.faults out.old ≤ S.faults out.new }
+    ensures ends { Performs (map string_bytes words.now) (F.seen files.old) (F.seen files.new) (S.seen out.old) (S.seen out.new) result.1 }
+    ensures line { line_is (map string_bytes words.now) result.0 result.1 }
+    ensures kept { (F.seen files.new).folder ≡ (F.seen files.old).folder }
+    ensures counted { (F.seen files.old).faults ≤ (F.seen files.new).faults }
 {
     let command = match read_words(alloc, words) {
         Ok(command) => command,
         Err(WordsFault::Refused) => return (None, Ending::Words),
-        Err(WordsFault::Memory) => return (None, Ending::Refused(Refusal::Memory)),
+        Err(WordsFault::Memory) => return (None, Ending::Stopped(Stop::Memory)),
     };
     let text = match answer(alloc, files, &command) {
         Ok(text) => text,
-        Err(Stop::Unread(part)) => return (Some(command), Ending::Unread(part)),
-        Err(Stop::Refused(refusal)) => return (Some(command), Ending::Refused(refusal)),
+        Err(stop) => return (Some(command), Ending::Stopped(stop)),
     };
     match write_all(out, &text) {
         Ok(()) => (Some(command), Ending::Done),
         Err(_) => (Some(command), Ending::Unwritten),
     }
-}
-
-/// Tells on `err` how a call ended.
-fn tell<E: Sink>(err: &mut E, command: &Option<Command>, ending: &Ending)
-    ensures told { IsToldOn
-        (record { folder = None; file_faults = 0; out_bytes = None; out_faults = 0; err_bytes = E.written err.old; err_faults = E.faults err.old })
-        (record { folder = None; file_faults = 0; out_bytes = None; out_faults = 0; err_bytes = E.written err.new; err_faults = E.faults err.new })
-        (line_of command.now ending.now) }
-    ensures counted { E.faults err.old ≤ E.faults err.new }
-{
-    let _ = write_line(err, command, ending);
 }
 
 /// Does what the words ask for, and tells how it ended.
@@ -116,11 +60,12 @@ fn finish<F: Files, S: Sink, E: Sink>(
     out: &mut S,
     err: &mut E,
 ) -> Status
-    ensures { IsAnswered (map string_bytes words.now)
-        (record { folder = F.folder files.old; file_faults = F.faults files.old; out_bytes = S.written out.old; out_faults = S.faults out.old; err_bytes = E.written err.old; err_faults = E.faults err.old })
-        (record { folder = F.folder files.new; file_faults = F.faults files.new; out_bytes = S.written out.new; out_faults = S.faults out.new; err_bytes = E.written err.new; err_faults = E.faults err.new })
+    ensures { Answers (map string_bytes words.now)
+        (record { files = F.seen files.old; out = S.seen out.old; err = E.seen err.old })
+        (record { files = F.seen files.new; out = S.seen out.new; err = E.seen err.new })
         result.code }
 {
+    stages_end_one_way();
     let (command, ending) = perform(alloc, words, files, out);
     tell(err, &command, &ending);
     Status {
@@ -138,20 +83,13 @@ pub fn prelude_alone<F: Files, S: Sink, E: Sink>(
     err: &mut E,
 ) -> Option<Status>
     ensures ran { IsSome result }
-    // How the call ended, with its cause, its line on `err` and what it left in `out`.
-    ensures answered { IfSome result (λ status. IsAnswered (map string_bytes words.now)
-        (record { folder = F.folder files.old; file_faults = F.faults files.old; out_bytes = S.written out.old; out_faults = S.faults out.old; err_bytes = E.written err.old; err_faults = E.faults err.old })
-        (record { folder = F.folder files.new; file_faults = F.faults files.new; out_bytes = S.written out.new; out_faults = S.faults out.new; err_bytes = E.written err.new; err_faults = E.faults err.new })
-        status.code) }
-    // What each status says.
-    ensures says { IfSome result (λ status. SaysAll (map string_bytes words.now)
-        (record { folder = F.folder files.old; file_faults = F.faults files.old; out_bytes = S.written out.old; out_faults = S.faults out.old; err_bytes = E.written err.old; err_faults = E.faults err.old })
-        (record { folder = F.folder files.new; file_faults = F.faults files.new; out_bytes = S.written out.new; out_faults = S.faults out.new; err_bytes = E.written err.new; err_faults = E.faults err.new })
+    // How the call ended, with its cause, its line on `err` and what it left in `out`; and that it
+    // could not end otherwise.
+    ensures answers { IfSome result (λ status. Answers (map string_bytes words.now)
+        (record { files = F.seen files.old; out = S.seen out.old; err = E.seen err.old })
+        (record { files = F.seen files.new; out = S.seen out.new; err = E.seen err.new })
         status.code) }
 {
-    outcome_is_unique();
-    horizons_end_one_way();
-    replays_end_one_way();
     Some(finish(alloc, words, files, out, err))
 }
 
@@ -167,15 +105,11 @@ pub fn prelude<R: Threads + Wait + Sync, F: Files, S: Sink, E: Sink, P: Probe>(
     err: &mut E,
     _probe: &P,
 ) -> Status
-    // How the call ended, with its cause, its line on `err` and what it left in `out`.
-    ensures answered { IsAnswered (map string_bytes words.now)
-        (record { folder = F.folder files.old; file_faults = F.faults files.old; out_bytes = S.written out.old; out_faults = S.faults out.old; err_bytes = E.written err.old; err_faults = E.faults err.old })
-        (record { folder = F.folder files.new; file_faults = F.faults files.new; out_bytes = S.written out.new; out_faults = S.faults out.new; err_bytes = E.written err.new; err_faults = E.faults err.new })
-        result.code }
-    // What each status says.
-    ensures says { SaysAll (map string_bytes words.now)
-        (record { folder = F.folder files.old; file_faults = F.faults files.old; out_bytes = S.written out.old; out_faults = S.faults out.old; err_bytes = E.written err.old; err_faults = E.faults err.old })
-        (record { folder = F.folder files.new; file_faults = F.faults files.new; out_bytes = S.written out.new; out_faults = S.faults out.new; err_bytes = E.written err.new; err_faults = E.faults err.new })
+    // How the call ended, with its cause, its line on `err` and what it left in `out`; and that it
+    // could not end otherwise.
+    ensures answers { Answers (map string_bytes words.now)
+        (record { files = F.seen files.old; out = S.seen out.old; err = E.seen err.old })
+        (record { files = F.seen files.new; out = S.seen out.new; err = E.seen err.new })
         result.code }
 {
     match prelude_alone(alloc, words, files, out, err) {

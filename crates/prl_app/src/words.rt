@@ -1,11 +1,10 @@
 //! The words of the command line.
 
-ghost use Rattle.std.specs.Prelude.{◌≡◌, ◌<◌, ◌≤◌, ◌^◌, map, IfOk, IfSome, IsSome, Err};
+ghost use Rattle.std.specs.Prelude.{◌≡◌, ◌<◌, ◌≤◌, ◌^◌, map, IfOk, IfSome, IsSome, Some, Err, None};
 ghost use Rattle.std.specs.Option.{option_map};
 ghost use Rattle.std.specs.String.{string_bytes};
-ghost use Rattle.prl_base.specs.Reading.{Gives};
-ghost use Rattle.prl_app.specs.Words.{is_value, number_up_to, option_at, at_end, last_option, flows_at, print_at, replay_at, mode_at, command_of, meaning_of, words_fault};
-ghost use Rattle.prl_app.specs.OptionViews.{named};
+ghost use Rattle.prl_app.specs.Words.{is_value, number_up_to, option_at, at_end, mode_named, needs, may, name_of, nothing, with_value, needed, taken_or, allowed, date_of, command_with, command_of_mode, command_of};
+ghost use Rattle.prl_app.specs.code.Settings.{given, named};
 
 use prl_base::{Label, decimal_of};
 use std::alloc::{AllocError, Global};
@@ -24,6 +23,23 @@ pub enum Mode {
     Replay,
 }
 
+/// What an option of the command line gives.
+#[derive(Clone, Copy, Debug, PartialEq, Eq)]
+pub enum Setting {
+    /// `--program`: the file of the program.
+    Program,
+    /// `--bodies`: the file of the bodies of imported nodes.
+    Bodies,
+    /// `--sensors`: the file of the sensor rows.
+    Sensors,
+    /// `--schedule`: the file of the schedule.
+    Schedule,
+    /// `--node`: the name of the main node.
+    Node,
+    /// `--until`: the date up to which the mode runs, in ticks.
+    Until,
+}
+
 /// What the words of a command line ask for. An option that is not given is None, and a number that is
 /// not given is 0.
 #[derive(Debug, Drop)]
@@ -37,6 +53,8 @@ pub struct Command {
     pub sensors: Option<Label>,
     /// The file of the schedule.
     pub schedule: Option<Label>,
+    /// The name of the main node; where none is given it is the last node of the program.
+    pub node: Option<Label>,
     /// The date up to which the mode runs, in ticks.
     pub until: u32,
 }
@@ -60,7 +78,7 @@ impl From<AllocError> for WordsFault {
     }
 }
 
-/// A word of a command line that is the value of an option, and the words behind it.
+/// A word of a command line that is the value of an option, and the words after it.
 type Taken<'a> = (&'a [u8], &'a [String]);
 
 fn is_value(word: &[u8]) -> bool
@@ -105,124 +123,187 @@ fn option_at<'a>(name: &[u8], words: &'a [String]) -> Option<Taken<'a>>
     }
 }
 
-/// A mode and what its options name.
+/// The values of options, where they are given.
 #[derive(Clone, Copy)]
-struct Options<'a> {
-    mode: Mode,
-    program: &'a [u8],
+struct Values<'a> {
+    program: Option<&'a [u8]>,
     bodies: Option<&'a [u8]>,
     sensors: Option<&'a [u8]>,
     schedule: Option<&'a [u8]>,
-    until: u32,
+    node: Option<&'a [u8]>,
+    until: Option<&'a [u8]>,
 }
 
-/// The options, where no word is left behind them.
-fn at_end<'a>(options: Options<'a>, rest: &[String]) -> Option<Options<'a>>
-    ensures exact { option_map named result ≡ at_end (named options.entry) (map string_bytes rest.now) }
-    ensures until { IfSome result (λ o. o.until ≡ options.entry.until) }
-{
-    match rest {
-        [] => Some(options),
-        [_, ..] => None,
-    }
-}
+/// Values of options, and the words after them.
+type Read<'a> = (Values<'a>, &'a [String]);
 
-/// The value of the option of this name, where it is all that the words are; None where there are none.
-fn last_option<'a>(name: &[u8], words: &'a [String]) -> Option<Option<&'a [u8]>>
-    ensures { option_map (option_map (λ bytes. bytes.now)) result ≡ last_option name.now (map string_bytes words.now) }
+/// The mode of a name.
+fn mode_named(name: &[u8]) -> Option<Mode>
+    ensures { result ≡ mode_named name.now }
 {
-    if words.is_empty() {
-        return Some(None);
-    }
-    match option_at(name, words) {
-        Some((value, [])) => Some(Some(value)),
-        Some((_, [_, ..])) => None,
-        None => None,
-    }
-}
-
-#[tactic(auto, unfolding(crate::specs::Words::flows_at))]
-fn flows_at<'a>(words: &'a [String]) -> Option<Options<'a>>
-    ensures exact { option_map named result ≡ flows_at (map string_bytes words.now) }
-    ensures until { IfSome result (λ o. o.until < 2 ^ 31) }
-{
-    let (program, rest) = option_at(b"--program", words)?;
-    let (sensors, rest) = option_at(b"--sensors", rest)?;
-    let (until, rest) = option_at(b"--until", rest)?;
-    let until = number_up_to(MAX_UNTIL, until)?;
-    let bodies = last_option(b"--bodies", rest)?;
-    Some(Options {
-        mode: Mode::Flows,
-        program,
-        bodies,
-        sensors: Some(sensors),
-        schedule: None,
-        until,
-    })
-}
-
-#[tactic(auto, unfolding(crate::specs::Words::replay_at))]
-fn replay_at<'a>(words: &'a [String]) -> Option<Options<'a>>
-    ensures exact { option_map named result ≡ replay_at (map string_bytes words.now) }
-    ensures until { IfSome result (λ o. o.until < 2 ^ 31) }
-{
-    let (program, rest) = option_at(b"--program", words)?;
-    let (sensors, rest) = option_at(b"--sensors", rest)?;
-    let (schedule, rest) = option_at(b"--schedule", rest)?;
-    let (until, rest) = option_at(b"--until", rest)?;
-    let until = number_up_to(MAX_UNTIL, until)?;
-    let bodies = last_option(b"--bodies", rest)?;
-    Some(Options {
-        mode: Mode::Replay,
-        program,
-        bodies,
-        sensors: Some(sensors),
-        schedule: Some(schedule),
-        until,
-    })
-}
-
-#[tactic(auto, unfolding(crate::specs::Words::print_at))]
-fn print_at<'a>(words: &'a [String]) -> Option<Options<'a>>
-    ensures exact { option_map named result ≡ print_at (map string_bytes words.now) }
-    ensures until { IfSome result (λ o. o.until < 2 ^ 31) }
-{
-    let (program, rest) = option_at(b"--program", words)?;
-    at_end(
-        Options {
-            mode: Mode::Print,
-            program,
-            bodies: None,
-            sensors: None,
-            schedule: None,
-            until: 0,
-        },
-        rest,
-    )
-}
-
-/// The options of the mode of this name.
-fn mode_at<'a>(mode: &[u8], words: &'a [String]) -> Option<Options<'a>>
-    ensures exact { option_map named result ≡ mode_at mode.now (map string_bytes words.now) }
-    ensures until { IfSome result (λ o. o.until < 2 ^ 31) }
-{
-    if mode == b"flows".as_slice() {
-        flows_at(words)
-    } else if mode == b"print".as_slice() {
-        print_at(words)
-    } else if mode == b"replay".as_slice() {
-        replay_at(words)
+    if name == b"flows".as_slice() {
+        Some(Mode::Flows)
+    } else if name == b"print".as_slice() {
+        Some(Mode::Print)
+    } else if name == b"replay".as_slice() {
+        Some(Mode::Replay)
     } else {
         None
     }
 }
 
-fn options_of<'a>(words: &'a [String]) -> Option<Options<'a>>
+/// The options that a mode needs, in their order.
+fn needs(mode: Mode) -> &'static [Setting]
+    ensures { result.now ≡ needs mode }
+{
+    match mode {
+        Mode::Print => &[Setting::Program],
+        Mode::Flows => &[Setting::Program, Setting::Sensors, Setting::Until],
+        Mode::Replay => &[
+            Setting::Program,
+            Setting::Sensors,
+            Setting::Schedule,
+            Setting::Until,
+        ],
+    }
+}
+
+/// The options that may follow, in their order.
+fn may(mode: Mode) -> &'static [Setting]
+    ensures { result.now ≡ may mode }
+{
+    match mode {
+        Mode::Print => &[],
+        Mode::Flows => &[Setting::Bodies, Setting::Node],
+        Mode::Replay => &[Setting::Bodies, Setting::Node],
+    }
+}
+
+/// How an option is written.
+fn name_of(setting: Setting) -> &'static [u8]
+    ensures { result.now ≡ name_of setting }
+{
+    match setting {
+        Setting::Program => b"--program",
+        Setting::Bodies => b"--bodies",
+        Setting::Sensors => b"--sensors",
+        Setting::Schedule => b"--schedule",
+        Setting::Node => b"--node",
+        Setting::Until => b"--until",
+    }
+}
+
+/// No option is given.
+fn nothing<'a>() -> Values<'a>
+    ensures { given result ≡ nothing }
+{
+    Values {
+        program: None,
+        bodies: None,
+        sensors: None,
+        schedule: None,
+        node: None,
+        until: None,
+    }
+}
+
+/// The values with one more.
+fn with_value<'a>(values: Values<'a>, setting: Setting, value: &'a [u8]) -> Values<'a>
+    ensures { given result ≡ with_value (given values.entry) setting value.now }
+{
+    let mut more = values;
+    match setting {
+        Setting::Program => more.program = Some(value),
+        Setting::Bodies => more.bodies = Some(value),
+        Setting::Sensors => more.sensors = Some(value),
+        Setting::Schedule => more.schedule = Some(value),
+        Setting::Node => more.node = Some(value),
+        Setting::Until => more.until = Some(value),
+    }
+    more
+}
+
+/// The values of these options, which stand at the front of the words in their order.
+fn needed<'a>(settings: &[Setting], values: Values<'a>, words: &'a [String]) -> Option<Read<'a>>
+    ensures { option_map (λ r. (given r.0, map string_bytes r.1.now)) result ≡ needed settings.now (given values.entry) (map string_bytes words.now) }
+{
+    match settings {
+        [] => Some((values, words)),
+        [first, rest @ ..] => {
+            let (value, left) = option_at(name_of(*first), words)?;
+            needed(rest, with_value(values, *first, value), left)
+        }
+    }
+}
+
+/// The values of those of these options that stand at the front of the words, in their order.
+fn allowed<'a>(settings: &[Setting], values: Values<'a>, words: &'a [String]) -> Read<'a>
+    ensures { (given result.0, map string_bytes result.1.now) ≡ allowed settings.now (given values.entry) (map string_bytes words.now) }
+{
+    match settings {
+        [] => (values, words),
+        [first, rest @ ..] => match option_at(name_of(*first), words) {
+            None => allowed(rest, values, words),
+            Some((value, left)) => allowed(rest, with_value(values, *first, value), left),
+        },
+    }
+}
+
+/// The values, where no word is left after them.
+fn at_end<'a>(read: Read<'a>) -> Option<Values<'a>>
+    ensures { option_map given result ≡ at_end (given read.entry.0, map string_bytes read.entry.1.now) }
+{
+    match read.1 {
+        [] => Some(read.0),
+        [_, ..] => None,
+    }
+}
+
+/// The date of the command, 0 where none is given.
+fn date_of(text: Option<&[u8]>) -> Option<u32>
+    ensures exact { result ≡ date_of (option_map (λ bytes. bytes.now) text.entry) }
+    ensures until { IfSome result (λ until. until < 2 ^ 31) }
+{
+    match text {
+        None => Some(0),
+        Some(text) => number_up_to(MAX_UNTIL, text),
+    }
+}
+
+/// A mode, the values of its options, and its date.
+#[derive(Clone, Copy)]
+struct Wanted<'a> {
+    mode: Mode,
+    values: Values<'a>,
+    until: u32,
+}
+
+/// What is wanted of a mode with these options.
+#[tactic(auto, unfolding(crate::specs::Words::command_of_mode))]
+fn wanted_of_mode<'a>(mode: Mode, words: &'a [String]) -> Option<Wanted<'a>>
+    ensures exact { option_map named result ≡ command_of_mode mode (map string_bytes words.now) }
+    ensures until { IfSome result (λ wanted. wanted.until < 2 ^ 31) }
+{
+    let (values, rest) = needed(needs(mode), nothing(), words)?;
+    let values = at_end(allowed(may(mode), values, rest))?;
+    let until = date_of(values.until)?;
+    Some(Wanted {
+        mode,
+        values,
+        until,
+    })
+}
+
+/// What the words want.
+fn read_wanted<'a>(words: &'a [String]) -> Option<Wanted<'a>>
     ensures exact { option_map named result ≡ command_of (map string_bytes words.now) }
-    ensures until { IfSome result (λ o. o.until < 2 ^ 31) }
+    ensures until { IfSome result (λ wanted. wanted.until < 2 ^ 31) }
 {
     match words {
-        [_, mode, rest @ ..] => mode_at(mode.as_bytes(), rest),
+        [_, mode, rest @ ..] => {
+            let mode = mode_named(mode.as_bytes())?;
+            wanted_of_mode(mode, rest)
+        }
         [_] => None,
         [] => None,
     }
@@ -237,25 +318,26 @@ fn label_of(alloc: Global, name: Option<&[u8]>) -> Result<Option<Label>, AllocEr
     }
 }
 
-/// The command that the words ask for. The first word is the program's own name and is not read. The
-/// others are `flows --program NAME --sensors NAME --until N`, `print --program NAME` or
-/// `replay --program NAME --sensors NAME --schedule NAME --until N`, in this order, and behind `flows` or `replay`
-/// may stand `--bodies NAME`: a NAME is not empty and does not begin with `-`, and N has 1 to 20 digits and is at
-/// most 2147483647.
+/// The command that the words ask for. The first word is the program's own name and is not read, and the second is the
+/// mode. Its options follow, each in two words: those that the mode needs, and then any of those that it may have, in the
+/// order of the tables. A value is not empty and does not begin with `-`; a date has 1 to 20 digits and is at most
+/// `MAX_UNTIL`.
 pub fn read_words(alloc: Global, words: &[String]) -> Result<Command, WordsFault>
-    ensures exact { Gives (λ c. c) words_fault result (meaning_of (command_of (map string_bytes words.now))) }
-    ensures until { IfOk result (λ c. c.until < 2 ^ 31) }
+    ensures found { IfOk result (λ command. command_of (map string_bytes words.now) ≡ Some command) }
+    ensures until { IfOk result (λ command. command.until < 2 ^ 31) }
+    ensures refused { result ≡ Err WordsFault.Refused → command_of (map string_bytes words.now) ≡ None }
     ensures memory { result ≡ Err WordsFault.Memory → IsSome (command_of (map string_bytes words.now)) }
 {
-    let Some(options) = options_of(words) else {
+    let Some(wanted) = read_wanted(words) else {
         return Err(WordsFault::Refused);
     };
     Ok(Command {
-        mode: options.mode,
-        program: Some(Label::new(alloc, options.program)?),
-        bodies: label_of(alloc, options.bodies)?,
-        sensors: label_of(alloc, options.sensors)?,
-        schedule: label_of(alloc, options.schedule)?,
-        until: options.until,
+        mode: wanted.mode,
+        program: label_of(alloc, wanted.values.program)?,
+        bodies: label_of(alloc, wanted.values.bodies)?,
+        sensors: label_of(alloc, wanted.values.sensors)?,
+        schedule: label_of(alloc, wanted.values.schedule)?,
+        node: label_of(alloc, wanted.values.node)?,
+        until: wanted.until,
     })
 }

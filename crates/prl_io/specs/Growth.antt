@@ -2,7 +2,7 @@
 use Rattle.std.specs.Prelude.{◌≡◌, ◌<◌, ◌++◌, ℕ, List, [], length, take, Option, Some, None, Result, Ok, Err}
 use Rattle.prl_io.specs.declared.writing.Failed.{Failed}
 
--- the bytes with this text behind them
+-- the bytes with this text after them
 abbrev pub appended : Option (List ℕ) → List ℕ → Option (List ℕ)
 appended None text = None
 appended (Some bytes) text = Some (bytes ++ text)

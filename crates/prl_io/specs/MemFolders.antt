@@ -6,15 +6,17 @@ use Rattle.prl_io.specs.declared.reading.FileFault.TheVariants as faults
 use Rattle.prl_io.specs.Numbering.{following, fails_at}
 use Rattle.prl_io.specs.Folders.{reading_of}
 
--- the files by name and bytes, the numbers of the calls that fail, the number of the next call, and the count of faults
+-- the files by name and bytes, the numbers of the calls that fail, the number of the next call, and the counts of
+-- readings that did not fail and of faults
 pub record MemFolder : Type 0 where
   pub entries : List (List ℕ × List ℕ)
   pub fails : List ℕ
   pub next : Option ℕ
+  pub reads : ℕ
   pub faults : ℕ
 
 abbrev pub fresh_folder : List (List ℕ × List ℕ) → List ℕ → MemFolder
-fresh_folder entries fails = record { entries = entries; fails = fails; next = Some 0; faults = 0 }
+fresh_folder entries fails = record { entries = entries; fails = fails; next = Some 0; reads = 0; faults = 0 }
 
 -- the bytes of the first entry of this name
 abbrev pub held : List (List ℕ × List ℕ) → List ℕ → Option (List ℕ)
@@ -33,4 +35,8 @@ read_in folder name most =
 -- the folder after a reading
 abbrev pub after_read : MemFolder → MemFolder
 after_read folder =
-    record folder { next = following folder.next; faults = folder.faults + (if refuses folder then 1 else 0) }
+    record folder {
+      next = following folder.next;
+      reads = folder.reads + (if refuses folder then 0 else 1);
+      faults = folder.faults + (if refuses folder then 1 else 0);
+    }

@@ -1,6 +1,6 @@
 //! Files of the host.
 
-ghost use Rattle.std.specs.Prelude.{◌≡◌, ◌+◌, None};
+ghost use Rattle.std.specs.Prelude.{◌≡◌, ◌≤◌, IfOk, None, vec_len};
 
 use super::fault_count::FaultCount;
 use super::reading::{FileFault, Files};
@@ -16,25 +16,20 @@ use std::rt::Runtime;
 #[derive(Drop)]
 pub struct HostFiles<'a, R: Runtime> {
     rt: &'a R,
+    reads: FaultCount,
     count: FaultCount,
 }
 
 impl<'a, R: Runtime> HostFiles<'a, R> {
     /// The files that this runtime reaches. It takes no memory.
     pub fn new(rt: &'a R) -> HostFiles<'a, R>
-        ensures { ⟦<HostFiles<'a, R> as Files>⟧.faults result ≡ 0 }
+        ensures { (⟦<HostFiles<'a, R> as Files>⟧.seen result).faults ≡ 0 }
     {
         HostFiles {
             rt,
+            reads: FaultCount::new(),
             count: FaultCount::new(),
         }
-    }
-
-    fn fault(&mut self) -> FileFault
-        ensures { self.new.count.total ≡ self.old.count.total + 1 }
-    {
-        self.count = FaultCount::one_more(&self.count);
-        FileFault::Failed
     }
 }
 
@@ -45,25 +40,36 @@ fn bytes_of<F: Read + Drop>(alloc: Global, file: F, most: u64) -> io::Result<Vec
     Ok(bytes)
 }
 
-impl<R: Runtime> Files for HostFiles<'_, R> {
-    ghost folder = { λ _. None };
+/// The bytes of the file at the path that the name is, if they are at most `most`.
+fn read_at<R: Runtime>(alloc: Global, rt: &R, name: &Label, most: u64) -> Result<Vec<u8>, FileFault>
+    ensures { IfOk result (λ bytes. vec_len bytes ≤ most) }
+{
+    let Ok(path) = str::from_utf8(name.bytes()) else {
+        return Err(FileFault::Failed);
+    };
+    let file = match File::open(rt, path) {
+        Ok(file) => file,
+        Err(error) if error.kind() == ErrorKind::NotFound => return Err(FileFault::Absent),
+        Err(_) => return Err(FileFault::Failed),
+    };
+    match bytes_of(alloc, file, most) {
+        Ok(bytes) if bytes.len() as u64 > most => Err(FileFault::TooLong),
+        Ok(bytes) => Ok(bytes),
+        Err(error) if error.kind() == ErrorKind::OutOfMemory => Err(FileFault::Memory),
+        Err(_) => Err(FileFault::Failed),
+    }
+}
 
-    ghost faults = { λ f. f.count.total };
+impl<R: Runtime> Files for HostFiles<'_, R> {
+    ghost seen = { λ f. record { folder = None; reads = f.reads.total; faults = f.count.total } };
 
     fn read(&mut self, alloc: Global, name: &Label, most: u64) -> Result<Vec<u8>, FileFault> {
-        let Ok(path) = str::from_utf8(name.bytes()) else {
-            return Err(self.fault());
-        };
-        let file = match File::open(self.rt, path) {
-            Ok(file) => file,
-            Err(error) if error.kind() == ErrorKind::NotFound => return Err(FileFault::Absent),
-            Err(_) => return Err(self.fault()),
-        };
-        match bytes_of(alloc, file, most) {
-            Ok(bytes) if bytes.len() as u64 > most => Err(FileFault::TooLong),
-            Ok(bytes) => Ok(bytes),
-            Err(error) if error.kind() == ErrorKind::OutOfMemory => Err(FileFault::Memory),
-            Err(_) => Err(self.fault()),
+        let answer = read_at(alloc, self.rt, name, most);
+        if answer == Err(FileFault::Failed) {
+            self.count = FaultCount::one_more(&self.count);
+        } else {
+            self.reads = FaultCount::one_more(&self.reads);
         }
+        answer
     }
 }

@@ -17,7 +17,7 @@ pub struct HostSink<W: Write + Drop> {
 impl<W: Write + Drop> HostSink<W> {
     /// A sink over this writer. It takes no memory.
     pub fn new(writer: W) -> HostSink<W>
-        ensures { ⟦<HostSink<W> as Sink>⟧.faults result ≡ 0 }
+        ensures { (⟦<HostSink<W> as Sink>⟧.seen result).faults ≡ 0 }
     {
         HostSink {
             writer,
@@ -34,9 +34,7 @@ impl<W: Write + Drop> HostSink<W> {
 }
 
 impl<W: Write + Drop> Sink for HostSink<W> {
-    ghost written = { λ _. None };
-
-    ghost faults = { λ s. s.count.total };
+    ghost seen = { λ s. record { written = None; faults = s.count.total } };
 
     fn write(&mut self, piece: &[u8]) -> Result<usize, Failed> {
         let count = match self.writer.write(piece) {

@@ -12,8 +12,6 @@ mod mem_sink;
 mod numbering;
 mod probing;
 mod reading;
-#[cfg(test)]
-mod tests;
 mod writing;
 
 pub use host_files::HostFiles;

@@ -1,6 +1,6 @@
 //! Files in memory.
 
-ghost use Rattle.std.specs.Prelude.{◌≡◌, ◌∷◌, [], ℕ, List, Option, Some, vec_items, map};
+ghost use Rattle.std.specs.Prelude.{◌≡◌, ◌≢◌, ◌+◌, ◌∷◌, [], ℕ, Err, List, Option, Some, vec_items, map};
 ghost use Rattle.prl_base.specs.Reading.{Gives};
 ghost use Rattle.prl_io.specs.Folders.{file_fault};
 ghost use Rattle.std.specs.Option.{option_copied};
@@ -20,6 +20,7 @@ use std::marker::Model;
 pub struct MemFiles {
     entries: Vec<(Label, Vec<u8>)>,
     calls: Calls,
+    reads: FaultCount,
     count: FaultCount,
 }
 
@@ -33,6 +34,7 @@ impl Model for MemFiles {
       entries = map (λ entry. (entry.0, entry.1.items)) m.entries.items;
       fails = m.calls.fails.items;
       next = m.calls.next;
+      reads = m.reads.total;
       faults = m.count.total;
     } };
 }
@@ -47,6 +49,7 @@ impl MemFiles {
         MemFiles {
             entries,
             calls: Calls::new(fails),
+            reads: FaultCount::new(),
             count: FaultCount::new(),
         }
     }
@@ -55,18 +58,19 @@ impl MemFiles {
 impl Files for MemFiles {
     ghost use Rattle.prl_io.specs.MemFolders.{read_in, after_read};
 
-    ghost folder = { λ m. Some (held m.entries) };
-
-    ghost faults = { λ m. m.faults };
+    ghost seen = { λ m. record { folder = Some (held m.entries); reads = m.reads; faults = m.faults } };
 
     fn read(&mut self, alloc: Global, name: &Label, most: u64) -> Result<Vec<u8>, FileFault>
         ensures answer { Gives vec_items file_fault result (read_in self.old name.now most) }
         ensures state { self.new ≡ after_read self.old }
+        ensures unread { result ≡ Err FileFault.Failed → self.new.reads ≡ self.old.reads }
+        ensures read { result ≢ Err FileFault.Failed → self.new.reads ≡ self.old.reads + 1 }
     {
         if self.calls.fails_now() {
             self.count = FaultCount::one_more(&self.count);
             return Err(FileFault::Failed);
         }
+        self.reads = FaultCount::one_more(&self.reads);
         match find(&self.entries, name) {
             None => Err(FileFault::Absent),
             Some(bytes) if bytes.len() as u64 > most => Err(FileFault::TooLong),

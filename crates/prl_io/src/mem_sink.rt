@@ -66,9 +66,7 @@ impl MemSink {
 impl Sink for MemSink {
     ghost use Rattle.prl_io.specs.MemStores.{write_in, after_write};
 
-    ghost written = { λ m. Some m.bytes };
-
-    ghost faults = { λ m. m.faults };
+    ghost seen = { λ m. record { written = Some m.bytes; faults = m.faults } };
 
     fn write(&mut self, piece: &[u8]) -> Result<usize, Failed>
         ensures answer { result ≡ write_in self.old piece.now }

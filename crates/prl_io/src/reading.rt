@@ -1,8 +1,9 @@
 //! Files that are read by their names.
 
-ghost use Rattle.std.specs.Prelude.{◌≡◌, ◌<◌, ◌≤◌, ℕ, List, Option, Err, IfOk, IfSome, vec_len, vec_items};
+ghost use Rattle.std.specs.Prelude.{◌≡◌, ◌≢◌, ◌<◌, ◌≤◌, ◌+◌, Err, IfOk, IfSome, vec_len, vec_items};
 ghost use Rattle.prl_base.specs.Reading.{Gives};
 ghost use Rattle.prl_io.specs.Folders.{reading_of, told_fault};
+ghost use Rattle.prl_io.specs.Views.{FolderView};
 
 use prl_base::Label;
 use std::alloc::Global;
@@ -22,18 +23,18 @@ pub enum FileFault {
 
 /// A folder of files that no reading changes.
 pub trait Files {
-    /// The bytes of the file of each name, where this is known.
-    ghost folder: { Self → Option (List ℕ → Option (List ℕ)) };
-
-    /// How many faults there have been.
-    ghost faults: { Self → ℕ };
+    /// The bytes of the file of each name, where this is known; how many readings did not fail; and
+    /// how many faults there have been.
+    ghost seen: { Self → FolderView };
 
     /// The bytes of the file of this name, if they are at most `most`.
     fn read(&mut self, alloc: Global, name: &Label, most: u64) -> Result<Vec<u8>, FileFault>
         ensures most { IfOk result (λ bytes. vec_len bytes ≤ most) }
-        ensures answer { IfSome (folder self.old)
+        ensures answer { IfSome (seen self.old).folder
             (λ folder. Gives vec_items told_fault result (reading_of (folder name.now) most)) }
-        ensures kept { folder self.new ≡ folder self.old }
-        ensures counted { faults self.old ≤ faults self.new }
-        ensures failed { result ≡ Err FileFault.Failed → faults self.old < faults self.new };
+        ensures kept { (seen self.new).folder ≡ (seen self.old).folder }
+        ensures counted { (seen self.old).faults ≤ (seen self.new).faults }
+        ensures failed { result ≡ Err FileFault.Failed → (seen self.old).faults < (seen self.new).faults }
+        ensures unread { result ≡ Err FileFault.Failed → (seen self.new).reads ≡ (seen self.old).reads }
+        ensures read { result ≢ Err FileFault.Failed → (seen self.new).reads ≡ (seen self.old).reads + 1 };
 }

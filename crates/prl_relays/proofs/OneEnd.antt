@@ -1,7 +1,6 @@
 -- A replay comes to one end.
 use Rattle.std.proofs.Common.{◌≡◌, ◌≢◌, ◌%◌, ℕ, zero, suc, List, [], ◌∷◌, Option, Some, Result, Ok, Err, refl, sym, ap, ◌∙◌, subst, arith}
 use Rattle.std.specs.Prelude.{filter}
-use Rattle.prl_base.specs.declared.limits.Limit.{Limit}
 use Rattle.prl_base.specs.declared.numbers.CellNo.{CellNo}
 use Rattle.prl_base.specs.declared.numbers.EdgeNo.{EdgeNo}
 use Rattle.prl_base.specs.declared.numbers.TaskNo.{TaskNo}
@@ -27,7 +26,7 @@ use Rattle.prl_relays.specs.declared.relays.RelayFault.{RelayFault}
 use Rattle.prl_relays.specs.declared.relays.RelayFault.TheVariants as faults
 use Rattle.prl_relays.specs.Relays.{Relay, relay_plan, output_of, machine, replay_lines, of_fault, IsHorizonOf, IsOutput, IsReplayText, IsNoRun, IsRelayFault}
 use Rattle.prl_relays.proofs.Legality.{BreaksAt, legal_none_broken, one_break, complete_finished, one_unfinished}
-use Rattle.prl_relays.proofs.HorizonLimits.{one_horizon, horizon_within, one_limit}
+use Rattle.prl_relays.proofs.HorizonLimits.{one_horizon}
 
 -- a first fault, as a break of a rule
 breaks : (core : CoreView) (list : List Event) (line : ℕ) (rule : Rule) (h : IsReplayFault core list (replays.Illegal line rule))
@@ -100,14 +99,10 @@ told_unfinished task job e = cc
 
 -- where there is a text, there is no refusal but want of memory
 pub text_has_no_fault : (r : Relay) (schedule text : List ℕ) (fault : RelayFault) → IsReplayText r schedule text → IsRelayFault r schedule fault → fault ≡ faults.Memory
-text_has_no_fault r schedule text (faults.Limit limit) h k = absurd (horizon_within (relay_plan r.chain) r.until h.horizon limit h.of_plan.0 h.of_plan.1 k)
 text_has_no_fault r schedule text (faults.Syntax line) h k = absurd (not_both _ h.events (lines.Syntax line) h.written k.2)
 text_has_no_fault r schedule text (faults.Illegal line rule) h k = absurd (run_has_no_fault r schedule text (replays.Illegal line rule) h k (told_illegal line rule))
 text_has_no_fault r schedule text (faults.Unfinished task job) h k = absurd (run_has_no_fault r schedule text (replays.Unfinished task job) h k (told_unfinished task job))
 text_has_no_fault r schedule text faults.Memory h k = refl
-
-no_run_within : (r : Relay) (schedule : List ℕ) (fault : ReplayFault) (limit : Limit) → IsNoRun r schedule fault → IsRelayFault r schedule (faults.Limit limit) → ⊥
-no_run_within r schedule fault limit h k = horizon_within (relay_plan r.chain) r.until h.horizon limit h.of_plan.0 h.of_plan.1 k
 
 no_run_written : (r : Relay) (schedule : List ℕ) (fault : ReplayFault) (line : ℕ) → IsNoRun r schedule fault → IsRelayFault r schedule (faults.Syntax line) → ⊥
 no_run_written r schedule fault line h k = not_both _ h.events (lines.Syntax line) h.written k.2
@@ -116,24 +111,16 @@ no_run_written r schedule fault line h k = not_both _ h.events (lines.Syntax lin
 pub one_relay_fault : (r : Relay) (schedule : List ℕ) (a b : RelayFault) → IsRelayFault r schedule a → IsRelayFault r schedule b → a ≢ faults.Memory
     → b ≢ faults.Memory → a ≡ b
 one_relay_fault r s faults.Memory b h k p q = absurd (p refl)
-one_relay_fault r s (faults.Limit x) (faults.Limit y) h k p q = ap faults.Limit (one_limit (relay_plan r.chain) r.until x y h k)
-one_relay_fault r s (faults.Limit x) (faults.Syntax y) h k p q = absurd (horizon_within (relay_plan r.chain) r.until k.0 x k.1.0 k.1.1 h)
-one_relay_fault r s (faults.Limit x) (faults.Illegal line rule) h k p q = absurd (no_run_within r s (replays.Illegal line rule) x k h)
-one_relay_fault r s (faults.Limit x) (faults.Unfinished task job) h k p q = absurd (no_run_within r s (replays.Unfinished task job) x k h)
-one_relay_fault r s (faults.Limit x) faults.Memory h k p q = absurd (q refl)
-one_relay_fault r s (faults.Syntax x) (faults.Limit y) h k p q = absurd (horizon_within (relay_plan r.chain) r.until h.0 y h.1.0 h.1.1 k)
 one_relay_fault r s (faults.Syntax x) (faults.Syntax y) h k p q = ap faults.Syntax (same_line _ x y h.2 k.2)
 one_relay_fault r s (faults.Syntax x) (faults.Illegal line rule) h k p q = absurd (no_run_written r s (replays.Illegal line rule) x k h)
 one_relay_fault r s (faults.Syntax x) (faults.Unfinished task job) h k p q = absurd (no_run_written r s (replays.Unfinished task job) x k h)
 one_relay_fault r s (faults.Syntax x) faults.Memory h k p q = absurd (q refl)
-one_relay_fault r s (faults.Illegal line rule) (faults.Limit y) h k p q = absurd (no_run_within r s (replays.Illegal line rule) y h k)
 one_relay_fault r s (faults.Illegal line rule) (faults.Syntax y) h k p q = absurd (no_run_written r s (replays.Illegal line rule) y h k)
 one_relay_fault r s (faults.Illegal line rule) (faults.Illegal other broken) h k p q =
     ap of_fault (one_run_fault r s (replays.Illegal line rule) (replays.Illegal other broken) h k (told_illegal line rule) (told_illegal other broken))
 one_relay_fault r s (faults.Illegal line rule) (faults.Unfinished task job) h k p q =
     ap of_fault (one_run_fault r s (replays.Illegal line rule) (replays.Unfinished task job) h k (told_illegal line rule) (told_unfinished task job))
 one_relay_fault r s (faults.Illegal line rule) faults.Memory h k p q = absurd (q refl)
-one_relay_fault r s (faults.Unfinished task job) (faults.Limit y) h k p q = absurd (no_run_within r s (replays.Unfinished task job) y h k)
 one_relay_fault r s (faults.Unfinished task job) (faults.Syntax y) h k p q = absurd (no_run_written r s (replays.Unfinished task job) y h k)
 one_relay_fault r s (faults.Unfinished task job) (faults.Illegal other broken) h k p q =
     ap of_fault (one_run_fault r s (replays.Unfinished task job) (replays.Illegal other broken) h k (told_unfinished task job) (told_illegal other broken))

@@ -15,7 +15,7 @@ use Rattle.prl_plan.specs.declared.events.Event.{Event}
 use Rattle.prl_plan.specs.declared.horizons.Horizon.{Horizon}
 use Rattle.prl_plan.specs.Plans.{PlanView}
 use Rattle.prl_plan.specs.TwoTasks.{two_plan}
-use Rattle.prl_plan.specs.Horizons.{IsHorizon, IsPastLimit, constants_of}
+use Rattle.prl_plan.specs.Horizons.{IsHorizon, constants_of}
 use Rattle.prl_plan.specs.Runs.{opening}
 use Rattle.prl_core.specs.declared.seen.Seen.{Seen}
 use Rattle.prl_core.specs.declared.seen.Seen.TheVariants as sights
@@ -147,16 +147,14 @@ of_fault replays.Memory = faults.Memory
 
 -- The text is no schedule of these tasks, and this is its first line that is no event.
 abbrev pub IsUnwritten : List (List ℕ) → List ℕ → RelayFault → Type 0
-IsUnwritten names schedule (faults.Limit limit) = ⊥
 IsUnwritten names schedule (faults.Syntax line) = schedule_of names schedule ≡ Err (lines.Syntax line)
 IsUnwritten names schedule (faults.Illegal line rule) = ⊥
 IsUnwritten names schedule (faults.Unfinished task job) = ⊥
 IsUnwritten names schedule faults.Memory = Unit {0}
 
--- When a replay is refused: first by the horizon, then by the text of the schedule, and then by its events. Want of memory is
+-- When a replay is refused: first by the text of the schedule, and then by its events. Want of memory is
 -- free.
 abbrev pub IsRelayFault : Relay → List ℕ → RelayFault → Type 0
-IsRelayFault r schedule (faults.Limit limit) = IsPastLimit (relay_plan r.chain) r.until limit
 IsRelayFault r schedule (faults.Syntax line) =
     (horizon : Horizon) × IsHorizonOf r horizon × (schedule_of (task_names r.chain) schedule ≡ Err (lines.Syntax line))
 IsRelayFault r schedule (faults.Illegal line rule) = IsNoRun r schedule (replays.Illegal line rule)

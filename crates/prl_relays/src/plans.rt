@@ -1,15 +1,14 @@
 //! The plan of a chain's sensor and actuator, and the names of these two tasks.
 
-ghost use Rattle.std.specs.Prelude.{◌≡◌, IfOk, IsTrue, MatchOption};
+ghost use Rattle.std.specs.Prelude.{◌≡◌, IfOk, IsTrue};
 ghost use Rattle.std.specs.Vec.{vec_items};
 ghost use Rattle.prl_chains.specs.Facts.{IsChain};
-ghost use Rattle.prl_plan.specs.declared.horizons.Horizon.{Horizon as AnyHorizon};
-ghost use Rattle.prl_plan.specs.Horizons.{IsPastLimit};
-ghost use Rattle.prl_relays.specs.Relays.{is_in_time, relay_plan, task_names, IsHorizonUpTo};
+ghost use Rattle.prl_plan.specs.Plans.{IsPlan};
+ghost use Rattle.prl_relays.specs.Relays.{is_in_time, relay_plan, task_names};
 
-use prl_base::{Label, Limit};
+use prl_base::Label;
 use prl_chains::Chain;
-use prl_plan::{Horizon, Plan};
+use prl_plan::Plan;
 use std::alloc::{AllocError, Global};
 
 /// Whether the chain only hands its input on, and the WCETs of its two devices together are at most the input's period.
@@ -22,10 +21,11 @@ pub fn is_in_time(chain: &Chain) -> bool
 }
 
 /// The plan of the chain's sensor and actuator.
-pub(crate) fn plan_of(alloc: Global, chain: &Chain) -> Result<Plan, AllocError>
+pub fn plan_of(alloc: Global, chain: &Chain) -> Result<Plan, AllocError>
     requires chain { IsChain chain.now }
     requires in_time { IsTrue (is_in_time chain.now) }
-    ensures { IfOk result (λ plan. plan ≡ relay_plan chain.now) }
+    ensures value { IfOk result (λ plan. plan ≡ relay_plan chain.now) }
+    ensures plan { IfOk result IsPlan }
 {
     let sensor = chain.flat.in_name(0).bytes();
     let actuator = chain.flat.out_name(0).bytes();
@@ -33,21 +33,6 @@ pub(crate) fn plan_of(alloc: Global, chain: &Chain) -> Result<Plan, AllocError>
     let wcet_in = chain.flat.in_wcet(0);
     let wcet_out = chain.flat.out_wcet(0);
     Plan::two(alloc, sensor, actuator, period, wcet_in, wcet_out)
-}
-
-/// The limit that the horizon of the chain's plan up to a date in ticks passes, if it passes one: that of the jobs, or else that
-/// of the events.
-pub fn horizon_limit(alloc: Global, chain: &Chain, until: u32) -> Result<Option<Limit>, AllocError>
-    requires chain { IsChain chain.now }
-    requires in_time { IsTrue (is_in_time chain.now) }
-    ensures { IfOk result (λ limit. MatchOption limit
-        ((horizon : AnyHorizon) × IsHorizonUpTo chain.now until horizon) (IsPastLimit (relay_plan chain.now) until)) }
-{
-    let plan = plan_of(alloc, chain)?;
-    match Horizon::new(&plan, until) {
-        Ok(_) => Ok(None),
-        Err(limit) => Ok(Some(limit)),
-    }
 }
 
 /// The names of the tasks: those of the devices.

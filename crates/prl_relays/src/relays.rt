@@ -8,10 +8,10 @@ ghost use Rattle.prl_replay.specs.Schedules.{schedule_of, IsOfTasks};
 ghost use Rattle.prl_plan.specs.Horizons.{IsHorizon};
 ghost use Rattle.prl_relays.specs.Relays.{relay_plan, out_flow, of_fault, IsReady, IsReplayText, IsRelayFault, IsUnwritten};
 
-use crate::plans::{plan_of, task_names};
+use crate::plans::task_names;
 use crate::reads::reads_text;
 use crate::runs::replayed;
-use prl_base::{Label, Limit, Seq, TaskNo, Value};
+use prl_base::{Label, Seq, TaskNo, Value};
 use prl_chains::Chain;
 use prl_flow::OutFlow;
 use prl_plan::{Event, Horizon, Plan, Rule};
@@ -22,8 +22,6 @@ use std::alloc::{AllocError, Global};
 /// Why there is no replay.
 #[derive(Clone, Copy, Debug, PartialEq, Eq)]
 pub enum RelayFault {
-    /// The horizon has too many jobs, or else too many events.
-    Limit(Limit),
     /// The line of this number, counted from 1, is no event of the schedule.
     Syntax(u64),
     /// The event of this line, counted from 1, is the first that breaks a rule, and this is the first rule that it breaks.
@@ -96,8 +94,12 @@ fn output_rows(alloc: Global, chain: &Chain, outputs: Vec<Value>) -> Result<Vec<
     actuator_text(alloc, &outs)
 }
 
-/// The replay of a schedule in a horizon of the chain's plan.
-fn scheduled(
+/// The replay of a schedule, in a horizon of the chain's plan: a line `read TASK JOB PORT INSTANCE CELL VALUE` for each read, in
+/// order, and then the rows `NAME,INSTANCE,DATE,VALUE` of the actuator by date. The values are those of the sensor's instances,
+/// from 0 on, one for each date of the input or more, and the chain is one that
+/// `is_in_time` takes. Refused are, in this order: a line that is no event, the first event that breaks a rule, and the first
+/// job that has not ended.
+pub fn replay_text(
     alloc: Global,
     chain: &Chain,
     values: Vec<Value>,
@@ -122,26 +124,4 @@ fn scheduled(
     };
     let rows = output_rows(alloc, chain, run.outputs)?;
     Ok(reads_text(alloc, &names, &run.reads, &rows)?)
-}
-
-/// The replay of a schedule, below the date `until` in ticks: a line `read TASK JOB PORT INSTANCE CELL VALUE` for each read, in
-/// order, and then the rows `NAME,INSTANCE,DATE,VALUE` of the actuator by date. The values are those of the sensor's instances,
-/// from 0 on, one for each date of the input or more, and the chain is one that `is_in_time` takes. Refused are, in this order: a horizon past a limit, a line that is no event, the first event that breaks a rule,
-/// and the first job that has not ended.
-pub fn replay_text(
-    alloc: Global,
-    chain: &Chain,
-    values: Vec<Value>,
-    until: u32,
-    schedule: &[u8],
-) -> Result<Vec<u8>, RelayFault>
-    requires { IsReady (record { chain = chain.now; values = values.items; until = until }) }
-    ensures { MatchResult result (λ text. IsReplayText (record { chain = chain.now; values = values.items; until = until }) schedule.now text.items)
-        (IsRelayFault (record { chain = chain.now; values = values.items; until = until }) schedule.now) }
-{
-    let plan = plan_of(alloc, chain)?;
-    match Horizon::new(&plan, until) {
-        Ok(horizon) => scheduled(alloc, chain, values, &plan, horizon, schedule),
-        Err(limit) => Err(RelayFault::Limit(limit)),
-    }
 }

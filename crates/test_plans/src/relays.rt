@@ -8,8 +8,8 @@ use crate::schedules::{WHOLE, WHOLE_CELLS};
 use prl_base::{TaskNo, Value};
 use prl_chains::{Chain, chain_of};
 use prl_flow::dates_before;
-use prl_plan::Rule;
-use prl_relays::{RelayFault, is_in_time, replay_text};
+use prl_plan::{Horizon, Rule};
+use prl_relays::{RelayFault, is_in_time, plan_of, replay_text};
 use prl_syntax::parse;
 use std::alloc::Global;
 use std::test::Fail;
@@ -28,11 +28,12 @@ fn chain(alloc: Global) -> Result<Chain, Fail>
 fn outcome_of(alloc: Global, schedule: &str) -> Result<Result<Vec<u8>, RelayFault>, Fail> {
     let chain = chain(alloc)?;
     let values = vec![in alloc; Value::Int(1), Value::Int(2)]?;
-    if is_in_time(&chain) && dates_before(20, chain.input_clock()) <= 2 {
-        Ok(replay_text(alloc, &chain, values, 20, schedule.as_bytes()))
-    } else {
-        Err(Fail::from("not in time"))
+    if !is_in_time(&chain) || dates_before(20, chain.input_clock()) > 2 {
+        return Err(Fail::from("not in time"));
     }
+    let plan = plan_of(alloc, &chain)?;
+    let horizon = Horizon::new(&plan, 20).ok().ok_or("past a limit")?;
+    Ok(replay_text(alloc, &chain, values, &plan, horizon, schedule.as_bytes()))
 }
 
 #[test]

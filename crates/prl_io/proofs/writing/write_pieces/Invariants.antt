@@ -6,5 +6,5 @@ use Rattle.prl_io.proofs.writing.write_pieces.Given as goal
 -- the pieces so far are written
 abbrev pub invariant-loop-piece : goal.invariant-loop-piece
 invariant-loop-piece g l =
-    (g.S.Sink.written l.sink ≡ appended (g.S.Sink.written l.initial.sink) (flat_map (λ piece. piece.now) (take l.piece-index l.pieces)))
-    × (g.S.Sink.faults l.initial.sink ≤ g.S.Sink.faults l.sink)
+    ((g.S.Sink.seen l.sink).written ≡ appended ((g.S.Sink.seen l.initial.sink).written) (flat_map (λ piece. piece.now) (take l.piece-index l.pieces)))
+    × ((g.S.Sink.seen l.initial.sink).faults ≤ (g.S.Sink.seen l.sink).faults)

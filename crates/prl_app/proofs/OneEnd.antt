@@ -1,0 +1,239 @@
+-- A list of stages comes to one end.
+use Rattle.std.proofs.Common.{◌≡◌, ◌≢◌, ◌<◌, ◌≤◌, ◌⊎◌, ℕ, true, false, List, [], ◌∷◌, length, Option, Some, None, Result, Ok, Err, refl, sym, ap, ◌∙◌, inl, inr, subst, arith}
+use Rattle.std.specs.Prelude.{Bool, IsTrue}
+use Rattle.prl_base.specs.declared.limits.Limit.{Limit}
+use Rattle.prl_base.specs.declared.values.Ty.{Ty}
+use Rattle.prl_base.specs.declared.values.Value.{Value}
+use Rattle.prl_ast.specs.Trees.{ProgramTree}
+use Rattle.prl_syntax.specs.Parsing.{parse_of}
+use Rattle.prl_syntax.specs.declared.parsing.ParseFault.{ParseFault}
+use Rattle.prl_types.specs.declared.faults.TypeFault.{TypeFault}
+use Rattle.prl_types.specs.declared.faults.TypeFault.TheVariants as typing
+use Rattle.prl_types.specs.Typing.{IsTyped, IsFault, IsOutcome}
+use Rattle.prl_body.specs.declared.faults.BodyFault.{BodyFault}
+use Rattle.prl_chains.specs.declared.chains.Chain.{Chain}
+use Rattle.prl_chains.specs.Chains.{chain_of}
+use Rattle.prl_flow.specs.declared.evaluation.TheConstants.{MAX_VALUES}
+use Rattle.prl_flow.specs.Programs.{name_of}
+use Rattle.prl_flow.specs.Counts.{values_before}
+use Rattle.prl_plan.specs.declared.events.Event.{Event}
+use Rattle.prl_plan.specs.declared.horizons.Horizon.{Horizon}
+use Rattle.prl_plan.specs.Horizons.{IsPastLimit}
+use Rattle.prl_plan.specs.Rules.{IsLegal, IsComplete}
+use Rattle.prl_core.specs.Machine.{constants}
+use Rattle.prl_replay.specs.Schedules.{schedule_of}
+use Rattle.prl_replay.specs.Replays.{after_all}
+use Rattle.prl_relays.specs.declared.relays.RelayFault.{RelayFault}
+use Rattle.prl_relays.specs.declared.relays.RelayFault.TheVariants as relays
+use Rattle.prl_relays.specs.Relays.{Relay, machine, is_in_time, relay_plan, task_names, IsReady, IsHorizonOf, IsHorizonUpTo, IsReplayText, IsRelayFault}
+use Rattle.prl_app.specs.declared.faults.Part.TheVariants as parts
+use Rattle.prl_app.specs.declared.faults.Fault.{Fault}
+use Rattle.prl_app.specs.declared.faults.Fault.TheVariants as faults
+use Rattle.prl_app.specs.declared.stages.Stage.{Stage}
+use Rattle.prl_app.specs.declared.stages.Stage.TheVariants as stages
+use Rattle.prl_app.specs.Given.{Given, content_of, text_of}
+use Rattle.prl_app.specs.Parts.{IsProgram, IsMain, AreBodies, bodies_for, told_parse, told_types, told_body}
+use Rattle.prl_app.specs.Rows.{rows_of}
+use Rattle.prl_app.specs.Runs.{too_many}
+use Rattle.prl_app.specs.Built.{IsFormed, IsTimely, HasHorizon, AreRows, HasRows, HasNoRows, HasFewRows, IsWholeRun, need, short_by, relay_of, told_relay}
+use Rattle.prl_app.specs.Stages.{Holds, Refuses, Comes}
+
+-- the laws of the crates below
+pub record Laws : Type 0 where
+  pub one : (p : ProgramTree) (main : Option (List ℕ)) (r s : Result (ℕ × List Ty) TypeFault)
+      → r ≢ Err typing.Memory → s ≢ Err typing.Memory → IsOutcome p main r → IsOutcome p main s → r ≡ s
+  pub horizon_or_limit : (chain : Chain) (until : ℕ) (horizon : Horizon) (limit : Limit) → IsHorizonUpTo chain until horizon
+      → IsPastLimit (relay_plan chain) until limit → ⊥
+  pub one_limit : (chain : Chain) (until : ℕ) (a b : Limit) → IsPastLimit (relay_plan chain) until a → IsPastLimit (relay_plan chain) until b → a ≡ b
+  pub replay_or_fault : (r : Relay) (schedule text : List ℕ) (fault : RelayFault) → IsReplayText r schedule text → IsRelayFault r schedule fault → fault ≡ relays.Memory
+  pub one_fault : (r : Relay) (schedule : List ℕ) (a b : RelayFault) → IsRelayFault r schedule a → IsRelayFault r schedule b → a ≢ relays.Memory → b ≢ relays.Memory → a ≡ b
+  pub whole_run : (r : Relay) (horizon : Horizon) (schedule : List ℕ) (events : List Event) → IsReady r → IsHorizonOf r horizon
+      → schedule_of (task_names r.chain) schedule ≡ Ok events → IsLegal (constants (machine r horizon)) (machine r horizon).state events
+      → IsComplete (constants (machine r horizon)) (after_all (machine r horizon) events).state → (text : List ℕ) × IsReplayText r schedule text
+
+ok_ok : {A F : Type 0} (r : Result A F) (a b : A) → r ≡ Ok a → r ≡ Ok b → a ≡ b
+ok_ok r a b h k = cc
+
+err_err : {A F : Type 0} (r : Result A F) (a b : F) → r ≡ Err a → r ≡ Err b → a ≡ b
+err_err r a b h k = cc
+
+ok_err : {A F : Type 0} (r : Result A F) (a : A) (b : F) → r ≡ Ok a → r ≡ Err b → ⊥
+ok_err r a b h k = cc
+
+some_some : {A : Type 0} (r : Option A) (a b : A) → r ≡ Some a → r ≡ Some b → a ≡ b
+some_some r a b h k = cc
+
+some_none : {A : Type 0} (r : Option A) (a : A) → r ≡ Some a → r ≡ None → ⊥
+some_none r a h k = cc
+
+true_false : (b : Bool) → b ≡ true → b ≡ false → ⊥
+true_false b h k = cc
+
+-- what is told is no want of memory
+types_told : (cause : TypeFault) (fault : Fault) → told_types cause ≡ Some fault → cause ≢ typing.Memory
+types_told cause fault e m = let none : told_types cause ≡ None = ap told_types m in cc
+
+relay_told : (c : Chain) (cause : RelayFault) (fault : Fault) → told_relay c cause ≡ Some fault → cause ≢ relays.Memory
+relay_told c cause fault e m = let none : told_relay c cause ≡ None = ap (told_relay c) m in cc
+
+abbrev failed : TypeFault → Result (ℕ × List Ty) TypeFault
+failed fault = Err fault
+
+abbrev typed_as : ℕ × List Ty → Result (ℕ × List Ty) TypeFault
+typed_as t = Ok t
+
+err_same : (a b : TypeFault) → failed a ≡ failed b → a ≡ b
+err_same a b e = cc
+
+ok_main : (a b : ℕ × List Ty) → typed_as a ≡ typed_as b → a.0 ≡ b.0
+ok_main a b e = cc
+
+no_ok_err : (t : ℕ × List Ty) (fault : TypeFault) → typed_as t ≡ failed fault → ⊥
+no_ok_err t fault e = cc
+
+told : (fault : TypeFault) → fault ≢ typing.Memory → failed fault ≢ failed typing.Memory
+told fault some e = some (err_same fault typing.Memory e)
+
+module _ (law : Laws) (g : Given) where
+  typed_is_no_fault : (p : ProgramTree) (node : ℕ) (types : List Ty) (fault : TypeFault) → IsTyped p g.node node types → IsFault p g.node fault → fault ≢ typing.Memory → ⊥
+  typed_is_no_fault p node types fault typed h some =
+      no_ok_err (node, types) fault (law.one p g.node (Ok (node, types)) (Err fault) (λ m. no_ok_err (node, types) typing.Memory m) (told fault some) typed h)
+
+  one_type_fault : (p : ProgramTree) (a b : TypeFault) → IsFault p g.node a → IsFault p g.node b → a ≢ typing.Memory → b ≢ typing.Memory → a ≡ b
+  one_type_fault p a b h k x y = err_same a b (law.one p g.node (Err a) (Err b) (told a x) (told b y) h k)
+
+  one_node : (p : ProgramTree) (a b : ℕ) (s t : List Ty) → IsTyped p g.node a s → IsTyped p g.node b t → a ≡ b
+  one_node p a b s t h k =
+      ok_main (a, s) (b, t) (law.one p g.node (Ok (a, s)) (Ok (b, t)) (λ m. no_ok_err (a, s) typing.Memory m) (λ m. no_ok_err (b, t) typing.Memory m) h k)
+
+  one_program : (p q : ProgramTree) → IsProgram g p → IsProgram g q → p ≡ q
+  one_program p q h k = ok_ok (parse_of (text_of g parts.Program)) p q h.read k.read
+
+  one_main : (p : ProgramTree) (main : ℕ) (q : ProgramTree) (other : ℕ) → IsMain g p main → IsMain g q other → main ≡ other
+  one_main p main q other h k =
+      let same = one_program q p k.program h.program in
+      let typed : IsTyped p g.node other k.types = subst (λ (x : ProgramTree). IsTyped x g.node other k.types) same k.typed in
+      one_node p main other h.types k.types h.typed typed
+
+  -- the bodies of two texts that are one
+  moved_bodies : (p : ProgramTree) (main : ℕ) (q : ProgramTree) (other : ℕ) (r : Result _ BodyFault) → IsMain g p main → IsMain g q other
+      → bodies_for p main (text_of g parts.Bodies) ≡ r → bodies_for q other (text_of g parts.Bodies) ≡ r
+  moved_bodies p main q other r h k e =
+      let at = subst (λ (x : ProgramTree). bodies_for x main (text_of g parts.Bodies) ≡ r) (one_program p q h.program k.program) e in
+      subst (λ (x : ℕ). bodies_for q x (text_of g parts.Bodies) ≡ r) (one_main p main q other h k) at
+
+  one_chain : (a b : Chain) → IsFormed g a → IsFormed g b → a ≡ b
+  one_chain a b h k =
+      let same = one_program k.program h.program k.is_program h.is_program in
+      some_some (chain_of h.program) a b h.formed (subst (λ (x : ProgramTree). chain_of x ≡ Some b) same k.formed)
+
+  abbrev rows_text : Chain → Option (List Value)
+  rows_text c = rows_of (name_of c.flat.in_devices 0) (text_of g parts.Sensors)
+
+  one_rows : (a b : Chain) (xs ys : List Value) → AreRows g a xs → AreRows g b ys → xs ≡ ys
+  one_rows a b xs ys h k =
+      let same = one_chain b a k.formed h.formed in
+      some_some (rows_text a) xs ys h.rows (subst (λ (c : Chain). rows_text c ≡ Some ys) same k.rows)
+
+  -- a fault of the schedule for one chain and its rows is one for any
+  moved_fault : (a b : Chain) (xs ys : List Value) (cause : RelayFault) → AreRows g a xs → AreRows g b ys
+      → IsRelayFault (relay_of g a xs) (text_of g parts.Schedule) cause → IsRelayFault (relay_of g b ys) (text_of g parts.Schedule) cause
+  moved_fault a b xs ys cause h k fault =
+      let at = subst (λ (vs : List Value). IsRelayFault (relay_of g a vs) (text_of g parts.Schedule) cause) (one_rows a b xs ys h k) fault in
+      subst (λ (c : Chain). IsRelayFault (relay_of g c ys) (text_of g parts.Schedule) cause) (one_chain a b h.formed k.formed) at
+
+  timely_true : (c : Chain) → is_in_time c ≡ true → IsTrue (is_in_time c)
+  timely_true c e = rw e refl
+
+  -- a whole run has a text
+  whole_text : (c : Chain) (values : List Value) (h : Horizon) → IsWholeRun g c values h → (text : List ℕ) × IsReplayText (relay_of g c values) (text_of g parts.Schedule) text
+  whole_text c values h w =
+      law.whole_run (relay_of g c values) h (text_of g parts.Schedule) w.events
+      (record { chain = w.has_horizon.timely.formed.is_chain; in_time = timely_true c w.has_horizon.timely.timely; values = w.rows.each })
+      w.has_horizon.horizon w.written w.legal w.complete
+
+  apart : (s : Stage) (f : Fault) → Holds g s → Refuses g s f → ⊥
+  apart (stages.File part) f h k = ok_err (content_of g part) h.0 f h.1 k
+  apart stages.Grammar f h k = ok_err (parse_of (text_of g parts.Program)) h.0 k.0 h.1.read k.1
+  apart stages.Types f h k =
+      let same = one_program k.0 h.0 k.1 h.2.program in
+      typed_is_no_fault h.0 h.1 h.2.types k.2 h.2.typed (subst (λ (p : ProgramTree). IsFault p g.node k.2) same k.3) (types_told k.2 f k.4)
+  apart stages.Bodies f h k =
+      let at = moved_bodies k.0 k.1 h.1.program h.1.main (Err k.3) k.2 h.1.is_main k.4 in
+      ok_err (bodies_for h.1.program h.1.main (text_of g parts.Bodies)) h.0 k.3 h.1.read at
+  apart stages.Form f h k =
+      let same = one_program k.0 h.1.program k.1 h.1.is_program in
+      some_none (chain_of h.1.program) h.0 h.1.formed (subst (λ (p : ProgramTree). chain_of p ≡ None) same k.2)
+  apart stages.Timing f h k =
+      let late : is_in_time h.0 ≡ false = subst (λ (c : Chain). is_in_time c ≡ false) (one_chain k.0 h.0 k.1 h.1.formed) k.2 in
+      true_false (is_in_time h.0) h.1.timely late
+  apart stages.Horizon f h k =
+      let same = one_chain k.0 h.0 k.1.formed h.2.timely.formed in
+      law.horizon_or_limit h.0 g.until h.1 k.2 h.2.horizon (subst (λ (c : Chain). IsPastLimit (relay_plan c) g.until k.2) same k.3)
+  apart stages.Rows f h k = elim k.2 [
+    | inl none ↦ some_none (rows_text h.0) h.1 h.2.are.rows (subst (λ (c : Chain). rows_text c ≡ None) (one_chain k.0 h.0 k.1 h.2.are.formed) none.0)
+    | inr few ↦
+        let chains = one_chain k.0 h.0 k.1 h.2.are.formed in
+        let values = one_rows k.0 h.0 few.0 h.1 few.1 h.2.are in
+        let short : length h.1 < need g k.0 = subst (λ (xs : List Value). length xs < need g k.0) values few.2 in
+        let short : length h.1 < need g h.0 = subst (λ (c : Chain). length h.1 < need g c) chains short in
+        let enough = h.2.enough in omega (arith, short, enough)
+  ]
+  apart stages.Schedule f h k =
+      let text = whole_text h.0 h.1 h.2 h.3 in
+      let fault = moved_fault k.0 h.0 k.1 h.1 k.3 k.2.are h.3.rows.are k.4 in
+      relay_told k.0 k.3 f k.5 (law.replay_or_fault (relay_of g h.0 h.1) (text_of g parts.Schedule) text.0 k.3 text.1 fault)
+  apart stages.Values f h k =
+      let few = h.2 in
+      let many = subst (λ (c : Chain). MAX_VALUES < values_before g.until c.clocks.of) (one_chain k.0 h.0 k.1 h.1) k.2 in omega (arith, few, many)
+
+  abbrev RowsFault : Chain → Fault → Type 0
+  RowsFault c f = HasNoRows g c f ⊎ HasFewRows g c f
+
+  one_rows_fault : (c d : Chain) (a b : Fault) → c ≡ d → RowsFault c a → RowsFault d b → a ≡ b
+  one_rows_fault c d a b e x y = elim x [
+    | inl u ↦ elim y [
+      | inl v ↦ u.1 ∙ sym v.1
+      | inr v ↦ absurd (some_none (rows_text d) v.0 v.1.rows (subst (λ (c : Chain). rows_text c ≡ None) e u.0))
+    ]
+    | inr u ↦ elim y [
+      | inl v ↦ absurd (some_none (rows_text c) u.0 u.1.rows (subst (λ (c : Chain). rows_text c ≡ None) (sym e) v.0))
+      | inr v ↦
+          u.3 ∙ ap (short_by g c) (one_rows c d u.0 v.0 u.1 v.1) ∙ ap (λ (x : Chain). short_by g x v.0) e ∙ sym v.3
+    ]
+  ]
+
+  one : (s : Stage) (a b : Fault) → Refuses g s a → Refuses g s b → a ≡ b
+  one (stages.File part) a b h k = err_err (content_of g part) a b h k
+  one stages.Grammar a b h k =
+      some_some (told_parse k.0) a b (ap told_parse (err_err (parse_of (text_of g parts.Program)) k.0 h.0 k.1 h.1) ∙ h.3) k.3
+  one stages.Types a b h k =
+      let same = one_program k.0 h.0 k.1 h.1 in
+      let fault = subst (λ (p : ProgramTree). IsFault p g.node k.2) same k.3 in
+      some_some (told_types k.2) a b (ap told_types (one_type_fault h.0 k.2 h.2 fault h.3 (types_told k.2 b k.4) (types_told h.2 a h.4)) ∙ h.4) k.4
+  one stages.Bodies a b h k =
+      let at = moved_bodies k.0 k.1 h.0 h.1 (Err k.3) k.2 h.2 k.4 in
+      some_some (told_body k.3) a b (ap told_body (err_err (bodies_for h.0 h.1 (text_of g parts.Bodies)) k.3 h.3 at h.4) ∙ h.5) k.5
+  one stages.Form a b h k = h.3 ∙ sym k.3
+  one stages.Timing a b h k = h.3 ∙ sym k.3
+  one stages.Horizon a b h k =
+      let same = one_chain k.0 h.0 k.1.formed h.1.formed in
+      let limit = subst (λ (c : Chain). IsPastLimit (relay_plan c) g.until k.2) same k.3 in
+      h.4 ∙ ap faults.Limit (law.one_limit h.0 g.until h.2 k.2 h.3 limit) ∙ sym k.4
+  one stages.Rows a b h k = one_rows_fault h.0 k.0 a b (one_chain h.0 k.0 h.1 k.1) h.2 k.2
+  one stages.Schedule a b h k =
+      let fault = moved_fault k.0 h.0 k.1 h.1 k.3 k.2.are h.2.are k.4 in
+      let same = law.one_fault (relay_of g h.0 h.1) (text_of g parts.Schedule) h.3 k.3 h.4 fault (relay_told h.0 h.3 a h.5) (relay_told k.0 k.3 b k.5) in
+      let chains = one_chain h.0 k.0 h.2.are.formed k.2.are.formed in
+      let here = subst (λ (c : Chain). told_relay c h.3 ≡ Some a) chains h.5 in
+      some_some (told_relay k.0 k.3) a b (ap (told_relay k.0) (sym same) ∙ here) k.5
+  one stages.Values a b h k =
+      h.3 ∙ ap (λ (c : Chain). too_many (values_before g.until c.clocks.of)) (one_chain h.0 k.0 h.1 k.1) ∙ sym k.3
+
+  -- a list of stages comes to one end
+  pub one_end : (list : List Stage) (a b : Option (Stage × Fault)) → Comes g list a → Comes g list b → a ≡ b
+  one_end [] a b ha hb = ha ∙ sym hb
+  one_end (stage ∷ rest) a b ha hb = elim ha [
+    | inl h ↦ elim hb [ inl k ↦ one_end rest a b h.1 k.1 | inr k ↦ absurd (apart stage k.0 h.0 k.1) ]
+    | inr h ↦ elim hb [ inl k ↦ absurd (apart stage h.0 k.0 h.1) | inr k ↦ h.2 ∙ ap (λ f. Some (stage, f)) (one stage h.0 k.0 h.1 k.1) ∙ sym k.2 ]
+  ]

@@ -1,0 +1,214 @@
+-- Stops of stages, of lists of stages and of files.
+use Rattle.std.proofs.Common.{◌≡◌, ◌≢◌, ◌<◌, ◌≤◌, ◌+◌, ◌++◌, ℕ, List, [], ◌∷◌, Option, Some, None, IsSome, Result, Ok, Err, refl, sym, ap, ◌∙◌, inl, inr, subst, arith}
+use Rattle.std.specs.Prelude.{IfOk, IfErr}
+use Rattle.prl_base.specs.Reading.{◌>>=◌}
+use Rattle.prl_ast.specs.Trees.{ProgramTree}
+use Rattle.prl_io.specs.Views.{FolderView}
+use Rattle.prl_syntax.specs.declared.parsing.ParseFault.{ParseFault}
+use Rattle.prl_syntax.specs.declared.parsing.ParseFault.TheVariants as parsing
+use Rattle.prl_syntax.specs.Parsing.{parse_of, Explains}
+use Rattle.prl_names.specs.Uses.{used_imports}
+use Rattle.prl_types.specs.declared.faults.TypeFault.{TypeFault}
+use Rattle.prl_types.specs.declared.faults.TypeFault.TheVariants as typing
+use Rattle.prl_types.specs.Typing.{IsFault}
+use Rattle.prl_body.specs.declared.faults.BodyFault.{BodyFault}
+use Rattle.prl_body.specs.declared.faults.BodyFault.TheVariants as body_faults
+use Rattle.prl_body.specs.Checks.{BodyTree, checked}
+use Rattle.prl_body.specs.Texts.{TextTree}
+use Rattle.prl_bodytext.specs.Parsing.{bodies_of}
+use Rattle.prl_app.specs.declared.faults.Part.{Part}
+use Rattle.prl_app.specs.declared.faults.Part.TheVariants as parts
+use Rattle.prl_app.specs.declared.faults.Fault.{Fault}
+use Rattle.prl_app.specs.declared.stages.Stage.{Stage}
+use Rattle.prl_app.specs.declared.stages.Stage.TheVariants as stages
+use Rattle.prl_app.specs.declared.stages.Stop.{Stop}
+use Rattle.prl_app.specs.declared.stages.Stop.TheVariants as stops
+use Rattle.prl_app.specs.declared.reading.Texts.{Texts}
+use Rattle.prl_app.specs.declared.words.Command.{Command}
+use Rattle.prl_app.specs.Given.{Folder, Given, IsContent, IsGiven, content_of, text_of, file_of, files_before, read_as}
+use Rattle.prl_app.specs.Parts.{IsProgram, IsMain, bodies_for, told_parse, told_types, told_body}
+use Rattle.prl_app.specs.Stages.{Holds, Refuses, Comes, files, stages_after, stages_of}
+use Rattle.prl_app.specs.code.Stops.{given_of, stop_of, StopsAt, StopsIn, AllHold, IsFileStop, IsStopOfFiles, IsAnswerStop}
+
+-- the grammar refuses
+pub grammar_stop : (g : Given) (fault : ParseFault) (stop : Stop) → (fault ≢ parsing.Memory → parse_of (text_of g parts.Program) ≡ Err fault)
+    → Explains (text_of g parts.Program) fault → stop ≡ stop_of stages.Grammar (told_parse fault) → StopsAt g stages.Grammar stop
+grammar_stop g (parsing.BadToken at) stop h e is = subst (StopsAt g stages.Grammar) (sym is) (refl, (parsing.BadToken at, h (λ k. cc), e, refl))
+grammar_stop g (parsing.Unexpected at) stop h e is = subst (StopsAt g stages.Grammar) (sym is) (refl, (parsing.Unexpected at, h (λ k. cc), e, refl))
+grammar_stop g (parsing.NumberRange at) stop h e is = subst (StopsAt g stages.Grammar) (sym is) (refl, (parsing.NumberRange at, h (λ k. cc), e, refl))
+grammar_stop g (parsing.Limit limit) stop h e is = subst (StopsAt g stages.Grammar) (sym is) (refl, (parsing.Limit limit, h (λ k. cc), e, refl))
+grammar_stop g parsing.Memory stop h e is = subst (StopsAt g stages.Grammar) (sym is) tt
+
+-- names or types refuse
+pub types_stop : (g : Given) (p : ProgramTree) (fault : TypeFault) (stop : Stop) → IsProgram g p → IsFault p g.node fault
+    → stop ≡ stop_of stages.Types (told_types fault) → StopsAt g stages.Types stop
+types_stop g p (typing.Twice name) stop h e is = subst (StopsAt g stages.Types) (sym is) (refl, (p, h, typing.Twice name, e, refl))
+types_stop g p (typing.Unknown name) stop h e is = subst (StopsAt g stages.Types) (sym is) (refl, (p, h, typing.Unknown name, e, refl))
+types_stop g p (typing.Undefined name) stop h e is = subst (StopsAt g stages.Types) (sym is) (refl, (p, h, typing.Undefined name, e, refl))
+types_stop g p (typing.Recursive name) stop h e is = subst (StopsAt g stages.Types) (sym is) (refl, (p, h, typing.Recursive name, e, refl))
+types_stop g p typing.NoMain stop h e is = subst (StopsAt g stages.Types) (sym is) (refl, (p, h, typing.NoMain, e, refl))
+types_stop g p (typing.Arity at) stop h e is = subst (StopsAt g stages.Types) (sym is) (refl, (p, h, typing.Arity at, e, refl))
+types_stop g p (typing.Mismatch at wanted found) stop h e is = subst (StopsAt g stages.Types) (sym is) (refl, (p, h, typing.Mismatch at wanted found, e, refl))
+types_stop g p (typing.TypeFree node name) stop h e is = subst (StopsAt g stages.Types) (sym is) (refl, (p, h, typing.TypeFree node name, e, refl))
+types_stop g p typing.Memory stop h e is = subst (StopsAt g stages.Types) (sym is) tt
+
+-- bodies refuse
+pub bodies_stop : (g : Given) (p : ProgramTree) (main : ℕ) (fault : BodyFault) (stop : Stop) → IsMain g p main
+    → (fault ≢ body_faults.Memory → bodies_for p main (text_of g parts.Bodies) ≡ Err fault)
+    → stop ≡ stop_of stages.Bodies (told_body fault) → StopsAt g stages.Bodies stop
+bodies_stop g p main (body_faults.Syntax at) stop h e is = subst (StopsAt g stages.Bodies) (sym is) (refl, (p, main, h, body_faults.Syntax at, e (λ k. cc), refl))
+bodies_stop g p main (body_faults.Limit limit) stop h e is = subst (StopsAt g stages.Bodies) (sym is) (refl, (p, main, h, body_faults.Limit limit, e (λ k. cc), refl))
+bodies_stop g p main (body_faults.BodyName at) stop h e is = subst (StopsAt g stages.Bodies) (sym is) (refl, (p, main, h, body_faults.BodyName at, e (λ k. cc), refl))
+bodies_stop g p main (body_faults.BodyType at) stop h e is = subst (StopsAt g stages.Bodies) (sym is) (refl, (p, main, h, body_faults.BodyType at, e (λ k. cc), refl))
+bodies_stop g p main (body_faults.BodyArity at) stop h e is = subst (StopsAt g stages.Bodies) (sym is) (refl, (p, main, h, body_faults.BodyArity at, e (λ k. cc), refl))
+bodies_stop g p main (body_faults.Missing name) stop h e is = subst (StopsAt g stages.Bodies) (sym is) (refl, (p, main, h, body_faults.Missing name, e (λ k. cc), refl))
+bodies_stop g p main body_faults.Memory stop h e is = subst (StopsAt g stages.Bodies) (sym is) tt
+
+-- the bodies of a program are those of its text, checked
+pub bodies_read : (p : ProgramTree) (main : ℕ) (text : List ℕ) (texts : List TextTree) (r : Result (List BodyTree) BodyFault) → bodies_of text ≡ Ok texts
+    → checked p.imports (used_imports p main) texts ≡ r → bodies_for p main text ≡ r
+unfolding bodies_for
+bodies_read p main text texts r read h = ap (λ t. t >>= λ texts. checked p.imports (used_imports p main) texts) read ∙ h
+
+pub bodies_unread : (p : ProgramTree) (main : ℕ) (text : List ℕ) (fault : BodyFault) → bodies_of text ≡ Err fault → bodies_for p main text ≡ Err fault
+unfolding bodies_for
+bodies_unread p main text fault read = ap (λ t. t >>= λ texts. checked p.imports (used_imports p main) texts) read
+
+-- a stop of a list is a refusal of it
+pub stops_comes : (g : Given) (list : List Stage) (stage : Stage) (fault : Fault) → StopsIn g list (stops.Refused stage fault) → Comes g list (Some (stage, fault))
+stops_comes g [] stage fault h = absurd h
+stops_comes g (s ∷ rest) stage fault h = elim h [
+  | inl k ↦ inr (fault, k.1, ap (λ (x : Stage). Some (x, fault)) k.0)
+  | inr k ↦ inl (k.0, stops_comes g rest stage fault k.1)
+]
+
+-- no stage of a list is a failed reading
+stops_unread : (g : Given) (list : List Stage) (part : Part) → StopsIn g list (stops.Unread part) → ⊥
+stops_unread g [] part h = h
+stops_unread g (s ∷ rest) part h = elim h [ inl k ↦ k | inr k ↦ stops_unread g rest part k.1 ]
+
+pub hold_comes : (g : Given) (list : List Stage) → AllHold g list → Comes g list None
+hold_comes g [] h = refl
+hold_comes g (s ∷ rest) h = inl (h.0, hold_comes g rest h.1)
+
+-- lists one after another
+pub after_holds : (g : Given) (first rest : List Stage) (end : Option (Stage × Fault)) → AllHold g first → Comes g rest end → Comes g (first ++ rest) end
+after_holds g [] rest end h k = k
+after_holds g (s ∷ first) rest end h k = inl (h.0, after_holds g first rest end h.1 k)
+
+none_some : (e : Stage × Fault) → Some e ≡ None → ⊥
+none_some e h = cc
+
+pub first_refused : (g : Given) (first rest : List Stage) (e : Stage × Fault) → Comes g first (Some e) → Comes g (first ++ rest) (Some e)
+first_refused g [] rest e h = absurd (none_some e h)
+first_refused g (s ∷ first) rest e h = elim h [ inl k ↦ inl (k.0, first_refused g first rest e k.1) | inr k ↦ inr k ]
+
+-- the files of a command whose texts are read
+pub files_hold : (c : Command) (t : Texts) → AllHold (given_of c t) files
+files_hold c t = ((t.program.items, refl), ((t.bodies.items, refl), ((t.sensors.items, refl), ((t.schedule.items, refl), tt))))
+
+-- the stages after the files stop
+pub answer_stop : (old new : FolderView) (c : Command) (t : Texts) (stop : Stop) → IsGiven old.folder c (given_of c t)
+    → StopsIn (given_of c t) (stages_after c.mode) stop → IsAnswerStop old new c stop
+answer_stop old new c t (stops.Unread part) h k = absurd (stops_unread (given_of c t) (stages_after c.mode) part k)
+answer_stop old new c t (stops.Refused stage fault) h k =
+    (given_of c t, h, after_holds (given_of c t) files (stages_after c.mode) (Some (stage, fault)) (files_hold c t) (stops_comes (given_of c t) (stages_after c.mode) stage fault k))
+answer_stop old new c t stops.Memory h k = tt
+
+-- the files stop
+pub files_stop : (old new : FolderView) (c : Command) (stop : Stop) → IsStopOfFiles old new c stop → IsAnswerStop old new c stop
+files_stop old new c (stops.Unread part) h = h
+files_stop old new c (stops.Refused stage fault) h = (h.0, h.1, first_refused h.0 files (stages_after c.mode) (stage, fault) h.2)
+files_stop old new c stops.Memory h = tt
+
+-- each file gives something
+some_content : (told : Option Folder) (part : Part) (name : Option (List ℕ)) → (content : Result (List ℕ) Fault) × IsContent told part name content
+some_content told part None = (Ok [], refl)
+some_content (Some folder) part (Some name) = (read_as part (folder name), refl)
+some_content None part (Some name) = (Ok [], omega arith)
+
+by_part : (told : Option Folder) (c : Command) (g : Given) → IsContent told parts.Program c.program g.program → IsContent told parts.Bodies c.bodies g.bodies
+    → IsContent told parts.Sensors c.sensors g.sensors → IsContent told parts.Schedule c.schedule g.schedule
+    → (part : Part) → IsContent told part (file_of c part) (content_of g part)
+by_part told c g p b s e parts.Program = p
+by_part told c g p b s e parts.Bodies = b
+by_part told c g p b s e parts.Sensors = s
+by_part told c g p b s e parts.Schedule = e
+
+-- what the files give, part by part
+pub given_by : (told : Option Folder) (c : Command) (program bodies sensors schedule : Result (List ℕ) Fault)
+    → IsContent told parts.Program c.program program → IsContent told parts.Bodies c.bodies bodies → IsContent told parts.Sensors c.sensors sensors
+    → IsContent told parts.Schedule c.schedule schedule
+    → IsGiven told c (record { program = program; bodies = bodies; sensors = sensors; schedule = schedule; node = c.node; until = c.until })
+given_by told c program bodies sensors schedule p b s e = record {
+  contents = by_part told c (record { program = program; bodies = bodies; sensors = sensors; schedule = schedule; node = c.node; until = c.until }) p b s e;
+  node = refl;
+  until = refl;
+}
+
+-- a command comes to a refusal of this file
+abbrev pub RefusesFile : Option Folder → Command → Part → Fault → Type 0
+RefusesFile told c part fault = (g : Given) × IsGiven told c g × Comes g files (Some (stages.File part, fault))
+
+pub program_refused : (told : Option Folder) (c : Command) (fault : Fault) → IsContent told parts.Program c.program (Err fault) → RefusesFile told c parts.Program fault
+program_refused told c fault h =
+    let b = some_content told parts.Bodies c.bodies in
+    let s = some_content told parts.Sensors c.sensors in
+    let e = some_content told parts.Schedule c.schedule in (
+      record { program = Err fault; bodies = b.0; sensors = s.0; schedule = e.0; node = c.node; until = c.until },
+      given_by told c (Err fault) b.0 s.0 e.0 h b.1 s.1 e.1,
+      inr (fault, refl, refl),
+    )
+
+pub bodies_refused : (told : Option Folder) (c : Command) (p : List ℕ) → IsContent told parts.Program c.program (Ok p)
+    → (fault : Fault) → IsContent told parts.Bodies c.bodies (Err fault) → RefusesFile told c parts.Bodies fault
+bodies_refused told c p hp fault h =
+    let s = some_content told parts.Sensors c.sensors in
+    let e = some_content told parts.Schedule c.schedule in (
+      record { program = Ok p; bodies = Err fault; sensors = s.0; schedule = e.0; node = c.node; until = c.until },
+      given_by told c (Ok p) (Err fault) s.0 e.0 hp h s.1 e.1,
+      inl ((p, refl), inr (fault, refl, refl)),
+    )
+
+pub sensors_refused : (told : Option Folder) (c : Command) (p b : List ℕ) → IsContent told parts.Program c.program (Ok p) → IsContent told parts.Bodies c.bodies (Ok b)
+    → (fault : Fault) → IsContent told parts.Sensors c.sensors (Err fault) → RefusesFile told c parts.Sensors fault
+sensors_refused told c p b hp hb fault h =
+    let e = some_content told parts.Schedule c.schedule in (
+      record { program = Ok p; bodies = Ok b; sensors = Err fault; schedule = e.0; node = c.node; until = c.until },
+      given_by told c (Ok p) (Ok b) (Err fault) e.0 hp hb h e.1,
+      inl ((p, refl), inl ((b, refl), inr (fault, refl, refl))),
+    )
+
+pub schedule_refused : (told : Option Folder) (c : Command) (p b s : List ℕ) → IsContent told parts.Program c.program (Ok p) → IsContent told parts.Bodies c.bodies (Ok b)
+    → IsContent told parts.Sensors c.sensors (Ok s) → (fault : Fault) → IsContent told parts.Schedule c.schedule (Err fault) → RefusesFile told c parts.Schedule fault
+schedule_refused told c p b s hp hb hs fault h = (
+  record { program = Ok p; bodies = Ok b; sensors = Ok s; schedule = Err fault; node = c.node; until = c.until },
+  given_by told c (Ok p) (Ok b) (Ok s) (Err fault) hp hb hs h,
+  inl ((p, refl), inl ((b, refl), inl ((s, refl), inr (fault, refl, refl)))),
+)
+
+-- the reading of one of the files stops
+pub file_stop : (old mid new : FolderView) (c : Command) (part : Part) (stop : Stop) → mid.folder ≡ old.folder
+    → mid.reads ≡ old.reads + files_before c part → old.faults ≤ mid.faults
+    → ((fault : Fault) → IsContent old.folder part (file_of c part) (Err fault) → RefusesFile old.folder c part fault)
+    → IsFileStop mid new part (file_of c part) stop → IsStopOfFiles old new c stop
+file_stop old mid new c part (stops.Unread at) folder reads faults refused h =
+    subst (λ (p : Part). IsStopOfFiles old new c (stops.Unread p)) (sym h.0)
+    (h.1, h.2 ∙ reads, omega (arith, faults, h.3))
+file_stop old mid new c part (stops.Refused stage fault) folder reads faults refused h =
+    subst (λ (s : Stage). IsStopOfFiles old new c (stops.Refused s fault)) (sym h.0)
+    (refused fault (subst (λ (told : Option Folder). IsContent told part (file_of c part) (Err fault)) folder h.1))
+file_stop old mid new c part stops.Memory folder reads faults refused h = tt
+
+-- what holds of results
+pub ok_map : {X F : Type 0} (r : Result X F) (P Q : X → Type 0) → ((x : X) → P x → Q x) → IfOk r P → IfOk r Q
+ok_map (Ok x) P Q f h = f x h
+ok_map (Err e) P Q f h = tt
+
+pub ok_both : {X F : Type 0} (r : Result X F) (P Q R : X → Type 0) → ((x : X) → P x → Q x → R x) → IfOk r P → IfOk r Q → IfOk r R
+ok_both (Ok x) P Q R f h k = f x h k
+ok_both (Err e) P Q R f h k = tt
+
+pub err_map : {X F : Type 0} (r : Result X F) (P Q : F → Type 0) → ((e : F) → P e → Q e) → IfErr r P → IfErr r Q
+err_map (Ok x) P Q f h = tt
+err_map (Err e) P Q f h = f e h

@@ -1,0 +1,12 @@
+use Rattle.prl_app.proofs.OneEnd.{one_end}
+use Rattle.prl_app.proofs.laws.stages_end_one_way.Goals as goal
+
+pub returns : goal.returns
+returns c = one_end (record {
+  one = c.outcome_is_unique.ensures;
+  horizon_or_limit = c.horizons_end_one_way.ensures.not_both;
+  one_limit = c.horizons_end_one_way.ensures.one_limit;
+  replay_or_fault = c.replays_end_one_way.ensures.not_both;
+  one_fault = c.replays_end_one_way.ensures.one_fault;
+  whole_run = c.whole_runs_are_replayed.ensures;
+})

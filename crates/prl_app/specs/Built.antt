@@ -1,0 +1,133 @@
+-- Scaffolding: the programs, plans and rows that are built so far. It goes when each program has its flat program, its
+-- plan and its sensors.
+use Rattle.std.specs.Prelude.{◌≡◌, ◌<◌, ◌≤◌, ◌⊎◌, ℕ, zero, suc, true, false, List, length, Option, Some, None, Ok}
+use Rattle.prl_base.specs.declared.limits.Limit.{Limit}
+use Rattle.prl_base.specs.declared.values.Value.{Value}
+use Rattle.prl_ast.specs.Trees.{ProgramTree}
+use Rattle.prl_flow.specs.declared.evaluation.TheConstants.{MAX_VALUES}
+use Rattle.prl_flow.specs.Counts.{dates_before, values_before}
+use Rattle.prl_flow.specs.Programs.{name_of}
+use Rattle.prl_chains.specs.declared.chains.Chain.{Chain}
+use Rattle.prl_chains.specs.Chains.{chain_of}
+use Rattle.prl_chains.specs.Facts.{IsChain}
+use Rattle.prl_plan.specs.declared.horizons.Horizon.{Horizon}
+use Rattle.prl_plan.specs.Horizons.{IsPastLimit}
+use Rattle.prl_plan.specs.Plans.{IsPlan}
+use Rattle.prl_relays.specs.declared.relays.RelayFault.{RelayFault}
+use Rattle.prl_relays.specs.declared.relays.RelayFault.TheVariants as relays
+use Rattle.prl_plan.specs.declared.events.Event.{Event}
+use Rattle.prl_plan.specs.Rules.{IsLegal, IsComplete}
+use Rattle.prl_core.specs.Machine.{CoreView, constants}
+use Rattle.prl_replay.specs.Schedules.{schedule_of}
+use Rattle.prl_replay.specs.Replays.{after_all}
+use Rattle.prl_relays.specs.Relays.{Relay, is_in_time, relay_plan, task_names, machine, input_clock, HasValues, IsHorizonUpTo, IsRelayFault}
+use Rattle.prl_app.specs.declared.faults.Part.TheVariants as parts
+use Rattle.prl_app.specs.declared.faults.RunFault.TheVariants as runs
+use Rattle.prl_app.specs.declared.faults.Fault.{Fault}
+use Rattle.prl_app.specs.declared.faults.Fault.TheVariants as faults
+use Rattle.prl_app.specs.Given.{Given, text_of}
+use Rattle.prl_app.specs.Parts.{IsProgram}
+use Rattle.prl_app.specs.Rows.{rows_of}
+use Rattle.prl_app.specs.Runs.{too_many}
+
+-- the program is a chain of equations: a flat program in order, with the clocks of its flows
+pub record IsFormed (g : Given) (c : Chain) : Type 0 where
+  pub program : ProgramTree
+  pub is_program : IsProgram g program
+  pub formed : chain_of program ≡ Some c
+  pub is_chain : IsChain c
+
+abbrev pub RefusesForm : Given → Fault → Type 0
+RefusesForm g fault =
+    (p : ProgramTree) × IsProgram g p × (chain_of p ≡ None) × (fault ≡ faults.NotBuilt parts.Program)
+
+-- it only hands its input on, in time
+pub record IsTimely (g : Given) (c : Chain) : Type 0 where
+  pub formed : IsFormed g c
+  pub timely : is_in_time c ≡ true
+
+abbrev pub RefusesTiming : Given → Fault → Type 0
+RefusesTiming g fault =
+    (c : Chain) × IsFormed g c × (is_in_time c ≡ false) × (fault ≡ faults.NotBuilt parts.Program)
+
+-- its plan has this horizon up to the date
+pub record HasHorizon (g : Given) (c : Chain) (h : Horizon) : Type 0 where
+  pub timely : IsTimely g c
+  pub plan : IsPlan (relay_plan c)
+  pub horizon : IsHorizonUpTo c g.until h
+
+abbrev pub RefusesHorizon : Given → Fault → Type 0
+RefusesHorizon g fault =
+    (c : Chain) × IsTimely g c × (limit : Limit) × IsPastLimit (relay_plan c) g.until limit × (fault ≡ faults.Limit limit)
+
+-- the rows of the sensor have these values
+pub record AreRows (g : Given) (c : Chain) (values : List Value) : Type 0 where
+  pub formed : IsFormed g c
+  pub rows : rows_of (name_of c.flat.in_devices 0) (text_of g parts.Sensors) ≡ Some values
+
+-- how many rows are needed: one for each date of the input
+abbrev pub need : Given → Chain → ℕ
+need g c = dates_before g.until (input_clock c)
+
+pub record HasRows (g : Given) (c : Chain) (values : List Value) : Type 0 where
+  pub are : AreRows g c values
+  pub enough : need g c ≤ length values
+  pub each : HasValues c values g.until
+
+-- the text is no rows
+abbrev pub HasNoRows : Given → Chain → Fault → Type 0
+HasNoRows g c fault =
+    (rows_of (name_of c.flat.in_devices 0) (text_of g parts.Sensors) ≡ None) × (fault ≡ faults.NotBuilt parts.Sensors)
+
+abbrev pub short_by : Given → Chain → List Value → Fault
+short_by g c values = faults.Short (name_of c.flat.in_devices 0) (length values) (need g c)
+
+-- there are too few rows
+abbrev pub HasFewRows : Given → Chain → Fault → Type 0
+HasFewRows g c fault =
+    (values : List Value) × AreRows g c values × (length values < need g c) × (fault ≡ short_by g c values)
+
+abbrev pub RefusesRows : Given → Fault → Type 0
+RefusesRows g fault = (c : Chain) × IsFormed g c × (HasNoRows g c fault ⊎ HasFewRows g c fault)
+
+abbrev pub relay_of : Given → Chain → List Value → Relay
+relay_of g c values = record { chain = c; values = values; until = g.until }
+
+-- the machine over the plan before the first event
+abbrev pub opened : Given → Chain → List Value → Horizon → CoreView
+opened g c values h = machine (relay_of g c values) h
+
+-- the schedule is a legal and complete list of events of the plan, up to the horizon
+pub record IsWholeRun (g : Given) (c : Chain) (values : List Value) (h : Horizon) : Type 0 where
+  pub rows : HasRows g c values
+  pub has_horizon : HasHorizon g c h
+  pub events : List Event
+  pub written : schedule_of (task_names c) (text_of g parts.Schedule) ≡ Ok events
+  pub legal : IsLegal (constants (opened g c values h)) (opened g c values h).state events
+  pub complete : IsComplete (constants (opened g c values h)) (after_all (opened g c values h) events).state
+
+-- the name of a task: task 0 is the sensor's, and task 1 the actuator's
+abbrev pub device_name : Chain → ℕ → List ℕ
+device_name c zero = name_of c.flat.in_devices 0
+device_name c (suc k) = name_of c.flat.out_devices 0
+
+-- how the faults of a schedule are told
+abbrev pub told_relay : Chain → RelayFault → Option Fault
+told_relay c (relays.Syntax line) = Some (faults.Schedule (runs.Syntax line))
+told_relay c (relays.Illegal line rule) = Some (faults.Schedule (runs.Illegal line rule))
+told_relay c (relays.Unfinished task job) = Some (faults.Schedule (runs.Unfinished (device_name c task.0) job))
+told_relay c relays.Memory = None
+
+abbrev pub RefusesSchedule : Given → Fault → Type 0
+RefusesSchedule g fault =
+    (c : Chain) × (values : List Value) × HasRows g c values × (cause : RelayFault)
+    × IsRelayFault (relay_of g c values) (text_of g parts.Schedule) cause × (told_relay c cause ≡ Some fault)
+
+-- its flows have few enough values
+abbrev pub HasFewValues : Given → Type 0
+HasFewValues g = (c : Chain) × IsFormed g c × (values_before g.until c.clocks.of ≤ MAX_VALUES)
+
+abbrev pub RefusesValues : Given → Fault → Type 0
+RefusesValues g fault =
+    (c : Chain) × IsFormed g c × (MAX_VALUES < values_before g.until c.clocks.of)
+    × (fault ≡ too_many (values_before g.until c.clocks.of))

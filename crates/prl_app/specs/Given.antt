@@ -1,0 +1,84 @@
+-- What the files of a command give to its stages.
+use Rattle.std.specs.Prelude.{◌≡◌, ◌≤◌, ◌+◌, ◌⊎◌, ℕ, List, [], length, Option, Some, None, Result, Ok, Err, nat_le, if◌then◌else◌}
+use Rattle.prl_app.specs.declared.faults.Part.{Part}
+use Rattle.prl_app.specs.declared.faults.Part.TheVariants as parts
+use Rattle.prl_app.specs.declared.faults.Fault.{Fault}
+use Rattle.prl_app.specs.declared.faults.Fault.TheVariants as faults
+use Rattle.prl_app.specs.declared.reading.TheConstants.{MAX_PROGRAM, MAX_BODIES, MAX_SENSORS, MAX_SCHEDULE}
+use Rattle.prl_app.specs.declared.words.Command.{Command}
+
+-- what each file gives; the name of the node that is to be main, where one is asked for; and the date
+pub record Given : Type 0 where
+  pub program : Result (List ℕ) Fault
+  pub bodies : Result (List ℕ) Fault
+  pub sensors : Result (List ℕ) Fault
+  pub schedule : Result (List ℕ) Fault
+  pub node : Option (List ℕ)
+  pub until : ℕ
+
+-- what a file gives
+abbrev pub content_of : Given → Part → Result (List ℕ) Fault
+content_of g parts.Program = g.program
+content_of g parts.Bodies = g.bodies
+content_of g parts.Sensors = g.sensors
+content_of g parts.Schedule = g.schedule
+
+abbrev pub bytes_of : Result (List ℕ) Fault → List ℕ
+bytes_of (Ok bytes) = bytes
+bytes_of (Err fault) = []
+
+-- the bytes of a file
+abbrev pub text_of : Given → Part → List ℕ
+text_of g part = bytes_of (content_of g part)
+
+-- the name that the command has for a file
+abbrev pub file_of : Command → Part → Option (List ℕ)
+file_of c parts.Program = c.program
+file_of c parts.Bodies = c.bodies
+file_of c parts.Sensors = c.sensors
+file_of c parts.Schedule = c.schedule
+
+-- the most bytes that a file may have
+abbrev pub most_of : Part → ℕ
+most_of parts.Program = MAX_PROGRAM
+most_of parts.Bodies = MAX_BODIES
+most_of parts.Sensors = MAX_SENSORS
+most_of parts.Schedule = MAX_SCHEDULE
+
+-- what is known of a folder: the bytes of each file by its name
+abbrev pub Folder : Type 0
+Folder = List ℕ → Option (List ℕ)
+
+-- what a file gives that has these bytes, or that is not there
+abbrev pub read_as : Part → Option (List ℕ) → Result (List ℕ) Fault
+read_as part None = Err (faults.Absent part)
+read_as part (Some bytes) = if nat_le (length bytes) (most_of part) then Ok bytes else Err (faults.TooLong part)
+
+-- why a file that is not known may be refused
+abbrev pub IsFileFault : Part → Fault → Type 0
+IsFileFault part fault = (fault ≡ faults.Absent part) ⊎ (fault ≡ faults.TooLong part)
+
+-- What a file gives: nothing where none is named; what the folder has, where that is known; else some bytes, no more
+-- than may be read, or a fault of the file.
+abbrev pub IsContent : Option Folder → Part → Option (List ℕ) → Result (List ℕ) Fault → Type 0
+IsContent told part None content = content ≡ Ok []
+IsContent (Some folder) part (Some name) content = content ≡ read_as part (folder name)
+IsContent None part (Some name) (Ok bytes) = length bytes ≤ most_of part
+IsContent None part (Some name) (Err fault) = IsFileFault part fault
+
+-- the files of the command give this, over a folder of which so much is known
+pub record IsGiven (told : Option Folder) (c : Command) (g : Given) : Type 0 where
+  pub contents : (part : Part) → IsContent told part (file_of c part) (content_of g part)
+  pub node : g.node ≡ c.node
+  pub until : g.until ≡ c.until
+
+abbrev pub one_if_named : Option (List ℕ) → ℕ
+one_if_named None = 0
+one_if_named (Some name) = 1
+
+-- how many files the command names before this one, in the order of reading
+abbrev pub files_before : Command → Part → ℕ
+files_before c parts.Program = 0
+files_before c parts.Bodies = one_if_named c.program
+files_before c parts.Sensors = one_if_named c.program + one_if_named c.bodies
+files_before c parts.Schedule = one_if_named c.program + one_if_named c.bodies + one_if_named c.sensors

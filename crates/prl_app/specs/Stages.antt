@@ -1,0 +1,90 @@
+-- The stages of the command in the order of refusals, and the modes as lists of them.
+use Rattle.std.specs.Prelude.{◌≡◌, ◌⊎◌, ℕ, List, [], ◌∷◌, ◌++◌, Option, Some, None, Result, Ok, Err}
+use Rattle.prl_ast.specs.Trees.{ProgramTree}
+use Rattle.prl_syntax.specs.declared.parsing.ParseFault.{ParseFault}
+use Rattle.prl_syntax.specs.Parsing.{parse_of, Explains}
+use Rattle.prl_types.specs.declared.faults.TypeFault.{TypeFault}
+use Rattle.prl_types.specs.Typing.{IsFault}
+use Rattle.prl_body.specs.declared.faults.BodyFault.{BodyFault}
+use Rattle.prl_body.specs.Checks.{BodyTree}
+use Rattle.prl_base.specs.declared.values.Value.{Value}
+use Rattle.prl_chains.specs.declared.chains.Chain.{Chain}
+use Rattle.prl_plan.specs.declared.horizons.Horizon.{Horizon}
+use Rattle.prl_print.specs.Printing.{printed}
+use Rattle.prl_app.specs.declared.faults.Part.TheVariants as parts
+use Rattle.prl_app.specs.declared.faults.Fault.{Fault}
+use Rattle.prl_app.specs.declared.stages.Stage.{Stage}
+use Rattle.prl_app.specs.declared.stages.Stage.TheVariants as stages
+use Rattle.prl_app.specs.declared.words.Mode.{Mode}
+use Rattle.prl_app.specs.declared.words.Mode.TheVariants as modes
+use Rattle.prl_app.specs.Given.{Given, content_of, text_of}
+use Rattle.prl_app.specs.Parts.{IsProgram, IsMain, AreBodies, bodies_for, told_parse, told_types, told_body}
+use Rattle.prl_app.specs.Built.{IsFormed, IsTimely, HasHorizon, HasRows, relay_of, IsWholeRun, HasFewValues, RefusesForm, RefusesTiming, RefusesHorizon, RefusesRows, RefusesSchedule, RefusesValues}
+use Rattle.prl_relays.specs.Relays.{IsReplayText}
+use Rattle.prl_app.specs.Runs.{IsFlowsText, chain_computation}
+
+-- a stage finds what it looks for
+abbrev pub Holds : Given → Stage → Type 0
+Holds g (stages.File part) = (bytes : List ℕ) × (content_of g part ≡ Ok bytes)
+Holds g stages.Grammar = (p : ProgramTree) × IsProgram g p
+Holds g stages.Types = (p : ProgramTree) × (main : ℕ) × IsMain g p main
+Holds g stages.Bodies = (trees : List BodyTree) × AreBodies g trees
+Holds g stages.Form = (c : Chain) × IsFormed g c
+Holds g stages.Timing = (c : Chain) × IsTimely g c
+Holds g stages.Horizon = (c : Chain) × (h : Horizon) × HasHorizon g c h
+Holds g stages.Rows = (c : Chain) × (values : List Value) × HasRows g c values
+Holds g stages.Schedule = (c : Chain) × (values : List Value) × (h : Horizon) × IsWholeRun g c values h
+Holds g stages.Values = HasFewValues g
+
+-- a stage refuses with a fault, where the stages that it stands on hold
+abbrev pub Refuses : Given → Stage → Fault → Type 0
+Refuses g (stages.File part) fault = content_of g part ≡ Err fault
+Refuses g stages.Grammar fault =
+    (cause : ParseFault) × (parse_of (text_of g parts.Program) ≡ Err cause) × Explains (text_of g parts.Program) cause
+    × (told_parse cause ≡ Some fault)
+Refuses g stages.Types fault =
+    (p : ProgramTree) × IsProgram g p × (cause : TypeFault) × IsFault p g.node cause × (told_types cause ≡ Some fault)
+Refuses g stages.Bodies fault =
+    (p : ProgramTree) × (main : ℕ) × IsMain g p main × (cause : BodyFault)
+    × (bodies_for p main (text_of g parts.Bodies) ≡ Err cause) × (told_body cause ≡ Some fault)
+Refuses g stages.Form fault = RefusesForm g fault
+Refuses g stages.Timing fault = RefusesTiming g fault
+Refuses g stages.Horizon fault = RefusesHorizon g fault
+Refuses g stages.Rows fault = RefusesRows g fault
+Refuses g stages.Schedule fault = RefusesSchedule g fault
+Refuses g stages.Values fault = RefusesValues g fault
+
+-- all stages of a list hold, or the first that does not refuses with this fault
+abbrev pub Comes : Given → List Stage → Option (Stage × Fault) → Type 0
+Comes g [] end = end ≡ None
+Comes g (stage ∷ rest) end =
+    (Holds g stage × Comes g rest end) ⊎ ((fault : Fault) × Refuses g stage fault × (end ≡ Some (stage, fault)))
+
+-- the files are read first, in this order; one that is not named gives no bytes
+abbrev pub files : List Stage
+files =
+    stages.File parts.Program ∷ stages.File parts.Bodies ∷ stages.File parts.Sensors ∷ stages.File parts.Schedule ∷ []
+
+-- what modes that take a program with bodies have in common
+abbrev pub front : List Stage
+front = stages.Grammar ∷ stages.Types ∷ stages.Bodies ∷ stages.Form ∷ []
+
+-- the stages of a mode after the files
+abbrev pub stages_after : Mode → List Stage
+stages_after modes.Print = stages.Grammar ∷ []
+stages_after modes.Flows = front ++ stages.Rows ∷ stages.Values ∷ []
+stages_after modes.Replay = front ++ stages.Timing ∷ stages.Horizon ∷ stages.Rows ∷ stages.Schedule ∷ []
+
+-- the stages of a mode
+abbrev pub stages_of : Mode → List Stage
+stages_of mode = files ++ stages_after mode
+
+-- the text that a mode means where its stages hold
+abbrev pub IsText : Given → Mode → List ℕ → Type 0
+IsText g modes.Print text = (p : ProgramTree) × IsProgram g p × (text ≡ printed p)
+IsText g modes.Flows text =
+    (c : Chain) × (trees : List BodyTree) × (values : List Value) × AreBodies g trees × HasRows g c values
+    × IsFlowsText (chain_computation c trees values g.until) text
+IsText g modes.Replay text =
+    (c : Chain) × (values : List Value) × HasRows g c values
+    × IsReplayText (relay_of g c values) (text_of g parts.Schedule) text

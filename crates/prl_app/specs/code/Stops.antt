@@ -1,0 +1,77 @@
+-- What private functions say of stops.
+use Rattle.std.specs.Prelude.{◌≡◌, ◌<◌, ◌+◌, ◌⊎◌, ℕ, List, [], ◌∷◌, Option, Some, None, IsSome, Ok, Err}
+use Rattle.prl_io.specs.Views.{FolderView}
+use Rattle.prl_app.specs.declared.reading.Texts.{Texts}
+use Rattle.prl_app.specs.declared.faults.Fault.{Fault}
+use Rattle.prl_app.specs.declared.stages.Stage.{Stage}
+use Rattle.prl_app.specs.declared.stages.Stop.{Stop}
+use Rattle.prl_app.specs.declared.stages.Stop.TheVariants as stops
+use Rattle.prl_app.specs.declared.words.Command.{Command}
+use Rattle.prl_app.specs.declared.faults.Part.{Part}
+use Rattle.prl_app.specs.declared.stages.Stage.TheVariants as stages
+use Rattle.prl_app.specs.Given.{Folder, Given, IsContent, IsGiven, file_of, files_before}
+use Rattle.prl_app.specs.Stages.{Holds, Refuses, Comes, IsText, files, stages_of}
+
+-- what the texts of a command give
+abbrev pub given_of : Command → Texts → Given
+given_of c t = record {
+  program = Ok t.program.items;
+  bodies = Ok t.bodies.items;
+  sensors = Ok t.sensors.items;
+  schedule = Ok t.schedule.items;
+  node = c.node;
+  until = c.until;
+}
+
+-- the stop that a fault of a stage is; None is want of memory
+abbrev pub stop_of : Stage → Option Fault → Stop
+stop_of stage None = stops.Memory
+stop_of stage (Some fault) = stops.Refused stage fault
+
+-- the stage refuses for such a cause, or memory ran out
+abbrev pub StopsBy : Stage → (Fault → Type 0) → Stop → Type 0
+StopsBy stage cause (stops.Unread part) = ⊥
+StopsBy stage cause (stops.Refused at fault) = (at ≡ stage) × cause fault
+StopsBy stage cause stops.Memory = Unit {0}
+
+-- the stage refuses, or memory ran out
+abbrev pub StopsAt : Given → Stage → Stop → Type 0
+StopsAt g stage = StopsBy stage (Refuses g stage)
+
+-- a stage of the list refuses, or memory ran out
+abbrev pub StopsIn : Given → List Stage → Stop → Type 0
+StopsIn g [] stop = ⊥
+StopsIn g (stage ∷ rest) stop = StopsAt g stage stop ⊎ (Holds g stage × StopsIn g rest stop)
+
+-- all stages of the list hold
+abbrev pub AllHold : Given → List Stage → Type 0
+AllHold g [] = Unit {0}
+AllHold g (stage ∷ rest) = Holds g stage × AllHold g rest
+
+-- a reading of this file failed, memory ran out, or the file is refused
+abbrev pub IsFileStop : FolderView → FolderView → Part → Option (List ℕ) → Stop → Type 0
+IsFileStop old new part name (stops.Unread at) =
+    (at ≡ part) × IsSome name × (new.reads ≡ old.reads) × (old.faults < new.faults)
+IsFileStop old new part name (stops.Refused stage fault) = (stage ≡ stages.File part) × IsContent old.folder part name (Err fault)
+IsFileStop old new part name stops.Memory = Unit {0}
+
+-- the same of one of the files of a command
+abbrev pub IsStopOfFiles : FolderView → FolderView → Command → Stop → Type 0
+IsStopOfFiles old new c (stops.Unread part) =
+    IsSome (file_of c part) × (new.reads ≡ old.reads + files_before c part) × (old.faults < new.faults)
+IsStopOfFiles old new c (stops.Refused stage fault) =
+    (g : Given) × IsGiven old.folder c g × Comes g files (Some (stage, fault))
+IsStopOfFiles old new c stops.Memory = Unit {0}
+
+-- a command comes to no refusal, and its mode means this text
+abbrev pub IsAnswer : Option Folder → Command → List ℕ → Type 0
+IsAnswer told c text =
+    (g : Given) × IsGiven told c g × Comes g (stages_of c.mode) None × IsText g c.mode text
+
+-- a command comes to a refusal, a reading failed, or memory ran out
+abbrev pub IsAnswerStop : FolderView → FolderView → Command → Stop → Type 0
+IsAnswerStop old new c (stops.Unread part) =
+    IsSome (file_of c part) × (new.reads ≡ old.reads + files_before c part) × (old.faults < new.faults)
+IsAnswerStop old new c (stops.Refused stage fault) =
+    (g : Given) × IsGiven old.folder c g × Comes g (stages_of c.mode) (Some (stage, fault))
+IsAnswerStop old new c stops.Memory = Unit {0}

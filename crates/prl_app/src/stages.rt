@@ -1,0 +1,51 @@
+//! The stages of the command in the order of refusals, and how a command stops at one.
+
+use crate::faults::{Fault, Part};
+use std::alloc::AllocError;
+
+/// What is looked at, one after another.
+#[derive(Clone, Copy, Debug, PartialEq, Eq)]
+pub enum Stage {
+    /// The bytes of a file.
+    File(Part),
+    /// The grammar of programs.
+    Grammar,
+    /// Names and types.
+    Types,
+    /// The bodies of imported nodes.
+    Bodies,
+    /// Scaffolding: the form of programs that is built.
+    Form,
+    /// Scaffolding: the form of programs that have a plan.
+    Timing,
+    /// The horizon of the plan.
+    Horizon,
+    /// The rows of the sensor.
+    Rows,
+    /// The events of the schedule.
+    Schedule,
+    /// The limit of values.
+    Values,
+}
+
+/// Why a command gives no text.
+#[derive(Debug, Drop)]
+pub enum Stop {
+    /// A reading of the file failed.
+    Unread(Part),
+    /// A stage refuses.
+    Refused(Stage, Fault),
+    /// Memory ran out.
+    Memory,
+}
+
+impl From<AllocError> for Stop {
+    ghost use Rattle.std.specs.Prelude.{◌≡◌};
+    ghost use Rattle.prl_app.specs.declared.stages.Stop.TheVariants.{Memory};
+
+    ghost from_gives = { λ _ e. e ≡ Memory };
+
+    fn from(_error: AllocError) -> Stop {
+        Stop::Memory
+    }
+}

@@ -1,0 +1,13 @@
+//! Tests of the command's public calls: command lines through the top calls, and files and streams.
+#![tactic(auto)]
+
+#[cfg(test)]
+mod bodies;
+#[cfg(test)]
+mod commands;
+#[cfg(test)]
+mod fronts;
+#[cfg(test)]
+mod lines;
+#[cfg(test)]
+mod outside;

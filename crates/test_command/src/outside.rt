@@ -1,0 +1,151 @@
+//! What no clause says: what the host does, and each call that takes memory where it has enough.
+
+use prl_base::{Label, TaskNo};
+use prl_io::{
+    Failed, FileFault, Files, HostFiles, HostSink, MemFiles, MemSink, NoProbe, Probe, Sink,
+    write_all, write_pieces,
+};
+use std::alloc::{AllocError, Global};
+use std::io::{ErrorKind, Write};
+use std::test::Fail;
+use std::{fs, io};
+
+fn bytes(alloc: Global, text: &str) -> Result<Vec<u8>, AllocError> {
+    Vec::from_slice(alloc, text.as_bytes())
+}
+
+fn label(alloc: Global, text: &str) -> Result<Label, AllocError> {
+    Label::new(alloc, text.as_bytes())
+}
+
+/// Reads a file of either kind, through the trait.
+fn read<F: Files>(
+    files: &mut F,
+    alloc: Global,
+    name: &str,
+    most: u64,
+) -> Result<Vec<u8>, FileFault> {
+    match label(alloc, name) {
+        Ok(name) => files.read(alloc, &name, most),
+        Err(_) => Err(FileFault::Memory),
+    }
+}
+
+#[test]
+fn files_in_memory(rt: HostRuntime) -> Result<(), Fail> {
+    let alloc = rt.alloc();
+    let entries = vec![in alloc;
+        (label(alloc, "a")?, bytes(alloc, "one")?),
+        (label(alloc, "a")?, bytes(alloc, "two")?),
+    ]?;
+    let mut files = MemFiles::new(entries, vec![in alloc; 3]?);
+    assert_eq!(rt; read(&mut files, alloc, "a", 3), Ok(bytes(alloc, "one")?));
+    assert_eq!(rt; read(&mut files, alloc, "a", 2), Err(FileFault::TooLong));
+    assert_eq!(rt; read(&mut files, alloc, "b", 3), Err(FileFault::Absent));
+    assert_eq!(rt; read(&mut files, alloc, "a", 3), Err(FileFault::Failed));
+    assert_eq!(rt; read(&mut files, alloc, "a", 3), Ok(bytes(alloc, "one")?));
+    Ok(())
+}
+
+#[test]
+fn sink_in_memory(rt: HostRuntime) -> Result<(), Fail> {
+    let alloc = rt.alloc();
+    let mut sink = MemSink::new(alloc, 1000, 4, vec![in alloc; 2]?)?;
+    assert_eq!(rt; write_all(&mut sink, b"o,0,0,1\no,1,10,2\n"), Err(Failed));
+    assert_eq!(rt; sink.bytes(), b"o,0,0,1\n".as_slice());
+    assert_eq!(rt;
+        write_pieces(&mut sink, &[b"o,".as_slice(), b"1".as_slice()]),
+        Ok(())
+    );
+    assert_eq!(rt; sink.bytes(), b"o,0,0,1\no,1".as_slice());
+    Ok(())
+}
+
+#[test]
+fn full_sink(rt: HostRuntime) -> Result<(), Fail> {
+    let alloc = rt.alloc();
+    let mut sink = MemSink::new(alloc, 5, 100, Vec::new(alloc))?;
+    assert_eq!(rt; sink.write(b"1234567"), Ok(5));
+    assert_eq!(rt; sink.write(b"67"), Err(Failed));
+    assert_eq!(rt; sink.bytes(), b"12345".as_slice());
+    Ok(())
+}
+
+#[test]
+fn files_of_the_host(rt: HostRuntime) -> Result<(), Fail> {
+    let alloc = rt.alloc();
+    fs::write(&rt, "prl_io_files.txt", "five!")?;
+    let mut files = HostFiles::new(&rt);
+    assert_eq!(rt;
+        read(&mut files, alloc, "prl_io_files.txt", 5),
+        Ok(bytes(alloc, "five!")?)
+    );
+    assert_eq!(rt;
+        read(&mut files, alloc, "prl_io_files.txt", 4),
+        Err(FileFault::TooLong)
+    );
+    assert_eq!(rt;
+        read(&mut files, alloc, "prl_io_nothing.txt", 5),
+        Err(FileFault::Absent)
+    );
+    assert_eq!(rt; read(&mut files, alloc, "/", 5), Err(FileFault::Failed));
+    let no_text = Label::new(alloc, &[255])?;
+    assert_eq!(rt; files.read(alloc, &no_text, 5), Err(FileFault::Failed));
+    fs::remove_file(&rt, "prl_io_files.txt")?;
+    Ok(())
+}
+
+/// A writer that refuses writes or flushes.
+#[derive(Drop)]
+struct Broken {
+    takes: usize,
+    flushes: bool,
+}
+
+impl Write for Broken {
+    fn write(&mut self, buf: &[u8]) -> io::Result<usize> {
+        if self.takes > buf.len() {
+            Err(io::Error::from(ErrorKind::BrokenPipe))
+        } else {
+            Ok(self.takes)
+        }
+    }
+
+    fn flush(&mut self) -> io::Result<()> {
+        if self.flushes {
+            Ok(())
+        } else {
+            Err(io::Error::from(ErrorKind::BrokenPipe))
+        }
+    }
+}
+
+#[test]
+fn sink_of_the_host(rt: HostRuntime) -> Result<(), Fail> {
+    let mut kept = Vec::new(rt.alloc());
+    assert_eq!(rt; HostSink::new(&mut kept).write(b"abc"), Ok(3));
+    assert_eq!(rt; kept.as_slice(), b"abc".as_slice());
+    let mut partly = HostSink::new(Broken {
+        takes: 2,
+        flushes: true,
+    });
+    assert_eq!(rt; partly.write(b"abc"), Ok(2));
+    assert_eq!(rt; partly.write(b"a"), Err(Failed));
+    let mut unflushed = HostSink::new(Broken {
+        takes: 2,
+        flushes: false,
+    });
+    assert_eq!(rt; unflushed.write(b"abc"), Err(Failed));
+    let mut stuck = HostSink::new(Broken {
+        takes: 0,
+        flushes: true,
+    });
+    assert_eq!(rt; stuck.write(b"abc"), Err(Failed));
+    assert_eq!(rt; stuck.write(b""), Ok(0));
+    Ok(())
+}
+
+#[test]
+fn probe_that_does_nothing() {
+    NoProbe.before(TaskNo(0), 0);
+}
