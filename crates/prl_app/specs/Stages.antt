@@ -1,5 +1,5 @@
 -- The stages of the command in the order of refusals, and the modes as lists of them.
-use Rattle.std.specs.Prelude.{◌≡◌, ◌⊎◌, ℕ, List, [], ◌∷◌, ◌++◌, Option, Some, None, Result, Ok, Err, codes}
+use Rattle.std.specs.Prelude.{◌≡◌, ◌⊎◌, ℕ, List, [], ◌∷◌, ◌++◌, Option, Some, None, Result, Ok, Err}
 use Rattle.prl_ast.specs.Trees.{ProgramTree}
 use Rattle.prl_syntax.specs.declared.parsing.ParseFault.{ParseFault}
 use Rattle.prl_syntax.specs.Parsing.{parse_of, Explains}
@@ -71,7 +71,6 @@ front = stages.Grammar ∷ stages.Types ∷ stages.Bodies ∷ stages.Form ∷ []
 
 -- the stages of a mode after the files
 abbrev pub stages_after : Mode → List Stage
-stages_after modes.Check = front
 stages_after modes.Print = stages.Grammar ∷ []
 stages_after modes.Flows = front ++ stages.Rows ∷ stages.Values ∷ []
 stages_after modes.Replay = front ++ stages.Timing ∷ stages.Horizon ∷ stages.Rows ∷ stages.Schedule ∷ []
@@ -82,7 +81,6 @@ stages_of mode = files ++ stages_after mode
 
 -- the text that a mode means where its stages hold
 abbrev pub IsText : Given → Mode → List ℕ → Type 0
-IsText g modes.Check text = text ≡ codes "accepted\n"
 IsText g modes.Print text = (p : ProgramTree) × IsProgram g p × (text ≡ printed p)
 IsText g modes.Flows text =
     (c : Chain) × (trees : List BodyTree) × (values : List Value) × AreBodies g trees × HasRows g c values

@@ -13,22 +13,19 @@ use Rattle.prl_app.specs.declared.words.Command.{Command}
 -- the mode of a name
 abbrev pub mode_named : List ℕ → Option Mode
 mode_named name =
-    if bytes_eq name (codes "check") then Some modes.Check
-    else if bytes_eq name (codes "flows") then Some modes.Flows
+    if bytes_eq name (codes "flows") then Some modes.Flows
     else if bytes_eq name (codes "print") then Some modes.Print
     else if bytes_eq name (codes "replay") then Some modes.Replay
     else None
 
 -- the options that a mode needs, in their order
 abbrev pub needs : Mode → List Setting
-needs modes.Check = settings.Program ∷ []
 needs modes.Print = settings.Program ∷ []
 needs modes.Flows = settings.Program ∷ settings.Sensors ∷ settings.Until ∷ []
 needs modes.Replay = settings.Program ∷ settings.Sensors ∷ settings.Schedule ∷ settings.Until ∷ []
 
 -- the options that may follow, in their order
 abbrev pub may : Mode → List Setting
-may modes.Check = settings.Bodies ∷ settings.Node ∷ []
 may modes.Print = []
 may modes.Flows = settings.Bodies ∷ settings.Node ∷ []
 may modes.Replay = settings.Bodies ∷ settings.Node ∷ []

@@ -24,21 +24,6 @@ fn print_text(alloc: Global, command: &Command, texts: &Texts) -> Result<Vec<u8>
     Ok(print(alloc, &program)?)
 }
 
-/// Mode `check`.
-fn check_text(alloc: Global, command: &Command, texts: &Texts) -> Result<Vec<u8>, Stop>
-    requires program { length texts.now.program.items ≤ MAX_PROGRAM }
-    requires bodies { length texts.now.bodies.items ≤ MAX_BODIES }
-    ensures text { IfOk result (λ text. IsText (given_of command.now texts.now) Mode.Check text.items) }
-    ensures holds { IfOk result (λ _. AllHold (given_of command.now texts.now) (stages_after Mode.Check)) }
-    ensures stop { IfErr result (StopsIn (given_of command.now texts.now) (stages_after Mode.Check)) }
-{
-    let program = read_program(alloc, command, texts)?;
-    let main = find_main(alloc, command, texts, &program)?;
-    read_bodies(alloc, command, texts, &program, main)?;
-    form(alloc, command, texts, &program)?;
-    Ok(Vec::from_slice(alloc, b"accepted\n")?)
-}
-
 /// Mode `flows`.
 fn flows_text(alloc: Global, command: &Command, texts: &Texts) -> Result<Vec<u8>, Stop>
     requires program { length texts.now.program.items ≤ MAX_PROGRAM }
@@ -84,7 +69,6 @@ fn mode_text(alloc: Global, command: &Command, texts: &Texts) -> Result<Vec<u8>,
     ensures stop { IfErr result (StopsIn (given_of command.now texts.now) (stages_after command.now.mode)) }
 {
     match command.mode {
-        Mode::Check => check_text(alloc, command, texts),
         Mode::Print => print_text(alloc, command, texts),
         Mode::Flows => flows_text(alloc, command, texts),
         Mode::Replay => replayed_text(alloc, command, texts),

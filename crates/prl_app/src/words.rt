@@ -15,8 +15,6 @@ pub const MAX_UNTIL: u32 = 2_147_483_647;
 /// What the command is to do.
 #[derive(Clone, Copy, Debug, PartialEq, Eq)]
 pub enum Mode {
-    /// Looks at the program and its bodies, and writes that they are accepted.
-    Check,
     /// Writes the flows of the actuators.
     Flows,
     /// Writes the program in its printed form.
@@ -143,9 +141,7 @@ type Read<'a> = (Values<'a>, &'a [String]);
 fn mode_named(name: &[u8]) -> Option<Mode>
     ensures { result ≡ mode_named name.now }
 {
-    if name == b"check".as_slice() {
-        Some(Mode::Check)
-    } else if name == b"flows".as_slice() {
+    if name == b"flows".as_slice() {
         Some(Mode::Flows)
     } else if name == b"print".as_slice() {
         Some(Mode::Print)
@@ -161,7 +157,7 @@ fn needs(mode: Mode) -> &'static [Setting]
     ensures { result.now ≡ needs mode }
 {
     match mode {
-        Mode::Check | Mode::Print => &[Setting::Program],
+        Mode::Print => &[Setting::Program],
         Mode::Flows => &[Setting::Program, Setting::Sensors, Setting::Until],
         Mode::Replay => &[
             Setting::Program,
@@ -178,7 +174,6 @@ fn may(mode: Mode) -> &'static [Setting]
 {
     match mode {
         Mode::Print => &[],
-        Mode::Check => &[Setting::Bodies, Setting::Node],
         Mode::Flows => &[Setting::Bodies, Setting::Node],
         Mode::Replay => &[Setting::Bodies, Setting::Node],
     }
