@@ -47,16 +47,16 @@ clash earlier x xs j n h first second =
     let absent = not_earlier (earlier ++ x.name ∷ []) xs j n (no_repeat earlier x xs h).1 second in
     false≢true (sym absent ∙ subst (λ m. is_among (earlier ++ m ∷ []) n ≡ true) (sym same) (among_last earlier n))
 
-apart_behind : (earlier : List (List ℕ)) (xs : List Placed) (i j : ℕ) (n : List ℕ) → repeat_after earlier xs ≡ None →
+apart_after : (earlier : List (List ℕ)) (xs : List Placed) (i j : ℕ) (n : List ℕ) → repeat_after earlier xs ≡ None →
     slice_get (placed_names xs) i ≡ Some n → slice_get (placed_names xs) j ≡ Some n → i ≡ j
-apart_behind earlier [] i j n h g k = cc
-apart_behind earlier (x ∷ xs) zero zero n h g k = refl
-apart_behind earlier (x ∷ xs) zero (suc j) n h g k = absurd (clash earlier x xs j n h g k)
-apart_behind earlier (x ∷ xs) (suc i) zero n h g k = absurd (clash earlier x xs i n h k g)
-apart_behind earlier (x ∷ xs) (suc i) (suc j) n h g k = ap suc (apart_behind (earlier ++ x.name ∷ []) xs i j n (no_repeat earlier x xs h).1 g k)
+apart_after earlier [] i j n h g k = cc
+apart_after earlier (x ∷ xs) zero zero n h g k = refl
+apart_after earlier (x ∷ xs) zero (suc j) n h g k = absurd (clash earlier x xs j n h g k)
+apart_after earlier (x ∷ xs) (suc i) zero n h g k = absurd (clash earlier x xs i n h k g)
+apart_after earlier (x ∷ xs) (suc i) (suc j) n h g k = ap suc (apart_after (earlier ++ x.name ∷ []) xs i j n (no_repeat earlier x xs h).1 g k)
 
 pub apart : (xs : List Placed) → repeat_in xs ≡ None → AreApart (placed_names xs)
-apart xs h = λ i j n g k. apart_behind [] xs i j n h g k
+apart xs h = λ i j n g k. apart_after [] xs i j n h g k
 
 -- no space has a repeat
 abbrev pub NoRepeats : List (List Placed) → Type 0

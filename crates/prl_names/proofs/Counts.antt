@@ -43,12 +43,12 @@ one_if : Bool → ℕ
 one_if true = 1
 one_if false = 0
 
-count_behind : (n : List ℕ) (earlier : List (List ℕ)) (xs : List Placed) → repeat_after earlier xs ≡ None → count_of n xs + one_if (is_among earlier n) ≤ 1
+count_after : (n : List ℕ) (earlier : List (List ℕ)) (xs : List Placed) → repeat_after earlier xs ≡ None → count_of n xs + one_if (is_among earlier n) ≤ 1
 unfolding count_of one_if
-count_behind n earlier [] h = elim (is_among earlier n) as (λ b. 0 + one_if b ≤ 1) [ true ↦ omega arith | false ↦ omega arith ]
-count_behind n earlier (x ∷ xs) h =
+count_after n earlier [] h = elim (is_among earlier n) as (λ b. 0 + one_if b ≤ 1) [ true ↦ omega arith | false ↦ omega arith ]
+count_after n earlier (x ∷ xs) h =
     let parts = no_repeat earlier x xs h in
-    let others = count_behind n (earlier ++ x.name ∷ []) xs parts.1 in
+    let others = count_after n (earlier ++ x.name ∷ []) xs parts.1 in
     elim (bytes_eq x.name n) as (λ b. bytes_eq x.name n ≡ b → (cond b 1 0 + count_of n xs) + one_if (is_among earlier n) ≤ 1) [
       | true ↦ λ e.
           (let same : x.name ≡ n = (bytes_decides x.name n).0 e in
@@ -64,7 +64,7 @@ count_behind n earlier (x ∷ xs) h =
     ] refl
 
 count_once : (n : List ℕ) (xs : List Placed) → repeat_in xs ≡ None → count_of n xs ≤ 1
-count_once n xs h = (let all = count_behind n [] xs h in omega arith)
+count_once n xs h = (let all = count_after n [] xs h in omega arith)
 
 stands : (n : List ℕ) (xs : List Placed) (i : ℕ) → slice_get (placed_names xs) i ≡ Some n → 1 ≤ count_of n xs
 unfolding count_of
