@@ -279,6 +279,21 @@ fn a_write_that_fails(rt: HostRuntime) -> Result<(), Fail> {
     Ok(())
 }
 
+/// A program, rows and a schedule.
+fn with_schedule(
+    alloc: Global,
+    program: &str,
+    rows: &str,
+    schedule: &str,
+) -> Result<MemFiles, Fail> {
+    let entries = [
+        ("p.prl", program.as_bytes()),
+        ("i.csv", rows.as_bytes()),
+        ("s.txt", schedule.as_bytes()),
+    ];
+    files(alloc, &entries, &[])
+}
+
 /// A replay of the program of copies up to a date.
 fn check_replay(
     rt: &impl Abort,
@@ -300,12 +315,7 @@ fn check_replay(
         until,
     ];
     let text = program(alloc, "i")?;
-    let entries = [
-        ("p.prl", text.as_str().as_bytes()),
-        ("i.csv", b"i,0,1\ni,1,2\n".as_slice()),
-        ("s.txt", schedule.as_bytes()),
-    ];
-    let files = files(alloc, &entries, &[])?;
+    let files = with_schedule(alloc, text.as_str(), "i,0,1\ni,1,2\n", schedule)?;
     check(rt, alloc, &line, files, told)
 }
 
