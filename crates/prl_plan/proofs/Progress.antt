@@ -174,7 +174,8 @@ module _ (c : RunConstants) (facts : HasPlanFacts c) where
 
   -- some job may act, or the tick may come
   pub sound_state_goes_on : (s : ExecState) → IsSound c s → (j n : ℕ) → IsUnfinished c s j n →
-      ((i : ℕ) × IsLeastReleased c s i × KeepsGated c s (events.Act (record { 0 = i }))) ⊎ KeepsGated c s events.Tick
+      ((i : ℕ) × IsLeastReleased c s i × KeepsGated c s (events.Act (record { 0 = i })))
+      ⊎ (((i : ℕ) → HasJob c s i → ActsReleased c s i → ⊥) × KeepsGated c s events.Tick)
   sound_state_goes_on s sound j n left =
       elim (search s c.tasks (let z : c.tasks ≤ c.tasks = omega arith in z)) [
         | inl found ↦
@@ -184,8 +185,11 @@ module _ (c : RunConstants) (facts : HasPlanFacts c) where
               least = λ k has now. found.1.least k has.task has now;
             } in
             inl (found.0, least, least_release_may_act s sound found.0 least))
-        | inr none ↦ inr (tick_may_come s (λ i has. elim (cases_lt s.now (c.release i (get_or s.ended i 0))) [
-          | inl early ↦ early
-          | inr now ↦ absurd (none i has.task (has, (let z : c.release i (get_or s.ended i 0) ≤ s.now = omega (arith, now) in z)))
-        ]) j n left)
+        | inr none ↦ inr (
+          (λ i has now. none i has.task (has, now)),
+          tick_may_come s (λ i has. elim (cases_lt s.now (c.release i (get_or s.ended i 0))) [
+            | inl early ↦ early
+            | inr now ↦ absurd (none i has.task (has, (let z : c.release i (get_or s.ended i 0) ≤ s.now = omega (arith, now) in z)))
+          ]) j n left,
+        )
       ]

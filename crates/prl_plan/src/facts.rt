@@ -100,7 +100,7 @@ pub fn plan_links_devices(plan: &Plan)
 }
 
 /// Where each job has room for its WCET between its encoded dates, no chain of jobs needs longer than its last job has. A job
-/// has one best over chains of at most so many jobs.
+/// has at most one best over chains of at most so many jobs.
 pub fn room_leaves_no_narrow_chain()
     ensures narrow { (graph : TaskGraph) (windows : List (List Window)) → AreEncodedDates graph windows → HaveRoom graph windows →
         (first : Job) (rest : List Job) → IsNarrow graph first rest → ⊥ }

@@ -108,7 +108,8 @@ pub fn act_does_one_action()
 /// where there is none the clock may go on.
 pub fn sound_state_goes_on()
     ensures { (c : RunConstants) → HasPlanFacts c → (s : ExecState) → IsSound c s → (j n : ℕ) → IsUnfinished c s j n →
-        ((i : ℕ) × IsLeastReleased c s i × KeepsGated c s (events.Act (record { 0 = i }))) ⊎ KeepsGated c s events.Tick }
+        ((i : ℕ) × IsLeastReleased c s i × KeepsGated c s (events.Act (record { 0 = i })))
+        ⊎ (((i : ℕ) → HasJob c s i → ActsReleased c s i → ⊥) × KeepsGated c s events.Tick) }
 {}
 
 /// An event that a free list allows keeps the tags: a half holds what was written to it last. A high half holds no later
