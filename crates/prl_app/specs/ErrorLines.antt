@@ -4,8 +4,8 @@ use Rattle.std.specs.List.{concat}
 use Rattle.std.specs.Fmt.{decimal}
 use Rattle.prl_base.specs.Limits.{what_text}
 use Rattle.prl_base.specs.declared.limits.Limit.{Limit}
+use Rattle.prl_base.specs.Texts.{type_text}
 use Rattle.prl_base.specs.declared.values.Ty.{Ty}
-use Rattle.prl_base.specs.declared.values.Ty.TheVariants as types
 use Rattle.prl_body.specs.declared.faults.BodyFault.{BodyFault}
 use Rattle.prl_body.specs.declared.faults.BodyFault.TheVariants as body_faults
 use Rattle.prl_plan.specs.declared.events.Rule.{Rule}
@@ -42,10 +42,6 @@ abbrev pub grammar_line : GrammarFault → List ℕ
 grammar_line (grammar.BadToken at) = placed_line (codes "1 bad token at ") at
 grammar_line (grammar.Unexpected at) = placed_line (codes "2 unexpected at ") at
 grammar_line (grammar.NumberRange at) = placed_line (codes "3 number range at ") at
-
-abbrev pub type_text : Ty → List ℕ
-type_text types.Int = codes "int"
-type_text types.Bool = codes "bool"
 
 abbrev pub mismatch_line : ℕ → Ty → Ty → List ℕ
 mismatch_line at wanted found =

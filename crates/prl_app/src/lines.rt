@@ -2,7 +2,7 @@
 
 ghost use Rattle.std.specs.Prelude.{◌≡◌, ◌<◌, ◌≤◌, [], unwrap_or, OnErr};
 ghost use Rattle.prl_io.specs.Growth.{IsWritten};
-ghost use Rattle.prl_app.specs.ErrorLines.{file_name, named_line, placed_line, grammar_line, type_text, mismatch_line, type_free_line, types_line, limit_line, bodies_line, short_line, illegal_line, unfinished_line, schedule_line, line_of_fault, line_of_stop, line_of};
+ghost use Rattle.prl_app.specs.ErrorLines.{file_name, named_line, placed_line, grammar_line, mismatch_line, type_free_line, types_line, limit_line, bodies_line, short_line, illegal_line, unfinished_line, schedule_line, line_of_fault, line_of_stop, line_of};
 ghost use Rattle.prl_app.specs.Endings.{IsTold};
 
 use crate::endings::Ending;
@@ -72,15 +72,6 @@ fn write_grammar<E: Sink>(err: &mut E, fault: GrammarFault) -> Result<(), Failed
     }
 }
 
-fn type_text(ty: Ty) -> &'static [u8]
-    ensures { result.now ≡ type_text ty }
-{
-    match ty {
-        Ty::Int => b"int",
-        Ty::Bool => b"bool",
-    }
-}
-
 /// Writes the line of a type that is not the wanted one.
 fn write_mismatch<E: Sink>(err: &mut E, at: u32, wanted: Ty, found: Ty) -> Result<(), Failed>
     ensures grown { IsWritten (E.seen err.old).written (E.seen err.new).written (mismatch_line at wanted found) result }
@@ -93,18 +84,9 @@ fn write_mismatch<E: Sink>(err: &mut E, at: u32, wanted: Ty, found: Ty) -> Resul
     let wanting = b" wanted ".as_slice();
     let finding = b" found ".as_slice();
     let end = b"\n".as_slice();
-    write_pieces(
-        err,
-        &[
-            front,
-            at,
-            wanting,
-            type_text(wanted),
-            finding,
-            type_text(found),
-            end,
-        ],
-    )
+    let wanted = wanted.text().as_bytes();
+    let found = found.text().as_bytes();
+    write_pieces(err, &[front, at, wanting, wanted, finding, found, end])
 }
 
 /// Writes the line of a variable whose type the rules leave open.

@@ -30,14 +30,6 @@ pub struct Run {
     pub until: u32,
 }
 
-fn one<T: Drop>(alloc: Global, item: T) -> Result<Vec<T>, AllocError>
-    ensures { IfOk result (λ items. vec_items items ≡ item ∷ []) }
-{
-    let mut items = Vec::with_capacity(alloc, 1)?;
-    items.push(item)?;
-    Ok(items)
-}
-
 /// What a chain and the values of its input ask to be computed.
 pub fn chain_run(
     alloc: Global,
@@ -48,7 +40,7 @@ pub fn chain_run(
 ) -> Result<Run, AllocError>
     ensures { IfOk result (λ run. run ≡ chain_run chain bodies values.items until) }
 {
-    let sensors = Sensors::new(one(alloc, Seq::new(values))?);
+    let sensors = Sensors::new(vec![in alloc; Seq::new(values)]?);
     Ok(Run {
         flat: chain.flat,
         clocks: chain.clocks,

@@ -9,6 +9,8 @@ returns-clause-grown g c =
       c.as_slice-end.ensures,
       c.as_bytes-at.ensures.value,
       c.format.ensures.text,
-      c.type_text.ensures,
-      c.type_text-2.ensures,
+      c.as_bytes-wanted.ensures.value,
+      c.text.ensures,
+      c.as_bytes-found.ensures.value,
+      c.text-2.ensures,
     ) at c.write_pieces.ensures.grown
