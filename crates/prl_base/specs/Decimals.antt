@@ -1,9 +1,10 @@
 -- Decimal numbers as texts spell them.
-use Rattle.std.specs.Prelude.{◌==◌, ◌^◌, ◌&&◌, ℕ, zero, suc, ℤ, pos, negsuc, Bool, false, List, [], ◌∷◌, Option, Some, None, nat_lt, if◌then◌else◌}
+use Rattle.std.specs.Prelude.{◌==◌, ◌^◌, ◌&&◌, ℕ, zero, suc, ℤ, pos, negsuc, Bool, false, List, [], ◌∷◌, Option, Some, None, nat_lt, nat_le, if◌then◌else◌}
 use Rattle.std.specs.Char.{is_ascii_digit}
 use Rattle.std.specs.List.{list_all}
 use Rattle.std.specs.Option.{option_and_then}
 use Rattle.std.specs.Str.Parse.{digits_value}
+use Rattle.prl_base.specs.declared.decimals.TheConstants.{MAX_NEGATIVE, MAX_POSITIVE}
 
 -- one digit or more, and nothing else
 abbrev pub are_digits : List ℕ → Bool
@@ -16,11 +17,11 @@ decimal_of text = if are_digits text && nat_lt (digits_value 10 text) (2 ^ 64) t
 
 -- the integer of 64 bits with this sign and size
 abbrev pub positive : ℕ → Option ℤ
-positive size = if nat_lt size (2 ^ 63) then Some (pos size) else None
+positive size = if nat_le size MAX_POSITIVE then Some (pos size) else None
 
 abbrev pub negative : ℕ → Option ℤ
 negative zero = Some (pos 0)
-negative (suc n) = if nat_lt n (2 ^ 63) then Some (negsuc n) else None
+negative (suc n) = if nat_lt n MAX_NEGATIVE then Some (negsuc n) else None
 
 -- the integer of 64 bits that a text spells: digits, after at most one `-`
 abbrev pub integer_of : List ℕ → Option ℤ

@@ -6,6 +6,12 @@ ghost use Rattle.std.specs.List.{list_all};
 ghost use Rattle.std.specs.Str.Parse.{digits_value};
 ghost use Rattle.prl_base.specs.Decimals.{are_digits, decimal_of, integer_of, positive, negative};
 
+/// The greatest integer of the language: 2^63 - 1.
+pub const MAX_POSITIVE: u64 = 9_223_372_036_854_775_807;
+
+/// The least integer of the language, without its sign: 2^63.
+pub const MAX_NEGATIVE: u64 = 9_223_372_036_854_775_808;
+
 fn are_all_digits(bytes: &[u8]) -> bool
     ensures { result ≡ list_all is_ascii_digit bytes.now }
 {
@@ -58,7 +64,7 @@ pub fn decimal_of(text: &[u8]) -> Option<u64>
 pub fn positive(size: u64) -> Option<i64>
     ensures { result ≡ positive size }
 {
-    if size < 1 << 63 {
+    if size <= MAX_POSITIVE {
         Some(size as i64)
     } else {
         None
@@ -71,7 +77,7 @@ pub fn negative(size: u64) -> Option<i64>
 {
     if size == 0 {
         Some(0)
-    } else if size <= 1 << 63 {
+    } else if size <= MAX_NEGATIVE {
         Some(-((size - 1) as i64) - 1)
     } else {
         None

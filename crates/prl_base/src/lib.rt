@@ -15,7 +15,9 @@ mod seqs;
 mod texts;
 mod values;
 
-pub use decimals::{are_digits, decimal_of, integer_of, negative, positive};
+pub use decimals::{
+    MAX_NEGATIVE, MAX_POSITIVE, are_digits, decimal_of, integer_of, negative, positive,
+};
 pub use limits::{Limit, What};
 pub use lines::{cut_line, line_len};
 pub use names::{Label, Name, NameFault, is_word, is_word_byte, is_word_start};

@@ -1,7 +1,5 @@
 //! The limits of the profile: what is counted, and how much was found.
 
-use std::fmt;
-
 /// What a limit counts.
 #[derive(Clone, Copy, Debug, PartialEq, Eq)]
 pub enum What {
@@ -62,24 +60,10 @@ impl What {
     }
 }
 
-impl fmt::Display for What {
-    fn fmt<W: fmt::Write>(&self, f: &mut fmt::Formatter<W>) -> fmt::Result {
-        f.write_str(self.text())
-    }
-}
-
 /// A count that passed its limit.
 #[derive(Clone, Copy, Debug, PartialEq, Eq)]
 pub struct Limit {
     pub what: What,
     /// The count.
     pub found: u64,
-}
-
-impl fmt::Display for Limit {
-    fn fmt<W: fmt::Write>(&self, f: &mut fmt::Formatter<W>) -> fmt::Result {
-        let what = self.what;
-        let found = self.found;
-        write!(f, "limit {what} found {found}")
-    }
 }

@@ -1,12 +1,12 @@
-//! A list that contracts see as the list of its items.
+//! Vectors as fields that contracts compare with lists.
 
 ghost use Rattle.std.specs.Prelude.{◌≡◌, ◌==◌, length};
 ghost use Rattle.std.specs.Vec.{vec_len};
 
 use std::marker::Model;
 
-/// A vector that contracts see as the list of its items. Public fields of other types hold it in
-/// place of a `Vec`, so that a clause can say that a whole value equals a definition's.
+/// A vector whose model is its list of items. A public field that a clause compares with a definition's value has this type
+/// and not `Vec`, of which contracts see more than the items.
 #[derive(Debug, Drop)]
 pub struct Seq<T> {
     items: Vec<T>,

@@ -45,8 +45,8 @@ pub record IsWellTyped (body : CheckedBody) : Type 0 where
   pub outputs : HaveTypes (input_types body) (register_types body) (value_expressions body) (output_types body)
   pub registers : HaveTypes (input_types body) (register_types body) (next_expressions body) (register_types body)
 
--- One step of a body, for these inputs: its outputs, in the order of the import, and its next registers. All
--- expressions see the registers before the step.
+-- One step of a body, for these inputs: its outputs, in the order of the import, and its next registers. No
+-- expression sees a register that this step has changed.
 pub record Stepped : Type 0 where
   pub outputs : List Value
   pub registers : List Value

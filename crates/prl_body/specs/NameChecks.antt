@@ -20,7 +20,7 @@ abbrev pub either_fault : Option ℕ → Option ℕ → Option ℕ
 either_fault None other = other
 either_fault (Some at) other = Some at
 
--- a register with the name of an input, an output or an earlier register
+-- a register whose name is taken: by a port, or by a register before it
 abbrev pub register_fault : List Port → List Port → List RegisterText → List RegisterText → Option ℕ
 register_fault ins outs earlier [] = None
 register_fault ins outs earlier (r ∷ rs) =
@@ -28,7 +28,7 @@ register_fault ins outs earlier (r ∷ rs) =
     else register_fault ins outs (earlier ++ r ∷ []) rs
 
 abbrev mutual
-  -- a name that is no input or register
+  -- a name that stands for neither an input nor a register
   pub unknown_name : List Port → List RegisterText → Tree → Option ℕ
   unknown_name ins registers (constant v) = None
   unknown_name ins registers (name n at) = if has_port ins n || has_register registers n then None else Some at.at

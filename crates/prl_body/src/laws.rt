@@ -7,7 +7,7 @@ ghost use Rattle.prl_body.specs.Checks.{body_tree, checked};
 ghost use Rattle.prl_body.specs.Texts.{TextTree};
 ghost use Rattle.prl_body.specs.Used.{HaveBodiesOf};
 
-/// Behind `check_bodies` each used import has a body, which has exactly the ports of the import.
+/// After `check_bodies` each used import has a body, which has exactly the ports of the import.
 pub fn used_imports_have_bodies()
     ensures { (imports : List Import) (used : List (List ℕ)) (texts : List TextTree) (bodies : List CheckedBody)
         → checked imports used texts ≡ Ok (map body_tree bodies) → HaveBodiesOf imports used bodies }

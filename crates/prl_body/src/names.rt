@@ -10,7 +10,7 @@ use crate::scopes::{Scope, has_statement};
 use crate::texts::{Expr, Statement};
 use prl_names::Indices;
 
-/// Where the first register stands with the name of an input, an output or an earlier register.
+/// Where the first register stands whose name a port or a register before it has.
 fn register_fault(scope: &Scope<'_>) -> Option<u32>
     ensures { result ≡ register_fault scope.now.ins scope.now.outs [] scope.now.registers }
 {
@@ -66,8 +66,8 @@ fn unknown_name(scope: &Scope<'_>, expr: &Expr) -> Option<u32>
     }
 }
 
-/// Where the first left name stands that is no output or register or has an earlier statement, or the first
-/// name on the right that is no input or register.
+/// Where the first name stands that is wrong in a statement: a left one that may not be defined, or not once more, or a
+/// right one that stands for nothing.
 fn statement_fault(scope: &Scope<'_>, statements: &[Statement], lefts: &Indices<'_>) -> Option<u32>
     requires { AreIndices lefts.now (left_names statements.now) }
     ensures { result ≡ statement_fault scope.now.ins scope.now.outs scope.now.registers [] (map statement_tree statements.now) }

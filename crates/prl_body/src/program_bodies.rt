@@ -137,8 +137,8 @@ fn all_there(alloc: Global, bodies: &[Body], used: &[Name]) -> Result<(), BodyFa
     Ok(())
 }
 
-/// The bodies of a program with these imports, of which those of the names `used` need one. A body whose name
-/// is no import is passed over.
+/// The bodies of a program with these imports, where each of the names `used` has to have one. A body of no
+/// import stays unread.
 ///
 /// Else the first fault: each body in the order of the text has its faults of names in the order of the text,
 /// then the first of types, then that an output has no statement; and then the first used import without a

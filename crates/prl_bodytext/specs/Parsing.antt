@@ -56,7 +56,7 @@ pub record AreBodiesOf (text : List ℕ) (trees : List TextTree) : Type 0 where
   pub written : Text bodies Bodies trees (lexemes_of body_vocabulary text tokens)
   pub ranges : out_of_range body_ranges false 0 (lexemes_of body_vocabulary text tokens) ≡ None
 
--- The first unexpected token of the text is at the place: no text of the grammar begins with the tokens up to it.
+-- The first unexpected token of the text is at the place: with the tokens up to it, however it goes on, the text is not of the grammar.
 pub record IsUnexpectedAt (text : List ℕ) (at : ℕ) : Type 0 where
   pub tokens : List Token
   pub left : ℕ

@@ -121,8 +121,8 @@ fn tokens_of(alloc: Global, text: &[u8]) -> Result<Vec<Token>, LexFault>
 }
 
 /// The tokens of the text in order: words, numbers and symbols, each the longest that stands at its place.
-/// White space (space, tab, carriage return, line feed) and comments separate them; a comment is `--` up to
-/// the end of the line, or `(*` up to the next `*)`.
+/// Between them there may be blanks, tabs, returns and line feeds, and comments: from `--` to the end of its
+/// line, and from `(*` to the first `*)` after it.
 ///
 /// Else the first fault in order of place: a bad token, a number above 2^64 - 1, a name of more than 64 bytes,
 /// or more than 64 open parentheses; or want of memory.

@@ -11,7 +11,7 @@ use Rattle.prl_syntax.specs.declared.words.Fixed.TheVariants as fixed
 use Rattle.prl_syntax.specs.Words.{class_of, keyword_of}
 use Rattle.prl_reader.specs.Ranges.{inside_after, is_fault}
 use Rattle.prl_syntax.specs.Ranges.{is_count, in_range, program_ranges}
-use Rattle.prl_reader.specs.declared.numbers.TheConstants.{MAX_NEGATIVE, MAX_POSITIVE}
+use Rattle.prl_base.specs.declared.decimals.TheConstants.{MAX_NEGATIVE, MAX_POSITIVE}
 use Rattle.prl_print.proofs.Scanning.{Scan, scan_blank, begins_other}
 use Rattle.prl_print.proofs.Pieces.{a_name, a_number, a_fixed, Stops, NoPair, scan_word, scan_number, scan_one, scan_two, number_leads}
 

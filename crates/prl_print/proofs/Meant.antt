@@ -15,7 +15,7 @@ use Rattle.prl_syntax.specs.declared.words.Fixed.{Fixed}
 use Rattle.prl_syntax.specs.declared.words.Fixed.TheVariants as fixed
 use Rattle.prl_syntax.specs.declared.notes.Note.{Note}
 use Rattle.prl_syntax.specs.declared.parameters.Item.{Item}
-use Rattle.prl_reader.specs.declared.numbers.TheConstants.{MAX_NEGATIVE, MAX_POSITIVE}
+use Rattle.prl_base.specs.declared.decimals.TheConstants.{MAX_NEGATIVE, MAX_POSITIVE}
 use Rattle.prl_reader.specs.Numbers.{positive, negative}
 use Rattle.prl_syntax.specs.Values.{small, common_divisor, reduced, ratio_of, ratio_with}
 use Rattle.prl_syntax.specs.Trees.{joined, param_of, note_or, first_note, params_before, params_of, port_of}

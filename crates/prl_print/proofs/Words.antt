@@ -21,7 +21,7 @@ use Rattle.prl_reader.specs.Lexemes.{Lexeme}
 use Rattle.prl_syntax.specs.declared.words.Fixed.{Fixed}
 use Rattle.prl_syntax.specs.declared.words.Fixed.TheVariants as fixed
 use Rattle.prl_syntax.specs.Words.{keyword_of}
-use Rattle.prl_reader.specs.declared.numbers.TheConstants.{MAX_NEGATIVE, MAX_POSITIVE}
+use Rattle.prl_base.specs.declared.decimals.TheConstants.{MAX_NEGATIVE, MAX_POSITIVE}
 use Rattle.prl_syntax.specs.Values.{ratio_of}
 use Rattle.prl_print.proofs.Pieces.{a_name, a_number, a_fixed}
 

@@ -2,7 +2,7 @@
 use Rattle.std.specs.Prelude.{ℕ, min, pos, neg_ℤ}
 use Rattle.prl_base.specs.declared.values.Value.{Value}
 use Rattle.prl_base.specs.declared.values.Value.TheVariants as values
-use Rattle.prl_reader.specs.declared.numbers.TheConstants.{MAX_NEGATIVE, MAX_POSITIVE}
+use Rattle.prl_base.specs.declared.decimals.TheConstants.{MAX_NEGATIVE, MAX_POSITIVE}
 
 abbrev pub positive : ℕ → Value
 positive n = values.Int (pos (min n MAX_POSITIVE))

@@ -10,6 +10,6 @@ mod reading;
 mod terminals;
 
 pub use lexing::{Spelling, terminals_of};
-pub use numbers::{MAX_NEGATIVE, MAX_POSITIVE, Ranged, negative, out_of_range, positive};
+pub use numbers::{Ranged, negative, out_of_range, positive};
 pub use reading::{Stop, expect, name, next_is, number, place_of};
 pub use terminals::Terminal;

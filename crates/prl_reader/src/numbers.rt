@@ -5,13 +5,7 @@ ghost use Rattle.prl_reader.specs.Numbers.{negative, positive};
 ghost use Rattle.prl_reader.specs.Ranges.{is_fault, out_of_range};
 
 use crate::terminals::Terminal;
-use prl_base::Value;
-
-/// The greatest constant: 2^63 - 1.
-pub const MAX_POSITIVE: u64 = 9_223_372_036_854_775_807;
-
-/// The least constant without its sign: 2^63.
-pub const MAX_NEGATIVE: u64 = 9_223_372_036_854_775_808;
+use prl_base::{MAX_POSITIVE, Value};
 
 /// The constant that a number without a sign writes. One past the greatest counts as that.
 pub fn positive(number: u64) -> Value

@@ -63,7 +63,7 @@ pub record IsProgramOf (text : List ℕ) (tree : ProgramTree) : Type 0 where
   pub ranges : out_of_range program_ranges false 0 (lexemes_of text tokens) ≡ None
   pub nodes : length tree.nodes ≤ MAX_NODES
 
--- The first unexpected token of the text is at the place: no text of the grammar begins with the tokens up to it.
+-- The first unexpected token of the text is at the place: with the tokens up to it, however it goes on, the text is not of the grammar.
 pub record IsUnexpectedAt (text : List ℕ) (at : ℕ) : Type 0 where
   pub tokens : List Token
   pub left : ℕ

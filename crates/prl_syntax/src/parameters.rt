@@ -1,4 +1,4 @@
-//! Parameters and local variables of nodes. A note belongs to every name of its group.
+//! Parameters and local variables of nodes. Names that share a note all have it.
 
 ghost use Rattle.std.specs.Prelude.{◌≡◌, ◌∷◌, [], ◌++◌, reverse, None, IfOk};
 ghost use Rattle.prl_base.specs.Reading.{Gives};
