@@ -1,0 +1,9 @@
+mod Climbs
+mod Turns
+mod Extended
+mod Rooms
+mod SoFar
+mod Shortest
+mod Constants
+mod Listed
+mod Examples

@@ -1,0 +1,57 @@
+use Rattle.std.proofs.Common.{◌≡◌, ◌+◌, ◌<◌, ◌≤◌, ◌++◌, ℕ, List, [], ◌∷◌, take, drop, length, length-take-le, get_or, sym, ap, subst, ◌∙◌, arith}
+use Rattle.std.proofs.lemmas.List.{take_more, drop_more, take_all}
+use Rattle.prl_base.specs.declared.operators.Op.{Op}
+use Rattle.prl_words.specs.declared.tables.Word.{Word}
+use Rattle.prl_words.specs.code.Steps.{IsSoFar, IsExtended}
+use Rattle.prl_words.proofs.SoFar.{room_so_far, next_so_far, first_so_far, steady_so_far, word_so_far}
+use Rattle.prl_words.proofs.composing.word_of.Goals as goal
+
+-- the operators to come begin with the one at this place
+at_turn : (ops : List Op) (i : ℕ) (op : Op) (w : Word) → i < length ops → op ≡ get_or ops i op → IsSoFar (take i ops) (drop i ops) w →
+    IsSoFar (take i ops) (op ∷ drop (i + 1) ops) w
+at_turn ops i op w below is so_far =
+    let split : drop i ops ≡ op ∷ drop (i + 1) ops = drop_more ops i op below ∙ ap (λ (o : Op). o ∷ drop (i + 1) ops) (sym is) in
+    subst (λ (rest : List Op). IsSoFar (take i ops) rest w) split so_far
+
+pub with_operator-requires : goal.with_operator-requires
+with_operator-requires c =
+    let ops = c.args.ops.now in
+    let i = c.loop-op.op-index in
+    let op = c.op-item.result in
+    let below : i < length ops = c.loop-op-test.true in
+    let front_long : length (take i ops) ≡ i = length-take-le i ops (omega (arith, below)) in
+    room_so_far op (take i ops) (drop (i + 1) ops) c.loop-op.word (at_turn ops i op c.loop-op.word below c.op-item.is c.loop-op.invariant)
+    (omega (arith, front_long, below, c.requires.few))
+
+pub loop-op-init : goal.loop-op-init
+loop-op-init c =
+    let ops = c.args.ops.now in
+    subst (λ (w : Word). IsSoFar [] ops w) (sym c.in_ok-word.ensures) (first_so_far ops c.requires.counts.0 c.requires.counts.1)
+
+pub loop-op-preserved : goal.loop-op-preserved
+loop-op-preserved c =
+    let ops = c.args.ops.now in
+    let i = c.loop-op.op-index in
+    let op = c.op-item.result in
+    let below : i < length ops = c.loop-op-test.true in
+    let extended : IsExtended op c.loop-op.word c.in_ok-word-2.word = c.in_ok-word-2.ensures in
+    let split : take (i + 1) ops ≡ take i ops ++ op ∷ [] = take_more ops i op below ∙ ap (λ (o : Op). take i ops ++ o ∷ []) (sym c.op-item.is) in
+    subst (λ (front : List Op). IsSoFar front (drop (i + 1) ops) c.in_ok-word-2.word) (sym split)
+    (next_so_far op (take i ops) (drop (i + 1) ops) c.loop-op.word c.in_ok-word-2.word (at_turn ops i op c.loop-op.word below c.op-item.is c.loop-op.invariant) extended)
+
+-- all operators are composed
+all_composed : (ops : List Op) (i : ℕ) (w : Word) → length ops ≤ i → IsSoFar (take i ops) (drop i ops) w → IsSoFar ops (drop i ops) w
+all_composed ops i w past so_far = subst (λ (front : List Op). IsSoFar front (drop i ops) w) (take_all i ops past) so_far
+
+pub shortened-requires : goal.shortened-requires
+shortened-requires c =
+    let ops = c.args.ops.now in
+    let i = c.loop-op.op-index in
+    steady_so_far ops (drop i ops) c.loop-op.word (all_composed ops i c.loop-op.word c.loop-op-test.false c.loop-op.invariant) c.requires.few
+
+pub returns : goal.returns
+returns c =
+    let ops = c.args.ops.now in
+    let i = c.loop-op.op-index in
+    word_so_far ops (drop i ops) c.loop-op.word c.shortened.result
+    (all_composed ops i c.loop-op.word c.loop-op-test.false c.loop-op.invariant) c.requires.few c.shortened.ensures

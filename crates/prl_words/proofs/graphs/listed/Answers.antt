@@ -1,0 +1,50 @@
+use Rattle.std.proofs.Common.{◌≡◌, ◌+◌, List, Some, length, sym, ap, subst, ◌∙◌, arith}
+use Rattle.std.specs.Prelude.{slice_get}
+use Rattle.std.proofs.lemmas.Option.{slice_get_within}
+use Rattle.prl_base.specs.declared.operators.Op.{Op}
+use Rattle.prl_words.specs.declared.tables.Word.{Word}
+use Rattle.prl_words.specs.Counts.{HaveCounts}
+use Rattle.prl_words.specs.Words.{IsWordOf}
+use Rattle.prl_words.specs.GraphWords.{AreWords}
+use Rattle.prl_words.proofs.Constants.{edge_counts, edge_read}
+use Rattle.prl_words.proofs.Listed.{AreSoMany, one_more}
+use Rattle.prl_words.proofs.graphs.listed.Goals as goal
+
+pub word_of-requires-clause-counts : goal.word_of-requires-clause-counts
+word_of-requires-clause-counts c =
+    let graph = c.args.graph.now in
+    let edge = c.edge-item.result in
+    let found : slice_get graph.edges c.loop-edge.edge-index ≡ Some edge =
+    edge_read c.as_slice-edge-items.result.now graph.edges c.loop-edge.edge-index edge c.as_slice-edge-items.ensures c.loop-edge-test.true c.edge-item.is in
+    let has = edge_counts graph c.requires.well c.requires.small c.loop-edge.edge-index edge found in
+    (has.jobs, subst (λ (ops : List Op). HaveCounts ops has.jobs) (sym c.as_slice.ensures) has.counts)
+
+pub word_of-requires-clause-few : goal.word_of-requires-clause-few
+word_of-requires-clause-few c =
+    let graph = c.args.graph.now in
+    let edge = c.edge-item.result in
+    let found : slice_get graph.edges c.loop-edge.edge-index ≡ Some edge =
+    edge_read c.as_slice-edge-items.result.now graph.edges c.loop-edge.edge-index edge c.as_slice-edge-items.ensures c.loop-edge-test.true c.edge-item.is in
+    omega (arith, ap length c.as_slice.ensures, (c.requires.well.edges c.loop-edge.edge-index edge found).few)
+
+pub loop-edge-preserved : goal.loop-edge-preserved
+loop-edge-preserved c =
+    let graph = c.args.graph.now in
+    let i = c.loop-edge.edge-index in
+    let edge = c.edge-item.result in
+    let found : slice_get graph.edges i ≡ Some edge =
+    edge_read c.as_slice-edge-items.result.now graph.edges i edge c.as_slice-edge-items.ensures c.loop-edge-test.true c.edge-item.is in
+    let is : IsWordOf edge.ops c.in_ok-word.word = subst (λ (ops : List Op). IsWordOf ops c.in_ok-word.word) c.as_slice.ensures c.in_ok-word.ensures in
+    subst (λ (xs : List Word). AreSoMany graph.edges (i + 1) xs) (sym c.in_ok-push.ensures.items)
+    (one_more graph.edges i c.loop-edge.words.items edge c.in_ok-word.word c.loop-edge.invariant found is)
+
+pub returns : goal.returns
+returns c =
+    let graph = c.args.graph.now in
+    let all : length graph.edges ≡ c.loop-edge.edge-index = omega (arith, ap length c.as_slice-edge-items.ensures) in
+    subst (λ (xs : List Word). AreWords graph xs) (sym c.new.ensures)
+    (record {
+      few = c.requires.few;
+      long = c.loop-edge.invariant.0 ∙ sym all;
+      each = λ e edge found. c.loop-edge.invariant.1 e edge (omega (arith, all, slice_get_within graph.edges e edge found)) found;
+    })

@@ -1,0 +1,34 @@
+-- The shortest repeating part of a word.
+use Rattle.std.specs.Prelude.{◌≡◌, ◌+◌, ◌-◌, ◌*◌, ◌%◌, ◌<◌, ◌≤◌, ◌^◌, ℕ, take}
+use Rattle.prl_words.specs.declared.tables.Word.{Word}
+use Rattle.prl_words.specs.Words.{number_at, IsWord}
+
+-- So many jobs later each number of the first turn is higher by so many.
+abbrev pub ClimbsFirst : Word → ℕ → ℕ → Type 0
+ClimbsFirst w jobs higher = (i : ℕ) → i < w.step_in → number_at w (i + jobs) ≡ number_at w i + higher
+
+-- how much higher number `jobs` is than number 0
+abbrev pub rise_of : Word → ℕ → ℕ
+rise_of w jobs = number_at w jobs - number_at w 0
+
+-- the numbers of two turns fit, and none falls
+pub record IsSteady (w : Word) : Type 0 where
+  pub word : IsWord w
+  pub few : w.step_in ≤ 2 ^ 32
+  pub fits : (i : ℕ) → i < 2 * w.step_in → number_at w i < 2 ^ 63
+  pub rises : (i j : ℕ) → i ≤ j → number_at w i ≤ number_at w j
+
+-- of the divisors of the step by which the numbers climb, the least
+pub record IsShortest (w : Word) (jobs : ℕ) : Type 0 where
+  pub some : 1 ≤ jobs
+  pub within : jobs ≤ w.step_in
+  pub divides : w.step_in % jobs ≡ 0
+  pub serves : ClimbsFirst w jobs (rise_of w jobs)
+  pub none_less : (j : ℕ) → 1 ≤ j → j < jobs → w.step_in % j ≡ 0 → ClimbsFirst w j (rise_of w j) → ⊥
+
+-- the word `t` is the word `w` with its shortest repeating part
+pub record IsShortened (w t : Word) : Type 0 where
+  pub prefix : t.prefix ≡ w.prefix
+  pub shortest : IsShortest w t.step_in
+  pub repeat : t.repeat ≡ take t.step_in w.repeat
+  pub step_out : t.step_out ≡ rise_of w t.step_in

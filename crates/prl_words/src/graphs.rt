@@ -1,0 +1,66 @@
+//! The words of all edges of a task graph.
+
+ghost use Rattle.std.specs.Prelude.{◌≡◌, ◌≤◌, IfOk, MatchResult};
+ghost use Rattle.prl_plan.specs.Graphs.{IsWellFormed};
+ghost use Rattle.prl_words.specs.GraphWords.{IsSmall, AreWords, IsWordFault, constants_in};
+
+use crate::Word;
+use crate::composing::word_of;
+use crate::limits::MAX_PREFIX;
+use crate::prefixes::all_constants;
+use prl_base::{Limit, Seq, What};
+use prl_plan::TaskGraph;
+use std::alloc::{AllocError, Global};
+
+/// Why there are no words.
+#[derive(Clone, Copy, Debug, PartialEq, Eq)]
+pub enum WordFault {
+    /// The prefixes have more than 1,000,000 constants.
+    Limit(Limit),
+    Memory,
+}
+
+impl From<AllocError> for WordFault {
+    ghost use Rattle.std.specs.Prelude.{◌≡◌};
+    ghost use Rattle.prl_words.specs.declared.graphs.WordFault.TheVariants.{Memory};
+
+    ghost from_gives = { λ _ e. e ≡ Memory };
+
+    fn from(_error: AllocError) -> WordFault {
+        WordFault::Memory
+    }
+}
+
+/// The words of the edges, where the limit is kept.
+fn listed(alloc: Global, graph: &TaskGraph) -> Result<Seq<Word>, AllocError>
+    requires well { IsWellFormed graph.now }
+    requires small { IsSmall graph.now }
+    requires few { constants_in graph.now ≤ MAX_PREFIX }
+    ensures { IfOk result (AreWords graph.now) }
+{
+    let mut words = Vec::with_capacity(alloc, graph.edges.len())?;
+    for edge in graph.edges.as_slice() {
+        let word = word_of(alloc, edge.ops.as_slice())?;
+        words.push(word)?;
+    }
+    Ok(Seq::new(words))
+}
+
+/// The dependency word of each edge, in the order of the edges. The limit on the constants in
+/// their prefixes is tested before any is listed. An edge from a constant has its instances
+/// counted like those of a flow.
+pub fn words(alloc: Global, graph: &TaskGraph) -> Result<Seq<Word>, WordFault>
+    requires well { IsWellFormed graph.now }
+    requires small { IsSmall graph.now }
+    ensures { MatchResult result (AreWords graph.now) (IsWordFault graph.now) }
+{
+    let found = all_constants(graph);
+    if found > MAX_PREFIX {
+        return Err(WordFault::Limit(Limit {
+            what: What::Prefix,
+            found,
+        }));
+    }
+    let words = listed(alloc, graph)?;
+    Ok(words)
+}
