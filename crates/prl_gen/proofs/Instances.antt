@@ -1,0 +1,16 @@
+-- The instances of a lane are those whose dates are before the end.
+use Rattle.std.proofs.Common.{ℕ, ◌+◌, ◌*◌, ◌<◌, ◌≤◌, ◌↔◌, arith}
+use Rattle.std.proofs.lemmas.Grind.{div_ceil_times}
+use Rattle.prl_gen.specs.declared.lanes.TheConstants.{UNTIL}
+use Rattle.prl_gen.specs.Lanes.{instances}
+
+earlier : (m count period end : ℕ) → count * period < end + period → m < count → m * period < end
+earlier m count period end below h = grind arith
+
+fewer : (m count period end : ℕ) → end ≤ count * period → m * period < end → m < count
+fewer m count period end above h = grind arith
+
+pub instances_are_before_the_end : (period instance : ℕ) → 0 < period → (instance < instances period) ↔ (instance * period < UNTIL)
+instances_are_before_the_end period instance positive =
+    let bounds = div_ceil_times UNTIL period positive in
+    (earlier instance (instances period) period UNTIL bounds.1, fewer instance (instances period) period UNTIL bounds.0)

@@ -1,0 +1,5 @@
+//! Tests of generated programs.
+#![tactic(auto)]
+
+#[cfg(test)]
+mod generated;
