@@ -1,6 +1,6 @@
-pub mod Coprime
 pub mod Signs
 pub mod Lowest
 pub mod Examples
--- for the crates above: lines cut one after another
+-- for the crates above: divisors, and lines cut one after another
+pub mod Coprime
 pub mod LineCuts
