@@ -1,5 +1,5 @@
 -- What a command comes to over known files is how its call ends.
-use Rattle.std.proofs.Common.{◌≡◌, ◌≤◌, ◌<◌, ℕ, List, Option, Some, None, Result, refl, sym, ap, ◌∙◌, inl, inr, subst, arith}
+use Rattle.std.proofs.Common.{◌≡◌, ◌≤◌, ◌<◌, ◌++◌, ℕ, List, [], ◌∷◌, drop, Option, Some, None, Result, refl, sym, ap, ◌∙◌, inl, inr, subst, arith}
 use Rattle.prl_io.specs.Views.{FolderView, SinkView}
 use Rattle.prl_app.specs.declared.endings.Ending.{Ending}
 use Rattle.prl_app.specs.declared.endings.Ending.TheVariants as endings
@@ -12,7 +12,7 @@ use Rattle.prl_app.specs.declared.words.Command.{Command}
 use Rattle.prl_app.specs.Words.{command_of}
 use Rattle.prl_app.specs.Given.{Folder, Given, IsContent, IsGiven}
 use Rattle.prl_app.specs.Stages.{Comes, stages_of}
-use Rattle.prl_app.specs.Endings.{Outside, Ends, IsExact, NoFault, ending_of}
+use Rattle.prl_app.specs.Endings.{Outside, Ends, IsExact, NoFault, NoneFailed, ending_of}
 
 abbrev given_with : Result (List ℕ) Fault → Result (List ℕ) Fault → Result (List ℕ) Fault → Result (List ℕ) Fault → Option (List ℕ) → ℕ → Given
 given_with program bodies sensors schedule node until =
@@ -62,7 +62,12 @@ module _ (law : OneEnd) (words : List (List ℕ)) (told : Option Folder) (folder
       let comes : Comes h (stages_of d.mode) a = subst (λ (x : Given). Comes x (stages_of d.mode) a) (one_given folder d g h given gh) comes in
       law h (stages_of d.mode) a b comes cb
 
-same_files : (old new : Outside) (end : Option (Stage × Fault)) → NoFault old new end → new.files.faults ≡ old.files.faults
+-- a list with a name more is another one
+one_more : (names : List (List ℕ)) (name : List ℕ) → names ++ (name ∷ []) ≡ names → ⊥
+one_more [] name e = cc
+one_more (first ∷ rest) name e = one_more rest name (ap (drop 1) e)
+
+same_files : (old new : Outside) (end : Option (Stage × Fault)) → NoFault old new end → NoneFailed old new
 same_files old new None h = h.0
 same_files old new (Some end) h = h
 
@@ -79,7 +84,7 @@ exact_by law words old new endings.Unwritten cause folder known d asked h given 
 exact_by law words old new endings.Words cause folder known d asked h given end comes none = absurd (none_some (command_of words) d cause.0 asked)
 exact_by law words old new (endings.Stopped (stops.Unread part)) cause folder known d asked h given end comes none =
     let same = same_files old new end none in
-    let more = cause.0.counted in absurd (omega (arith, same, more))
+    absurd (one_more old.files.failed cause.0.name (sym cause.0.failed ∙ same))
 exact_by law words old new (endings.Stopped (stops.Refused stage fault)) cause folder known d asked h given end comes none =
     let m = cause.0 in
     inl (ap ending_of (one_way law words old.files.folder folder known m.command d m.asked asked m.given h m.is_given given (Some (stage, fault)) end m.comes comes))

@@ -25,7 +25,7 @@ use Rattle.prl_app.specs.declared.stages.Stop.{Stop}
 use Rattle.prl_app.specs.declared.stages.Stop.TheVariants as stops
 use Rattle.prl_app.specs.declared.reading.Texts.{Texts}
 use Rattle.prl_app.specs.declared.words.Command.{Command}
-use Rattle.prl_app.specs.Given.{Folder, Given, IsContent, IsGiven, content_of, text_of, file_of, files_before, read_as}
+use Rattle.prl_app.specs.Given.{Folder, Given, IsContent, IsGiven, content_of, text_of, file_of, read_as}
 use Rattle.prl_app.specs.Parts.{IsProgram, IsMain, bodies_for, told_parse, told_types, told_body}
 use Rattle.prl_app.specs.Stages.{Holds, Refuses, Comes, files, stages_after, stages_of}
 use Rattle.prl_app.specs.code.Stops.{given_of, stop_of, StopsAt, StopsIn, AllHold, IsFileStop, IsStopOfFiles, IsAnswerStop}
@@ -109,17 +109,18 @@ files_hold c t = ((t.program.items, refl), ((t.bodies.items, refl), ((t.sensors.
 
 -- the stages after the files stop
 pub answer_stop : (old new : FolderView) (c : Command) (t : Texts) (stop : Stop) → IsGiven old.folder c (given_of c t)
-    → StopsIn (given_of c t) (stages_after c.mode) stop → IsAnswerStop old new c stop
-answer_stop old new c t (stops.Unread part) h k = absurd (stops_unread (given_of c t) (stages_after c.mode) part k)
-answer_stop old new c t (stops.Refused stage fault) h k =
-    (given_of c t, h, after_holds (given_of c t) files (stages_after c.mode) (Some (stage, fault)) (files_hold c t) (stops_comes (given_of c t) (stages_after c.mode) stage fault k))
-answer_stop old new c t stops.Memory h k = tt
+    → new.failed ≡ old.failed → StopsIn (given_of c t) (stages_after c.mode) stop → IsAnswerStop old new c stop
+answer_stop old new c t (stops.Unread part) h none k = absurd (stops_unread (given_of c t) (stages_after c.mode) part k)
+answer_stop old new c t (stops.Refused stage fault) h none k =
+    ((given_of c t, h, after_holds (given_of c t) files (stages_after c.mode) (Some (stage, fault)) (files_hold c t) (stops_comes (given_of c t) (stages_after c.mode) stage fault k)), none)
+answer_stop old new c t stops.Memory h none k = none
 
 -- the files stop
 pub files_stop : (old new : FolderView) (c : Command) (stop : Stop) → IsStopOfFiles old new c stop → IsAnswerStop old new c stop
 files_stop old new c (stops.Unread part) h = h
-files_stop old new c (stops.Refused stage fault) h = (h.0, h.1, first_refused h.0 files (stages_after c.mode) (stage, fault) h.2)
-files_stop old new c stops.Memory h = tt
+files_stop old new c (stops.Refused stage fault) h =
+    ((h.0.0, h.0.1, first_refused h.0.0 files (stages_after c.mode) (stage, fault) h.0.2), h.1)
+files_stop old new c stops.Memory h = h
 
 -- each file gives something
 some_content : (told : Option Folder) (part : Part) (name : Option (List ℕ)) → (content : Result (List ℕ) Fault) × IsContent told part name content
@@ -188,17 +189,16 @@ schedule_refused told c p b s hp hb hs fault h = (
 )
 
 -- the reading of one of the files stops
-pub file_stop : (old mid new : FolderView) (c : Command) (part : Part) (stop : Stop) → mid.folder ≡ old.folder
-    → mid.reads ≡ old.reads + files_before c part → old.faults ≤ mid.faults
+pub file_stop : (old mid new : FolderView) (c : Command) (part : Part) (stop : Stop) → mid.folder ≡ old.folder → mid.failed ≡ old.failed
     → ((fault : Fault) → IsContent old.folder part (file_of c part) (Err fault) → RefusesFile old.folder c part fault)
     → IsFileStop mid new part (file_of c part) stop → IsStopOfFiles old new c stop
-file_stop old mid new c part (stops.Unread at) folder reads faults refused h =
+file_stop old mid new c part (stops.Unread at) folder failed refused h =
     subst (λ (p : Part). IsStopOfFiles old new c (stops.Unread p)) (sym h.0)
-    (h.1, h.2 ∙ reads, omega (arith, faults, h.3))
-file_stop old mid new c part (stops.Refused stage fault) folder reads faults refused h =
+    (h.1, h.2, h.3 ∙ ap (λ (names : List (List ℕ)). names ++ (h.1 ∷ [])) failed)
+file_stop old mid new c part (stops.Refused stage fault) folder failed refused h =
     subst (λ (s : Stage). IsStopOfFiles old new c (stops.Refused s fault)) (sym h.0)
-    (refused fault (subst (λ (told : Option Folder). IsContent told part (file_of c part) (Err fault)) folder h.1))
-file_stop old mid new c part stops.Memory folder reads faults refused h = tt
+    (refused fault (subst (λ (told : Option Folder). IsContent told part (file_of c part) (Err fault)) folder h.1), h.2 ∙ failed)
+file_stop old mid new c part stops.Memory folder failed refused h = h ∙ failed
 
 -- what holds of results
 pub ok_map : {X F : Type 0} (r : Result X F) (P Q : X → Type 0) → ((x : X) → P x → Q x) → IfOk r P → IfOk r Q

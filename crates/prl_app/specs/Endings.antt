@@ -1,5 +1,5 @@
 -- How a call of the command ends: its status, its line on err, what it leaves in out, and what that says of the command.
-use Rattle.std.specs.Prelude.{◌≡◌, ◌<◌, ◌≤◌, ◌+◌, ◌⊎◌, ℕ, List, Option, Some, None, IsSome}
+use Rattle.std.specs.Prelude.{◌≡◌, ◌++◌, ◌⊎◌, ℕ, List, [], ◌∷◌, Option, Some, None, IsSome}
 use Rattle.prl_io.specs.Views.{FolderView, SinkView, Appends, AppendsLess}
 use Rattle.prl_app.specs.declared.endings.Ending.{Ending}
 use Rattle.prl_app.specs.declared.endings.Ending.TheVariants as endings
@@ -10,7 +10,7 @@ use Rattle.prl_app.specs.declared.stages.Stage.TheVariants as stages
 use Rattle.prl_app.specs.declared.stages.Stop.TheVariants as stops
 use Rattle.prl_app.specs.declared.words.Command.{Command}
 use Rattle.prl_app.specs.Words.{command_of}
-use Rattle.prl_app.specs.Given.{Folder, Given, IsGiven, file_of, files_before}
+use Rattle.prl_app.specs.Given.{Folder, Given, IsGiven, file_of}
 use Rattle.prl_app.specs.Stages.{stages_of, Comes, IsText}
 use Rattle.prl_app.specs.ErrorLines.{line_of}
 
@@ -58,32 +58,37 @@ pub record IsRefused (words : List (List ℕ)) (told : Option Folder) (stage : S
   pub is_given : IsGiven told command given
   pub comes : Comes given (stages_of command.mode) (Some (stage, fault))
 
--- the reading of this file of the command failed: those before it were read, it was not, and a fault was counted
+-- the reading of this file of the command failed, and no other
 pub record IsUnread (words : List (List ℕ)) (old new : FolderView) (part : Part) : Type 0 where
   pub command : Command
   pub asked : command_of words ≡ Some command
-  pub named : IsSome (file_of command part)
-  pub before : new.reads ≡ old.reads + files_before command part
-  pub counted : old.faults < new.faults
+  pub name : List ℕ
+  pub named : file_of command part ≡ Some name
+  pub failed : new.failed ≡ old.failed ++ (name ∷ [])
+
+-- no reading failed
+abbrev pub NoneFailed : Outside → Outside → Type 0
+NoneFailed old new = new.files.failed ≡ old.files.failed
 
 -- why a call ends so, and what it leaves in out
 abbrev pub Ends : List (List ℕ) → Outside → Outside → Ending → Type 0
 -- the whole text is in out
 Ends words old new endings.Done =
-    (text : List ℕ) × Means words old.files.folder text × Appends old.out new.out text
+    (text : List ℕ) × Means words old.files.folder text × Appends old.out new.out text × NoneFailed old new
 -- a front of the text is in out, and a fault was counted
 Ends words old new endings.Unwritten =
-    (text : List ℕ) × Means words old.files.folder text × AppendsLess old.out new.out text
+    (text : List ℕ) × Means words old.files.folder text × AppendsLess old.out new.out text × NoneFailed old new
 -- the words are no command
-Ends words old new endings.Words = (command_of words ≡ None) × (new.out ≡ old.out)
--- a reading failed
+Ends words old new endings.Words = (command_of words ≡ None) × (new.out ≡ old.out) × NoneFailed old new
+-- the reading of this file failed
 Ends words old new (endings.Stopped (stops.Unread part)) =
     IsUnread words old.files new.files part × (new.out ≡ old.out)
 -- a stage refuses
 Ends words old new (endings.Stopped (stops.Refused stage fault)) =
-    IsRefused words old.files.folder stage fault × (new.out ≡ old.out)
+    IsRefused words old.files.folder stage fault × (new.out ≡ old.out) × NoneFailed old new
 -- memory ran out, which may come wherever the words are a command
-Ends words old new (endings.Stopped stops.Memory) = IsSome (command_of words) × (new.out ≡ old.out)
+Ends words old new (endings.Stopped stops.Memory) =
+    IsSome (command_of words) × (new.out ≡ old.out) × NoneFailed old new
 
 -- err is as it was; or it grew by the line, or by a front of it where a fault was counted
 abbrev pub IsTold : SinkView → SinkView → Option (List ℕ) → Type 0
@@ -95,12 +100,12 @@ abbrev pub ending_of : Option (Stage × Fault) → Ending
 ending_of None = endings.Done
 ending_of (Some end) = endings.Stopped (stops.Refused end.0 end.1)
 
--- no fault was counted that could keep a command from this end
+-- no reading failed and no fault was counted that could keep a command from this end
 abbrev pub NoFault : Outside → Outside → Option (Stage × Fault) → Type 0
-NoFault old new None = (new.files.faults ≡ old.files.faults) × (new.out.faults ≡ old.out.faults)
-NoFault old new (Some end) = new.files.faults ≡ old.files.faults
+NoFault old new None = NoneFailed old new × (new.out.faults ≡ old.out.faults)
+NoFault old new (Some end) = NoneFailed old new
 
--- What a command comes to over known files is how the call ends, where no fault was counted; but memory may run out.
+-- What a command comes to over known files is how the call ends, where nothing failed; but memory may run out.
 abbrev pub IsExact : List (List ℕ) → Outside → Outside → Ending → Type 0
 IsExact words old new ending =
     (folder : Folder) → old.files.folder ≡ Some folder → (command : Command) → command_of words ≡ Some command →
@@ -117,4 +122,3 @@ pub record Answers (words : List (List ℕ)) (old new : Outside) (code : ℕ) : 
   pub told : IsTold old.err new.err (line_of (command_of words) ending)
   pub exact : IsExact words old new ending
   pub folder : new.files.folder ≡ old.files.folder
-  pub file_faults : old.files.faults ≤ new.files.faults

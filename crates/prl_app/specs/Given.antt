@@ -71,14 +71,3 @@ pub record IsGiven (told : Option Folder) (c : Command) (g : Given) : Type 0 whe
   pub contents : (part : Part) → IsContent told part (file_of c part) (content_of g part)
   pub node : g.node ≡ c.node
   pub until : g.until ≡ c.until
-
-abbrev pub one_if_named : Option (List ℕ) → ℕ
-one_if_named None = 0
-one_if_named (Some name) = 1
-
--- how many files the command names before this one, in the order of reading
-abbrev pub files_before : Command → Part → ℕ
-files_before c parts.Program = 0
-files_before c parts.Bodies = one_if_named c.program
-files_before c parts.Sensors = one_if_named c.program + one_if_named c.bodies
-files_before c parts.Schedule = one_if_named c.program + one_if_named c.bodies + one_if_named c.sensors

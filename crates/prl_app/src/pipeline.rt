@@ -80,8 +80,8 @@ pub fn answer<F: Files>(alloc: Global, files: &mut F, command: &Command) -> Resu
     requires { command.now.until < 2 ^ 31 }
     ensures text { IfOk result (λ text. IsAnswer (F.seen files.old).folder command.now text.items) }
     ensures stop { IfErr result (IsAnswerStop (F.seen files.old) (F.seen files.new) command.now) }
+    ensures failed { IfOk result (λ _. (F.seen files.new).failed ≡ (F.seen files.old).failed) }
     ensures kept { (F.seen files.new).folder ≡ (F.seen files.old).folder }
-    ensures counted { (F.seen files.old).faults ≤ (F.seen files.new).faults }
 {
     let texts = read_texts(alloc, files, command)?;
     mode_text(alloc, command, &texts)

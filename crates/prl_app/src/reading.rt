@@ -1,7 +1,7 @@
 //! The files of a command, which are read first.
 
-ghost use Rattle.std.specs.Prelude.{◌≡◌, ◌≤◌, ◌+◌, Ok, IfOk, IfErr, length};
-ghost use Rattle.prl_app.specs.Given.{IsContent, IsGiven, most_of, one_if_named};
+ghost use Rattle.std.specs.Prelude.{◌≡◌, ◌≤◌, Ok, IfOk, IfErr, length};
+ghost use Rattle.prl_app.specs.Given.{IsContent, IsGiven, most_of};
 ghost use Rattle.prl_app.specs.code.Stops.{given_of, IsFileStop, IsStopOfFiles};
 
 use crate::faults::{Fault, Part};
@@ -52,10 +52,9 @@ fn read_part<F: Files>(
 ) -> Result<Vec<u8>, Stop>
     ensures content { IfOk result (λ bytes. IsContent (F.seen files.old).folder part name.now (Ok bytes.items)) }
     ensures few { IfOk result (λ bytes. length bytes.items ≤ most_of part) }
-    ensures read { IfOk result (λ _. (F.seen files.new).reads ≡ (F.seen files.old).reads + one_if_named name.now) }
+    ensures failed { IfOk result (λ _. (F.seen files.new).failed ≡ (F.seen files.old).failed) }
     ensures stop { IfErr result (IsFileStop (F.seen files.old) (F.seen files.new) part name.now) }
     ensures kept { (F.seen files.new).folder ≡ (F.seen files.old).folder }
-    ensures counted { (F.seen files.old).faults ≤ (F.seen files.new).faults }
 {
     let Some(name) = name else {
         return Ok(Vec::new(alloc));
@@ -75,8 +74,8 @@ pub fn read_texts<F: Files>(alloc: Global, files: &mut F, command: &Command) -> 
     ensures program { IfOk result (λ texts. length texts.program.items ≤ MAX_PROGRAM) }
     ensures bodies { IfOk result (λ texts. length texts.bodies.items ≤ MAX_BODIES) }
     ensures stop { IfErr result (IsStopOfFiles (F.seen files.old) (F.seen files.new) command.now) }
+    ensures failed { IfOk result (λ _. (F.seen files.new).failed ≡ (F.seen files.old).failed) }
     ensures kept { (F.seen files.new).folder ≡ (F.seen files.old).folder }
-    ensures counted { (F.seen files.old).faults ≤ (F.seen files.new).faults }
 {
     let program = read_part(alloc, files, Part::Program, &command.program)?;
     let bodies = read_part(alloc, files, Part::Bodies, &command.bodies)?;

@@ -32,10 +32,10 @@ fn perform<F: Files, S: Sink>(
     files: &mut F,
     out: &mut S,
 ) -> (Option<Command>, Ending)
-    ensures ends { Performs (map string_bytes words.now) (F.seen files.old) (F.seen files.new) (S.seen out.old) (S.seen out.new) result.1 }
+    ensures ends { Performs (map string_bytes words.now) (F.seen files.old) (F.seen files.new)
+        (S.seen out.old) (S.seen out.new) result.1 }
     ensures line { line_is (map string_bytes words.now) result.0 result.1 }
     ensures kept { (F.seen files.new).folder ≡ (F.seen files.old).folder }
-    ensures counted { (F.seen files.old).faults ≤ (F.seen files.new).faults }
 {
     let command = match read_words(alloc, words) {
         Ok(command) => command,

@@ -1,22 +1,21 @@
 -- Files in memory.
-use Rattle.std.specs.Prelude.{◌+◌, ℕ, Bool, List, [], ◌∷◌, Option, Some, None, Result, Err, if◌then◌else◌}
+use Rattle.std.specs.Prelude.{◌++◌, ℕ, Bool, List, [], ◌∷◌, Option, Some, None, Result, Err, if◌then◌else◌}
 use Rattle.std.specs.Str.{bytes_eq}
 use Rattle.prl_io.specs.declared.reading.FileFault.{FileFault}
 use Rattle.prl_io.specs.declared.reading.FileFault.TheVariants as faults
 use Rattle.prl_io.specs.Numbering.{following, fails_at}
 use Rattle.prl_io.specs.Folders.{reading_of}
 
--- the files by name and bytes, the numbers of the calls that fail, the number of the next call, and the counts of
--- readings that did not fail and of faults
+-- the files by name and bytes, the numbers of the calls that fail, the number of the next call, and the names of the
+-- readings that failed
 pub record MemFolder : Type 0 where
   pub entries : List (List ℕ × List ℕ)
   pub fails : List ℕ
   pub next : Option ℕ
-  pub reads : ℕ
-  pub faults : ℕ
+  pub failed : List (List ℕ)
 
 abbrev pub fresh_folder : List (List ℕ × List ℕ) → List ℕ → MemFolder
-fresh_folder entries fails = record { entries = entries; fails = fails; next = Some 0; reads = 0; faults = 0 }
+fresh_folder entries fails = record { entries = entries; fails = fails; next = Some 0; failed = [] }
 
 -- the bytes of the first entry of this name
 abbrev pub held : List (List ℕ × List ℕ) → List ℕ → Option (List ℕ)
@@ -32,11 +31,10 @@ abbrev pub read_in : MemFolder → List ℕ → ℕ → Result (List ℕ) FileFa
 read_in folder name most =
     if refuses folder then Err faults.Failed else reading_of (held folder.entries name) most
 
--- the folder after a reading
-abbrev pub after_read : MemFolder → MemFolder
-after_read folder =
+-- the folder after a reading of this name
+abbrev pub after_read : MemFolder → List ℕ → MemFolder
+after_read folder name =
     record folder {
       next = following folder.next;
-      reads = folder.reads + (if refuses folder then 0 else 1);
-      faults = folder.faults + (if refuses folder then 1 else 0);
+      failed = folder.failed ++ (if refuses folder then name ∷ [] else []);
     }

@@ -2,11 +2,10 @@
 use Rattle.std.specs.Prelude.{◌≡◌, ◌≤◌, ◌<◌, ◌+◌, ℕ, List, Option}
 use Rattle.prl_io.specs.Growth.{appended, AppendsFront}
 
--- the bytes of each file by its name, where that is known; how many readings did not fail; and how many faults there were
+-- the bytes of each file by its name, where that is known; and the names of the readings that failed, in order
 pub record FolderView : Type 0 where
   pub folder : Option (List ℕ → Option (List ℕ))
-  pub reads : ℕ
-  pub faults : ℕ
+  pub failed : List (List ℕ)
 
 -- the bytes that were written, where they are known; and how many faults there were
 pub record SinkView : Type 0 where

@@ -1,8 +1,8 @@
 //! Files of the host.
 
-ghost use Rattle.std.specs.Prelude.{◌≡◌, ◌≤◌, IfOk, None, vec_len};
+ghost use Rattle.std.specs.Prelude.{◌≡◌, ◌≤◌, [], IfOk, None, vec_len};
 
-use super::fault_count::FaultCount;
+use super::failed_reads::FailedReads;
 use super::reading::{FileFault, Files};
 use prl_base::Label;
 use std::alloc::Global;
@@ -11,24 +11,22 @@ use std::io;
 use std::io::{ErrorKind, Read};
 use std::rt::Runtime;
 
-/// The files of the host, by their paths. Their contents are not known. A fault is each error but a
+/// The files of the host, by their paths. Their contents are not known. A reading fails at each error but a
 /// missing file and want of memory, and a name that is not UTF-8.
 #[derive(Drop)]
 pub struct HostFiles<'a, R: Runtime> {
     rt: &'a R,
-    reads: FaultCount,
-    count: FaultCount,
+    failed: FailedReads,
 }
 
 impl<'a, R: Runtime> HostFiles<'a, R> {
     /// The files that this runtime reaches. It takes no memory.
     pub fn new(rt: &'a R) -> HostFiles<'a, R>
-        ensures { (⟦<HostFiles<'a, R> as Files>⟧.seen result).faults ≡ 0 }
+        ensures { (⟦<HostFiles<'a, R> as Files>⟧.seen result).failed ≡ [] }
     {
         HostFiles {
             rt,
-            reads: FaultCount::new(),
-            count: FaultCount::new(),
+            failed: FailedReads::new(),
         }
     }
 }
@@ -61,14 +59,12 @@ fn read_at<R: Runtime>(alloc: Global, rt: &R, name: &Label, most: u64) -> Result
 }
 
 impl<R: Runtime> Files for HostFiles<'_, R> {
-    ghost seen = { λ f. record { folder = None; reads = f.reads.total; faults = f.count.total } };
+    ghost seen = { λ f. record { folder = None; failed = f.failed.names } };
 
     fn read(&mut self, alloc: Global, name: &Label, most: u64) -> Result<Vec<u8>, FileFault> {
         let answer = read_at(alloc, self.rt, name, most);
         if answer == Err(FileFault::Failed) {
-            self.count = FaultCount::one_more(&self.count);
-        } else {
-            self.reads = FaultCount::one_more(&self.reads);
+            self.failed = FailedReads::one_more(&self.failed, name);
         }
         answer
     }

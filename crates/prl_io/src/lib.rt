@@ -4,6 +4,7 @@
 //! `prl_base`.
 #![tactic(auto)]
 
+mod failed_reads;
 mod fault_count;
 mod host_files;
 mod host_sink;

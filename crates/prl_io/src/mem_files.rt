@@ -1,12 +1,12 @@
 //! Files in memory.
 
-ghost use Rattle.std.specs.Prelude.{◌≡◌, ◌≢◌, ◌+◌, ◌∷◌, [], ℕ, Err, List, Option, Some, vec_items, map};
+ghost use Rattle.std.specs.Prelude.{◌≡◌, ◌≢◌, ◌++◌, ◌∷◌, [], ℕ, Err, List, Option, Some, vec_items, map};
 ghost use Rattle.prl_base.specs.Reading.{Gives};
 ghost use Rattle.prl_io.specs.Folders.{file_fault};
 ghost use Rattle.std.specs.Option.{option_copied};
 ghost use Rattle.prl_io.specs.MemFolders.{held};
 
-use super::fault_count::FaultCount;
+use super::failed_reads::FailedReads;
 use super::numbering::Calls;
 use super::reading::{FileFault, Files};
 use prl_base::Label;
@@ -14,14 +14,13 @@ use std::alloc::Global;
 use std::marker::Model;
 
 /// Files in memory, whose contents are known. Of two entries with one name the first counts. The
-/// calls of `read` are numbered from 0; those whose number is listed fail and are counted. Contracts
+/// calls of `read` are numbered from 0; those whose number is listed fail. Contracts
 /// see a `MemFolder`.
 #[derive(Drop)]
 pub struct MemFiles {
     entries: Vec<(Label, Vec<u8>)>,
     calls: Calls,
-    reads: FaultCount,
-    count: FaultCount,
+    failed: FailedReads,
 }
 
 impl Model for MemFiles {
@@ -34,8 +33,7 @@ impl Model for MemFiles {
       entries = map (λ entry. (entry.0, entry.1.items)) m.entries.items;
       fails = m.calls.fails.items;
       next = m.calls.next;
-      reads = m.reads.total;
-      faults = m.count.total;
+      failed = m.failed.names;
     } };
 }
 
@@ -49,8 +47,7 @@ impl MemFiles {
         MemFiles {
             entries,
             calls: Calls::new(fails),
-            reads: FaultCount::new(),
-            count: FaultCount::new(),
+            failed: FailedReads::new(),
         }
     }
 }
@@ -58,19 +55,18 @@ impl MemFiles {
 impl Files for MemFiles {
     ghost use Rattle.prl_io.specs.MemFolders.{read_in, after_read};
 
-    ghost seen = { λ m. record { folder = Some (held m.entries); reads = m.reads; faults = m.faults } };
+    ghost seen = { λ m. record { folder = Some (held m.entries); failed = m.failed } };
 
     fn read(&mut self, alloc: Global, name: &Label, most: u64) -> Result<Vec<u8>, FileFault>
         ensures answer { Gives vec_items file_fault result (read_in self.old name.now most) }
-        ensures state { self.new ≡ after_read self.old }
-        ensures unread { result ≡ Err FileFault.Failed → self.new.reads ≡ self.old.reads }
-        ensures read { result ≢ Err FileFault.Failed → self.new.reads ≡ self.old.reads + 1 }
+        ensures state { self.new ≡ after_read self.old name.now }
+        ensures failed { result ≡ Err FileFault.Failed → self.new.failed ≡ self.old.failed ++ (name.now ∷ []) }
+        ensures others { result ≢ Err FileFault.Failed → self.new.failed ≡ self.old.failed }
     {
         if self.calls.fails_now() {
-            self.count = FaultCount::one_more(&self.count);
+            self.failed = FailedReads::one_more(&self.failed, name);
             return Err(FileFault::Failed);
         }
-        self.reads = FaultCount::one_more(&self.reads);
         match find(&self.entries, name) {
             None => Err(FileFault::Absent),
             Some(bytes) if bytes.len() as u64 > most => Err(FileFault::TooLong),

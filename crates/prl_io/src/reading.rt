@@ -1,6 +1,6 @@
 //! Files that are read by their names.
 
-ghost use Rattle.std.specs.Prelude.{◌≡◌, ◌≢◌, ◌<◌, ◌≤◌, ◌+◌, Err, IfOk, IfSome, vec_len, vec_items};
+ghost use Rattle.std.specs.Prelude.{◌≡◌, ◌≢◌, ◌≤◌, ◌++◌, ◌∷◌, [], Err, IfOk, IfSome, vec_len, vec_items};
 ghost use Rattle.prl_base.specs.Reading.{Gives};
 ghost use Rattle.prl_io.specs.Folders.{reading_of, told_fault};
 ghost use Rattle.prl_io.specs.Views.{FolderView};
@@ -15,7 +15,7 @@ pub enum FileFault {
     Absent,
     /// The file has more bytes than may be read.
     TooLong,
-    /// The reading failed, and the fault was counted.
+    /// The reading failed, and its name is one more of those that did.
     Failed,
     /// Memory ran out.
     Memory,
@@ -23,8 +23,8 @@ pub enum FileFault {
 
 /// A folder of files that no reading changes.
 pub trait Files {
-    /// The bytes of the file of each name, where this is known; how many readings did not fail; and
-    /// how many faults there have been.
+    /// The bytes of the file of each name, where this is known; and the names of the readings that
+    /// failed, in order.
     ghost seen: { Self → FolderView };
 
     /// The bytes of the file of this name, if they are at most `most`.
@@ -33,8 +33,7 @@ pub trait Files {
         ensures answer { IfSome (seen self.old).folder
             (λ folder. Gives vec_items told_fault result (reading_of (folder name.now) most)) }
         ensures kept { (seen self.new).folder ≡ (seen self.old).folder }
-        ensures counted { (seen self.old).faults ≤ (seen self.new).faults }
-        ensures failed { result ≡ Err FileFault.Failed → (seen self.old).faults < (seen self.new).faults }
-        ensures unread { result ≡ Err FileFault.Failed → (seen self.new).reads ≡ (seen self.old).reads }
-        ensures read { result ≢ Err FileFault.Failed → (seen self.new).reads ≡ (seen self.old).reads + 1 };
+        ensures failed { result ≡ Err FileFault.Failed →
+            (seen self.new).failed ≡ (seen self.old).failed ++ (name.now ∷ []) }
+        ensures others { result ≢ Err FileFault.Failed → (seen self.new).failed ≡ (seen self.old).failed };
 }

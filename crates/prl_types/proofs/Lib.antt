@@ -9,3 +9,4 @@ pub mod Counting
 pub mod Fitting
 pub mod Opening
 pub mod Outcomes
+pub mod Existence

@@ -58,22 +58,22 @@ type_of_found : {c : Choice} {marks : List Term} {rule : Rule} {wanted found : T
 type_of_found {c} {marks} {rule} f s = sym (type_of_resolved f rule.found) ∙ ap (type_in c) s.found_is
 
 -- the sides are equal already
-solves_equal : {rules : List Rule} {marks : List Term} {rule : Rule} {t u : Term} → Sides marks rule t u → t ≡ u → Solves rules marks → Solves (rules ++ rule ∷ []) marks
+pub solves_equal : {rules : List Rule} {marks : List Term} {rule : Rule} {t u : Term} → Sides marks rule t u → t ≡ u → Solves rules marks → Solves (rules ++ rule ∷ []) marks
 solves_equal {rules} {marks} {rule} {t} {u} s e solves = solves_more rule marks solves (λ c f m. f)
     (λ c f. (f, type_of_wanted f s ∙ ap (type_in c) e ∙ sym (type_of_found f s)))
 
 -- one side is put in place of the other
-solves_wanted : {rules : List Rule} {old new : List Term} {rule : Rule} {a : ℕ} {by : Term} → Sides old rule (terms.Parameter a) by → mark_of old a ≡ terms.Parameter a → IsReplaced a by old new → Solves rules old → Solves (rules ++ rule ∷ []) new
+pub solves_wanted : {rules : List Rule} {old new : List Term} {rule : Rule} {a : ℕ} {by : Term} → Sides old rule (terms.Parameter a) by → mark_of old a ≡ terms.Parameter a → IsReplaced a by old new → Solves rules old → Solves (rules ++ rule ∷ []) new
 solves_wanted {rules} {old} {new} {rule} {a} {by} s own h solves = solves_more rule new solves
     (λ c f m. follows_new h c f (sym (type_of_wanted f s) ∙ m ∙ type_of_found f s))
     (λ c f. let g = follows_old h own c f in (g, type_of_wanted g s ∙ same_type h own c f ∙ sym (type_of_found g s)))
 
-solves_found : {rules : List Rule} {old new : List Term} {rule : Rule} {a : ℕ} {by : Term} → Sides old rule by (terms.Parameter a) → mark_of old a ≡ terms.Parameter a → IsReplaced a by old new → Solves rules old → Solves (rules ++ rule ∷ []) new
+pub solves_found : {rules : List Rule} {old new : List Term} {rule : Rule} {a : ℕ} {by : Term} → Sides old rule by (terms.Parameter a) → mark_of old a ≡ terms.Parameter a → IsReplaced a by old new → Solves rules old → Solves (rules ++ rule ∷ []) new
 solves_found {rules} {old} {new} {rule} {a} {by} s own h solves = solves_more rule new solves
     (λ c f m. follows_new h c f (sym (type_of_found f s) ∙ sym m ∙ type_of_wanted f s))
     (λ c f. let g = follows_old h own c f in (g, type_of_wanted g s ∙ sym (same_type h own c f) ∙ sym (type_of_found g s)))
 
-contradicts : {rules : List Rule} {marks : List Term} {rule : Rule} {wanted found : Ty} → Sides marks rule (terms.Known wanted) (terms.Known found) → IsSettled marks → wanted ≢ found → Solves rules marks → Contradicts rules rule rule.at wanted found
+pub contradicts : {rules : List Rule} {marks : List Term} {rule : Rule} {wanted found : Ty} → Sides marks rule (terms.Known wanted) (terms.Known found) → IsSettled marks → wanted ≢ found → Solves rules marks → Contradicts rules rule rule.at wanted found
 contradicts {rules} {marks} {rule} {wanted} {found} s settled ne solves = record {
   choice = chosen marks types.Int;
   meets = solves.meets (chosen marks types.Int) (chosen_follows marks types.Int settled);

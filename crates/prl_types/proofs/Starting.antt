@@ -16,7 +16,7 @@ pub record AreSingle (marks : List Term) (lists : List (List ℕ)) (count : ℕ)
   pub own : (k : ℕ) → mark_of marks k ≡ terms.Parameter k
   pub single : (k : ℕ) → k < count → members_at lists k ≡ k ∷ []
 
-get_push_here : {X : Type 0} (xs : List X) (x d : X) (k : ℕ) → k ≡ length xs → get_or (xs ++ x ∷ []) k d ≡ x
+pub get_push_here : {X : Type 0} (xs : List X) (x d : X) (k : ℕ) → k ≡ length xs → get_or (xs ++ x ∷ []) k d ≡ x
 get_push_here xs x d k e = rw e (get_or-append_seam xs x [] d)
 
 own_push : (marks : List Term) (n : ℕ) → length marks ≡ n → ((k : ℕ) → mark_of marks k ≡ terms.Parameter k) → (k : ℕ) → mark_of (marks ++ terms.Parameter n ∷ []) k ≡ terms.Parameter k
@@ -36,18 +36,22 @@ single_push lists n count single k lt = elim (cases_lt k n) [
   | inr past ↦ let e : k ≡ n = omega arith in get_push_here lists (n ∷ []) [] k (e ∙ sym count) ∙ ap (λ j. j ∷ []) (sym e)
 ]
 
+-- one parameter more
+pub single_next : (marks : List Term) (lists : List (List ℕ)) (n : ℕ) → AreSingle marks lists n → AreSingle (marks ++ terms.Parameter n ∷ []) (lists ++ (n ∷ []) ∷ []) (n + 1)
+single_next marks lists n h = record {
+  marks_count = length-append marks (terms.Parameter n ∷ []) ∙ ap (λ k. k + 1) h.marks_count;
+  lists_count = length-append lists ((n ∷ []) ∷ []) ∙ ap (λ k. k + 1) h.lists_count;
+  own = own_push marks n h.marks_count h.own;
+  single = single_push lists n h.lists_count h.single;
+}
+
 pub single_more : (marks : List Term) (members : List (Vec ℕ Global)) (v : Vec ℕ Global) (n : ℕ) → AreSingle marks (map (λ (c : Vec ℕ Global). c.items) members) n → v.items ≡ n ∷ []
     → AreSingle (marks ++ terms.Parameter n ∷ []) (map (λ (c : Vec ℕ Global). c.items) (members ++ v ∷ [])) (n + 1)
 single_more marks members v n h is =
     let items = λ (c : Vec ℕ Global). c.items in
     let lists : List (List ℕ) = map items members in
     let e : map items (members ++ v ∷ []) ≡ lists ++ (n ∷ []) ∷ [] = map-append items members (v ∷ []) ∙ ap (λ (xs : List ℕ). map items members ++ xs ∷ []) is in
-    subst (λ (ls : List (List ℕ)). AreSingle (marks ++ terms.Parameter n ∷ []) ls (n + 1)) (sym e) record {
-      marks_count = length-append marks (terms.Parameter n ∷ []) ∙ ap (λ k. k + 1) h.marks_count;
-      lists_count = length-append lists ((n ∷ []) ∷ []) ∙ ap (λ k. k + 1) h.lists_count;
-      own = own_push marks n h.marks_count h.own;
-      single = single_push lists n h.lists_count h.single;
-    }
+    subst (λ (ls : List (List ℕ)). AreSingle (marks ++ terms.Parameter n ∷ []) ls (n + 1)) (sym e) (single_next marks lists n h)
 
 pub single_none : AreSingle [] [] 0
 single_none = record { marks_count = refl; lists_count = refl; own = λ k. refl; single = λ k lt. absurd (omega arith) }

@@ -1,5 +1,5 @@
 -- What private functions say of stops.
-use Rattle.std.specs.Prelude.{◌≡◌, ◌<◌, ◌+◌, ◌⊎◌, ℕ, List, [], ◌∷◌, Option, Some, None, IsSome, Ok, Err}
+use Rattle.std.specs.Prelude.{◌≡◌, ◌++◌, ◌⊎◌, ℕ, List, [], ◌∷◌, Option, Some, None, IsSome, Ok, Err}
 use Rattle.prl_io.specs.Views.{FolderView}
 use Rattle.prl_app.specs.declared.reading.Texts.{Texts}
 use Rattle.prl_app.specs.declared.faults.Fault.{Fault}
@@ -9,7 +9,7 @@ use Rattle.prl_app.specs.declared.stages.Stop.TheVariants as stops
 use Rattle.prl_app.specs.declared.words.Command.{Command}
 use Rattle.prl_app.specs.declared.faults.Part.{Part}
 use Rattle.prl_app.specs.declared.stages.Stage.TheVariants as stages
-use Rattle.prl_app.specs.Given.{Folder, Given, IsContent, IsGiven, file_of, files_before}
+use Rattle.prl_app.specs.Given.{Folder, Given, IsContent, IsGiven, file_of}
 use Rattle.prl_app.specs.Stages.{Holds, Refuses, Comes, IsText, files, stages_of}
 
 -- what the texts of a command give
@@ -51,17 +51,18 @@ AllHold g (stage ∷ rest) = Holds g stage × AllHold g rest
 -- a reading of this file failed, memory ran out, or the file is refused
 abbrev pub IsFileStop : FolderView → FolderView → Part → Option (List ℕ) → Stop → Type 0
 IsFileStop old new part name (stops.Unread at) =
-    (at ≡ part) × IsSome name × (new.reads ≡ old.reads) × (old.faults < new.faults)
-IsFileStop old new part name (stops.Refused stage fault) = (stage ≡ stages.File part) × IsContent old.folder part name (Err fault)
-IsFileStop old new part name stops.Memory = Unit {0}
+    (at ≡ part) × (label : List ℕ) × (name ≡ Some label) × (new.failed ≡ old.failed ++ (label ∷ []))
+IsFileStop old new part name (stops.Refused stage fault) =
+    (stage ≡ stages.File part) × IsContent old.folder part name (Err fault) × (new.failed ≡ old.failed)
+IsFileStop old new part name stops.Memory = new.failed ≡ old.failed
 
 -- the same of one of the files of a command
 abbrev pub IsStopOfFiles : FolderView → FolderView → Command → Stop → Type 0
 IsStopOfFiles old new c (stops.Unread part) =
-    IsSome (file_of c part) × (new.reads ≡ old.reads + files_before c part) × (old.faults < new.faults)
+    (name : List ℕ) × (file_of c part ≡ Some name) × (new.failed ≡ old.failed ++ (name ∷ []))
 IsStopOfFiles old new c (stops.Refused stage fault) =
-    (g : Given) × IsGiven old.folder c g × Comes g files (Some (stage, fault))
-IsStopOfFiles old new c stops.Memory = Unit {0}
+    ((g : Given) × IsGiven old.folder c g × Comes g files (Some (stage, fault))) × (new.failed ≡ old.failed)
+IsStopOfFiles old new c stops.Memory = new.failed ≡ old.failed
 
 -- a command comes to no refusal, and its mode means this text
 abbrev pub IsAnswer : Option Folder → Command → List ℕ → Type 0
@@ -71,7 +72,7 @@ IsAnswer told c text =
 -- a command comes to a refusal, a reading failed, or memory ran out
 abbrev pub IsAnswerStop : FolderView → FolderView → Command → Stop → Type 0
 IsAnswerStop old new c (stops.Unread part) =
-    IsSome (file_of c part) × (new.reads ≡ old.reads + files_before c part) × (old.faults < new.faults)
+    (name : List ℕ) × (file_of c part ≡ Some name) × (new.failed ≡ old.failed ++ (name ∷ []))
 IsAnswerStop old new c (stops.Refused stage fault) =
-    (g : Given) × IsGiven old.folder c g × Comes g (stages_of c.mode) (Some (stage, fault))
-IsAnswerStop old new c stops.Memory = Unit {0}
+    ((g : Given) × IsGiven old.folder c g × Comes g (stages_of c.mode) (Some (stage, fault))) × (new.failed ≡ old.failed)
+IsAnswerStop old new c stops.Memory = new.failed ≡ old.failed

@@ -25,4 +25,4 @@ returns-clause-stop g c =
     let old = g.F.Files.seen c.args.files.now in
     let new = g.F.Files.seen c.read_texts.new.files in
     err_map c.mode_text.result (StopsIn given (stages_after c.args.command.now.mode)) (IsAnswerStop old new c.args.command.now)
-    (λ stop at. answer_stop old new c.args.command.now c.in_ok-texts.texts stop c.in_ok-texts.ensures.given at) c.mode_text.ensures.stop
+    (λ stop at. answer_stop old new c.args.command.now c.in_ok-texts.texts stop c.in_ok-texts.ensures.given c.in_ok-texts.ensures.failed at) c.mode_text.ensures.stop

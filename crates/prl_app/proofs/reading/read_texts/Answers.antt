@@ -9,8 +9,8 @@ pub returns-in_err-program-clause-stop : goal.returns-in_err-program-clause-stop
 returns-in_err-program-clause-stop g c =
     let p = err_from_is_err_and c.from_residual.result c.from_residual.ensures.1 in
     let old = g.F.Files.seen c.args.files.now in
-    rw (p.1, p.2) (file_stop old old (g.F.Files.seen c.read_part.new.files) c.args.command.now parts.Program c.in_err-program.field-0.0 refl
-    (omega arith) (omega arith) (program_refused old.folder c.args.command.now) c.in_err-program.ensures.stop)
+    rw (p.1, p.2) (file_stop old old (g.F.Files.seen c.read_part.new.files) c.args.command.now parts.Program c.in_err-program.field-0.0 refl refl
+    (program_refused old.folder c.args.command.now) c.in_err-program.ensures.stop)
 
 pub returns-in_err-bodies-clause-stop : goal.returns-in_err-bodies-clause-stop
 returns-in_err-bodies-clause-stop g c =
@@ -18,7 +18,7 @@ returns-in_err-bodies-clause-stop g c =
     let old = g.F.Files.seen c.args.files.now in
     let a = c.in_ok-program.ensures in
     rw (p.1, p.2) (file_stop old (g.F.Files.seen c.read_part.new.files) (g.F.Files.seen c.read_part-2.new.files) c.args.command.now parts.Bodies c.in_err-bodies.field-0.0
-    a.kept a.read a.counted (bodies_refused old.folder c.args.command.now c.in_ok-program.program.items a.content) c.in_err-bodies.ensures.stop)
+    a.kept a.failed (bodies_refused old.folder c.args.command.now c.in_ok-program.program.items a.content) c.in_err-bodies.ensures.stop)
 
 pub returns-in_err-sensors-clause-stop : goal.returns-in_err-sensors-clause-stop
 returns-in_err-sensors-clause-stop g c =
@@ -27,12 +27,8 @@ returns-in_err-sensors-clause-stop g c =
     let a = c.in_ok-program.ensures in
     let b = c.in_ok-bodies.ensures in
     let bodies = subst (λ (t : Option Folder). IsContent t parts.Bodies c.args.command.now.bodies (Ok c.in_ok-bodies.bodies.items)) a.kept b.content in
-    let first = a.read in
-    let second = b.read in
-    let once = a.counted in
-    let twice = b.counted in
     rw (p.1, p.2) (file_stop old (g.F.Files.seen c.read_part-2.new.files) (g.F.Files.seen c.read_part-3.new.files) c.args.command.now parts.Sensors c.in_err-sensors.field-0.0
-    (b.kept ∙ a.kept) (omega (arith, first, second)) (omega (arith, once, twice))
+    (b.kept ∙ a.kept) (b.failed ∙ a.failed)
     (sensors_refused old.folder c.args.command.now c.in_ok-program.program.items c.in_ok-bodies.bodies.items a.content bodies) c.in_err-sensors.ensures.stop)
 
 pub returns-in_err-schedule-clause-stop : goal.returns-in_err-schedule-clause-stop
@@ -44,12 +40,6 @@ returns-in_err-schedule-clause-stop g c =
     let s = c.in_ok-sensors.ensures in
     let bodies = subst (λ (t : Option Folder). IsContent t parts.Bodies c.args.command.now.bodies (Ok c.in_ok-bodies.bodies.items)) a.kept b.content in
     let sensors = subst (λ (t : Option Folder). IsContent t parts.Sensors c.args.command.now.sensors (Ok c.in_ok-sensors.sensors.items)) (b.kept ∙ a.kept) s.content in
-    let first = a.read in
-    let second = b.read in
-    let third = s.read in
-    let once = a.counted in
-    let twice = b.counted in
-    let thrice = s.counted in
     rw (p.1, p.2) (file_stop old (g.F.Files.seen c.read_part-3.new.files) (g.F.Files.seen c.read_part-4.new.files) c.args.command.now parts.Schedule c.in_err-schedule.field-0.0
-    (s.kept ∙ b.kept ∙ a.kept) (omega (arith, first, second, third)) (omega (arith, once, twice, thrice))
+    (s.kept ∙ b.kept ∙ a.kept) (s.failed ∙ b.failed ∙ a.failed)
     (schedule_refused old.folder c.args.command.now c.in_ok-program.program.items c.in_ok-bodies.bodies.items c.in_ok-sensors.sensors.items a.content bodies sensors) c.in_err-schedule.ensures.stop)

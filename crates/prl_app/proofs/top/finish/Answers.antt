@@ -20,5 +20,4 @@ returns g c =
       told = subst (λ (line : Option (List ℕ)). IsTold err told line) c.perform-command.ensures.line c.tell.ensures.told;
       exact = exact_by c.stages_end_one_way.ensures words old new ending ends;
       folder = c.perform-command.ensures.kept;
-      file_faults = c.perform-command.ensures.counted;
     }
