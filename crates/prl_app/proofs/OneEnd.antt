@@ -8,7 +8,6 @@ use Rattle.prl_ast.specs.Trees.{ProgramTree}
 use Rattle.prl_syntax.specs.Parsing.{parse_of}
 use Rattle.prl_syntax.specs.declared.parsing.ParseFault.{ParseFault}
 use Rattle.prl_types.specs.declared.faults.TypeFault.{TypeFault}
-use Rattle.prl_types.specs.declared.faults.TypeFault.TheVariants as typing
 use Rattle.prl_types.specs.Typing.{IsTyped, IsFault, IsOutcome}
 use Rattle.prl_body.specs.declared.faults.BodyFault.{BodyFault}
 use Rattle.prl_chains.specs.declared.chains.Chain.{Chain}
@@ -40,8 +39,7 @@ use Rattle.prl_app.specs.Stages.{Holds, Refuses, Comes}
 
 -- the laws of the crates below
 pub record Laws : Type 0 where
-  pub one : (p : ProgramTree) (main : Option (List ℕ)) (r s : Result (ℕ × List Ty) TypeFault)
-      → r ≢ Err typing.Memory → s ≢ Err typing.Memory → IsOutcome p main r → IsOutcome p main s → r ≡ s
+  pub one : (p : ProgramTree) (main : Option (List ℕ)) (r s : Result (ℕ × List Ty) TypeFault) → IsOutcome p main r → IsOutcome p main s → r ≡ s
   pub horizon_or_limit : (chain : Chain) (until : ℕ) (horizon : Horizon) (limit : Limit) → IsHorizonUpTo chain until horizon
       → IsPastLimit (relay_plan chain) until limit → ⊥
   pub one_limit : (chain : Chain) (until : ℕ) (a b : Limit) → IsPastLimit (relay_plan chain) until a → IsPastLimit (relay_plan chain) until b → a ≡ b
@@ -70,9 +68,6 @@ true_false : (b : Bool) → b ≡ true → b ≡ false → ⊥
 true_false b h k = cc
 
 -- what is told is no want of memory
-types_told : (cause : TypeFault) (fault : Fault) → told_types cause ≡ Some fault → cause ≢ typing.Memory
-types_told cause fault e m = let none : told_types cause ≡ None = ap told_types m in cc
-
 relay_told : (c : Chain) (cause : RelayFault) (fault : Fault) → told_relay c cause ≡ Some fault → cause ≢ relays.Memory
 relay_told c cause fault e m = let none : told_relay c cause ≡ None = ap (told_relay c) m in cc
 
@@ -91,20 +86,17 @@ ok_main a b e = cc
 no_ok_err : (t : ℕ × List Ty) (fault : TypeFault) → typed_as t ≡ failed fault → ⊥
 no_ok_err t fault e = cc
 
-told : (fault : TypeFault) → fault ≢ typing.Memory → failed fault ≢ failed typing.Memory
-told fault some e = some (err_same fault typing.Memory e)
-
 module _ (law : Laws) (g : Given) where
-  typed_is_no_fault : (p : ProgramTree) (node : ℕ) (types : List Ty) (fault : TypeFault) → IsTyped p g.node node types → IsFault p g.node fault → fault ≢ typing.Memory → ⊥
-  typed_is_no_fault p node types fault typed h some =
-      no_ok_err (node, types) fault (law.one p g.node (Ok (node, types)) (Err fault) (λ m. no_ok_err (node, types) typing.Memory m) (told fault some) typed h)
+  typed_is_no_fault : (p : ProgramTree) (node : ℕ) (types : List Ty) (fault : TypeFault) → IsTyped p g.node node types → IsFault p g.node fault → ⊥
+  typed_is_no_fault p node types fault typed h =
+      no_ok_err (node, types) fault (law.one p g.node (Ok (node, types)) (Err fault) typed h)
 
-  one_type_fault : (p : ProgramTree) (a b : TypeFault) → IsFault p g.node a → IsFault p g.node b → a ≢ typing.Memory → b ≢ typing.Memory → a ≡ b
-  one_type_fault p a b h k x y = err_same a b (law.one p g.node (Err a) (Err b) (told a x) (told b y) h k)
+  one_type_fault : (p : ProgramTree) (a b : TypeFault) → IsFault p g.node a → IsFault p g.node b → a ≡ b
+  one_type_fault p a b h k = err_same a b (law.one p g.node (Err a) (Err b) h k)
 
   one_node : (p : ProgramTree) (a b : ℕ) (s t : List Ty) → IsTyped p g.node a s → IsTyped p g.node b t → a ≡ b
   one_node p a b s t h k =
-      ok_main (a, s) (b, t) (law.one p g.node (Ok (a, s)) (Ok (b, t)) (λ m. no_ok_err (a, s) typing.Memory m) (λ m. no_ok_err (b, t) typing.Memory m) h k)
+      ok_main (a, s) (b, t) (law.one p g.node (Ok (a, s)) (Ok (b, t)) h k)
 
   one_program : (p q : ProgramTree) → IsProgram g p → IsProgram g q → p ≡ q
   one_program p q h k = ok_ok (parse_of (text_of g parts.Program)) p q h.read k.read
@@ -157,7 +149,7 @@ module _ (law : Laws) (g : Given) where
   apart stages.Grammar f h k = ok_err (parse_of (text_of g parts.Program)) h.0 k.0 h.1.read k.1
   apart stages.Types f h k =
       let same = one_program k.0 h.0 k.1 h.2.program in
-      typed_is_no_fault h.0 h.1 h.2.types k.2 h.2.typed (subst (λ (p : ProgramTree). IsFault p g.node k.2) same k.3) (types_told k.2 f k.4)
+      typed_is_no_fault h.0 h.1 h.2.types k.2 h.2.typed (subst (λ (p : ProgramTree). IsFault p g.node k.2) same k.3)
   apart stages.Bodies f h k =
       let at = moved_bodies k.0 k.1 h.1.program h.1.main (Err k.3) k.2 h.1.is_main k.4 in
       ok_err (bodies_for h.1.program h.1.main (text_of g parts.Bodies)) h.0 k.3 h.1.read at
@@ -210,7 +202,7 @@ module _ (law : Laws) (g : Given) where
   one stages.Types a b h k =
       let same = one_program k.0 h.0 k.1 h.1 in
       let fault = subst (λ (p : ProgramTree). IsFault p g.node k.2) same k.3 in
-      some_some (told_types k.2) a b (ap told_types (one_type_fault h.0 k.2 h.2 fault h.3 (types_told k.2 b k.4) (types_told h.2 a h.4)) ∙ h.4) k.4
+      some_some (told_types k.2) a b (ap told_types (one_type_fault h.0 k.2 h.2 fault h.3) ∙ h.4) k.4
   one stages.Bodies a b h k =
       let at = moved_bodies k.0 k.1 h.0 h.1 (Err k.3) k.2 h.2 k.4 in
       some_some (told_body k.3) a b (ap told_body (err_err (bodies_for h.0 h.1 (text_of g parts.Bodies)) k.3 h.3 at h.4) ∙ h.5) k.5

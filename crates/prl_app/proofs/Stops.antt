@@ -10,7 +10,7 @@ use Rattle.prl_syntax.specs.Parsing.{parse_of, Explains}
 use Rattle.prl_names.specs.Uses.{used_imports}
 use Rattle.prl_types.specs.declared.faults.TypeFault.{TypeFault}
 use Rattle.prl_types.specs.declared.faults.TypeFault.TheVariants as typing
-use Rattle.prl_types.specs.Typing.{IsFault}
+use Rattle.prl_types.specs.Typing.{FailsWith}
 use Rattle.prl_body.specs.declared.faults.BodyFault.{BodyFault}
 use Rattle.prl_body.specs.declared.faults.BodyFault.TheVariants as body_faults
 use Rattle.prl_body.specs.Checks.{BodyTree, checked}
@@ -40,16 +40,16 @@ grammar_stop g (parsing.Limit limit) stop h e is = subst (StopsAt g stages.Gramm
 grammar_stop g parsing.Memory stop h e is = subst (StopsAt g stages.Grammar) (sym is) tt
 
 -- names or types refuse
-pub types_stop : (g : Given) (p : ProgramTree) (fault : TypeFault) (stop : Stop) → IsProgram g p → IsFault p g.node fault
+pub types_stop : (g : Given) (p : ProgramTree) (fault : TypeFault) (stop : Stop) → IsProgram g p → FailsWith p g.node fault
     → stop ≡ stop_of stages.Types (told_types fault) → StopsAt g stages.Types stop
-types_stop g p (typing.Twice name) stop h e is = subst (StopsAt g stages.Types) (sym is) (refl, (p, h, typing.Twice name, e, refl))
-types_stop g p (typing.Unknown name) stop h e is = subst (StopsAt g stages.Types) (sym is) (refl, (p, h, typing.Unknown name, e, refl))
-types_stop g p (typing.Undefined name) stop h e is = subst (StopsAt g stages.Types) (sym is) (refl, (p, h, typing.Undefined name, e, refl))
-types_stop g p (typing.Recursive name) stop h e is = subst (StopsAt g stages.Types) (sym is) (refl, (p, h, typing.Recursive name, e, refl))
-types_stop g p typing.NoMain stop h e is = subst (StopsAt g stages.Types) (sym is) (refl, (p, h, typing.NoMain, e, refl))
-types_stop g p (typing.Arity at) stop h e is = subst (StopsAt g stages.Types) (sym is) (refl, (p, h, typing.Arity at, e, refl))
-types_stop g p (typing.Mismatch at wanted found) stop h e is = subst (StopsAt g stages.Types) (sym is) (refl, (p, h, typing.Mismatch at wanted found, e, refl))
-types_stop g p (typing.TypeFree node name) stop h e is = subst (StopsAt g stages.Types) (sym is) (refl, (p, h, typing.TypeFree node name, e, refl))
+types_stop g p (typing.Twice name) stop h e is = subst (StopsAt g stages.Types) (sym is) (refl, (p, h, typing.Twice name, e (λ k. cc), refl))
+types_stop g p (typing.Unknown name) stop h e is = subst (StopsAt g stages.Types) (sym is) (refl, (p, h, typing.Unknown name, e (λ k. cc), refl))
+types_stop g p (typing.Undefined name) stop h e is = subst (StopsAt g stages.Types) (sym is) (refl, (p, h, typing.Undefined name, e (λ k. cc), refl))
+types_stop g p (typing.Recursive name) stop h e is = subst (StopsAt g stages.Types) (sym is) (refl, (p, h, typing.Recursive name, e (λ k. cc), refl))
+types_stop g p typing.NoMain stop h e is = subst (StopsAt g stages.Types) (sym is) (refl, (p, h, typing.NoMain, e (λ k. cc), refl))
+types_stop g p (typing.Arity at) stop h e is = subst (StopsAt g stages.Types) (sym is) (refl, (p, h, typing.Arity at, e (λ k. cc), refl))
+types_stop g p (typing.Mismatch at wanted found) stop h e is = subst (StopsAt g stages.Types) (sym is) (refl, (p, h, typing.Mismatch at wanted found, e (λ k. cc), refl))
+types_stop g p (typing.TypeFree node name) stop h e is = subst (StopsAt g stages.Types) (sym is) (refl, (p, h, typing.TypeFree node name, e (λ k. cc), refl))
 types_stop g p typing.Memory stop h e is = subst (StopsAt g stages.Types) (sym is) tt
 
 -- bodies refuse

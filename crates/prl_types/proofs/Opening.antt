@@ -16,11 +16,11 @@ use Rattle.prl_types.specs.Contexts.{owned_of}
 use Rattle.prl_types.specs.Parameters.{Owned, parameters_of, count_of}
 use Rattle.prl_types.specs.Rules.{rules_of}
 use Rattle.prl_types.specs.Solutions.{IsFree}
-use Rattle.prl_types.specs.Typing.{IsFault, of_names}
+use Rattle.prl_types.specs.Typing.{FailsWith, of_names}
 
 pub open_fault : (p : ProgramTree) (main : Option (List ℕ)) (node : ℕ) → names_of p main ≡ Ok node → arity_faults p ≡ [] → (k : ℕ) → IsFree (rules_of p) k → (q : Parameter) → slice_get (parameters_of p) k ≡ Some (owned_of q)
-    → (f : TypeFault) → f ≡ faults.TypeFree q.node.now q.param.now.name → IsFault p main f
-open_fault p main node names arity k free q is f fault = rw fault record {
+    → (f : TypeFault) → f ≡ faults.TypeFree q.node.now q.param.now.name → FailsWith p main f
+open_fault p main node names arity k free q is f fault = rw fault (λ _. record {
   node = node;
   names = names;
   arity = arity;
@@ -30,16 +30,16 @@ open_fault p main node names arity k free q is f fault = rw fault record {
   is = is;
   node_is = refl;
   name_is = refl;
-}
+})
 
 -- a fault of names is told as it is
-pub names_fault : (p : ProgramTree) (main : Option (List ℕ)) (fault : NameFault) → (fault ≢ naming.Memory → names_of p main ≡ Err fault) → IsFault p main (of_names fault)
-names_fault p main (naming.Twice name) is = is (λ same. cc)
-names_fault p main (naming.Unknown name) is = is (λ same. cc)
-names_fault p main (naming.Undefined name) is = is (λ same. cc)
-names_fault p main (naming.Recursive name) is = is (λ same. cc)
-names_fault p main naming.NoMain is = is (λ same. cc)
-names_fault p main naming.Memory is = tt
+pub names_fault : (p : ProgramTree) (main : Option (List ℕ)) (fault : NameFault) → (fault ≢ naming.Memory → names_of p main ≡ Err fault) → FailsWith p main (of_names fault)
+names_fault p main (naming.Twice name) is = λ _. is (λ same. cc)
+names_fault p main (naming.Unknown name) is = λ _. is (λ same. cc)
+names_fault p main (naming.Undefined name) is = λ _. is (λ same. cc)
+names_fault p main (naming.Recursive name) is = λ _. is (λ same. cc)
+names_fault p main naming.NoMain is = λ _. is (λ same. cc)
+names_fault p main naming.Memory is = λ some. absurd (some refl)
 
 -- the parameter that is read
 pub owned_read : (p : ProgramTree) (list : List Parameter) (k : ℕ) (q : Parameter) → map owned_of list ≡ parameters_of p → k < count_of p → q ≡ get_or list k q → slice_get (parameters_of p) k ≡ Some (owned_of q)

@@ -123,37 +123,34 @@ one_free_fault p main n f n' f' a b =
 abbrev Outcome : Type 0
 Outcome = Result (ℕ × List Ty) TypeFault
 
-abbrev memory : Outcome
-memory = Err faults.Memory
-
 -- names first
-by_names : (p : ProgramTree) (main : Option (List ℕ)) (e : NameFault) → names_of p main ≡ Err e → (r : Outcome) → r ≢ memory → IsOutcome p main r → r ≡ Err (of_names e)
-by_names p main e is (Ok t) ne h = absurd (let f = sym is ∙ h.names in cc)
-by_names p main e is (Err (faults.Twice name)) ne h = let f = sym is ∙ h in let same : e ≡ naming.Twice name = cc in ap (λ (x : NameFault). Err (of_names x)) (sym same)
-by_names p main e is (Err (faults.Unknown name)) ne h = let f = sym is ∙ h in let same : e ≡ naming.Unknown name = cc in ap (λ (x : NameFault). Err (of_names x)) (sym same)
-by_names p main e is (Err (faults.Undefined name)) ne h = let f = sym is ∙ h in let same : e ≡ naming.Undefined name = cc in ap (λ (x : NameFault). Err (of_names x)) (sym same)
-by_names p main e is (Err (faults.Recursive name)) ne h = let f = sym is ∙ h in let same : e ≡ naming.Recursive name = cc in ap (λ (x : NameFault). Err (of_names x)) (sym same)
-by_names p main e is (Err faults.NoMain) ne h = let f = sym is ∙ h in let same : e ≡ naming.NoMain = cc in ap (λ (x : NameFault). Err (of_names x)) (sym same)
-by_names p main e is (Err (faults.Arity at)) ne h = absurd (let f = sym is ∙ h.names in cc)
-by_names p main e is (Err (faults.Mismatch at wanted found)) ne h = absurd (let f = sym is ∙ h.names in cc)
-by_names p main e is (Err (faults.TypeFree node name)) ne h = absurd (let f = sym is ∙ h.names in cc)
-by_names p main e is (Err faults.Memory) ne h = absurd (ne refl)
+by_names : (p : ProgramTree) (main : Option (List ℕ)) (e : NameFault) → names_of p main ≡ Err e → (r : Outcome) → IsOutcome p main r → r ≡ Err (of_names e)
+by_names p main e is (Ok t) h = absurd (let f = sym is ∙ h.names in cc)
+by_names p main e is (Err (faults.Twice name)) h = let f = sym is ∙ h in let same : e ≡ naming.Twice name = cc in ap (λ (x : NameFault). Err (of_names x)) (sym same)
+by_names p main e is (Err (faults.Unknown name)) h = let f = sym is ∙ h in let same : e ≡ naming.Unknown name = cc in ap (λ (x : NameFault). Err (of_names x)) (sym same)
+by_names p main e is (Err (faults.Undefined name)) h = let f = sym is ∙ h in let same : e ≡ naming.Undefined name = cc in ap (λ (x : NameFault). Err (of_names x)) (sym same)
+by_names p main e is (Err (faults.Recursive name)) h = let f = sym is ∙ h in let same : e ≡ naming.Recursive name = cc in ap (λ (x : NameFault). Err (of_names x)) (sym same)
+by_names p main e is (Err faults.NoMain) h = let f = sym is ∙ h in let same : e ≡ naming.NoMain = cc in ap (λ (x : NameFault). Err (of_names x)) (sym same)
+by_names p main e is (Err (faults.Arity at)) h = absurd (let f = sym is ∙ h.names in cc)
+by_names p main e is (Err (faults.Mismatch at wanted found)) h = absurd (let f = sym is ∙ h.names in cc)
+by_names p main e is (Err (faults.TypeFree node name)) h = absurd (let f = sym is ∙ h.names in cc)
+by_names p main e is (Err faults.Memory) h = absurd h
 
 none_first : (p : ProgramTree) (at : ℕ) → arity_faults p ≡ [] → first_at (arity_faults p) ≡ Some at → ⊥
 none_first p at e f = let g : first_at (arity_faults p) ≡ None = ap first_at e in let h = sym g ∙ f in cc
 
 -- then arity
-by_arity : (p : ProgramTree) (main : Option (List ℕ)) (node at : ℕ) → names_of p main ≡ Ok node → first_at (arity_faults p) ≡ Some at → (r : Outcome) → r ≢ memory → IsOutcome p main r → r ≡ Err (faults.Arity at)
-by_arity p main node at is first (Ok t) ne h = absurd (none_first p at h.arity first)
-by_arity p main node at is first (Err (faults.Twice name)) ne h = absurd (let f = sym is ∙ h in cc)
-by_arity p main node at is first (Err (faults.Unknown name)) ne h = absurd (let f = sym is ∙ h in cc)
-by_arity p main node at is first (Err (faults.Undefined name)) ne h = absurd (let f = sym is ∙ h in cc)
-by_arity p main node at is first (Err (faults.Recursive name)) ne h = absurd (let f = sym is ∙ h in cc)
-by_arity p main node at is first (Err faults.NoMain) ne h = absurd (let f = sym is ∙ h in cc)
-by_arity p main node at is first (Err (faults.Arity other)) ne h = let f = sym h.first ∙ first in let same : other ≡ at = cc in ap (λ (x : ℕ). Err (faults.Arity x)) same
-by_arity p main node at is first (Err (faults.Mismatch place wanted found)) ne h = absurd (none_first p at h.arity first)
-by_arity p main node at is first (Err (faults.TypeFree n name)) ne h = absurd (none_first p at h.arity first)
-by_arity p main node at is first (Err faults.Memory) ne h = absurd (ne refl)
+by_arity : (p : ProgramTree) (main : Option (List ℕ)) (node at : ℕ) → names_of p main ≡ Ok node → first_at (arity_faults p) ≡ Some at → (r : Outcome) → IsOutcome p main r → r ≡ Err (faults.Arity at)
+by_arity p main node at is first (Ok t) h = absurd (none_first p at h.arity first)
+by_arity p main node at is first (Err (faults.Twice name)) h = absurd (let f = sym is ∙ h in cc)
+by_arity p main node at is first (Err (faults.Unknown name)) h = absurd (let f = sym is ∙ h in cc)
+by_arity p main node at is first (Err (faults.Undefined name)) h = absurd (let f = sym is ∙ h in cc)
+by_arity p main node at is first (Err (faults.Recursive name)) h = absurd (let f = sym is ∙ h in cc)
+by_arity p main node at is first (Err faults.NoMain) h = absurd (let f = sym is ∙ h in cc)
+by_arity p main node at is first (Err (faults.Arity other)) h = let f = sym h.first ∙ first in let same : other ≡ at = cc in ap (λ (x : ℕ). Err (faults.Arity x)) same
+by_arity p main node at is first (Err (faults.Mismatch place wanted found)) h = absurd (none_first p at h.arity first)
+by_arity p main node at is first (Err (faults.TypeFree n name)) h = absurd (none_first p at h.arity first)
+by_arity p main node at is first (Err faults.Memory) h = absurd h
 
 -- then types
 data Settled (p : ProgramTree) (main : Option (List ℕ)) (node : ℕ) (r : Outcome) : Type 0 where
@@ -161,17 +158,17 @@ data Settled (p : ProgramTree) (main : Option (List ℕ)) (node : ℕ) (r : Outc
   contradicting : (at : ℕ) (wanted found : Ty) → r ≡ mismatch at wanted found → IsMismatch (rules_of p) at wanted found → Settled p main node r
   free : (n f : List ℕ) → r ≡ free_fault n f → HasFreeType p main n f → Settled p main node r
 
-by_types : (p : ProgramTree) (main : Option (List ℕ)) (node : ℕ) → names_of p main ≡ Ok node → first_at (arity_faults p) ≡ None → (r : Outcome) → r ≢ memory → IsOutcome p main r → Settled p main node r
-by_types p main node is none (Ok t) ne h = let f = sym is ∙ h.names in let same : node ≡ t.0 = cc in typed t.1 (let whole : Ok t ≡ Ok (node, t.1) = ap (λ (k : ℕ). Ok (k, t.1)) (sym same) in whole) h.only
-by_types p main node is none (Err (faults.Twice name)) ne h = absurd (let f = sym is ∙ h in cc)
-by_types p main node is none (Err (faults.Unknown name)) ne h = absurd (let f = sym is ∙ h in cc)
-by_types p main node is none (Err (faults.Undefined name)) ne h = absurd (let f = sym is ∙ h in cc)
-by_types p main node is none (Err (faults.Recursive name)) ne h = absurd (let f = sym is ∙ h in cc)
-by_types p main node is none (Err faults.NoMain) ne h = absurd (let f = sym is ∙ h in cc)
-by_types p main node is none (Err (faults.Arity at)) ne h = absurd (let f = sym none ∙ h.first in cc)
-by_types p main node is none (Err (faults.Mismatch at wanted found)) ne h = contradicting at wanted found refl h.first
-by_types p main node is none (Err (faults.TypeFree n name)) ne h = free n name refl h
-by_types p main node is none (Err faults.Memory) ne h = absurd (ne refl)
+by_types : (p : ProgramTree) (main : Option (List ℕ)) (node : ℕ) → names_of p main ≡ Ok node → first_at (arity_faults p) ≡ None → (r : Outcome) → IsOutcome p main r → Settled p main node r
+by_types p main node is none (Ok t) h = let f = sym is ∙ h.names in let same : node ≡ t.0 = cc in typed t.1 (let whole : Ok t ≡ Ok (node, t.1) = ap (λ (k : ℕ). Ok (k, t.1)) (sym same) in whole) h.only
+by_types p main node is none (Err (faults.Twice name)) h = absurd (let f = sym is ∙ h in cc)
+by_types p main node is none (Err (faults.Unknown name)) h = absurd (let f = sym is ∙ h in cc)
+by_types p main node is none (Err (faults.Undefined name)) h = absurd (let f = sym is ∙ h in cc)
+by_types p main node is none (Err (faults.Recursive name)) h = absurd (let f = sym is ∙ h in cc)
+by_types p main node is none (Err faults.NoMain) h = absurd (let f = sym is ∙ h in cc)
+by_types p main node is none (Err (faults.Arity at)) h = absurd (let f = sym none ∙ h.first in cc)
+by_types p main node is none (Err (faults.Mismatch at wanted found)) h = contradicting at wanted found refl h.first
+by_types p main node is none (Err (faults.TypeFree n name)) h = free n name refl h
+by_types p main node is none (Err faults.Memory) h = absurd h
 
 one_settled : (p : ProgramTree) (main : Option (List ℕ)) (node : ℕ) (r s : Outcome) → Settled p main node r → Settled p main node s → r ≡ s
 one_settled p main node r s (typed xs e a) (typed ys f b) = e ∙ ap (λ (ts : List Ty). Ok (node, ts)) (one_typing (rules_of p) (count_of p) xs ys a b) ∙ sym f
@@ -184,13 +181,13 @@ one_settled p main node r s (free n f is h) (typed xs e a) = absurd (types_or_fr
 one_settled p main node r s (free n g e h) (contradicting at w f is m) = absurd (no_choice_of_all (rules_of p) at w f m h.first.one h.first.one_meets)
 one_settled p main node r s (free n f is h) (free n' f' is' h') = is ∙ one_free_fault p main n f n' f' h h' ∙ sym is'
 
-after_names : (p : ProgramTree) (main : Option (List ℕ)) (r s : Outcome) → r ≢ memory → s ≢ memory → IsOutcome p main r → IsOutcome p main s → (node : ℕ) → names_of p main ≡ Ok node → (o : Option ℕ) → first_at (arity_faults p) ≡ o → r ≡ s
-after_names p main r s m n h k node is (Some at) first = by_arity p main node at is first r m h ∙ sym (by_arity p main node at is first s n k)
-after_names p main r s m n h k node is None first = one_settled p main node r s (by_types p main node is first r m h) (by_types p main node is first s n k)
+after_names : (p : ProgramTree) (main : Option (List ℕ)) (r s : Outcome) → IsOutcome p main r → IsOutcome p main s → (node : ℕ) → names_of p main ≡ Ok node → (o : Option ℕ) → first_at (arity_faults p) ≡ o → r ≡ s
+after_names p main r s h k node is (Some at) first = by_arity p main node at is first r h ∙ sym (by_arity p main node at is first s k)
+after_names p main r s h k node is None first = one_settled p main node r s (by_types p main node is first r h) (by_types p main node is first s k)
 
-at_names : (p : ProgramTree) (main : Option (List ℕ)) (r s : Outcome) → r ≢ memory → s ≢ memory → IsOutcome p main r → IsOutcome p main s → (o : Result ℕ NameFault) → names_of p main ≡ o → r ≡ s
-at_names p main r s m n h k (Ok node) is = after_names p main r s m n h k node is (first_at (arity_faults p)) refl
-at_names p main r s m n h k (Err e) is = by_names p main e is r m h ∙ sym (by_names p main e is s n k)
+at_names : (p : ProgramTree) (main : Option (List ℕ)) (r s : Outcome) → IsOutcome p main r → IsOutcome p main s → (o : Result ℕ NameFault) → names_of p main ≡ o → r ≡ s
+at_names p main r s h k (Ok node) is = after_names p main r s h k node is (first_at (arity_faults p)) refl
+at_names p main r s h k (Err e) is = by_names p main e is r h ∙ sym (by_names p main e is s k)
 
-pub one_outcome : (p : ProgramTree) (main : Option (List ℕ)) (r s : Result (ℕ × List Ty) TypeFault) → r ≢ Err faults.Memory → s ≢ Err faults.Memory → IsOutcome p main r → IsOutcome p main s → r ≡ s
-one_outcome p main r s m n h k = at_names p main r s m n h k (names_of p main) refl
+pub one_outcome : (p : ProgramTree) (main : Option (List ℕ)) (r s : Result (ℕ × List Ty) TypeFault) → IsOutcome p main r → IsOutcome p main s → r ≡ s
+one_outcome p main r s h k = at_names p main r s h k (names_of p main) refl

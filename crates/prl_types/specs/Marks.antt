@@ -8,6 +8,7 @@ use Rattle.prl_types.specs.declared.solving.Marks.{Marks}
 use Rattle.prl_types.specs.declared.solving.Unsolved.{Unsolved}
 use Rattle.prl_types.specs.declared.solving.Unsolved.TheVariants as unsolved
 use Rattle.prl_types.specs.Choices.{Choice, type_in, MeetsAll, FitsTerm}
+use Rattle.prl_types.specs.Solutions.{IsMismatch, IsFree}
 
 -- the mark of a parameter
 abbrev pub mark_of : List Term → ℕ → Term
@@ -97,3 +98,9 @@ Refuses rules rule unsolved.Memory = Unit {0}
 -- one of the two is put in place of the other
 abbrev pub AreJoined : ℕ → ℕ → List Term → List Term → Type 0
 AreJoined a b old new = IsReplaced a (terms.Parameter b) old new ⊎ IsReplaced b (terms.Parameter a) old new
+
+-- what keeps so many parameters from having types, or memory ran out
+abbrev pub Explains : List Rule → ℕ → Unsolved → Type 0
+Explains rules count (unsolved.Mismatch at wanted found) = IsMismatch rules at wanted found
+Explains rules count (unsolved.Free k) = (k < count) × IsFree rules k
+Explains rules count unsolved.Memory = Unit {0}

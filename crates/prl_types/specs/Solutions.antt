@@ -2,8 +2,6 @@
 use Rattle.std.specs.Prelude.{◌≡◌, ◌≢◌, ◌<◌, ℕ, List, ◌∷◌, ◌++◌, length, slice_get, Some}
 use Rattle.prl_base.specs.declared.values.Ty.{Ty}
 use Rattle.prl_types.specs.declared.terms.Rule.{Rule}
-use Rattle.prl_types.specs.declared.solving.Unsolved.{Unsolved}
-use Rattle.prl_types.specs.declared.solving.Unsolved.TheVariants as unsolved
 use Rattle.prl_types.specs.Choices.{Choice, type_in, MeetsAll}
 
 -- The first rule that no choice meets together with all earlier ones is at the place: each choice that meets the
@@ -39,9 +37,3 @@ pub record AreTypes (rules : List Rule) (count : ℕ) (types : List Ty) : Type 0
   pub choice : Choice
   pub meets : MeetsAll choice rules
   pub forced : (c : Choice) (k : ℕ) → MeetsAll c rules → k < count → slice_get types k ≡ Some (c k)
-
--- what keeps so many parameters from having types
-abbrev pub Explains : List Rule → ℕ → Unsolved → Type 0
-Explains rules count (unsolved.Mismatch at wanted found) = IsMismatch rules at wanted found
-Explains rules count (unsolved.Free k) = (k < count) × IsFree rules k
-Explains rules count unsolved.Memory = Unit {0}

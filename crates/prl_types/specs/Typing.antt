@@ -1,5 +1,5 @@
 -- What the check of names, arity and types answers.
-use Rattle.std.specs.Prelude.{◌≡◌, ◌<◌, ◌+◌, ℕ, List, [], length, Option, Some, Result, Ok, Err, slice_get}
+use Rattle.std.specs.Prelude.{◌≡◌, ◌≢◌, ◌<◌, ◌+◌, ℕ, List, [], length, Option, Some, Result, Ok, Err, slice_get}
 use Rattle.prl_base.specs.declared.values.Ty.{Ty}
 use Rattle.prl_ast.specs.Trees.{NodeTree, ProgramTree}
 use Rattle.prl_names.specs.declared.checks.NameFault.{NameFault}
@@ -49,7 +49,7 @@ pub record HasFreeType (p : ProgramTree) (main : Option (List ℕ)) (in_node nam
   pub node_is : in_node ≡ owned.node
   pub name_is : name ≡ owned.param.name
 
--- exactly when each fault is told; of want of memory nothing is said
+-- exactly when each fault is told; no program is refused for want of memory
 abbrev pub IsFault : ProgramTree → Option (List ℕ) → TypeFault → Type 0
 IsFault p main (faults.Twice name) = names_of p main ≡ Err (naming.Twice name)
 IsFault p main (faults.Unknown name) = names_of p main ≡ Err (naming.Unknown name)
@@ -59,7 +59,11 @@ IsFault p main faults.NoMain = names_of p main ≡ Err naming.NoMain
 IsFault p main (faults.Arity at) = HasArityFault p main at
 IsFault p main (faults.Mismatch at wanted found) = HasMismatch p main at wanted found
 IsFault p main (faults.TypeFree node name) = HasFreeType p main node name
-IsFault p main faults.Memory = Unit {0}
+IsFault p main faults.Memory = ⊥
+
+-- the program has this fault, unless it is want of memory, which may come at any program
+abbrev pub FailsWith : ProgramTree → Option (List ℕ) → TypeFault → Type 0
+FailsWith p main fault = fault ≢ faults.Memory → IsFault p main fault
 
 -- a fault of names as a fault of this check
 abbrev pub of_names : NameFault → TypeFault
@@ -80,7 +84,7 @@ pub record HasParameter (p : ProgramTree) (node param : ℕ) : Type 0 where
 abbrev pub IsTypeOf : ProgramTree → List Ty → ℕ → ℕ → Ty → Type 0
 IsTypeOf p types node param ty = slice_get types (first_of p node + param) ≡ Some ty
 
--- what the check answers for a program, but for want of memory: the main node and the types, or the fault
+-- what is right for a program: its main node and its types, or its fault
 abbrev pub IsOutcome : ProgramTree → Option (List ℕ) → Result (ℕ × List Ty) TypeFault → Type 0
 IsOutcome p main (Ok t) = IsTyped p main t.0 t.1
 IsOutcome p main (Err fault) = IsFault p main fault

@@ -15,5 +15,5 @@ mod terms;
 mod typing;
 
 pub use faults::TypeFault;
-pub use laws::outcome_is_unique;
+pub use laws::{each_program_has_an_outcome, outcome_is_unique};
 pub use typing::{Typed, check_names_types};

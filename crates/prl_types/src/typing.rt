@@ -7,9 +7,10 @@ ghost use Rattle.prl_ast.specs.Trees.{program_tree};
 ghost use Rattle.prl_types.specs.Parameters.{count_of};
 ghost use Rattle.prl_types.specs.Rules.{rules_of};
 ghost use Rattle.prl_types.specs.Arity.{arity_faults};
-ghost use Rattle.prl_types.specs.Solutions.{AreTypes, Explains};
+ghost use Rattle.prl_types.specs.Marks.{Explains};
+ghost use Rattle.prl_types.specs.Solutions.{AreTypes};
 ghost use Rattle.prl_names.specs.Checks.{names_of};
-ghost use Rattle.prl_types.specs.Typing.{IsTyped, IsRight, IsFault, HasParameter, IsTypeOf};
+ghost use Rattle.prl_types.specs.Typing.{IsTyped, IsRight, FailsWith, HasParameter, IsTypeOf};
 ghost use Rattle.prl_types.specs.declared.faults.TypeFault.TheVariants.{TypeFree};
 ghost use Rattle.std.specs.Prelude.{Ok};
 
@@ -106,7 +107,8 @@ fn type_free(alloc: Global, parameter: Parameter<'_>) -> Result<TypeFault, Alloc
 fn of_types(alloc: Global, context: &Context<'_, '_>, fault: Unsolved) -> TypeFault
     requires arity { arity_faults (program_tree context.now) ≡ [] }
     requires fault { Explains (rules_of (program_tree context.now)) (count_of (program_tree context.now)) fault }
-    ensures { (main : Option (List ℕ)) (node : ℕ) → names_of (program_tree context.now) main ≡ Ok node → IsFault (program_tree context.now) main result }
+    ensures { (main : Option (List ℕ)) (node : ℕ) → names_of (program_tree context.now) main ≡ Ok node
+        → FailsWith (program_tree context.now) main result }
 {
     match fault {
         Unsolved::Mismatch { at, wanted, found } => TypeFault::Mismatch { at, wanted, found },
@@ -130,7 +132,7 @@ fn check<'a>(
     requires range { IsInRange (program_tree program.now) }
     ensures program { IfOk result (λ t. t.program ≡ program.now) }
     ensures typed { IfOk result (λ t. IsTyped (program_tree program.now) (option_copied main.entry) t.main t.types) }
-    ensures fault { IfErr result (IsFault (program_tree program.now) (option_copied main.entry)) }
+    ensures fault { IfErr result (FailsWith (program_tree program.now) (option_copied main.entry)) }
 {
     let node = check_names(alloc, names, main)?;
     right_names_stand_for_something();
@@ -175,7 +177,7 @@ pub fn check_names_types<'a>(
     requires { IsInRange (program_tree program.now) }
     ensures program { IfOk result (λ t. t.program ≡ program.now) }
     ensures typed { IfOk result (λ t. IsTyped (program_tree program.now) (option_copied main.entry) t.main t.types) }
-    ensures fault { IfErr result (IsFault (program_tree program.now) (option_copied main.entry)) }
+    ensures fault { IfErr result (FailsWith (program_tree program.now) (option_copied main.entry)) }
 {
     let names = Names::new(alloc, program)?;
     check(alloc, program, &names, main)
