@@ -5,7 +5,7 @@ ghost use Rattle.prl_app.specs.Stages.{stages_after, IsText};
 ghost use Rattle.prl_app.specs.code.Stops.{given_of, AllHold, StopsIn, IsAnswer, IsAnswerStop};
 
 use crate::built::{check_timing, flows_of, form, plan, read_rows, replay_of};
-use crate::programs::{find_main, read_bodies, read_program};
+use crate::programs::{check_types, read_bodies, read_program};
 use crate::reading::{MAX_BODIES, MAX_PROGRAM, Texts, read_texts};
 use crate::stages::Stop;
 use crate::words::{Command, Mode};
@@ -34,8 +34,8 @@ fn flows_text(alloc: Global, command: &Command, texts: &Texts) -> Result<Vec<u8>
     ensures stop { IfErr result (StopsIn (given_of command.now texts.now) (stages_after Mode.Flows)) }
 {
     let program = read_program(alloc, command, texts)?;
-    let main = find_main(alloc, command, texts, &program)?;
-    let bodies = read_bodies(alloc, command, texts, &program, main)?;
+    let typed = check_types(alloc, command, texts, &program)?;
+    let bodies = read_bodies(alloc, command, texts, &program, typed.main())?;
     let chain = form(alloc, command, texts, &program)?;
     let values = read_rows(alloc, command, texts, &chain)?;
     flows_of(alloc, command, texts, chain, bodies, values)
@@ -50,8 +50,8 @@ fn replayed_text(alloc: Global, command: &Command, texts: &Texts) -> Result<Vec<
     ensures stop { IfErr result (StopsIn (given_of command.now texts.now) (stages_after Mode.Replay)) }
 {
     let program = read_program(alloc, command, texts)?;
-    let main = find_main(alloc, command, texts, &program)?;
-    let _bodies = read_bodies(alloc, command, texts, &program, main)?;
+    let typed = check_types(alloc, command, texts, &program)?;
+    let _bodies = read_bodies(alloc, command, texts, &program, typed.main())?;
     let copies = form(alloc, command, texts, &program)?;
     check_timing(command, texts, &copies)?;
     let planned = plan(alloc, command, texts, &copies)?;

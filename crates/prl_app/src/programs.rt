@@ -18,8 +18,9 @@ use prl_ast::Program;
 use prl_body::{Bodies, BodyFault, BodyTexts, check_bodies};
 use prl_bodytext::parse_bodies;
 use prl_names::{Names, right_names_stand_for_something, used_imports};
+use prl_print::programs_are_in_range;
 use prl_syntax::{ParseFault, parse};
-use prl_types::{TypeFault, check_names_types};
+use prl_types::{TypeFault, Typed, check_names_types};
 use std::alloc::Global;
 
 impl From<ParseFault> for Stop {
@@ -85,20 +86,22 @@ pub fn read_program(alloc: Global, command: &Command, texts: &Texts) -> Result<P
     Ok(parse(alloc, &texts.program)?)
 }
 
-/// The place of the main node, where the names and the types of the program are right.
-pub fn find_main(
+/// The program with its main node, where its names and types are right.
+pub fn check_types<'a>(
     alloc: Global,
     command: &Command,
     texts: &Texts,
-    program: &Program,
-) -> Result<u32, Stop>
+    program: &'a Program,
+) -> Result<Typed<'a>, Stop>
     requires { IsProgram (given_of command.now texts.now) (program_tree program.now) }
-    ensures found { IfOk result (λ main. IsMain (given_of command.now texts.now) (program_tree program.now) main) }
+    ensures program { IfOk result (λ t. t.program ≡ program.now) }
+    ensures found { IfOk result (λ t. IsMain (given_of command.now texts.now) (program_tree program.now) t.main) }
     ensures holds { IfOk result (λ _. Holds (given_of command.now texts.now) Stage.Types) }
     ensures stop { IfErr result (StopsAt (given_of command.now texts.now) Stage.Types) }
 {
     right_names_stand_for_something();
-    Ok(check_names_types(alloc, program, command.node.as_ref())?.main())
+    programs_are_in_range();
+    Ok(check_names_types(alloc, program, command.node.as_ref())?)
 }
 
 /// The bodies, checked for the imports of the program, of which the expansion of main applies some.

@@ -13,3 +13,4 @@ pub mod Meant
 pub mod MeantTrees
 pub mod Limits
 pub mod Printable
+pub mod Ranges

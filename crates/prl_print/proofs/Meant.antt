@@ -1,7 +1,7 @@
 -- What holds of the trees of programs: values, notes and declarations.
 use Rattle.std.proofs.Common.{◌≡◌, ◌==◌, ◌≤◌, ◌<◌, ◌/◌, ◌%◌, ℕ, zero, suc, pos, neg_ℤ, min, true, false, List, [], ◌∷◌, ◌++◌, map, Option, Some, None, refl, sym, ap, ◌∙◌, subst, ⊎_elim, arith}
 use Rattle.std.proofs.lemmas.Bool.{cond-false, cond_both, cases_lt, ne_eqb}
-use Rattle.std.proofs.lemmas.Nat.Gcd.{IsGcd-from_zero, IsGcd-from_mod}
+use Rattle.std.proofs.lemmas.Nat.Gcd.{IsGcd-from_zero, IsGcd-from_mod, IsGcd-swap}
 use Rattle.std.proofs.Math.Nat.{div-one}
 use Rattle.std.specs.Int.{IsGcd}
 use Rattle.std.specs.List.{AllByRecursion}
@@ -57,6 +57,9 @@ zero_reads : ratio_of 0 1 ≡ fraction 0 1
 unfolding common_divisor
 zero_reads = refl
 
+zero_fits : IsSmallFraction (fraction 0 1)
+zero_fits = record { positive = omega arith; reduced = IsGcd-swap 1 0 1 (IsGcd-from_zero 1 0 refl); num = omega arith; den = omega arith }
+
 -- a reduced ratio is read as itself
 reads_itself : (num den : ℕ) → IsGcd num den 1 → num ≤ 2147483647 → 1 ≤ den → den ≤ 2147483647 → ratio_of num den ≡ fraction num den
 reads_itself num den coprime high low den_high =
@@ -80,12 +83,13 @@ own_reduced a b high low den_high =
       num_high = omega (arith, fits.num);
       den_low = fits.positive;
       den_high = omega (arith, fits.den);
+      small = fits;
       reads = reads_itself (a / g.0) (b / g.0) fits.reduced (omega (arith, fits.num)) fits.positive (omega (arith, fits.den));
     })
 
 own_ratio : (num den : ℕ) → IsOwnRatio (ratio_of num den)
 own_ratio num den = cond_both (small den == 0) (fraction 0 1) (reduced (small num) (small den)) IsOwnRatio
-    (λ none. record { num = refl; num_high = omega arith; den_low = omega arith; den_high = omega arith; reads = zero_reads })
+    (λ none. record { num = refl; num_high = omega arith; den_low = omega arith; den_high = omega arith; small = zero_fits; reads = zero_reads })
     (λ some. own_reduced (small num) (small den) (omega arith) (above (small den) some) (omega arith))
   where
     above : (n : ℕ) → (n == 0) ≡ false → 1 ≤ n

@@ -41,7 +41,7 @@ reads_back p h =
       same = x.same;
     }
 
-printable : (text : List ℕ) (p : ProgramTree) → IsProgramOf text p → IsPrintable p
+pub printable : (text : List ℕ) (p : ProgramTree) → IsProgramOf text p → IsPrintable p
 printable text p h =
     let fine : Fine (lexemes_of text h.tokens) = record { depth = 0; at = record { inside = false; last = 0; from = text_fine text h.tokens h.lexical h.ranges } } in
     let own = program_means.means p (lexemes_of text h.tokens) fine h.written in

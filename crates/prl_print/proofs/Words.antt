@@ -7,7 +7,7 @@ use Rattle.prl_base.specs.declared.values.Ty.{Ty}
 use Rattle.prl_base.specs.declared.values.Ty.TheVariants as types
 use Rattle.prl_base.specs.declared.values.Value.{Value}
 use Rattle.prl_base.specs.declared.values.Value.TheVariants as values
-use Rattle.prl_base.specs.Ratios.{Fraction}
+use Rattle.prl_base.specs.Ratios.{Fraction, IsSmallFraction}
 use Rattle.prl_base.specs.Names.{IsName}
 use Rattle.prl_ast.specs.declared.declarations.Device.{Device}
 use Rattle.prl_ast.specs.declared.declarations.Import.{Import}
@@ -161,6 +161,7 @@ pub record IsOwnRatio (q : Fraction) : Type 0 where
   pub num_high : nat_abs q.num ≤ 2147483647
   pub den_low : 1 ≤ q.den
   pub den_high : q.den ≤ 2147483647
+  pub small : IsSmallFraction q
   pub reads : ratio_of (nat_abs q.num) q.den ≡ q
 
 abbrev pub IsCount : ℕ → Type 0

@@ -4,7 +4,9 @@
 
 mod declarations;
 mod expressions;
+mod laws;
 mod notes;
 mod printing;
 
+pub use laws::programs_are_in_range;
 pub use printing::print;

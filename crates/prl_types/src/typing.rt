@@ -2,6 +2,7 @@
 
 ghost use Rattle.std.specs.Prelude.{◌≡◌, ◌<◌, ◌≤◌, ℕ, List, [], length, IfOk, IfErr, MatchResult, Option};
 ghost use Rattle.std.specs.Option.{option_copied};
+ghost use Rattle.prl_ast.specs.InRange.{IsInRange};
 ghost use Rattle.prl_ast.specs.Trees.{program_tree};
 ghost use Rattle.prl_types.specs.Parameters.{count_of};
 ghost use Rattle.prl_types.specs.Rules.{rules_of};
@@ -19,11 +20,11 @@ use crate::rules::rules;
 use crate::solving::{Unsolved, solve};
 use prl_ast::Program;
 use prl_base::{Label, Ty};
-use prl_names::{Names, check_names};
+use prl_names::{Names, check_names, right_names_stand_for_something};
 use std::alloc::{AllocError, Global};
 use std::marker::Model;
 
-/// A program whose names, arity and types are right. It borrows the program. Contracts see the program, the index of its
+/// A program within the ranges and limits of the language whose names, arity and types are right. It borrows the program. Contracts see the program, the index of its
 /// main node, and the types of the parameters of all nodes in the order of their declaration.
 #[derive(Drop)]
 pub struct Typed<'a> {
@@ -37,6 +38,7 @@ pub struct Typed<'a> {
 impl<'a> Model for Typed<'a> {
     ghost use Rattle.std.specs.Prelude.{◌≡◌, length};
     ghost use Rattle.std.specs.Coded.{codes};
+    ghost use Rattle.prl_ast.specs.InRange.{IsInRange};
     ghost use Rattle.prl_ast.specs.Trees.{program_tree};
     ghost use Rattle.prl_ast.specs.contracts.expressions.Base as base;
     ghost use Rattle.prl_types.specs.Contexts.{AreFirsts};
@@ -50,7 +52,7 @@ impl<'a> Model for Typed<'a> {
 
     ghost view = { λ t. record { program = t.program.now; main = t.main; types = t.types.items } };
 
-    ghost invariant = { λ t. AreFirsts t.firsts.items (program_tree t.program.now) × (length t.types.items ≡ count_of (program_tree t.program.now)) × IsRight (program_tree t.program.now) t.main t.types.items };
+    ghost invariant = { λ t. AreFirsts t.firsts.items (program_tree t.program.now) × (length t.types.items ≡ count_of (program_tree t.program.now)) × IsRight (program_tree t.program.now) t.main t.types.items × IsInRange (program_tree t.program.now) };
 }
 
 impl<'a> Typed<'a> {
@@ -66,6 +68,7 @@ impl<'a> Typed<'a> {
         ensures main { result ≡ self.now.main }
         // Nothing is wrong with the program, and these are the only types that its rules leave.
         ensures right { IsRight (program_tree self.now.program) self.now.main self.now.types }
+        ensures range { IsInRange (program_tree self.now.program) }
     {
         self.main
     }
@@ -123,15 +126,14 @@ fn check<'a>(
     names: &Names<'_>,
     main: Option<&Label>,
 ) -> Result<Typed<'a>, TypeFault>
-    requires { names.now ≡ program.now }
+    requires names { names.now ≡ program.now }
+    requires range { IsInRange (program_tree program.now) }
     ensures program { IfOk result (λ t. t.program ≡ program.now) }
     ensures typed { IfOk result (λ t. IsTyped (program_tree program.now) (option_copied main.entry) t.main t.types) }
     ensures fault { IfErr result (IsFault (program_tree program.now) (option_copied main.entry)) }
 {
     let node = check_names(alloc, names, main)?;
-    if node > u32::MAX as usize {
-        return Err(TypeFault::Memory);
-    }
+    right_names_stand_for_something();
     let context = Context::new(alloc, names)?;
     if let Some(at) = arity_fault(&context) {
         return Err(TypeFault::Arity(at));
@@ -169,6 +171,8 @@ pub fn check_names_types<'a>(
     program: &'a Program,
     main: Option<&Label>,
 ) -> Result<Typed<'a>, TypeFault>
+    // As the program of each text is.
+    requires { IsInRange (program_tree program.now) }
     ensures program { IfOk result (λ t. t.program ≡ program.now) }
     ensures typed { IfOk result (λ t. IsTyped (program_tree program.now) (option_copied main.entry) t.main t.types) }
     ensures fault { IfErr result (IsFault (program_tree program.now) (option_copied main.entry)) }

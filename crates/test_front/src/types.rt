@@ -1,9 +1,12 @@
 //! Types: what is wrong with a program, and the type of each flow.
 
 ghost use Rattle.std.specs.Prelude.{◌<◌, ◌^◌, length};
+ghost use Rattle.prl_ast.specs.InRange.{IsInRange};
+ghost use Rattle.prl_ast.specs.Trees.{program_tree};
 
 use prl_ast::Program;
 use prl_base::{Label, Name, Ty};
+use prl_print::programs_are_in_range;
 use prl_syntax::parse;
 use prl_types::{TypeFault, Typed, check_names_types};
 use std::alloc::{AllocError, Global};
@@ -28,7 +31,9 @@ enum Seen {
 }
 
 /// What the check answers of the program of the text, whose main node is `main`.
-fn fault_of(alloc: Global, program: &Program) -> Result<Option<TypeFault>, AllocError> {
+fn fault_of(alloc: Global, program: &Program) -> Result<Option<TypeFault>, AllocError>
+    requires { IsInRange (program_tree program.now) }
+{
     let main = Label::new(alloc, b"main")?;
     match check_names_types(alloc, program, Some(&main)) {
         Ok(_) => Ok(None),
@@ -62,6 +67,7 @@ fn outcome(alloc: Global, text: &[u8]) -> Result<Seen, Fail>
     requires { length text.now < 2 ^ 32 }
 {
     let program = parse(alloc, text)?;
+    programs_are_in_range();
     match fault_of(alloc, &program)? {
         None => Ok(Seen::Nothing),
         Some(fault) => Ok(shown(&fault)),
@@ -298,7 +304,9 @@ fn typing(
     main: Option<&Label>,
     node: u32,
     param: u32,
-) -> Option<(u32, Option<Ty>)> {
+) -> Option<(u32, Option<Ty>)>
+    requires { IsInRange (program_tree program.now) }
+{
     match check_names_types(alloc, program, main) {
         Ok(typed) => Some((typed.main(), type_at(&typed, node, param))),
         Err(_) => None,
@@ -312,6 +320,7 @@ fn types_by_place(rt: HostRuntime) -> Result<(), Fail> {
         alloc,
         b"sensor i wcet 1; actuator o wcet 1; actuator z wcet 1; node h (x: bool) returns (y) var v, w; let w = 1; y = v; v = x; tel node main (i: int) returns (o) let o = 0 fby i; tel node last () returns (z) let z = true; tel",
     )?;
+    programs_are_in_range();
     let main = Label::new(alloc, b"main")?;
     // Inputs, outputs and locals, one after the other.
     let types = [

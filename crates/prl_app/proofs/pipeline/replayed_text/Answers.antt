@@ -13,7 +13,7 @@ returns-in_err-values-clause-stop c =
     rw (p.1, p.2) (inr (
       c.in_ok-program.ensures.holds,
       inr (
-        c.in_ok-main.ensures.holds,
+        c.in_ok-typed.ensures.holds,
         inr (
           c.in_ok-_bodies.ensures.holds,
           inr (
@@ -31,7 +31,7 @@ returns-clause-holds c =
     (λ text schedule. (
       c.in_ok-program.ensures.holds,
       (
-        c.in_ok-main.ensures.holds,
+        c.in_ok-typed.ensures.holds,
         (
           c.in_ok-_bodies.ensures.holds,
           (
@@ -50,7 +50,7 @@ returns-clause-stop c =
     (λ stop at. inr (
       c.in_ok-program.ensures.holds,
       inr (
-        c.in_ok-main.ensures.holds,
+        c.in_ok-typed.ensures.holds,
         inr (
           c.in_ok-_bodies.ensures.holds,
           inr (

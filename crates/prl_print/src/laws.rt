@@ -1,0 +1,11 @@
+//! Laws of programs of texts, as functions that do nothing: the contract of each is the law, over the definitions alone.
+
+ghost use Rattle.std.specs.Prelude.{ℕ, List};
+ghost use Rattle.prl_ast.specs.InRange.{IsInRange};
+ghost use Rattle.prl_ast.specs.Trees.{ProgramTree};
+ghost use Rattle.prl_syntax.specs.Parsing.{IsProgramOf};
+
+/// The program of a text is within the ranges and limits of the language.
+pub fn programs_are_in_range()
+    ensures { (text : List ℕ) (p : ProgramTree) → IsProgramOf text p → IsInRange p }
+{}
