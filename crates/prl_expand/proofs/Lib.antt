@@ -1,0 +1,6 @@
+pub mod Lists
+pub mod Sound
+pub mod Sources
+pub mod FlatRules
+pub mod Numbers
+pub mod Corresponds
