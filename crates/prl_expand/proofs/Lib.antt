@@ -4,3 +4,5 @@ pub mod Sources
 pub mod FlatRules
 pub mod Numbers
 pub mod Corresponds
+pub mod Ranks
+pub mod Existence

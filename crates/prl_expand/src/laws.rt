@@ -18,3 +18,8 @@ pub fn behaviours_are_solutions()
         → (bodies : List CheckedBody) (rows : Rows) (until : ℕ)
         → IsOneToOne (Satisfies p main bodies rows until) (IsSolution (flat_of p types main e) bodies rows until) state_in }
 {}
+
+/// A program whose names and types are right has an expansion.
+pub fn programs_have_expansions()
+    ensures { (p : ProgramTree) (asked : Option (List ℕ)) (main : ℕ) (types : List Ty) → IsTyped p asked main types → (e : Expansion) × IsExpansion p main e }
+{}

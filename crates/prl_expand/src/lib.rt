@@ -4,4 +4,4 @@
 
 mod laws;
 
-pub use laws::behaviours_are_solutions;
+pub use laws::{behaviours_are_solutions, programs_have_expansions};
