@@ -6,3 +6,4 @@ pub mod Numbers
 pub mod Corresponds
 pub mod Ranks
 pub mod Existence
+pub mod Examples
