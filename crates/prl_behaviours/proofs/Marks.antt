@@ -9,7 +9,7 @@ use Rattle.prl_ast.specs.declared.declarations.Placed.{Placed}
 use Rattle.prl_ast.specs.declared.declarations.Rate.{Rate}
 use Rattle.prl_ast.specs.declared.expressions.PlacedOp.{PlacedOp}
 use Rattle.prl_ast.specs.Trees.{Tree, tree, Root, const, var, apply, group, Trees, none, more, EquationTree, NodeTree, ProgramTree}
-use Rattle.prl_flow.specs.Rules.{Rule, constant, operator, applied, same, sensed, rated, mark_rule, rate_rules}
+use Rattle.prl_flow.specs.Rules.{operator, applied, same, sensed, mark_rule, rate_rules}
 use Rattle.prl_names.specs.Lookups.{callee_of, param_of, params_of}
 use Rattle.prl_behaviours.specs.Annotations.{Entered, entered, Rights, done, next, Part, part, Core, Parts, mark_entered, mark_rights, mark_part, mark_core, mark_parts}
 use Rattle.prl_behaviours.specs.Annotations as notes
@@ -120,15 +120,19 @@ module _ {F R N G S M : Type 0} (f : F → G) (r : R → S) (n : N → M) where
     rights-map p d env [] (next q rest) = refl
     rights-map p d env (e ∷ es) (next q rest) =
         rw (part-map p d env e.right q, at_lefts-map d env e.lefts, given-map d env e.right q, all_same-map (at_lefts d env e.lefts) (given d env e.right q), rights-map p d env es rest)
-        (rw (map-append (mark_rule f r) (part_rules p d env e.right q) (all_same (at_lefts d env e.lefts) (given d env e.right q) ++ rights_rules p d env es rest),
-        map-append (mark_rule f r) (all_same (at_lefts d env e.lefts) (given d env e.right q)) (rights_rules p d env es rest)) refl)
+        (rw (
+          map-append (mark_rule f r) (part_rules p d env e.right q) (all_same (at_lefts d env e.lefts) (given d env e.right q) ++ rights_rules p d env es rest),
+          map-append (mark_rule f r) (all_same (at_lefts d env e.lefts) (given d env e.right q)) (rights_rules p d env es rest),
+        ) refl)
 
     part-map : (p : ProgramTree) (d : NodeTree) (env : List F) (t : Tree) (q : Part F R N) → part_rules p d (map f env) t (mark_part f r n q) ≡ map (mark_rule f r) (part_rules p d env t q)
     part-map p d env (tree pre root post at) (part pres core posts) =
         let of = root_given d env root core in
         rw (root-map p d env root core, root_given-map d env root core, operator-map post posts of, last_of-map of posts, reverse-map pres, operator-map (reverse pre) (reverse pres) (last_of of posts))
-        (rw (map-append (mark_rule f r) (root_rules p d env root core) (operator_rules post posts of ++ operator_rules (reverse pre) (reverse pres) (last_of of posts)),
-        map-append (mark_rule f r) (operator_rules post posts of) (operator_rules (reverse pre) (reverse pres) (last_of of posts))) refl)
+        (rw (
+          map-append (mark_rule f r) (root_rules p d env root core) (operator_rules post posts of ++ operator_rules (reverse pre) (reverse pres) (last_of of posts)),
+          map-append (mark_rule f r) (operator_rules post posts of) (operator_rules (reverse pre) (reverse pres) (last_of of posts)),
+        ) refl)
 
     root-map : (p : ProgramTree) (d : NodeTree) (env : List F) (root : Root) (c : Core F R N) → root_rules p d (map f env) root (mark_core f r n c) ≡ map (mark_rule f r) (root_rules p d env root c)
     root-map p d env root (notes.constant x) = constant-map root x
@@ -140,8 +144,10 @@ module _ {F R N G S M : Type 0} (f : F → G) (r : R → S) (n : N → M) where
         let ts = root_args root in
         let k = node_of (callee_of p (root_name root)) in
         rw (all-map p d env ts args, all_given-map d env ts args, inputs-map child, all_same-map (inputs_of child) (all_given d env ts args), entered-map p k child)
-        (rw (map-append (mark_rule f r) (all_rules p d env ts args) (all_same (inputs_of child) (all_given d env ts args) ++ entered_rules p k child),
-        map-append (mark_rule f r) (all_same (inputs_of child) (all_given d env ts args)) (entered_rules p k child)) refl)
+        (rw (
+          map-append (mark_rule f r) (all_rules p d env ts args) (all_same (inputs_of child) (all_given d env ts args) ++ entered_rules p k child),
+          map-append (mark_rule f r) (all_same (inputs_of child) (all_given d env ts args)) (entered_rules p k child),
+        ) refl)
     root-map p d env root (notes.group parts) = all-map p d env (root_args root) parts
 
     all-map : (p : ProgramTree) (d : NodeTree) (env : List F) (ts : Trees) (qs : Parts F R N) → all_rules p d (map f env) ts (mark_parts f r n qs) ≡ map (mark_rule f r) (all_rules p d env ts qs)
@@ -209,10 +215,11 @@ module _ {F R N G S M : Type 0} (f : F → G) (r : R → S) (n : N → M) where
 
   mutual
     pub text-map : (p : ProgramTree) (k : ℕ) (e : Entered F R N) → IsText p k e → IsText p k (mark_entered f r n e)
-    text-map p k (entered ins outs locals rights) h =
-        (three (slice_get p.nodes k) (length (map f ins)) (length (map f outs)) (length (map f locals)) (length ins) (length outs) (length locals)
-        (length-map ins f) (length-map outs f) (length-map locals f) h.0,
-        rights_text-map p (node_at p k).eqs rights h.1)
+    text-map p k (entered ins outs locals rights) h = (
+      three (slice_get p.nodes k) (length (map f ins)) (length (map f outs)) (length (map f locals)) (length ins) (length outs) (length locals)
+          (length-map ins f) (length-map outs f) (length-map locals f) h.0,
+      rights_text-map p (node_at p k).eqs rights h.1,
+    )
 
     rights_text-map : (p : ProgramTree) (es : List EquationTree) (qs : Rights F R N) → AreRights p es qs → AreRights p es (mark_rights f r n qs)
     rights_text-map p [] done h = h

@@ -1,11 +1,9 @@
 -- Behaviours and their states.
-use Rattle.std.proofs.Common.{◌≡◌, ◌+◌, ◌<◌, ℕ, zero, suc, List, [], ◌∷◌, ◌++◌, map, length, slice_index_or, refl, sym, ap, ◌∙◌, arith}
+use Rattle.std.proofs.Common.{◌≡◌, ◌+◌, ℕ, List, [], ◌∷◌, ◌++◌, map, length, slice_index_or, refl, sym, ap, ◌∙◌, arith}
 use Rattle.std.specs.List.{range_with_len}
 use Rattle.std.proofs.lemmas.List.{length-map, append_assoc, length-append}
-use Rattle.std.proofs.lemmas.List.FromFn.{length-range_with_len}
 use Rattle.prl_ast.specs.Trees.{ProgramTree}
-use Rattle.prl_base.specs.declared.values.Value.{Value}
-use Rattle.prl_flow.specs.States.{Timed, State, flow_at, registers_at}
+use Rattle.prl_flow.specs.States.{State, flow_at, registers_at}
 use Rattle.prl_behaviours.specs.Annotations.{Entered, flows_in, imports_in}
 use Rattle.prl_behaviours.specs.Behaviours.{Behaviour, behaviour_of, state_in}
 use Rattle.prl_behaviours.specs.Texts.{IsText}

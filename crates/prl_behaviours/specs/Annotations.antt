@@ -1,6 +1,6 @@
 -- The text of an entered node with something at each place that makes a flow (`F`), at each application of an import (`R`)
 -- and at each node that is entered from it (`N`). Names, groups and calls make no flow, and nothing stands at them.
-use Rattle.std.specs.Prelude.{ℕ, List, [], ◌∷◌, ◌++◌, map, reverse}
+use Rattle.std.specs.Prelude.{List, [], ◌∷◌, ◌++◌, map, reverse}
 
 mutual
   -- its inputs, outputs and locals, and its right sides in the order of the text

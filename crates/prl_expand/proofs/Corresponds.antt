@@ -1,30 +1,25 @@
 -- The behaviours of a program are the solutions of the flat program of its expansion.
-use Rattle.std.proofs.Common.{◌≡◌, ◌+◌, ◌<◌, ℕ, zero, suc, List, [], ◌∷◌, ◌++◌, map, length, slice_get, Option, Some, Ok, refl, sym, ap, ◌∙◌, subst, arith}
+use Rattle.std.proofs.Common.{◌≡◌, ◌+◌, ℕ, suc, List, [], ◌∷◌, ◌++◌, map, length, Option, refl, sym, ap, ◌∙◌, subst}
 use Rattle.std.specs.List.{AllByRecursion, range_with_len}
-use Rattle.std.proofs.lemmas.List.{length-map, append_assoc, length-append}
-use Rattle.std.proofs.lemmas.List.FromFn.{length-range_with_len}
-use Rattle.prl_ast.specs.Trees.{NodeTree, ProgramTree}
+use Rattle.std.proofs.lemmas.List.{length-map}
+use Rattle.prl_ast.specs.Trees.{ProgramTree}
 use Rattle.prl_base.specs.declared.values.Ty.{Ty}
-use Rattle.prl_base.specs.declared.values.Value.{Value}
 use Rattle.prl_body.specs.declared.bodies.CheckedBody.{CheckedBody}
 use Rattle.prl_flow.specs.declared.programs.App.{App}
-use Rattle.prl_flow.specs.declared.programs.Def.{Def}
-use Rattle.prl_flow.specs.declared.programs.Flow.{Flow}
 use Rattle.prl_flow.specs.Programs.{FlatProgram}
 use Rattle.prl_flow.specs.Rows.{Rows}
-use Rattle.prl_flow.specs.Rules.{Rule, mark_rule, flow_rules, flows_rules, app_rule, apps_rules, flat_rules}
+use Rattle.prl_flow.specs.Rules.{Rule, mark_rule, flows_rules, app_rule, apps_rules, flat_rules}
 use Rattle.prl_flow.specs.States.{Timed, State, IsTimed, Holds, IsSolution, flow_at, registers_at}
 use Rattle.prl_names.proofs.Right.{named}
 use Rattle.prl_types.specs.Typing.{IsTyped}
-use Rattle.prl_behaviours.specs.Annotations.{Entered, flows_in, imports_in}
+use Rattle.prl_behaviours.specs.Annotations.{flows_in, imports_in}
 use Rattle.prl_behaviours.specs.Asked.{inputs_of, program_rules, sensed_rules, entered_rules}
 use Rattle.prl_behaviours.specs.Behaviours.{Behaviour, Satisfies, behaviour_of, state_in}
-use Rattle.prl_behaviours.specs.Texts.{IsText}
 use Rattle.prl_behaviours.proofs.Marks.{program-map}
 use Rattle.prl_behaviours.proofs.Shapes.{one_behaviour}
 use Rattle.prl_behaviours.proofs.States.{made, own, flow_places, import_places}
 use Rattle.prl_expand.specs.Correspondence.{IsOneToOne}
-use Rattle.prl_expand.specs.Expansions.{Expansion, IsExpansion, AreCounted}
+use Rattle.prl_expand.specs.Expansions.{Expansion, IsExpansion}
 use Rattle.prl_expand.specs.Flats.{Numbered, all_numbered, entered_apps, flat_of, sensors_from}
 use Rattle.prl_expand.proofs.FlatRules.{Tells, numbered_rules, zipped_rules, entered_tells, definitions_sensors}
 use Rattle.prl_expand.proofs.Lists.{all_both, all_first, all_second}
@@ -114,7 +109,7 @@ module _ (p : ProgramTree) (asked : Option (List ℕ)) (main : ℕ) (tys : List 
     from_flat s h =
         let rules = subst (λ rs. AllByRecursion (Held s) rs) flat_are (all_unmap (Holds bodies rows until) (mark_rule (flow_at s) (registers_at s)) (flat_rules flat) h) in
         let asked_rules = (tells (Held s)).to (all_first (Held s) (numbered_rules numbered) (zipped_rules (imports_in e) (entered_apps p main e)) rules)
-            (all_second (Held s) (numbered_rules numbered) (zipped_rules (imports_in e) (entered_apps p main e)) rules) in
+        (all_second (Held s) (numbered_rules numbered) (zipped_rules (imports_in e) (entered_apps p main e)) rules) in
         subst (λ rs. AllByRecursion (Holds bodies rows until) rs) (sym (program-map (flow_at s) (registers_at s) (λ k. tt {0}) p main e))
         (all_map (Holds bodies rows until) (mark_rule (flow_at s) (registers_at s)) (program_rules p main e) asked_rules)
 

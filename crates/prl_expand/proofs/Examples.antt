@@ -1,5 +1,5 @@
 -- Worked rows of expansions, by hand.
-use Rattle.std.proofs.Common.{◌≡◌, ℕ, pos, List, [], ◌∷◌, ◌++◌, map, Some, None, refl}
+use Rattle.std.proofs.Common.{◌≡◌, ℕ, pos, List, [], ◌∷◌, ◌++◌, map, None, refl}
 use Rattle.std.specs.Prelude.{codes, decimal}
 use Rattle.prl_base.specs.declared.numbers.FlowNo.{FlowNo}
 use Rattle.prl_base.specs.declared.operators.Op.TheVariants as ops
@@ -7,10 +7,8 @@ use Rattle.prl_base.specs.declared.places.Span.{Span}
 use Rattle.prl_base.specs.declared.values.Ty.TheVariants as kinds
 use Rattle.prl_base.specs.declared.values.Value.TheVariants as values
 use Rattle.prl_ast.specs.declared.declarations.Param.{Param}
-use Rattle.prl_ast.specs.declared.declarations.Rate.{Rate}
 use Rattle.prl_ast.specs.declared.expressions.PlacedOp.{PlacedOp}
-use Rattle.prl_ast.specs.Trees.{Tree, tree, Root, const, var, apply, group, Trees, none, more, EquationTree, NodeTree, ProgramTree}
-use Rattle.prl_flow.specs.declared.programs.Def.{Def}
+use Rattle.prl_ast.specs.Trees.{Tree, tree, var, apply, group, none, more, NodeTree, ProgramTree}
 use Rattle.prl_flow.specs.declared.programs.Def.TheVariants as definitions
 use Rattle.prl_flow.specs.declared.programs.Flow.{Flow}
 use Rattle.prl_behaviours.specs.Annotations.{Entered, entered, Rights, done, next, Part, part}
@@ -76,7 +74,7 @@ is_one = record { text = ((refl, refl, refl), ((refl, (tt, ((refl, tt, refl), tt
 
 labels : map (λ (f : Flow). f.label) (flat_of program (kinds.Int ∷ kinds.Int ∷ kinds.Int ∷ kinds.Int ∷ []) 1 expansion).flows
     ≡ codes "i" ∷ codes "o" ∷ ((codes "twice#" ++ (decimal 0 ++ codes ".")) ++ codes "x")
-      ∷ ((codes "twice#" ++ (decimal 0 ++ codes ".")) ++ codes "y") ∷ (codes "$" ++ decimal 4) ∷ (codes "$" ++ decimal 5) ∷ []
+    ∷ ((codes "twice#" ++ (decimal 0 ++ codes ".")) ++ codes "y") ∷ (codes "$" ++ decimal 4) ∷ (codes "$" ++ decimal 5) ∷ []
 labels = refl
 
 abbrev flow : ℕ → FlowNo
@@ -84,7 +82,7 @@ flow k = record { 0 = k }
 
 definitions_are : map (λ (f : Flow). f.def) (flat_of program (kinds.Int ∷ kinds.Int ∷ kinds.Int ∷ kinds.Int ∷ []) 1 expansion).flows
     ≡ definitions.Sensor 0 ∷ definitions.Copy (flow 3) ∷ definitions.Copy (flow 0) ∷ definitions.Copy (flow 5)
-      ∷ definitions.Op (ops.Fby (values.Int (pos 0))) (flow 2) ∷ definitions.Op (ops.Fby (values.Int (pos 0))) (flow 4) ∷ []
+    ∷ definitions.Op (ops.Fby (values.Int (pos 0))) (flow 2) ∷ definitions.Op (ops.Fby (values.Int (pos 0))) (flow 4) ∷ []
 definitions_are = refl
 
 places_are : map (λ (f : Flow). f.at) (flat_of program (kinds.Int ∷ kinds.Int ∷ kinds.Int ∷ kinds.Int ∷ []) 1 expansion).flows

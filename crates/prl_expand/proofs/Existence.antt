@@ -1,5 +1,5 @@
 -- Each program whose names and arity are right has an expansion.
-use Rattle.std.proofs.Common.{◌≡◌, ◌≢◌, ◌+◌, ◌<◌, ◌≤◌, ◌||◌, ℕ, zero, suc, Bool, true, false, List, [], ◌∷◌, ◌++◌, map, length, slice_get, Option, Some, None, IsSome, refl, sym, ap, ◌∙◌, subst, arith}
+use Rattle.std.proofs.Common.{◌≡◌, ◌+◌, ◌<◌, ◌||◌, ℕ, zero, suc, Bool, true, false, List, [], ◌∷◌, ◌++◌, length, slice_get, Option, Some, None, IsSome, refl, sym, ap, ◌∙◌, subst, arith}
 use Rattle.std.specs.Prelude.{reverse}
 use Rattle.std.specs.List.{range_with_len}
 use Rattle.std.proofs.lemmas.List.{length-append, length-reverse, reverse-reverse}
@@ -9,7 +9,7 @@ use Rattle.std.proofs.lemmas.List.FromFn.{length-range_with_len}
 use Rattle.prl_ast.specs.declared.declarations.Import.{Import}
 use Rattle.prl_ast.specs.Trees.{Tree, tree, Root, const, var, apply, group, Trees, none, more, EquationTree, NodeTree, ProgramTree}
 use Rattle.prl_flow.proofs.Lists.{element_at}
-use Rattle.prl_names.specs.Applications.{is_node, applied_in, applied_root, applied_trees, applied_equations, applied_by, applies, Reaches}
+use Rattle.prl_names.specs.Applications.{is_node, applied_in, applied_root, applied_trees, applied_equations, applied_by, applies}
 use Rattle.prl_names.specs.declared.lookups.Callee.{Callee}
 use Rattle.prl_names.specs.declared.lookups.Callee.TheVariants as callees
 use Rattle.prl_names.specs.Lookups.{callee_of, index_of, node_names, import_names, node_or}
@@ -148,7 +148,7 @@ module _ (p : ProgramTree) (k : ℕ) where
     build_all (more t ts) known enter f r n =
         let a = build_part t known.0 (λ j h below. enter j (true_or (applied_in p j t) (applied_trees p j ts) h) below) f r n in
         let b = build_all ts known.1 (λ j h below. enter j (or_true (applied_in p j t) (applied_trees p j ts) h) below)
-            (f + length (part_flows a.value)) (r + length (part_imports a.value)) (n + length (part_nodes a.value)) in
+        (f + length (part_flows a.value)) (r + length (part_imports a.value)) (n + length (part_nodes a.value)) in
         record {
           value = notes.more a.value b.value;
           good = (a.good, b.good);
@@ -162,7 +162,7 @@ module _ (p : ProgramTree) (k : ℕ) where
   build_rights (e ∷ es) known enter f r n =
       let a = build_part e.right known.1 (λ j h below. enter j (true_or (applied_in p j e.right) (applied_equations p j es) h) below) f r n in
       let b = build_rights es known.2 (λ j h below. enter j (or_true (applied_in p j e.right) (applied_equations p j es) h) below)
-          (f + length (part_flows a.value)) (r + length (part_imports a.value)) (n + length (part_nodes a.value)) in
+      (f + length (part_flows a.value)) (r + length (part_imports a.value)) (n + length (part_nodes a.value)) in
       record {
         value = next a.value b.value;
         good = (a.good, b.good);
@@ -182,12 +182,14 @@ build_entered p k d found known enter f r n =
     let io : From f (ins ++ outs) = both_from f ins outs (range_from f (length d.ins)) (range_from (f + length ins) (length d.outs)) in
     let iol : From f env = both_from f (ins ++ outs) locals io (range_from (f + length (ins ++ outs)) (length d.locals)) in
     let has : HasVariables (Some d) (length ins) (length outs) (length locals) =
-        (length-range_with_len f (length d.ins), length-range_with_len (f + length ins) (length d.outs), length-range_with_len (f + length (ins ++ outs)) (length d.locals)) in
+    (length-range_with_len f (length d.ins), length-range_with_len (f + length ins) (length d.outs), length-range_with_len (f + length (ins ++ outs)) (length d.locals)) in
     let at : node_at p k ≡ d = ap texts.node_or found in
     record {
       value = entered ins outs locals rs.value;
-      good = (subst (λ (o : Option NodeTree). HasVariables o (length ins) (length outs) (length locals)) (sym found) has,
-      subst (λ (x : NodeTree). AreRights p x.eqs rs.value) (sym at) rs.good);
+      good = (
+        subst (λ (o : Option NodeTree). HasVariables o (length ins) (length outs) (length locals)) (sym found) has,
+        subst (λ (x : NodeTree). AreRights p x.eqs rs.value) (sym at) rs.good,
+      );
       flows = both_from f env (right_flows rs.value) iol rs.flows;
       imports = rs.imports;
       nodes = rs.nodes;

@@ -1,8 +1,8 @@
 -- The rules of the flat program of an expansion are those that the text asks: the same hold.
-use Rattle.std.proofs.Common.{◌≡◌, ◌<◌, ◌+◌, ◌==◌, ℕ, zero, suc, List, [], ◌∷◌, ◌++◌, map, length, Option, Some, None, slice_get, refl, sym, ap, ◌∙◌, subst, arith}
+use Rattle.std.proofs.Common.{◌≡◌, ◌+◌, ℕ, List, [], ◌∷◌, ◌++◌, map, length, Option, Some, slice_get, refl, sym, ap, ◌∙◌, subst, arith}
 use Rattle.std.specs.Prelude.{reverse}
 use Rattle.std.specs.List.{AllByRecursion}
-use Rattle.std.proofs.lemmas.List.{length-append, length-map, map-append, append_assoc, append-nil}
+use Rattle.std.proofs.lemmas.List.{length-map, map-append, append_assoc, append-nil}
 use Rattle.prl_base.specs.declared.numbers.FlowNo.{FlowNo}
 use Rattle.prl_base.specs.declared.places.Span.{Span}
 use Rattle.prl_base.specs.declared.values.Ty.{Ty}
@@ -13,7 +13,7 @@ use Rattle.prl_ast.specs.Trees.{Tree, tree, Root, const, var, apply, group, Tree
 use Rattle.prl_flow.specs.declared.programs.App.{App}
 use Rattle.prl_flow.specs.declared.programs.Arg.{Arg}
 use Rattle.prl_flow.specs.declared.programs.Def.{Def}
-use Rattle.prl_flow.specs.Rules.{Rule, constant, operator, applied, same, sensed, rated, rate_rules, definition_rules, flow_rules, app_rule}
+use Rattle.prl_flow.specs.Rules.{Rule, operator, applied, same, sensed, rate_rules, definition_rules, flow_rules, app_rule}
 use Rattle.prl_names.specs.Lookups.{callee_of, params_of}
 use Rattle.prl_names.specs.Named.{IsKnown, IsKnownRoot, AreKnown, AreKnownEquations}
 use Rattle.prl_types.specs.Arity.{equations_faults, equation_faults, faults_in, root_faults, all_faults, prefix_fault, postfix_fault, unless_equal}
@@ -21,9 +21,9 @@ use Rattle.prl_types.specs.Flows as flows
 use Rattle.prl_types.specs.Parameters.{first_of}
 use Rattle.prl_behaviours.specs.Annotations.{Entered, entered, Rights, done, next, Part, part, Core, Parts, imports_in, right_imports, part_imports, core_imports, parts_imports}
 use Rattle.prl_behaviours.specs.Annotations as notes
-use Rattle.prl_behaviours.specs.Asked.{inputs_of, last_of, root_args, root_name, given, root_given, all_given, constant_rules, all_same, operator_rules, declared_rules, entered_rules, rights_rules, part_rules, root_rules, all_rules, sensed_rules, at_lefts}
-use Rattle.prl_behaviours.specs.Texts.{node_at, node_or, node_of, IsNodeCall, HasVariables, IsText, AreRights, IsPart, IsCore, AreParts}
-use Rattle.prl_expand.specs.Flats.{Numbered, Types, flow_no, copy_of, type_at, resolved, made_flow, variable_flow, variable_flows, equated, copies, operator_flows, output_flows, import_at, ports_of, root_place, constant_flows, entered_flows, right_flows, part_flows, root_flows_of, all_flows, placed, arguments, entered_apps, right_apps, part_apps, root_apps, all_apps, sensors_from, label_of_node, wcet_of, source_of}
+use Rattle.prl_behaviours.specs.Asked.{inputs_of, last_of, given, root_given, all_given, constant_rules, all_same, operator_rules, declared_rules, entered_rules, rights_rules, part_rules, root_rules, all_rules, sensed_rules, at_lefts}
+use Rattle.prl_behaviours.specs.Texts.{node_at, node_or, node_of, HasVariables, IsText, AreRights, IsPart, IsCore, AreParts}
+use Rattle.prl_expand.specs.Flats.{Numbered, Types, flow_no, copy_of, resolved, variable_flows, equated, copies, operator_flows, output_flows, import_at, ports_of, constant_flows, entered_flows, right_flows, part_flows, root_flows_of, all_flows, placed, arguments, entered_apps, right_apps, part_apps, root_apps, all_apps, sensors_from, label_of_node, wcet_of, source_of}
 use Rattle.prl_expand.proofs.Lists.{all_both, all_first, all_second, no_first, no_second, equal_unless, lengths_append}
 use Rattle.prl_expand.proofs.Sound.{IsRightNode, IsSound, there, variables_count, all_length, inputs_length}
 use Rattle.prl_expand.proofs.Sources.{definitions_rules, left_rules, lefts_from, lefts_to}
@@ -195,10 +195,10 @@ module _ (P : Rule ℕ ℕ → Type 0) where
         → length sources ≡ length ins → definitions_rules ins sources ≡ extra → length ins ≡ length n.ins → length (outs ++ locals) ≡ length (n.outs ++ n.locals)
         → length ((ins ++ outs) ++ locals) ≡ length (params_of n)
         → Tells (right_flows p tys k n ((ins ++ outs) ++ locals) n.eqs rights) (right_imports rights) (right_apps p n ((ins ++ outs) ++ locals) n.eqs rights)
-            (right_part_rules p n ((ins ++ outs) ++ locals) n.eqs rights)
+        (right_part_rules p n ((ins ++ outs) ++ locals) n.eqs rights)
         → Tells (variable_flows label tys (first_of p k) (params_of n) ((ins ++ outs) ++ locals) (sources ++ copies (equated n ((ins ++ outs) ++ locals) n.eqs rights) (n.outs ++ n.locals))
-            ++ right_flows p tys k n ((ins ++ outs) ++ locals) n.eqs rights) (right_imports rights) (right_apps p n ((ins ++ outs) ++ locals) n.eqs rights)
-            (extra ++ (declared_rules (params_of n) ((ins ++ outs) ++ locals) ++ rights_rules p n ((ins ++ outs) ++ locals) n.eqs rights))
+        ++ right_flows p tys k n ((ins ++ outs) ++ locals) n.eqs rights) (right_imports rights) (right_apps p n ((ins ++ outs) ++ locals) n.eqs rights)
+        (extra ++ (declared_rules (params_of n) ((ins ++ outs) ++ locals) ++ rights_rules p n ((ins ++ outs) ++ locals) n.eqs rights))
     entered_made label k sources extra ins outs locals rights n right text enough are ins_count rest_count count rs =
         let env : List ℕ = (ins ++ outs) ++ locals in
         let given_flows : List Def = copies (equated n env n.eqs rights) (n.outs ++ n.locals) in
@@ -213,8 +213,8 @@ module _ (P : Rule ℕ ℕ → Type 0) where
         let declared : List (Rule ℕ ℕ) = declared_rules (params_of n) env in
         let asked : List (Rule ℕ ℕ) = rights_rules p n env n.eqs rights in
         let cut : definitions_rules env defs ≡ extra ++ definitions_rules (outs ++ locals) given_flows =
-            ap (λ (es : List ℕ). definitions_rules es defs) env_is ∙ definitions_append ins (outs ++ locals) sources given_flows (sym enough)
-            ∙ ap (λ r. r ++ definitions_rules (outs ++ locals) given_flows) are in
+        ap (λ (es : List ℕ). definitions_rules es defs) env_is ∙ definitions_append ins (outs ++ locals) sources given_flows (sym enough)
+        ∙ ap (λ r. r ++ definitions_rules (outs ++ locals) given_flows) are in
         record {
           to = λ f g.
               let f2 = subst All (numbered_append vars others) f in
@@ -228,7 +228,7 @@ module _ (P : Rule ℕ ℕ → Type 0) where
               let more = all_second P extra (declared ++ asked) h in
               let rules = all_second P declared asked more in
               let d = all_both P extra (definitions_rules (outs ++ locals) given_flows) (all_first P extra (declared ++ asked) h)
-                  (lefts_from P p k n right ins (outs ++ locals) env env_is ins_count rest_count rights text (split.left rules)) in
+              (lefts_from P p k n right ins (outs ++ locals) env env_is ins_count rest_count rights text (split.left rules)) in
               subst All (sym (numbered_append vars others))
               (all_both P (numbered_rules vars) (numbered_rules others) (vs.back (all_first P declared asked more) (subst All (sym cut) d)) (rs.flows (split.part rules)));
           apps = λ h. rs.apps (split.part (all_second P declared asked (all_second P extra (declared ++ asked) h)));
@@ -243,7 +243,7 @@ module _ (P : Rule ℕ ℕ → Type 0) where
           let ty : Ty = resolved tys (flows.operand (flows.root_flows p k root)) in
           let needed : ℕ = length (flows.root_flows p k root) in
           let inner = no_second (prefix_fault needed pre post) (root_faults p k root)
-              (no_first (prefix_fault needed pre post ++ root_faults p k root) (postfix_fault needed post) arity) in
+          (no_first (prefix_fault needed pre post ++ root_faults p k root) (postfix_fault needed post) arity) in
           tells_more (root_flows_of p tys k n env root at core) (operator_flows ty post posts of ++ operator_flows ty (reverse pre) (reverse pres) (last_of of posts))
           (core_imports core) (root_apps p n env root at core) (root_rules p n env root core)
           (operator_rules post posts of ++ operator_rules (reverse pre) (reverse pres) (last_of of posts))
@@ -280,11 +280,11 @@ module _ (P : Rule ℕ ℕ → Type 0) where
           let callee = node_of (callee_of p name) in
           let gs : List ℕ = all_given n env args parts in
           let needed : length (flows.all_flows p k args) ≡ length (flows.inputs_of p (callee_of p name)) =
-              equal_unless (length (flows.all_flows p k args)) (length (flows.inputs_of p (callee_of p name))) place.at
-              (no_first (unless_equal (length (flows.all_flows p k args)) (length (flows.inputs_of p (callee_of p name))) place.at) (all_faults p k args) arity) in
+          equal_unless (length (flows.all_flows p k args)) (length (flows.inputs_of p (callee_of p name))) place.at
+          (no_first (unless_equal (length (flows.all_flows p k args)) (length (flows.inputs_of p (callee_of p name))) place.at) (all_faults p k args) arity) in
           let inner = no_second (unless_equal (length (flows.all_flows p k args)) (length (flows.inputs_of p (callee_of p name))) place.at) (all_faults p k args) arity in
           let enough : length (map copy_of gs) ≡ length (inputs_of child) =
-              length-map gs copy_of ∙ all_length p k n env found count args parts h.1 known.1 ∙ needed ∙ sym (inputs_length p (callee_of p name) child h.0 h.2) in
+          length-map gs copy_of ∙ all_length p k n env found count args parts h.1 known.1 ∙ needed ∙ sym (inputs_length p (callee_of p name) child h.0 h.2) in
           tells_both (all_flows p tys k n env args parts) (entered_flows p tys (label_of_node name x) callee (map copy_of gs) child) (parts_imports parts) (imports_in child)
           (all_apps p n env args parts) (entered_apps p callee child) (all_rules p n env args parts) (all_same (inputs_of child) gs ++ entered_rules p callee child)
           (all_tells k n env found count args parts h.1 known.1 inner)

@@ -1,7 +1,7 @@
 -- The flows of an expansion are made in the order of their numbers.
-use Rattle.std.proofs.Common.{◌≡◌, ◌<◌, ◌+◌, ◌==◌, ℕ, zero, suc, List, [], ◌∷◌, ◌++◌, map, length, Option, Some, None, slice_get, refl, sym, ap, ◌∙◌, subst, arith}
+use Rattle.std.proofs.Common.{◌≡◌, ◌<◌, ◌+◌, ℕ, List, [], ◌∷◌, ◌++◌, map, length, Option, Some, None, slice_get, refl, sym, ap, ◌∙◌, subst, arith}
 use Rattle.std.specs.Prelude.{reverse}
-use Rattle.std.proofs.lemmas.List.{length-append, length-map, length-reverse, map-append, append_assoc}
+use Rattle.std.proofs.lemmas.List.{length-map, length-reverse, map-append, append_assoc}
 use Rattle.prl_base.specs.declared.places.Span.{Span}
 use Rattle.prl_base.specs.declared.values.Ty.{Ty}
 use Rattle.prl_ast.specs.declared.declarations.Import.{Import}
@@ -19,9 +19,9 @@ use Rattle.prl_types.specs.Flows as flows
 use Rattle.prl_types.specs.Parameters.{first_of}
 use Rattle.prl_behaviours.specs.Annotations.{Entered, entered, Rights, done, next, Part, part, Core, Parts}
 use Rattle.prl_behaviours.specs.Annotations as notes
-use Rattle.prl_behaviours.specs.Asked.{inputs_of, last_of, given, root_given, all_given}
+use Rattle.prl_behaviours.specs.Asked.{inputs_of, last_of, root_given, all_given}
 use Rattle.prl_behaviours.specs.Texts.{node_at, node_or, node_of, IsImportCall, HasVariables, IsText, AreRights, IsPart, IsCore, AreParts}
-use Rattle.prl_expand.specs.Flats.{Numbered, Types, copy_of, resolved, label_of_node, variable_flows, equated, copies, operator_flows, output_flows, import_at, ports_of, root_place, constant_flows, entered_flows, right_flows, part_flows, root_flows_of, all_flows, source_of}
+use Rattle.prl_expand.specs.Flats.{Numbered, Types, copy_of, resolved, label_of_node, variable_flows, equated, copies, operator_flows, output_flows, import_at, ports_of, entered_flows, right_flows, part_flows, root_flows_of, all_flows, source_of}
 use Rattle.prl_expand.proofs.Lists.{no_first, no_second, equal_unless, lengths_append}
 use Rattle.prl_expand.proofs.Sound.{IsRightNode, IsSound, there, variables_count, all_length, inputs_length, root_length, last_length}
 
@@ -85,7 +85,7 @@ module _ (p : ProgramTree) (tys : Types) (sound : IsSound p) where
         let b = operators_numbered ty post posts of h.2 (λ some. one ∙ postfix_one needed post back some) in
         let turned : length (reverse pres) ≡ length (reverse pre) = length-reverse pres ∙ h.0 ∙ sym (length-reverse pre) in
         let c = operators_numbered ty (reverse pre) (reverse pres) (last_of of posts) turned
-            (λ some. prefix_one needed pre post of posts front h.2 one (omega (arith, some, length-reverse pre))) in
+        (λ some. prefix_one needed pre post of posts front h.2 one (omega (arith, some, length-reverse pre))) in
         two_numbered (root_flows_of p tys k n env root at core) (operator_flows ty post posts of ++ operator_flows ty (reverse pre) (reverse pres) (last_of of posts))
         (notes.core_flows core) (posts ++ reverse pres) a
         (two_numbered (operator_flows ty post posts of) (operator_flows ty (reverse pre) (reverse pres) (last_of of posts)) posts (reverse pres) b c)
@@ -104,11 +104,11 @@ module _ (p : ProgramTree) (tys : Types) (sound : IsSound p) where
         let callee = node_of (callee_of p name) in
         let gs : List ℕ = all_given n env args parts in
         let needed : length (flows.all_flows p k args) ≡ length (flows.inputs_of p (callee_of p name)) =
-            equal_unless (length (flows.all_flows p k args)) (length (flows.inputs_of p (callee_of p name))) place.at
-            (no_first (unless_equal (length (flows.all_flows p k args)) (length (flows.inputs_of p (callee_of p name))) place.at) (all_faults p k args) arity) in
+        equal_unless (length (flows.all_flows p k args)) (length (flows.inputs_of p (callee_of p name))) place.at
+        (no_first (unless_equal (length (flows.all_flows p k args)) (length (flows.inputs_of p (callee_of p name))) place.at) (all_faults p k args) arity) in
         let inner = no_second (unless_equal (length (flows.all_flows p k args)) (length (flows.inputs_of p (callee_of p name))) place.at) (all_faults p k args) arity in
         let enough : length (map copy_of gs) ≡ length (inputs_of child) =
-            length-map gs copy_of ∙ all_length p k n env found count args parts h.1 known.1 ∙ needed ∙ sym (inputs_length p (callee_of p name) child h.0 h.2) in
+        length-map gs copy_of ∙ all_length p k n env found count args parts h.1 known.1 ∙ needed ∙ sym (inputs_length p (callee_of p name) child h.0 h.2) in
         two_numbered (all_flows p tys k n env args parts) (entered_flows p tys (label_of_node name x) callee (map copy_of gs) child) (notes.parts_flows parts) (notes.flows_in child)
         (all_numbered k n env found count args parts h.1 known.1 inner)
         (entered_numbered (label_of_node name x) callee (map copy_of gs) child h.2 enough)
@@ -164,7 +164,7 @@ module _ (p : ProgramTree) (tys : Types) (sound : IsSound p) where
         let copied : length given_flows ≡ length (n.outs ++ n.locals) = length-map (n.outs ++ n.locals) (λ (q : Param). copy_of (source_of (equated n env n.eqs rights) q.name)) in
         let rest_count : length (outs ++ locals) ≡ length (n.outs ++ n.locals) = lengths_append outs locals n.outs n.locals has.1 has.2 in
         let as_many : length env ≡ length (sources ++ given_flows) =
-            ap length (append_assoc ins outs locals) ∙ lengths_append ins (outs ++ locals) sources given_flows (sym enough) (rest_count ∙ sym copied) in
+        ap length (append_assoc ins outs locals) ∙ lengths_append ins (outs ++ locals) sources given_flows (sym enough) (rest_count ∙ sym copied) in
         two_numbered (variable_flows label tys (first_of p k) (params_of n) env (sources ++ given_flows)) (right_flows p tys k n env n.eqs rights) env (notes.right_flows rights)
         (variables_numbered label tys (first_of p k) (params_of n) env (sources ++ given_flows) count as_many)
         (right_numbered k n env found count n.eqs rights text.1 right.named.known right.arity)

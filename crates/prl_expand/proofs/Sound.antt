@@ -1,15 +1,15 @@
 -- What is known of the nodes of a program whose names and arity are right, and how many flows expressions give.
-use Rattle.std.proofs.Common.{◌≡◌, ◌<◌, ◌+◌, ℕ, zero, suc, List, [], ◌∷◌, ◌++◌, map, length, Option, Some, None, IsSome, slice_get, refl, sym, ap, ◌∙◌, subst, arith}
+use Rattle.std.proofs.Common.{◌≡◌, ◌<◌, ◌+◌, ℕ, zero, suc, List, [], ◌∷◌, ◌++◌, length, Option, Some, None, IsSome, slice_get, refl, sym, ap, ◌∙◌, subst, arith}
 use Rattle.std.specs.Option.{option_and_then}
 use Rattle.std.specs.List.{range_with_len}
 use Rattle.std.proofs.lemmas.List.{length-append, length-map}
 use Rattle.std.proofs.lemmas.List.FromFn.{length-range_with_len}
-use Rattle.std.proofs.lemmas.Option.{slice_get-map, slice_get_within}
+use Rattle.std.proofs.lemmas.Option.{slice_get_within}
 use Rattle.prl_ast.specs.declared.declarations.Import.{Import}
 use Rattle.prl_ast.specs.declared.declarations.Param.{Param}
 use Rattle.prl_ast.specs.declared.declarations.Port.{Port}
 use Rattle.prl_ast.specs.declared.expressions.PlacedOp.{PlacedOp}
-use Rattle.prl_ast.specs.Trees.{Tree, tree, Root, const, var, apply, group, Trees, none, more, EquationTree, NodeTree, ProgramTree}
+use Rattle.prl_ast.specs.Trees.{Tree, tree, Root, const, var, apply, group, Trees, none, more, NodeTree, ProgramTree}
 use Rattle.prl_flow.proofs.Lists.{element_at}
 use Rattle.prl_names.specs.declared.lookups.Callee.{Callee}
 use Rattle.prl_names.specs.declared.lookups.Callee.TheVariants as callees
@@ -25,7 +25,7 @@ use Rattle.prl_behaviours.specs.Annotations.{Entered, entered, Rights, done, nex
 use Rattle.prl_behaviours.specs.Annotations as notes
 use Rattle.prl_behaviours.specs.Asked as asked
 use Rattle.prl_behaviours.specs.Asked.{one, at_index, at_variable, last_of, first_of as first_flow, given, root_given, all_given}
-use Rattle.prl_behaviours.specs.Texts.{node_of, IsNodeCall, IsImportCall, HasVariables, IsText, AreRights, IsPart, IsCore, AreParts}
+use Rattle.prl_behaviours.specs.Texts.{node_of, IsNodeCall, IsImportCall, HasVariables, IsText, IsPart, IsCore, AreParts}
 use Rattle.prl_expand.proofs.Lists.{some_inner, no_first, no_second, lengths_append}
 
 -- the node of this number, whose names and arity are right

@@ -1,8 +1,8 @@
 -- Each output and each local has the flow that an equation gives it, and each equation gives its flows to outputs and locals.
-use Rattle.std.proofs.Common.{◌≡◌, ◌<◌, ◌≤◌, ◌+◌, ◌-◌, ℕ, zero, suc, Bool, true, false, cond, List, [], ◌∷◌, ◌++◌, map, length, Option, Some, None, IsSome, slice_get, refl, sym, ap, ◌∙◌, subst, arith, inl, inr, ⊎_elim}
+use Rattle.std.proofs.Common.{◌≡◌, ◌<◌, ◌+◌, ◌-◌, ℕ, zero, suc, true, false, cond, List, [], ◌∷◌, ◌++◌, map, length, Option, Some, None, IsSome, slice_get, refl, sym, ap, ◌∙◌, subst, arith, ⊎_elim}
 use Rattle.std.specs.Prelude.{filter}
 use Rattle.std.specs.List.{AllByRecursion, flat_map}
-use Rattle.std.specs.Option.{is_some, option_map, option_and_then}
+use Rattle.std.specs.Option.{is_some, option_map}
 use Rattle.std.specs.Str.{bytes_eq}
 use Rattle.std.specs.Cmp.Lexicographic.{bytes_decides}
 use Rattle.std.proofs.lemmas.Bool.{cases_lt}
@@ -17,7 +17,7 @@ use Rattle.prl_flow.specs.declared.programs.Def.{Def}
 use Rattle.prl_flow.specs.Rules.{definition_rules}
 use Rattle.prl_names.specs.Lookups.{param_at, param_of, param_names, params_of, index_of, index_from}
 use Rattle.prl_names.specs.Mentions.{placed_param}
-use Rattle.prl_names.specs.Named.{AreApart, IsNamedNode, AreKnownLefts, AreKnownEquations, AllAreAmong, placed_names}
+use Rattle.prl_names.specs.Named.{AreApart, AreKnownLefts, AreKnownEquations, AllAreAmong, placed_names}
 use Rattle.prl_names.specs.Repeats.{is_among, is_flow, lefts_of, definition_space}
 use Rattle.prl_names.specs.Unknowns.{left_names}
 use Rattle.prl_names.proofs.Marking.{index_found}
@@ -26,8 +26,8 @@ use Rattle.prl_types.specs.Flows.{flows_of}
 use Rattle.prl_behaviours.specs.Annotations.{Rights, done, next}
 use Rattle.prl_behaviours.specs.Asked.{one, at_index, at_variable, at_lefts, all_same, given}
 use Rattle.prl_behaviours.specs.Texts.{AreRights}
-use Rattle.prl_expand.specs.Flats.{copies, copy_of, equated, flow_no, paired, source_of}
-use Rattle.prl_expand.proofs.Lists.{some_inner, all_both, all_first, all_second, no_first, no_second, equal_unless, lengths_append}
+use Rattle.prl_expand.specs.Flats.{copies, equated, paired, source_of}
+use Rattle.prl_expand.proofs.Lists.{some_inner, all_both, all_first, all_second, no_first, no_second, equal_unless}
 use Rattle.prl_expand.proofs.Sound.{IsRightNode, given_length, param_known, variable_length}
 
 abbrev Source : Type 0
@@ -199,10 +199,11 @@ module _ (P : Rule ℕ ℕ → Type 0) (n : NodeTree) (env : List ℕ) where
       let var : at_variable n env q.name ≡ i ∷ [] = variable_is n env (base + 0) i q apart (params 0 q refl) (numbers 0 i refl) in
       let place = place_of (names_of ss) q.name among.0 in
       let s = mapped_from (λ (y : Source). y.0) ss place.0 q.name place.1 in
-      let next : (t : ℕ) → base + suc t ≡ (base + 1) + t = λ t. omega arith in
-      (source_rule ss place.0 q.name s.0 i var s.1 s.2 h,
-      copies_from ss apart h qs is (base + 1) (λ t x e. subst (λ j. slice_get (params_of n) j ≡ Some x) (next t) (params (suc t) x e))
-      (λ t x e. subst (λ j. slice_get env j ≡ Some x) (next t) (numbers (suc t) x e)) among.1)
+      let next : (t : ℕ) → base + suc t ≡ (base + 1) + t = λ t. omega arith in (
+        source_rule ss place.0 q.name s.0 i var s.1 s.2 h,
+        copies_from ss apart h qs is (base + 1) (λ t x e. subst (λ j. slice_get (params_of n) j ≡ Some x) (next t) (params (suc t) x e))
+            (λ t x e. subst (λ j. slice_get env j ≡ Some x) (next t) (numbers (suc t) x e)) among.1,
+      )
     where
       place_of : (ns : List (List ℕ)) (name : List ℕ) → is_among ns name ≡ true → (t : ℕ) × (slice_get ns t ≡ Some name)
       place_of ns name e =

@@ -1,5 +1,5 @@
 -- The flat program of an expansion. Each list of flows has the flows with their numbers, in the order in which they are made.
-use Rattle.std.specs.Prelude.{ℕ, ◌+◌, List, [], ◌∷◌, ◌++◌, map, length, reverse, decimal, Option, Some, None, slice_get, slice_index_or, if◌then◌else◌}
+use Rattle.std.specs.Prelude.{ℕ, ◌+◌, List, [], ◌∷◌, ◌++◌, map, reverse, decimal, Option, Some, None, slice_get, slice_index_or, if◌then◌else◌}
 use Rattle.std.specs.Str.{bytes_eq}
 use Rattle.prl_base.specs.Values.{type_of}
 use Rattle.prl_base.specs.declared.numbers.FlowNo.{FlowNo}
@@ -140,7 +140,7 @@ abbrev mutual
   pub entered_flows : ProgramTree → Types → List ℕ → ℕ → List Def → Entered ℕ ℕ ℕ → List Numbered
   entered_flows p tys label k sources (entered ins outs locals rights) =
       variable_flows label tys (first_of p k) (params_of (node_at p k)) ((ins ++ outs) ++ locals)
-          (sources ++ copies (equated (node_at p k) ((ins ++ outs) ++ locals) (node_at p k).eqs rights) ((node_at p k).outs ++ (node_at p k).locals))
+      (sources ++ copies (equated (node_at p k) ((ins ++ outs) ++ locals) (node_at p k).eqs rights) ((node_at p k).outs ++ (node_at p k).locals))
       ++ right_flows p tys k (node_at p k) ((ins ++ outs) ++ locals) (node_at p k).eqs rights
 
   pub right_flows : ProgramTree → Types → ℕ → NodeTree → List ℕ → List EquationTree → Rights ℕ ℕ ℕ → List Numbered
@@ -163,7 +163,7 @@ abbrev mutual
   root_flows_of p tys k n env root at (notes.node args x child) =
       all_flows p tys k n env (root_args root) args
       ++ entered_flows p tys (label_of_node (root_name root) x) (node_of (callee_of p (root_name root)))
-          (map copy_of (all_given n env (root_args root) args)) child
+      (map copy_of (all_given n env (root_args root) args)) child
   root_flows_of p tys k n env root at (notes.group parts) = all_flows p tys k n env (root_args root) parts
 
   pub all_flows : ProgramTree → Types → ℕ → NodeTree → List ℕ → Trees → Parts ℕ ℕ ℕ → List Numbered
