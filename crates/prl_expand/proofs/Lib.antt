@@ -7,3 +7,4 @@ pub mod Corresponds
 pub mod Ranks
 pub mod Existence
 pub mod Examples
+pub mod FlowTypes

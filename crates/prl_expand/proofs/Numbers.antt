@@ -49,17 +49,17 @@ outputs_numbered app out at [] (i ∷ is) a = absurd (omega (arith, a))
 outputs_numbered app out at (q ∷ qs) [] a = absurd (omega (arith, a))
 outputs_numbered app out at (q ∷ qs) (i ∷ is) a = ap (λ js. i ∷ js) (outputs_numbered app (out + 1) at qs is (omega (arith, a)))
 
-import_ports : (p : ProgramTree) (o : Option Callee) (count : ℕ) → IsImportCall p count o → count ≡ length (ports_of (import_at p o))
+pub import_ports : (p : ProgramTree) (o : Option Callee) (count : ℕ) → IsImportCall p count o → count ≡ length (ports_of (import_at p o))
 import_ports p None count h = absurd h
 import_ports p (Some (callees.Node k)) count h = absurd h
 import_ports p (Some (callees.Import k)) count h = h.2 ∙ sym (ap (λ (o : Option Import). length (ports_of o)) h.1)
 
 -- what operators stand on is one flow
-postfix_one : (count : ℕ) (post : List PlacedOp) → postfix_fault count post ≡ [] → 0 < length post → count ≡ 1
+pub postfix_one : (count : ℕ) (post : List PlacedOp) → postfix_fault count post ≡ [] → 0 < length post → count ≡ 1
 postfix_one count [] e some = absurd (omega (arith, some))
 postfix_one count (o ∷ post) e some = equal_unless count 1 o.at.at e
 
-prefix_one : (count : ℕ) (pre post : List PlacedOp) (of posts : List ℕ) → prefix_fault count pre post ≡ [] → length posts ≡ length post → length of ≡ count → 0 < length pre → length (last_of of posts) ≡ 1
+pub prefix_one : (count : ℕ) (pre post : List PlacedOp) (of posts : List ℕ) → prefix_fault count pre post ≡ [] → length posts ≡ length post → length of ≡ count → 0 < length pre → length (last_of of posts) ≡ 1
 prefix_one count [] post of posts e a b some = absurd (omega (arith, some))
 prefix_one count (o ∷ pre) [] of [] e a b some = b ∙ equal_unless count 1 (last_at o.at.at pre) e
 prefix_one count (o ∷ pre) [] of (i ∷ posts) e a b some = absurd (omega (arith, a))

@@ -69,7 +69,7 @@ one_length {F = F} env j within =
     let x = element_at env j within in
     ap (λ (o : Option F). length (one o)) x.1
 
-index_within : (names : List (List ℕ)) (name : List ℕ) (j : ℕ) → index_of names name ≡ Some j → j < length names
+pub index_within : (names : List (List ℕ)) (name : List ℕ) (j : ℕ) → index_of names name ≡ Some j → j < length names
 index_within names name j e = slice_get_within names j name (index_found names name j e)
 
 index_length : {F : Type 0} (env : List F) (o : Option ℕ) → IsSome o → ((j : ℕ) → o ≡ Some j → j < length env) → length (at_index env o) ≡ 1
