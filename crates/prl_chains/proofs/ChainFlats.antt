@@ -12,9 +12,9 @@ use Rattle.prl_base.specs.declared.numbers.FlowNo.{FlowNo}
 use Rattle.prl_base.specs.declared.values.Ty.TheVariants as types
 use Rattle.prl_flow.specs.declared.programs.App.{App}
 use Rattle.prl_flow.specs.declared.programs.Arg.{Arg}
-use Rattle.prl_flow.specs.Programs.{IsFlat, HasType, IsWellDefined, IsApplication, IsInput, IsFactor}
+use Rattle.prl_flow.specs.Programs.{IsFlat, HasType, IsWellDefined, IsApplication, IsInput, IsFactor, IsNoted}
 use Rattle.prl_flow.specs.Programs as programs
-use Rattle.prl_flow.specs.Solutions.{AgreesClock, HasOneClock, UsesBelow, clock_of}
+use Rattle.prl_flow.specs.Solutions.{AgreesClock, HasOneClock, HasRate, UsesBelow, clock_of}
 use Rattle.prl_flow.specs.declared.programs.Flow.{Flow}
 use Rattle.prl_flow.specs.declared.programs.Def.TheVariants as definitions
 use Rattle.prl_flow.specs.declared.programs.Def.{Def}
@@ -108,6 +108,7 @@ IsFlat_chain imports sensor actuator d h = record {
   );
   flows = at_each link_flow (λ i (flow : Flow). IsWellDefined (flat_chain sensor actuator d).flat i flow.ty flow.def) d.links
       (λ i l found. well_defined sensor actuator d i l l.def found (h.defined.each i l found).linked);
+  notes = at_each link_flow (λ i (flow : Flow). IsNoted flow) d.links (λ i l found. (tt, tt));
   apps = λ k app found. is_application sensor actuator d k app (h.defined.among k app found);
   ins = at_one (λ k (flow : FlowNo). IsInput (flat_chain sensor actuator d).flat k flow) (record { 0 = 0 }) (is_input imports sensor actuator d h);
   outs = at_one (λ k (flow : FlowNo). flow.0 < length (map link_flow d.links)) (record { 0 = flow_named d.links actuator.name }) (omega (arith, h.out, length-map d.links link_flow));
@@ -171,6 +172,7 @@ IsChain_flat sensor actuator d (imports, h) = record {
   clocks = record {
     count = length-map d.links link_clock ∙ sym (length-map d.links link_flow);
     clock = each_clock imports d h.defined IsClock (λ l factor. factor.0);
+    rates = at_each link_flow (λ i (flow : Flow). HasRate (clock_of (map link_clock d.links) i) flow.rate) d.links (λ i l found. tt);
     agree = at_each link_flow (λ i (flow : Flow). AgreesClock (map link_clock d.links) (clock_of (map link_clock d.links) i) flow.def) d.links (agrees imports d h.defined);
     apps = λ k app found. one_clock d.links k app (h.defined.among k app found);
   };

@@ -65,7 +65,7 @@ abbrev pub have_flows : List Link → List Param → Bool
 have_flows links params = list_all (λ (p : Param). is_linked links p.name) params
 
 abbrev pub link_flow : Link → Flow
-link_flow l = record { label = l.name; ty = types.Int; def = l.def; at = l.at }
+link_flow l = record { label = l.name; ty = types.Int; def = l.def; rate = None; due = None; at = l.at }
 
 -- the flat program of these flows, the first of which is the input's, and applications
 abbrev pub flat_chain : Device → Device → Definitions → Chain

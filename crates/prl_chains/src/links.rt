@@ -138,6 +138,8 @@ fn link_flow(alloc: Global, link: &Link) -> Result<Flow, AllocError>
         label: Label::new(alloc, link.name.bytes())?,
         ty: Ty::Int,
         def: link.def,
+        rate: None,
+        due: None,
         at: link.at,
     })
 }

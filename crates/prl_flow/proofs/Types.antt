@@ -61,7 +61,7 @@ type_of_definition p clocks bodies rows until flows i c values flow (definitions
     let within : n < length values = slice_get_within values n v is in
     let e : Some x ≡ Some v = sym (meets (date_at c n) (n, refl) ((up_to n).0 within)) ∙ value_at_date c values n clock ∙ is in
     let same : x ≡ v = cc in
-    ap type_of (sym same) ∙ defined
+    ap type_of (sym same) ∙ defined.0
 type_of_definition p clocks bodies rows until flows i c values flow (definitions.Apply app out) clock up_to found defined no_output row_types typed meets n v is =
     absurd (no_output app out refl)
 type_of_definition p clocks bodies rows until flows i c values flow (definitions.Op op of) clock up_to found ((f, at, ty), fits) no_output row_types typed meets n v is =

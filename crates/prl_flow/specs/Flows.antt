@@ -7,6 +7,11 @@ use Rattle.prl_base.specs.declared.operators.Clock.{Clock}
 use Rattle.prl_base.specs.declared.operators.Op.{Op}
 use Rattle.prl_base.specs.declared.operators.Op.TheVariants as operators
 use Rattle.prl_base.specs.declared.values.Value.{Value}
+use Rattle.prl_ast.specs.declared.declarations.Rate.{Rate}
+
+-- the clock that a rate declares: its period, and a start of so many periods as its phase says
+abbrev pub IsClockOf : Rate → Clock → Type 0
+IsClockOf rate c = (c.period ≡ rate.period) × (rate.phase.den * c.start ≡ nat_abs rate.phase.num * rate.period)
 
 -- a flow up to a date has one value for each date of its clock before it, in order
 abbrev pub IsUpTo : ℕ → Clock → List Value → Type 0

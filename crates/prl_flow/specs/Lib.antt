@@ -3,6 +3,9 @@ pub mod Rows
 pub mod Flows
 pub mod Applications
 pub mod Solutions
+pub mod Rules
+pub mod States
+pub mod Uses
 pub mod Actuators
 pub mod Counts
 pub mod Faults

@@ -1,10 +1,11 @@
 -- Flat programs.
 use Rattle.std.specs.Prelude.{◌≡◌, ◌≤◌, ◌<◌, ◌^◌, ◌++◌, ℕ, pos, ◌≤ℤ◌, List, [], length, Some, slice_get, slice_index_or}
-use Rattle.prl_base.specs.Values.{type_of}
+use Rattle.prl_base.specs.Values.{IsOfType, type_of}
 use Rattle.prl_base.specs.declared.values.Ty.{Ty}
 use Rattle.prl_base.specs.declared.operators.Op.{Op}
 use Rattle.prl_base.specs.declared.operators.Op.TheVariants as operators
 use Rattle.prl_base.specs.declared.numbers.FlowNo.{FlowNo}
+use Rattle.prl_ast.specs.InRange.{IfThere, IsDue, IsRate}
 use Rattle.prl_flow.specs.declared.programs.App.{App}
 use Rattle.prl_flow.specs.declared.programs.Arg.{Arg}
 use Rattle.prl_flow.specs.declared.programs.Def.{Def}
@@ -41,7 +42,7 @@ FitsType ty (operators.Cons c) = type_of c ≡ ty
 FitsType ty operators.Tail = Unit {0}
 FitsType ty (operators.Up k) = IsFactor k
 FitsType ty (operators.Down k) = IsFactor k
-FitsType ty (operators.Shift q) = pos 0 ≤ℤ q.num
+FitsType ty (operators.Shift q) = (1 ≤ q.den) × (pos 0 ≤ℤ q.num)
 
 -- the flow of this number has the type
 abbrev pub HasType : FlatProgram → Ty → FlowNo → Type 0
@@ -51,7 +52,7 @@ HasType p ty flow = (f : Flow) × (slice_get p.flows flow.0 ≡ Some f) × (f.ty
 abbrev pub IsWellDefined : FlatProgram → ℕ → Ty → Def → Type 0
 IsWellDefined p i ty (definitions.Sensor k) = slice_get p.ins k ≡ Some (record { 0 = i })
 IsWellDefined p i ty (definitions.Copy of) = HasType p ty of
-IsWellDefined p i ty (definitions.Const c) = type_of c ≡ ty
+IsWellDefined p i ty (definitions.Const c) = IsOfType ty c
 IsWellDefined p i ty (definitions.Apply app out) =
     (a : App) × (slice_get p.apps app ≡ Some a) × (slice_get a.outs out ≡ Some (record { 0 = i }))
 IsWellDefined p i ty (definitions.Op op of) = HasType p ty of × FitsType ty op
@@ -77,11 +78,16 @@ AreDevices devices =
     ((k : ℕ) (d : Device) → slice_get devices k ≡ Some d → IsFactor d.1)
     × ((j k : ℕ) (c d : Device) → slice_get devices j ≡ Some c → slice_get devices k ≡ Some d → c.0 ≡ d.0 → j ≡ k)
 
+-- the rate and the due of a flow, where it has them, are in their ranges
+abbrev pub IsNoted : Flow → Type 0
+IsNoted flow = IfThere IsRate flow.rate × IfThere IsDue flow.due
+
 pub record IsFlat (p : FlatProgram) : Type 0 where
   pub in_count : length p.in_devices ≡ length p.ins
   pub out_count : length p.out_devices ≡ length p.outs
   pub devices : AreDevices (p.in_devices ++ p.out_devices)
   pub flows : (i : ℕ) (flow : Flow) → slice_get p.flows i ≡ Some flow → IsWellDefined p i flow.ty flow.def
+  pub notes : (i : ℕ) (flow : Flow) → slice_get p.flows i ≡ Some flow → IsNoted flow
   pub apps : (k : ℕ) (app : App) → slice_get p.apps k ≡ Some app → IsApplication p k app
   pub ins : (k : ℕ) (flow : FlowNo) → slice_get p.ins k ≡ Some flow → IsInput p k flow
   pub outs : (k : ℕ) (flow : FlowNo) → slice_get p.outs k ≡ Some flow → flow.0 < length p.flows

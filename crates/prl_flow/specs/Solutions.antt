@@ -1,11 +1,12 @@
 -- The meaning of a flat program: its clocks, and its flows up to a date.
-use Rattle.std.specs.Prelude.{◌≡◌, ◌<◌, ℕ, List, [], length, map, take, Some, slice_get, slice_index_or}
+use Rattle.std.specs.Prelude.{◌≡◌, ◌<◌, ℕ, List, [], length, map, take, Option, Some, None, slice_get, slice_index_or}
 use Rattle.prl_base.specs.Clocks.{IsClock, date_at, IsDate}
 use Rattle.prl_base.specs.declared.operators.Clock.{Clock}
 use Rattle.prl_base.specs.declared.numbers.FlowNo.{FlowNo}
 use Rattle.prl_base.specs.declared.values.Value.{Value}
 use Rattle.prl_base.specs.Operators.{IsResultClock}
 use Rattle.prl_base.specs.Values.{type_of}
+use Rattle.prl_ast.specs.declared.declarations.Rate.{Rate}
 use Rattle.prl_body.specs.declared.bodies.CheckedBody.{CheckedBody}
 use Rattle.prl_body.specs.Bodies.{body_named}
 use Rattle.prl_flow.specs.declared.programs.App.{App}
@@ -13,7 +14,7 @@ use Rattle.prl_flow.specs.declared.programs.Arg.{Arg}
 use Rattle.prl_flow.specs.declared.programs.Def.{Def}
 use Rattle.prl_flow.specs.declared.programs.Def.TheVariants as definitions
 use Rattle.prl_flow.specs.declared.programs.Flow.{Flow}
-use Rattle.prl_flow.specs.Flows.{IsUpTo, value_at, OperatorByDate}
+use Rattle.prl_flow.specs.Flows.{IsClockOf, IsUpTo, value_at, OperatorByDate}
 use Rattle.prl_flow.specs.Applications.{nth_step, values_at}
 use Rattle.prl_flow.specs.Programs.{FlatProgram, HasType}
 use Rattle.prl_flow.specs.Rows.{Rows, rows_of}
@@ -40,10 +41,16 @@ pub record HasOneClock (clocks : List Clock) (app : App) : Type 0 where
   pub args : (j : ℕ) (arg : Arg) → slice_get app.args j ≡ Some arg → clock_of clocks arg.flow.0 ≡ clock
   pub outs : (j : ℕ) (flow : FlowNo) → slice_get app.outs j ≡ Some flow → clock_of clocks flow.0 ≡ clock
 
+-- the clock has the period and the start of the rate, where there is one
+abbrev pub HasRate : Clock → Option Rate → Type 0
+HasRate c None = Unit {0}
+HasRate c (Some rate) = IsClockOf rate c
+
 -- one clock for each flow, and the clocks agree
 pub record AreClocks (p : FlatProgram) (clocks : List Clock) : Type 0 where
   pub count : length clocks ≡ length p.flows
   pub clock : (i : ℕ) → i < length clocks → IsClock (clock_of clocks i)
+  pub rates : (i : ℕ) (flow : Flow) → slice_get p.flows i ≡ Some flow → HasRate (clock_of clocks i) flow.rate
   pub agree : (i : ℕ) (flow : Flow) → slice_get p.flows i ≡ Some flow → AgreesClock clocks (clock_of clocks i) flow.def
   pub apps : (k : ℕ) (app : App) → slice_get p.apps k ≡ Some app → HasOneClock clocks app
 

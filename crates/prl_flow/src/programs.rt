@@ -3,6 +3,7 @@
 ghost use Rattle.std.specs.Prelude.{◌≡◌, ◌<◌, length};
 ghost use Rattle.prl_flow.specs.Programs.{name_of, wcet_of, IsFlat};
 
+use prl_ast::Rate;
 use prl_base::{Clock, FlowNo, Label, Name, Op, Seq, Span, Ty, Value};
 use std::marker::Model;
 
@@ -28,6 +29,10 @@ pub struct Flow {
     pub label: Label,
     pub ty: Ty,
     pub def: Def,
+    /// The clock that it is declared with.
+    pub rate: Option<Rate>,
+    /// Its relative deadline in ticks, as it is declared.
+    pub due: Option<u32>,
     /// Where it stands in the source text.
     pub at: Span,
 }

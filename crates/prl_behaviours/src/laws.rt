@@ -1,0 +1,35 @@
+//! Laws of annotated texts, as functions that do nothing: the contract of each is the law, over the definitions alone.
+
+ghost use Rattle.std.specs.Prelude.{◌≡◌, ℕ, List, length, map};
+ghost use Rattle.std.specs.List.{range_with_len};
+ghost use Rattle.prl_ast.specs.Trees.{ProgramTree};
+ghost use Rattle.prl_flow.specs.Rules.{mark_rule};
+ghost use Rattle.prl_flow.specs.States.{State, flow_at, registers_at};
+ghost use Rattle.prl_behaviours.specs.Annotations.{Entered, flows_in, imports_in};
+ghost use Rattle.prl_behaviours.specs.Asked.{program_rules};
+ghost use Rattle.prl_behaviours.specs.Behaviours.{Behaviour, behaviour_of, state_in};
+ghost use Rattle.prl_behaviours.specs.Texts.{IsText};
+
+/// What a text asks for follows what stands at its places: with other things there, the same rules are asked of these.
+pub fn rules_follow_marks()
+    ensures { (s : State) (p : ProgramTree) (main : ℕ) (e : Entered ℕ ℕ ℕ)
+        → program_rules p main (behaviour_of s e) ≡ map (mark_rule (flow_at s) (registers_at s)) (program_rules p main e) }
+{}
+
+/// A text has one shape: two behaviours of a node's text that have the same flows and registers, in order, are one.
+pub fn texts_have_one_shape()
+    ensures { (p : ProgramTree) (k : ℕ) (b c : Behaviour) → IsText p k b → IsText p k c
+        → flows_in b ≡ flows_in c → imports_in b ≡ imports_in c → b ≡ c }
+{}
+
+/// A behaviour of a text is that text with the behaviour's own flows and registers at its places.
+pub fn behaviours_are_of_their_states()
+    ensures { (p : ProgramTree) (k : ℕ) (e : Entered ℕ ℕ ℕ) (b : Behaviour) → IsText p k e → IsText p k b
+        → flows_in e ≡ range_with_len 0 (length (flows_in e)) → imports_in e ≡ range_with_len 0 (length (imports_in e)) → behaviour_of (state_in b) e ≡ b }
+{}
+
+/// And that text with flows and registers of any state at its places is one of the text, with these.
+pub fn states_make_behaviours()
+    ensures { (p : ProgramTree) (k : ℕ) (e : Entered ℕ ℕ ℕ) (s : State) → IsText p k e → flows_in e ≡ range_with_len 0 (length s.flows)
+        → imports_in e ≡ range_with_len 0 (length s.registers) → IsText p k (behaviour_of s e) × (state_in (behaviour_of s e) ≡ s) }
+{}

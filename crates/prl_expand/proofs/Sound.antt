@@ -1,0 +1,168 @@
+-- What is known of the nodes of a program whose names and arity are right, and how many flows expressions give.
+use Rattle.std.proofs.Common.{◌≡◌, ◌<◌, ◌+◌, ℕ, zero, suc, List, [], ◌∷◌, ◌++◌, length, Option, Some, None, IsSome, slice_get, refl, sym, ap, ◌∙◌, subst, arith}
+use Rattle.std.specs.Option.{option_and_then}
+use Rattle.std.specs.List.{range_with_len}
+use Rattle.std.proofs.lemmas.List.{length-append, length-map}
+use Rattle.std.proofs.lemmas.List.FromFn.{length-range_with_len}
+use Rattle.std.proofs.lemmas.Option.{slice_get_within}
+use Rattle.prl_ast.specs.declared.declarations.Import.{Import}
+use Rattle.prl_ast.specs.declared.declarations.Param.{Param}
+use Rattle.prl_ast.specs.declared.declarations.Port.{Port}
+use Rattle.prl_ast.specs.declared.expressions.PlacedOp.{PlacedOp}
+use Rattle.prl_ast.specs.Trees.{Tree, tree, Root, const, var, apply, group, Trees, none, more, NodeTree, ProgramTree}
+use Rattle.prl_flow.proofs.Lists.{element_at}
+use Rattle.prl_names.specs.declared.lookups.Callee.{Callee}
+use Rattle.prl_names.specs.declared.lookups.Callee.TheVariants as callees
+use Rattle.prl_names.specs.Lookups.{callee_of, param_at, param_of, param_names, params_of, index_of}
+use Rattle.prl_names.specs.Named.{IsNamedNode, IsKnown, IsKnownRoot, AreKnown}
+use Rattle.prl_names.proofs.Marking.{index_found}
+use Rattle.prl_types.specs.Arity.{arity_faults, nodes_faults, equations_faults}
+use Rattle.prl_types.specs.declared.terms.Term.{Term}
+use Rattle.prl_types.specs.declared.terms.Term.TheVariants as terms
+use Rattle.prl_types.specs.Flows.{operated, flows_of, root_flows, all_flows, outputs_of, inputs_of, import_outputs, node_inputs, node_outputs, parameters_from}
+use Rattle.prl_types.specs.Parameters.{first_of}
+use Rattle.prl_behaviours.specs.Annotations.{Entered, entered, Rights, done, next, Part, part, Core, Parts}
+use Rattle.prl_behaviours.specs.Annotations as notes
+use Rattle.prl_behaviours.specs.Asked as asked
+use Rattle.prl_behaviours.specs.Asked.{one, at_index, at_variable, last_of, first_of as first_flow, given, root_given, all_given}
+use Rattle.prl_behaviours.specs.Texts.{node_of, IsNodeCall, IsImportCall, HasVariables, IsText, IsPart, IsCore, AreParts}
+use Rattle.prl_expand.proofs.Lists.{some_inner, no_first, no_second, lengths_append}
+
+-- the node of this number, whose names and arity are right
+pub record IsRightNode (p : ProgramTree) (k : ℕ) (n : NodeTree) : Type 0 where
+  pub found : slice_get p.nodes k ≡ Some n
+  pub named : IsNamedNode p k n
+  pub arity : equations_faults p k n.eqs ≡ []
+
+pub record IsSound (p : ProgramTree) : Type 0 where
+  pub node : (k : ℕ) (n : NodeTree) → slice_get p.nodes k ≡ Some n → IsRightNode p k n
+
+node_arity : (p : ProgramTree) (ns : List NodeTree) (first i k : ℕ) (n : NodeTree) → nodes_faults p first ns ≡ [] → slice_get ns i ≡ Some n → k ≡ first + i → equations_faults p k n.eqs ≡ []
+node_arity p [] first i k n e found at = absurd (cc)
+node_arity p (m ∷ ns) first zero k n e found at =
+    let same : m ≡ n = some_inner m n found in
+    let here : equations_faults p first m.eqs ≡ [] = no_first (equations_faults p first m.eqs) (nodes_faults p (first + 1) ns) e in
+    let number : first ≡ k = omega (arith, at) in
+    subst (λ (x : NodeTree). equations_faults p k x.eqs ≡ []) same (subst (λ j. equations_faults p j m.eqs ≡ []) number here)
+node_arity p (m ∷ ns) first (suc i) k n e found at =
+    node_arity p ns (first + 1) i k n (no_second (equations_faults p first m.eqs) (nodes_faults p (first + 1) ns) e) found (omega (arith, at))
+
+pub sound_from : (p : ProgramTree) → ((k : ℕ) (n : NodeTree) → slice_get p.nodes k ≡ Some n → IsNamedNode p k n) → arity_faults p ≡ [] → IsSound p
+unfolding arity_faults
+sound_from p named arity = record {
+  node = λ k n found. record { found = found; named = named k n found; arity = node_arity p p.nodes 0 k k n arity found (omega arith) };
+}
+
+-- a node that has variables is there
+pub there : (o : Option NodeTree) (a b c : ℕ) → HasVariables o a b c → (n : NodeTree) × (o ≡ Some n)
+there None a b c h = absurd h
+there (Some n) a b c h = (n, refl)
+
+-- what stands at all variables of a node: as many things as there are variables
+pub variables_count : {F : Type 0} (n : NodeTree) (ins outs locals : List F) → HasVariables (Some n) (length ins) (length outs) (length locals)
+    → length ((ins ++ outs) ++ locals) ≡ length (params_of n)
+variables_count n ins outs locals h =
+    omega (arith, h.0, h.1, h.2, length-append (ins ++ outs) locals, length-append ins outs, length-append (n.ins ++ n.outs) n.locals, length-append n.ins n.outs)
+
+pub one_length : {F : Type 0} (env : List F) (j : ℕ) → j < length env → length (one (slice_get env j)) ≡ 1
+one_length {F = F} env j within =
+    let x = element_at env j within in
+    ap (λ (o : Option F). length (one o)) x.1
+
+pub index_within : (names : List (List ℕ)) (name : List ℕ) (j : ℕ) → index_of names name ≡ Some j → j < length names
+index_within names name j e = slice_get_within names j name (index_found names name j e)
+
+index_length : {F : Type 0} (env : List F) (o : Option ℕ) → IsSome o → ((j : ℕ) → o ≡ Some j → j < length env) → length (at_index env o) ≡ 1
+index_length env None h f = absurd (cc)
+index_length env (Some j) h f = one_length env j (f j refl)
+
+pub param_known : (p : ProgramTree) (k : ℕ) (n : NodeTree) (name : List ℕ) → slice_get p.nodes k ≡ Some n → param_at p k name ≡ param_of n name
+param_known p k n name found = ap (option_and_then (λ (m : NodeTree). param_of m name)) found
+
+pub variable_length : {F : Type 0} (p : ProgramTree) (k : ℕ) (n : NodeTree) (env : List F) (name : List ℕ) → slice_get p.nodes k ≡ Some n → length env ≡ length (params_of n)
+    → IsSome (param_at p k name) → length (at_variable n env name) ≡ 1
+variable_length p k n env name found count known =
+    index_length env (param_of n name) (subst (λ (o : Option ℕ). IsSome o) (param_known p k n name found) known)
+    (λ j e. let small = index_within (param_names n) name j e in omega (arith, small, count, length-map (params_of n) (λ (q : Param). q.name)))
+
+parameters_length : (first count : ℕ) → length (parameters_from first count) ≡ count
+parameters_length first count = length-map (range_with_len first count) terms.Parameter ∙ length-range_with_len first count
+
+variables_outputs : (o : Option NodeTree) (first a b c : ℕ) → HasVariables o a b c → b ≡ length (node_outputs first o)
+variables_outputs None first a b c h = absurd h
+variables_outputs (Some n) first a b c h = h.1 ∙ sym (parameters_length (first + length n.ins) (length n.outs))
+
+variables_inputs : (o : Option NodeTree) (first a b c : ℕ) → HasVariables o a b c → a ≡ length (node_inputs first o)
+variables_inputs None first a b c h = absurd h
+variables_inputs (Some n) first a b c h = h.0 ∙ sym (parameters_length first (length n.ins))
+
+pub last_length : {F : Type 0} (fs of : List F) → length of ≡ 1 → length (last_of of fs) ≡ 1
+last_length [] of e = e
+last_length (f ∷ fs) of e = last_length fs (f ∷ []) refl
+
+-- operators make one flow
+operated_length : {F : Type 0} (pre post : List PlacedOp) (pres posts of : List F) (flows : List Term) → length pres ≡ length pre → length posts ≡ length post
+    → length of ≡ length flows → length (first_flow pres (last_of of posts)) ≡ length (operated pre post flows)
+operated_length [] [] [] [] of flows a b e = e
+operated_length [] [] [] (f ∷ posts) of flows a b e = absurd (omega (arith, b))
+operated_length [] [] (f ∷ pres) posts of flows a b e = absurd (omega (arith, a))
+operated_length [] (o ∷ post) [] [] of flows a b e = absurd (omega (arith, b))
+operated_length [] (o ∷ post) [] (f ∷ posts) of flows a b e = last_length posts (f ∷ []) refl
+operated_length [] (o ∷ post) (f ∷ pres) posts of flows a b e = absurd (omega (arith, a))
+operated_length (o ∷ pre) post [] posts of flows a b e = absurd (omega (arith, a))
+operated_length (o ∷ pre) post (f ∷ pres) posts of flows a b e = refl
+
+import_length : (p : ProgramTree) (o : Option Callee) (count : ℕ) → IsImportCall p count o → count ≡ length (outputs_of p o)
+import_length p None count h = absurd h
+import_length p (Some (callees.Node k)) count h = absurd h
+import_length p (Some (callees.Import k)) count h =
+    h.2 ∙ sym (length-map h.0.outs (λ (q : Port). terms.Known q.ty)) ∙ sym (ap (λ (o : Option Import). length (import_outputs o)) h.1)
+
+module _ {F R N : Type 0} where
+  outputs_length : (p : ProgramTree) (o : Option Callee) (e : Entered F R N) → IsNodeCall o → IsText p (node_of o) e → length (asked.outputs_of e) ≡ length (outputs_of p o)
+  outputs_length p None e h text = absurd h
+  outputs_length p (Some (callees.Import k)) e h text = absurd h
+  outputs_length p (Some (callees.Node k)) (entered ins outs locals rights) h text =
+      variables_outputs (slice_get p.nodes k) (first_of p k) (length ins) (length outs) (length locals) text.0
+
+  pub inputs_length : (p : ProgramTree) (o : Option Callee) (e : Entered F R N) → IsNodeCall o → IsText p (node_of o) e → length (asked.inputs_of e) ≡ length (inputs_of p o)
+  inputs_length p None e h text = absurd h
+  inputs_length p (Some (callees.Import k)) e h text = absurd h
+  inputs_length p (Some (callees.Node k)) (entered ins outs locals rights) h text =
+      variables_inputs (slice_get p.nodes k) (first_of p k) (length ins) (length outs) (length locals) text.0
+
+  -- an expression gives as many flows as its types say
+  module _ (p : ProgramTree) (k : ℕ) (n : NodeTree) (env : List F) (found : slice_get p.nodes k ≡ Some n) (count : length env ≡ length (params_of n)) where
+    mutual
+      pub given_length : (t : Tree) (q : Part F R N) → IsPart p t q → IsKnown p k t → length (given n env t q) ≡ length (flows_of p k t)
+      given_length (tree pre root post at) (part pres core posts) h known =
+          operated_length pre post pres posts (root_given n env root core) (root_flows p k root) h.0 h.2 (root_length root core h.1 known)
+
+      pub root_length : (root : Root) (c : Core F R N) → IsCore p root c → IsKnownRoot p k root → length (root_given n env root c) ≡ length (root_flows p k root)
+      root_length (const v) (notes.constant f) h known = refl
+      root_length (var name) notes.name h known = variable_length p k n env name found count known
+      root_length (apply name at args) (notes.import parts r outs) h known = import_length p (callee_of p name) (length outs) h.0
+      root_length (apply name at args) (notes.node parts x child) h known = outputs_length p (callee_of p name) child h.0 h.2
+      root_length (group args) (notes.group parts) h known = all_length args parts h known
+      root_length (const v) notes.name h known = absurd h
+      root_length (const v) (notes.import parts r outs) h known = absurd h
+      root_length (const v) (notes.node parts x child) h known = absurd h
+      root_length (const v) (notes.group parts) h known = absurd h
+      root_length (var name) (notes.constant f) h known = absurd h
+      root_length (var name) (notes.import parts r outs) h known = absurd h
+      root_length (var name) (notes.node parts x child) h known = absurd h
+      root_length (var name) (notes.group parts) h known = absurd h
+      root_length (apply name at args) (notes.constant f) h known = absurd h
+      root_length (apply name at args) notes.name h known = absurd h
+      root_length (apply name at args) (notes.group parts) h known = absurd h
+      root_length (group args) (notes.constant f) h known = absurd h
+      root_length (group args) notes.name h known = absurd h
+      root_length (group args) (notes.import parts r outs) h known = absurd h
+      root_length (group args) (notes.node parts x child) h known = absurd h
+
+      pub all_length : (ts : Trees) (qs : Parts F R N) → AreParts p ts qs → AreKnown p k ts → length (all_given n env ts qs) ≡ length (all_flows p k ts)
+      all_length none notes.none h known = refl
+      all_length none (notes.more q rest) h known = absurd h
+      all_length (more t ts) notes.none h known = absurd h
+      all_length (more t ts) (notes.more q rest) h known =
+          lengths_append (given n env t q) (all_given n env ts rest) (flows_of p k t) (all_flows p k ts) (given_length t q h.0 known.0) (all_length ts rest h.1 known.1)

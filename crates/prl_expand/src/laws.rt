@@ -1,0 +1,25 @@
+//! Laws of expansions, as functions that do nothing: the contract of each is the law, over the definitions alone.
+
+ghost use Rattle.std.specs.Prelude.{ℕ, List, Option};
+ghost use Rattle.prl_ast.specs.Trees.{ProgramTree};
+ghost use Rattle.prl_base.specs.declared.values.Ty.{Ty};
+ghost use Rattle.prl_behaviours.specs.Behaviours.{Satisfies, state_in};
+ghost use Rattle.prl_body.specs.declared.bodies.CheckedBody.{CheckedBody};
+ghost use Rattle.prl_expand.specs.Correspondence.{IsOneToOne};
+ghost use Rattle.prl_expand.specs.Expansions.{Expansion, IsExpansion};
+ghost use Rattle.prl_expand.specs.Flats.{flat_of};
+ghost use Rattle.prl_flow.specs.Rows.{Rows};
+ghost use Rattle.prl_flow.specs.States.{IsSolution};
+ghost use Rattle.prl_types.specs.Typing.{IsTyped};
+
+/// The behaviours of a program are the solutions of the flat program of its expansion, for all bodies, sensor rows and dates.
+pub fn behaviours_are_solutions()
+    ensures { (p : ProgramTree) (asked : Option (List ℕ)) (main : ℕ) (types : List Ty) (e : Expansion) → IsTyped p asked main types → IsExpansion p main e
+        → (bodies : List CheckedBody) (rows : Rows) (until : ℕ)
+        → IsOneToOne (Satisfies p main bodies rows until) (IsSolution (flat_of p types main e) bodies rows until) state_in }
+{}
+
+/// A program whose names and types are right has an expansion.
+pub fn programs_have_expansions()
+    ensures { (p : ProgramTree) (asked : Option (List ℕ)) (main : ℕ) (types : List Ty) → IsTyped p asked main types → (e : Expansion) × IsExpansion p main e }
+{}

@@ -1,0 +1,7 @@
+//! The expansion of programs: the flat program of a program whose names and types are right, with the same behaviours.
+//! It stands on the typed programs of `prl_types`, the behaviours of `prl_behaviours` and the flat programs of `prl_flow`.
+#![tactic(auto)]
+
+mod laws;
+
+pub use laws::{behaviours_are_solutions, programs_have_expansions};
