@@ -10,17 +10,17 @@ use Rattle.prl_lex.specs.declared.tokens.Token.{Token}
 use Rattle.prl_lex.specs.Lexing.{tokens_of}
 use Rattle.prl_reader.specs.Lexemes.{Lexeme}
 use Rattle.prl_reader.specs.Readers.{Stop, Stuck, Deep}
+use Rattle.prl_reader.specs.Language.{Text, read_at}
 use Rattle.prl_reader.specs.Whole.{place_of, told, all_at}
 use Rattle.prl_reader.proofs.Whole.{all_ok, all_only, all_stuck}
 use Rattle.prl_syntax.specs.declared.parsing.ParseFault.{ParseFault}
 use Rattle.prl_syntax.specs.declared.parsing.ParseFault.TheVariants as faults
-use Rattle.prl_syntax.specs.Grammar.{ProgramText}
+use Rattle.prl_syntax.specs.Grammar.{Program, programs}
 use Rattle.prl_syntax.specs.Lexing.{lexemes_of}
 use Rattle.prl_syntax.specs.Parsing.{of_lexical, of_stop, ranged, program_of_tokens, parse_of, IsProgramOf, Explains}
 use Rattle.prl_reader.specs.Ranges.{out_of_range}
 use Rattle.prl_syntax.specs.Ranges.{program_ranges}
-use Rattle.prl_syntax.specs.Readers.{program_at}
-use Rattle.prl_syntax.proofs.Program.{program_reads}
+use Rattle.prl_syntax.proofs.Right.{program_reads}
 
 chosen_tree : (b : Bool) (x : ProgramTree) (e : ParseFault) (y : ProgramTree) → cond b (Ok x) (Err e) ≡ Ok y → (b ≡ true) × (x ≡ y)
 chosen_tree true x e y h = (refl, cc)
@@ -39,18 +39,18 @@ module _ (text : List ℕ) (tokens : List Token) (is : tokens_of text ≡ Ok tok
   abbrev ts : List Lexeme
   ts = lexemes_of text tokens
 
-  in_range_ok : (o : Option ℕ) (t tree : ProgramTree) → out_of_range program_ranges false 0 ts ≡ o → ProgramText t ts → ranged o t ≡ Ok tree → IsProgramOf text tree
+  in_range_ok : (o : Option ℕ) (t tree : ProgramTree) → out_of_range program_ranges false 0 ts ≡ o → Text programs Program t ts → ranged o t ≡ Ok tree → IsProgramOf text tree
   in_range_ok None t tree o w h =
       let same = chosen_tree (leb (length t.nodes) 256) t _ tree h in
       let P : ProgramTree → Type 0 = IsProgramOf text in
       subst P same.1 (record { tokens = tokens; lexical = is; written = w; ranges = o; nodes = leb-true (length t.nodes) 256 same.0 })
   in_range_ok (Some at) t tree o w h = cc
 
-  pub tokens_ok : (r : Result ProgramTree Stop) (tree : ProgramTree) → all_at program_at ts ≡ r → (told (of_stop ts (length text)) r >>= λ tree. ranged (out_of_range program_ranges false 0 ts) tree) ≡ Ok tree → IsProgramOf text tree
+  pub tokens_ok : (r : Result ProgramTree Stop) (tree : ProgramTree) → all_at (read_at programs Program) ts ≡ r → (told (of_stop ts (length text)) r >>= λ tree. ranged (out_of_range program_ranges false 0 ts) tree) ≡ Ok tree → IsProgramOf text tree
   tokens_ok (Ok t) tree e h = in_range_ok (out_of_range program_ranges false 0 ts) t tree refl (all_ok program_reads ts t e) h
   tokens_ok (Err s) tree e h = cc
 
-  in_range_err : (o : Option ℕ) (t : ProgramTree) (fault : ParseFault) → out_of_range program_ranges false 0 ts ≡ o → ProgramText t ts → ranged o t ≡ Err fault → Explains text fault
+  in_range_err : (o : Option ℕ) (t : ProgramTree) (fault : ParseFault) → out_of_range program_ranges false 0 ts ≡ o → Text programs Program t ts → ranged o t ≡ Err fault → Explains text fault
   in_range_err (Some at) t fault o w h =
       let same : faults.NumberRange at ≡ fault = cc in
       let P : ParseFault → Type 0 = Explains text in
@@ -64,7 +64,7 @@ module _ (text : List ℕ) (tokens : List Token) (is : tokens_of text ≡ Ok tok
       subst P same (inr (record { tokens = tokens; tree = t; lexical = is; written = w; ranges = o; many = leb-false (length t.nodes) 256 e; is = refl })))
       (cases_Bool (leb (length t.nodes) 256))
 
-  pub tokens_err : (r : Result ProgramTree Stop) (fault : ParseFault) → all_at program_at ts ≡ r → (told (of_stop ts (length text)) r >>= λ tree. ranged (out_of_range program_ranges false 0 ts) tree) ≡ Err fault → Explains text fault
+  pub tokens_err : (r : Result ProgramTree Stop) (fault : ParseFault) → all_at (read_at programs Program) ts ≡ r → (told (of_stop ts (length text)) r >>= λ tree. ranged (out_of_range program_ranges false 0 ts) tree) ≡ Err fault → Explains text fault
   tokens_err (Ok t) fault e h = in_range_err (out_of_range program_ranges false 0 ts) t fault refl (all_ok program_reads ts t e) h
   tokens_err (Err (Stuck left)) fault e h =
       let same : faults.Unexpected (place_of ts left (length text)) ≡ fault = cc in
@@ -78,7 +78,7 @@ module _ (text : List ℕ) (tokens : List Token) (is : tokens_of text ≡ Ok tok
 -- the tokens, or the fault that they have
 by_tokens : (text : List ℕ) (r : Result (List Token) LexFault) (tree : ProgramTree) → tokens_of text ≡ r → (told of_lexical r >>= λ tokens. program_of_tokens (lexemes_of text tokens) (length text)) ≡ Ok tree → IsProgramOf text tree
 unfolding program_of_tokens
-by_tokens text (Ok tokens) tree e h = tokens_ok text tokens e (all_at program_at (lexemes_of text tokens)) tree refl h
+by_tokens text (Ok tokens) tree e h = tokens_ok text tokens e (all_at (read_at programs Program) (lexemes_of text tokens)) tree refl h
 by_tokens text (Err fault) tree e h = cc
 
 lexical_fault : (text : List ℕ) (lex : LexFault) (fault : ParseFault) → tokens_of text ≡ Err lex → of_lexical lex ≡ fault → Explains text fault
@@ -89,7 +89,7 @@ lexical_fault text lexical.Memory fault e h = let P : ParseFault → Type 0 = Ex
 
 by_fault : (text : List ℕ) (r : Result (List Token) LexFault) (fault : ParseFault) → tokens_of text ≡ r → (told of_lexical r >>= λ tokens. program_of_tokens (lexemes_of text tokens) (length text)) ≡ Err fault → Explains text fault
 unfolding program_of_tokens
-by_fault text (Ok tokens) fault e h = tokens_err text tokens e (all_at program_at (lexemes_of text tokens)) fault refl h
+by_fault text (Ok tokens) fault e h = tokens_err text tokens e (all_at (read_at programs Program) (lexemes_of text tokens)) fault refl h
 by_fault text (Err lex) fault e h = lexical_fault text lex fault e (err_same (of_lexical lex) fault h)
 
 parsed : (text : List ℕ) (tree : ProgramTree) → parse_of text ≡ Ok tree → IsProgramOf text tree

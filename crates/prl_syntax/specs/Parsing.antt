@@ -12,15 +12,15 @@ use Rattle.prl_lex.specs.declared.tokens.Token.{Token}
 use Rattle.prl_lex.specs.Lexing.{tokens_of}
 use Rattle.prl_reader.specs.Lexemes.{Lexeme}
 use Rattle.prl_reader.specs.Ranges.{out_of_range}
+use Rattle.prl_reader.specs.Language.{Text, read_at}
 use Rattle.prl_reader.specs.Readers.{Stop, Stuck, Deep}
 use Rattle.prl_reader.specs.Whole.{place_of, told, all_at, IsFirstUnexpected}
 use Rattle.prl_syntax.specs.declared.parsing.TheConstants.{MAX_NODES}
 use Rattle.prl_syntax.specs.declared.parsing.ParseFault.{ParseFault}
 use Rattle.prl_syntax.specs.declared.parsing.ParseFault.TheVariants as faults
-use Rattle.prl_syntax.specs.Grammar.{ProgramText}
+use Rattle.prl_syntax.specs.Grammar.{Program, programs}
 use Rattle.prl_syntax.specs.Lexing.{lexemes_of}
 use Rattle.prl_syntax.specs.Ranges.{program_ranges}
-use Rattle.prl_syntax.specs.Readers.{program_at}
 
 abbrev pub of_lexical : LexFault → ParseFault
 of_lexical (lexical.BadToken at) = faults.BadToken at
@@ -47,7 +47,7 @@ ranged (Some at) tree = Err (faults.NumberRange at)
 
 unfoldable pub program_of_tokens : List Lexeme → ℕ → Result ProgramTree ParseFault
 program_of_tokens ts end = do
-  tree ← told (of_stop ts end) (all_at program_at ts)
+  tree ← told (of_stop ts end) (all_at (read_at programs Program) ts)
   ranged (out_of_range program_ranges false 0 ts) tree
 
 unfoldable pub parse_of : List ℕ → Result ProgramTree ParseFault
@@ -59,7 +59,7 @@ parse_of text = do
 pub record IsProgramOf (text : List ℕ) (tree : ProgramTree) : Type 0 where
   pub tokens : List Token
   pub lexical : tokens_of text ≡ Ok tokens
-  pub written : ProgramText tree (lexemes_of text tokens)
+  pub written : Text programs Program tree (lexemes_of text tokens)
   pub ranges : out_of_range program_ranges false 0 (lexemes_of text tokens) ≡ None
   pub nodes : length tree.nodes ≤ MAX_NODES
 
@@ -68,7 +68,7 @@ pub record IsUnexpectedAt (text : List ℕ) (at : ℕ) : Type 0 where
   pub tokens : List Token
   pub left : ℕ
   pub lexical : tokens_of text ≡ Ok tokens
-  pub first : IsFirstUnexpected ProgramText (lexemes_of text tokens) left
+  pub first : IsFirstUnexpected (Text programs Program) (lexemes_of text tokens) left
   pub place : at ≡ place_of (lexemes_of text tokens) left (length text)
 
 -- The number at the place is the first out of its range, in a text of the grammar.
@@ -76,7 +76,7 @@ pub record IsOutOfRangeAt (text : List ℕ) (at : ℕ) : Type 0 where
   pub tokens : List Token
   pub tree : ProgramTree
   pub lexical : tokens_of text ≡ Ok tokens
-  pub written : ProgramText tree (lexemes_of text tokens)
+  pub written : Text programs Program tree (lexemes_of text tokens)
   pub first : out_of_range program_ranges false 0 (lexemes_of text tokens) ≡ Some at
 
 -- The text is of the grammar and in range, and has too many nodes.
@@ -84,7 +84,7 @@ pub record HasTooManyNodes (text : List ℕ) (limit : Limit) : Type 0 where
   pub tokens : List Token
   pub tree : ProgramTree
   pub lexical : tokens_of text ≡ Ok tokens
-  pub written : ProgramText tree (lexemes_of text tokens)
+  pub written : Text programs Program tree (lexemes_of text tokens)
   pub ranges : out_of_range program_ranges false 0 (lexemes_of text tokens) ≡ None
   pub many : MAX_NODES < length tree.nodes
   pub is : limit ≡ record { what = limits.Nodes; found = MAX_NODES + 1 }
