@@ -19,7 +19,7 @@ use Rattle.prl_reader.proofs.Repeats.{same_bind}
 use Rattle.prl_syntax.specs.declared.words.Fixed.{Fixed}
 use Rattle.prl_syntax.specs.declared.words.Fixed.TheVariants as fixed
 use Rattle.prl_syntax.specs.Grammar.{Grammar, the, Const, Base, Prefixed, Stem, programs}
-use Rattle.prl_syntax.specs.Links.{Step, prefix, last, PrefixLink, ConstantLink, NextLink, with_prefixes, after_step}
+use Rattle.prl_syntax.specs.code.Links.{Step, prefix, last, PrefixLink, ConstantLink, NextLink, with_prefixes, after_step}
 use Rattle.prl_syntax.specs.Trees.{StemTree, prefixed}
 use Rattle.prl_syntax.proofs.Right.{right}
 

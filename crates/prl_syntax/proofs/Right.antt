@@ -21,7 +21,7 @@ use Rattle.prl_reader.proofs.Nesting.{IsRight, IsFounded, widens, text_reads}
 use Rattle.prl_reader.proofs.Repeats.{many_step, leaves_fewer}
 use Rattle.prl_syntax.specs.declared.words.Fixed.{Fixed}
 use Rattle.prl_syntax.specs.declared.words.Fixed.TheVariants as fixed
-use Rattle.prl_syntax.specs.Links.{Step, ConstantLink, NextLink, PrefixLink}
+use Rattle.prl_syntax.specs.code.Links.{Step, ConstantLink, NextLink, PrefixLink}
 use Rattle.prl_syntax.specs.Grammar.{Grammar, the, named, number, keyword, maybe, after, closed, maybe_in_parens, Const, Ratio, Postfix, Expr, Exprs, Base, Prefixed, Stem, programs, Name, Names, Left, Equation, TypeName, Rate, Due, Note, Item, Run, Params, EndedRun, Locals, PortGroup, NextGroup, Ports, Wcet, Import, Device, Node, Declaration, Program}
 
 abbrev Apart : {A : Type 0} → Grammar A → Type 0

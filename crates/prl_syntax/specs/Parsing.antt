@@ -22,39 +22,6 @@ use Rattle.prl_syntax.specs.Grammar.{Program, programs}
 use Rattle.prl_syntax.specs.Lexing.{lexemes_of}
 use Rattle.prl_syntax.specs.Ranges.{program_ranges}
 
-abbrev pub of_lexical : LexFault → ParseFault
-of_lexical (lexical.BadToken at) = faults.BadToken at
-of_lexical (lexical.NumberRange at) = faults.NumberRange at
-of_lexical (lexical.Limit limit) = faults.Limit limit
-of_lexical lexical.Memory = faults.Memory
-
-abbrev pub of_stop : List Lexeme → ℕ → Stop → ParseFault
-of_stop ts end (Stuck left) = faults.Unexpected (place_of ts left end)
-of_stop ts end Deep = faults.Memory
-
--- what the code answers where its reader stopped
-abbrev pub FaultOfStop : List Lexeme → ℕ → Stopped → ParseFault → Type 0
-FaultOfStop ts end (stops.Unexpected left) fault = fault ≡ faults.Unexpected (place_of ts left end)
-FaultOfStop ts end stops.Memory fault = fault ≡ faults.Memory
-
--- not too many nodes
-abbrev pub limited : ProgramTree → Result ProgramTree ParseFault
-limited tree = if nat_le (length tree.nodes) MAX_NODES then Ok tree else Err (faults.Limit (record { what = limits.Nodes; found = MAX_NODES + 1 }))
-
-abbrev pub ranged : Option ℕ → ProgramTree → Result ProgramTree ParseFault
-ranged None tree = limited tree
-ranged (Some at) tree = Err (faults.NumberRange at)
-
-unfoldable pub program_of_tokens : List Lexeme → ℕ → Result ProgramTree ParseFault
-program_of_tokens ts end = do
-  tree ← told (of_stop ts end) (all_at (read_at programs Program) ts)
-  ranged (out_of_range program_ranges false 0 ts) tree
-
-unfoldable pub parse_of : List ℕ → Result ProgramTree ParseFault
-parse_of text = do
-  tokens ← told of_lexical (tokens_of text)
-  program_of_tokens (lexemes_of text tokens) (length text)
-
 -- The text is the program: its tokens are a text of the grammar, with this tree, and it is within ranges and limits.
 pub record IsProgramOf (text : List ℕ) (tree : ProgramTree) : Type 0 where
   pub tokens : List Token
@@ -89,10 +56,16 @@ pub record HasTooManyNodes (text : List ℕ) (limit : Limit) : Type 0 where
   pub many : MAX_NODES < length tree.nodes
   pub is : limit ≡ record { what = limits.Nodes; found = MAX_NODES + 1 }
 
--- what each fault means for the text: it is one of its tokens, or one of the grammar, a range or the limit of nodes
+-- what each fault means for the text: it is one of its tokens, or one of the grammar, a range or the limit of nodes. Want of
+-- memory is none.
 abbrev pub Explains : List ℕ → ParseFault → Type 0
 Explains text (faults.BadToken at) = tokens_of text ≡ Err (lexical.BadToken at)
 Explains text (faults.Unexpected at) = IsUnexpectedAt text at
 Explains text (faults.NumberRange at) = (tokens_of text ≡ Err (lexical.NumberRange at)) ⊎ IsOutOfRangeAt text at
 Explains text (faults.Limit limit) = (tokens_of text ≡ Err (lexical.Limit limit)) ⊎ HasTooManyNodes text limit
-Explains text faults.Memory = Unit {0}
+Explains text faults.Memory = ⊥
+
+-- what comes of a text: its program, or its first fault
+abbrev pub IsParsed : List ℕ → Result ProgramTree ParseFault → Type 0
+IsParsed text (Ok tree) = IsProgramOf text tree
+IsParsed text (Err fault) = Explains text fault

@@ -7,10 +7,10 @@ ghost use Rattle.prl_reader.specs.Lexemes.{first_place};
 ghost use Rattle.prl_reader.specs.Stops.{stop_of};
 ghost use Rattle.prl_reader.specs.Loops.{with_front};
 ghost use Rattle.prl_ast.specs.Trees.{none};
-ghost use Rattle.prl_syntax.specs.Links.{link_view, with_prefixes};
-ghost use Rattle.prl_syntax.specs.Links as links;
+ghost use Rattle.prl_syntax.specs.code.Links.{link_view, with_prefixes};
+ghost use Rattle.prl_syntax.specs.code.Links as links;
 ghost use Rattle.prl_syntax.specs.Grammar as grammar;
-ghost use Rattle.prl_syntax.specs.Parses.{Parses};
+ghost use Rattle.prl_syntax.specs.code.Parses.{Parses};
 ghost use Rattle.prl_syntax.specs.Grammar.{programs};
 ghost use Rattle.prl_reader.specs.Language.{inner_of, read_at, read_nested};
 ghost use Rattle.prl_reader.specs.Productions.{either, many, shape};
@@ -85,7 +85,7 @@ enum Link {
 
 impl<'a> Parser<'a> {
     /// Takes a constant, and the operator of which it is the constant.
-    #[tactic(auto, unfolding(crate::specs::Links::ConstantLink, crate::specs::Links::PrefixLink))]
+    #[tactic(auto, unfolding(crate::specs::code::Links::ConstantLink, crate::specs::code::Links::PrefixLink))]
     fn constant_link(&mut self) -> Result<Link, Stop>
         ensures { Parses link_view links.ConstantLink result self.entry.now self.exit.now }
     {
@@ -105,7 +105,7 @@ impl<'a> Parser<'a> {
 
     /// Takes a prefix, or what the prefixes are applied to.
     #[cycle(expression)]
-    #[tactic(auto, unfolding(crate::specs::Links::NextLink, crate::specs::Links::PrefixLink))]
+    #[tactic(auto, unfolding(crate::specs::code::Links::NextLink, crate::specs::code::Links::PrefixLink))]
     fn read_link(&mut self) -> Result<Link, Stop>
         ensures { Parses link_view links.NextLink result self.entry.now self.exit.now }
     {

@@ -14,5 +14,5 @@ mod ranges;
 mod values;
 mod words;
 
-pub use laws::each_text_has_an_outcome;
+pub use laws::each_text_has_one_outcome;
 pub use parsing::{ParseFault, parse};

@@ -4,14 +4,14 @@ ghost use Rattle.std.specs.Prelude.{◌≡◌, ◌∷◌, [], ◌++◌, reverse,
 ghost use Rattle.prl_base.specs.Reading.{Gives};
 ghost use Rattle.prl_reader.specs.Stops.{stop_of};
 ghost use Rattle.prl_reader.specs.Loops.{with_front};
-ghost use Rattle.prl_syntax.specs.Loops.{with_joined};
+ghost use Rattle.prl_syntax.specs.code.Loops.{with_joined};
 ghost use Rattle.prl_syntax.specs.Grammar as grammar;
-ghost use Rattle.prl_syntax.specs.Parses.{Parses};
+ghost use Rattle.prl_syntax.specs.code.Parses.{Parses};
 ghost use Rattle.prl_syntax.specs.Grammar.{programs};
 ghost use Rattle.prl_reader.specs.Language.{read_at};
 ghost use Rattle.prl_reader.specs.Productions.{many};
 ghost use Rattle.prl_syntax.specs.Trees.{param_of, params_of};
-ghost use Rattle.prl_syntax.specs.Groups.{noted, params_after, waiting_after};
+ghost use Rattle.prl_syntax.specs.code.Groups.{noted, params_after, waiting_after};
 ghost use Rattle.prl_syntax.specs.declared.words.Fixed.TheVariants as kinds;
 
 use crate::notes::Note;

@@ -4,7 +4,7 @@ ghost use Rattle.std.specs.Prelude.{◌≡◌, ◌∷◌, []};
 ghost use Rattle.prl_reader.specs.Lexemes.{first_place};
 ghost use Rattle.prl_reader.specs.Readers.{next_in};
 ghost use Rattle.prl_syntax.specs.Grammar.{the, named, number};
-ghost use Rattle.prl_syntax.specs.Parses.{Parses};
+ghost use Rattle.prl_syntax.specs.code.Parses.{Parses};
 ghost use Rattle.prl_syntax.specs.Words.{class_of};
 
 use crate::words::Fixed;

@@ -6,7 +6,7 @@ ghost use Rattle.prl_reader.specs.Stops.{stop_of};
 ghost use Rattle.prl_base.specs.declared.ratios.TheConstants.{MAX_PART};
 ghost use Rattle.prl_syntax.specs.Values.{small, reduced, ratio_of};
 ghost use Rattle.prl_syntax.specs.Grammar as grammar;
-ghost use Rattle.prl_syntax.specs.Parses.{Parses};
+ghost use Rattle.prl_syntax.specs.code.Parses.{Parses};
 ghost use Rattle.prl_syntax.specs.declared.words.Fixed.TheVariants as kinds;
 
 use crate::parser::Parser;

@@ -8,7 +8,7 @@ use Rattle.prl_reader.specs.Lexemes.{Lexeme}
 use Rattle.prl_reader.specs.Readers.{Read}
 use Rattle.prl_syntax.specs.declared.expressions.Link.{Link}
 use Rattle.prl_syntax.specs.Grammar.{programs}
-use Rattle.prl_syntax.specs.Links.{Step, link_view, with_prefixes}
+use Rattle.prl_syntax.specs.code.Links.{Step, link_view, with_prefixes}
 use Rattle.prl_reader.proofs.Loops.{step_goes_on, step_halts, step_fails}
 use Rattle.prl_syntax.proofs.Links.{stem_goes_on, stem_ends, stem_fails}
 use Rattle.prl_syntax.proofs.Right.{link_fewer, comma_expr_steps, expr_fewer}

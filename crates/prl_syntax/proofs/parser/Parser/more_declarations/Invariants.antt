@@ -1,5 +1,5 @@
 use Rattle.std.proofs.Common.{◌≡◌, map, length}
-use Rattle.prl_syntax.specs.Nodes.{declared_view}
+use Rattle.prl_syntax.specs.code.Nodes.{declared_view}
 use Rattle.prl_reader.specs.Language.{read_at}
 use Rattle.prl_reader.specs.Productions.{many}
 use Rattle.prl_syntax.specs.Grammar.{Declaration, programs}

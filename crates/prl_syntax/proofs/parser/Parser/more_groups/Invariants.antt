@@ -2,7 +2,7 @@ use Rattle.std.proofs.Common.{◌≡◌, length}
 use Rattle.prl_reader.specs.Language.{read_at}
 use Rattle.prl_reader.specs.Productions.{many}
 use Rattle.prl_syntax.specs.Grammar.{NextGroup, programs}
-use Rattle.prl_syntax.specs.Loops.{with_joined}
+use Rattle.prl_syntax.specs.code.Loops.{with_joined}
 use Rattle.prl_syntax.proofs.parser.Parser.more_groups.Given as goal
 
 abbrev pub invariant-more : goal.invariant-more

@@ -3,7 +3,7 @@ use Rattle.prl_reader.specs.Language.{read_at}
 use Rattle.prl_reader.specs.Productions.{many}
 use Rattle.prl_syntax.specs.declared.words.Fixed.TheVariants as fixed
 use Rattle.prl_syntax.specs.Grammar.{after, Run, programs}
-use Rattle.prl_syntax.specs.Loops.{with_joined}
+use Rattle.prl_syntax.specs.code.Loops.{with_joined}
 use Rattle.prl_syntax.proofs.parser.Parser.more_runs.Given as goal
 
 abbrev pub invariant-more : goal.invariant-more
