@@ -9,7 +9,7 @@ use Rattle.prl_chains.specs.declared.chains.Chain.{Chain}
 use Rattle.prl_chains.specs.Chains.{chain_of, parts_of, node_defined, flat_chain}
 use Rattle.prl_flow.specs.Applications.{HaveBodies}
 use Rattle.prl_names.specs.Uses.{used_imports}
-use Rattle.prl_syntax.specs.Parsing.{parse_of}
+use Rattle.prl_syntax.proofs.WholeTexts.{one_outcome}
 use Rattle.prl_app.specs.declared.faults.Part.TheVariants as parts
 use Rattle.prl_app.specs.Given.{Given, text_of}
 use Rattle.prl_app.specs.Parts.{IsProgram, AreBodies}
@@ -45,7 +45,7 @@ HaveTheirs = (p : ProgramTree) (c : Chain) → chain_of p ≡ Some c → (texts 
 -- each application of a formed chain has a body that fits
 pub formed_bodies : HaveTheirs → (g : Given) (c : Chain) (bodies : List CheckedBody) → IsFormed g c → AreBodies g (map body_tree bodies) → HaveBodies c.flat bodies
 formed_bodies law g c bodies f b =
-    let same = ok_ok (parse_of (text_of g parts.Program)) f.program b.program f.is_program.read b.is_main.program.read in
+    let same = ok_ok (Ok f.program) f.program b.program refl (one_outcome (text_of g parts.Program) (Ok f.program) (Ok b.program) f.is_program.written b.is_main.program.written) in
     let formed : chain_of b.program ≡ Some c = subst (λ (p : ProgramTree). chain_of p ≡ Some c) same f.formed in
     let first = chain_main b.program c b.main formed b.is_main.below in
     law b.program c formed b.texts bodies (subst (λ (m : ℕ). checked b.program.imports (used_imports b.program m) b.texts ≡ Ok (map body_tree bodies)) first b.fitting)

@@ -5,11 +5,16 @@ use Rattle.prl_base.specs.declared.limits.Limit.{Limit}
 use Rattle.prl_base.specs.declared.values.Ty.{Ty}
 use Rattle.prl_base.specs.declared.values.Value.{Value}
 use Rattle.prl_ast.specs.Trees.{ProgramTree}
-use Rattle.prl_syntax.specs.Parsing.{parse_of}
+use Rattle.prl_syntax.proofs.WholeTexts.{one_outcome}
+use Rattle.prl_bodytext.proofs.WholeTexts.{one_outcome as one_of_bodies}
 use Rattle.prl_syntax.specs.declared.parsing.ParseFault.{ParseFault}
 use Rattle.prl_types.specs.declared.faults.TypeFault.{TypeFault}
 use Rattle.prl_types.specs.Typing.{IsTyped, IsFault, IsOutcome}
 use Rattle.prl_body.specs.declared.faults.BodyFault.{BodyFault}
+use Rattle.prl_body.specs.Checks.{BodyTree, checked}
+use Rattle.prl_body.specs.Texts.{TextTree}
+use Rattle.prl_bodytext.specs.Parsing.{IsParsed}
+use Rattle.prl_names.specs.Uses.{used_imports}
 use Rattle.prl_chains.specs.declared.chains.Chain.{Chain}
 use Rattle.prl_chains.specs.Chains.{chain_of}
 use Rattle.prl_flow.specs.declared.evaluation.TheConstants.{MAX_VALUES}
@@ -31,7 +36,7 @@ use Rattle.prl_app.specs.declared.faults.Fault.TheVariants as faults
 use Rattle.prl_app.specs.declared.stages.Stage.{Stage}
 use Rattle.prl_app.specs.declared.stages.Stage.TheVariants as stages
 use Rattle.prl_app.specs.Given.{Given, content_of, text_of}
-use Rattle.prl_app.specs.Parts.{IsProgram, IsMain, AreBodies, bodies_for, told_parse, told_types, told_body}
+use Rattle.prl_app.specs.Parts.{IsProgram, IsMain, AreBodies, RefusesBodies, told_parse, told_types, told_body}
 use Rattle.prl_app.specs.Rows.{rows_of}
 use Rattle.prl_app.specs.Runs.{too_many}
 use Rattle.prl_app.specs.Built.{IsFormed, IsTimely, HasHorizon, AreRows, HasRows, HasNoRows, HasFewRows, IsWholeRun, need, short_by, relay_of, told_relay}
@@ -99,7 +104,7 @@ module _ (law : Laws) (g : Given) where
       ok_main (a, s) (b, t) (law.one p g.node (Ok (a, s)) (Ok (b, t)) h k)
 
   one_program : (p q : ProgramTree) → IsProgram g p → IsProgram g q → p ≡ q
-  one_program p q h k = ok_ok (parse_of (text_of g parts.Program)) p q h.read k.read
+  one_program p q h k = ok_ok (Ok p) p q refl (one_outcome (text_of g parts.Program) (Ok p) (Ok q) h.written k.written)
 
   one_main : (p : ProgramTree) (main : ℕ) (q : ProgramTree) (other : ℕ) → IsMain g p main → IsMain g q other → main ≡ other
   one_main p main q other h k =
@@ -107,12 +112,41 @@ module _ (law : Laws) (g : Given) where
       let typed : IsTyped p g.node other k.types = subst (λ (x : ProgramTree). IsTyped x g.node other k.types) same k.typed in
       one_node p main other h.types k.types h.typed typed
 
-  -- the bodies of two texts that are one
-  moved_bodies : (p : ProgramTree) (main : ℕ) (q : ProgramTree) (other : ℕ) (r : Result _ BodyFault) → IsMain g p main → IsMain g q other
-      → bodies_for p main (text_of g parts.Bodies) ≡ r → bodies_for q other (text_of g parts.Bodies) ≡ r
-  moved_bodies p main q other r h k e =
-      let at = subst (λ (x : ProgramTree). bodies_for x main (text_of g parts.Bodies) ≡ r) (one_program p q h.program k.program) e in
-      subst (λ (x : ℕ). bodies_for q x (text_of g parts.Bodies) ≡ r) (one_main p main q other h k) at
+  -- the faults of two texts of bodies that are one
+  moved_bodies : (p : ProgramTree) (main : ℕ) (q : ProgramTree) (other : ℕ) (fault : BodyFault) → IsMain g p main → IsMain g q other
+      → RefusesBodies p main (text_of g parts.Bodies) fault → RefusesBodies q other (text_of g parts.Bodies) fault
+  moved_bodies p main q other fault h k e =
+      let at = subst (λ (x : ProgramTree). RefusesBodies x main (text_of g parts.Bodies) fault) (one_program p q h.program k.program) e in
+      subst (λ (x : ℕ). RefusesBodies q x (text_of g parts.Bodies) fault) (one_main p main q other h k) at
+
+  one_text : (s t : List TextTree) → IsParsed (text_of g parts.Bodies) (Ok s) → IsParsed (text_of g parts.Bodies) (Ok t) → s ≡ t
+  one_text s t h k = ok_ok (Ok s) s t refl (one_of_bodies (text_of g parts.Bodies) (Ok s) (Ok t) h k)
+
+  read_apart : (s : List TextTree) (fault : BodyFault) → IsParsed (text_of g parts.Bodies) (Ok s) → IsParsed (text_of g parts.Bodies) (Err fault) → ⊥
+  read_apart s fault h k = ok_err (Ok s) s fault refl (one_of_bodies (text_of g parts.Bodies) (Ok s) (Err fault) h k)
+
+  bodies_apart : (trees : List BodyTree) (fault : BodyFault) (h : AreBodies g trees) → RefusesBodies h.program h.main (text_of g parts.Bodies) fault → ⊥
+  bodies_apart trees fault h k = elim k [
+    | inl unread ↦ read_apart h.texts fault h.written unread
+    | inr unfit ↦
+        let same = one_text unfit.0 h.texts unfit.1 h.written in
+        let check : List TextTree → Result (List BodyTree) BodyFault = checked h.program.imports (used_imports h.program h.main) in
+        ok_err (check h.texts) trees fault h.fitting (subst (λ (x : List TextTree). check x ≡ Err fault) same unfit.2)
+  ]
+
+  one_body_fault : (p : ProgramTree) (main : ℕ) (a b : BodyFault) → RefusesBodies p main (text_of g parts.Bodies) a → RefusesBodies p main (text_of g parts.Bodies) b → a ≡ b
+  one_body_fault p main a b h k = elim h [
+    | inl u ↦ elim k [
+      | inl v ↦ err_err (Err a) a b refl (one_of_bodies (text_of g parts.Bodies) (Err a) (Err b) u v)
+      | inr v ↦ absurd (read_apart v.0 a v.1 u)
+    ]
+    | inr u ↦ elim k [
+      | inl v ↦ absurd (read_apart u.0 b u.1 v)
+      | inr v ↦
+          let check : List TextTree → Result (List BodyTree) BodyFault = checked p.imports (used_imports p main) in
+          err_err (check u.0) a b u.2 (subst (λ (x : List TextTree). check x ≡ Err b) (one_text v.0 u.0 v.1 u.1) v.2)
+    ]
+  ]
 
   one_chain : (a b : Chain) → IsFormed g a → IsFormed g b → a ≡ b
   one_chain a b h k =
@@ -146,13 +180,12 @@ module _ (law : Laws) (g : Given) where
 
   apart : (s : Stage) (f : Fault) → Holds g s → Refuses g s f → ⊥
   apart (stages.File part) f h k = ok_err (content_of g part) h.0 f h.1 k
-  apart stages.Grammar f h k = ok_err (parse_of (text_of g parts.Program)) h.0 k.0 h.1.read k.1
+  apart stages.Grammar f h k = ok_err (Ok h.0) h.0 k.0 refl (one_outcome (text_of g parts.Program) (Ok h.0) (Err k.0) h.1.written k.1)
   apart stages.Types f h k =
       let same = one_program k.0 h.0 k.1 h.2.program in
       typed_is_no_fault h.0 h.1 h.2.types k.2 h.2.typed (subst (λ (p : ProgramTree). IsFault p g.node k.2) same k.3)
   apart stages.Bodies f h k =
-      let at = moved_bodies k.0 k.1 h.1.program h.1.main (Err k.3) k.2 h.1.is_main k.4 in
-      ok_err (bodies_for h.1.program h.1.main (text_of g parts.Bodies)) h.0 k.3 h.1.read at
+      bodies_apart h.0 k.3 h.1 (moved_bodies k.0 k.1 h.1.program h.1.main k.3 k.2 h.1.is_main k.4)
   apart stages.Form f h k =
       let same = one_program k.0 h.1.program k.1 h.1.is_program in
       some_none (chain_of h.1.program) h.0 h.1.formed (subst (λ (p : ProgramTree). chain_of p ≡ None) same k.2)
@@ -198,14 +231,14 @@ module _ (law : Laws) (g : Given) where
   one : (s : Stage) (a b : Fault) → Refuses g s a → Refuses g s b → a ≡ b
   one (stages.File part) a b h k = err_err (content_of g part) a b h k
   one stages.Grammar a b h k =
-      some_some (told_parse k.0) a b (ap told_parse (err_err (parse_of (text_of g parts.Program)) k.0 h.0 k.1 h.1) ∙ h.3) k.3
+      some_some (told_parse k.0) a b (ap told_parse (err_err (Err k.0) k.0 h.0 refl (one_outcome (text_of g parts.Program) (Err k.0) (Err h.0) k.1 h.1)) ∙ h.2) k.2
   one stages.Types a b h k =
       let same = one_program k.0 h.0 k.1 h.1 in
       let fault = subst (λ (p : ProgramTree). IsFault p g.node k.2) same k.3 in
       some_some (told_types k.2) a b (ap told_types (one_type_fault h.0 k.2 h.2 fault h.3) ∙ h.4) k.4
   one stages.Bodies a b h k =
-      let at = moved_bodies k.0 k.1 h.0 h.1 (Err k.3) k.2 h.2 k.4 in
-      some_some (told_body k.3) a b (ap told_body (err_err (bodies_for h.0 h.1 (text_of g parts.Bodies)) k.3 h.3 at h.4) ∙ h.5) k.5
+      let at = moved_bodies k.0 k.1 h.0 h.1 k.3 k.2 h.2 k.4 in
+      some_some (told_body k.3) a b (ap told_body (one_body_fault h.0 h.1 k.3 h.3 at h.4) ∙ h.5) k.5
   one stages.Form a b h k = h.3 ∙ sym k.3
   one stages.Timing a b h k = h.3 ∙ sym k.3
   one stages.Horizon a b h k =

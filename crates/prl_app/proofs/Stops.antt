@@ -6,7 +6,7 @@ use Rattle.prl_ast.specs.Trees.{ProgramTree}
 use Rattle.prl_io.specs.Views.{FolderView}
 use Rattle.prl_syntax.specs.declared.parsing.ParseFault.{ParseFault}
 use Rattle.prl_syntax.specs.declared.parsing.ParseFault.TheVariants as parsing
-use Rattle.prl_syntax.specs.Parsing.{parse_of, Explains}
+use Rattle.prl_syntax.specs.Parsing.{IsParsed}
 use Rattle.prl_names.specs.Uses.{used_imports}
 use Rattle.prl_types.specs.declared.faults.TypeFault.{TypeFault}
 use Rattle.prl_types.specs.declared.faults.TypeFault.TheVariants as typing
@@ -15,7 +15,6 @@ use Rattle.prl_body.specs.declared.faults.BodyFault.{BodyFault}
 use Rattle.prl_body.specs.declared.faults.BodyFault.TheVariants as body_faults
 use Rattle.prl_body.specs.Checks.{BodyTree, checked}
 use Rattle.prl_body.specs.Texts.{TextTree}
-use Rattle.prl_bodytext.specs.Parsing.{bodies_of}
 use Rattle.prl_app.specs.declared.faults.Part.{Part}
 use Rattle.prl_app.specs.declared.faults.Part.TheVariants as parts
 use Rattle.prl_app.specs.declared.faults.Fault.{Fault}
@@ -26,18 +25,18 @@ use Rattle.prl_app.specs.declared.stages.Stop.TheVariants as stops
 use Rattle.prl_app.specs.declared.reading.Texts.{Texts}
 use Rattle.prl_app.specs.declared.words.Command.{Command}
 use Rattle.prl_app.specs.Given.{Folder, Given, IsContent, IsGiven, content_of, text_of, file_of, read_as}
-use Rattle.prl_app.specs.Parts.{IsProgram, IsMain, bodies_for, told_parse, told_types, told_body}
+use Rattle.prl_app.specs.Parts.{IsProgram, IsMain, RefusesBodies, told_parse, told_types, told_body}
 use Rattle.prl_app.specs.Stages.{Holds, Refuses, Comes, files, stages_after, stages_of}
 use Rattle.prl_app.specs.code.Stops.{given_of, stop_of, StopsAt, StopsIn, AllHold, IsFileStop, IsStopOfFiles, IsAnswerStop}
 
 -- the grammar refuses
-pub grammar_stop : (g : Given) (fault : ParseFault) (stop : Stop) → (fault ≢ parsing.Memory → parse_of (text_of g parts.Program) ≡ Err fault)
-    → Explains (text_of g parts.Program) fault → stop ≡ stop_of stages.Grammar (told_parse fault) → StopsAt g stages.Grammar stop
-grammar_stop g (parsing.BadToken at) stop h e is = subst (StopsAt g stages.Grammar) (sym is) (refl, (parsing.BadToken at, h (λ k. cc), e, refl))
-grammar_stop g (parsing.Unexpected at) stop h e is = subst (StopsAt g stages.Grammar) (sym is) (refl, (parsing.Unexpected at, h (λ k. cc), e, refl))
-grammar_stop g (parsing.NumberRange at) stop h e is = subst (StopsAt g stages.Grammar) (sym is) (refl, (parsing.NumberRange at, h (λ k. cc), e, refl))
-grammar_stop g (parsing.Limit limit) stop h e is = subst (StopsAt g stages.Grammar) (sym is) (refl, (parsing.Limit limit, h (λ k. cc), e, refl))
-grammar_stop g parsing.Memory stop h e is = subst (StopsAt g stages.Grammar) (sym is) tt
+pub grammar_stop : (g : Given) (fault : ParseFault) (stop : Stop) → (fault ≢ parsing.Memory → IsParsed (text_of g parts.Program) (Err fault))
+    → stop ≡ stop_of stages.Grammar (told_parse fault) → StopsAt g stages.Grammar stop
+grammar_stop g (parsing.BadToken at) stop h is = subst (StopsAt g stages.Grammar) (sym is) (refl, (parsing.BadToken at, h (λ k. cc), refl))
+grammar_stop g (parsing.Unexpected at) stop h is = subst (StopsAt g stages.Grammar) (sym is) (refl, (parsing.Unexpected at, h (λ k. cc), refl))
+grammar_stop g (parsing.NumberRange at) stop h is = subst (StopsAt g stages.Grammar) (sym is) (refl, (parsing.NumberRange at, h (λ k. cc), refl))
+grammar_stop g (parsing.Limit limit) stop h is = subst (StopsAt g stages.Grammar) (sym is) (refl, (parsing.Limit limit, h (λ k. cc), refl))
+grammar_stop g parsing.Memory stop h is = subst (StopsAt g stages.Grammar) (sym is) tt
 
 -- names or types refuse
 pub types_stop : (g : Given) (p : ProgramTree) (fault : TypeFault) (stop : Stop) → IsProgram g p → FailsWith p g.node fault
@@ -54,7 +53,7 @@ types_stop g p typing.Memory stop h e is = subst (StopsAt g stages.Types) (sym i
 
 -- bodies refuse
 pub bodies_stop : (g : Given) (p : ProgramTree) (main : ℕ) (fault : BodyFault) (stop : Stop) → IsMain g p main
-    → (fault ≢ body_faults.Memory → bodies_for p main (text_of g parts.Bodies) ≡ Err fault)
+    → (fault ≢ body_faults.Memory → RefusesBodies p main (text_of g parts.Bodies) fault)
     → stop ≡ stop_of stages.Bodies (told_body fault) → StopsAt g stages.Bodies stop
 bodies_stop g p main (body_faults.Syntax at) stop h e is = subst (StopsAt g stages.Bodies) (sym is) (refl, (p, main, h, body_faults.Syntax at, e (λ k. cc), refl))
 bodies_stop g p main (body_faults.Limit limit) stop h e is = subst (StopsAt g stages.Bodies) (sym is) (refl, (p, main, h, body_faults.Limit limit, e (λ k. cc), refl))
@@ -63,16 +62,6 @@ bodies_stop g p main (body_faults.BodyType at) stop h e is = subst (StopsAt g st
 bodies_stop g p main (body_faults.BodyArity at) stop h e is = subst (StopsAt g stages.Bodies) (sym is) (refl, (p, main, h, body_faults.BodyArity at, e (λ k. cc), refl))
 bodies_stop g p main (body_faults.Missing name) stop h e is = subst (StopsAt g stages.Bodies) (sym is) (refl, (p, main, h, body_faults.Missing name, e (λ k. cc), refl))
 bodies_stop g p main body_faults.Memory stop h e is = subst (StopsAt g stages.Bodies) (sym is) tt
-
--- the bodies of a program are those of its text, checked
-pub bodies_read : (p : ProgramTree) (main : ℕ) (text : List ℕ) (texts : List TextTree) (r : Result (List BodyTree) BodyFault) → bodies_of text ≡ Ok texts
-    → checked p.imports (used_imports p main) texts ≡ r → bodies_for p main text ≡ r
-unfolding bodies_for
-bodies_read p main text texts r read h = ap (λ t. t >>= λ texts. checked p.imports (used_imports p main) texts) read ∙ h
-
-pub bodies_unread : (p : ProgramTree) (main : ℕ) (text : List ℕ) (fault : BodyFault) → bodies_of text ≡ Err fault → bodies_for p main text ≡ Err fault
-unfolding bodies_for
-bodies_unread p main text fault read = ap (λ t. t >>= λ texts. checked p.imports (used_imports p main) texts) read
 
 -- a stop of a list is a refusal of it
 pub stops_comes : (g : Given) (list : List Stage) (stage : Stage) (fault : Fault) → StopsIn g list (stops.Refused stage fault) → Comes g list (Some (stage, fault))

@@ -1,11 +1,10 @@
 -- What a command's texts are: its program with its main node, and its bodies.
-use Rattle.std.specs.Prelude.{◌≡◌, ◌<◌, ℕ, List, length, Option, Some, None, Result, Ok, Err}
-use Rattle.prl_base.specs.Reading.{◌>>=◌}
+use Rattle.std.specs.Prelude.{◌≡◌, ◌⊎◌, ◌<◌, ℕ, List, length, Option, Some, None, Ok, Err}
 use Rattle.prl_base.specs.declared.values.Ty.{Ty}
 use Rattle.prl_ast.specs.Trees.{ProgramTree}
 use Rattle.prl_syntax.specs.declared.parsing.ParseFault.{ParseFault}
 use Rattle.prl_syntax.specs.declared.parsing.ParseFault.TheVariants as parsing
-use Rattle.prl_syntax.specs.Parsing.{parse_of, IsProgramOf}
+use Rattle.prl_syntax.specs.Parsing.{IsParsed}
 use Rattle.prl_names.specs.Uses.{used_imports}
 use Rattle.prl_types.specs.declared.faults.TypeFault.{TypeFault}
 use Rattle.prl_types.specs.declared.faults.TypeFault.TheVariants as typing
@@ -14,7 +13,7 @@ use Rattle.prl_body.specs.declared.faults.BodyFault.{BodyFault}
 use Rattle.prl_body.specs.declared.faults.BodyFault.TheVariants as body_faults
 use Rattle.prl_body.specs.Checks.{BodyTree, checked}
 use Rattle.prl_body.specs.Texts.{TextTree}
-use Rattle.prl_bodytext.specs.Parsing.{bodies_of, AreBodiesOf}
+use Rattle.prl_bodytext.specs.Parsing.{IsParsed as IsParsedBodies}
 use Rattle.prl_app.specs.declared.faults.Part.TheVariants as parts
 use Rattle.prl_app.specs.declared.faults.GrammarFault.TheVariants as grammar
 use Rattle.prl_app.specs.declared.faults.Fault.{Fault}
@@ -23,8 +22,7 @@ use Rattle.prl_app.specs.Given.{Given, text_of}
 
 -- the text is this program of the grammar
 pub record IsProgram (g : Given) (p : ProgramTree) : Type 0 where
-  pub read : parse_of (text_of g parts.Program) ≡ Ok p
-  pub written : IsProgramOf (text_of g parts.Program) p
+  pub written : IsParsed (text_of g parts.Program) (Ok p)
 
 -- its names and types are right, and the node of this number is the one that is asked for, else the last
 pub record IsMain (g : Given) (p : ProgramTree) (main : ℕ) : Type 0 where
@@ -33,21 +31,20 @@ pub record IsMain (g : Given) (p : ProgramTree) (main : ℕ) : Type 0 where
   pub typed : IsTyped p g.node main types
   pub below : main < length p.nodes
 
--- the bodies of a text for a program, or their first fault
-unfoldable pub bodies_for : ProgramTree → ℕ → List ℕ → Result (List BodyTree) BodyFault
-bodies_for p main text = do
-  texts ← bodies_of text
-  checked p.imports (used_imports p main) texts
-
 -- the text is bodies of the grammar that fit the program's imports, with one for each that main's expansion applies
 pub record AreBodies (g : Given) (trees : List BodyTree) : Type 0 where
   pub program : ProgramTree
   pub main : ℕ
   pub is_main : IsMain g program main
   pub texts : List TextTree
-  pub written : AreBodiesOf (text_of g parts.Bodies) texts
+  pub written : IsParsedBodies (text_of g parts.Bodies) (Ok texts)
   pub fitting : checked program.imports (used_imports program main) texts ≡ Ok trees
-  pub read : bodies_for program main (text_of g parts.Bodies) ≡ Ok trees
+
+-- the first fault of a text of bodies, else of the bodies for the program
+abbrev pub RefusesBodies : ProgramTree → ℕ → List ℕ → BodyFault → Type 0
+RefusesBodies p main text fault =
+    IsParsedBodies text (Err fault)
+    ⊎ ((texts : List TextTree) × IsParsedBodies text (Ok texts) × (checked p.imports (used_imports p main) texts ≡ Err fault))
 
 -- how the faults of the grammar, of types and of bodies are told; None is what no text is refused for
 abbrev pub told_parse : ParseFault → Option Fault

@@ -2,7 +2,7 @@
 use Rattle.std.specs.Prelude.{◌≡◌, ◌⊎◌, ℕ, List, [], ◌∷◌, ◌++◌, Option, Some, None, Result, Ok, Err}
 use Rattle.prl_ast.specs.Trees.{ProgramTree}
 use Rattle.prl_syntax.specs.declared.parsing.ParseFault.{ParseFault}
-use Rattle.prl_syntax.specs.Parsing.{parse_of, Explains}
+use Rattle.prl_syntax.specs.Parsing.{IsParsed}
 use Rattle.prl_types.specs.declared.faults.TypeFault.{TypeFault}
 use Rattle.prl_types.specs.Typing.{IsFault}
 use Rattle.prl_body.specs.declared.faults.BodyFault.{BodyFault}
@@ -18,7 +18,7 @@ use Rattle.prl_app.specs.declared.stages.Stage.TheVariants as stages
 use Rattle.prl_app.specs.declared.words.Mode.{Mode}
 use Rattle.prl_app.specs.declared.words.Mode.TheVariants as modes
 use Rattle.prl_app.specs.Given.{Given, content_of, text_of}
-use Rattle.prl_app.specs.Parts.{IsProgram, IsMain, AreBodies, bodies_for, told_parse, told_types, told_body}
+use Rattle.prl_app.specs.Parts.{IsProgram, IsMain, AreBodies, RefusesBodies, told_parse, told_types, told_body}
 use Rattle.prl_app.specs.Built.{IsFormed, IsTimely, HasHorizon, HasRows, relay_of, IsWholeRun, HasFewValues, RefusesForm, RefusesTiming, RefusesHorizon, RefusesRows, RefusesSchedule, RefusesValues}
 use Rattle.prl_relays.specs.Relays.{IsReplayText}
 use Rattle.prl_app.specs.Runs.{IsFlowsText, chain_computation}
@@ -40,13 +40,12 @@ Holds g stages.Values = HasFewValues g
 abbrev pub Refuses : Given → Stage → Fault → Type 0
 Refuses g (stages.File part) fault = content_of g part ≡ Err fault
 Refuses g stages.Grammar fault =
-    (cause : ParseFault) × (parse_of (text_of g parts.Program) ≡ Err cause) × Explains (text_of g parts.Program) cause
-    × (told_parse cause ≡ Some fault)
+    (cause : ParseFault) × IsParsed (text_of g parts.Program) (Err cause) × (told_parse cause ≡ Some fault)
 Refuses g stages.Types fault =
     (p : ProgramTree) × IsProgram g p × (cause : TypeFault) × IsFault p g.node cause × (told_types cause ≡ Some fault)
 Refuses g stages.Bodies fault =
     (p : ProgramTree) × (main : ℕ) × IsMain g p main × (cause : BodyFault)
-    × (bodies_for p main (text_of g parts.Bodies) ≡ Err cause) × (told_body cause ≡ Some fault)
+    × RefusesBodies p main (text_of g parts.Bodies) cause × (told_body cause ≡ Some fault)
 Refuses g stages.Form fault = RefusesForm g fault
 Refuses g stages.Timing fault = RefusesTiming g fault
 Refuses g stages.Horizon fault = RefusesHorizon g fault

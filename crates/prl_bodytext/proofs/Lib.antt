@@ -1,5 +1,5 @@
 pub mod LinkTrees
 pub mod Calls
 pub mod Right
+-- for the crates above: the outcomes of texts
 pub mod WholeTexts
-pub mod Outcomes

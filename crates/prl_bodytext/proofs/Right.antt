@@ -14,7 +14,7 @@ use Rattle.prl_reader.specs.Productions.{Grammar, many, inner, shape}
 use Rattle.prl_reader.specs.Language.{inner_of, Text, read_at}
 use Rattle.prl_reader.specs.LookAhead.{IsApart}
 use Rattle.prl_reader.proofs.Decides.{IsGuarded}
-use Rattle.prl_reader.proofs.Nesting.{IsRight, IsFounded, text_reads}
+use Rattle.prl_reader.proofs.Nesting.{IsRight, IsFounded, widens, text_reads}
 use Rattle.prl_base.specs.declared.values.Value.TheVariants as values
 use Rattle.prl_bodytext.specs.declared.levels.Level.{Level}
 use Rattle.prl_bodytext.specs.declared.levels.Level.TheVariants as levels
@@ -96,7 +96,7 @@ founded = search depth 40
 
 pub right : IsRight bodies
 unfolding bodies Expression Conjunction Negation Comparison Sum Product Unary RunOf PairOf ChainOf LinkOf Operators Primary Enclosed Conditional
-right = record { apart = expression_apart; guarded = guarded; founded = founded; solid = refl; closed = refl }
+right = record { apart = expression_apart; guarded = guarded; founded = founded; solid = refl; closed = widens _ _ (λ c h. h) (λ h. h) refl }
 
 pub statement_apart : IsApart (inner_of bodies) StatementLine
 unfolding StatementLine bodies Expression Conjunction Negation Comparison Sum Product Unary RunOf PairOf ChainOf LinkOf Operators Primary Enclosed Conditional

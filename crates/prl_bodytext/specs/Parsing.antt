@@ -20,35 +20,6 @@ use Rattle.prl_bodytext.specs.Grammar.{Bodies, bodies}
 use Rattle.prl_bodytext.specs.Ranges.{body_ranges}
 use Rattle.prl_bodytext.specs.Words.{body_vocabulary}
 
-abbrev pub of_lexical : LexFault → BodyFault
-of_lexical (lexical.BadToken at) = faults.Syntax at
-of_lexical (lexical.NumberRange at) = faults.Syntax at
-of_lexical (lexical.Limit limit) = faults.Limit limit
-of_lexical lexical.Memory = faults.Memory
-
-abbrev pub of_stop : List Lexeme → ℕ → Stop → BodyFault
-of_stop ts end (Stuck left) = faults.Syntax (place_of ts left end)
-of_stop ts end Deep = faults.Memory
-
--- what the code answers where its reader stopped
-abbrev pub FaultOfStop : List Lexeme → ℕ → Stopped → BodyFault → Type 0
-FaultOfStop ts end (stops.Unexpected left) fault = fault ≡ faults.Syntax (place_of ts left end)
-FaultOfStop ts end stops.Memory fault = fault ≡ faults.Memory
-
-abbrev pub ranged : Option ℕ → List TextTree → Result (List TextTree) BodyFault
-ranged None trees = Ok trees
-ranged (Some at) trees = Err (faults.Syntax at)
-
-unfoldable pub bodies_of_tokens : List Lexeme → ℕ → Result (List TextTree) BodyFault
-bodies_of_tokens ts end = do
-  trees ← told (of_stop ts end) (all_at (read_at bodies Bodies) ts)
-  ranged (out_of_range body_ranges false 0 ts) trees
-
-unfoldable pub bodies_of : List ℕ → Result (List TextTree) BodyFault
-bodies_of text = do
-  tokens ← told of_lexical (tokens_of text)
-  bodies_of_tokens (lexemes_of body_vocabulary text tokens) (length text)
-
 -- The text has these bodies: its tokens are a text of the grammar, with these trees, and its numbers are in range.
 pub record AreBodiesOf (text : List ℕ) (trees : List TextTree) : Type 0 where
   pub tokens : List Token
@@ -76,7 +47,7 @@ pub record IsOutOfRangeAt (text : List ℕ) (at : ℕ) : Type 0 where
 abbrev pub IsBadTokenAt : List ℕ → ℕ → Type 0
 IsBadTokenAt text at = (tokens_of text ≡ Err (lexical.BadToken at)) ⊎ (tokens_of text ≡ Err (lexical.NumberRange at))
 
--- what each fault means for the text; there are no other ones
+-- what each fault means for the text; there are no other ones, and want of memory is none
 abbrev pub Explains : List ℕ → BodyFault → Type 0
 Explains text (faults.Syntax at) = IsBadTokenAt text at ⊎ (IsUnexpectedAt text at ⊎ IsOutOfRangeAt text at)
 Explains text (faults.Limit limit) = tokens_of text ≡ Err (lexical.Limit limit)
@@ -84,4 +55,9 @@ Explains text (faults.BodyName at) = ⊥
 Explains text (faults.BodyType at) = ⊥
 Explains text (faults.BodyArity at) = ⊥
 Explains text (faults.Missing name) = ⊥
-Explains text faults.Memory = Unit {0}
+Explains text faults.Memory = ⊥
+
+-- what comes of a text: its bodies, or its first fault
+abbrev pub IsParsed : List ℕ → Result (List TextTree) BodyFault → Type 0
+IsParsed text (Ok trees) = AreBodiesOf text trees
+IsParsed text (Err fault) = Explains text fault

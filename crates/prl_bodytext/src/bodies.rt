@@ -7,7 +7,7 @@ ghost use Rattle.prl_reader.specs.Language.{read_at};
 ghost use Rattle.prl_reader.specs.Stops.{stop_of};
 ghost use Rattle.prl_reader.specs.Whole.{all_at};
 ghost use Rattle.prl_bodytext.specs.Grammar.{Register, StatementLine, Body, Bodies, bodies};
-ghost use Rattle.prl_bodytext.specs.Parses.{Parses};
+ghost use Rattle.prl_bodytext.specs.code.Parses.{Parses};
 
 use crate::parser::Parser;
 use crate::repeats::Item;

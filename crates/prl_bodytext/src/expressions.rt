@@ -6,7 +6,7 @@ ghost use Rattle.prl_reader.specs.Readers.{next_in};
 ghost use Rattle.prl_reader.specs.Productions.{many, inner, shape};
 ghost use Rattle.prl_reader.specs.Language.{inner_of};
 ghost use Rattle.prl_bodytext.specs.Grammar.{the, sign, Operators, LinkOf, ChainOf, Comparison, Negation, Unary, Primary, Enclosed, Conditional, Operand, bodies};
-ghost use Rattle.prl_bodytext.specs.Parses.{Parses};
+ghost use Rattle.prl_bodytext.specs.code.Parses.{Parses};
 ghost use Rattle.prl_bodytext.specs.Trees.{link_view};
 
 use crate::levels::Level;

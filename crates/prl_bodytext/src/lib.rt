@@ -12,5 +12,5 @@ mod repeats;
 mod trees;
 mod words;
 
-pub use laws::each_text_has_an_outcome;
+pub use laws::each_text_has_one_outcome;
 pub use parsing::parse_bodies;

@@ -3,7 +3,7 @@
 ghost use Rattle.std.specs.Prelude.{◌≡◌, ◌∷◌, []};
 ghost use Rattle.prl_reader.specs.Readers.{next_in};
 ghost use Rattle.prl_bodytext.specs.Grammar.{the, named, number, Constant};
-ghost use Rattle.prl_bodytext.specs.Parses.{Parses};
+ghost use Rattle.prl_bodytext.specs.code.Parses.{Parses};
 ghost use Rattle.prl_bodytext.specs.Words.{class_of};
 
 use crate::words::Fixed;

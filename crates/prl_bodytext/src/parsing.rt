@@ -1,9 +1,10 @@
 //! From a text to its bodies, or to its first fault.
 
-ghost use Rattle.std.specs.Prelude.{◌≡◌, ◌<◌, ◌^◌, List, length, IfOk, IfErr, Ok};
+ghost use Rattle.std.specs.Prelude.{◌≡◌, ◌≢◌, ◌<◌, ◌^◌, length, IfOk, IfErr, Ok, Err};
 ghost use Rattle.prl_base.specs.Reading.{GivesBut};
-ghost use Rattle.prl_body.specs.Texts.{TextTree, text_trees};
-ghost use Rattle.prl_bodytext.specs.Parsing.{of_lexical, FaultOfStop, bodies_of_tokens, bodies_of, AreBodiesOf, Explains};
+ghost use Rattle.prl_body.specs.Texts.{text_trees};
+ghost use Rattle.prl_bodytext.specs.Parsing.{IsParsed};
+ghost use Rattle.prl_bodytext.specs.code.Outcomes.{of_lexical, FaultOfStop, bodies_of_tokens, bodies_of};
 
 use crate::bodies::bodies;
 use crate::ranges::BodyRanges;
@@ -33,7 +34,7 @@ fn of_stop(terminals: &[Terminal], end: u32, stop: Stop) -> BodyFault
 }
 
 /// The bodies that the tokens are.
-#[tactic(auto, unfolding(crate::specs::Parsing::bodies_of_tokens))]
+#[tactic(auto, unfolding(crate::specs::code::Outcomes::bodies_of_tokens))]
 fn bodies_of_tokens(alloc: Global, terminals: &[Terminal], end: u32) -> Result<BodyTexts, BodyFault>
     ensures { GivesBut BodyFault.Memory text_trees result (bodies_of_tokens terminals.now end) }
 {
@@ -47,7 +48,7 @@ fn bodies_of_tokens(alloc: Global, terminals: &[Terminal], end: u32) -> Result<B
     }
 }
 
-#[tactic(auto, unfolding(crate::specs::Parsing::bodies_of))]
+#[tactic(auto, unfolding(crate::specs::code::Outcomes::bodies_of))]
 fn parsed(alloc: Global, text: &[u8]) -> Result<BodyTexts, BodyFault>
     requires { length text.now < 2 ^ 32 }
     ensures { GivesBut BodyFault.Memory text_trees result (bodies_of text.now) }
@@ -66,14 +67,10 @@ fn parsed(alloc: Global, text: &[u8]) -> Result<BodyTexts, BodyFault>
 /// out of its range; or want of memory.
 pub fn parse_bodies(alloc: Global, text: &[u8]) -> Result<BodyTexts, BodyFault>
     requires { length text.now < 2 ^ 32 }
-    // What is read is a text of the grammar, in range and within the limits.
-    ensures found { IfOk result (λ t. AreBodiesOf text.now (text_trees t)) }
-    // Each text of the grammar is read, with its trees, unless memory runs out.
-    ensures only { (trees : List TextTree) → AreBodiesOf text.now trees → GivesBut BodyFault.Memory text_trees result (Ok trees) }
-    // What each fault means for the text.
-    ensures fault { IfErr result (Explains text.now) }
-    // The bodies, or the first fault in this order.
-    ensures exact { GivesBut BodyFault.Memory text_trees result (bodies_of text.now) }
+    // What is read is the bodies of the text.
+    ensures found { IfOk result (λ t. IsParsed text.now (Ok (text_trees t))) }
+    // A fault is the first one of the text, unless memory ran out.
+    ensures fault { IfErr result (λ fault. fault ≢ BodyFault.Memory → IsParsed text.now (Err fault)) }
 {
     parsed(alloc, text)
 }

@@ -6,7 +6,7 @@ ghost use Rattle.prl_reader.specs.LookAhead.{IsApart};
 ghost use Rattle.prl_reader.specs.Productions.{many, shape};
 ghost use Rattle.prl_reader.specs.Readers.{next_in};
 ghost use Rattle.prl_bodytext.specs.Grammar.{bodies};
-ghost use Rattle.prl_bodytext.specs.Parses.{Parses};
+ghost use Rattle.prl_bodytext.specs.code.Parses.{Parses};
 
 use crate::parser::Parser;
 use prl_reader::Stop;

@@ -18,11 +18,13 @@ use Rattle.prl_syntax.specs.declared.parameters.Item.{Item}
 use Rattle.prl_base.specs.declared.decimals.TheConstants.{MAX_NEGATIVE, MAX_POSITIVE}
 use Rattle.prl_reader.specs.Numbers.{positive, negative}
 use Rattle.prl_syntax.specs.Values.{small, common_divisor, reduced, ratio_of, ratio_with}
-use Rattle.prl_syntax.specs.Trees.{joined, param_of, note_or, first_note, params_before, params_of, port_of}
-use Rattle.prl_syntax.specs.Grammar.{ConstantText, RatioText, PlacedText, NamesText, RateText, DueText, NoteText, ItemText, RunText, ParamsText, EnclosedParams, MaybeParams, EndedRun, MaybeLocals, PortGroup, PortsText, ClosedPorts, WcetText, ImportText, DeviceText}
+use Rattle.prl_syntax.specs.Trees.{StemTree, joined, param_of, note_or, first_note, params_before, params_of, port_of}
+use Rattle.prl_reader.specs.Lexemes.{Lexeme}
+use Rattle.prl_reader.specs.Productions.{written}
+use Rattle.prl_syntax.specs.Grammar.{Grammar, closed, in_parens, maybe_in_parens, Const, Ratio, Name, Names, Rate, Due, Note as NoteText, Item as ItemText, Run, Params, EndedRun, Locals, PortGroup, NextGroup, Ports, Wcet, Import, Device}
 use Rattle.prl_syntax.proofs.Ratios.{divisor_is, positive_divisor, reduced_fits}
 use Rattle.prl_print.proofs.Words.{IsOwnName, IsConstant, IsOwnRatio, IsCount, IsOwnRate, IsOwnMaybe, IsOwnParam, IsOwnPort, IsSome, IsOwnImport, IsOwnDevice}
-use Rattle.prl_print.proofs.Source.{Means, m_then, m_give, m_ends, m_any, m_weaken, m_either, m_many, m_maybe, m_named, m_counted, m_counted_later}
+use Rattle.prl_print.proofs.Source.{Means, m_then, m_give, m_ends, m_any, m_weaken, m_either, m_many, m_list, m_maybe, m_named, m_counted, m_counted_later}
 
 small_high : (n : ℕ) → small n ≤ 2147483647
 small_high n = omega arith
@@ -33,11 +35,6 @@ negative_fits (suc k) h = h
 
 at_most : (n : ℕ) → min n MAX_POSITIVE ≤ MAX_POSITIVE
 at_most n = omega arith
-
-pub constant_means : Means ConstantText IsConstant
-constant_means =
-    m_either (m_ends (λ p. values.Bool true) m_any (λ p _. tt)) (m_either (m_ends (λ p. values.Bool false) m_any (λ p _. tt))
-    (m_either (m_then m_any (λ p _. m_ends (λ n. negative n.0) m_any (λ n _. negative_fits (min n.0 MAX_NEGATIVE) (omega arith)))) (m_ends (λ n. positive n.0) m_any (λ n _. at_most n.0))))
 
 -- ratios
 
@@ -100,42 +97,15 @@ ratio_own : (num : ℕ) (o : Option ℕ) → IsOwnRatio (ratio_with num o)
 ratio_own num None = own_ratio num 1
 ratio_own num (Some den) = own_ratio num den
 
-pub ratio_means : Means RatioText IsOwnRatio
-ratio_means = m_then m_any (λ n _. m_ends (λ d. ratio_with n.0 d) m_any (λ d _. ratio_own n.0 d))
-
--- names and notes
-
-pub placed_means : Means PlacedText (λ n. IsOwnName n.name)
-placed_means = m_ends (λ n. record { name = n.0; at = n.1 }) m_named (λ n h. h)
-
-pub names_mean : Means NamesText (λ ns. AllByRecursion (λ n. IsOwnName n.name) ns × IsSome ns)
-names_mean = m_then placed_means (λ n h. m_ends (λ others. n ∷ others) (m_many (m_then m_any (λ p _. placed_means))) (λ others g. ((h, g), omega arith)))
-
-rate_means : Means RateText IsOwnRate
-rate_means =
-    m_counted_later fixed.Rate fixed.Open (λ i. refl) (λ k o n low. m_then m_any (λ c _. m_then ratio_means (λ q own. m_ends (λ e. record { period = small n.0; phase = q }) m_any (λ e _. ((omega arith, small_high n.0), own)))))
-
-due_means : Means DueText (λ d. d ≤ 2147483647)
-due_means = m_then m_any (λ k _. m_ends (λ n. small n.0) m_any (λ n _. small_high n.0))
-
 record IsOwnNote (note : Note) : Type 0 where
   rate : IsOwnMaybe IsOwnRate note.rate
   due : IsOwnMaybe (λ d. d ≤ 2147483647) note.due
-
-note_means : Means NoteText IsOwnNote
-note_means =
-    m_either (m_ends (λ d. record { ty = None; rate = None; due = Some d }) due_means (λ d h. record { rate = tt; due = h }))
-    (m_either (m_then rate_means (λ r g. m_ends (λ d. record { ty = None; rate = Some r; due = d }) (m_maybe due_means) (λ d h. record { rate = g; due = h })))
-    (m_then m_any (λ t _. m_then (m_maybe rate_means) (λ r g. m_ends (λ d. record { ty = Some t; rate = r; due = d }) (m_maybe due_means) (λ d h. record { rate = g; due = h })))))
 
 -- parameters
 
 record IsOwnItem (i : Item) : Type 0 where
   name : IsOwnName i.name.name
   note : IsOwnMaybe IsOwnNote i.note
-
-item_means : Means ItemText IsOwnItem
-item_means = m_then placed_means (λ n h. m_ends (λ x. record { name = n; note = x }) (m_maybe (m_then m_any (λ p _. note_means))) (λ x g. record { name = h; note = g }))
 
 own_or : (a b : Option Note) → IsOwnMaybe IsOwnNote a → IsOwnMaybe IsOwnNote b → IsOwnMaybe IsOwnNote (note_or a b)
 own_or None b h g = g
@@ -153,12 +123,13 @@ own_params : (items : List Item) → AllByRecursion IsOwnItem items → AllByRec
 own_params [] h = tt
 own_params (i ∷ items) h = (own_param i.name (first_note (i ∷ items) None) h.0.name (own_first (i ∷ items) h), own_params items h.1)
 
+params_some : (items : List Item) → IsSome items → IsSome (params_of items)
+params_some [] h = absurd (omega (arith, h))
+params_some (i ∷ items) h = omega arith
+
 -- one parameter at least
 abbrev AreParams : List Param → Type 0
 AreParams ps = AllByRecursion IsOwnParam ps × IsSome ps
-
-run_means : Means RunText AreParams
-run_means = m_then item_means (λ i h. m_ends (λ others. params_of (i ∷ others)) (m_many (m_then m_any (λ p _. item_means))) (λ others g. (own_params (i ∷ others) (h, g), omega arith)))
 
 all_append : {X : Type 0} (P : X → Type 0) (xs ys : List X) → AllByRecursion P xs → AllByRecursion P ys → AllByRecursion P (xs ++ ys)
 all_append P [] ys h g = g
@@ -176,21 +147,6 @@ some_append (x ∷ xs) ys h = omega arith
 both_joined : {X : Type 0} (P : X → Type 0) (xs : List X) (xss : List (List X)) → AllByRecursion P xs × IsSome xs → AllByRecursion (AllByRecursion P) xss → AllByRecursion P (xs ++ joined xss) × IsSome (xs ++ joined xss)
 both_joined P xs xss h g = (all_append P xs (joined xss) h.0 (all_joined P xss g), some_append xs (joined xss) h.1)
 
-params_mean : Means ParamsText AreParams
-params_mean = m_then run_means (λ r h. m_ends (λ others. r ++ joined others) (m_many (m_then m_any (λ p _. m_weaken run_means (λ ps h. h.0)))) (λ others g. both_joined IsOwnParam r others h g))
-
-pub enclosed_params_mean : Means EnclosedParams AreParams
-enclosed_params_mean = m_then m_any (λ o _. m_then params_mean (λ ps h. m_ends (λ c. ps) m_any (λ c _. h)))
-
-pub maybe_params_mean : Means MaybeParams (AllByRecursion IsOwnParam)
-maybe_params_mean = m_then m_any (λ o _. m_either (m_ends (λ c. []) m_any (λ c _. tt)) (m_then params_mean (λ ps h. m_ends (λ c. ps) m_any (λ c _. h.0))))
-
-ended_means : Means EndedRun AreParams
-ended_means = m_then run_means (λ r h. m_ends (λ p. r) m_any (λ p _. h))
-
-pub locals_mean : Means MaybeLocals (AllByRecursion IsOwnParam)
-locals_mean = m_either (m_then m_any (λ k _. m_then ended_means (λ r h. m_ends (λ others. r ++ joined others) (m_many (m_weaken ended_means (λ ps h. h.0))) (λ others g. (both_joined IsOwnParam r others h g).0)))) (m_give [] tt)
-
 -- ports
 
 abbrev ArePorts : List Port → Type 0
@@ -204,23 +160,102 @@ own_ports ty (n ∷ ns) h = ((h.0.0, all ns h.0.1), omega arith)
     all [] g = tt
     all (m ∷ ms) g = (g.0, all ms g.1)
 
-group_means : Means PortGroup ArePorts
-group_means = m_then names_mean (λ ns h. m_then m_any (λ p _. m_ends (λ t. map (port_of t) ns) m_any (λ t _. own_ports t ns h)))
+-- runs of some, one after another
+joined_params : (runs : List (List Param)) → AllByRecursion AreParams runs × IsSome runs → AreParams (joined runs)
+joined_params [] h = absurd (omega (arith, h.1))
+joined_params (r ∷ others) h = both_joined IsOwnParam r others h.0.0 (firsts others h.0.1)
+  where
+    firsts : (xss : List (List Param)) → AllByRecursion AreParams xss → AllByRecursion (AllByRecursion IsOwnParam) xss
+    firsts [] g = tt
+    firsts (xs ∷ xss) g = (g.0.0, firsts xss g.1)
 
-ports_mean : Means PortsText ArePorts
-ports_mean = m_then group_means (λ r h. m_ends (λ others. r ++ joined others) (m_many (m_then m_any (λ p _. m_weaken group_means (λ ps h. h.0)))) (λ others g. both_joined IsOwnPort r others h g))
+-- whatever stands in parentheses
+module _ (I : StemTree → List Lexeme → Type 0) where
+  abbrev Says : {A : Type 0} → Grammar A → (A → Type 0) → Type 0
+  Says g P = Means (written I g) P
 
-closed_ports_mean : Means ClosedPorts ArePorts
-closed_ports_mean = m_then ports_mean (λ ps h. m_ends (λ c. ps) m_any (λ c _. h))
+  pub constant_means : Says Const IsConstant
+  unfolding Const
+  constant_means =
+      m_either (m_ends (λ p. values.Bool true) m_any (λ p _. tt)) (m_either (m_ends (λ p. values.Bool false) m_any (λ p _. tt))
+      (m_either (m_then m_any (λ p _. m_ends negative m_any (λ n _. negative_fits (min n MAX_NEGATIVE) (omega arith)))) (m_ends positive m_any (λ n _. at_most n))))
 
-wcet_means : Means WcetText IsCount
-wcet_means = m_counted fixed.Wcet (λ i. refl) (λ k n low. m_ends (λ p. small n.0) m_any (λ p _. (omega arith, small_high n.0)))
+  pub ratio_means : Says Ratio IsOwnRatio
+  unfolding Ratio
+  ratio_means = m_then m_any (λ n _. m_ends (λ d. ratio_with n d) m_any (λ d _. ratio_own n d))
 
-pub import_means : Means ImportText IsOwnImport
-import_means =
-    m_then m_any (λ k _. m_then m_any (λ l _. m_then m_named (λ n e.
-    m_then (m_then m_any (λ o _. m_either (m_ends (λ c. []) m_any (λ c _. tt)) (m_weaken closed_ports_mean (λ ps h. h.0)))) (λ ins f. m_then m_any (λ r _.
-    m_then (m_then m_any (λ o _. closed_ports_mean)) (λ outs g. m_ends (λ w. record { name = n.0; ins = ins; outs = outs; wcet = w; at = n.1 }) wcet_means (λ w h. record { name = e; ins = f; outs = g.0; some = g.1; wcet = h })))))))
+  pub name_means : Says Name (λ n. IsOwnName n.name)
+  unfolding Name
+  name_means = m_ends (λ n. record { name = n.0; at = n.1 }) m_named (λ n h. h)
 
-pub device_means : (f : Fixed) → Means (DeviceText f) IsOwnDevice
-device_means f = m_then m_any (λ k _. m_then m_named (λ n e. m_ends (λ w. record { name = n.0; wcet = w; at = n.1 }) wcet_means (λ w h. (e, h))))
+  pub names_mean : Says Names (λ ns. AllByRecursion (λ n. IsOwnName n.name) ns × IsSome ns)
+  unfolding Names
+  names_mean = m_list fixed.Comma name_means
+
+  rate_means : Says Rate IsOwnRate
+  unfolding Rate
+  rate_means =
+      m_counted_later fixed.Rate fixed.Open (λ i. refl) (λ k o n low. m_then m_any (λ c _. m_then ratio_means (λ q own. m_ends (λ e. record { period = small n; phase = q }) m_any (λ e _. ((omega arith, small_high n), own)))))
+
+  due_means : Says Due (λ d. d ≤ 2147483647)
+  unfolding Due
+  due_means = m_then m_any (λ k _. m_ends small m_any (λ n _. small_high n))
+
+  note_means : Says NoteText IsOwnNote
+  unfolding NoteText
+  note_means =
+      m_either (m_ends (λ d. record { ty = None; rate = None; due = Some d }) due_means (λ d h. record { rate = tt; due = h }))
+      (m_either (m_then rate_means (λ r g. m_ends (λ d. record { ty = None; rate = Some r; due = d }) (m_maybe due_means) (λ d h. record { rate = g; due = h })))
+      (m_then m_any (λ t _. m_then (m_maybe rate_means) (λ r g. m_ends (λ d. record { ty = Some t; rate = r; due = d }) (m_maybe due_means) (λ d h. record { rate = g; due = h })))))
+
+  item_means : Says ItemText IsOwnItem
+  unfolding ItemText
+  item_means = m_then name_means (λ n h. m_ends (λ x. record { name = n; note = x }) (m_maybe (m_then m_any (λ p _. note_means))) (λ x g. record { name = h; note = g }))
+
+  run_means : Says Run AreParams
+  unfolding Run
+  run_means = m_ends params_of (m_list fixed.Comma item_means) (λ is h. (own_params is h.0, params_some is h.1))
+
+  params_mean : Says Params AreParams
+  unfolding Params
+  params_mean = m_ends joined (m_list fixed.Semicolon run_means) joined_params
+
+  pub enclosed_params_mean : Says (in_parens Params) AreParams
+  enclosed_params_mean = m_then m_any (λ o _. m_then params_mean (λ ps h. m_ends (λ c. ps) m_any (λ c _. h)))
+
+  pub maybe_params_mean : Says (maybe_in_parens [] Params) (AllByRecursion IsOwnParam)
+  maybe_params_mean = m_then m_any (λ o _. m_either (m_ends (λ c. []) m_any (λ c _. tt)) (m_then params_mean (λ ps h. m_ends (λ c. ps) m_any (λ c _. h.0))))
+
+  ended_means : Says EndedRun AreParams
+  unfolding EndedRun
+  ended_means = m_then run_means (λ r h. m_ends (λ p. r) m_any (λ p _. h))
+
+  pub locals_mean : Says Locals (AllByRecursion IsOwnParam)
+  unfolding Locals
+  locals_mean = m_either (m_then m_any (λ k _. m_then ended_means (λ r h. m_ends (λ others. r ++ joined others) (m_many (m_weaken ended_means (λ ps h. h.0))) (λ others g. (both_joined IsOwnParam r others h g).0)))) (m_give [] tt)
+
+  group_means : Says PortGroup ArePorts
+  unfolding PortGroup
+  group_means = m_then names_mean (λ ns h. m_then m_any (λ p _. m_ends (λ t. map (port_of t) ns) m_any (λ t _. own_ports t ns h)))
+
+  ports_mean : Says Ports ArePorts
+  unfolding Ports NextGroup
+  ports_mean = m_then group_means (λ r h. m_ends (λ others. r ++ joined others) (m_many (m_then m_any (λ p _. m_weaken group_means (λ ps h. h.0)))) (λ others g. both_joined IsOwnPort r others h g))
+
+  closed_ports_mean : Says (closed Ports) ArePorts
+  closed_ports_mean = m_then ports_mean (λ ps h. m_ends (λ c. ps) m_any (λ c _. h))
+
+  wcet_means : Says Wcet IsCount
+  unfolding Wcet
+  wcet_means = m_counted fixed.Wcet (λ i. refl) (λ k n low. m_ends (λ p. small n) m_any (λ p _. (omega arith, small_high n)))
+
+  pub import_means : Says Import IsOwnImport
+  unfolding Import
+  import_means =
+      m_then m_any (λ k _. m_then m_any (λ l _. m_then m_named (λ n e.
+      m_then (m_then m_any (λ o _. m_either (m_ends (λ c. []) m_any (λ c _. tt)) (m_weaken closed_ports_mean (λ ps h. h.0)))) (λ ins f. m_then m_any (λ r _.
+      m_then (m_then m_any (λ o _. closed_ports_mean)) (λ outs g. m_ends (λ w. record { name = n.0; ins = ins; outs = outs; wcet = w; at = n.1 }) wcet_means (λ w h. record { name = e; ins = f; outs = g.0; some = g.1; wcet = h })))))))
+
+  pub device_means : (f : Fixed) → Says (Device f) IsOwnDevice
+  unfolding Device
+  device_means f = m_then m_any (λ k _. m_then m_named (λ n e. m_ends (λ w. record { name = n.0; wcet = w; at = n.1 }) wcet_means (λ w h. (e, h))))

@@ -2,14 +2,14 @@
 use Rattle.std.proofs.Common.{◌≡◌, ℕ, List, [], ◌∷◌, ◌++◌, map, Option, Some, None, refl, ap, ◌∙◌, subst, inl, inr}
 use Rattle.std.proofs.lemmas.List.{append-nil}
 use Rattle.std.specs.List.{flat_map, AllByRecursion}
-use Rattle.prl_reader.specs.Lexemes.{Lexeme}
-use Rattle.prl_reader.specs.Grammars.{One, Then, Give, Either, Many, Maybe, Named, Numbered}
+use Rattle.prl_reader.specs.Lexemes.{Lexeme, first_place}
+use Rattle.prl_reader.specs.Grammars.{One, Then, Give, Either, Many, Maybe, Named, FromFirst}
 use Rattle.prl_syntax.specs.declared.words.Fixed.{Fixed}
 use Rattle.prl_syntax.specs.Words.{class_of}
-use Rattle.prl_syntax.specs.Grammar.{The}
 use Rattle.prl_print.proofs.Scanning.{bare}
 use Rattle.prl_print.proofs.Pieces.{a_name, a_number, a_fixed}
 use Rattle.prl_print.proofs.Words.{one, maybe_words, IsOwnMaybe}
+use Rattle.prl_print.proofs.Source.{The, Number}
 
 pub record Found {A : Type 0} (W : A → List Lexeme → Type 0) (E : A → Type 0) (w : List Lexeme) : Type 0 where
   pub tree : A
@@ -105,23 +105,27 @@ p_the f = p_one (class_of f) (λ t. t.at) (λ at. Unit {0}) (a_fixed f) refl (λ
 pub p_name : (name : List ℕ) → Prints Named (λ n. n.0 ≡ name) (a_name name ∷ [])
 p_name name = p_one 0 (λ t. (t.name, t.at)) (λ n. n.0 ≡ name) (a_name name) refl (λ t e. ap (λ (k : Lexeme). k.name) e)
 
-pub p_number : (m : ℕ) → Prints Numbered (λ n. n.0 ≡ m) (a_number m ∷ [])
-p_number m = p_one 1 (λ t. (t.number, t.at)) (λ n. n.0 ≡ m) (a_number m) refl (λ t e. ap (λ (k : Lexeme). k.number) e)
+pub p_number : (m : ℕ) → Prints Number (λ n. n ≡ m) (a_number m ∷ [])
+p_number m = p_one 1 (λ t. t.number) (λ n. n ≡ m) (a_number m) refl (λ t e. ap (λ (k : Lexeme). k.number) e)
 
-p_more : {A B : Type 0} {W : A → List Lexeme → Type 0} (of : A → B) (b : B) (bs : List B) (ks ls : List Lexeme) → Prints W (λ a. of a ≡ b) ks → Prints (Many W) (λ trees. map of trees ≡ bs) ls → Prints (Many W) (λ trees. map of trees ≡ b ∷ bs) (ks ++ ls)
-p_more {A} {B} {W} of b bs ks ls first others = record { read = read }
+pub p_first : {A : Type 0} {W : A → List Lexeme → Type 0} {E : A → Type 0} {ks : List Lexeme} → Prints W E ks → Prints (FromFirst W) (λ x. E x.1) ks
+p_first p = record { read = λ w e. (let x = p.read w e in record { tree = (first_place w, x.tree); same = x.same; text = (refl, x.text) }) }
+
+pub p_cons : {A : Type 0} {W : A → List Lexeme → Type 0} {E : A → Type 0} {F G : List A → Type 0} {ks ls : List Lexeme} → Prints W E ks → Prints (Many W) F ls → ((x : A) (xs : List A) → E x → F xs → G (x ∷ xs)) → Prints (Many W) G (ks ++ ls)
+p_cons {A} {W} {E} {F} {G} {ks} {ls} first others h = record { read = read }
   where
-    read : (w : List Lexeme) → map bare w ≡ ks ++ ls → Found (Many W) (λ trees. map of trees ≡ b ∷ bs) w
+    read : (w : List Lexeme) → map bare w ≡ ks ++ ls → Found (Many W) G w
     read w e =
         let c = cut w ks ls e in
         let x = first.read c.left c.first in
         let y = others.read c.right c.second in
-        record { tree = x.tree ∷ y.tree; same = ap (λ z. z ∷ map of y.tree) x.same ∙ ap (λ zs. b ∷ zs) y.same; text = (c.left, c.right, c.whole, x.text, y.text) }
+        record { tree = x.tree ∷ y.tree; same = h x.tree y.tree x.same y.same; text = (c.left, c.right, c.whole, x.text, y.text) }
 
 -- any number of texts, of trees that mean the same
 pub p_many : {A B X : Type 0} {W : A → List Lexeme → Type 0} (P : X → Type 0) (of : A → B) (at : X → B) (words : X → List Lexeme) → ((x : X) → P x → Prints W (λ a. of a ≡ at x) (words x)) → (xs : List X) → AllByRecursion P xs → Prints (Many W) (λ trees. map of trees ≡ map at xs) (flat_map words xs)
 p_many {W} P of at words each [] all = record { read = λ w e. record { tree = []; same = refl; text = no_tokens w e } }
-p_many {W} P of at words each (x ∷ xs) all = p_more of (at x) (map at xs) (words x) (flat_map words xs) (each x all.0) (p_many P of at words each xs all.1)
+p_many {W} P of at words each (x ∷ xs) all =
+    p_cons (each x all.0) (p_many P of at words each xs all.1) (λ t ts e f. ap (λ z. z ∷ map of ts) e ∙ ap (λ zs. at x ∷ zs) f)
 
 pub p_none : {A : Type 0} {W : A → List Lexeme → Type 0} → Prints (Many W) (λ trees. trees ≡ []) []
 p_none = record { read = λ w e. record { tree = []; same = refl; text = no_tokens w e } }

@@ -1,5 +1,5 @@
 -- The tokens of each part of the printed text are a text of the grammar: expressions, equations, nodes and the program.
-use Rattle.std.proofs.Common.{◌≡◌, ◌+◌, ℕ, List, [], ◌∷◌, ◌++◌, map, None, refl, sym, ap, ◌∙◌, arith, append_assoc}
+use Rattle.std.proofs.Common.{◌≡◌, ◌+◌, ℕ, List, [], ◌∷◌, ◌++◌, map, Option, Some, None, refl, sym, ap, ◌∙◌, arith, append_assoc}
 use Rattle.std.proofs.lemmas.List.{append-nil}
 use Rattle.std.proofs.lemmas.List.Folds.{flat_map-map}
 use Rattle.std.proofs.lemmas.Grind.{flat_map-append}
@@ -13,208 +13,166 @@ use Rattle.prl_ast.specs.declared.declarations.Param.{Param}
 use Rattle.prl_ast.specs.declared.declarations.Placed.{Placed}
 use Rattle.prl_ast.specs.declared.expressions.PlacedOp.{PlacedOp}
 use Rattle.prl_ast.specs.Trees.{Tree, tree, Root, const, var, apply, group, Trees, none, more, EquationTree, NodeTree, ProgramTree}
-use Rattle.prl_reader.specs.Lexemes.{Lexeme, first_place}
-use Rattle.prl_reader.specs.Grammars.{Many, Maybe, FromFirst, Named}
+use Rattle.prl_reader.specs.Lexemes.{Lexeme}
+use Rattle.prl_reader.specs.Grammars.{Many, Maybe}
+use Rattle.prl_reader.specs.Language.{Text, nested}
+use Rattle.prl_reader.proofs.Growing.{to_nested}
+use Rattle.prl_syntax.specs.declared.words.Fixed.{Fixed}
 use Rattle.prl_syntax.specs.declared.words.Fixed.TheVariants as fixed
+use Rattle.prl_base.specs.declared.values.Value.{Value}
 use Rattle.prl_syntax.specs.Values.{small}
-use Rattle.prl_syntax.specs.Trees.{Declared, imported, sensor, actuator, node, with_declared, program_of}
-use Rattle.prl_syntax.specs.Grammar.{PrefixText, PostfixText, NameText, NamesText, PlacedText, Enclosed, Beside, Nothing, TreeText, RootText, OthersText, LeftsText, EquationText, NodeText, DeclarationText, ProgramText}
+use Rattle.prl_syntax.specs.Trees.{StemTree, prefixed, tree_from, root_of_name, trees_from, Declared, imported, sensor, actuator, node, with_declared, program_of}
+use Rattle.prl_syntax.specs.Grammar.{maybe, after, maybe_in_parens, Name, Names, Postfix, Expr, Exprs, Base, Prefixed, Stem, Left, Equation, Node, Declaration, Program, programs}
 use Rattle.prl_print.specs.Places.{nowhere, unplaced_name, unplaced_param, unplaced_device, unplaced_import, unplaced_operator, unplaced_tree, unplaced_root, unplaced_trees, unplaced_equation, unplaced_node, unplaced}
-use Rattle.prl_print.proofs.Scanning.{bare}
 use Rattle.prl_print.proofs.Pieces.{a_name, a_fixed}
-use Rattle.prl_print.proofs.Words.{one, operator_words, operators_words, tree_words, root_words, trees_words, others_words, name_words, names_words, lefts_words, equation_words, params_words, locals_words, node_words, import_words, device_words, program_words, IsOwnName, IsPrefix, IsPostfix, IsOwnTree, IsOwnRoot, AreOwnTrees, IsOwnEquation, IsOwnNode, IsOwnImport, IsOwnDevice, IsPrintable, IsSome}
-use Rattle.prl_print.proofs.Prints.{Found, Prints, cut, no_tokens, p_then, p_tokens, p_give, p_ends, p_left, p_right, p_the, p_name, p_number, p_many}
-use Rattle.prl_print.proofs.Readable.{small_is, value_reads, ratio_reads, enclosed_params_read, maybe_params_read, locals_read, import_reads, device_reads}
+use Rattle.prl_print.proofs.Words.{IsConstant, one, value_words, operator_words, operators_words, tree_words, root_words, trees_words, others_words, name_words, names_words, lefts_words, equation_words, params_words, locals_words, node_words, import_words, device_words, program_words, IsOwnName, IsPrefix, IsPostfix, IsOwnTree, IsOwnRoot, AreOwnTrees, IsOwnEquation, IsOwnNode, IsOwnImport, IsOwnDevice, IsPrintable, IsSome}
+use Rattle.prl_print.proofs.Prints.{Prints, p_then, p_tokens, p_give, p_ends, p_left, p_right, p_the, p_name, p_number, p_weaken, p_first, p_cons, p_many, p_none}
+use Rattle.prl_print.proofs.Readable.{Writes, small_is, value_reads, ratio_reads, enclosed_params_read, maybe_params_read, locals_read, import_reads, device_reads}
 
 abbrev unplaced_op : Op → PlacedOp
 unplaced_op op = record { op = op; at = nowhere }
 
-prefix_reads : (op : Op) → IsPrefix op → Prints PrefixText (λ x. unplaced_operator x ≡ unplaced_op op) (operator_words op)
-prefix_reads (ops.Fby v) h = p_right (p_left (p_then (value_reads v h) (λ c e. p_ends (λ p. record { op = ops.Fby c; at = p }) (p_the fixed.Fby) (λ p _. ap (λ c. unplaced_op (ops.Fby c)) e))))
-prefix_reads (ops.Cons v) h = p_right (p_right (p_then (value_reads v h) (λ c e. p_ends (λ p. record { op = ops.Cons c; at = p }) (p_the fixed.Cons) (λ p _. ap (λ c. unplaced_op (ops.Cons c)) e))))
-prefix_reads ops.Tail h = p_left (p_ends (λ p. record { op = ops.Tail; at = p }) (p_the fixed.Tail) (λ p _. refl))
-prefix_reads (ops.Up n) h = absurd h
-prefix_reads (ops.Down n) h = absurd h
-prefix_reads (ops.Shift q) h = absurd h
-
-postfix_reads : (op : Op) → IsPostfix op → Prints PostfixText (λ x. unplaced_operator x ≡ unplaced_op op) (operator_words op)
+postfix_reads : (op : Op) → IsPostfix op → Writes Postfix (λ x. unplaced_operator x ≡ unplaced_op op) (operator_words op)
+unfolding Postfix
 postfix_reads (ops.Fby v) h = absurd h
 postfix_reads (ops.Cons v) h = absurd h
 postfix_reads ops.Tail h = absurd h
-postfix_reads (ops.Up k) h = p_left (p_then (p_the fixed.Up) (λ p _. p_ends (λ n. record { op = ops.Up (small n.0); at = p }) (p_number k) (λ n e. ap (λ c. unplaced_op (ops.Up c)) (ap small e ∙ small_is k h.1))))
-postfix_reads (ops.Down k) h = p_right (p_left (p_then (p_the fixed.Down) (λ p _. p_ends (λ n. record { op = ops.Down (small n.0); at = p }) (p_number k) (λ n e. ap (λ c. unplaced_op (ops.Down c)) (ap small e ∙ small_is k h.1)))))
+postfix_reads (ops.Up k) h = p_left (p_then (p_the fixed.Up) (λ p _. p_ends (λ n. record { op = ops.Up (small n); at = p }) (p_number k) (λ n e. ap (λ c. unplaced_op (ops.Up c)) (ap small e ∙ small_is k h.1))))
+postfix_reads (ops.Down k) h = p_right (p_left (p_then (p_the fixed.Down) (λ p _. p_ends (λ n. record { op = ops.Down (small n); at = p }) (p_number k) (λ n e. ap (λ c. unplaced_op (ops.Down c)) (ap small e ∙ small_is k h.1)))))
 postfix_reads (ops.Shift q) h = p_right (p_right (p_then (p_the fixed.Shift) (λ p _. p_ends (λ x. record { op = ops.Shift x; at = p }) (ratio_reads q h) (λ x e. ap (λ c. unplaced_op (ops.Shift c)) e))))
 
-prefixes_read : (pre : List PlacedOp) → AllByRecursion (λ o. IsPrefix o.op) pre → Prints (Many PrefixText) (λ xs. map unplaced_operator xs ≡ map unplaced_operator pre) (operators_words pre)
-prefixes_read pre h = p_many (λ o. IsPrefix o.op) unplaced_operator unplaced_operator (λ o. operator_words o.op) (λ o own. prefix_reads o.op own) pre h
-
-postfixes_read : (post : List PlacedOp) → AllByRecursion (λ o. IsPostfix o.op) post → Prints (Many PostfixText) (λ xs. map unplaced_operator xs ≡ map unplaced_operator post) (operators_words post)
+postfixes_read : (post : List PlacedOp) → AllByRecursion (λ o. IsPostfix o.op) post → Prints (Many (Text programs Postfix)) (λ xs. map unplaced_operator xs ≡ map unplaced_operator post) (operators_words post)
 postfixes_read post h = p_many (λ o. IsPostfix o.op) unplaced_operator unplaced_operator (λ o. operator_words o.op) (λ o own. postfix_reads o.op own) post h
 
-name_reads : (name : List ℕ) → Prints NameText (λ x. x ≡ name) (a_name name ∷ [])
-name_reads name = p_ends (λ n. n.0) (p_name name) (λ n e. e)
+-- stems: prefixes, and what they are applied to
 
--- what stands in parentheses
-abbrev PartsText : Trees → List Lexeme → Type 0
-PartsText none w = Nothing w
-PartsText (more t ts) w = Beside (TreeText t) (OthersText ts) w
+abbrev stem_words : List PlacedOp → Root → List Lexeme
+stem_words pre root = operators_words pre ++ root_words root
 
-p_enclosed : {W : Trees → List Lexeme → Type 0} {E : Trees → Type 0} {ks : List Lexeme} → Prints W E ks → Prints (λ a. Enclosed (W a)) E (a_fixed fixed.Open ∷ (ks ++ one fixed.Close))
-p_enclosed {W} {E} {ks} p = record { read = read }
-  where
-    read : (w : List Lexeme) → map bare w ≡ a_fixed fixed.Open ∷ (ks ++ one fixed.Close) → Found (λ a. Enclosed (W a)) E w
-    read w e =
-        let c = cut w (one fixed.Open) (ks ++ one fixed.Close) e in
-        let d = cut c.right ks (one fixed.Close) c.second in
-        let o = (p_the fixed.Open).read c.left c.first in
-        let x = p.read d.left d.first in
-        let k = (p_the fixed.Close).read d.right d.second in
-        record {
-          tree = x.tree;
-          same = x.same;
-          text = record { open_at = o.tree; close_at = k.tree; left = c.left; inner = d.left; right = d.right; whole = c.whole ∙ ap (λ v. c.left ++ v) d.whole; opened = o.text; inside = x.text; closed = k.text };
-        }
+abbrev stem_of : Root → StemTree
+stem_of r = ([], r)
 
--- an application, and a group that is not empty
-applied : (name : List ℕ × Span) (args : Trees) (w : List Lexeme) → Beside (Named name) (Enclosed (PartsText args)) w → RootText (apply name.0 name.1 args) w
-applied name none w h = h
-applied name (more t ts) w h = h
+abbrev after_op : Op → List PlacedOp → Root → StemTree
+after_op op pre root = (unplaced_op op ∷ map unplaced_operator pre, unplaced_root root)
 
-application_reads : (name : List ℕ) (args : Trees) → Prints PartsText (λ x. unplaced_trees x ≡ unplaced_trees args) (trees_words args)
-    → Prints RootText (λ r. unplaced_root r ≡ apply name nowhere (unplaced_trees args)) (a_name name ∷ a_fixed fixed.Open ∷ (trees_words args ++ one fixed.Close))
-application_reads name args p = record { read = read }
-  where
-    read : (w : List Lexeme) → map bare w ≡ a_name name ∷ a_fixed fixed.Open ∷ (trees_words args ++ one fixed.Close) → Found RootText (λ r. unplaced_root r ≡ apply name nowhere (unplaced_trees args)) w
-    read w e =
-        let c = cut w (a_name name ∷ []) (a_fixed fixed.Open ∷ (trees_words args ++ one fixed.Close)) e in
-        let n = (p_name name).read c.left c.first in
-        let x = (p_enclosed p).read c.right c.second in
-        record {
-          tree = apply n.tree.0 n.tree.1 x.tree;
-          same = ap (λ k. apply k nowhere (unplaced_trees x.tree)) n.same ∙ ap (apply name nowhere) x.same;
-          text = applied n.tree x.tree w (record { left = c.left; right = c.right; whole = c.whole; first = n.text; second = x.text });
-        }
+abbrev unplaced_stem : StemTree → StemTree
+unplaced_stem s = (map unplaced_operator s.0, unplaced_root s.1)
 
-group_reads : (t : Tree) (ts : Trees) → Prints TreeText (λ x. unplaced_tree x ≡ unplaced_tree t) (tree_words t) → Prints OthersText (λ x. unplaced_trees x ≡ unplaced_trees ts) (others_words ts)
-    → Prints RootText (λ r. unplaced_root r ≡ group (more (unplaced_tree t) (unplaced_trees ts))) (a_fixed fixed.Open ∷ ((tree_words t ++ others_words ts) ++ one fixed.Close))
-group_reads t ts first others = record { read = read }
-  where
-    read : (w : List Lexeme) → map bare w ≡ a_fixed fixed.Open ∷ ((tree_words t ++ others_words ts) ++ one fixed.Close) → Found RootText (λ r. unplaced_root r ≡ group (more (unplaced_tree t) (unplaced_trees ts))) w
-    read w e =
-        let c = cut w (one fixed.Open) ((tree_words t ++ others_words ts) ++ one fixed.Close) e in
-        let d = cut c.right (tree_words t ++ others_words ts) (one fixed.Close) c.second in
-        let i = cut d.left (tree_words t) (others_words ts) d.first in
-        let o = (p_the fixed.Open).read c.left c.first in
-        let x = first.read i.left i.first in
-        let y = others.read i.right i.second in
-        let k = (p_the fixed.Close).read d.right d.second in
-        record {
-          tree = group (more x.tree y.tree);
-          same = ap (λ s. group (more s (unplaced_trees y.tree))) x.same ∙ ap (λ s. group (more (unplaced_tree t) s)) y.same;
-          text = record {
-            open_at = o.tree;
-            close_at = k.tree;
-            left = c.left;
-            inner = d.left;
-            right = d.right;
-            whole = c.whole ∙ ap (λ v. c.left ++ v) d.whole;
-            opened = o.text;
-            inside = record { left = i.left; right = i.right; whole = i.whole; first = x.text; second = y.text };
-            closed = k.text;
-          };
-        }
+-- a text of the grammar of stems is one in parentheses too
+in_stem : {E : StemTree → Type 0} {ks : List Lexeme} → Writes Stem E ks → Prints (nested programs) E ks
+unfolding programs
+in_stem p = record { read = λ w e. (let x = p.read w e in record { tree = x.tree; same = x.same; text = to_nested programs x.tree w x.text }) }
 
-parts_read : (t : Tree) (ts : Trees) → Prints TreeText (λ x. unplaced_tree x ≡ unplaced_tree t) (tree_words t) → Prints OthersText (λ x. unplaced_trees x ≡ unplaced_trees ts) (others_words ts)
-    → Prints PartsText (λ x. unplaced_trees x ≡ more (unplaced_tree t) (unplaced_trees ts)) (tree_words t ++ others_words ts)
-parts_read t ts first others = record { read = read }
-  where
-    read : (w : List Lexeme) → map bare w ≡ tree_words t ++ others_words ts → Found PartsText (λ x. unplaced_trees x ≡ more (unplaced_tree t) (unplaced_trees ts)) w
-    read w e =
-        let c = cut w (tree_words t) (others_words ts) e in
-        let x = first.read c.left c.first in
-        let y = others.read c.right c.second in
-        record {
-          tree = more x.tree y.tree;
-          same = ap (λ s. more s (unplaced_trees y.tree)) x.same ∙ ap (more (unplaced_tree t)) y.same;
-          text = record { left = c.left; right = c.right; whole = c.whole; first = x.text; second = y.text };
-        }
+prefix_reads : (f : Fixed) (op : Op) (pre : List PlacedOp) (root : Root) (ks : List Lexeme) → Writes Stem (λ s. unplaced_stem s ≡ unplaced_stem (pre, root)) ks
+    → Writes (Prefixed f op) (λ s. unplaced_stem s ≡ after_op op pre root) (a_fixed f ∷ ks)
+unfolding Prefixed
+prefix_reads f op pre root ks stem = p_then (p_the f) (λ p _. p_ends (λ s. prefixed (record { op = op; at = p }) s) (in_stem stem) (λ s e. ap (prefixed (unplaced_op op)) e))
 
-more_read : (t : Tree) (ts : Trees) → Prints TreeText (λ x. unplaced_tree x ≡ unplaced_tree t) (tree_words t) → Prints OthersText (λ x. unplaced_trees x ≡ unplaced_trees ts) (others_words ts)
-    → Prints OthersText (λ x. unplaced_trees x ≡ more (unplaced_tree t) (unplaced_trees ts)) ((a_fixed fixed.Comma ∷ tree_words t) ++ others_words ts)
-more_read t ts first others = record { read = read }
-  where
-    read : (w : List Lexeme) → map bare w ≡ (a_fixed fixed.Comma ∷ tree_words t) ++ others_words ts → Found OthersText (λ x. unplaced_trees x ≡ more (unplaced_tree t) (unplaced_trees ts)) w
-    read w e =
-        let c = cut w (a_fixed fixed.Comma ∷ tree_words t) (others_words ts) e in
-        let d = cut c.left (one fixed.Comma) (tree_words t) c.first in
-        let p = (p_the fixed.Comma).read d.left d.first in
-        let x = first.read d.right d.second in
-        let y = others.read c.right c.second in
-        record {
-          tree = more x.tree y.tree;
-          same = ap (λ s. more s (unplaced_trees y.tree)) x.same ∙ ap (more (unplaced_tree t)) y.same;
-          text = record { left = c.left; right = c.right; whole = c.whole; first = record { left = d.left; right = d.right; whole = d.whole; first = (p.tree, p.text); second = x.text }; second = y.text };
-        }
+constant_reads : (v : Value) → IsConstant v → Writes Stem (λ s. unplaced_stem s ≡ stem_of (const v)) (value_words v)
+unfolding Stem
+constant_reads v h = p_tokens _ _ (append-nil (value_words v)) (p_right (p_right (p_then (value_reads v h) (λ c e. p_right (p_right (p_give ([], const c) (ap (λ k. stem_of (const k)) e)))))))
 
-whole_tree : (pre post : List PlacedOp) (root : Root) (at : Span) → Prints (Many PrefixText) (λ xs. map unplaced_operator xs ≡ map unplaced_operator pre) (operators_words pre) → Prints RootText (λ r. unplaced_root r ≡ unplaced_root root) (root_words root)
-    → Prints (Many PostfixText) (λ xs. map unplaced_operator xs ≡ map unplaced_operator post) (operators_words post) → Prints TreeText (λ x. unplaced_tree x ≡ unplaced_tree (tree pre root post at)) (tree_words (tree pre root post at))
-whole_tree pre post root at one two three = record { read = read }
-  where
-    read : (w : List Lexeme) → map bare w ≡ tree_words (tree pre root post at) → Found TreeText (λ x. unplaced_tree x ≡ unplaced_tree (tree pre root post at)) w
-    read w e =
-        let c = cut w (operators_words pre ++ root_words root) (operators_words post) e in
-        let d = cut c.left (operators_words pre) (root_words root) c.first in
-        let x = one.read d.left d.first in
-        let y = two.read d.right d.second in
-        let z = three.read c.right c.second in
-        record {
-          tree = tree x.tree y.tree z.tree (first_place w);
-          same = ap (λ s. tree s (unplaced_root y.tree) (map unplaced_operator z.tree) nowhere) x.same ∙ ap (λ s. tree (map unplaced_operator pre) s (map unplaced_operator z.tree) nowhere) y.same ∙ ap (λ s. tree (map unplaced_operator pre) (unplaced_root root) s nowhere) z.same;
-          text = (refl, record { left = c.left; right = c.right; whole = c.whole; first = record { left = d.left; right = d.right; whole = d.whole; first = x.text; second = y.text }; second = z.text });
-        }
+base_stem : (r : Root) → Writes Base (λ x. unplaced_root x ≡ unplaced_root r) (root_words r) → Writes Stem (λ s. unplaced_stem s ≡ stem_of (unplaced_root r)) (root_words r)
+unfolding Stem
+base_stem r base = p_left (p_ends (λ b. ([], b)) base (λ b e. ap stem_of e))
+
+one_prefix : (op : Op) → IsPrefix op → (pre : List PlacedOp) (root : Root) (ks : List Lexeme) → Writes Stem (λ s. unplaced_stem s ≡ unplaced_stem (pre, root)) ks
+    → Writes Stem (λ s. unplaced_stem s ≡ after_op op pre root) (operator_words op ++ ks)
+unfolding Stem
+one_prefix (ops.Fby v) h pre root ks stem = p_tokens _ _ (sym (append_assoc (value_words v) (one fixed.Fby) ks))
+    (p_right (p_right (p_then (value_reads v h) (λ c e. p_left (p_weaken (λ s f. f ∙ ap (λ k. after_op (ops.Fby k) pre root) e) (prefix_reads fixed.Fby (ops.Fby c) pre root ks stem))))))
+one_prefix (ops.Cons v) h pre root ks stem = p_tokens _ _ (sym (append_assoc (value_words v) (one fixed.Cons) ks))
+    (p_right (p_right (p_then (value_reads v h) (λ c e. p_right (p_left (p_weaken (λ s f. f ∙ ap (λ k. after_op (ops.Cons k) pre root) e) (prefix_reads fixed.Cons (ops.Cons c) pre root ks stem)))))))
+one_prefix ops.Tail h pre root ks stem = p_right (p_left (prefix_reads fixed.Tail ops.Tail pre root ks stem))
+one_prefix (ops.Up n) h pre root ks stem = absurd h
+one_prefix (ops.Down n) h pre root ks stem = absurd h
+one_prefix (ops.Shift q) h pre root ks stem = absurd h
+
+stem_reads : (pre : List PlacedOp) (root : Root) → AllByRecursion (λ o. IsPrefix o.op) pre → Writes Stem (λ s. unplaced_stem s ≡ stem_of (unplaced_root root)) (root_words root) → Writes Stem (λ s. unplaced_stem s ≡ unplaced_stem (pre, root)) (stem_words pre root)
+stem_reads [] root h base = base
+stem_reads (o ∷ pre) root h base = p_tokens _ _ (sym (append_assoc (operator_words o.op) (operators_words pre) (root_words root))) (one_prefix o.op h.0 pre root (stem_words pre root) (stem_reads pre root h.1 base))
+
+abbrev parts_of : StemTree → List PlacedOp → StemTree × List PlacedOp
+parts_of s post = (s, post)
+
+whole_tree : (pre post : List PlacedOp) (root : Root) (at : Span) → Writes Stem (λ s. unplaced_stem s ≡ unplaced_stem (pre, root)) (stem_words pre root) → Prints (Many (Text programs Postfix)) (λ xs. map unplaced_operator xs ≡ map unplaced_operator post) (operators_words post)
+    → Writes Expr (λ x. unplaced_tree x ≡ unplaced_tree (tree pre root post at)) (tree_words (tree pre root post at))
+unfolding Expr
+whole_tree pre post root at stem ops =
+    p_ends (λ x. tree_from x.0 x.1.0 x.1.1) (p_first (p_then (in_stem stem) (λ s e.
+    p_ends {F = λ (x : StemTree × List PlacedOp). parts_of (unplaced_stem x.0) (map unplaced_operator x.1) ≡ parts_of (unplaced_stem (pre, root)) (map unplaced_operator post)} (λ post. (s, post)) ops
+    (λ xs f. ap (λ t. parts_of t (map unplaced_operator xs)) e ∙ ap (parts_of (unplaced_stem (pre, root))) f))))
+    (λ x e. ap (λ (y : StemTree × List PlacedOp). tree y.0.0 y.0.1 y.1 nowhere) e)
+
+exprs_read : (t : Tree) (ts : Trees) → Writes Expr (λ x. unplaced_tree x ≡ unplaced_tree t) (tree_words t) → Prints (Many (Text programs (after fixed.Comma Expr))) (λ xs. unplaced_trees (trees_from xs) ≡ unplaced_trees ts) (others_words ts)
+    → Writes Exprs (λ x. unplaced_trees x ≡ more (unplaced_tree t) (unplaced_trees ts)) (tree_words t ++ others_words ts)
+unfolding Exprs
+exprs_read t ts first others =
+    p_ends trees_from (p_then first (λ x e. p_ends {F = λ xs. unplaced_trees (trees_from xs) ≡ more (unplaced_tree t) (unplaced_trees ts)} (λ xs. x ∷ xs) others
+    (λ xs f. ap (λ s. more s (unplaced_trees (trees_from xs))) e ∙ ap (more (unplaced_tree t)) f)))
+    (λ xs e. e)
+
+group_reads : (t : Tree) (ts : Trees) → Writes Exprs (λ x. unplaced_trees x ≡ more (unplaced_tree t) (unplaced_trees ts)) (tree_words t ++ others_words ts)
+    → Writes Base (λ x. unplaced_root x ≡ unplaced_root (group (more t ts))) (root_words (group (more t ts)))
+unfolding Base
+group_reads t ts exprs = p_right (p_ends group (p_then (p_the fixed.Open) (λ o _. p_then exprs (λ xs e. p_ends (λ c. xs) (p_the fixed.Close) (λ c _. e)))) (λ xs e. ap group e))
+
+-- what gives a name its arguments
+abbrev Applies : List ℕ → Root → Option Trees → Type 0
+Applies name root args = (n : List ℕ × Span) → n.0 ≡ name → unplaced_root (root_of_name n args) ≡ root
+
+base_reads : (name : List ℕ) (root : Root) (ks : List Lexeme) → Writes (maybe (maybe_in_parens none Exprs)) (Applies name root) ks → Writes Base (λ x. unplaced_root x ≡ root) (a_name name ∷ ks)
+unfolding Base
+base_reads name root ks args = p_left (p_then (p_name name) (λ n e. p_ends (λ a. root_of_name n a) args (λ a f. f n e)))
+
+application_reads : (name : List ℕ) (at : Span) (args : Trees) → Writes (maybe_in_parens none Exprs) (λ x. unplaced_trees x ≡ unplaced_trees args) (a_fixed fixed.Open ∷ (trees_words args ++ one fixed.Close))
+    → Writes Base (λ x. unplaced_root x ≡ unplaced_root (apply name at args)) (root_words (apply name at args))
+application_reads name at args p = base_reads name _ _ (p_left (p_ends Some p (λ xs f n e. ap (λ k. apply k nowhere (unplaced_trees xs)) e ∙ ap (apply name nowhere) f)))
 
 mutual
-  tree_reads : (d : ℕ) (t : Tree) → IsOwnTree d t → Prints TreeText (λ x. unplaced_tree x ≡ unplaced_tree t) (tree_words t)
-  tree_reads d (tree pre root post at) h = whole_tree pre post root at (prefixes_read pre h.0) (root_reads d root h.1) (postfixes_read post h.2)
+  tree_reads : (d : ℕ) (t : Tree) → IsOwnTree d t → Writes Expr (λ x. unplaced_tree x ≡ unplaced_tree t) (tree_words t)
+  tree_reads d (tree pre root post at) h = whole_tree pre post root at (stem_reads pre root h.0 (root_reads d root h.1)) (postfixes_read post h.2)
 
-  root_reads : (d : ℕ) (r : Root) → IsOwnRoot d r → Prints RootText (λ x. unplaced_root x ≡ unplaced_root r) (root_words r)
-  root_reads d (const v) h = record { read = λ w e. (let x = (value_reads v h).read w e in record { tree = const x.tree; same = ap const x.same; text = x.text }) }
-  root_reads d (var name) h = record { read = λ w e. (let x = (name_reads name).read w e in record { tree = var x.tree; same = ap var x.same; text = x.text }) }
-  root_reads d (apply name at none) h = application_reads name none (record { read = λ w e. record { tree = none; same = refl; text = no_tokens w e } })
-  root_reads d (apply name at (more t ts)) h = application_reads name (more t ts) (parts_read t ts (tree_reads (d + 1) t h.2.0) (others_read (d + 1) ts h.2.1))
+  root_reads : (d : ℕ) (r : Root) → IsOwnRoot d r → Writes Stem (λ s. unplaced_stem s ≡ stem_of (unplaced_root r)) (root_words r)
+  root_reads d (const v) h = constant_reads v h
+  root_reads d (var name) h = base_stem (var name) (base_reads name (var name) [] (p_right (p_give None (λ n e. ap var e))))
+  root_reads d (apply name at none) h = base_stem (apply name at none) (application_reads name at none (p_then (p_the fixed.Open) (λ o _. p_left (p_ends (λ c. none) (p_the fixed.Close) (λ c _. refl)))))
+  root_reads d (apply name at (more t ts)) h = base_stem (apply name at (more t ts)) (application_reads name at (more t ts)
+      (p_then (p_the fixed.Open) (λ o _. p_right (p_then (exprs_read t ts (tree_reads (d + 1) t h.2.0) (others_read (d + 1) ts h.2.1)) (λ xs e. p_ends (λ c. xs) (p_the fixed.Close) (λ c _. e))))))
   root_reads d (group none) h = absurd h
-  root_reads d (group (more t ts)) h = group_reads t ts (tree_reads (d + 1) t h.1) (others_read (d + 1) ts h.2)
+  root_reads d (group (more t ts)) h = base_stem (group (more t ts)) (group_reads t ts (exprs_read t ts (tree_reads (d + 1) t h.1) (others_read (d + 1) ts h.2)))
 
-  others_read : (d : ℕ) (ts : Trees) → AreOwnTrees d ts → Prints OthersText (λ x. unplaced_trees x ≡ unplaced_trees ts) (others_words ts)
-  others_read d none h = record { read = λ w e. record { tree = none; same = refl; text = no_tokens w e } }
-  others_read d (more t ts) h = more_read t ts (tree_reads d t h.0) (others_read d ts h.1)
+  others_read : (d : ℕ) (ts : Trees) → AreOwnTrees d ts → Prints (Many (Text programs (after fixed.Comma Expr))) (λ xs. unplaced_trees (trees_from xs) ≡ unplaced_trees ts) (others_words ts)
+  others_read d none h = p_weaken (λ xs e. ap (λ ts. unplaced_trees (trees_from ts)) e) p_none
+  others_read d (more t ts) h = p_cons (p_then (p_the fixed.Comma) (λ c _. tree_reads d t h.0)) (others_read d ts h.1) (λ x xs e f. ap (λ s. more s (unplaced_trees (trees_from xs))) e ∙ ap (more (unplaced_tree t)) f)
 
 -- equations
 
 abbrev name_with : List ℕ → Placed
 name_with name = record { name = name; at = nowhere }
 
-one_name : (name : List ℕ) → Prints PlacedText (λ n. unplaced_name n ≡ name_with name) (a_name name ∷ [])
+one_name : (name : List ℕ) → Writes Name (λ n. unplaced_name n ≡ name_with name) (a_name name ∷ [])
+unfolding Name
 one_name name = p_ends (λ n. record { name = n.0; at = n.1 }) (p_name name) (λ n e. ap name_with e)
 
-names_read : (n : Placed) (ns : List Placed) → AllByRecursion (λ n. IsOwnName n.name) (n ∷ ns) → Prints NamesText (λ xs. map unplaced_name xs ≡ map unplaced_name (n ∷ ns)) (names_words (n ∷ ns))
+names_read : (n : Placed) (ns : List Placed) → AllByRecursion (λ n. IsOwnName n.name) (n ∷ ns) → Writes Names (λ xs. map unplaced_name xs ≡ map unplaced_name (n ∷ ns)) (names_words (n ∷ ns))
+unfolding Names
 names_read n ns h =
     p_then (one_name n.name) (λ x e. p_ends (λ others. x ∷ others)
     (p_many (λ n. IsOwnName n.name) unplaced_name unplaced_name (λ y. one fixed.Comma ++ name_words y) (λ y own. p_then (p_the fixed.Comma) (λ c _. one_name y.name)) ns h.1)
     (λ others f. ap (λ y. y ∷ map unplaced_name others) e ∙ ap (λ ys. unplaced_name n ∷ ys) f))
 
-lefts_read : (ns : List Placed) → AllByRecursion (λ n. IsOwnName n.name) ns → IsSome ns → Prints LeftsText (λ xs. map unplaced_name xs ≡ map unplaced_name ns) (lefts_words ns)
+lefts_read : (ns : List Placed) → AllByRecursion (λ n. IsOwnName n.name) ns → IsSome ns → Writes Left (λ xs. map unplaced_name xs ≡ map unplaced_name ns) (lefts_words ns)
+unfolding Left
 lefts_read [] h some = absurd (omega arith)
 lefts_read (n ∷ []) h some = p_right (p_ends (λ n. n ∷ []) (one_name n.name) (λ n e. ap (λ y. y ∷ []) e))
 lefts_read (n ∷ m ∷ ns) h some = p_left (p_then (p_the fixed.Open) (λ o _. p_then (names_read n (m ∷ ns) h) (λ xs e. p_ends (λ c. xs) (p_the fixed.Close) (λ c _. e))))
 
-p_first : {A : Type 0} {W : A → List Lexeme → Type 0} {E : A → Type 0} {ks : List Lexeme} → Prints W E ks → Prints (FromFirst W) (λ x. E x.1) ks
-p_first p = record { read = λ w e. (let x = p.read w e in record { tree = (first_place w, x.tree); same = x.same; text = (refl, x.text) }) }
-
 abbrev equation_with : List Placed → Tree → EquationTree
 equation_with lefts right = record { lefts = lefts; right = right; at = nowhere }
 
-equation_reads : (e : EquationTree) → IsOwnEquation e → Prints EquationText (λ x. unplaced_equation x ≡ unplaced_equation e) (equation_words e)
+equation_reads : (e : EquationTree) → IsOwnEquation e → Writes Equation (λ x. unplaced_equation x ≡ unplaced_equation e) (equation_words e)
+unfolding Equation
 equation_reads q h =
     p_ends (λ x. record { lefts = x.1.0; right = x.1.1; at = x.0 })
     (p_first (p_then (lefts_read q.lefts h.lefts h.some) (λ ls e. p_then (p_the fixed.Equals) (λ p _. p_then (tree_reads 0 q.right h.right) (λ t f.
@@ -235,7 +193,8 @@ node_groups a b c d = simp append_assoc
 absent : {A : Type 0} {W : A → List Lexeme → Type 0} → Prints (Maybe W) (λ o. o ≡ None) []
 absent = p_right (p_give None refl)
 
-node_reads : (n : NodeTree) → IsOwnNode n → Prints NodeText (λ x. unplaced_node x ≡ unplaced_node n) (node_words n)
+node_reads : (n : NodeTree) → IsOwnNode n → Writes Node (λ x. unplaced_node x ≡ unplaced_node n) (node_words n)
+unfolding Node
 node_reads n h =
     p_tokens _ _ (ap (λ ks. a_fixed fixed.Node ∷ a_name n.name ∷ ks) (node_groups (params_words n.ins) (params_words n.outs) (locals_words n.locals) (flat_map equation_words n.eqs)))
     (p_then (p_the fixed.Node) (λ k _. p_then (p_name n.name) (λ m e. p_then (maybe_params_read n.ins h.ins) (λ ins f. p_then (p_the fixed.Returns) (λ r _. p_then (enclosed_params_read n.outs h.outs h.some) (λ outs g.
@@ -267,7 +226,8 @@ IsOwnDeclared (sensor d) = IsOwnDevice d
 IsOwnDeclared (actuator d) = IsOwnDevice d
 IsOwnDeclared (node n) = IsOwnNode n
 
-declared_reads : (d : Declared) → IsOwnDeclared d → Prints DeclarationText (λ x. unplaced_declared x ≡ unplaced_declared d) (declared_words d)
+declared_reads : (d : Declared) → IsOwnDeclared d → Writes Declaration (λ x. unplaced_declared x ≡ unplaced_declared d) (declared_words d)
+unfolding Declaration
 declared_reads (imported i) h = p_left (p_ends imported (import_reads i h) (λ x e. ap imported e))
 declared_reads (sensor d) h = p_right (p_left (p_ends sensor (device_reads fixed.Sensor d h) (λ x e. ap sensor e)))
 declared_reads (actuator d) h = p_right (p_right (p_left (p_ends actuator (device_reads fixed.Actuator d h) (λ x e. ap actuator e))))
@@ -338,7 +298,8 @@ unplaced_program_of : (ds : List Declared) → unplaced (program_of ds) ≡ prog
 unplaced_program_of [] = refl
 unplaced_program_of (d ∷ ds) = with_unplaced d (program_of ds) ∙ ap (with_declared (unplaced_declared d)) (unplaced_program_of ds)
 
-pub program_reads : (p : ProgramTree) → IsPrintable p → Prints ProgramText (λ x. unplaced x ≡ unplaced p) (program_words p)
+pub program_reads : (p : ProgramTree) → IsPrintable p → Writes Program (λ x. unplaced x ≡ unplaced p) (program_words p)
+unfolding Program
 program_reads p h =
     p_tokens _ _ (all_words p) (p_ends program_of (p_many IsOwnDeclared unplaced_declared unplaced_declared declared_words declared_reads (declarations p) (all_own p h))
     (λ ds e. unplaced_program_of ds ∙ ap program_of e ∙ sym (unplaced_program_of (declarations p)) ∙ ap unplaced (program_again p)))

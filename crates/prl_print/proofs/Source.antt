@@ -4,13 +4,18 @@ use Rattle.std.proofs.lemmas.Bool.{cond-true, and_parts, leb-true}
 use Rattle.std.specs.List.{AllByRecursion}
 use Rattle.prl_base.specs.declared.places.Span.{Span}
 use Rattle.prl_reader.specs.Lexemes.{Lexeme}
-use Rattle.prl_reader.specs.Grammars.{One, Then, Give, Either, Many, Maybe, Named, Numbered, FromFirst}
+use Rattle.prl_reader.specs.Grammars.{One, Then, Give, Either, Many, Maybe, Place, Named, FromFirst}
 use Rattle.prl_syntax.specs.declared.words.Fixed.{Fixed}
 use Rattle.prl_syntax.specs.Words.{class_of}
 use Rattle.prl_reader.specs.Ranges.{inside_after, is_fault}
 use Rattle.prl_syntax.specs.Ranges.{is_count, in_range, program_ranges}
-use Rattle.prl_syntax.specs.Grammar.{The}
-use Rattle.prl_print.proofs.Words.{IsOwnName, IsOwnMaybe}
+use Rattle.prl_print.proofs.Words.{IsOwnName, IsOwnMaybe, IsSome}
+
+abbrev pub The : Fixed → Span → List Lexeme → Type 0
+The f = Place (class_of f)
+
+abbrev pub Number : ℕ → List Lexeme → Type 0
+Number = Then (One 1) (λ t. Give t.number)
 
 -- the open parentheses after a token of the class
 abbrev pub deeper : ℕ → ℕ → ℕ
@@ -92,6 +97,10 @@ m_many {A} {W} {P} m = record { means = all }
     all [] w fine h = tt
     all (x ∷ xs) w fine h = (m.means x h.0 (fine_left w h.0 h.1 h.2 fine) h.3, all xs h.1 (fine_right w h.0 h.1 h.2 fine) h.4)
 
+-- one or more, with a token between
+pub m_list : {A : Type 0} {W : A → List Lexeme → Type 0} {P : A → Type 0} (f : Fixed) → Means W P → Means (Then W (λ first. Then (Many (Then (The f) (λ p. W))) (λ others. Give (first ∷ others)))) (λ xs. AllByRecursion P xs × IsSome xs)
+m_list f m = m_then m (λ x h. m_ends (λ others. x ∷ others) (m_many (m_then m_any (λ p _. m))) (λ others g. ((h, g), omega arith)))
+
 pub m_maybe : {A : Type 0} {W : A → List Lexeme → Type 0} {P : A → Type 0} → Means W P → Means (Maybe W) (IsOwnMaybe P)
 m_maybe m = m_either (m_ends Some m (λ a p. p)) (m_give None tt)
 
@@ -120,13 +129,13 @@ counted inside last u one count fits =
 pub token_of : (class : ℕ) (at : Span) (w : List Lexeme) → Then (One class) (λ t. Give t.at) at w → (t : Lexeme) × (w ≡ t ∷ []) × (t.class ≡ class)
 token_of class at w x = (x.first, x.whole ∙ ap (λ v. v ++ x.right) x.head.whole ∙ ap (λ v. x.first ∷ v) x.tail.whole, x.head.is)
 
-number_of : (n : ℕ × Span) (w : List Lexeme) → Numbered n w → (t : Lexeme) × (w ≡ t ∷ []) × (t.class ≡ 1) × (n.0 ≡ t.number)
-number_of n w x = (x.first, x.whole ∙ ap (λ v. v ++ x.right) x.head.whole ∙ ap (λ v. x.first ∷ v) x.tail.whole, x.head.is, ap (λ (m : ℕ × Span). m.0) x.tail.is)
+number_of : (n : ℕ) (w : List Lexeme) → Number n w → (t : Lexeme) × (w ≡ t ∷ []) × (t.class ≡ 1) × (n ≡ t.number)
+number_of n w x = (x.first, x.whole ∙ ap (λ v. v ++ x.right) x.head.whole ∙ ap (λ v. x.first ∷ v) x.tail.whole, x.head.is, x.tail.is)
 
-pub m_counted : {B : Type 0} {V : Span → ℕ × Span → B → List Lexeme → Type 0} {Q : B → Type 0} (f : Fixed) → ((i : Bool) → is_count i (class_of f) ≡ true) → ((p : Span) (n : ℕ × Span) → 1 ≤ n.0 → Means (V p n) Q) → Means (Then (The f) (λ p. Then Numbered (V p))) Q
+pub m_counted : {B : Type 0} {V : Span → ℕ → B → List Lexeme → Type 0} {Q : B → Type 0} (f : Fixed) → ((i : Bool) → is_count i (class_of f) ≡ true) → ((p : Span) (n : ℕ) → 1 ≤ n → Means (V p n) Q) → Means (Then (The f) (λ p. Then Number (V p))) Q
 m_counted {B} {V} {Q} f count after = record { means = means }
   where
-    means : (b : B) (w : List Lexeme) → Fine w → Then (The f) (λ p. Then Numbered (V p)) b w → Q b
+    means : (b : B) (w : List Lexeme) → Fine w → Then (The f) (λ p. Then Number (V p)) b w → Q b
     means b w fine x =
         let y = x.tail in
         let t = token_of (class_of f) x.first x.left x.head in
@@ -140,11 +149,11 @@ m_counted {B} {V} {Q} f count after = record { means = means }
         (after x.first y.first (omega (arith, u.3, low))).means b y.right (fine_right x.right y.left y.right y.whole right) y.tail
 
 -- after two tokens
-pub m_counted_later : {B : Type 0} {V : Span → Span → ℕ × Span → B → List Lexeme → Type 0} {Q : B → Type 0} (g f : Fixed) → ((i : Bool) → is_count (inside_after program_ranges (inside_after program_ranges i (class_of g)) (class_of f)) (class_of f) ≡ true) → ((o : Span) (p : Span) (n : ℕ × Span) → 1 ≤ n.0 → Means (V o p n) Q)
-    → Means (Then (The g) (λ o. Then (The f) (λ p. Then Numbered (V o p)))) Q
+pub m_counted_later : {B : Type 0} {V : Span → Span → ℕ → B → List Lexeme → Type 0} {Q : B → Type 0} (g f : Fixed) → ((i : Bool) → is_count (inside_after program_ranges (inside_after program_ranges i (class_of g)) (class_of f)) (class_of f) ≡ true) → ((o : Span) (p : Span) (n : ℕ) → 1 ≤ n → Means (V o p n) Q)
+    → Means (Then (The g) (λ o. Then (The f) (λ p. Then Number (V o p)))) Q
 m_counted_later {B} {V} {Q} g f count after = record { means = means }
   where
-    means : (b : B) (w : List Lexeme) → Fine w → Then (The g) (λ o. Then (The f) (λ p. Then Numbered (V o p))) b w → Q b
+    means : (b : B) (w : List Lexeme) → Fine w → Then (The g) (λ o. Then (The f) (λ p. Then Number (V o p))) b w → Q b
     means b w fine z =
         let x = z.tail in
         let y = x.tail in

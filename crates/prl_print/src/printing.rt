@@ -1,9 +1,9 @@
 //! Whole programs as they are printed.
 
-ghost use Rattle.std.specs.Prelude.{◌≡◌, ◌++◌, ℕ, List, IfOk, OnOk, map};
+ghost use Rattle.std.specs.Prelude.{◌≡◌, ◌++◌, ℕ, List, Ok, IfOk, OnOk, map};
 ghost use Rattle.std.specs.List.{flat_map};
 ghost use Rattle.prl_ast.specs.Trees.{node_tree, program_tree};
-ghost use Rattle.prl_syntax.specs.Parsing.{IsProgramOf};
+ghost use Rattle.prl_syntax.specs.Parsing.{IsParsed};
 ghost use Rattle.prl_print.specs.RoundTrip.{IsTextOf};
 ghost use Rattle.prl_print.specs.Printing.{printed, printed_device, printed_import, printed_node};
 
@@ -55,7 +55,7 @@ fn printed(alloc: Global, program: &Program) -> Result<Vec<u8>, AllocError>
 pub fn print(alloc: Global, program: &Program) -> Result<Vec<u8>, AllocError>
     ensures text { IfOk result (λ text. text.items ≡ printed (program_tree program.now)) }
     // Where the program is that of a text, it is also that of the printed text, places aside.
-    ensures same { (source : List ℕ) → IsProgramOf source (program_tree program.now) → IfOk result (λ text. IsTextOf text.items (program_tree program.now)) }
+    ensures same { (source : List ℕ) → IsParsed source (Ok (program_tree program.now)) → IfOk result (λ text. IsTextOf text.items (program_tree program.now)) }
 {
     printed(alloc, program)
 }

@@ -1,6 +1,6 @@
 -- Facts on lists of tokens and on answers.
-use Rattle.std.proofs.Common.{◌≡◌, ◌==◌, not, ℕ, Bool, true, false, cond, ◌||◌, List, [], ◌∷◌, ◌++◌, length, Ok, Err, refl, sym, ap, ◌∙◌, ◌⊎◌, inl, inr, ⊎_elim, arith, length-append}
-use Rattle.std.proofs.lemmas.Bool.{and_parts, or_cases, eqb-true, not-true}
+use Rattle.std.proofs.Common.{◌≡◌, ◌==◌, not, ℕ, Bool, true, false, cond, ◌||◌, ◌&&◌, List, [], ◌∷◌, ◌++◌, length, Ok, Err, refl, sym, ap, ◌∙◌, ◌⊎◌, inl, inr, ⊎_elim, arith, length-append}
+use Rattle.std.proofs.lemmas.Bool.{false≢true, and_parts, or_cases, eqb-true, not-true}
 use Rattle.prl_base.specs.Reading.{◌>>=◌}
 use Rattle.prl_reader.specs.Lexemes.{Lexeme}
 use Rattle.prl_reader.specs.Readers.{Stop, Read, is_in, next_in}
@@ -56,6 +56,21 @@ apart [] ls d c h = cc
 apart (k ∷ ks) ls d c h =
     let parts = and_parts (not (is_in k ls)) (disjoint ks ls) d in
     ⊎_elim (λ same. ap (λ i. is_in i ls) (sym (eqb-true k c same)) ∙ not-true (is_in k ls) parts.0) (λ later. apart ks ls parts.1 c later) (or_cases (k == c) (is_in c ks) h)
+
+-- each class of the one is in the other
+abbrev pub contained : List ℕ → List ℕ → Bool
+contained [] ls = true
+contained (k ∷ ks) ls = is_in k ls && contained ks ls
+
+pub not_inside : (ks ls : List ℕ) → contained ks ls ≡ true → (c : ℕ) → is_in c ls ≡ false → is_in c ks ≡ false
+not_inside [] ls d c h = refl
+not_inside (k ∷ ks) ls d c h =
+    let parts = and_parts (is_in k ls) (contained ks ls) d in
+    either_not (k == c) (is_in c ks) (λ same. false≢true (sym h ∙ sym (ap (λ i. is_in i ls) (eqb-true k c same)) ∙ parts.0)) (not_inside ks ls parts.1 c h)
+  where
+    either_not : (x y : Bool) → (x ≡ true → ⊥) → y ≡ false → (x || y) ≡ false
+    either_not true y h e = absurd (h refl)
+    either_not false y h e = e
 
 pub own_tokens : (w rest : List Lexeme) → w ++ rest ≡ rest → w ≡ []
 own_tokens [] rest e = refl

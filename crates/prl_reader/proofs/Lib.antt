@@ -11,4 +11,5 @@ pub mod Alike
 pub mod Nesting
 pub mod Loops
 pub mod Ending
+pub mod Outcomes
 pub mod RangeFaults

@@ -5,10 +5,12 @@ use Rattle.prl_reader.specs.Lexemes.{Lexeme, first_place}
 use Rattle.prl_base.specs.declared.places.Span.{Span}
 use Rattle.prl_reader.specs.Grammars.{Then, Give, Many}
 use Rattle.prl_reader.specs.Reads.{Shape, then_shape, either_shape, many_shape, Begins, Reads}
-use Rattle.prl_reader.proofs.Repeats.{Widens, lower, restate, deep_reads, at_length}
+use Rattle.prl_reader.specs.Readers.{is_in}
+use Rattle.prl_reader.proofs.Basics.{contained, not_inside}
+use Rattle.prl_reader.proofs.Repeats.{Widens, widened, lower, restate, deep_reads, at_length}
 use Rattle.prl_reader.proofs.Sequences.{then_begins, in_left, in_right}
 use Rattle.prl_reader.proofs.Steps.{one_reads, give_reads}
-use Rattle.prl_reader.specs.Productions.{Grammar, token, give, bind, either, many, separated, placed, inner, Inner, written, sample_token, sample, Row, link_shape, rest_shape, separated_shape, shape, read}
+use Rattle.prl_reader.specs.Productions.{Grammar, token, give, bind, either, many, separated, placed, inner, Inner, written, sample_token, sample, Row, link_shape, rest_shape, separated_shape, shape}
 use Rattle.prl_reader.specs.Language.{Language, inner_of, within, nested, Text, read_within, read_nested, read_at}
 use Rattle.prl_reader.specs.LookAhead.{IsApart, IsRow}
 use Rattle.prl_reader.proofs.Decides.{IsGuarded, grammar_reads, guarded_reads}
@@ -96,13 +98,17 @@ founded I r (separated s g) h =
 founded I r (placed g) h = (h.1, founded I r g h.0)
 founded I r inner h = absurd h
 
+-- the same classes of the tokens that begin a text, and no others that would go on
+pub widens : (s r : Shape) → ((c : ℕ) → is_in c s.first ≡ true → is_in c r.first ≡ true) → (s.nullable ≡ true → r.nullable ≡ true) → contained s.more r.more ≡ true → Widens s r
+widens s r first nullable more = record { first = first; nullable = nullable; more = not_inside s.more r.more more }
+
 -- One token of look-ahead decides in the language.
 pub record IsRight {R : Type 0} (l : Language R) : Type 0 where
   pub apart : IsApart (inner_of l) l.body
   pub guarded : IsGuarded (inner_of l) l.body
   pub founded : IsFounded l.sample l.body
   pub solid : (inner_of l).shape.nullable ≡ false
-  pub closed : shape (inner_of l) l.body ≡ (inner_of l).shape
+  pub closed : Widens (shape (inner_of l) l.body) (inner_of l).shape
 
 module _ {R : Type 0} (l : Language R) (right : IsRight l) where
   example : (t : R) × (w : List Lexeme) × nested l t w
@@ -112,21 +118,17 @@ module _ {R : Type 0} (l : Language R) (right : IsRight l) where
   begins_within : (n : ℕ) (t : R) (w : List Lexeme) → within l n t w → Begins (inner_of l).shape w
   unfolding within
   begins_within zero t w h = absurd h
-  begins_within (suc n) t w h = let P : Shape → Type 0 = λ s. Begins s w in subst P right.closed (written_begins (inner_of l) (within l n) (begins_within n) l.body right.apart t w h)
+  begins_within (suc n) t w h = widened right.closed w (written_begins (inner_of l) (within l n) (begins_within n) l.body right.apart t w h)
 
   begins : (t : R) (w : List Lexeme) → nested l t w → Begins (inner_of l).shape w
   unfolding nested
   begins t w h = begins_within h.0 t w h.1
 
-  same_shape : {s : Shape} → Widens s s
-  same_shape = record { first = λ c h. h; nullable = λ h. h; more = λ c h. h }
-
   pub family : (n : ℕ) → Reads n (nested l) (inner_of l).shape (read_within l n)
   unfolding read_within
   family zero = deep_reads right.solid begins example
   family (suc n) =
-      let P : Shape → Type 0 = λ s. Reads (suc n) (written (nested l) l.body) s (read (inner_of l) (read_within l n) l.body) in
-      restate (suc n) (subst P right.closed (guarded_reads (inner_of l) (nested l) (read_within l n) n (family n) l.body right.apart right.guarded)) (to_nested l) (from_nested l) same_shape
+      restate (suc n) (guarded_reads (inner_of l) (nested l) (read_within l n) n (family n) l.body right.apart right.guarded) (to_nested l) (from_nested l) right.closed
 
   -- more depth answers the same
   depth_agree : (n m : ℕ) (ts : List Lexeme) → length ts < n → length ts < m → read_within l n ts ≡ read_within l m ts

@@ -18,6 +18,10 @@ pub record Widens (s r : Shape) : Type 0 where
   pub more : (c : ℕ) → is_in c r.more ≡ false → is_in c s.more ≡ false
 
 -- the same texts, said otherwise
+pub widened : {s r : Shape} → Widens s r → (w : List Lexeme) → Begins s w → Begins r w
+widened wide [] b = wide.nullable b
+widened wide (t ∷ w) b = wide.first t.class b
+
 pub restate : {A : Type 0} {W V : A → List Lexeme → Type 0} {s r : Shape} {p : List Lexeme → Read A} (n : ℕ) → Reads n W s p
     → ((a : A) (w : List Lexeme) → W a w → V a w) → ((a : A) (w : List Lexeme) → V a w → W a w) → Widens s r → Reads n V r p
 restate {A} {W} {V} {s} {r} {p} n reads to from wide = record {
@@ -26,13 +30,9 @@ restate {A} {W} {V} {s} {r} {p} n reads to from wide = record {
   local = reads.local;
   local_stuck = reads.local_stuck;
   complete = λ a w rest le h stops. reads.complete a w rest le (from a w h) (stops_in s.more r.more rest wide.more stops);
-  begins = λ a w h. begins w (reads.begins a w (from a w h));
+  begins = λ a w h. widened wide w (reads.begins a w (from a w h));
   example = (let x = reads.example in (x.0, x.1, to x.0 x.1 x.2));
 }
-  where
-    begins : (w : List Lexeme) → Begins s w → Begins r w
-    begins [] b = wide.nullable b
-    begins (t ∷ w) b = wide.first t.class b
 
 -- a reader that is too deep reads nothing
 abbrev pub too_deep : {A : Type 0} → List Lexeme → Read A

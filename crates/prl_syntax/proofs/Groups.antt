@@ -6,7 +6,7 @@ use Rattle.prl_ast.specs.declared.declarations.Placed.{Placed}
 use Rattle.prl_syntax.specs.declared.notes.Note.{Note}
 use Rattle.prl_syntax.specs.declared.parameters.Item.{Item}
 use Rattle.prl_syntax.specs.Trees.{param_of, first_note, params_before}
-use Rattle.prl_syntax.specs.Groups.{noted, params_after, waiting_after}
+use Rattle.prl_syntax.specs.code.Groups.{noted, params_after, waiting_after}
 
 -- what comes of the names that wait and of the items after them
 abbrev pub still : List Placed → List Item → List Param

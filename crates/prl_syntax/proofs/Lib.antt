@@ -1,13 +1,8 @@
-pub mod Simple
+pub mod Right
 pub mod Loops
-pub mod Lists
 pub mod Groups
-pub mod Trees
-pub mod Program
 pub mod Links
-pub mod Applied
+-- for the crates above: the outcomes of texts, arguments as rows, and reduced ratios
 pub mod WholeTexts
--- for the crates above: arguments as rows, reduced ratios, and a name as an expression
 pub mod Rows
 pub mod Ratios
-pub mod Stems

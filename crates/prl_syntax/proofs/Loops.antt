@@ -10,7 +10,7 @@ use Rattle.prl_reader.specs.declared.reading.Stop.{Stop}
 use Rattle.prl_reader.specs.declared.reading.Stop.TheVariants as stops
 use Rattle.prl_reader.proofs.Loops.{Steps}
 use Rattle.prl_syntax.specs.Trees.{joined}
-use Rattle.prl_syntax.specs.Loops.{with_joined}
+use Rattle.prl_syntax.specs.code.Loops.{with_joined}
 
 regroup_joined : {A : Type 0} (front a : List A) (r : Read (List (List A))) → with_joined front (r >>= λ x. Ok (a ∷ x.0, x.1)) ≡ with_joined (front ++ a) r
 regroup_joined front a (Ok x) = ap (λ xs. Ok (xs, x.1)) (sym (append_assoc front a (joined x.0)))

@@ -1,12 +1,13 @@
+-- The keywords and symbols, and the tokens of a text.
 pub mod Words
+pub mod Lexing
+-- The values of numbers, and the parts of trees.
 pub mod Values
 pub mod Trees
+-- The grammar, and the ranges of its numbers.
 pub mod Grammar
-pub mod Readers
-pub mod Loops
-pub mod Groups
-pub mod Links
-pub mod Nodes
-pub mod Lexing
 pub mod Ranges
+-- Which texts are programs, and the first fault of the others.
 pub mod Parsing
+-- What private functions say to one another.
+pub mod code

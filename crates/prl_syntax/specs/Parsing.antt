@@ -12,54 +12,21 @@ use Rattle.prl_lex.specs.declared.tokens.Token.{Token}
 use Rattle.prl_lex.specs.Lexing.{tokens_of}
 use Rattle.prl_reader.specs.Lexemes.{Lexeme}
 use Rattle.prl_reader.specs.Ranges.{out_of_range}
+use Rattle.prl_reader.specs.Language.{Text, read_at}
 use Rattle.prl_reader.specs.Readers.{Stop, Stuck, Deep}
 use Rattle.prl_reader.specs.Whole.{place_of, told, all_at, IsFirstUnexpected}
 use Rattle.prl_syntax.specs.declared.parsing.TheConstants.{MAX_NODES}
 use Rattle.prl_syntax.specs.declared.parsing.ParseFault.{ParseFault}
 use Rattle.prl_syntax.specs.declared.parsing.ParseFault.TheVariants as faults
-use Rattle.prl_syntax.specs.Grammar.{ProgramText}
+use Rattle.prl_syntax.specs.Grammar.{Program, programs}
 use Rattle.prl_syntax.specs.Lexing.{lexemes_of}
 use Rattle.prl_syntax.specs.Ranges.{program_ranges}
-use Rattle.prl_syntax.specs.Readers.{program_at}
-
-abbrev pub of_lexical : LexFault → ParseFault
-of_lexical (lexical.BadToken at) = faults.BadToken at
-of_lexical (lexical.NumberRange at) = faults.NumberRange at
-of_lexical (lexical.Limit limit) = faults.Limit limit
-of_lexical lexical.Memory = faults.Memory
-
-abbrev pub of_stop : List Lexeme → ℕ → Stop → ParseFault
-of_stop ts end (Stuck left) = faults.Unexpected (place_of ts left end)
-of_stop ts end Deep = faults.Memory
-
--- what the code answers where its reader stopped
-abbrev pub FaultOfStop : List Lexeme → ℕ → Stopped → ParseFault → Type 0
-FaultOfStop ts end (stops.Unexpected left) fault = fault ≡ faults.Unexpected (place_of ts left end)
-FaultOfStop ts end stops.Memory fault = fault ≡ faults.Memory
-
--- not too many nodes
-abbrev pub limited : ProgramTree → Result ProgramTree ParseFault
-limited tree = if nat_le (length tree.nodes) MAX_NODES then Ok tree else Err (faults.Limit (record { what = limits.Nodes; found = MAX_NODES + 1 }))
-
-abbrev pub ranged : Option ℕ → ProgramTree → Result ProgramTree ParseFault
-ranged None tree = limited tree
-ranged (Some at) tree = Err (faults.NumberRange at)
-
-unfoldable pub program_of_tokens : List Lexeme → ℕ → Result ProgramTree ParseFault
-program_of_tokens ts end = do
-  tree ← told (of_stop ts end) (all_at program_at ts)
-  ranged (out_of_range program_ranges false 0 ts) tree
-
-unfoldable pub parse_of : List ℕ → Result ProgramTree ParseFault
-parse_of text = do
-  tokens ← told of_lexical (tokens_of text)
-  program_of_tokens (lexemes_of text tokens) (length text)
 
 -- The text is the program: its tokens are a text of the grammar, with this tree, and it is within ranges and limits.
 pub record IsProgramOf (text : List ℕ) (tree : ProgramTree) : Type 0 where
   pub tokens : List Token
   pub lexical : tokens_of text ≡ Ok tokens
-  pub written : ProgramText tree (lexemes_of text tokens)
+  pub written : Text programs Program tree (lexemes_of text tokens)
   pub ranges : out_of_range program_ranges false 0 (lexemes_of text tokens) ≡ None
   pub nodes : length tree.nodes ≤ MAX_NODES
 
@@ -68,7 +35,7 @@ pub record IsUnexpectedAt (text : List ℕ) (at : ℕ) : Type 0 where
   pub tokens : List Token
   pub left : ℕ
   pub lexical : tokens_of text ≡ Ok tokens
-  pub first : IsFirstUnexpected ProgramText (lexemes_of text tokens) left
+  pub first : IsFirstUnexpected (Text programs Program) (lexemes_of text tokens) left
   pub place : at ≡ place_of (lexemes_of text tokens) left (length text)
 
 -- The number at the place is the first out of its range, in a text of the grammar.
@@ -76,7 +43,7 @@ pub record IsOutOfRangeAt (text : List ℕ) (at : ℕ) : Type 0 where
   pub tokens : List Token
   pub tree : ProgramTree
   pub lexical : tokens_of text ≡ Ok tokens
-  pub written : ProgramText tree (lexemes_of text tokens)
+  pub written : Text programs Program tree (lexemes_of text tokens)
   pub first : out_of_range program_ranges false 0 (lexemes_of text tokens) ≡ Some at
 
 -- The text is of the grammar and in range, and has too many nodes.
@@ -84,15 +51,21 @@ pub record HasTooManyNodes (text : List ℕ) (limit : Limit) : Type 0 where
   pub tokens : List Token
   pub tree : ProgramTree
   pub lexical : tokens_of text ≡ Ok tokens
-  pub written : ProgramText tree (lexemes_of text tokens)
+  pub written : Text programs Program tree (lexemes_of text tokens)
   pub ranges : out_of_range program_ranges false 0 (lexemes_of text tokens) ≡ None
   pub many : MAX_NODES < length tree.nodes
   pub is : limit ≡ record { what = limits.Nodes; found = MAX_NODES + 1 }
 
--- what each fault means for the text: it is one of its tokens, or one of the grammar, a range or the limit of nodes
+-- what each fault means for the text: it is one of its tokens, or one of the grammar, a range or the limit of nodes. Want of
+-- memory is none.
 abbrev pub Explains : List ℕ → ParseFault → Type 0
 Explains text (faults.BadToken at) = tokens_of text ≡ Err (lexical.BadToken at)
 Explains text (faults.Unexpected at) = IsUnexpectedAt text at
 Explains text (faults.NumberRange at) = (tokens_of text ≡ Err (lexical.NumberRange at)) ⊎ IsOutOfRangeAt text at
 Explains text (faults.Limit limit) = (tokens_of text ≡ Err (lexical.Limit limit)) ⊎ HasTooManyNodes text limit
-Explains text faults.Memory = Unit {0}
+Explains text faults.Memory = ⊥
+
+-- what comes of a text: its program, or its first fault
+abbrev pub IsParsed : List ℕ → Result ProgramTree ParseFault → Type 0
+IsParsed text (Ok tree) = IsProgramOf text tree
+IsParsed text (Err fault) = Explains text fault

@@ -1,12 +1,14 @@
 -- Parts of the syntax tree that the grammar speaks of.
-use Rattle.std.specs.Prelude.{List, [], ◌∷◌, ◌++◌, Option, Some, None}
+use Rattle.std.specs.Prelude.{ℕ, List, [], ◌∷◌, ◌++◌, Option, Some, None}
+use Rattle.prl_base.specs.declared.places.Span.{Span}
 use Rattle.prl_base.specs.declared.values.Ty.{Ty}
 use Rattle.prl_ast.specs.declared.declarations.Device.{Device}
 use Rattle.prl_ast.specs.declared.declarations.Import.{Import}
 use Rattle.prl_ast.specs.declared.declarations.Param.{Param}
 use Rattle.prl_ast.specs.declared.declarations.Placed.{Placed}
 use Rattle.prl_ast.specs.declared.declarations.Port.{Port}
-use Rattle.prl_ast.specs.Trees.{Tree, Trees, none, more, NodeTree, ProgramTree}
+use Rattle.prl_ast.specs.declared.expressions.PlacedOp.{PlacedOp}
+use Rattle.prl_ast.specs.Trees.{Tree, tree, Root, var, apply, Trees, none, more, NodeTree, ProgramTree}
 use Rattle.prl_syntax.specs.declared.notes.Note.{Note}
 use Rattle.prl_syntax.specs.declared.parameters.Item.{Item}
 
@@ -42,6 +44,22 @@ port_of ty n = record { name = n.name; ty = ty; at = n.at }
 abbrev pub trees_from : List Tree → Trees
 trees_from [] = none
 trees_from (t ∷ ts) = more t (trees_from ts)
+
+-- prefixes, and what they are applied to
+abbrev pub StemTree : Type 0
+StemTree = List PlacedOp × Root
+
+abbrev pub prefixed : PlacedOp → StemTree → StemTree
+prefixed op s = (op ∷ s.0, s.1)
+
+-- an expression that begins at the place
+abbrev pub tree_from : Span → StemTree → List PlacedOp → Tree
+tree_from at s post = tree s.0 s.1 post at
+
+-- a name, with its arguments where it has some in parentheses
+abbrev pub root_of_name : List ℕ × Span → Option Trees → Root
+root_of_name name None = var name.0
+root_of_name name (Some args) = apply name.0 name.1 args
 
 -- a declaration of the text
 pub data Declared : Type 0 where

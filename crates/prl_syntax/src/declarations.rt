@@ -2,11 +2,16 @@
 
 ghost use Rattle.std.specs.Prelude.{◌≡◌, ◌∷◌, [], map, IfOk};
 ghost use Rattle.prl_base.specs.Reading.{Gives};
-ghost use Rattle.prl_reader.specs.Readers.{next_in, many_at};
 ghost use Rattle.prl_reader.specs.Stops.{stop_of};
-ghost use Rattle.prl_syntax.specs.Loops.{with_joined};
-ghost use Rattle.prl_syntax.specs.Readers.{comma_semicolon, comma_or_semicolon_at, port_group_at, next_group_at, ports_at, closed_ports_at, enclosed_ports_at, maybe_ports_at, wcet_at, import_at, device_at};
+ghost use Rattle.prl_syntax.specs.code.Loops.{with_joined};
+ghost use Rattle.prl_syntax.specs.Grammar as grammar;
+ghost use Rattle.prl_syntax.specs.code.Parses.{Parses};
+ghost use Rattle.prl_syntax.specs.Grammar.{programs};
+ghost use Rattle.prl_reader.specs.Language.{inner_of, read_at};
+ghost use Rattle.prl_reader.specs.Productions.{either, many, shape};
+ghost use Rattle.prl_reader.specs.Readers.{next_in};
 ghost use Rattle.prl_syntax.specs.Trees.{port_of};
+ghost use Rattle.prl_syntax.specs.declared.words.Fixed.TheVariants as kinds;
 
 use crate::parser::Parser;
 use crate::values::small;
@@ -28,9 +33,9 @@ fn ports_of(alloc: Global, names: Vec<Placed>, ty: Ty) -> Result<Vec<Port>, Allo
 
 impl<'a> Parser<'a> {
     /// Takes names and their type.
-    #[tactic(auto, unfolding(crate::specs::Readers::port_group_at))]
+    #[tactic(auto, unfolding(crate::specs::Grammar::PortGroup))]
     fn port_group(&mut self) -> Result<Vec<Port>, Stop>
-        ensures { Gives (λ x. (x.items, self.exit.now)) stop_of result (port_group_at self.entry.now) }
+        ensures { Parses (λ x. x.items) grammar.PortGroup result self.entry.now self.exit.now }
     {
         let names = self.names()?;
         self.expect(Fixed::Colon)?;
@@ -39,7 +44,7 @@ impl<'a> Parser<'a> {
     }
 
     fn comma_or_semicolon(&mut self) -> Result<Span, Stop>
-        ensures { Gives (λ x. (x, self.exit.now)) stop_of result (comma_or_semicolon_at self.entry.now) }
+        ensures { Parses (λ x. x) (either (grammar.the kinds.Comma) (grammar.the kinds.Semicolon)) result self.entry.now self.exit.now }
     {
         if self.next_is(Fixed::Comma) {
             return self.expect(Fixed::Comma);
@@ -47,23 +52,24 @@ impl<'a> Parser<'a> {
         self.expect(Fixed::Semicolon)
     }
 
-    #[tactic(auto, unfolding(crate::specs::Readers::next_group_at))]
+    #[tactic(auto, unfolding(crate::specs::Grammar::NextGroup))]
     fn next_group(&mut self) -> Result<Vec<Port>, Stop>
-        ensures { Gives (λ x. (x.items, self.exit.now)) stop_of result (next_group_at self.entry.now) }
+        ensures { Parses (λ x. x.items) grammar.NextGroup result self.entry.now self.exit.now }
     {
         let _ = self.comma_or_semicolon()?;
         self.port_group()
     }
 
+    #[tactic(auto, unfolding(crate::specs::Grammar::NextGroup))]
     fn begins_group(&self) -> bool
-        ensures { result ≡ next_in comma_semicolon self.now }
+        ensures { result ≡ next_in (shape (inner_of programs) grammar.NextGroup).first self.now }
     {
         self.next_is(Fixed::Comma) || self.next_is(Fixed::Semicolon)
     }
 
     /// Takes groups after the first ones.
     fn more_groups(&mut self, front: Vec<Port>) -> Result<Vec<Port>, Stop>
-        ensures { Gives (λ x. (x.items, self.exit.now)) stop_of result (with_joined front.items (many_at comma_semicolon next_group_at self.entry.now)) }
+        ensures { Gives (λ x. (x.items, self.exit.now)) stop_of result (with_joined front.items (read_at programs (many grammar.NextGroup) self.entry.now)) }
     {
         let mut ports = front;
         'more: while self.begins_group() {
@@ -73,34 +79,31 @@ impl<'a> Parser<'a> {
         Ok(ports)
     }
 
-    #[tactic(auto, unfolding(crate::specs::Readers::ports_at))]
+    #[tactic(auto, unfolding(crate::specs::Grammar::Ports))]
     fn ports(&mut self) -> Result<Vec<Port>, Stop>
-        ensures { Gives (λ x. (x.items, self.exit.now)) stop_of result (ports_at self.entry.now) }
+        ensures { Parses (λ x. x.items) grammar.Ports result self.entry.now self.exit.now }
     {
         let first = self.port_group()?;
         self.more_groups(first)
     }
 
-    #[tactic(auto, unfolding(crate::specs::Readers::closed_ports_at))]
     fn closed_ports(&mut self) -> Result<Vec<Port>, Stop>
-        ensures { Gives (λ x. (x.items, self.exit.now)) stop_of result (closed_ports_at self.entry.now) }
+        ensures { Parses (λ x. x.items) (grammar.closed grammar.Ports) result self.entry.now self.exit.now }
     {
         let ports = self.ports()?;
         self.expect(Fixed::Close)?;
         Ok(ports)
     }
 
-    #[tactic(auto, unfolding(crate::specs::Readers::enclosed_ports_at))]
     fn enclosed_ports(&mut self) -> Result<Vec<Port>, Stop>
-        ensures { Gives (λ x. (x.items, self.exit.now)) stop_of result (enclosed_ports_at self.entry.now) }
+        ensures { Parses (λ x. x.items) (grammar.in_parens grammar.Ports) result self.entry.now self.exit.now }
     {
         self.expect(Fixed::Open)?;
         self.closed_ports()
     }
 
-    #[tactic(auto, unfolding(crate::specs::Readers::maybe_ports_at))]
     fn maybe_ports(&mut self) -> Result<Vec<Port>, Stop>
-        ensures { Gives (λ x. (x.items, self.exit.now)) stop_of result (maybe_ports_at self.entry.now) }
+        ensures { Parses (λ x. x.items) (grammar.maybe_in_parens [] grammar.Ports) result self.entry.now self.exit.now }
     {
         self.expect(Fixed::Open)?;
         if self.next_is(Fixed::Close) {
@@ -110,20 +113,20 @@ impl<'a> Parser<'a> {
         self.closed_ports()
     }
 
-    #[tactic(auto, unfolding(crate::specs::Readers::wcet_at))]
+    #[tactic(auto, unfolding(crate::specs::Grammar::Wcet))]
     fn wcet(&mut self) -> Result<u32, Stop>
-        ensures { Gives (λ x. (x, self.exit.now)) stop_of result (wcet_at self.entry.now) }
+        ensures { Parses (λ x. x) grammar.Wcet result self.entry.now self.exit.now }
     {
         self.expect(Fixed::Wcet)?;
-        let (wcet, _) = self.number()?;
+        let wcet = self.number()?;
         self.expect(Fixed::Semicolon)?;
         Ok(small(wcet))
     }
 
     /// Takes an imported node.
-    #[tactic(auto, unfolding(crate::specs::Readers::import_at))]
+    #[tactic(auto, unfolding(crate::specs::Grammar::Import))]
     pub fn read_import(&mut self) -> Result<Import, Stop>
-        ensures { Gives (λ x. (x, self.exit.now)) stop_of result (import_at self.entry.now) }
+        ensures { Parses (λ x. x) grammar.Import result self.entry.now self.exit.now }
     {
         self.expect(Fixed::Imported)?;
         self.expect(Fixed::Node)?;
@@ -144,9 +147,9 @@ impl<'a> Parser<'a> {
     }
 
     /// Takes a sensor or an actuator, whichever its keyword says.
-    #[tactic(auto, unfolding(crate::specs::Readers::device_at))]
+    #[tactic(auto, unfolding(crate::specs::Grammar::Device))]
     pub fn read_device(&mut self, keyword: Fixed) -> Result<Device, Stop>
-        ensures { Gives (λ x. (x, self.exit.now)) stop_of result (device_at keyword self.entry.now) }
+        ensures { Parses (λ x. x) (grammar.Device keyword) result self.entry.now self.exit.now }
     {
         self.expect(keyword)?;
         let (name, at) = self.name()?;

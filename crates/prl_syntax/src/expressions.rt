@@ -4,11 +4,17 @@ ghost use Rattle.std.specs.Prelude.{◌≡◌, ◌∷◌, ◌≤◌, [], length,
 ghost use Rattle.prl_base.specs.Reading.{Gives};
 ghost use Rattle.prl_ast.specs.Trees.{root_of, tree_of};
 ghost use Rattle.prl_reader.specs.Lexemes.{first_place};
-ghost use Rattle.prl_reader.specs.Readers.{next_in, many_at, maybe_at};
 ghost use Rattle.prl_reader.specs.Stops.{stop_of};
 ghost use Rattle.prl_reader.specs.Loops.{with_front};
-ghost use Rattle.prl_syntax.specs.Links.{link_view, constant_link_at, link_at, with_prefixes};
-ghost use Rattle.prl_syntax.specs.Readers.{only, postfix_first, postfix_at, constant_first, applied_by, stem_at, comma_tree_by, closed_trees_by, tree_at};
+ghost use Rattle.prl_ast.specs.Trees.{none};
+ghost use Rattle.prl_syntax.specs.code.Links.{link_view, with_prefixes};
+ghost use Rattle.prl_syntax.specs.code.Links as links;
+ghost use Rattle.prl_syntax.specs.Grammar as grammar;
+ghost use Rattle.prl_syntax.specs.code.Parses.{Parses};
+ghost use Rattle.prl_syntax.specs.Grammar.{programs};
+ghost use Rattle.prl_reader.specs.Language.{inner_of, read_at, read_nested};
+ghost use Rattle.prl_reader.specs.Productions.{either, many, shape};
+ghost use Rattle.prl_reader.specs.Readers.{next_in};
 ghost use Rattle.prl_syntax.specs.Trees.{trees_from};
 ghost use Rattle.prl_syntax.specs.declared.words.Fixed.TheVariants as kinds;
 
@@ -21,19 +27,19 @@ use prl_reader::Stop;
 
 impl<'a> Parser<'a> {
     /// Takes a postfix.
-    #[tactic(auto, unfolding(crate::specs::Readers::postfix_at))]
+    #[tactic(auto, unfolding(crate::specs::Grammar::Postfix))]
     fn postfix(&mut self) -> Result<PlacedOp, Stop>
-        ensures { Gives (λ x. (x, self.exit.now)) stop_of result (postfix_at self.entry.now) }
+        ensures { Parses (λ x. x) grammar.Postfix result self.entry.now self.exit.now }
     {
         if self.next_is(Fixed::Up) {
             let at = self.expect(Fixed::Up)?;
-            let (factor, _) = self.number()?;
+            let factor = self.number()?;
             let op = Op::Up(small(factor));
             return Ok(PlacedOp { op, at });
         }
         if self.next_is(Fixed::Down) {
             let at = self.expect(Fixed::Down)?;
-            let (factor, _) = self.number()?;
+            let factor = self.number()?;
             let op = Op::Down(small(factor));
             return Ok(PlacedOp { op, at });
         }
@@ -43,15 +49,16 @@ impl<'a> Parser<'a> {
         Ok(PlacedOp { op, at })
     }
 
+    #[tactic(auto, unfolding(crate::specs::Grammar::Postfix))]
     fn begins_postfix(&self) -> bool
-        ensures { result ≡ next_in postfix_first self.now }
+        ensures { result ≡ next_in (shape (inner_of programs) grammar.Postfix).first self.now }
     {
         self.next_is(Fixed::Up) || self.next_is(Fixed::Down) || self.next_is(Fixed::Shift)
     }
 
     /// Takes postfixes after the first ones.
     fn more_postfixes(&mut self, front: Vec<PlacedOp>) -> Result<Vec<PlacedOp>, Stop>
-        ensures { Gives (λ x. (x.items, self.exit.now)) stop_of result (with_front front.items (many_at postfix_first postfix_at self.entry.now)) }
+        ensures { Gives (λ x. (x.items, self.exit.now)) stop_of result (with_front front.items (read_at programs (many grammar.Postfix) self.entry.now)) }
     {
         let mut ops = front;
         'more: while self.begins_postfix() {
@@ -61,13 +68,11 @@ impl<'a> Parser<'a> {
         Ok(ops)
     }
 
-    fn begins_constant(&self) -> bool
-        ensures { result ≡ next_in constant_first self.now }
+    #[tactic(auto, unfolding(crate::specs::Grammar::Base))]
+    fn begins_base(&self) -> bool
+        ensures { result ≡ next_in (shape (inner_of programs) grammar.Base).first self.now }
     {
-        self.next_is(Fixed::True)
-            || self.next_is(Fixed::False)
-            || self.next_is(Fixed::Minus)
-            || self.next_is_number()
+        self.next_is_name() || self.next_is(Fixed::Open)
     }
 }
 
@@ -80,8 +85,9 @@ enum Link {
 
 impl<'a> Parser<'a> {
     /// Takes a constant, and the operator of which it is the constant.
+    #[tactic(auto, unfolding(crate::specs::code::Links::ConstantLink, crate::specs::code::Links::PrefixLink))]
     fn constant_link(&mut self) -> Result<Link, Stop>
-        ensures { Gives (λ x. (link_view x, self.exit.now)) stop_of result (constant_link_at self.entry.now) }
+        ensures { Parses link_view links.ConstantLink result self.entry.now self.exit.now }
     {
         let value = self.constant()?;
         if self.next_is(Fixed::Fby) {
@@ -99,49 +105,57 @@ impl<'a> Parser<'a> {
 
     /// Takes a prefix, or what the prefixes are applied to.
     #[cycle(expression)]
+    #[tactic(auto, unfolding(crate::specs::code::Links::NextLink, crate::specs::code::Links::PrefixLink))]
     fn read_link(&mut self) -> Result<Link, Stop>
-        ensures { Gives (λ x. (link_view x, self.exit.now)) stop_of result (link_at stem_at self.entry.now) }
+        ensures { Parses link_view links.NextLink result self.entry.now self.exit.now }
     {
+        if self.begins_base() {
+            return Ok(Link::Base(self.base()?));
+        }
         if self.next_is(Fixed::Tail) {
             let at = self.expect(Fixed::Tail)?;
             let op = Op::Tail;
             return Ok(Link::Prefix(PlacedOp { op, at }));
         }
-        if self.begins_constant() {
-            return self.constant_link();
-        }
-        let base = self.applied()?;
-        Ok(Link::Base(base))
+        self.constant_link()
     }
 
     /// Takes a name, an application or a group.
     #[cycle(expression)]
-    fn applied(&mut self) -> Result<Base, Stop>
-        ensures { Gives (λ x. (root_of x, self.exit.now)) stop_of result (applied_by stem_at self.entry.now) }
+    #[tactic(auto, using(crate::proofs::Rows::root_group, crate::proofs::Rows::root_apply), unfolding(crate::specs::Grammar::Base))]
+    fn base(&mut self) -> Result<Base, Stop>
+        ensures { Parses root_of grammar.Base result self.entry.now self.exit.now }
     {
-        if self.next_is(Fixed::Open) {
-            self.expect(Fixed::Open)?;
-            let parts = self.closed_exprs()?;
-            return Ok(Base::Group(parts));
-        }
-        let (name, at) = self.name()?;
-        if !self.next_is(Fixed::Open) {
+        if self.next_is_name() {
+            let (name, at) = self.name()?;
+            if self.next_is(Fixed::Open) {
+                let args = self.arguments()?;
+                return Ok(Base::Apply { name, at, args });
+            }
             return Ok(Base::Var(name));
         }
         self.expect(Fixed::Open)?;
+        let parts = self.closed_exprs()?;
+        Ok(Base::Group(parts))
+    }
+
+    /// Takes arguments in parentheses, or parentheses alone.
+    #[cycle(expression)]
+    fn arguments(&mut self) -> Result<Vec<Expr>, Stop>
+        ensures { Parses (λ x. trees_from (map tree_of x.items)) (grammar.maybe_in_parens none grammar.Exprs) result self.entry.now self.exit.now }
+    {
+        self.expect(Fixed::Open)?;
         if self.next_is(Fixed::Close) {
             self.expect(Fixed::Close)?;
-            let args = Vec::new(self.alloc);
-            return Ok(Base::Apply { name, at, args });
+            return Ok(Vec::new(self.alloc));
         }
-        let args = self.closed_exprs()?;
-        Ok(Base::Apply { name, at, args })
+        self.closed_exprs()
     }
 
     /// Takes a comma and an expression.
     #[cycle(expression)]
     fn comma_expr(&mut self) -> Result<Expr, Stop>
-        ensures { Gives (λ x. (tree_of x, self.exit.now)) stop_of result (comma_tree_by stem_at self.entry.now) }
+        ensures { Parses tree_of (grammar.after kinds.Comma grammar.Expr) result self.entry.now self.exit.now }
     {
         self.expect(Fixed::Comma)?;
         self.expr()
@@ -150,7 +164,7 @@ impl<'a> Parser<'a> {
     /// Takes expressions after the first ones, each with a comma before it.
     #[cycle(expression)]
     fn more_exprs(&mut self, front: Vec<Expr>) -> Result<Vec<Expr>, Stop>
-        ensures { Gives (λ x. (map tree_of x.items, self.exit.now)) stop_of result (with_front (map tree_of front.items) (many_at (only kinds.Comma) (comma_tree_by stem_at) self.entry.now)) }
+        ensures { Gives (λ x. (map tree_of x.items, self.exit.now)) stop_of result (with_front (map tree_of front.items) (read_at programs (many (grammar.after kinds.Comma grammar.Expr)) self.entry.now)) }
     {
         let mut exprs = front;
         'more: while self.next_is(Fixed::Comma) {
@@ -161,8 +175,9 @@ impl<'a> Parser<'a> {
 
     /// Takes expressions with commas between, and the closing parenthesis.
     #[cycle(expression)]
+    #[tactic(auto, unfolding(crate::specs::Grammar::Exprs))]
     fn closed_exprs(&mut self) -> Result<Vec<Expr>, Stop>
-        ensures { Gives (λ x. (trees_from (map tree_of x.items), self.exit.now)) stop_of result (closed_trees_by stem_at self.entry.now) }
+        ensures { Parses (λ x. trees_from (map tree_of x.items)) (grammar.closed grammar.Exprs) result self.entry.now self.exit.now }
     {
         let first = self.expr()?;
         let mut front = Vec::new(self.alloc);
@@ -175,7 +190,7 @@ impl<'a> Parser<'a> {
     /// Takes prefixes after the first ones, and what they are applied to.
     #[cycle(expression)]
     fn stem(&mut self, front: Vec<PlacedOp>) -> Result<(Vec<PlacedOp>, Base), Stop>
-        ensures { Gives (λ x. ((x.0.items, root_of x.1), self.exit.now)) stop_of result (with_prefixes front.items (stem_at self.entry.now)) }
+        ensures { Gives (λ x. ((x.0.items, root_of x.1), self.exit.now)) stop_of result (with_prefixes front.items (read_nested programs self.entry.now)) }
     {
         let mut prefixes = front;
         'each: loop {
@@ -189,8 +204,9 @@ impl<'a> Parser<'a> {
 
     /// Takes an expression.
     #[cycle(expression)]
+    #[tactic(auto, unfolding(crate::specs::Grammar::Expr))]
     pub fn expr(&mut self) -> Result<Expr, Stop>
-        ensures { Gives (λ x. (tree_of x, self.exit.now)) stop_of result (tree_at self.entry.now) }
+        ensures { Parses tree_of grammar.Expr result self.entry.now self.exit.now }
     {
         let at = self.place_of_first();
         let (pre, base) = self.stem(Vec::new(self.alloc))?;

@@ -3,6 +3,7 @@
 
 mod declarations;
 mod expressions;
+mod laws;
 mod names;
 mod nodes;
 mod notes;
@@ -13,4 +14,5 @@ mod ranges;
 mod values;
 mod words;
 
+pub use laws::each_text_has_one_outcome;
 pub use parsing::{ParseFault, parse};

@@ -3,12 +3,16 @@
 ghost use Rattle.std.specs.Prelude.{◌≡◌, ◌∷◌, [], map, reverse, IfOk};
 ghost use Rattle.prl_base.specs.Reading.{Gives};
 ghost use Rattle.prl_ast.specs.Trees.{equation_tree, node_tree, program_tree};
-ghost use Rattle.prl_reader.specs.Readers.{next_in, many_at, maybe_at};
 ghost use Rattle.prl_reader.specs.Stops.{stop_of};
 ghost use Rattle.prl_reader.specs.Whole.{all_at};
 ghost use Rattle.prl_reader.specs.Loops.{with_front};
-ghost use Rattle.prl_syntax.specs.Nodes.{declared_view, declarations_view, with_last};
-ghost use Rattle.prl_syntax.specs.Readers.{only, the_at, lefts_at, equation_first, equation_at, node_at, declaration_first, declaration_at, program_at};
+ghost use Rattle.prl_syntax.specs.code.Nodes.{declared_view, declarations_view, with_last};
+ghost use Rattle.prl_syntax.specs.Grammar as grammar;
+ghost use Rattle.prl_syntax.specs.code.Parses.{Parses};
+ghost use Rattle.prl_syntax.specs.Grammar.{programs};
+ghost use Rattle.prl_reader.specs.Language.{inner_of, read_at};
+ghost use Rattle.prl_reader.specs.Productions.{either, many, shape};
+ghost use Rattle.prl_reader.specs.Readers.{next_in};
 ghost use Rattle.prl_syntax.specs.Trees.{program_of};
 ghost use Rattle.prl_syntax.specs.declared.words.Fixed.TheVariants as kinds;
 
@@ -21,9 +25,9 @@ use std::alloc::{AllocError, Global};
 
 impl<'a> Parser<'a> {
     /// Takes the names on the left of an equation.
-    #[tactic(auto, unfolding(crate::specs::Readers::lefts_at))]
+    #[tactic(auto, unfolding(crate::specs::Grammar::Left))]
     fn lefts(&mut self) -> Result<Vec<Placed>, Stop>
-        ensures { Gives (λ x. (x.items, self.exit.now)) stop_of result (lefts_at self.entry.now) }
+        ensures { Parses (λ x. x.items) grammar.Left result self.entry.now self.exit.now }
     {
         if self.next_is(Fixed::Open) {
             self.expect(Fixed::Open)?;
@@ -38,9 +42,9 @@ impl<'a> Parser<'a> {
     }
 
     /// Takes an equation.
-    #[tactic(auto, unfolding(crate::specs::Readers::equation_at, crate::specs::Readers::sides_at))]
+    #[tactic(auto, unfolding(crate::specs::Grammar::Equation, crate::specs::Grammar::Left))]
     fn read_equation(&mut self) -> Result<Equation, Stop>
-        ensures { Gives (λ x. (equation_tree x, self.exit.now)) stop_of result (equation_at self.entry.now) }
+        ensures { Parses equation_tree grammar.Equation result self.entry.now self.exit.now }
     {
         let at = self.place_of_first();
         let lefts = self.lefts()?;
@@ -51,15 +55,16 @@ impl<'a> Parser<'a> {
         Ok(Equation { lefts, right, at })
     }
 
+    #[tactic(auto, unfolding(crate::specs::Grammar::Equation, crate::specs::Grammar::Left, crate::specs::Grammar::Name))]
     fn begins_equation(&self) -> bool
-        ensures { result ≡ next_in equation_first self.now }
+        ensures { result ≡ next_in (shape (inner_of programs) grammar.Equation).first self.now }
     {
         self.next_is(Fixed::Open) || self.next_is_name()
     }
 
     /// Takes equations after the first ones.
     fn more_equations(&mut self, front: Vec<Equation>) -> Result<Vec<Equation>, Stop>
-        ensures { Gives (λ x. (map equation_tree x.items, self.exit.now)) stop_of result (with_front (map equation_tree front.items) (many_at equation_first equation_at self.entry.now)) }
+        ensures { Gives (λ x. (map equation_tree x.items, self.exit.now)) stop_of result (with_front (map equation_tree front.items) (read_at programs (many grammar.Equation) self.entry.now)) }
     {
         let mut equations = front;
         'more: while self.begins_equation() {
@@ -69,13 +74,13 @@ impl<'a> Parser<'a> {
     }
 
     fn equations(&mut self) -> Result<Vec<Equation>, Stop>
-        ensures { Gives (λ x. (map equation_tree x.items, self.exit.now)) stop_of result (many_at equation_first equation_at self.entry.now) }
+        ensures { Parses (λ x. map equation_tree x.items) (many grammar.Equation) result self.entry.now self.exit.now }
     {
         self.more_equations(Vec::new(self.alloc))
     }
 
     fn maybe_semicolon(&mut self) -> Result<Option<Span>, Stop>
-        ensures { Gives (λ x. (x, self.exit.now)) stop_of result (maybe_at (only kinds.Semicolon) (the_at kinds.Semicolon) self.entry.now) }
+        ensures { Parses (λ x. x) (grammar.maybe (grammar.the kinds.Semicolon)) result self.entry.now self.exit.now }
     {
         if self.next_is(Fixed::Semicolon) {
             let at = self.expect(Fixed::Semicolon)?;
@@ -85,9 +90,9 @@ impl<'a> Parser<'a> {
     }
 
     /// Takes a node.
-    #[tactic(auto, unfolding(crate::specs::Readers::node_at))]
+    #[tactic(auto, unfolding(crate::specs::Grammar::Node))]
     fn read_node(&mut self) -> Result<Node, Stop>
-        ensures { Gives (λ x. (node_tree x, self.exit.now)) stop_of result (node_at self.entry.now) }
+        ensures { Parses node_tree grammar.Node result self.entry.now self.exit.now }
     {
         self.expect(Fixed::Node)?;
         let (name, at) = self.name()?;
@@ -124,8 +129,9 @@ enum Declaration {
 }
 
 impl<'a> Parser<'a> {
+    #[tactic(auto, unfolding(crate::specs::Grammar::Declaration, crate::specs::Grammar::Import, crate::specs::Grammar::Device, crate::specs::Grammar::Node))]
     fn begins_declaration(&self) -> bool
-        ensures { result ≡ next_in declaration_first self.now }
+        ensures { result ≡ next_in (shape (inner_of programs) grammar.Declaration).first self.now }
     {
         self.next_is(Fixed::Imported)
             || self.next_is(Fixed::Sensor)
@@ -134,9 +140,9 @@ impl<'a> Parser<'a> {
     }
 
     /// Takes a declaration.
-    #[tactic(auto, unfolding(crate::specs::Readers::declaration_at))]
+    #[tactic(auto, unfolding(crate::specs::Grammar::Declaration, crate::specs::Grammar::Import, crate::specs::Grammar::Device, crate::specs::Grammar::Node))]
     fn read_declaration(&mut self) -> Result<Declaration, Stop>
-        ensures { Gives (λ x. (declared_view x, self.exit.now)) stop_of result (declaration_at self.entry.now) }
+        ensures { Parses declared_view grammar.Declaration result self.entry.now self.exit.now }
     {
         if self.next_is(Fixed::Imported) {
             let import = self.read_import()?;
@@ -156,7 +162,7 @@ impl<'a> Parser<'a> {
 
     /// Takes declarations after the first ones.
     fn more_declarations(&mut self, front: Vec<Declaration>) -> Result<Vec<Declaration>, Stop>
-        ensures { Gives (λ x. (map declared_view x.items, self.exit.now)) stop_of result (with_front (map declared_view front.items) (many_at declaration_first declaration_at self.entry.now)) }
+        ensures { Gives (λ x. (map declared_view x.items, self.exit.now)) stop_of result (with_front (map declared_view front.items) (read_at programs (many grammar.Declaration) self.entry.now)) }
     {
         let mut declarations = front;
         'more: while self.begins_declaration() {
@@ -166,7 +172,7 @@ impl<'a> Parser<'a> {
     }
 
     fn read_declarations(&mut self) -> Result<Vec<Declaration>, Stop>
-        ensures { Gives (λ x. (map declared_view x.items, self.exit.now)) stop_of result (many_at declaration_first declaration_at self.entry.now) }
+        ensures { Parses (λ x. map declared_view x.items) (many grammar.Declaration) result self.entry.now self.exit.now }
     {
         self.more_declarations(Vec::new(self.alloc))
     }
@@ -242,9 +248,9 @@ fn program_of(alloc: Global, declarations: Vec<Declaration>) -> Result<Program, 
 
 impl<'a> Parser<'a> {
     /// Takes declarations up to the end.
-    #[tactic(auto, unfolding(crate::specs::Readers::program_at))]
+    #[tactic(auto, unfolding(crate::specs::Grammar::Program))]
     fn whole(&mut self) -> Result<Program, Stop>
-        ensures { Gives program_tree stop_of result (all_at program_at self.entry.now) }
+        ensures { Gives program_tree stop_of result (all_at (read_at programs grammar.Program) self.entry.now) }
     {
         let declarations = self.read_declarations()?;
         match self.rest {
@@ -256,7 +262,7 @@ impl<'a> Parser<'a> {
 
 /// The program that all of the tokens are.
 pub fn program(alloc: Global, terminals: &[Terminal]) -> Result<Program, Stop>
-    ensures { Gives program_tree stop_of result (all_at program_at terminals.now) }
+    ensures { Gives program_tree stop_of result (all_at (read_at programs grammar.Program) terminals.now) }
 {
     let mut parser = Parser {
         alloc,

@@ -2,9 +2,9 @@
 
 ghost use Rattle.std.specs.Prelude.{◌≡◌};
 ghost use Rattle.prl_base.specs.Reading.{Gives};
-ghost use Rattle.prl_reader.specs.Readers.{maybe_at};
 ghost use Rattle.prl_reader.specs.Stops.{stop_of};
-ghost use Rattle.prl_syntax.specs.Readers.{only, type_at, rate_at, due_at, note_at};
+ghost use Rattle.prl_syntax.specs.Grammar as grammar;
+ghost use Rattle.prl_syntax.specs.code.Parses.{Parses};
 ghost use Rattle.prl_syntax.specs.declared.words.Fixed.TheVariants as kinds;
 
 use crate::parser::Parser;
@@ -24,9 +24,9 @@ pub struct Note {
 
 impl<'a> Parser<'a> {
     /// Takes a type.
-    #[tactic(auto, unfolding(crate::specs::Readers::type_at))]
+    #[tactic(auto, unfolding(crate::specs::Grammar::TypeName))]
     pub fn ty(&mut self) -> Result<Ty, Stop>
-        ensures { Gives (λ x. (x, self.exit.now)) stop_of result (type_at self.entry.now) }
+        ensures { Parses (λ x. x) grammar.TypeName result self.entry.now self.exit.now }
     {
         if self.next_is(Fixed::Int) {
             self.expect(Fixed::Int)?;
@@ -37,13 +37,13 @@ impl<'a> Parser<'a> {
     }
 
     /// Takes a rate: a period and a phase.
-    #[tactic(auto, unfolding(crate::specs::Readers::rate_at))]
+    #[tactic(auto, unfolding(crate::specs::Grammar::Rate))]
     fn rate(&mut self) -> Result<Rate, Stop>
-        ensures { Gives (λ x. (x, self.exit.now)) stop_of result (rate_at self.entry.now) }
+        ensures { Parses (λ x. x) grammar.Rate result self.entry.now self.exit.now }
     {
         self.expect(Fixed::Rate)?;
         self.expect(Fixed::Open)?;
-        let (period, _) = self.number()?;
+        let period = self.number()?;
         self.expect(Fixed::Comma)?;
         let phase = self.ratio()?;
         self.expect(Fixed::Close)?;
@@ -51,8 +51,9 @@ impl<'a> Parser<'a> {
         Ok(Rate { period, phase })
     }
 
+    #[tactic(auto, unfolding(crate::specs::Grammar::Rate))]
     fn maybe_rate(&mut self) -> Result<Option<Rate>, Stop>
-        ensures { Gives (λ x. (x, self.exit.now)) stop_of result (maybe_at (only kinds.Rate) rate_at self.entry.now) }
+        ensures { Parses (λ x. x) (grammar.maybe grammar.Rate) result self.entry.now self.exit.now }
     {
         if self.next_is(Fixed::Rate) {
             let rate = self.rate()?;
@@ -62,17 +63,18 @@ impl<'a> Parser<'a> {
     }
 
     /// Takes a due.
-    #[tactic(auto, unfolding(crate::specs::Readers::due_at))]
+    #[tactic(auto, unfolding(crate::specs::Grammar::Due))]
     fn due(&mut self) -> Result<u32, Stop>
-        ensures { Gives (λ x. (x, self.exit.now)) stop_of result (due_at self.entry.now) }
+        ensures { Parses (λ x. x) grammar.Due result self.entry.now self.exit.now }
     {
         self.expect(Fixed::Due)?;
-        let (due, _) = self.number()?;
+        let due = self.number()?;
         Ok(small(due))
     }
 
+    #[tactic(auto, unfolding(crate::specs::Grammar::Due))]
     fn maybe_due(&mut self) -> Result<Option<u32>, Stop>
-        ensures { Gives (λ x. (x, self.exit.now)) stop_of result (maybe_at (only kinds.Due) due_at self.entry.now) }
+        ensures { Parses (λ x. x) (grammar.maybe grammar.Due) result self.entry.now self.exit.now }
     {
         if self.next_is(Fixed::Due) {
             let due = self.due()?;
@@ -82,9 +84,9 @@ impl<'a> Parser<'a> {
     }
 
     /// Takes a note: a type, a rate and a due, of which two may be left out.
-    #[tactic(auto, unfolding(crate::specs::Readers::note_at, crate::specs::Readers::due_note_at, crate::specs::Readers::rate_note_at, crate::specs::Readers::typed_note_at))]
+    #[tactic(auto, unfolding(crate::specs::Grammar::Note, crate::specs::Grammar::Due, crate::specs::Grammar::Rate))]
     pub fn read_note(&mut self) -> Result<Note, Stop>
-        ensures { Gives (λ x. (x, self.exit.now)) stop_of result (note_at self.entry.now) }
+        ensures { Parses (λ x. x) grammar.Note result self.entry.now self.exit.now }
     {
         if self.next_is(Fixed::Due) {
             let due = self.due()?;

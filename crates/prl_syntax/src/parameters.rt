@@ -2,13 +2,16 @@
 
 ghost use Rattle.std.specs.Prelude.{◌≡◌, ◌∷◌, [], ◌++◌, reverse, None, IfOk};
 ghost use Rattle.prl_base.specs.Reading.{Gives};
-ghost use Rattle.prl_reader.specs.Readers.{many_at, maybe_at};
 ghost use Rattle.prl_reader.specs.Stops.{stop_of};
 ghost use Rattle.prl_reader.specs.Loops.{with_front};
-ghost use Rattle.prl_syntax.specs.Loops.{with_joined};
-ghost use Rattle.prl_syntax.specs.Readers.{only, colon_note_at, item_at, comma_item_at, items_at, run_at, semicolon_run_at, params_at, enclosed_params_at, closed_params_at, maybe_params_at, ended_run_at, maybe_locals_at};
+ghost use Rattle.prl_syntax.specs.code.Loops.{with_joined};
+ghost use Rattle.prl_syntax.specs.Grammar as grammar;
+ghost use Rattle.prl_syntax.specs.code.Parses.{Parses};
+ghost use Rattle.prl_syntax.specs.Grammar.{programs};
+ghost use Rattle.prl_reader.specs.Language.{read_at};
+ghost use Rattle.prl_reader.specs.Productions.{many};
 ghost use Rattle.prl_syntax.specs.Trees.{param_of, params_of};
-ghost use Rattle.prl_syntax.specs.Groups.{noted, params_after, waiting_after};
+ghost use Rattle.prl_syntax.specs.code.Groups.{noted, params_after, waiting_after};
 ghost use Rattle.prl_syntax.specs.declared.words.Fixed.TheVariants as kinds;
 
 use crate::notes::Note;
@@ -26,9 +29,8 @@ pub struct Item {
 }
 
 impl<'a> Parser<'a> {
-    #[tactic(auto, unfolding(crate::specs::Readers::colon_note_at))]
     fn maybe_note(&mut self) -> Result<Option<Note>, Stop>
-        ensures { Gives (λ x. (x, self.exit.now)) stop_of result (maybe_at (only kinds.Colon) colon_note_at self.entry.now) }
+        ensures { Parses (λ x. x) (grammar.maybe (grammar.after kinds.Colon grammar.Note)) result self.entry.now self.exit.now }
     {
         if self.next_is(Fixed::Colon) {
             self.expect(Fixed::Colon)?;
@@ -38,18 +40,17 @@ impl<'a> Parser<'a> {
         Ok(None)
     }
 
-    #[tactic(auto, unfolding(crate::specs::Readers::item_at))]
+    #[tactic(auto, unfolding(crate::specs::Grammar::Item))]
     fn read_item(&mut self) -> Result<Item, Stop>
-        ensures { Gives (λ x. (x, self.exit.now)) stop_of result (item_at self.entry.now) }
+        ensures { Parses (λ x. x) grammar.Item result self.entry.now self.exit.now }
     {
         let name = self.placed()?;
         let note = self.maybe_note()?;
         Ok(Item { name, note })
     }
 
-    #[tactic(auto, unfolding(crate::specs::Readers::comma_item_at))]
     fn comma_item(&mut self) -> Result<Item, Stop>
-        ensures { Gives (λ x. (x, self.exit.now)) stop_of result (comma_item_at self.entry.now) }
+        ensures { Parses (λ x. x) (grammar.after kinds.Comma grammar.Item) result self.entry.now self.exit.now }
     {
         self.expect(Fixed::Comma)?;
         self.read_item()
@@ -57,7 +58,7 @@ impl<'a> Parser<'a> {
 
     /// Takes items after the first ones, each with a comma before it.
     fn more_items(&mut self, front: Vec<Item>) -> Result<Vec<Item>, Stop>
-        ensures { Gives (λ x. (x.items, self.exit.now)) stop_of result (with_front front.items (many_at (only kinds.Comma) comma_item_at self.entry.now)) }
+        ensures { Gives (λ x. (x.items, self.exit.now)) stop_of result (with_front front.items (read_at programs (many (grammar.after kinds.Comma grammar.Item)) self.entry.now)) }
     {
         let mut items = front;
         'more: while self.next_is(Fixed::Comma) {
@@ -67,9 +68,8 @@ impl<'a> Parser<'a> {
     }
 
     /// Takes names with their notes, with commas between.
-    #[tactic(auto, unfolding(crate::specs::Readers::items_at))]
     fn items(&mut self) -> Result<Vec<Item>, Stop>
-        ensures { Gives (λ x. (x.items, self.exit.now)) stop_of result (items_at self.entry.now) }
+        ensures { Parses (λ x. x.items) (grammar.list_of kinds.Comma grammar.Item) result self.entry.now self.exit.now }
     {
         let first = self.read_item()?;
         let mut front = Vec::new(self.alloc);
@@ -172,17 +172,16 @@ fn params_of(alloc: Global, items: Vec<Item>) -> Result<Vec<Param>, AllocError>
 
 impl<'a> Parser<'a> {
     /// Takes names with notes, with commas between.
-    #[tactic(auto, unfolding(crate::specs::Readers::run_at, crate::specs::Readers::items_at))]
+    #[tactic(auto, unfolding(crate::specs::Grammar::Run))]
     fn run(&mut self) -> Result<Vec<Param>, Stop>
-        ensures { Gives (λ x. (x.items, self.exit.now)) stop_of result (run_at self.entry.now) }
+        ensures { Parses (λ x. x.items) grammar.Run result self.entry.now self.exit.now }
     {
         let items = self.items()?;
         Ok(params_of(self.alloc, items)?)
     }
 
-    #[tactic(auto, unfolding(crate::specs::Readers::semicolon_run_at))]
     fn semicolon_run(&mut self) -> Result<Vec<Param>, Stop>
-        ensures { Gives (λ x. (x.items, self.exit.now)) stop_of result (semicolon_run_at self.entry.now) }
+        ensures { Parses (λ x. x.items) (grammar.after kinds.Semicolon grammar.Run) result self.entry.now self.exit.now }
     {
         self.expect(Fixed::Semicolon)?;
         self.run()
@@ -190,7 +189,7 @@ impl<'a> Parser<'a> {
 
     /// Takes runs after the first ones, each with a semicolon before it.
     fn more_runs(&mut self, front: Vec<Param>) -> Result<Vec<Param>, Stop>
-        ensures { Gives (λ x. (x.items, self.exit.now)) stop_of result (with_joined front.items (many_at (only kinds.Semicolon) semicolon_run_at self.entry.now)) }
+        ensures { Gives (λ x. (x.items, self.exit.now)) stop_of result (with_joined front.items (read_at programs (many (grammar.after kinds.Semicolon grammar.Run)) self.entry.now)) }
     {
         let mut params = front;
         'more: while self.next_is(Fixed::Semicolon) {
@@ -201,17 +200,16 @@ impl<'a> Parser<'a> {
     }
 
     /// Takes parameters: runs with semicolons between.
-    #[tactic(auto, unfolding(crate::specs::Readers::params_at))]
+    #[tactic(auto, unfolding(crate::specs::Grammar::Params))]
     fn params(&mut self) -> Result<Vec<Param>, Stop>
-        ensures { Gives (λ x. (x.items, self.exit.now)) stop_of result (params_at self.entry.now) }
+        ensures { Parses (λ x. x.items) grammar.Params result self.entry.now self.exit.now }
     {
         let first = self.run()?;
         self.more_runs(first)
     }
 
-    #[tactic(auto, unfolding(crate::specs::Readers::closed_params_at))]
     fn closed_params(&mut self) -> Result<Vec<Param>, Stop>
-        ensures { Gives (λ x. (x.items, self.exit.now)) stop_of result (closed_params_at self.entry.now) }
+        ensures { Parses (λ x. x.items) (grammar.closed grammar.Params) result self.entry.now self.exit.now }
     {
         let params = self.params()?;
         self.expect(Fixed::Close)?;
@@ -219,18 +217,16 @@ impl<'a> Parser<'a> {
     }
 
     /// Takes parameters in parentheses.
-    #[tactic(auto, unfolding(crate::specs::Readers::enclosed_params_at, crate::specs::Readers::closed_params_at))]
     pub fn enclosed_params(&mut self) -> Result<Vec<Param>, Stop>
-        ensures { Gives (λ x. (x.items, self.exit.now)) stop_of result (enclosed_params_at self.entry.now) }
+        ensures { Parses (λ x. x.items) (grammar.in_parens grammar.Params) result self.entry.now self.exit.now }
     {
         self.expect(Fixed::Open)?;
         self.closed_params()
     }
 
     /// Takes parameters in parentheses, or parentheses alone.
-    #[tactic(auto, unfolding(crate::specs::Readers::maybe_params_at))]
     pub fn maybe_params(&mut self) -> Result<Vec<Param>, Stop>
-        ensures { Gives (λ x. (x.items, self.exit.now)) stop_of result (maybe_params_at self.entry.now) }
+        ensures { Parses (λ x. x.items) (grammar.maybe_in_parens [] grammar.Params) result self.entry.now self.exit.now }
     {
         self.expect(Fixed::Open)?;
         if self.next_is(Fixed::Close) {
@@ -241,9 +237,9 @@ impl<'a> Parser<'a> {
     }
 
     /// Takes a run and its semicolon.
-    #[tactic(auto, unfolding(crate::specs::Readers::ended_run_at))]
+    #[tactic(auto, unfolding(crate::specs::Grammar::EndedRun))]
     fn ended_run(&mut self) -> Result<Vec<Param>, Stop>
-        ensures { Gives (λ x. (x.items, self.exit.now)) stop_of result (ended_run_at self.entry.now) }
+        ensures { Parses (λ x. x.items) grammar.EndedRun result self.entry.now self.exit.now }
     {
         let params = self.run()?;
         self.expect(Fixed::Semicolon)?;
@@ -252,7 +248,7 @@ impl<'a> Parser<'a> {
 
     /// Takes runs after the first ones, each with a semicolon after it.
     fn more_ended_runs(&mut self, front: Vec<Param>) -> Result<Vec<Param>, Stop>
-        ensures { Gives (λ x. (x.items, self.exit.now)) stop_of result (with_joined front.items (many_at (0 ∷ []) ended_run_at self.entry.now)) }
+        ensures { Gives (λ x. (x.items, self.exit.now)) stop_of result (with_joined front.items (read_at programs (many grammar.EndedRun) self.entry.now)) }
     {
         let mut params = front;
         'more: while self.next_is_name() {
@@ -263,9 +259,9 @@ impl<'a> Parser<'a> {
     }
 
     /// Takes the local variables, if there are any.
-    #[tactic(auto, unfolding(crate::specs::Readers::maybe_locals_at, crate::specs::Readers::locals_at))]
+    #[tactic(auto, unfolding(crate::specs::Grammar::Locals))]
     pub fn maybe_locals(&mut self) -> Result<Vec<Param>, Stop>
-        ensures { Gives (λ x. (x.items, self.exit.now)) stop_of result (maybe_locals_at self.entry.now) }
+        ensures { Parses (λ x. x.items) grammar.Locals result self.entry.now self.exit.now }
     {
         if self.next_is(Fixed::Var) {
             self.expect(Fixed::Var)?;

@@ -1,10 +1,10 @@
 //! The parser: what is left of the tokens, and what is taken of them.
 
 ghost use Rattle.std.specs.Prelude.{◌≡◌, ◌∷◌, []};
-ghost use Rattle.prl_base.specs.Reading.{Gives};
 ghost use Rattle.prl_reader.specs.Lexemes.{first_place};
-ghost use Rattle.prl_reader.specs.Readers.{next_in, place_at, name_at, number_at};
-ghost use Rattle.prl_reader.specs.Stops.{stop_of};
+ghost use Rattle.prl_reader.specs.Readers.{next_in};
+ghost use Rattle.prl_syntax.specs.Grammar.{the, named, number};
+ghost use Rattle.prl_syntax.specs.code.Parses.{Parses};
 ghost use Rattle.prl_syntax.specs.Words.{class_of};
 
 use crate::words::Fixed;
@@ -63,7 +63,7 @@ impl<'a> Parser<'a> {
 
     /// Takes this token, and answers its place.
     pub fn expect(&mut self, fixed: Fixed) -> Result<Span, Stop>
-        ensures { Gives (λ x. (x, self.exit.now)) stop_of result (place_at (class_of fixed) self.entry.now) }
+        ensures { Parses (λ x. x) (the fixed) result self.entry.now self.exit.now }
     {
         let (at, rest) = prl_reader::expect(self.rest, fixed as u8)?;
         self.rest = rest;
@@ -72,19 +72,19 @@ impl<'a> Parser<'a> {
 
     /// Takes a name, and answers it and its place.
     pub fn name(&mut self) -> Result<(Name, Span), Stop>
-        ensures { Gives (λ x. ((x.0, x.1), self.exit.now)) stop_of result (name_at self.entry.now) }
+        ensures { Parses (λ x. (x.0, x.1)) named result self.entry.now self.exit.now }
     {
         let (name, at, rest) = prl_reader::name(self.alloc, self.rest)?;
         self.rest = rest;
         Ok((name, at))
     }
 
-    /// Takes a number, and answers it and its place.
-    pub fn number(&mut self) -> Result<(u64, Span), Stop>
-        ensures { Gives (λ x. ((x.0, x.1), self.exit.now)) stop_of result (number_at self.entry.now) }
+    /// Takes a number.
+    pub fn number(&mut self) -> Result<u64, Stop>
+        ensures { Parses (λ x. x) number result self.entry.now self.exit.now }
     {
-        let (number, at, rest) = prl_reader::number(self.rest)?;
+        let (number, _, rest) = prl_reader::number(self.rest)?;
         self.rest = rest;
-        Ok((number, at))
+        Ok(number)
     }
 }

@@ -1,9 +1,10 @@
 //! From a text to its program, or to its first fault.
 
-ghost use Rattle.std.specs.Prelude.{◌≡◌, ◌<◌, ◌^◌, length, IfOk, IfErr, Ok};
+ghost use Rattle.std.specs.Prelude.{◌≡◌, ◌≢◌, ◌<◌, ◌^◌, length, IfOk, IfErr, Ok, Err};
 ghost use Rattle.prl_base.specs.Reading.{GivesBut};
-ghost use Rattle.prl_ast.specs.Trees.{ProgramTree, program_tree};
-ghost use Rattle.prl_syntax.specs.Parsing.{of_lexical, FaultOfStop, limited, program_of_tokens, parse_of, IsProgramOf, Explains};
+ghost use Rattle.prl_ast.specs.Trees.{program_tree};
+ghost use Rattle.prl_syntax.specs.Parsing.{IsParsed};
+ghost use Rattle.prl_syntax.specs.code.Outcomes.{of_lexical, FaultOfStop, limited, program_of_tokens, parse_of};
 
 use crate::nodes::program;
 use crate::ranges::ProgramRanges;
@@ -76,7 +77,7 @@ fn limited(program: Program) -> Result<Program, ParseFault>
 }
 
 /// The program that the tokens are.
-#[tactic(auto, unfolding(crate::specs::Parsing::program_of_tokens))]
+#[tactic(auto, unfolding(crate::specs::code::Outcomes::program_of_tokens))]
 fn program_of_tokens(alloc: Global, terminals: &[Terminal], end: u32) -> Result<Program, ParseFault>
     ensures { GivesBut ParseFault.Memory program_tree result (program_of_tokens terminals.now end) }
 {
@@ -90,7 +91,7 @@ fn program_of_tokens(alloc: Global, terminals: &[Terminal], end: u32) -> Result<
     }
 }
 
-#[tactic(auto, unfolding(crate::specs::Parsing::parse_of))]
+#[tactic(auto, unfolding(crate::specs::code::Outcomes::parse_of))]
 fn parsed(alloc: Global, text: &[u8]) -> Result<Program, ParseFault>
     requires { length text.now < 2 ^ 32 }
     ensures { GivesBut ParseFault.Memory program_tree result (parse_of text.now) }
@@ -108,14 +109,10 @@ fn parsed(alloc: Global, text: &[u8]) -> Result<Program, ParseFault>
 /// memory.
 pub fn parse(alloc: Global, text: &[u8]) -> Result<Program, ParseFault>
     requires { length text.now < 2 ^ 32 }
-    // What is read is a program of the grammar, in range and within the limits.
-    ensures found { IfOk result (λ p. IsProgramOf text.now (program_tree p)) }
-    // Each program of the grammar is read, with its tree, unless memory runs out.
-    ensures only { (tree : ProgramTree) → IsProgramOf text.now tree → GivesBut ParseFault.Memory program_tree result (Ok tree) }
-    // What each fault means for the text.
-    ensures fault { IfErr result (Explains text.now) }
-    // The program, or the first fault in this order.
-    ensures exact { GivesBut ParseFault.Memory program_tree result (parse_of text.now) }
+    // What is read is the program of the text.
+    ensures found { IfOk result (λ p. IsParsed text.now (Ok (program_tree p))) }
+    // A fault is the first one of the text, unless memory ran out.
+    ensures fault { IfErr result (λ fault. fault ≢ ParseFault.Memory → IsParsed text.now (Err fault)) }
 {
     parsed(alloc, text)
 }

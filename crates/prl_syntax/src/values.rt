@@ -2,11 +2,11 @@
 
 ghost use Rattle.std.specs.Prelude.{◌≡◌, ◌<◌, ◌≤◌};
 ghost use Rattle.prl_base.specs.Reading.{Gives};
-ghost use Rattle.prl_reader.specs.Readers.{maybe_at};
 ghost use Rattle.prl_reader.specs.Stops.{stop_of};
 ghost use Rattle.prl_base.specs.declared.ratios.TheConstants.{MAX_PART};
 ghost use Rattle.prl_syntax.specs.Values.{small, reduced, ratio_of};
-ghost use Rattle.prl_syntax.specs.Readers.{constant_at, ratio_at, denominator_at, only};
+ghost use Rattle.prl_syntax.specs.Grammar as grammar;
+ghost use Rattle.prl_syntax.specs.code.Parses.{Parses};
 ghost use Rattle.prl_syntax.specs.declared.words.Fixed.TheVariants as kinds;
 
 use crate::parser::Parser;
@@ -23,9 +23,9 @@ pub fn small(number: u64) -> u32
 
 impl<'a> Parser<'a> {
     /// Takes a constant.
-    #[tactic(auto, unfolding(crate::specs::Readers::constant_at))]
+    #[tactic(auto, unfolding(crate::specs::Grammar::Const))]
     pub fn constant(&mut self) -> Result<Value, Stop>
-        ensures { Gives (λ x. (x, self.exit.now)) stop_of result (constant_at self.entry.now) }
+        ensures { Parses (λ x. x) grammar.Const result self.entry.now self.exit.now }
     {
         if self.next_is(Fixed::True) {
             self.expect(Fixed::True)?;
@@ -37,10 +37,10 @@ impl<'a> Parser<'a> {
         }
         if self.next_is(Fixed::Minus) {
             self.expect(Fixed::Minus)?;
-            let (value, _) = self.number()?;
+            let value = self.number()?;
             return Ok(negative(value));
         }
-        let (value, _) = self.number()?;
+        let value = self.number()?;
         Ok(positive(value))
     }
 }
@@ -72,22 +72,22 @@ pub fn ratio_of(num: u64, den: u64) -> Ratio
 impl<'a> Parser<'a> {
     /// Takes a denominator and its `/`, if they are there.
     fn maybe_denominator(&mut self) -> Result<Option<u64>, Stop>
-        ensures { Gives (λ x. (x, self.exit.now)) stop_of result (maybe_at (only kinds.Slash) denominator_at self.entry.now) }
+        ensures { Parses (λ x. x) (grammar.maybe (grammar.after kinds.Slash grammar.number)) result self.entry.now self.exit.now }
     {
         if self.next_is(Fixed::Slash) {
             self.expect(Fixed::Slash)?;
-            let (den, _) = self.number()?;
+            let den = self.number()?;
             return Ok(Some(den));
         }
         Ok(None)
     }
 
     /// Takes a ratio: a number, or two with a `/` between.
-    #[tactic(auto, unfolding(crate::specs::Readers::ratio_at))]
+    #[tactic(auto, unfolding(crate::specs::Grammar::Ratio))]
     pub fn ratio(&mut self) -> Result<Ratio, Stop>
-        ensures { Gives (λ x. (x, self.exit.now)) stop_of result (ratio_at self.entry.now) }
+        ensures { Parses (λ x. x) grammar.Ratio result self.entry.now self.exit.now }
     {
-        let (num, _) = self.number()?;
+        let num = self.number()?;
         let den = self.maybe_denominator()?;
         let ratio = match den {
             Some(den) => ratio_of(num, den),

@@ -1,14 +1,18 @@
 use Rattle.std.proofs.Common.{◌≡◌, ◌≤◌, ◌+◌, ◌*◌, length, map}
 use Rattle.prl_ast.specs.Trees.{tree_of}
-use Rattle.prl_reader.specs.Readers.{many_at}
+use Rattle.prl_reader.specs.Language.{read_at, read_nested}
+use Rattle.prl_reader.specs.Productions.{many}
 use Rattle.prl_syntax.specs.declared.words.Fixed.TheVariants as fixed
-use Rattle.prl_syntax.specs.Links.{with_prefixes}
+use Rattle.prl_syntax.specs.code.Links.{with_prefixes}
 use Rattle.prl_reader.specs.Loops.{with_front}
-use Rattle.prl_syntax.specs.Readers.{only, comma_tree_by, stem_at}
+use Rattle.prl_syntax.specs.Grammar.{after, Expr, programs}
 use Rattle.prl_syntax.proofs.parser.Parser.+expression.Given as goal
 
-abbrev pub decreases-applied : goal.decreases-applied
-decreases-applied l = 8 * length l.self.now + 1
+abbrev pub decreases-base : goal.decreases-base
+decreases-base l = 8 * length l.self.now + 1
+
+abbrev pub decreases-arguments : goal.decreases-arguments
+decreases-arguments l = 8 * length l.self.now + 6
 
 abbrev pub decreases-stem : goal.decreases-stem
 decreases-stem l = 8 * length l.self.now + 3
@@ -30,7 +34,7 @@ decreases-read_link l = 8 * length l.self.now + 2
 
 abbrev pub invariant-stem-each : goal.invariant-stem-each
 invariant-stem-each l = record {
-  exact : with_prefixes l.prefixes.items (stem_at l.self) ≡ with_prefixes l.fn.front.items (stem_at l.fn.self);
+  exact : with_prefixes l.prefixes.items (read_nested programs l.self) ≡ with_prefixes l.fn.front.items (read_nested programs l.fn.self);
   shorter : length l.self ≤ length l.fn.self;
 }
 
@@ -39,7 +43,7 @@ decreases-stem-each l = length l.self
 
 abbrev pub invariant-more_exprs-more : goal.invariant-more_exprs-more
 invariant-more_exprs-more l = record {
-  exact : with_front (map tree_of l.exprs.items) (many_at (only fixed.Comma) (comma_tree_by stem_at) l.self) ≡ with_front (map tree_of l.fn.front.items) (many_at (only fixed.Comma) (comma_tree_by stem_at) l.fn.self);
+  exact : with_front (map tree_of l.exprs.items) (read_at programs (many (after fixed.Comma Expr)) l.self) ≡ with_front (map tree_of l.fn.front.items) (read_at programs (many (after fixed.Comma Expr)) l.fn.self);
   shorter : length l.self ≤ length l.fn.self;
 }
 

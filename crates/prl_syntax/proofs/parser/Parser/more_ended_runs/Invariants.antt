@@ -1,11 +1,12 @@
-use Rattle.std.proofs.Common.{◌≡◌, ◌∷◌, [], length}
-use Rattle.prl_reader.specs.Readers.{many_at}
-use Rattle.prl_syntax.specs.Readers.{ended_run_at}
-use Rattle.prl_syntax.specs.Loops.{with_joined}
+use Rattle.std.proofs.Common.{◌≡◌, length}
+use Rattle.prl_reader.specs.Language.{read_at}
+use Rattle.prl_reader.specs.Productions.{many}
+use Rattle.prl_syntax.specs.Grammar.{EndedRun, programs}
+use Rattle.prl_syntax.specs.code.Loops.{with_joined}
 use Rattle.prl_syntax.proofs.parser.Parser.more_ended_runs.Given as goal
 
 abbrev pub invariant-more : goal.invariant-more
-invariant-more l = with_joined l.params.items (many_at (0 ∷ []) ended_run_at l.self) ≡ with_joined l.fn.front.items (many_at (0 ∷ []) ended_run_at l.fn.self)
+invariant-more l = with_joined l.params.items (read_at programs (many EndedRun) l.self) ≡ with_joined l.fn.front.items (read_at programs (many EndedRun) l.fn.self)
 
 abbrev pub decreases-more : goal.decreases-more
 decreases-more l = length l.self

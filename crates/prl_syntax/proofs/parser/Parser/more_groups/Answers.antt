@@ -1,7 +1,7 @@
 use Rattle.std.proofs.Common.{sym, ◌∙◌}
 use Rattle.std.proofs.lemmas.Result.{err_from_is_err_and}
 use Rattle.prl_syntax.proofs.Loops.{goes_on_joined, halts_joined, fails_joined}
-use Rattle.prl_syntax.proofs.Lists.{next_group_steps}
+use Rattle.prl_syntax.proofs.Right.{next_group_steps}
 use Rattle.prl_syntax.proofs.parser.Parser.more_groups.Goals as goal
 
 pub returns : goal.returns

@@ -1,11 +1,12 @@
 use Rattle.std.proofs.Common.{◌≡◌, length}
-use Rattle.prl_reader.specs.Readers.{many_at}
-use Rattle.prl_syntax.specs.Readers.{comma_semicolon, next_group_at}
-use Rattle.prl_syntax.specs.Loops.{with_joined}
+use Rattle.prl_reader.specs.Language.{read_at}
+use Rattle.prl_reader.specs.Productions.{many}
+use Rattle.prl_syntax.specs.Grammar.{NextGroup, programs}
+use Rattle.prl_syntax.specs.code.Loops.{with_joined}
 use Rattle.prl_syntax.proofs.parser.Parser.more_groups.Given as goal
 
 abbrev pub invariant-more : goal.invariant-more
-invariant-more l = with_joined l.ports.items (many_at comma_semicolon next_group_at l.self) ≡ with_joined l.fn.front.items (many_at comma_semicolon next_group_at l.fn.self)
+invariant-more l = with_joined l.ports.items (read_at programs (many NextGroup) l.self) ≡ with_joined l.fn.front.items (read_at programs (many NextGroup) l.fn.self)
 
 abbrev pub decreases-more : goal.decreases-more
 decreases-more l = length l.self

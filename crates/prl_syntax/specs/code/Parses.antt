@@ -1,0 +1,12 @@
+-- What a call of the parser answers.
+use Rattle.std.specs.Prelude.{List, Result}
+use Rattle.prl_base.specs.Reading.{Gives}
+use Rattle.prl_reader.specs.Language.{read_at}
+use Rattle.prl_reader.specs.Lexemes.{Lexeme}
+use Rattle.prl_reader.specs.Stops.{stop_of}
+use Rattle.prl_reader.specs.declared.reading.Stop.{Stop}
+use Rattle.prl_syntax.specs.Grammar.{Grammar, programs}
+
+-- what the grammar reads, seen by `view`, and the tokens after it
+abbrev pub Parses : {X Y : Type 0} → (X → Y) → Grammar Y → Result X Stop → List Lexeme → List Lexeme → Type 0
+Parses view g result before left = Gives (λ x. (view x, left)) stop_of result (read_at programs g before)
