@@ -1,5 +1,6 @@
 -- For the crates above: lemmas over public definitions.
 pub mod Places
+pub mod WordNumbers
 pub mod StateLaws
 pub mod TwoTasks
 -- For this crate alone.

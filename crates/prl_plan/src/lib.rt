@@ -16,6 +16,7 @@ mod rounds;
 mod tables;
 mod turns;
 mod walks;
+mod words;
 
 pub use deadlines::{
     Interval, count_of, deadline_after, following_jobs, rounds_reach_the_greatest_deadlines,
@@ -37,9 +38,12 @@ pub use laws::{
     sound_state_goes_on, sound_state_keeps_halves, tag_is_of_the_latest_instance,
     write_finds_half_free,
 };
-pub use limits::{MAX_CELLS, MAX_EDGES, MAX_EVENTS, MAX_JOBS, MAX_PERIOD_JOBS, MAX_TASKS};
+pub use limits::{
+    MAX_CELLS, MAX_EDGES, MAX_EVENTS, MAX_HYPER, MAX_JOBS, MAX_PERIOD_JOBS, MAX_PREFIX, MAX_TASKS,
+};
 pub use plans::Plan;
 pub use rounds::{AnyJob, preceding_job, release_after, rounds_reach_the_least_releases};
 pub use tables::{Used, Window};
 pub use turns::hyperperiod_shows_cells;
 pub use walks::{Operand, operand_by_walk, walk_back};
+pub use words::Word;

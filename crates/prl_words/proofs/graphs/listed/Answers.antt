@@ -2,10 +2,10 @@ use Rattle.std.proofs.Common.{◌≡◌, ◌+◌, List, Some, length, sym, ap, s
 use Rattle.std.specs.Prelude.{slice_get}
 use Rattle.std.proofs.lemmas.Option.{slice_get_within}
 use Rattle.prl_base.specs.declared.operators.Op.{Op}
-use Rattle.prl_words.specs.declared.tables.Word.{Word}
+use Rattle.prl_plan.specs.declared.words.Word.{Word}
 use Rattle.prl_words.specs.Counts.{HaveCounts}
-use Rattle.prl_words.specs.Words.{IsWordOf}
-use Rattle.prl_words.specs.GraphWords.{AreWords}
+use Rattle.prl_plan.specs.Words.{IsWordOf}
+use Rattle.prl_plan.specs.Words.{AreWords}
 use Rattle.prl_words.proofs.Constants.{edge_counts, edge_read}
 use Rattle.prl_words.proofs.Listed.{AreSoMany, one_more}
 use Rattle.prl_words.proofs.graphs.listed.Goals as goal
@@ -16,7 +16,7 @@ word_of-requires-clause-counts c =
     let edge = c.edge-item.result in
     let found : slice_get graph.edges c.loop-edge.edge-index ≡ Some edge =
     edge_read c.as_slice-edge-items.result.now graph.edges c.loop-edge.edge-index edge c.as_slice-edge-items.ensures c.loop-edge-test.true c.edge-item.is in
-    let has = edge_counts graph c.requires.well c.requires.small c.loop-edge.edge-index edge found in
+    let has = edge_counts graph c.requires.well c.loop-edge.edge-index edge found in
     (has.jobs, subst (λ (ops : List Op). HaveCounts ops has.jobs) (sym c.as_slice.ensures) has.counts)
 
 pub word_of-requires-clause-few : goal.word_of-requires-clause-few

@@ -3,9 +3,9 @@ use Rattle.prl_base.specs.declared.values.Value.{Value}
 use Rattle.prl_base.specs.declared.values.Value.TheVariants as values
 use Rattle.std.specs.Prelude.{pos, List, slice_index_or}
 use Rattle.prl_plan.specs.declared.walks.Operand.TheVariants as operands
-use Rattle.prl_words.specs.Words.{number_at}
-use Rattle.prl_words.proofs.Climbs.{in_prefix, after_prefix}
-use Rattle.prl_words.proofs.tables.Word.at.Goals as goal
+use Rattle.prl_plan.specs.Words.{number_at}
+use Rattle.prl_plan.proofs.WordNumbers.{in_prefix, after_prefix}
+use Rattle.prl_plan.proofs.words.Word.at.Goals as goal
 
 pub number-requires-clause-fits : goal.number-requires-clause-fits
 number-requires-clause-fits c =

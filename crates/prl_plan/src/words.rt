@@ -2,10 +2,10 @@
 
 ghost use Rattle.std.specs.Prelude.{◌≡◌, ◌<◌, ◌^◌, ℕ};
 ghost use Rattle.prl_plan.specs.declared.walks.Operand.TheVariants as operands;
-ghost use Rattle.prl_words.specs.Words.{number_at, word_at, IsWord};
+ghost use Rattle.prl_plan.specs.Words.{number_at, word_at, IsWord};
 
+use crate::Operand;
 use prl_base::{Seq, Value};
-use prl_plan::Operand;
 
 /// What the jobs of a consumer read on an edge, job after job: constants first, and then instances
 /// of the producer that repeat with a step.
@@ -38,8 +38,8 @@ impl Word {
         }
     }
 
-    /// The instance that job `i` after the prefix reads.
-    pub(crate) fn number(&self, i: u64) -> u64
+    /// The instance that job `i` after the prefix reads, below 2^64. It takes no memory.
+    pub fn number(&self, i: u64) -> u64
         requires word { IsWord self.now }
         requires fits { number_at self.now i < 2 ^ 64 }
         ensures { result ≡ number_at self.now i }
