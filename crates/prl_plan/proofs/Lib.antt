@@ -36,3 +36,9 @@ mod Progress
 mod ChainLaws
 mod Examples
 mod TableMade
+mod WalkNumbers
+mod DatePeriods
+mod NotLater
+mod Bests
+mod PlanNumbers
+mod DateOrder

@@ -1,6 +1,6 @@
 //! What holds of plans, as functions that do nothing: the contract of each is the fact.
 
-ghost use Rattle.std.specs.Prelude.{◌≡◌, ◌+◌, ◌*◌, ◌<◌, ◌↔◌, ℕ, ℤ, pos, ◌+ℤ◌, ◌≤ℤ◌, List, length, IsSome, slice_get, slice_index_or};
+ghost use Rattle.std.specs.Prelude.{◌≡◌, ◌+◌, ◌*◌, ◌<◌, ◌↔◌, ℕ, ℤ, pos, ◌+ℤ◌, ◌≤ℤ◌, ◌<ℤ◌, List, length, IsSome, slice_get, slice_index_or};
 ghost use Rattle.prl_base.specs.declared.operators.Op.{Op};
 ghost use Rattle.prl_plan.specs.declared.events.Action.{Action};
 ghost use Rattle.prl_plan.specs.declared.events.Action.TheVariants as actions;
@@ -10,10 +10,10 @@ ghost use Rattle.prl_plan.specs.declared.walks.Operand.TheVariants as operands;
 ghost use Rattle.prl_plan.specs.Graphs.{IsWellFormed};
 ghost use Rattle.prl_plan.specs.Operands.{walk, operand_of};
 ghost use Rattle.prl_plan.specs.Precedence.{preceding, ComesFrom, Precedes};
-ghost use Rattle.prl_plan.specs.Dates.{AreEncodedDates, encoded_release, encoded_deadline};
+ghost use Rattle.prl_plan.specs.Dates.{Family, AreLeastReleases, AreGreatestDeadlines, AreEncodedDates, RepeatsByHyper, encoded_release, encoded_deadline};
 ghost use Rattle.prl_plan.specs.Chains.{IsNarrow, IsBest};
 ghost use Rattle.prl_plan.specs.declared.tables.Window.{Window};
-ghost use Rattle.prl_plan.specs.Jobs.{Job, task_at, job_count, IsHorizonJob};
+ghost use Rattle.prl_plan.specs.Jobs.{Job, task_at, release_of, job_count, IsHorizonJob};
 ghost use Rattle.prl_plan.specs.Plans.{PlanView, HaveRoom, IsPlan, edge_at, place_on, cell_of, IsHalfOf, reading, actions_of, reads_before, operands_before, IsAtPort, IsActionOf};
 ghost use Rattle.prl_plan.specs.Facts.{HasPlanFacts};
 ghost use Rattle.prl_plan.specs.JobTables.{TableRow, IsJobTable, job_table};
@@ -117,8 +117,28 @@ pub fn precedence_repeats_and_rises()
         preceding (edge_at graph e).ops a ≤ℤ preceding (edge_at graph e).ops b }
 {}
 
-/// Along a precedence both encoded dates leave room for the WCETs, over all whole numbers.
+/// A job that precedes another is not released later, over all whole numbers.
+pub fn precedence_is_not_later()
+    ensures { (graph : TaskGraph) → IsWellFormed graph → (before after : Job) → Precedes graph before after →
+        release_of (task_at graph before.task) before.number ≤ℤ release_of (task_at graph after.task) after.number }
+{}
+
+/// The least releases and the greatest deadlines come again a hyperperiod later, over all whole numbers.
+pub fn encoded_dates_repeat()
+    ensures releases { (graph : TaskGraph) → IsWellFormed graph → (date : Family) → AreLeastReleases graph date → RepeatsByHyper graph date }
+    ensures deadlines { (graph : TaskGraph) → IsWellFormed graph → (date : Family) → AreGreatestDeadlines graph date → RepeatsByHyper graph date }
+{}
+
+/// Over all whole numbers: each job has room for its WCET between its encoded dates; along a precedence both dates leave room
+/// for the WCETs; and the next job of a task is not released, by its encoded date, before the job is due by its own.
 pub fn encoded_dates_keep_order()
+    ensures room { (plan : PlanView) → IsPlan plan → (i : ℕ) (m : ℤ) → i < length plan.graph.tasks →
+        (encoded_release plan.graph plan.windows i m +ℤ pos (task_at plan.graph i).wcet) ≤ℤ encoded_deadline plan.graph plan.windows i m }
+    ensures next { (plan : PlanView) → IsPlan plan → (i : ℕ) (m : ℤ) → i < length plan.graph.tasks →
+        encoded_deadline plan.graph plan.windows i m ≤ℤ encoded_release plan.graph plan.windows i (m +ℤ pos 1) }
+    ensures earlier { (plan : PlanView) → IsPlan plan → (before after : Job) → Precedes plan.graph before after →
+        (encoded_release plan.graph plan.windows before.task before.number <ℤ encoded_release plan.graph plan.windows after.task after.number)
+        × (encoded_deadline plan.graph plan.windows before.task before.number <ℤ encoded_deadline plan.graph plan.windows after.task after.number) }
     ensures releases { (plan : PlanView) → IsPlan plan → (before after : Job) → Precedes plan.graph before after →
         (encoded_release plan.graph plan.windows before.task before.number +ℤ pos (task_at plan.graph before.task).wcet)
         ≤ℤ encoded_release plan.graph plan.windows after.task after.number }
