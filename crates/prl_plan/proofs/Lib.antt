@@ -42,3 +42,5 @@ mod NotLater
 mod Bests
 mod PlanNumbers
 mod DateOrder
+mod RepeatLaws
+mod OnePlan

@@ -12,9 +12,15 @@ ghost use Rattle.prl_plan.specs.Operands.{walk, operand_of};
 ghost use Rattle.prl_plan.specs.Precedence.{preceding, ComesFrom, Precedes};
 ghost use Rattle.prl_plan.specs.Dates.{Family, AreLeastReleases, AreGreatestDeadlines, AreEncodedDates, RepeatsByHyper, encoded_release, encoded_deadline};
 ghost use Rattle.prl_plan.specs.Chains.{IsNarrow, IsBest};
+ghost use Rattle.prl_plan.specs.declared.graphs.Edge.{Edge};
 ghost use Rattle.prl_plan.specs.declared.tables.Window.{Window};
+ghost use Rattle.prl_plan.specs.declared.tables.Used.{Used};
+ghost use Rattle.prl_plan.specs.declared.words.Word.{Word};
+ghost use Rattle.prl_plan.specs.Cells.{EnumeratesUsed};
+ghost use Rattle.prl_plan.specs.Repeats.{IsShortestRepeat};
+ghost use Rattle.prl_plan.specs.Words.{IsWordOf};
 ghost use Rattle.prl_plan.specs.Jobs.{Job, task_at, release_of, job_count, IsHorizonJob};
-ghost use Rattle.prl_plan.specs.Plans.{PlanView, HaveRoom, IsPlan, edge_at, place_on, cell_of, IsHalfOf, reading, actions_of, reads_before, operands_before, IsAtPort, IsActionOf};
+ghost use Rattle.prl_plan.specs.Plans.{PlanView, HaveRoom, AreShortWindows, IsPlan, edge_at, place_on, cell_of, IsHalfOf, reading, actions_of, reads_before, operands_before, IsAtPort, IsActionOf};
 ghost use Rattle.prl_plan.specs.Facts.{HasPlanFacts};
 ghost use Rattle.prl_plan.specs.JobTables.{TableRow, IsJobTable, job_table};
 ghost use Rattle.prl_plan.specs.Devices.{LinksDevices};
@@ -49,6 +55,17 @@ pub fn plan_is_one(plan: &Plan)
 {
     let _ = plan.graph();
 }
+
+/// A graph determines its plan: two plans of one graph are the same. Operators have one word, dates one table of shortest
+/// lists, and used instances one enumeration by shortest gaps.
+pub fn plan_is_unique()
+    ensures plan { (a b : PlanView) → IsPlan a → IsPlan b → a.graph ≡ b.graph → a ≡ b }
+    ensures word { (ops : List Op) (a b : Word) → IsWordOf ops a → IsWordOf ops b → a ≡ b }
+    ensures dates { (graph : TaskGraph) (a b : List (List Window)) → AreEncodedDates graph a → AreEncodedDates graph b →
+        AreShortWindows a → AreShortWindows b → a ≡ b }
+    ensures used { (edge : Edge) (a b : Used) → EnumeratesUsed edge a → EnumeratesUsed edge b → IsShortestRepeat a.gaps → IsShortestRepeat b.gaps →
+        a ≡ b }
+{}
 
 /// Where the walk of an operand gives an instance, the producer's job of that number precedes the consumer's job.
 pub fn operands_precede()
