@@ -1,6 +1,7 @@
 -- For the crates above: lemmas over public definitions.
 pub mod Places
 pub mod WordNumbers
+pub mod ReadOrder
 pub mod StateLaws
 pub mod TwoTasks
 -- For this crate alone.

@@ -1,7 +1,9 @@
 //! What holds of plans, as functions that do nothing: the contract of each is the fact.
 
 ghost use Rattle.std.specs.Prelude.{◌≡◌, ◌+◌, ◌*◌, ◌<◌, ◌↔◌, ℕ, ℤ, pos, ◌+ℤ◌, ◌≤ℤ◌, ◌<ℤ◌, List, length, IsSome, slice_get, slice_index_or};
+ghost use Rattle.prl_base.specs.Values.{IsOfType};
 ghost use Rattle.prl_base.specs.declared.operators.Op.{Op};
+ghost use Rattle.prl_base.specs.declared.values.Value.{Value};
 ghost use Rattle.prl_plan.specs.declared.events.Action.{Action};
 ghost use Rattle.prl_plan.specs.declared.events.Action.TheVariants as actions;
 ghost use Rattle.prl_plan.specs.declared.graphs.TaskGraph.{TaskGraph};
@@ -70,6 +72,12 @@ pub fn plan_is_unique()
 /// Where the walk of an operand gives an instance, the producer's job of that number precedes the consumer's job.
 pub fn operands_precede()
     ensures { (ops : List Op) (n m : ℕ) → walk ops n ≡ operands.From m → preceding ops (pos n) ≡ pos m }
+{}
+
+/// A constant that a job reads on an edge has the type of the edge.
+pub fn constants_are_of_their_type()
+    ensures { (graph : TaskGraph) → IsWellFormed graph → (e n : ℕ) (c : Value) → e < length graph.edges →
+        operand_of (edge_at graph e) n ≡ operands.Const c → IsOfType (edge_at graph e).ty c }
 {}
 
 /// An instance that a horizon job reads is one that a horizon job gives.

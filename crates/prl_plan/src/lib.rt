@@ -24,7 +24,7 @@ pub use deadlines::{
 };
 pub use events::{Action, Event, Rule, SlotNo};
 pub use facts::{
-    actions_are_as_defined, encoded_dates_keep_order, encoded_dates_repeat,
+    actions_are_as_defined, constants_are_of_their_type, encoded_dates_keep_order, encoded_dates_repeat,
     horizon_jobs_are_counted, operands_are_of_horizon_jobs, operands_precede,
     operands_stand_earlier, plan_facts, plan_has_one_job_table, plan_is_one, plan_is_unique,
     plan_links_devices, plans_keep_facts, precedence_is_not_later, precedence_repeats_and_rises,
