@@ -1,7 +1,8 @@
 -- Over a plan: what a job reads is of a job whose encoded release is earlier, and a task's releases rise.
-use Rattle.std.proofs.Common.{◌≡◌, ◌+◌, ◌<◌, ◌≤◌, ℕ, zero, suc, List, [], ◌∷◌, length, refl, sym, ◌∙◌, ap, subst, arith}
+use Rattle.std.proofs.Common.{◌≡◌, ◌+◌, ◌*◌, ◌<◌, ◌≤◌, ℕ, zero, suc, List, [], ◌∷◌, length, refl, sym, ◌∙◌, ap, subst, arith}
 use Rattle.std.specs.Prelude.{pos, Some, slice_get}
 use Rattle.std.proofs.lemmas.Int.{ints}
+use Rattle.std.proofs.Math.Nat.{mul-le-mul_right}
 use Rattle.std.proofs.lemmas.Option.{slice_get-get_or}
 use Rattle.prl_base.specs.Operators.{IsOperatorFor}
 use Rattle.prl_base.specs.Values.{IsOfType}
@@ -16,11 +17,12 @@ use Rattle.prl_plan.specs.declared.graphs.Producer.TheVariants as producers
 use Rattle.prl_plan.specs.declared.walks.Operand.{Operand}
 use Rattle.prl_plan.specs.declared.walks.Operand.TheVariants as operands
 use Rattle.prl_plan.specs.Graphs.{IsWellFormed, IsEdge, IsSource}
-use Rattle.prl_plan.specs.Jobs.{IsHorizonJob}
+use Rattle.prl_plan.specs.Jobs.{task_at, IsHorizonJob}
 use Rattle.prl_plan.specs.Operands.{walk, operand_from, operand_of}
 use Rattle.prl_plan.specs.Precedence.{ComesFrom}
 use Rattle.prl_plan.specs.Plans.{PlanView, IsPlan, edge_at, no_edge, release_at}
-use Rattle.prl_plan.proofs.PlanFacts.{along_at, later_at}
+use Rattle.prl_plan.proofs.PlanFacts.{along_at, later_at, operand_horizon}
+use Rattle.prl_plan.proofs.RoundLaws.{source_inside}
 use Rattle.prl_plan.proofs.PlanNumbers.{window_within}
 use Rattle.prl_plan.proofs.RoundPeriods.{task_is}
 use Rattle.prl_plan.proofs.WalkLaws.{operand_walks}
@@ -88,3 +90,21 @@ constant_typed graph good e n c inside reads = go (edge_at graph e).from refl (w
         let one : value ≡ c = cc in
         let source : IsSource graph (edge_at graph e) is.clocks.0 (producers.Constant value) = subst (λ (x : Producer). IsSource graph (edge_at graph e) is.clocks.0 x) f is.clocks.2 in
         subst (λ (x : Value). IsOfType (edge_at graph e).ty x) one source
+
+-- an instance that a horizon job reads is one that a horizon job gives
+pub read_of_horizon : (graph : TaskGraph) → IsWellFormed graph → (until e i n m : ℕ) → e < length graph.edges → ComesFrom (edge_at graph e).from i →
+    IsHorizonJob graph until (edge_at graph e).to.0 n → operand_of (edge_at graph e) n ≡ operands.From m → IsHorizonJob graph until i m
+read_of_horizon = operand_horizon
+
+-- an earlier job of a task with a horizon job is one
+pub earlier_horizon : (graph : TaskGraph) (until i m n : ℕ) → m ≤ n → IsHorizonJob graph until i n → IsHorizonJob graph until i m
+earlier_horizon graph until i m n before job =
+    let period : ℕ = (task_at graph i).clock.period in
+    let up : m * (task_at graph i).clock.period ≤ n * (task_at graph i).clock.period = mul-le-mul_right (task_at graph i).clock.period before in
+    let early = job.early in
+    record { task = job.task; early = omega (arith, ints, up, early) }
+
+-- the producer of an edge is a task of the graph
+pub source_task : (graph : TaskGraph) → IsWellFormed graph → (e i : ℕ) → e < length graph.edges → ComesFrom (edge_at graph e).from i → i < length graph.tasks
+source_task graph good e i inside comes =
+    source_inside graph (edge_at graph e) (good.edges e (edge_at graph e) (slice_get-get_or graph.edges e no_edge inside)) (edge_at graph e).from refl i comes
