@@ -1,6 +1,6 @@
 //! What holds of plans, as functions that do nothing: the contract of each is the fact.
 
-ghost use Rattle.std.specs.Prelude.{◌≡◌, ◌+◌, ◌*◌, ◌<◌, ◌↔◌, ℕ, ℤ, pos, ◌+ℤ◌, ◌≤ℤ◌, ◌<ℤ◌, List, length, IsSome, slice_get, slice_index_or};
+ghost use Rattle.std.specs.Prelude.{◌≡◌, ◌+◌, ◌*◌, ◌<◌, ◌≤◌, ◌↔◌, ℕ, ℤ, pos, ◌+ℤ◌, ◌≤ℤ◌, ◌<ℤ◌, List, length, IsSome, slice_get, slice_index_or};
 ghost use Rattle.prl_base.specs.Values.{IsOfType};
 ghost use Rattle.prl_base.specs.declared.operators.Op.{Op};
 ghost use Rattle.prl_base.specs.declared.values.Value.{Value};
@@ -38,7 +38,7 @@ pub fn horizon_jobs_are_counted()
 
 /// Each action of a job is what the definitions of operands, used instances and cells say. Its reads on an edge stand after
 /// those on the edges before it, a read at a port after as many whole operands, and it writes both halves to each edge from
-/// its task that uses its instance.
+/// its task that uses its instance. It ends after all of these.
 pub fn actions_are_as_defined()
     ensures each { (plan : PlanView) (i n place : ℕ) → IsActionOf plan i n (slice_index_or (actions_of plan i n) place actions.End) }
     ensures reads { (plan : PlanView) (e n j : ℕ) (x : Action) → e < length plan.graph.edges →
@@ -49,6 +49,8 @@ pub fn actions_are_as_defined()
     ensures writes { (plan : PlanView) (e i n slot : ℕ) → e < length plan.graph.edges → ComesFrom (edge_at plan.graph e).from i →
         IsSome (place_on plan e n) → IsHalfOf (cell_of plan e n) slot →
         (place : ℕ) × (slice_get (actions_of plan i n) place ≡ Some (actions.Write (record { 0 = e }) n (record { 0 = slot }))) }
+    ensures end { (plan : PlanView) (i n place : ℕ) → slice_index_or (actions_of plan i n) place actions.End ≡ actions.End →
+        length (actions_of plan i n) ≤ place + 1 }
 {}
 
 /// Each plan is one: its graph is well formed, and its dates and cells are those of the graph.
