@@ -8,4 +8,3 @@ pub mod Counts
 pub mod Faults
 pub mod Instances
 pub mod Progress
-pub mod JobValues

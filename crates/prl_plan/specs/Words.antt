@@ -9,7 +9,6 @@ use Rattle.prl_plan.specs.declared.limits.TheConstants.{MAX_PREFIX}
 use Rattle.prl_plan.specs.declared.walks.Operand.{Operand}
 use Rattle.prl_plan.specs.declared.walks.Operand.TheVariants as operands
 use Rattle.prl_plan.specs.declared.words.Word.{Word}
-use Rattle.prl_plan.specs.FirstReaders.{first_reader}
 use Rattle.prl_plan.specs.Operands.{walk}
 use Rattle.prl_plan.specs.Repeats.{IsShortest}
 
@@ -49,15 +48,14 @@ pub record IsWordOf (ops : List Op) (w : Word) : Type 0 where
   pub at : (n : ℕ) → word_at w n ≡ walk ops n
   pub shortest : IsShortest (RepeatsAfter ops (length w.prefix)) w.step_in
 
--- how many constants the prefixes of all words have: on each edge those of the jobs before the
--- first that reads an instance
-abbrev pub constants_in : TaskGraph → ℕ
-constants_in graph = sum_by (λ (edge : Edge). first_reader edge.ops) graph.edges
+-- how many constants the prefixes of these words have
+abbrev pub constants_in : List Word → ℕ
+constants_in words = sum_by (λ (w : Word). length w.prefix) words
 
 -- a word for each edge, in the order of the edges, with no more constants than the limit; those of an edge
 -- from a constant number the constant's instances
 pub record AreWords (graph : TaskGraph) (words : List Word) : Type 0 where
-  pub few : constants_in graph ≤ MAX_PREFIX
+  pub few : constants_in words ≤ MAX_PREFIX
   pub long : length words ≡ length graph.edges
   pub each : (e : ℕ) (edge : Edge) → slice_get graph.edges e ≡ Some edge →
       (w : Word) × (slice_get words e ≡ Some w) × IsWordOf edge.ops w

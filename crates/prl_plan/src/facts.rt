@@ -19,6 +19,7 @@ ghost use Rattle.prl_plan.specs.declared.tables.Window.{Window};
 ghost use Rattle.prl_plan.specs.declared.tables.Used.{Used};
 ghost use Rattle.prl_plan.specs.declared.words.Word.{Word};
 ghost use Rattle.prl_plan.specs.Cells.{EnumeratesUsed};
+ghost use Rattle.prl_plan.specs.FirstReaders.{IsFirstReader};
 ghost use Rattle.prl_plan.specs.Repeats.{IsShortestRepeat};
 ghost use Rattle.prl_plan.specs.Words.{IsWordOf};
 ghost use Rattle.prl_plan.specs.Jobs.{Job, task_at, release_of, job_count, IsHorizonJob};
@@ -59,6 +60,13 @@ pub fn plan_is_one(plan: &Plan)
 {
     let _ = plan.graph();
 }
+
+/// On an edge the jobs from the length of the word's prefix on read instances, and those before it read constants. There is
+/// one job from which this is so.
+pub fn words_begin_with_constants()
+    ensures first { (ops : List Op) (w : Word) → IsWordOf ops w → IsFirstReader ops (length w.prefix) }
+    ensures one { (ops : List Op) (p q : ℕ) → IsFirstReader ops p → IsFirstReader ops q → p ≡ q }
+{}
 
 /// A graph determines its plan: two plans of one graph are the same. Operators have one word, dates one table of shortest
 /// lists, and used instances one enumeration by shortest gaps.
