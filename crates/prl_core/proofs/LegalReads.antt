@@ -14,9 +14,7 @@ use Rattle.prl_plan.specs.declared.graphs.Producer.{Producer}
 use Rattle.prl_plan.specs.declared.graphs.Producer.TheVariants as producers
 use Rattle.prl_plan.specs.declared.graphs.TaskGraph.{TaskGraph}
 use Rattle.prl_plan.specs.declared.walks.Operand.{Operand}
-use Rattle.prl_plan.specs.declared.walks.Operand.TheVariants as operands
 use Rattle.prl_plan.specs.Jobs.{task_at}
-use Rattle.prl_plan.specs.Operands.{operand_of}
 use Rattle.prl_plan.specs.Precedence.{ComesFrom}
 use Rattle.prl_plan.specs.Plans.{edge_at, completes, IsActionOf}
 use Rattle.prl_plan.specs.Facts.{ReadsAt, WritesAt, HasPlanFacts}

@@ -4,4 +4,4 @@ pub mod Places
 pub mod Kept
 pub mod Writers
 pub mod LegalReads
-pub mod TableLaws
+mod DeviceValues

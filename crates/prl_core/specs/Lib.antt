@@ -3,4 +3,3 @@ pub mod Machine
 pub mod Columns
 pub mod Inside
 pub mod Tests
-pub mod TableValues

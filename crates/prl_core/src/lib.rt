@@ -8,6 +8,6 @@ mod laws;
 mod seen;
 
 pub use cores::Core;
-pub use laws::{device_values_are_rows, job_reads_stand, job_values_are_steps};
+pub use laws::device_values_are_rows;
 pub use prl_plan::{Event, Rule};
 pub use seen::{Illegal, Seen, Unfinished};

@@ -6,6 +6,5 @@ pub mod Solved
 pub mod Ahead
 pub mod Progressed
 pub mod Examples
-pub mod JobLaws
 -- for the crates above: the elements of lists by their numbers
 pub mod Lists

@@ -11,4 +11,3 @@ pub mod Counts
 pub mod Faults
 pub mod Instances
 pub mod Progress
-pub mod JobValues

@@ -7,12 +7,10 @@ mod applications;
 mod dates;
 mod evaluation;
 mod instances;
-mod jobs;
 mod programs;
 mod rows;
 
 pub use dates::dates_before;
 pub use evaluation::{FlowFault, FlowTable, evaluate};
-pub use jobs::{jobs_give_once, jobs_keep_registers, sensors_give_rows};
 pub use programs::{App, Arg, Clocks, Def, Flat, Flow, OutFlow};
 pub use rows::Sensors;

@@ -59,6 +59,12 @@ last_end (x ∷ xs) on zero later ends before = absurd (subst (λ (a : Action). 
 last_end (x ∷ xs) on (suc place) zero ends before = absurd (omega arith)
 last_end (x ∷ xs) on (suc place) (suc later) ends before = last_end xs (λ n h. on (suc n) (omega (arith, h))) place later ends (omega arith)
 
+-- the end stands after all that goes on
+end_after : (xs : List Action) → Each GoesOn xs → (place : ℕ) → get_or (xs ++ actions.End ∷ []) place actions.End ≡ actions.End → length xs ≤ place
+end_after [] on place ends = omega arith
+end_after (x ∷ xs) on zero ends = absurd (subst (λ (a : Action). GoesOn a) (let e : x ≡ actions.End = ends in e) (on 0 (omega arith)))
+end_after (x ∷ xs) on (suc place) ends = (let r = end_after xs (λ n h. on (suc n) (omega (arith, h))) place ends in omega (arith, r))
+
 -- what stands in the first list only
 none_second : (P : Action → Type 0) → (xs ys : List Action) → NoneOf P ys → (k : ℕ) → P (get_or (xs ++ ys) k actions.End) → P (get_or xs k actions.End)
 none_second P [] ys none k h = absurd (none k h)
@@ -226,6 +232,17 @@ module _ (plan : PlanView) (i n : ℕ) where
       unique_first (WritesTo f h) (reads_of plan i n 0 plan.graph.edges ++ writes_of plan i n 0 plan.graph.edges) (actions.End ∷ [])
       (unique_second (WritesTo f h) (reads_of plan i n 0 plan.graph.edges) (writes_of plan i n 0 plan.graph.edges)
       (reads_no_write f h 0 plan.graph.edges) (writes_once f h 0 plan.graph.edges)) (no_end f h)
+
+  -- a job ends after all its reads and writes
+  pub ends_after : (place : ℕ) → get_or (actions_of plan i n) place actions.End ≡ actions.End → length (actions_of plan i n) ≤ place + 1
+  ends_after place ends =
+      let all = reads_of plan i n 0 plan.graph.edges ++ writes_of plan i n 0 plan.graph.edges in
+      let after = end_after (reads_of plan i n 0 plan.graph.edges ++ writes_of plan i n 0 plan.graph.edges)
+      (each_both GoesOn (reads_of plan i n 0 plan.graph.edges) (writes_of plan i n 0 plan.graph.edges)
+      (reads_on 0 plan.graph.edges) (writes_on 0 plan.graph.edges)) place ends in
+      let whole : length (actions_of plan i n) ≡ length (reads_of plan i n 0 plan.graph.edges ++ writes_of plan i n 0 plan.graph.edges) + 1 =
+      length-append (reads_of plan i n 0 plan.graph.edges ++ writes_of plan i n 0 plan.graph.edges) (actions.End ∷ []) in
+      omega (arith, after, whole)
 
   pub ends_last : (place later : ℕ) → get_or (actions_of plan i n) place actions.End ≡ actions.End → place < later →
       get_or (actions_of plan i n) later actions.End ≡ actions.End

@@ -1,5 +1,7 @@
 -- For the crates above: lemmas over public definitions.
 pub mod Places
+pub mod WordNumbers
+pub mod ReadOrder
 pub mod StateLaws
 pub mod TwoTasks
 -- For this crate alone.
@@ -35,3 +37,11 @@ mod Progress
 mod ChainLaws
 mod Examples
 mod TableMade
+mod WalkNumbers
+mod DatePeriods
+mod NotLater
+mod Bests
+mod PlanNumbers
+mod DateOrder
+mod RepeatLaws
+mod OnePlan

@@ -111,7 +111,7 @@ module _ (plan : PlanView) (is : IsPlan plan) where
       omega (arith, ints, below, due, up, e)
 
   -- a later job is not released earlier
-  later_at : (i m n : ℕ) → i < length plan.graph.tasks → m ≤ n → release_at plan i m ≤ release_at plan i n
+  pub later_at : (i m n : ℕ) → i < length plan.graph.tasks → m ≤ n → release_at plan i m ≤ release_at plan i n
   later_at i m n inside after =
       elim (cases_lt m n) [
         | inl before ↦ (let a = apart_at i m n inside before in let b = room_at i m inside in omega (arith, a, b))

@@ -58,7 +58,7 @@ module _ (graph : TaskGraph) (good : IsWellFormed graph) where
   pub task_is : (i : ℕ) → i < length graph.tasks → IsTask graph.hyper (task_at graph i)
   task_is i inside = good.tasks i (task_at graph i) (slice_get-get_or graph.tasks i no_task inside)
 
-  release_shift : (i c : ℕ) → Repeats i c → (m : ℤ) → release_of (task_at graph i) (m +ℤ pos c) ≡ release_of (task_at graph i) m +ℤ H
+  pub release_shift : (i c : ℕ) → Repeats i c → (m : ℤ) → release_of (task_at graph i) (m +ℤ pos c) ≡ release_of (task_at graph i) m +ℤ H
   release_shift i c repeats m =
       let e = plus_mul m c (task_at graph i).clock.period in
       omega (arith, ints, e, repeats)

@@ -1,8 +1,9 @@
 -- The plan of two tasks is a plan.
-use Rattle.std.proofs.Common.{◌≡◌, ◌≢◌, ◌+◌, ◌-◌, ◌*◌, ◌/◌, ◌%◌, ◌<◌, ◌≤◌, ◌⊎◌, ℕ, zero, suc, true, List, [], ◌∷◌, length, take, sum, Some, inl, inr, refl, sym, ◌∙◌, ap, subst, arith, lit<, lit≤}
+use Rattle.std.proofs.Common.{◌≡◌, ◌≢◌, ◌+◌, ◌-◌, ◌*◌, ◌/◌, ◌%◌, ◌<◌, ◌≤◌, ◌⊎◌, ℕ, zero, suc, true, List, [], ◌∷◌, length, take, sum, Option, Some, None, inl, inr, refl, sym, ◌∙◌, ap, subst, arith, lit<, lit≤}
 use Rattle.std.specs.Prelude.{ℤ, pos, negsuc, ◌+ℤ◌, ◌*ℤ◌, ◌≤ℤ◌, slice_get, slice_index, slice_index_or}
 use Rattle.std.proofs.Math.Nat.{div_self}
 use Rattle.std.proofs.lemmas.Int.{ints}
+use Rattle.prl_base.specs.declared.values.Value.{Value}
 use Rattle.prl_plan.specs.declared.graphs.Edge.{Edge}
 use Rattle.prl_plan.specs.declared.graphs.Task.{Task}
 use Rattle.prl_plan.specs.Jobs.{Job, task_at, release_of, deadline_of}
@@ -11,7 +12,11 @@ use Rattle.prl_plan.specs.Graphs.{IsWellFormed, IsTask, IsEdge, HasOnePort, is_a
 use Rattle.prl_plan.specs.Dates.{Family, place_in, no_window, AreReleases, AreDeadlines, AreEncodedDates, encoded_release, encoded_deadline}
 use Rattle.prl_plan.specs.Cells.{Reads, used_at, EnumeratesUsed, IsLeastCount, Fits, AreLeastCells, HasCells, no_used}
 use Rattle.prl_plan.specs.declared.tables.Window.{Window}
-use Rattle.prl_plan.specs.Plans.{IsPlan, edge_at}
+use Rattle.prl_plan.specs.declared.walks.Operand.TheVariants as operands
+use Rattle.prl_plan.specs.declared.words.Word.{Word}
+use Rattle.prl_plan.specs.Repeats.{IsShortestRepeat}
+use Rattle.prl_plan.specs.Words.{number_at, word_at, constant_or, IsWordOf, AreWords}
+use Rattle.prl_plan.specs.Plans.{IsPlan, edge_at, AreShortWindows, AreShortGaps}
 use Rattle.prl_plan.specs.TwoTasks.{AreInPeriod, AreTwoNames, two_graph, two_windows, two_plan}
 
 -- nothing stands in an empty list
@@ -46,13 +51,38 @@ used_all k =
     let none : ◌≡◌ {A = ℕ} (sum (take (k % 1) (1 ∷ []))) 0 = ap sum rest in
     omega (arith, whole, none)
 
+-- a list of one is as short as any
+one_short : {A : Type 0} (x : A) → IsShortestRepeat (x ∷ [])
+one_short x = record { least = λ other some again. some }
+
+-- the word of an edge without operators
+abbrev direct : Word
+direct = record { prefix = []; repeat = 0 ∷ []; step_in = 1; step_out = 1 }
+
+direct_at : (n : ℕ) → word_at direct n ≡ operands.From n
+direct_at n =
+    let none : ◌≡◌ {A = Option Value} (slice_get [] n) None = no_more n in
+    let number : number_at direct (n - 0) ≡ n = (let first : slice_index (0 ∷ []) ((n - 0) % 1) ≡ 0 = ap (λ k. slice_index (0 ∷ []) k) (mod_one (n - 0)) in omega (arith, first)) in
+    ap (λ c. constant_or c (operands.From (number_at direct (n - 0)))) none ∙ ap (λ k. operands.From k) number
+  where
+    no_more : (n : ℕ) → ◌≡◌ {A = Option Value} (slice_get [] n) None
+    no_more zero = refl
+    no_more (suc n) = refl
+
+direct_word : IsWordOf [] direct
+direct_word = record {
+  word = record { some = lit≤ tt; long = refl };
+  at = direct_at;
+  shortest = record { least = λ jobs some serves. some };
+}
+
 module _ (p q : List ℕ) (named : AreTwoNames p q) (T a b : ℕ) (fits : AreInPeriod T a b) where
   two_tasks : (i : ℕ) (task : Task) → slice_get (two_graph p q T a b).tasks i ≡ Some task → IsTask T task
   two_tasks i task h =
       elim (two_get (task_at (two_graph p q T a b) 0) (task_at (two_graph p q T a b) 1) task i h) [
         | inl first ↦ subst (λ t. IsTask T t) first.1 (record {
           name = named.sensor;
-          period = (fits.some, fits.small);
+          period = (fits.some, (let f = fits in omega arith));
           start = lit< tt;
           wcet = (fits.some_in, (let f = fits in omega arith));
           due = (fits.some, omega arith);
@@ -60,7 +90,7 @@ module _ (p q : List ℕ) (named : AreTwoNames p q) (T a b : ℕ) (fits : AreInP
         })
         | inr second ↦ subst (λ t. IsTask T t) second.1 (record {
           name = named.actuator;
-          period = (fits.some, fits.small);
+          period = (fits.some, (let f = fits in omega arith));
           start = lit< tt;
           wcet = (fits.some_out, (let f = fits in omega arith));
           due = (fits.some, omega arith);
@@ -108,6 +138,7 @@ module _ (p q : List ℕ) (named : AreTwoNames p q) (T a b : ℕ) (fits : AreInP
     hyper = fits.some;
     few_tasks = lit≤ tt;
     few_edges = lit≤ tt;
+    few_ticks = fits.small;
     few_jobs = (let one : T / T ≡ 1 = div_self fits.some in omega (arith, one));
   }
 
@@ -242,8 +273,34 @@ module _ (p q : List ℕ) (named : AreTwoNames p q) (T a b : ℕ) (fits : AreInP
           (refl, two_enumerates, two_least_count)
       two_has_cells (suc e) x h = cc
 
+  two_words : AreWords (two_graph p q T a b) (direct ∷ [])
+  two_words = record { few = lit≤ tt; long = refl; each = each }
+    where
+      each : (e : ℕ) (x : Edge) → slice_get (two_graph p q T a b).edges e ≡ Some x → (w : Word) × (slice_get (direct ∷ []) e ≡ Some w) × IsWordOf x.ops w
+      each zero x h =
+          (direct, refl, subst (λ (y : Edge). IsWordOf y.ops direct) (one_get (edge_at (two_graph p q T a b) 0) x 0 h).1 direct_word)
+      each (suc e) x h = cc
+
+  two_short_windows : AreShortWindows (two_windows T a b)
+  two_short_windows zero inside = one_short (record { lead = 0; tail = T - b })
+  two_short_windows (suc zero) inside = one_short (record { lead = a; tail = T })
+  two_short_windows (suc (suc i)) inside = absurd (omega (arith, inside))
+
+  two_short_gaps : AreShortGaps (record { first = 0; gaps = 1 ∷ [] } ∷ [])
+  two_short_gaps zero inside = one_short 1
+  two_short_gaps (suc e) inside = absurd (omega (arith, inside))
+
   pub two_is_plan : IsPlan (two_plan p q T a b)
-  two_is_plan = record { graph = two_well_formed; dates = two_encoded; room = record { room = two_room }; cells = two_cells; few_cells = lit≤ tt }
+  two_is_plan = record {
+    graph = two_well_formed;
+    words = two_words;
+    dates = two_encoded;
+    short_windows = two_short_windows;
+    room = record { room = two_room };
+    cells = two_cells;
+    short_gaps = two_short_gaps;
+    few_cells = lit≤ tt;
+  }
     where
       two_room : (i : ℕ) (m : ℤ) → i < 2 →
           (encoded_release (two_graph p q T a b) (two_windows T a b) i m +ℤ pos (task_at (two_graph p q T a b) i).wcet)

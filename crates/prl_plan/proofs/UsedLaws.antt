@@ -70,7 +70,7 @@ module _ (edge : Edge) (used : Used) (all : EnumeratesUsed edge used) where
   at_least zero = omega arith
   at_least (suc k) = (let a = at_least k in let b = next k in omega (arith, a, b))
 
-  some_gaps : length used.gaps ≡ 0 → ⊥
+  pub some_gaps : length used.gaps ≡ 0 → ⊥
   some_gaps none =
       let a : used_at used 0 ≡ used.first = flat used.first 0 used.gaps none in
       let b : used_at used 1 ≡ used.first = flat used.first 1 used.gaps none in

@@ -34,7 +34,7 @@ walk_preceding (operators.Fby c ∷ ops) zero m h = cc
 walk_preceding (operators.Fby c ∷ ops) (suc n) m h = walk_preceding ops n m h
 
 -- a shift that is not negative is not earlier
-shift_later : (den x y more : ℕ) → 1 ≤ den → den * y ≡ den * x + more → x ≤ y
+pub shift_later : (den x y more : ℕ) → 1 ≤ den → den * y ≡ den * x + more → x ≤ y
 shift_later den x y more some is =
     elim (cases_lt y x) [
       | inl below ↦ absurd

@@ -1,5 +1,5 @@
 -- Encoded dates: releases and deadlines that already keep each job after the jobs that precede it.
-use Rattle.std.specs.Prelude.{◌≡◌, ◌-◌, ◌<◌, ◌%◌, ℕ, ℤ, pos, negsuc, ◌+ℤ◌, ◌≤ℤ◌, List, [], length, slice_index_or}
+use Rattle.std.specs.Prelude.{◌≡◌, ◌-◌, ◌*◌, ◌<◌, ◌%◌, ℕ, ℤ, pos, negsuc, ◌+ℤ◌, ◌≤ℤ◌, List, [], length, slice_index_or}
 use Rattle.prl_plan.specs.declared.graphs.TaskGraph.{TaskGraph}
 use Rattle.prl_plan.specs.declared.tables.Window.{Window}
 use Rattle.prl_plan.specs.Jobs.{Job, task_at, release_of, deadline_of}
@@ -29,6 +29,11 @@ pub record AreLeastReleases (graph : TaskGraph) (date : Family) : Type 0 where
 pub record AreGreatestDeadlines (graph : TaskGraph) (date : Family) : Type 0 where
   pub deadlines : AreDeadlines graph date
   pub greatest : (other : Family) → AreDeadlines graph other → (i : ℕ) (m : ℤ) → i < length graph.tasks → other i m ≤ℤ date i m
+
+-- the family comes again a hyperperiod later, where a task has so many jobs in one
+pub record RepeatsByHyper (graph : TaskGraph) (date : Family) : Type 0 where
+  pub again : (i jobs : ℕ) → i < length graph.tasks → graph.hyper ≡ jobs * (task_at graph i).clock.period → (m : ℤ) →
+      date i (m +ℤ pos jobs) ≡ date i m +ℤ pos graph.hyper
 
 -- the place of a whole number in a list of this length that repeats in both directions
 abbrev pub place_in : ℤ → ℕ → ℕ

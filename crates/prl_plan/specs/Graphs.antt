@@ -13,7 +13,7 @@ use Rattle.prl_plan.specs.declared.graphs.Kind.{Kind}
 use Rattle.prl_plan.specs.declared.graphs.Kind.TheVariants as kinds
 use Rattle.prl_plan.specs.declared.graphs.Producer.{Producer}
 use Rattle.prl_plan.specs.declared.graphs.Producer.TheVariants as producers
-use Rattle.prl_plan.specs.declared.limits.TheConstants.{MAX_TASKS, MAX_EDGES, MAX_PERIOD_JOBS}
+use Rattle.prl_plan.specs.declared.limits.TheConstants.{MAX_TASKS, MAX_EDGES, MAX_HYPER, MAX_PERIOD_JOBS}
 use Rattle.prl_plan.specs.Jobs.{task_at}
 
 -- k divides n
@@ -105,4 +105,5 @@ pub record IsWellFormed (graph : TaskGraph) : Type 0 where
   pub hyper : 1 ≤ graph.hyper
   pub few_tasks : length graph.tasks ≤ MAX_TASKS
   pub few_edges : length graph.edges ≤ MAX_EDGES
+  pub few_ticks : graph.hyper ≤ MAX_HYPER
   pub few_jobs : jobs_in_hyperperiod graph ≤ MAX_PERIOD_JOBS

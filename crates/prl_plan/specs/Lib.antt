@@ -5,6 +5,8 @@ pub mod Graphs
 pub mod Dates
 pub mod Chains
 pub mod Cells
+pub mod Repeats
+pub mod Words
 pub mod Plans
 pub mod JobTables
 pub mod Runs

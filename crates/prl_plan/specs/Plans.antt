@@ -1,4 +1,4 @@
--- Plans: a task graph with its encoded dates and its cells, and what its jobs do in a horizon.
+-- Plans: a task graph with its words, its encoded dates and its cells, and what its jobs do in a horizon.
 use Rattle.std.specs.Prelude.{◌≡◌, length, ◌+◌, ◌*◌, ◌-◌, ◌⊎◌, ◌%◌, ◌==◌, ◌<◌, ◌≤◌, ◌^◌, ◌++◌, ℕ, ℤ, pos, ◌+ℤ◌, ◌≤ℤ◌, nat_abs, sum, take, List, [], ◌∷◌, Option, is_some, IsSome, unwrap_or, slice_index, slice_index_or, if◌then◌else◌}
 use Rattle.prl_base.specs.declared.values.Ty.TheVariants as types
 use Rattle.prl_base.specs.declared.values.Value.TheVariants as values
@@ -12,6 +12,7 @@ use Rattle.prl_plan.specs.declared.walks.Operand.{Operand}
 use Rattle.prl_plan.specs.declared.walks.Operand.TheVariants as operands
 use Rattle.prl_plan.specs.declared.tables.Window.{Window}
 use Rattle.prl_plan.specs.declared.tables.Used.{Used}
+use Rattle.prl_plan.specs.declared.words.Word.{Word}
 use Rattle.prl_plan.specs.declared.limits.TheConstants.{MAX_CELLS}
 use Rattle.prl_plan.specs.Graphs.{IsWellFormed}
 use Rattle.prl_plan.specs.Jobs.{task_at}
@@ -19,10 +20,14 @@ use Rattle.prl_plan.specs.Operands.{operand_of}
 use Rattle.prl_plan.specs.Precedence.{ComesFrom}
 use Rattle.prl_plan.specs.Dates.{AreEncodedDates, encoded_release, encoded_deadline}
 use Rattle.prl_plan.specs.Cells.{AreLeastCells, place_of, no_used}
+use Rattle.prl_plan.specs.Repeats.{IsShortestRepeat}
+use Rattle.prl_plan.specs.Words.{AreWords}
 
 -- what is known of a plan
 pub record PlanView : Type 0 where
   pub graph : TaskGraph
+  -- by edge, its dependency word
+  pub words : List Word
   -- by task, the windows of its jobs, which repeat from job 0 on
   pub windows : List (List Window)
   -- by edge, its first cell, its number of cells, and its used instances
@@ -36,11 +41,24 @@ pub record HaveRoom (graph : TaskGraph) (windows : List (List Window)) : Type 0 
   pub room : (i : ℕ) (m : ℤ) → i < length graph.tasks →
       (encoded_release graph windows i m +ℤ pos (task_at graph i).wcet) ≤ℤ encoded_deadline graph windows i m
 
+-- each task's list of windows is the shortest that repeats as it does
+abbrev pub AreShortWindows : List (List Window) → Type 0
+AreShortWindows windows = (i : ℕ) → i < length windows → IsShortestRepeat (slice_index_or windows i [])
+
+-- each edge's list of gaps between used instances is the shortest that repeats as it does
+abbrev pub AreShortGaps : List Used → Type 0
+AreShortGaps used = (e : ℕ) → e < length used → IsShortestRepeat (slice_index_or used e no_used).gaps
+
+-- A plan is a well-formed graph with its words, its dates, which leave each job room, and its cells, within the limits. Its
+-- lists that repeat are the shortest ones, so the graph determines it.
 pub record IsPlan (plan : PlanView) : Type 0 where
   pub graph : IsWellFormed plan.graph
+  pub words : AreWords plan.graph plan.words
   pub dates : AreEncodedDates plan.graph plan.windows
+  pub short_windows : AreShortWindows plan.windows
   pub room : HaveRoom plan.graph plan.windows
   pub cells : AreLeastCells plan.graph plan.windows plan.bases plan.counts plan.used
+  pub short_gaps : AreShortGaps plan.used
   pub few_cells : sum plan.counts ≤ MAX_CELLS
 
 -- the encoded release of job n of task i, where n is at least 0

@@ -1,17 +1,18 @@
 -- The plan of one sensor task and one actuator task of the same clock, with one edge between them.
-use Rattle.std.specs.Prelude.{◌≡◌, ◌≢◌, ◌+◌, ◌-◌, ◌<◌, ◌≤◌, ◌^◌, ℕ, List, [], ◌∷◌}
+use Rattle.std.specs.Prelude.{◌≡◌, ◌≢◌, ◌+◌, ◌-◌, ◌≤◌, ℕ, List, [], ◌∷◌}
 use Rattle.prl_base.specs.Names.{IsName}
 use Rattle.prl_base.specs.declared.values.Ty.TheVariants as types
 use Rattle.prl_plan.specs.declared.graphs.TaskGraph.{TaskGraph}
 use Rattle.prl_plan.specs.declared.graphs.Kind.TheVariants as kinds
 use Rattle.prl_plan.specs.declared.graphs.Producer.TheVariants as producers
+use Rattle.prl_plan.specs.declared.limits.TheConstants.{MAX_HYPER}
 use Rattle.prl_plan.specs.declared.tables.Window.{Window}
 use Rattle.prl_plan.specs.Plans.{PlanView}
 
 -- a period and two WCETs in range, the WCETs together at most the period
 pub record AreInPeriod (period wcet_in wcet_out : ℕ) : Type 0 where
   pub some : 1 ≤ period
-  pub small : period < 2 ^ 31
+  pub small : period ≤ MAX_HYPER
   pub some_in : 1 ≤ wcet_in
   pub some_out : 1 ≤ wcet_out
   pub together : wcet_in + wcet_out ≤ period
@@ -39,6 +40,7 @@ two_windows period wcet_in wcet_out =
 abbrev pub two_plan : List ℕ → List ℕ → ℕ → ℕ → ℕ → PlanView
 two_plan name_in name_out period wcet_in wcet_out = record {
   graph = two_graph name_in name_out period wcet_in wcet_out;
+  words = record { prefix = []; repeat = 0 ∷ []; step_in = 1; step_out = 1 } ∷ [];
   windows = two_windows period wcet_in wcet_out;
   bases = 0 ∷ [];
   counts = 1 ∷ [];

@@ -1,7 +1,9 @@
 //! What holds of plans, as functions that do nothing: the contract of each is the fact.
 
-ghost use Rattle.std.specs.Prelude.{◌≡◌, ◌+◌, ◌*◌, ◌<◌, ◌↔◌, ℕ, ℤ, pos, ◌+ℤ◌, ◌≤ℤ◌, List, length, IsSome, slice_get, slice_index_or};
+ghost use Rattle.std.specs.Prelude.{◌≡◌, ◌+◌, ◌*◌, ◌<◌, ◌≤◌, ◌↔◌, ℕ, ℤ, pos, ◌+ℤ◌, ◌≤ℤ◌, ◌<ℤ◌, List, length, IsSome, slice_get, slice_index_or};
+ghost use Rattle.prl_base.specs.Values.{IsOfType};
 ghost use Rattle.prl_base.specs.declared.operators.Op.{Op};
+ghost use Rattle.prl_base.specs.declared.values.Value.{Value};
 ghost use Rattle.prl_plan.specs.declared.events.Action.{Action};
 ghost use Rattle.prl_plan.specs.declared.events.Action.TheVariants as actions;
 ghost use Rattle.prl_plan.specs.declared.graphs.TaskGraph.{TaskGraph};
@@ -10,11 +12,18 @@ ghost use Rattle.prl_plan.specs.declared.walks.Operand.TheVariants as operands;
 ghost use Rattle.prl_plan.specs.Graphs.{IsWellFormed};
 ghost use Rattle.prl_plan.specs.Operands.{walk, operand_of};
 ghost use Rattle.prl_plan.specs.Precedence.{preceding, ComesFrom, Precedes};
-ghost use Rattle.prl_plan.specs.Dates.{AreEncodedDates, encoded_release, encoded_deadline};
+ghost use Rattle.prl_plan.specs.Dates.{Family, AreLeastReleases, AreGreatestDeadlines, AreEncodedDates, RepeatsByHyper, encoded_release, encoded_deadline};
 ghost use Rattle.prl_plan.specs.Chains.{IsNarrow, IsBest};
+ghost use Rattle.prl_plan.specs.declared.graphs.Edge.{Edge};
 ghost use Rattle.prl_plan.specs.declared.tables.Window.{Window};
-ghost use Rattle.prl_plan.specs.Jobs.{Job, task_at, job_count, IsHorizonJob};
-ghost use Rattle.prl_plan.specs.Plans.{PlanView, HaveRoom, IsPlan, edge_at, place_on, cell_of, IsHalfOf, reading, actions_of, reads_before, operands_before, IsAtPort, IsActionOf};
+ghost use Rattle.prl_plan.specs.declared.tables.Used.{Used};
+ghost use Rattle.prl_plan.specs.declared.words.Word.{Word};
+ghost use Rattle.prl_plan.specs.Cells.{EnumeratesUsed};
+ghost use Rattle.prl_plan.specs.FirstReaders.{IsFirstReader};
+ghost use Rattle.prl_plan.specs.Repeats.{IsShortestRepeat};
+ghost use Rattle.prl_plan.specs.Words.{IsWordOf};
+ghost use Rattle.prl_plan.specs.Jobs.{Job, task_at, release_of, job_count, IsHorizonJob};
+ghost use Rattle.prl_plan.specs.Plans.{PlanView, HaveRoom, AreShortWindows, IsPlan, edge_at, place_on, cell_of, IsHalfOf, reading, actions_of, reads_before, operands_before, IsAtPort, IsActionOf};
 ghost use Rattle.prl_plan.specs.Facts.{HasPlanFacts};
 ghost use Rattle.prl_plan.specs.JobTables.{TableRow, IsJobTable, job_table};
 ghost use Rattle.prl_plan.specs.Devices.{LinksDevices};
@@ -30,7 +39,7 @@ pub fn horizon_jobs_are_counted()
 
 /// Each action of a job is what the definitions of operands, used instances and cells say. Its reads on an edge stand after
 /// those on the edges before it, a read at a port after as many whole operands, and it writes both halves to each edge from
-/// its task that uses its instance.
+/// its task that uses its instance. It ends after all of these.
 pub fn actions_are_as_defined()
     ensures each { (plan : PlanView) (i n place : ℕ) → IsActionOf plan i n (slice_index_or (actions_of plan i n) place actions.End) }
     ensures reads { (plan : PlanView) (e n j : ℕ) (x : Action) → e < length plan.graph.edges →
@@ -41,6 +50,8 @@ pub fn actions_are_as_defined()
     ensures writes { (plan : PlanView) (e i n slot : ℕ) → e < length plan.graph.edges → ComesFrom (edge_at plan.graph e).from i →
         IsSome (place_on plan e n) → IsHalfOf (cell_of plan e n) slot →
         (place : ℕ) × (slice_get (actions_of plan i n) place ≡ Some (actions.Write (record { 0 = e }) n (record { 0 = slot }))) }
+    ensures end { (plan : PlanView) (i n place : ℕ) → slice_index_or (actions_of plan i n) place actions.End ≡ actions.End →
+        length (actions_of plan i n) ≤ place + 1 }
 {}
 
 /// Each plan is one: its graph is well formed, and its dates and cells are those of the graph.
@@ -50,9 +61,33 @@ pub fn plan_is_one(plan: &Plan)
     let _ = plan.graph();
 }
 
+/// On an edge the jobs from the length of the word's prefix on read instances, and those before it read constants. There is
+/// one job from which this is so.
+pub fn words_begin_with_constants()
+    ensures first { (ops : List Op) (w : Word) → IsWordOf ops w → IsFirstReader ops (length w.prefix) }
+    ensures one { (ops : List Op) (p q : ℕ) → IsFirstReader ops p → IsFirstReader ops q → p ≡ q }
+{}
+
+/// A graph determines its plan: two plans of one graph are the same. Operators have one word, dates one table of shortest
+/// lists, and used instances one enumeration by shortest gaps.
+pub fn plan_is_unique()
+    ensures plan { (a b : PlanView) → IsPlan a → IsPlan b → a.graph ≡ b.graph → a ≡ b }
+    ensures word { (ops : List Op) (a b : Word) → IsWordOf ops a → IsWordOf ops b → a ≡ b }
+    ensures dates { (graph : TaskGraph) (a b : List (List Window)) → AreEncodedDates graph a → AreEncodedDates graph b →
+        AreShortWindows a → AreShortWindows b → a ≡ b }
+    ensures used { (edge : Edge) (a b : Used) → EnumeratesUsed edge a → EnumeratesUsed edge b → IsShortestRepeat a.gaps → IsShortestRepeat b.gaps →
+        a ≡ b }
+{}
+
 /// Where the walk of an operand gives an instance, the producer's job of that number precedes the consumer's job.
 pub fn operands_precede()
     ensures { (ops : List Op) (n m : ℕ) → walk ops n ≡ operands.From m → preceding ops (pos n) ≡ pos m }
+{}
+
+/// A constant that a job reads on an edge has the type of the edge.
+pub fn constants_are_of_their_type()
+    ensures { (graph : TaskGraph) → IsWellFormed graph → (e n : ℕ) (c : Value) → e < length graph.edges →
+        operand_of (edge_at graph e) n ≡ operands.Const c → IsOfType (edge_at graph e).ty c }
 {}
 
 /// An instance that a horizon job reads is one that a horizon job gives.
@@ -117,8 +152,28 @@ pub fn precedence_repeats_and_rises()
         preceding (edge_at graph e).ops a ≤ℤ preceding (edge_at graph e).ops b }
 {}
 
-/// Along a precedence both encoded dates leave room for the WCETs, over all whole numbers.
+/// A job that precedes another is not released later, over all whole numbers.
+pub fn precedence_is_not_later()
+    ensures { (graph : TaskGraph) → IsWellFormed graph → (before after : Job) → Precedes graph before after →
+        release_of (task_at graph before.task) before.number ≤ℤ release_of (task_at graph after.task) after.number }
+{}
+
+/// The least releases and the greatest deadlines come again a hyperperiod later, over all whole numbers.
+pub fn encoded_dates_repeat()
+    ensures releases { (graph : TaskGraph) → IsWellFormed graph → (date : Family) → AreLeastReleases graph date → RepeatsByHyper graph date }
+    ensures deadlines { (graph : TaskGraph) → IsWellFormed graph → (date : Family) → AreGreatestDeadlines graph date → RepeatsByHyper graph date }
+{}
+
+/// Over all whole numbers: each job has room for its WCET between its encoded dates; along a precedence both dates leave room
+/// for the WCETs; and the next job of a task is not released, by its encoded date, before the job is due by its own.
 pub fn encoded_dates_keep_order()
+    ensures room { (plan : PlanView) → IsPlan plan → (i : ℕ) (m : ℤ) → i < length plan.graph.tasks →
+        (encoded_release plan.graph plan.windows i m +ℤ pos (task_at plan.graph i).wcet) ≤ℤ encoded_deadline plan.graph plan.windows i m }
+    ensures next { (plan : PlanView) → IsPlan plan → (i : ℕ) (m : ℤ) → i < length plan.graph.tasks →
+        encoded_deadline plan.graph plan.windows i m ≤ℤ encoded_release plan.graph plan.windows i (m +ℤ pos 1) }
+    ensures earlier { (plan : PlanView) → IsPlan plan → (before after : Job) → Precedes plan.graph before after →
+        (encoded_release plan.graph plan.windows before.task before.number <ℤ encoded_release plan.graph plan.windows after.task after.number)
+        × (encoded_deadline plan.graph plan.windows before.task before.number <ℤ encoded_deadline plan.graph plan.windows after.task after.number) }
     ensures releases { (plan : PlanView) → IsPlan plan → (before after : Job) → Precedes plan.graph before after →
         (encoded_release plan.graph plan.windows before.task before.number +ℤ pos (task_at plan.graph before.task).wcet)
         ≤ℤ encoded_release plan.graph plan.windows after.task after.number }

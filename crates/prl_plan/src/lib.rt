@@ -11,21 +11,24 @@ mod graphs;
 mod horizons;
 mod laws;
 mod limits;
+mod numbers;
 mod plans;
 mod rounds;
 mod tables;
 mod turns;
 mod walks;
+mod words;
 
 pub use deadlines::{
     Interval, count_of, deadline_after, following_jobs, rounds_reach_the_greatest_deadlines,
 };
 pub use events::{Action, Event, Rule, SlotNo};
 pub use facts::{
-    actions_are_as_defined, encoded_dates_keep_order, horizon_jobs_are_counted,
-    operands_are_of_horizon_jobs, operands_precede, operands_stand_earlier, plan_facts,
-    plan_has_one_job_table, plan_is_one, plan_links_devices, plans_keep_facts,
-    precedence_repeats_and_rises, room_leaves_no_narrow_chain,
+    actions_are_as_defined, constants_are_of_their_type, encoded_dates_keep_order,
+    encoded_dates_repeat, horizon_jobs_are_counted, operands_are_of_horizon_jobs, operands_precede,
+    operands_stand_earlier, plan_facts, plan_has_one_job_table, plan_is_one, plan_is_unique,
+    plan_links_devices, plans_keep_facts, precedence_is_not_later, precedence_repeats_and_rises,
+    room_leaves_no_narrow_chain, words_begin_with_constants,
 };
 pub use fixed_points::{hyperperiod_decides, rounds_reach_dates};
 pub use graphs::{Edge, Kind, Producer, Task, TaskGraph};
@@ -37,9 +40,15 @@ pub use laws::{
     sound_state_goes_on, sound_state_keeps_halves, tag_is_of_the_latest_instance,
     write_finds_half_free,
 };
-pub use limits::{MAX_CELLS, MAX_EDGES, MAX_EVENTS, MAX_JOBS, MAX_PERIOD_JOBS, MAX_TASKS};
+pub use limits::{
+    MAX_CELLS, MAX_EDGES, MAX_EVENTS, MAX_HYPER, MAX_JOBS, MAX_PERIOD_JOBS, MAX_PREFIX, MAX_TASKS,
+};
+pub use numbers::{
+    bests_are_near_releases, look_ups_fit, walk_numbers_fit, windows_are_within_dues,
+};
 pub use plans::Plan;
 pub use rounds::{AnyJob, preceding_job, release_after, rounds_reach_the_least_releases};
 pub use tables::{Used, Window};
 pub use turns::hyperperiod_shows_cells;
 pub use walks::{Operand, operand_by_walk, walk_back};
+pub use words::Word;

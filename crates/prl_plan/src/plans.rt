@@ -196,9 +196,11 @@ impl Plan {
         1
     }
 
-    /// The action at this place, from 0, of job `n` of task `i`. After the last action stands the end. Takes no memory.
+    /// The action at this place, from 0, of job `n` of task `i`, whose operands have no higher numbers than its encoded release.
+    /// After the last action stands the end. Takes no memory.
     pub fn action(&self, i: TaskNo, n: u64, place: u32) -> Action
-        requires { i.0 < length self.now.graph.tasks }
+        requires task { i.0 < length self.now.graph.tasks }
+        requires small { release_at self.now i.0 n < 2 ^ 63 }
         ensures { result ≡ slice_index_or (actions_of self.now i.0 n) place actions.End }
     {
         let _ = &self.period;

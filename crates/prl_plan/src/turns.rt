@@ -5,6 +5,7 @@ ghost use Rattle.prl_plan.specs.declared.graphs.Edge.{Edge};
 ghost use Rattle.prl_plan.specs.declared.graphs.TaskGraph.{TaskGraph};
 ghost use Rattle.prl_plan.specs.Graphs.{IsWellFormed};
 ghost use Rattle.prl_plan.specs.Precedence.{ComesFrom};
+ghost use Rattle.prl_plan.specs.Dates.{Family, RepeatsByHyper};
 ghost use Rattle.prl_plan.specs.Rounds.{releases_after};
 ghost use Rattle.prl_plan.specs.Deadlines.{deadlines_after};
 ghost use Rattle.prl_plan.specs.Cells.{EnumeratesUsed, Fits};
@@ -27,4 +28,10 @@ pub fn hyperperiod_shows_cells()
         ListsGaps (IsAskedFrom edge.ops (first_instance edge.ops)) (span_of graph edge) gaps → (rounds cells : ℕ) →
         FitsInPeriod edge i (releases_after graph rounds) (deadlines_after graph rounds) (record { first = first_instance edge.ops; gaps = gaps }) cells
         ↔ Fits edge i (releases_after graph rounds) (deadlines_after graph rounds) (record { first = first_instance edge.ops; gaps = gaps }) cells }
+    ensures families { (graph : TaskGraph) → IsWellFormed graph → (e : ℕ) (edge : Edge) → slice_get graph.edges e ≡ Some edge →
+        (i : ℕ) → ComesFrom edge.from i → (gaps : List ℕ) →
+        ListsGaps (IsAskedFrom edge.ops (first_instance edge.ops)) (span_of graph edge) gaps → (release deadline : Family) →
+        RepeatsByHyper graph release → RepeatsByHyper graph deadline → (cells : ℕ) →
+        FitsInPeriod edge i release deadline (record { first = first_instance edge.ops; gaps = gaps }) cells
+        ↔ Fits edge i release deadline (record { first = first_instance edge.ops; gaps = gaps }) cells }
 {}

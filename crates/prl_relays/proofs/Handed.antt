@@ -30,7 +30,7 @@ use Rattle.prl_core.specs.Machine.{CoreView, constants, Drives, AreOutputs, IsOf
 use Rattle.prl_replay.specs.Replays.{after_all, IsReplay}
 use Rattle.prl_replay.specs.Schedules.{IsOfTasks}
 use Rattle.prl_relays.specs.Reads.{read_line}
-use Rattle.prl_relays.specs.Relays.{Relay, task_names, out_flow, replay_lines, HasValues, IsReady, IsOutput, input_clock, relay_plan, output_of, machine}
+use Rattle.prl_relays.specs.Relays.{Relay, task_names, out_flow, replay_lines, HasValues, IsReady, fits_period, IsOutput, input_clock, relay_plan, output_of, machine}
 use Rattle.prl_relays.proofs.Solutions.{job_dates, both, at_first, HandsOver, each_column, relay_solves, relay_only}
 
 -- how many jobs each of the two tasks has
@@ -81,7 +81,7 @@ all_of_plan c plan list is each = subst (λ (p : PlanView). All (IsOfPlan p) lis
 pub hands_over : (r : Relay) → IsReady r → HandsOn r.chain → HandsOver r.chain r.values r.until (jobs_of r.chain r.until)
 hands_over r ready hands = record {
   chain = ready.chain;
-  relay = (both (is_relay r.chain) (nat_le (wcet_of r.chain.flat.in_devices 0 + wcet_of r.chain.flat.out_devices 0) (input_clock r.chain).period) ready.in_time).0;
+  relay = (both (is_relay r.chain) (fits_period r.chain) ready.in_time).0;
   hands = hands;
   enough = enough_jobs r.chain r.values r.until ready.chain ready.values;
   dates = jobs_are_dates r.chain r.until ready.chain;

@@ -6,3 +6,4 @@ pub mod TwoNames
 pub mod Legality
 pub mod HorizonLimits
 pub mod OneEnd
+mod InPeriod

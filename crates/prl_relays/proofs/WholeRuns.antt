@@ -29,7 +29,8 @@ use Rattle.prl_core.specs.Values.{instance_value}
 use Rattle.prl_core.specs.Machine.{constants, cell_no, sight_of_write, Tells, IsSightOf, IsSightOfRead, IsSlotFree}
 use Rattle.prl_replay.specs.Replays.{TellsAll, after_all, is_read}
 use Rattle.prl_replay.specs.Schedules.{schedule_of}
-use Rattle.prl_relays.specs.Relays.{Relay, relay_plan, machine, input_clock, task_names, replay_lines, IsReady, IsOperand, IsHorizonOf, IsReplayText}
+use Rattle.prl_relays.proofs.InPeriod.{in_period}
+use Rattle.prl_relays.specs.Relays.{Relay, fits_period, relay_plan, machine, input_clock, task_names, replay_lines, IsReady, IsOperand, IsHorizonOf, IsReplayText}
 use Rattle.prl_relays.proofs.Solutions.{both, HandsOver}
 use Rattle.prl_relays.proofs.Handed.{jobs_of, machine_in, hands_over, front_is_output, LegalIsGated}
 use Rattle.prl_relays.proofs.Operands.{IsOfTwo, AreFront, action_of_two, list_is}
@@ -62,17 +63,6 @@ WritesFree =
 -- The names of the tasks are none of the facts, so those of a plan with other names serve.
 some_names : AreTwoNames (codes "a") (codes "ab")
 some_names = record { sensor = (refl, lit≤ tt); actuator = (refl, lit≤ tt); differ = λ e. let long : 1 ≡ 2 = ap length e in omega (arith, long) }
-
-in_period : (r : Relay) → IsReady r → AreInPeriod (input_clock r.chain).period (wcet_of r.chain.flat.in_devices 0) (wcet_of r.chain.flat.out_devices 0)
-in_period r ready =
-    let wcets : ℕ = wcet_of r.chain.flat.in_devices 0 + wcet_of r.chain.flat.out_devices 0 in
-    record {
-      some = (ready.chain.periods 0 ready.chain.some).0;
-      small = (ready.chain.periods 0 ready.chain.some).1;
-      some_in = ready.chain.wcet_in.0;
-      some_out = ready.chain.wcet_out.0;
-      together = leb-true wcets (input_clock r.chain).period (both (is_relay r.chain) (nat_le wcets (input_clock r.chain).period) ready.in_time).1;
-    }
 
 abbrev other_plan : Relay → PlanView
 other_plan r =
@@ -138,7 +128,7 @@ has_facts : (r : Relay) (horizon : Horizon) → IsReady r → IsHorizon (relay_p
 has_facts r horizon ready is keep =
     subst HasPlanFacts (constants_same r horizon)
     (keep (other_plan r) horizon
-    (two_is_plan (codes "a") (codes "ab") some_names (input_clock r.chain).period (wcet_of r.chain.flat.in_devices 0) (wcet_of r.chain.flat.out_devices 0) (in_period r ready))
+    (two_is_plan (codes "a") (codes "ab") some_names (input_clock r.chain).period (wcet_of r.chain.flat.in_devices 0) (wcet_of r.chain.flat.out_devices 0) (in_period r.chain ready.chain ready.in_time))
     (other_horizon r horizon is))
 
 element_at : {A : Type 0} (xs : List A) (n : ℕ) → n < length xs → (x : A) × (slice_get xs n ≡ Some x)

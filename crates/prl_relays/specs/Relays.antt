@@ -13,6 +13,7 @@ use Rattle.prl_chains.specs.Facts.{IsChain}
 use Rattle.prl_chains.specs.Relays.{is_relay}
 use Rattle.prl_plan.specs.declared.events.Event.{Event}
 use Rattle.prl_plan.specs.declared.horizons.Horizon.{Horizon}
+use Rattle.prl_plan.specs.declared.limits.TheConstants.{MAX_HYPER}
 use Rattle.prl_plan.specs.Plans.{PlanView}
 use Rattle.prl_plan.specs.TwoTasks.{two_plan}
 use Rattle.prl_plan.specs.Horizons.{IsHorizon, constants_of}
@@ -33,9 +34,14 @@ use Rattle.prl_relays.specs.Reads.{read_line}
 abbrev pub input_clock : Chain → Clock
 input_clock c = clock_of c.clocks.of 0
 
+-- the two devices fit into one period, and this is no longer than the longest hyperperiod
+abbrev pub fits_period : Chain → Bool
+fits_period c =
+    nat_le (wcet_of c.flat.in_devices 0 + wcet_of c.flat.out_devices 0) (input_clock c).period && nat_le (input_clock c).period MAX_HYPER
+
 -- a chain that only hands its input on, and whose two devices fit into one period
 abbrev pub is_in_time : Chain → Bool
-is_in_time c = is_relay c && nat_le (wcet_of c.flat.in_devices 0 + wcet_of c.flat.out_devices 0) (input_clock c).period
+is_in_time c = is_relay c && fits_period c
 
 -- the names of the two tasks: those of the devices
 abbrev pub task_names : Chain → List (List ℕ)

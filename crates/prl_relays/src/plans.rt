@@ -8,16 +8,18 @@ ghost use Rattle.prl_relays.specs.Relays.{is_in_time, relay_plan, task_names};
 
 use prl_base::Label;
 use prl_chains::Chain;
-use prl_plan::Plan;
+use prl_plan::{MAX_HYPER, Plan};
 use std::alloc::{AllocError, Global};
 
-/// Whether the chain only hands its input on, and the WCETs of its two devices together are at most the input's period.
+/// Whether the chain only hands its input on, and the WCETs of its two devices together are at most the input's period,
+/// which is no longer than the longest hyperperiod.
 pub fn is_in_time(chain: &Chain) -> bool
     requires { IsChain chain.now }
     ensures { result ≡ is_in_time chain.now }
 {
     let wcets = u64::from(chain.flat.in_wcet(0)) + u64::from(chain.flat.out_wcet(0));
-    chain.is_relay() && wcets <= chain.input_clock().period
+    let period = chain.input_clock().period;
+    chain.is_relay() && wcets <= period && period <= MAX_HYPER
 }
 
 /// The plan of the chain's sensor and actuator.

@@ -1,17 +1,13 @@
 -- How the numbers of a word go on from turn to turn, and what operators make of them.
-use Rattle.std.proofs.Common.{◌≡◌, ◌+◌, ◌-◌, ◌*◌, ◌/◌, ◌%◌, ◌<◌, ◌≤◌, ◌++◌, ℕ, List, [], ◌∷◌, Option, refl, sym, ◌∙◌, ap, arith, length, get_or, slice_index}
-use Rattle.std.proofs.Math.Nat.{add-mul-mod_self_right, add-mul-div_right, div-mul_cancel, div-le_self}
-use Rattle.std.proofs.lemmas.Option.{slice_get-get_or, slice_get_past}
+use Rattle.std.proofs.Common.{◌≡◌, ◌+◌, ◌*◌, ◌/◌, ◌<◌, ◌≤◌, ◌++◌, ℕ, List, [], ◌∷◌, refl, sym, ◌∙◌, ap, arith}
+use Rattle.std.proofs.Math.Nat.{add-mul-div_right, div-mul_cancel, div-le_self}
 use Rattle.std.specs.Int.{IsGcd}
 use Rattle.prl_base.specs.Operators.{Origin, instance, constant, origin_of}
 use Rattle.prl_base.specs.declared.operators.Op.{Op}
 use Rattle.prl_base.specs.declared.operators.Op.TheVariants as operators
-use Rattle.prl_base.specs.declared.values.Value.{Value}
 use Rattle.prl_plan.specs.declared.walks.Operand.{Operand}
 use Rattle.prl_plan.specs.declared.walks.Operand.TheVariants as operands
 use Rattle.prl_plan.specs.Operands.{walk, operand_at}
-use Rattle.prl_words.specs.declared.tables.Word.{Word}
-use Rattle.prl_words.specs.Words.{number_at, word_at, constant_or}
 use Rattle.prl_words.specs.code.Steps.{number_before, IsPast, IsStep}
 
 -- what an operand is under one more operator
@@ -31,25 +27,6 @@ at_end (constant c) = refl
 pub walk_more : (front : List Op) (op : Op) (n : ℕ) → walk (front ++ op ∷ []) n ≡ seen_through op (walk front n)
 walk_more [] op n = at_end (origin_of op n)
 walk_more (x ∷ front) op n = after_first front op (λ m. walk_more front op m) (origin_of x n)
-
--- the operands of the prefix, and those after it
-pub in_prefix : (w : Word) (n : ℕ) (d : Value) → n < length w.prefix → word_at w n ≡ operands.Const (get_or w.prefix n d)
-in_prefix w n d below =
-    ap (λ (o : Option Value). constant_or o (operands.From (number_at w (n - length w.prefix)))) (slice_get-get_or w.prefix n d below)
-
-pub after_prefix : (w : Word) (n : ℕ) → length w.prefix ≤ n → word_at w n ≡ operands.From (number_at w (n - length w.prefix))
-after_prefix w n past =
-    ap (λ (o : Option Value). constant_or o (operands.From (number_at w (n - length w.prefix)))) (slice_get_past w.prefix n past)
-
--- a turn later each number is higher by the step
-pub next_turns : (w : Word) → 1 ≤ w.step_in → (i turns : ℕ) → number_at w (i + turns * w.step_in) ≡ number_at w i + turns * w.step_out
-next_turns w some i turns =
-    let part : (i + turns * w.step_in) % w.step_in ≡ i % w.step_in = add-mul-mod_self_right i turns w.step_in in
-    let turn : (i + turns * w.step_in) / w.step_in ≡ i / w.step_in + turns = add-mul-div_right i turns (omega (arith, some)) in
-    let first : slice_index w.repeat ((i + turns * w.step_in) % w.step_in) ≡ slice_index w.repeat (i % w.step_in) = ap (λ (k : ℕ). slice_index w.repeat k) part in
-    let rest : (i + turns * w.step_in) / w.step_in * w.step_out ≡ (i / w.step_in + turns) * w.step_out = ap (λ (k : ℕ). k * w.step_out) turn in
-    let apart : (i / w.step_in + turns) * w.step_out ≡ i / w.step_in * w.step_out + turns * w.step_out = omega arith in
-    omega (arith, first, rest, apart)
 
 -- both parts over the greatest common divisor, multiplied crosswise
 pub crosswise : (k step g : ℕ) → IsGcd k step g → k / g * step ≡ k * (step / g)

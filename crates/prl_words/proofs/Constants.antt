@@ -18,7 +18,6 @@ use Rattle.prl_plan.specs.Graphs.{TakeClock, Divides, IsEdge, IsWellFormed, jobs
 use Rattle.prl_plan.specs.Jobs.{task_at, no_task}
 use Rattle.prl_plan.specs.Ranges.{HasFactor}
 use Rattle.prl_words.specs.Counts.{IsCountBefore, IsCount, HaveCounts}
-use Rattle.prl_words.specs.GraphWords.{IsSmall}
 use Rattle.prl_words.proofs.Turns.{first_some}
 
 -- the operators after the first ones have counts too
@@ -160,8 +159,8 @@ pub record HasJobs (ops : List Op) : Type 0 where
   pub counts : HaveCounts ops jobs
   pub few : jobs ≤ 20000
 
-pub edge_counts : (graph : TaskGraph) → IsWellFormed graph → IsSmall graph → (e : ℕ) (edge : Edge) → slice_get graph.edges e ≡ Some edge → HasJobs edge.ops
-edge_counts graph well small e edge found =
+pub edge_counts : (graph : TaskGraph) → IsWellFormed graph → (e : ℕ) (edge : Edge) → slice_get graph.edges e ≡ Some edge → HasJobs edge.ops
+edge_counts graph well e edge found =
     let is : IsEdge graph edge = well.edges e edge found in
     let consumer : Clock = (task_at graph edge.to.0).clock in
     let takes = is.clocks.3 in
@@ -172,15 +171,15 @@ edge_counts graph well small e edge found =
     le_sum (λ (t : Task). graph.hyper / t.clock.period) graph.tasks edge.to.0 no_task is.to in
     record {
       jobs = times;
-      counts = counts_of_clocks graph.hyper edge.ops is.clocks.0 consumer well.hyper small.hyper takes times start.1.1;
+      counts = counts_of_clocks graph.hyper edge.ops is.clocks.0 consumer well.hyper well.few_ticks takes times start.1.1;
       few = omega (arith, quotient, low, well.few_jobs);
     }
 
 -- the constants of one edge
-pub edge_bound : (graph : TaskGraph) → IsWellFormed graph → IsSmall graph → (e : ℕ) (edge : Edge) → slice_get graph.edges e ≡ Some edge →
+pub edge_bound : (graph : TaskGraph) → IsWellFormed graph → (e : ℕ) (edge : Edge) → slice_get graph.edges e ≡ Some edge →
     first_reader edge.ops ≤ 100000000000000
-edge_bound graph well small e edge found =
-    let has = edge_counts graph well small e edge found in
+edge_bound graph well e edge found =
+    let has = edge_counts graph well e edge found in
     let up = first_reader_bound edge.ops has.jobs has.counts in
     let most : length edge.ops * has.jobs ≤ length edge.ops * 20000 = mul-le-mul_left (length edge.ops) has.few in
     omega (arith, up, most, (well.edges e edge found).few)

@@ -8,8 +8,8 @@ use Rattle.prl_base.specs.declared.values.Value.TheVariants as values
 use Rattle.prl_plan.specs.declared.walks.Operand.TheVariants as operands
 use Rattle.prl_plan.specs.FirstReaders.{first_reader}
 use Rattle.prl_plan.specs.Operands.{walk}
-use Rattle.prl_words.specs.declared.tables.Word.{Word}
-use Rattle.prl_words.specs.Words.{word_at}
+use Rattle.prl_plan.specs.declared.words.Word.{Word}
+use Rattle.prl_plan.specs.Words.{word_at}
 
 abbrev seven : Value
 seven = values.Int (pos 7)

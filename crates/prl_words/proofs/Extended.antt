@@ -13,11 +13,12 @@ use Rattle.prl_base.specs.declared.values.Value.TheVariants as values
 use Rattle.prl_plan.specs.declared.walks.Operand.{Operand}
 use Rattle.prl_plan.specs.declared.walks.Operand.TheVariants as operands
 use Rattle.prl_plan.specs.Operands.{walk}
-use Rattle.prl_words.specs.declared.tables.Word.{Word}
-use Rattle.prl_words.specs.Words.{number_at, word_at, constant_or, IsWord}
+use Rattle.prl_plan.specs.declared.words.Word.{Word}
+use Rattle.prl_plan.specs.Words.{number_at, word_at, constant_or, IsWord}
 use Rattle.prl_words.specs.Counts.{IsCountBefore}
 use Rattle.prl_words.specs.code.Steps.{number_before, IsPast, IsStep, AreZeros, IsExtended, IsSized, constants_of}
-use Rattle.prl_words.proofs.Climbs.{seen_through, walk_more, after_prefix, next_turns, turns_before}
+use Rattle.prl_plan.proofs.WordNumbers.{after_prefix, next_turns}
+use Rattle.prl_words.proofs.Climbs.{seen_through, walk_more, turns_before}
 use Rattle.prl_words.proofs.Turns.{AreTurns, first_some, turns_after, factor_le, number_upto, before_rises}
 
 -- each number of the new word is that of the old one after the zeros, as the operator has it

@@ -1,12 +1,14 @@
 -- The words of the edges so far, with one more.
 use Rattle.std.proofs.Common.{◌≡◌, ◌+◌, ◌<◌, ◌++◌, ℕ, zero, suc, List, [], ◌∷◌, Some, length, inl, inr, refl, sym, ap, subst, ◌∙◌, arith}
-use Rattle.std.specs.Prelude.{slice_get}
+use Rattle.std.specs.Prelude.{slice_get, sum_by}
+use Rattle.std.proofs.lemmas.List.Sums.{sum_by-cons}
 use Rattle.std.proofs.lemmas.Bool.{cases_lt}
 use Rattle.std.proofs.lemmas.List.{length_push}
 use Rattle.std.proofs.lemmas.Option.{same_Some}
 use Rattle.prl_plan.specs.declared.graphs.Edge.{Edge}
-use Rattle.prl_words.specs.declared.tables.Word.{Word}
-use Rattle.prl_words.specs.Words.{IsWordOf}
+use Rattle.prl_plan.specs.declared.words.Word.{Word}
+use Rattle.prl_plan.specs.FirstReaders.{first_reader}
+use Rattle.prl_plan.specs.Words.{IsWordOf}
 
 -- the first words are those of the first edges
 abbrev pub AreSoMany : List Edge → ℕ → List Word → Type 0
@@ -39,3 +41,19 @@ one_more edges i ws edge w are found is = (
         (w, get_last ws w e (omega (arith, same, are.0)), subst (λ (x : Edge). IsWordOf x.ops w) edges_same is))
   ],
 )
+
+-- lists whose elements match have one sum
+pub same_sum : (edges : List Edge) (ws : List Word) → length ws ≡ length edges →
+    ((e : ℕ) (edge : Edge) → slice_get edges e ≡ Some edge → (w : Word) × (slice_get ws e ≡ Some w) × (length w.prefix ≡ first_reader edge.ops)) →
+    sum_by (λ (w : Word). length w.prefix) ws ≡ sum_by (λ (edge : Edge). first_reader edge.ops) edges
+same_sum [] [] long each = refl
+same_sum [] (w ∷ ws) long each = absurd (omega (arith, long))
+same_sum (edge ∷ edges) [] long each = absurd (omega (arith, long))
+same_sum (edge ∷ edges) (w ∷ ws) long each =
+    let first = each 0 edge refl in
+    let here : w ≡ first.0 = same_Some w first.0 first.1 in
+    let long_is : length w.prefix ≡ first_reader edge.ops = ap (λ (x : Word). length x.prefix) here ∙ first.2 in
+    let rest = same_sum edges ws (omega (arith, long)) (λ e x at. each (suc e) x at) in
+    let a = sum_by-cons (λ (x : Word). length x.prefix) w ws in
+    let b = sum_by-cons (λ (x : Edge). first_reader x.ops) edge edges in
+    omega (arith, a, b, long_is, rest)

@@ -6,10 +6,10 @@ use Rattle.std.proofs.lemmas.Bool.{cases_lt}
 use Rattle.std.proofs.lemmas.List.{get_or-take}
 use Rattle.prl_base.specs.declared.values.Value.{Value}
 use Rattle.prl_plan.specs.declared.walks.Operand.TheVariants as operands
-use Rattle.prl_words.specs.declared.tables.Word.{Word}
-use Rattle.prl_words.specs.Words.{number_at, word_at, constant_or, IsWord}
-use Rattle.prl_words.specs.code.Shortest.{ClimbsFirst, rise_of, IsSteady, IsShortest, IsShortened}
-use Rattle.prl_words.proofs.Climbs.{next_turns}
+use Rattle.prl_plan.specs.declared.words.Word.{Word}
+use Rattle.prl_plan.specs.Words.{number_at, word_at, constant_or, IsWord}
+use Rattle.prl_words.specs.code.Shortest.{ClimbsFirst, rise_of, IsSteady, IsShortestStep, IsShortened}
+use Rattle.prl_plan.proofs.WordNumbers.{next_turns}
 use Rattle.prl_words.proofs.Rooms.{number_first}
 
 -- so many jobs later each number is higher by so many
@@ -80,7 +80,7 @@ remainder_climbs w jobs higher steady c =
     }
 
 -- whatever the word climbs by, the shortest is no longer
-pub shortest_least : (w : Word) (shortest : ℕ) → IsSteady w → IsShortest w shortest → (most jobs higher : ℕ) → jobs ≤ most → 1 ≤ jobs → ClimbsBy w jobs higher →
+pub shortest_least : (w : Word) (shortest : ℕ) → IsSteady w → IsShortestStep w shortest → (most jobs higher : ℕ) → jobs ≤ most → 1 ≤ jobs → ClimbsBy w jobs higher →
     shortest ≤ jobs
 shortest_least w shortest steady s zero jobs higher bound some c = absurd (omega (arith, bound, some))
 shortest_least w shortest steady s (suc most) jobs higher bound some c =

@@ -6,12 +6,12 @@ use Rattle.prl_base.specs.declared.operators.Op.{Op}
 use Rattle.prl_base.specs.declared.values.Value.{Value}
 use Rattle.prl_plan.specs.declared.walks.Operand.TheVariants as operands
 use Rattle.prl_plan.specs.Operands.{walk}
-use Rattle.prl_words.specs.declared.tables.Word.{Word}
-use Rattle.prl_words.specs.Words.{number_at, word_at, IsWordOf, Climbs}
+use Rattle.prl_plan.specs.declared.words.Word.{Word}
+use Rattle.prl_plan.specs.Words.{number_at, word_at, IsWordOf, Climbs}
 use Rattle.prl_words.specs.Counts.{IsCount, HaveCounts}
 use Rattle.prl_words.specs.code.Steps.{IsExtended, IsSized, HasRoom, IsSoFar}
 use Rattle.prl_words.specs.code.Shortest.{IsSteady, IsShortened}
-use Rattle.prl_words.proofs.Climbs.{after_prefix}
+use Rattle.prl_plan.proofs.WordNumbers.{after_prefix}
 use Rattle.prl_words.proofs.Extended.{walk_extended, sized_extended}
 use Rattle.prl_words.proofs.Shortest.{ClimbsBy, shortest_least, word_shortened, operand_shortened}
 use Rattle.prl_words.proofs.Turns.{second_some, number_upto}
@@ -122,6 +122,8 @@ word_so_far ops rest w t s few shortened =
     record {
       word = word_shortened w t steady shortened;
       at = λ n. operand_shortened w t steady shortened n ∙ s.at n;
-      least = λ jobs instances some climbs. shortest_least w t.step_in steady shortened.shortest jobs jobs instances (omega arith) some
-          (climbs_by_walk ops w s.at jobs instances (subst (λ (xs : List Value). Climbs ops (length xs) jobs instances) shortened.prefix climbs));
+      shortest = record {
+        least = λ jobs some serves. shortest_least w t.step_in steady shortened.shortest jobs jobs serves.0 (omega arith) some
+            (climbs_by_walk ops w s.at jobs serves.0 (subst (λ (xs : List Value). Climbs ops (length xs) jobs serves.0) shortened.prefix serves.1));
+      };
     }

@@ -7,8 +7,8 @@ use Rattle.std.specs.Int.{IsGcd}
 use Rattle.prl_base.proofs.Coprime.{divides_other}
 use Rattle.prl_base.specs.declared.operators.Op.{Op}
 use Rattle.prl_base.specs.declared.operators.Op.TheVariants as operators
-use Rattle.prl_words.specs.declared.tables.Word.{Word}
-use Rattle.prl_words.specs.Words.{number_at}
+use Rattle.prl_plan.specs.declared.words.Word.{Word}
+use Rattle.prl_plan.specs.Words.{number_at}
 use Rattle.prl_words.specs.Counts.{IsCountBefore}
 use Rattle.prl_words.specs.code.Steps.{number_before, IsStep}
 

@@ -2,7 +2,7 @@
 use Rattle.std.specs.Prelude.{◌≡◌, ◌*◌, ◌≤◌, ℕ, List, [], ◌∷◌}
 use Rattle.prl_base.specs.declared.operators.Op.{Op}
 use Rattle.prl_base.specs.declared.operators.Op.TheVariants as operators
-use Rattle.prl_words.specs.declared.limits.TheConstants.{MAX_HYPER}
+use Rattle.prl_plan.specs.declared.limits.TheConstants.{MAX_HYPER}
 
 -- The operator's result has `count` instances in a hyperperiod, and the flow that it stands on has
 -- `before`.

@@ -1,4 +1,3 @@
-pub mod Words
 pub mod Counts
 pub mod GraphWords
 pub mod code

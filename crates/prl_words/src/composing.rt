@@ -1,13 +1,13 @@
 //! The word of an edge, composed operator by operator.
 
 ghost use Rattle.std.specs.Prelude.{◌≡◌, ◌<◌, ◌^◌, ℕ, IfOk, [], ◌∷◌, length};
-ghost use Rattle.prl_words.specs.Words.{IsWordOf};
+ghost use Rattle.prl_plan.specs.Words.{IsWordOf};
 ghost use Rattle.prl_words.specs.Counts.{HaveCounts};
 
-use crate::Word;
 use crate::shortening::shortened;
 use crate::steps::with_operator;
 use prl_base::{Op, Seq};
+use prl_plan::Word;
 use std::alloc::{AllocError, Global};
 
 /// The word of an edge with no operator: each job reads the instance of its number.

@@ -2,14 +2,13 @@
 
 ghost use Rattle.std.specs.Prelude.{◌≡◌, ◌≤◌, IfOk, MatchResult};
 ghost use Rattle.prl_plan.specs.Graphs.{IsWellFormed};
-ghost use Rattle.prl_words.specs.GraphWords.{IsSmall, AreWords, IsWordFault, constants_in};
+ghost use Rattle.prl_plan.specs.Words.{AreWords};
+ghost use Rattle.prl_words.specs.GraphWords.{IsWordFault, constant_reads};
 
-use crate::Word;
 use crate::composing::word_of;
-use crate::limits::MAX_PREFIX;
 use crate::prefixes::all_constants;
 use prl_base::{Limit, Seq, What};
-use prl_plan::TaskGraph;
+use prl_plan::{MAX_PREFIX, TaskGraph, Word, hyperperiod_shows_cells, words_begin_with_constants};
 use std::alloc::{AllocError, Global};
 
 /// Why there are no words.
@@ -34,10 +33,11 @@ impl From<AllocError> for WordFault {
 /// The words of the edges, where the limit is kept.
 fn listed(alloc: Global, graph: &TaskGraph) -> Result<Seq<Word>, AllocError>
     requires well { IsWellFormed graph.now }
-    requires small { IsSmall graph.now }
-    requires few { constants_in graph.now ≤ MAX_PREFIX }
+    requires few { constant_reads graph.now ≤ MAX_PREFIX }
     ensures { IfOk result (AreWords graph.now) }
 {
+    hyperperiod_shows_cells();
+    words_begin_with_constants();
     let mut words = Vec::with_capacity(alloc, graph.edges.len())?;
     for edge in graph.edges.as_slice() {
         let word = word_of(alloc, edge.ops.as_slice())?;
@@ -51,7 +51,6 @@ fn listed(alloc: Global, graph: &TaskGraph) -> Result<Seq<Word>, AllocError>
 /// counted like those of a flow.
 pub fn words(alloc: Global, graph: &TaskGraph) -> Result<Seq<Word>, WordFault>
     requires well { IsWellFormed graph.now }
-    requires small { IsSmall graph.now }
     ensures { MatchResult result (AreWords graph.now) (IsWordFault graph.now) }
 {
     let found = all_constants(graph);

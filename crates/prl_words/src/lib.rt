@@ -4,13 +4,10 @@
 
 mod composing;
 mod graphs;
-mod limits;
 mod prefixes;
 mod shortening;
 mod steps;
-mod tables;
 
 pub use composing::word_of;
 pub use graphs::{WordFault, words};
-pub use limits::{MAX_HYPER, MAX_PREFIX};
-pub use tables::Word;
+pub use prl_plan::Word;

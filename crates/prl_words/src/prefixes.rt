@@ -5,7 +5,7 @@ ghost use Rattle.prl_plan.specs.FirstReaders.{reader_before, first_reader};
 ghost use Rattle.prl_plan.specs.Graphs.{IsWellFormed};
 ghost use Rattle.prl_plan.specs.Ranges.{HasFactor};
 ghost use Rattle.prl_words.specs.Counts.{HaveCounts};
-ghost use Rattle.prl_words.specs.GraphWords.{IsSmall, constants_in};
+ghost use Rattle.prl_words.specs.GraphWords.{constant_reads};
 
 use prl_base::Op;
 use prl_plan::TaskGraph;
@@ -42,8 +42,7 @@ fn constants(ops: &[Op]) -> u64
 /// How many constants the words of all edges have in front.
 pub(crate) fn all_constants(graph: &TaskGraph) -> u64
     requires well { IsWellFormed graph.now }
-    requires small { IsSmall graph.now }
-    ensures { result ≡ constants_in graph.now }
+    ensures { result ≡ constant_reads graph.now }
 {
     let mut count = 0;
     for edge in graph.edges.as_slice() {

@@ -1,11 +1,11 @@
 //! The shortest repeating part of a word.
 
 ghost use Rattle.std.specs.Prelude.{◌≡◌, ◌+◌, ◌-◌, ◌*◌, ◌%◌, ◌<◌, ◌≤◌, ◌^◌, ◌↔◌, ℕ, IsTrue};
-ghost use Rattle.prl_words.specs.Words.{number_at};
-ghost use Rattle.prl_words.specs.code.Shortest.{ClimbsFirst, rise_of, IsSteady, IsShortest, IsShortened};
+ghost use Rattle.prl_plan.specs.Words.{number_at};
+ghost use Rattle.prl_words.specs.code.Shortest.{ClimbsFirst, rise_of, IsSteady, IsShortestStep, IsShortened};
 
-use crate::Word;
 use prl_base::Seq;
+use prl_plan::Word;
 
 /// How much higher number `jobs` of the word is than number 0.
 fn rise(word: &Word, jobs: u64) -> u64
@@ -35,7 +35,7 @@ fn climbs(word: &Word, jobs: u64, higher: u64) -> bool
 /// higher as the others.
 fn shortest(word: &Word) -> u64
     requires { IsSteady word.now }
-    ensures { IsShortest word.now result }
+    ensures { IsShortestStep word.now result }
 {
     for jobs in 1..word.step_in {
         if word.step_in % jobs == 0 && climbs(word, jobs, rise(word, jobs)) {

@@ -1,11 +1,11 @@
 //! A word with one more operator at the producer's end.
 
 ghost use Rattle.std.specs.Prelude.{◌≡◌, ◌+◌, ◌*◌, ◌≤◌, ◌<◌, ◌^◌, ◌++◌, ℕ, List, IfOk, length, replicate, slice_index};
-ghost use Rattle.prl_words.specs.Words.{number_at, IsWord};
+ghost use Rattle.prl_plan.specs.Words.{number_at, IsWord};
 ghost use Rattle.prl_words.specs.code.Steps.{number_before, FitsBefore, AreBefore, AreNumbers, IsStep, IsExtended, HasRoom, constants_of};
 
-use crate::Word;
 use prl_base::{Op, Seq, Value, gcd};
+use prl_plan::Word;
 use std::alloc::{AllocError, Global};
 
 /// How a repeating part goes on under an operator.

@@ -1,7 +1,7 @@
 -- The shortest repeating part of a word.
 use Rattle.std.specs.Prelude.{◌≡◌, ◌+◌, ◌-◌, ◌*◌, ◌%◌, ◌<◌, ◌≤◌, ◌^◌, ℕ, take}
-use Rattle.prl_words.specs.declared.tables.Word.{Word}
-use Rattle.prl_words.specs.Words.{number_at, IsWord}
+use Rattle.prl_plan.specs.declared.words.Word.{Word}
+use Rattle.prl_plan.specs.Words.{number_at, IsWord}
 
 -- So many jobs later each number of the first turn is higher by so many.
 abbrev pub ClimbsFirst : Word → ℕ → ℕ → Type 0
@@ -19,7 +19,7 @@ pub record IsSteady (w : Word) : Type 0 where
   pub rises : (i j : ℕ) → i ≤ j → number_at w i ≤ number_at w j
 
 -- of the divisors of the step by which the numbers climb, the least
-pub record IsShortest (w : Word) (jobs : ℕ) : Type 0 where
+pub record IsShortestStep (w : Word) (jobs : ℕ) : Type 0 where
   pub some : 1 ≤ jobs
   pub within : jobs ≤ w.step_in
   pub divides : w.step_in % jobs ≡ 0
@@ -29,6 +29,6 @@ pub record IsShortest (w : Word) (jobs : ℕ) : Type 0 where
 -- the word `t` is the word `w` with its shortest repeating part
 pub record IsShortened (w t : Word) : Type 0 where
   pub prefix : t.prefix ≡ w.prefix
-  pub shortest : IsShortest w t.step_in
+  pub shortest : IsShortestStep w t.step_in
   pub repeat : t.repeat ≡ take t.step_in w.repeat
   pub step_out : t.step_out ≡ rise_of w t.step_in

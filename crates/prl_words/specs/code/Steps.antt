@@ -4,9 +4,9 @@ use Rattle.std.specs.Int.{IsGcd}
 use Rattle.prl_base.specs.declared.operators.Op.{Op}
 use Rattle.prl_base.specs.declared.operators.Op.TheVariants as operators
 use Rattle.prl_base.specs.declared.values.Value.{Value}
-use Rattle.prl_words.specs.declared.tables.Word.{Word}
+use Rattle.prl_plan.specs.declared.words.Word.{Word}
 use Rattle.prl_plan.specs.Operands.{walk}
-use Rattle.prl_words.specs.Words.{number_at, word_at, IsWord}
+use Rattle.prl_plan.specs.Words.{number_at, word_at, IsWord}
 use Rattle.prl_words.specs.Counts.{IsCountBefore, IsCount, HaveCounts}
 
 -- the instance behind instance n of the operator's result, where this is no constant

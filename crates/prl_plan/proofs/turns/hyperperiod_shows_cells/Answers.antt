@@ -21,4 +21,13 @@ returns c = record {
         fits_over_period graph good edge at i comes gaps lists (releases_after graph rounds) (deadlines_after graph rounds)
             (releases_shift graph good rounds i _ inside (spans graph good edge at i comes)) (deadlines_shift graph good rounds edge.to.0 to.0 at.to to.1) cells,
       ));
+  families = λ graph good e edge is i comes gaps lists release deadline releases deadlines cells.
+      (let at = good.edges e edge is in
+      let to = (task_is graph good edge.to.0 at.to).divides in
+      let inside = source_inside graph edge at edge.from refl i comes in (
+        fits_in_period graph good edge at i comes gaps lists release deadline
+            (releases.again i _ inside (spans graph good edge at i comes)) (deadlines.again edge.to.0 to.0 at.to to.1) cells,
+        fits_over_period graph good edge at i comes gaps lists release deadline
+            (releases.again i _ inside (spans graph good edge at i comes)) (deadlines.again edge.to.0 to.0 at.to to.1) cells,
+      ));
 }

@@ -1,6 +1,7 @@
 use Rattle.std.proofs.Common.{sym, subst, ◌∙◌}
 use Rattle.prl_base.specs.Names.{IsName}
 use Rattle.prl_relays.proofs.TwoNames.{are_two_names}
+use Rattle.prl_relays.proofs.InPeriod.{in_period}
 use Rattle.prl_relays.proofs.plans.plan_of.Goals as goal
 
 pub two-requires-clause-names : goal.two-requires-clause-names

@@ -5,7 +5,7 @@ use Rattle.prl_flow.specs.Programs.{wcet_of}
 use Rattle.prl_chains.specs.Relays.{is_relay}
 use Rattle.prl_core.specs.Machine.{CoreView, Drives}
 use Rattle.prl_replay.specs.Replays.{IsReplay, after_all}
-use Rattle.prl_relays.specs.Relays.{Relay, machine, input_clock, IsOutput, AreOperands}
+use Rattle.prl_relays.specs.Relays.{Relay, machine, input_clock, fits_period, IsOutput, AreOperands}
 use Rattle.prl_relays.proofs.Solutions.{both}
 use Rattle.prl_relays.proofs.Handed.{core_rows, core_is, solved_after}
 use Rattle.prl_relays.proofs.Operands.{operands_after}
@@ -40,7 +40,7 @@ returns-in-Ok-from_slice-clause-solved c =
     let run : IsReplay (machine r c.args.horizon) c.args.events.now c.in_ok-reads.reads.items =
     subst (λ (m : CoreView). IsReplay m c.args.events.now c.in_ok-reads.reads.items) is c.in_ok-reads.ensures.run in
     let left = c.in_ok-reads.ensures.state ∙ ap (λ (m : CoreView). after_all m c.args.events.now) is in
-    let relay = (both (is_relay c.args.chain.now) (nat_le (wcet_of c.args.chain.now.flat.in_devices 0 + wcet_of c.args.chain.now.flat.out_devices 0) (input_clock c.args.chain.now).period) c.requires.ready.in_time).0 in
+    let relay = (both (is_relay c.args.chain.now) (fits_period c.args.chain.now) c.requires.ready.in_time).0 in
     subst (IsOutput r) (sym c.in-Ok-from_slice.ensures.items)
     (solved_after r c.args.horizon c.args.events.now c.in_ok-reads.reads.items c.replay.new.core c.args.plan.now c.output.result.now
     c.requires.ready (c.copies_hand_on.ensures c.args.chain.now c.requires.ready.chain relay) refl c.requires.plan

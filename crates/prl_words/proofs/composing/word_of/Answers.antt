@@ -1,7 +1,7 @@
 use Rattle.std.proofs.Common.{◌≡◌, ◌+◌, ◌<◌, ◌≤◌, ◌++◌, ℕ, List, [], ◌∷◌, take, drop, length, length-take-le, get_or, sym, ap, subst, ◌∙◌, arith}
 use Rattle.std.proofs.lemmas.List.{take_more, drop_more, take_all}
 use Rattle.prl_base.specs.declared.operators.Op.{Op}
-use Rattle.prl_words.specs.declared.tables.Word.{Word}
+use Rattle.prl_plan.specs.declared.words.Word.{Word}
 use Rattle.prl_words.specs.code.Steps.{IsSoFar, IsExtended}
 use Rattle.prl_words.proofs.SoFar.{room_so_far, next_so_far, first_so_far, steady_so_far, word_so_far}
 use Rattle.prl_words.proofs.composing.word_of.Goals as goal

@@ -1,13 +1,15 @@
-use Rattle.std.proofs.Common.{◌≡◌, ◌+◌, List, Some, length, sym, ap, subst, ◌∙◌, arith}
+use Rattle.std.proofs.Common.{◌≡◌, ◌+◌, ℕ, List, Some, length, sym, ap, subst, ◌∙◌, arith}
 use Rattle.std.specs.Prelude.{slice_get}
 use Rattle.std.proofs.lemmas.Option.{slice_get_within}
 use Rattle.prl_base.specs.declared.operators.Op.{Op}
-use Rattle.prl_words.specs.declared.tables.Word.{Word}
+use Rattle.prl_plan.specs.declared.words.Word.{Word}
 use Rattle.prl_words.specs.Counts.{HaveCounts}
-use Rattle.prl_words.specs.Words.{IsWordOf}
-use Rattle.prl_words.specs.GraphWords.{AreWords}
+use Rattle.prl_plan.specs.Words.{IsWordOf}
+use Rattle.prl_plan.specs.Words.{AreWords}
 use Rattle.prl_words.proofs.Constants.{edge_counts, edge_read}
-use Rattle.prl_words.proofs.Listed.{AreSoMany, one_more}
+use Rattle.prl_plan.specs.declared.graphs.Edge.{Edge}
+use Rattle.prl_plan.specs.FirstReaders.{first_reader}
+use Rattle.prl_words.proofs.Listed.{AreSoMany, one_more, same_sum}
 use Rattle.prl_words.proofs.graphs.listed.Goals as goal
 
 pub word_of-requires-clause-counts : goal.word_of-requires-clause-counts
@@ -16,7 +18,7 @@ word_of-requires-clause-counts c =
     let edge = c.edge-item.result in
     let found : slice_get graph.edges c.loop-edge.edge-index ≡ Some edge =
     edge_read c.as_slice-edge-items.result.now graph.edges c.loop-edge.edge-index edge c.as_slice-edge-items.ensures c.loop-edge-test.true c.edge-item.is in
-    let has = edge_counts graph c.requires.well c.requires.small c.loop-edge.edge-index edge found in
+    let has = edge_counts graph c.requires.well c.loop-edge.edge-index edge found in
     (has.jobs, subst (λ (ops : List Op). HaveCounts ops has.jobs) (sym c.as_slice.ensures) has.counts)
 
 pub word_of-requires-clause-few : goal.word_of-requires-clause-few
@@ -42,9 +44,19 @@ pub returns : goal.returns
 returns c =
     let graph = c.args.graph.now in
     let all : length graph.edges ≡ c.loop-edge.edge-index = omega (arith, ap length c.as_slice-edge-items.ensures) in
+    let long : length c.loop-edge.words.items ≡ length graph.edges = c.loop-edge.invariant.0 ∙ sym all in
+    let each : (e : ℕ) (edge : Edge) → slice_get graph.edges e ≡ Some edge → (w : Word) × (slice_get c.loop-edge.words.items e ≡ Some w) × IsWordOf edge.ops w =
+    λ e edge found. c.loop-edge.invariant.1 e edge (omega (arith, all, slice_get_within graph.edges e edge found)) found in
+    let first : (e : ℕ) (edge : Edge) → slice_get graph.edges e ≡ Some edge → (w : Word) × (slice_get c.loop-edge.words.items e ≡ Some w) × (length w.prefix ≡ first_reader edge.ops) =
+    λ e edge found. (let w = each e edge found in (
+      w.0,
+      w.1,
+      c.words_begin_with_constants.ensures.one edge.ops (length w.0.prefix) (first_reader edge.ops) (c.words_begin_with_constants.ensures.first edge.ops w.0 w.2)
+          (c.hyperperiod_shows_cells.ensures.reader graph c.requires.well e edge found),
+    )) in
     subst (λ (xs : List Word). AreWords graph xs) (sym c.new.ensures)
     (record {
-      few = c.requires.few;
-      long = c.loop-edge.invariant.0 ∙ sym all;
-      each = λ e edge found. c.loop-edge.invariant.1 e edge (omega (arith, all, slice_get_within graph.edges e edge found)) found;
+      few = (let sums = same_sum graph.edges c.loop-edge.words.items long first in omega (arith, sums, c.requires.few));
+      long = long;
+      each = each;
     })

@@ -14,7 +14,7 @@ constants-count-requires-clause-counts c =
     let edge = c.edge-item.result in
     let found : slice_get graph.edges c.loop-edge.edge-index ≡ Some edge =
     edge_read c.as_slice-edge-items.result.now graph.edges c.loop-edge.edge-index edge c.as_slice-edge-items.ensures c.loop-edge-test.true c.edge-item.is in
-    let has = edge_counts graph c.requires.well c.requires.small c.loop-edge.edge-index edge found in
+    let has = edge_counts graph c.requires.well c.loop-edge.edge-index edge found in
     (has.jobs, subst (λ (ops : List Op). HaveCounts ops has.jobs) (sym c.as_slice.ensures) has.counts)
 
 pub constants-count-requires-clause-few : goal.constants-count-requires-clause-few
@@ -31,7 +31,7 @@ overflow_add-count c =
     let edge = c.edge-item.result in
     let found : slice_get graph.edges c.loop-edge.edge-index ≡ Some edge =
     edge_read c.as_slice-edge-items.result.now graph.edges c.loop-edge.edge-index edge c.as_slice-edge-items.ensures c.loop-edge-test.true c.edge-item.is in
-    let bound : first_reader edge.ops ≤ 100000000000000 = edge_bound graph c.requires.well c.requires.small c.loop-edge.edge-index edge found in
+    let bound : first_reader edge.ops ≤ 100000000000000 = edge_bound graph c.requires.well c.loop-edge.edge-index edge found in
     let same : c.constants-count.result ≡ first_reader edge.ops = c.constants-count.ensures ∙ ap first_reader c.as_slice.ensures in
     omega (arith, bound, same, c.loop-edge.invariant.1, c.requires.well.few_edges, ap length c.as_slice-edge-items.ensures)
 
@@ -42,7 +42,7 @@ loop-edge-preserved c =
     let edge = c.edge-item.result in
     let below : i < length graph.edges = omega (arith, ap length c.as_slice-edge-items.ensures) in
     let found : slice_get graph.edges i ≡ Some edge = edge_read c.as_slice-edge-items.result.now graph.edges i edge c.as_slice-edge-items.ensures c.loop-edge-test.true c.edge-item.is in
-    let bound : first_reader edge.ops ≤ 100000000000000 = edge_bound graph c.requires.well c.requires.small i edge found in
+    let bound : first_reader edge.ops ≤ 100000000000000 = edge_bound graph c.requires.well i edge found in
     let same : c.constants-count.result ≡ first_reader edge.ops = c.constants-count.ensures ∙ ap first_reader c.as_slice.ensures in
     let f = (λ (e : Edge). first_reader e.ops) in
     let more : sum_by f (take (i + 1) graph.edges) ≡ sum_by f (take i graph.edges) + f (get_or graph.edges i edge) = sum_by_more f graph.edges i edge below in

@@ -1,5 +1,5 @@
 use Rattle.std.proofs.Common.{◌≡◌, ◌+◌, ◌<◌, ℕ}
-use Rattle.prl_words.specs.Words.{number_at}
+use Rattle.prl_plan.specs.Words.{number_at}
 use Rattle.prl_words.proofs.shortening.climbs.Given as goal
 
 abbrev pub invariant-loop-i : goal.invariant-loop-i

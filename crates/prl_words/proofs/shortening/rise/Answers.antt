@@ -1,5 +1,5 @@
 use Rattle.std.proofs.Common.{◌≤◌, arith}
-use Rattle.prl_words.specs.Words.{number_at}
+use Rattle.prl_plan.specs.Words.{number_at}
 use Rattle.prl_words.proofs.shortening.rise.Goals as goal
 
 pub overflow_sub-result : goal.overflow_sub-result

@@ -1,7 +1,7 @@
 use Rattle.std.proofs.Common.{◌≡◌, ◌+◌, ◌%◌, ◌<◌, ◌≤◌, ℕ, inl, inr, sym, subst, arith}
 use Rattle.std.proofs.Math.Nat.{mod_self}
 use Rattle.std.proofs.lemmas.Bool.{cases_lt}
-use Rattle.prl_words.specs.declared.tables.Word.{Word}
+use Rattle.prl_plan.specs.declared.words.Word.{Word}
 use Rattle.prl_words.specs.code.Shortest.{ClimbsFirst, rise_of}
 use Rattle.prl_words.proofs.Shortest.{own_step, rise_is}
 use Rattle.prl_words.proofs.shortening.shortest.Goals as goal

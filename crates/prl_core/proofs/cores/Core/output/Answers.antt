@@ -3,7 +3,7 @@ use Rattle.std.proofs.lemmas.Grind.{get_or_default_zero}
 use Rattle.std.proofs.lemmas.List.{get_or-map, length-map}
 use Rattle.prl_base.specs.declared.values.Value.{Value}
 use Rattle.prl_core.specs.Columns.{column}
-use Rattle.prl_core.specs.Machine.{CoreView, constants, Drives, AreOutputs}
+use Rattle.prl_core.specs.Machine.{CoreView, Drives, AreOutputs}
 use Rattle.prl_core.proofs.Kept.{column_is_output}
 use Rattle.prl_core.proofs.cores.Core.output.Goals as goal
 

@@ -1,19 +1,15 @@
-use Rattle.std.proofs.Common.{◌≡◌, ◌%◌, ◌<◌, ℕ, List, length, map, get_or, Some, Vec, Global, arith, sym, ◌∙◌, ap, subst}
+use Rattle.std.proofs.Common.{◌≡◌, ◌%◌, ℕ, List, map, get_or, Vec, Global, arith, sym, ◌∙◌, ap, subst}
 use Rattle.std.proofs.lemmas.Grind.{get_or_default_zero}
-use Rattle.std.proofs.lemmas.Option.{slice_get-get_or}
 use Rattle.prl_base.specs.declared.values.Value.{Value}
 use Rattle.prl_plan.specs.declared.events.Action.{Action}
 use Rattle.prl_plan.specs.declared.events.Action.TheVariants as actions
 use Rattle.prl_plan.specs.declared.events.Event.TheVariants as events
-use Rattle.prl_plan.specs.Plans.{edge_at}
 use Rattle.prl_plan.specs.Runs.{next_action}
 use Rattle.prl_plan.specs.Rules.{KeepsLegal, first_unfinished}
-use Rattle.prl_core.specs.Values.{instance_value}
 use Rattle.prl_core.specs.Machine.{CoreView, constants, cell_no, sight_of_write, IsSightOf}
 use Rattle.prl_core.specs.Tests.{ReadsValue}
-use Rattle.prl_core.specs.declared.seen.Seen.TheVariants as sights
 use Rattle.prl_plan.proofs.StateLaws.{write_finds_half_free}
-use Rattle.prl_core.proofs.LegalReads.{read_in_range, read_value, read_reads, const_reads, next_is, writes_own}
+use Rattle.prl_core.proofs.LegalReads.{const_reads, next_is, writes_own}
 use Rattle.prl_core.proofs.cores.Core.proceed.Goals as goal
 
 pub take-requires-clause-reads : goal.take-requires-clause-reads

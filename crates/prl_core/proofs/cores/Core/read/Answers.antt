@@ -1,16 +1,15 @@
-use Rattle.std.proofs.Common.{◌≡◌, ◌%◌, ◌<◌, ℕ, zero, suc, List, length, map, get_or, Some, Vec, Global, arith, refl, sym, ◌∙◌, ap, subst}
+use Rattle.std.proofs.Common.{◌≡◌, ◌%◌, ◌<◌, List, length, map, get_or, Some, Vec, Global, arith, sym, ◌∙◌, ap, subst}
 use Rattle.std.proofs.lemmas.Option.{slice_get-get_or}
 use Rattle.prl_base.specs.declared.numbers.CellNo.{CellNo}
 use Rattle.prl_base.specs.declared.values.Value.{Value}
-use Rattle.prl_plan.specs.declared.events.Action.{Action}
 use Rattle.prl_plan.specs.declared.events.Action.TheVariants as actions
 use Rattle.prl_plan.specs.declared.events.Event.TheVariants as events
 use Rattle.prl_plan.specs.Plans.{edge_at}
 use Rattle.prl_plan.specs.Runs.{next_action}
 use Rattle.prl_plan.specs.Rules.{KeepsLegal, FindsTag, first_unfinished}
 use Rattle.prl_core.specs.Values.{instance_value}
-use Rattle.prl_core.specs.Machine.{CoreView, constants, cell_no, IsSightOf, IsSightOfRead}
-use Rattle.prl_core.specs.Tests.{ReadsValue, ReadsLow}
+use Rattle.prl_core.specs.Machine.{CoreView, constants, cell_no}
+use Rattle.prl_core.specs.Tests.{ReadsValue}
 use Rattle.prl_core.specs.declared.seen.Seen.TheVariants as sights
 use Rattle.prl_plan.proofs.StateLaws.{legal_read_finds_tag}
 use Rattle.prl_core.proofs.LegalReads.{read_in_range, read_value, read_reads, sight_of_low, sight_of_high, cell_is}

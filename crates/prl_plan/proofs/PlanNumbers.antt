@@ -1,0 +1,97 @@
+-- The numbers of a graph and of its plans fit.
+use Rattle.std.proofs.Common.{◌≡◌, ◌+◌, ◌*◌, ◌<◌, ◌≤◌, ◌^◌, ℕ, List, [], ◌∷◌, length, subst, arith}
+use Rattle.std.specs.Prelude.{ℤ, pos, ◌≤ℤ◌, nat_abs}
+use Rattle.std.proofs.Math.Nat.{mul-le-mul_left, mul-le-mul_right}
+use Rattle.std.proofs.lemmas.Int.{ints}
+use Rattle.std.proofs.lemmas.Option.{slice_get-get_or}
+use Rattle.prl_base.specs.declared.operators.Clock.{Clock}
+use Rattle.prl_base.specs.declared.operators.Op.{Op}
+use Rattle.prl_plan.specs.declared.graphs.Edge.{Edge}
+use Rattle.prl_plan.specs.declared.graphs.TaskGraph.{TaskGraph}
+use Rattle.prl_plan.specs.declared.tables.Window.{Window}
+use Rattle.prl_plan.specs.declared.walks.Operand.TheVariants as operands
+use Rattle.prl_plan.specs.Jobs.{task_at, deadline_of, IsHorizonJob}
+use Rattle.prl_plan.specs.Graphs.{IsWellFormed, IsEdge, IsTask, TakeClock}
+use Rattle.prl_plan.specs.Operands.{walk, operand_of, WalkFits}
+use Rattle.prl_plan.specs.Ranges.{PrecedingFits}
+use Rattle.prl_plan.specs.Dates.{AreEncodedDates, window_at, encoded_deadline}
+use Rattle.prl_plan.specs.Plans.{PlanView, HaveRoom, IsPlan, edge_at, no_edge, release_at, deadline_at}
+use Rattle.prl_plan.proofs.WalkLaws.{walked_back, operand_walks}
+use Rattle.prl_plan.proofs.WalkNumbers.{walk_fits, preceding_fits, divisor_within}
+use Rattle.prl_plan.proofs.RoundPeriods.{task_is}
+
+times_more : (n p : ℕ) → 1 ≤ p → n ≤ n * p
+times_more n p some = (let up : n * 1 ≤ n * p = mul-le-mul_left n some in omega (arith, up))
+
+-- the producer's clock has a period of at least 1
+first_period : (hyper : ℕ) (ops : List Op) (producer consumer : Clock) → TakeClock hyper ops producer consumer → 1 ≤ producer.period
+first_period hyper [] producer consumer takes = subst (λ (c : Clock). 1 ≤ c.period) takes.2 takes.0
+first_period hyper (op ∷ ops) producer consumer takes = first_period hyper ops producer takes.2.0 takes.2.2
+
+module _ (graph : TaskGraph) (good : IsWellFormed graph) where
+  edge_fact : (e : ℕ) → e < length graph.edges → IsEdge graph (edge_at graph e)
+  edge_fact e inside = good.edges e (edge_at graph e) (slice_get-get_or graph.edges e no_edge inside)
+
+  -- fewer than 2^32 operators, each of at most a hyperperiod
+  operators_small : (e : ℕ) → e < length graph.edges → length (edge_at graph e).ops * graph.hyper ≤ 2 ^ 32 * 10000000
+  operators_small e inside =
+      let few = (edge_fact e inside).few in
+      let a : length (edge_at graph e).ops * graph.hyper ≤ 2 ^ 32 * graph.hyper = mul-le-mul_right graph.hyper (omega (arith, few)) in
+      let b : 2 ^ 32 * graph.hyper ≤ 2 ^ 32 * 10000000 = mul-le-mul_left (2 ^ 32) good.few_ticks in
+      omega (arith, a, b)
+
+  pub walk_small : (e n : ℕ) → e < length graph.edges → n * (task_at graph (edge_at graph e).to.0).clock.period < 2 ^ 63 → WalkFits (edge_at graph e).ops n
+  walk_small e n inside small =
+      let is = edge_fact e inside in
+      let ops = operators_small e inside in
+      walk_fits graph.hyper (edge_at graph e).ops is.clocks.0 (task_at graph (edge_at graph e).to.0).clock good.hyper is.clocks.3 n
+      (2 ^ 63) (omega (arith, small)) (omega (arith, ops))
+
+  pub preceding_small : (e : ℕ) (n : ℤ) → e < length graph.edges → nat_abs n * (task_at graph (edge_at graph e).to.0).clock.period ≤ 2 ^ 62 →
+      PrecedingFits (edge_at graph e).ops n
+  preceding_small e n inside small =
+      let is = edge_fact e inside in
+      let ops = operators_small e inside in
+      preceding_fits graph.hyper (edge_at graph e).ops is.clocks.0 (task_at graph (edge_at graph e).to.0).clock good.hyper is.clocks.3 n
+      (2 ^ 62) small (omega (arith, ops))
+
+  -- what job n reads has no higher number than the date of the job
+  pub walked_within : (e n m : ℕ) → e < length graph.edges → walk (edge_at graph e).ops n ≡ operands.From m →
+      m ≤ (task_at graph (edge_at graph e).to.0).clock.start + n * (task_at graph (edge_at graph e).to.0).clock.period
+  walked_within e n m inside reads =
+      let edge : Edge = edge_at graph e in
+      let is = edge_fact e inside in
+      let back = walked_back edge.ty graph.hyper edge.ops is.operators is.clocks.0 (task_at graph edge.to.0).clock is.clocks.3 n m reads in
+      let some : 1 ≤ is.clocks.0.period = first_period graph.hyper edge.ops is.clocks.0 (task_at graph edge.to.0).clock is.clocks.3 in
+      let up = times_more m is.clocks.0.period some in
+      omega (arith, back, up)
+
+-- a job ends in its window: after its encoded release and its WCET, and by its deadline
+pub window_within : (graph : TaskGraph) (windows : List (List Window)) → AreEncodedDates graph windows → HaveRoom graph windows →
+    (i : ℕ) (m : ℤ) → i < length graph.tasks →
+    ((window_at windows i m).lead + (task_at graph i).wcet ≤ (window_at windows i m).tail) × ((window_at windows i m).tail ≤ (task_at graph i).due)
+window_within graph windows dates room i m inside =
+    let r = room.room i m inside in
+    let d : encoded_deadline graph windows i m ≤ℤ deadline_of (task_at graph i) m = dates.deadlines.deadlines.below i m inside in
+    (omega (arith, ints, r), omega (arith, ints, d))
+
+-- what a job reads has no higher number than its encoded release
+pub operand_within : (plan : PlanView) → IsPlan plan → (e n m : ℕ) → e < length plan.graph.edges → operand_of (edge_at plan.graph e) n ≡ operands.From m →
+    m ≤ release_at plan (edge_at plan.graph e).to.0 n
+operand_within plan is e n m inside reads =
+    let w = operand_walks (edge_at plan.graph e) n m reads in
+    let up = walked_within plan.graph is.graph e n m inside w.2 in
+    omega (arith, up)
+
+-- the dates of a horizon job
+pub horizon_dates : (plan : PlanView) → IsPlan plan → (until i n : ℕ) → until < 2 ^ 32 → IsHorizonJob plan.graph until i n →
+    (release_at plan i n < 2 ^ 33) × (deadline_at plan i n < 2 ^ 33) × (n < 2 ^ 32)
+horizon_dates plan is until i n small job =
+    let w = window_within plan.graph plan.windows is.dates is.room i (pos n) job.task in
+    let t : IsTask plan.graph.hyper (task_at plan.graph i) = task_is plan.graph is.graph i job.task in
+    let period : (task_at plan.graph i).clock.period ≤ plan.graph.hyper = divisor_within (task_at plan.graph i).clock.period plan.graph.hyper is.graph.hyper t.divides in
+    let few = is.graph.few_ticks in
+    let due = t.due.1 in
+    let early = job.early in
+    let up = times_more n (task_at plan.graph i).clock.period t.period.0 in
+    (omega (arith, ints, w, period, few, due, early, small), omega (arith, ints, w, period, few, due, early, small), omega (arith, ints, early, small, up))

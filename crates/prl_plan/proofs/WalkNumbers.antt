@@ -1,0 +1,192 @@
+-- The numbers on a walk, and on the way to a preceding job, are bounded by the date of the job that they begin with and by
+-- a hyperperiod for each operator.
+use Rattle.std.proofs.Common.{◌≡◌, ◌+◌, ◌*◌, ◌/◌, ◌<◌, ◌≤◌, ◌^◌, ℕ, zero, suc, List, [], ◌∷◌, length, refl, sym, ◌∙◌, ap, subst, arith}
+use Rattle.std.specs.Prelude.{ℤ, pos, negsuc, ◌+ℤ◌, ◌-ℤ◌, ◌*ℤ◌, neg_ℤ, nat_abs}
+use Rattle.std.proofs.Math.IntN.{pos-*ℤ-pos, pos-*ℤ-negsuc, zero-*ℤ}
+use Rattle.std.proofs.Math.Nat.{div-mul-le_self, mul-le-mul_left, mul-le-mul_right}
+use Rattle.std.proofs.lemmas.Int.{ints}
+use lib.IntN.{suc_ℤ, pred_ℤ}
+use Rattle.prl_base.specs.Operators.{floor_div}
+use Rattle.prl_base.specs.declared.operators.Clock.{Clock}
+use Rattle.prl_base.specs.declared.operators.Op.{Op}
+use Rattle.prl_base.specs.declared.operators.Op.TheVariants as operators
+use Rattle.prl_plan.specs.Graphs.{Divides, TakeClock}
+use Rattle.prl_plan.specs.Operands.{WalkFits}
+use Rattle.prl_plan.specs.Ranges.{Fits64, PrecedingFits}
+use Rattle.prl_plan.proofs.Floors.{suc_is, pred_is}
+use Rattle.prl_plan.proofs.Periods.{clock_divides}
+
+-- a factor of a clock is at least 1
+factor_some : (k y x : ℕ) → 1 ≤ x → k * y ≡ x → 1 ≤ k
+factor_some zero y x some is = absurd (let z : 0 * y ≡ 0 = omega arith in omega (arith, z, is, some))
+factor_some (suc k) y x some is = omega arith
+
+pub divisor_within : (p h : ℕ) → 1 ≤ h → Divides p h → p ≤ h
+divisor_within p h some (zero, is) = absurd (let z : 0 * p ≡ 0 = omega arith in omega (arith, z, is, some))
+divisor_within p h some (suc t, is) = (let e : suc t * p ≡ t * p + p = omega arith in omega (arith, e, is))
+
+-- the clock that an operator stands on has a period of at least 1 and within the hyperperiod
+period_here : (hyper : ℕ) (ops : List Op) (producer consumer : Clock) → 1 ≤ hyper → TakeClock hyper ops producer consumer →
+    (1 ≤ consumer.period) × (consumer.period ≤ hyper)
+period_here hyper ops producer consumer some takes =
+    let d = clock_divides hyper ops producer consumer takes in
+    (d.0, divisor_within consumer.period hyper some d.1)
+
+number_within : (n p room : ℕ) → 1 ≤ p → n * p ≤ room → n ≤ room
+number_within n p room some is = (let up : n * 1 ≤ n * p = mul-le-mul_left n some in omega (arith, up, is))
+
+pub walk_fits : (hyper : ℕ) (ops : List Op) (producer consumer : Clock) → 1 ≤ hyper → TakeClock hyper ops producer consumer →
+    (n room : ℕ) → n * consumer.period ≤ room → room + length ops * hyper < 2 ^ 64 → WalkFits ops n
+walk_fits hyper [] producer consumer some takes n room is fits =
+    (let w = number_within n consumer.period room takes.0 is in let z : 0 * hyper ≡ 0 = omega arith in omega (arith, w, fits, z))
+walk_fits hyper (operators.Up k ∷ ops) producer consumer some takes n room is fits =
+    let x : Clock = takes.2.0 in
+    let here = period_here hyper ops producer x some takes.2.2 in
+    let down : n / k * k * consumer.period ≤ n * consumer.period = mul-le-mul_right consumer.period (div-mul-le_self n k) in
+    let p : n / k * (k * consumer.period) ≡ n / k * x.period = ap (λ (y : ℕ). n / k * y) takes.2.1.0 in
+    let a : n / k * (k * consumer.period) ≡ n / k * k * consumer.period = omega arith in
+    let l : suc (length ops) * hyper ≡ length ops * hyper + hyper = omega arith in (
+      factor_some k consumer.period x.period here.0 takes.2.1.0,
+      walk_fits hyper ops producer x some takes.2.2 (n / k) room (omega (arith, down, p, a, is)) (omega (arith, l, fits)),
+    )
+walk_fits hyper (operators.Down k ∷ ops) producer consumer some takes n room is fits =
+    let x : Clock = takes.2.0 in
+    let here = period_here hyper ops producer x some takes.2.2 in
+    let p : n * consumer.period ≡ n * (k * x.period) = ap (λ (y : ℕ). n * y) takes.2.1.0 in
+    let a : n * (k * x.period) ≡ k * n * x.period = omega arith in
+    let within : k * n * x.period ≤ room = omega (arith, p, a, is) in
+    let l : suc (length ops) * hyper ≡ length ops * hyper + hyper = omega arith in
+    let w = number_within (k * n) x.period room here.0 within in
+    (omega (arith, w, fits), walk_fits hyper ops producer x some takes.2.2 (k * n) room within (omega (arith, l, fits)))
+walk_fits hyper (operators.Shift q ∷ ops) producer consumer some takes n room is fits =
+    let x : Clock = takes.2.0 in
+    let p : n * consumer.period ≡ n * x.period = ap (λ (y : ℕ). n * y) takes.2.1.0 in
+    let l : suc (length ops) * hyper ≡ length ops * hyper + hyper = omega arith in
+    walk_fits hyper ops producer x some takes.2.2 n room (omega (arith, p, is)) (omega (arith, l, fits))
+walk_fits hyper (operators.Tail ∷ ops) producer consumer some takes n room is fits =
+    let x : Clock = takes.2.0 in
+    let here = period_here hyper ops producer x some takes.2.2 in
+    let p : n * consumer.period ≡ n * x.period = ap (λ (y : ℕ). n * y) takes.2.1.0 in
+    let a : (n + 1) * x.period ≡ n * x.period + x.period = omega arith in
+    let l : suc (length ops) * hyper ≡ length ops * hyper + hyper = omega arith in
+    let within : (n + 1) * x.period ≤ room + hyper = omega (arith, p, a, is, here.1) in
+    let w = number_within (n + 1) x.period (room + hyper) here.0 within in
+    (omega (arith, w, fits, l), walk_fits hyper ops producer x some takes.2.2 (n + 1) (room + hyper) within (omega (arith, l, fits)))
+walk_fits hyper (operators.Cons c ∷ ops) producer consumer some takes zero room is fits = tt
+walk_fits hyper (operators.Cons c ∷ ops) producer consumer some takes (suc n) room is fits =
+    let x : Clock = takes.2.0 in
+    let p : suc n * consumer.period ≡ suc n * x.period = ap (λ (y : ℕ). suc n * y) takes.2.1.0 in
+    let a : suc n * x.period ≡ n * x.period + x.period = omega arith in
+    let l : suc (length ops) * hyper ≡ length ops * hyper + hyper = omega arith in
+    walk_fits hyper ops producer x some takes.2.2 n room (omega (arith, p, a, is)) (omega (arith, l, fits))
+walk_fits hyper (operators.Fby c ∷ ops) producer consumer some takes zero room is fits = tt
+walk_fits hyper (operators.Fby c ∷ ops) producer consumer some takes (suc n) room is fits =
+    let x : Clock = takes.2.0 in
+    let p : suc n * consumer.period ≡ suc n * x.period = ap (λ (y : ℕ). suc n * y) takes.2.1.0 in
+    let a : suc n * x.period ≡ n * x.period + x.period = omega arith in
+    let l : suc (length ops) * hyper ≡ length ops * hyper + hyper = omega arith in
+    walk_fits hyper ops producer x some takes.2.2 n room (omega (arith, p, a, is)) (omega (arith, l, fits))
+
+-- sizes of whole numbers
+fits_64 : (z : ℤ) → nat_abs z < 2 ^ 63 → Fits64 z
+fits_64 (pos n) small = record { sfits = small }
+fits_64 (negsuc n) small = record { sfits = omega (arith, small) }
+
+size_suc : (z : ℤ) → nat_abs (suc_ℤ z) ≤ nat_abs z + 1
+size_suc (pos n) = omega arith
+size_suc (negsuc zero) = omega arith
+size_suc (negsuc (suc n)) = omega arith
+
+size_pred : (z : ℤ) → nat_abs (pred_ℤ z) ≤ nat_abs z + 1
+size_pred (pos zero) = omega arith
+size_pred (pos (suc n)) = omega arith
+size_pred (negsuc n) = omega arith
+
+size_neg : (n : ℕ) → nat_abs (neg_ℤ (pos n)) ≡ n
+size_neg zero = refl
+size_neg (suc n) = refl
+
+size_mul : (k : ℕ) (z : ℤ) → nat_abs (pos k *ℤ z) ≡ k * nat_abs z
+size_mul k (pos n) = ap nat_abs (pos-*ℤ-pos k n)
+size_mul zero (negsuc n) =
+    let z : 0 * suc n ≡ 0 = omega arith in
+    ap nat_abs (zero-*ℤ (negsuc n)) ∙ sym z
+size_mul (suc k) (negsuc n) = ap nat_abs (pos-*ℤ-negsuc (suc k) n) ∙ size_neg (suc k * suc n)
+
+-- a quotient times its divisor is less than the divisor away
+size_floor : (z : ℤ) (k : ℕ) → 1 ≤ k → nat_abs (floor_div z k) * k ≤ nat_abs z + k
+size_floor (pos n) k some = (let d = div-mul-le_self n k in omega (arith, d))
+size_floor (negsuc n) k some =
+    (let d = div-mul-le_self n k in let e : suc (n / k) * k ≡ n / k * k + k = omega arith in omega (arith, d, e))
+
+-- a number next to one whose date is bounded
+next_fits : (hyper : ℕ) (ops : List Op) (producer consumer x : Clock) → 1 ≤ hyper → consumer.period ≡ x.period → TakeClock hyper ops producer x →
+    (n next : ℤ) (room : ℕ) → nat_abs next ≤ nat_abs n + 1 → nat_abs n * consumer.period ≤ room → room + suc (length ops) * hyper < 2 ^ 63 →
+    Fits64 next × (nat_abs next * x.period ≤ room + hyper) × (room + hyper + length ops * hyper < 2 ^ 63)
+next_fits hyper ops producer consumer x some same takes n next room near is fits =
+    let here = period_here hyper ops producer x some takes in
+    let up : nat_abs next * x.period ≤ (nat_abs n + 1) * x.period = mul-le-mul_right x.period near in
+    let a : (nat_abs n + 1) * x.period ≡ nat_abs n * x.period + x.period = omega arith in
+    let p : nat_abs n * consumer.period ≡ nat_abs n * x.period = ap (λ (y : ℕ). nat_abs n * y) same in
+    let l : suc (length ops) * hyper ≡ length ops * hyper + hyper = omega arith in
+    let within : nat_abs next * x.period ≤ room + hyper = omega (arith, up, a, p, is, here.1) in
+    let w = number_within (nat_abs next) x.period (room + hyper) here.0 within in
+    (fits_64 next (omega (arith, w, fits, l)), within, omega (arith, l, fits))
+
+-- the same over all whole numbers
+pub preceding_fits : (hyper : ℕ) (ops : List Op) (producer consumer : Clock) → 1 ≤ hyper → TakeClock hyper ops producer consumer →
+    (n : ℤ) (room : ℕ) → nat_abs n * consumer.period ≤ room → room + length ops * hyper < 2 ^ 63 → PrecedingFits ops n
+preceding_fits hyper [] producer consumer some takes n room is fits = tt
+preceding_fits hyper (operators.Up k ∷ ops) producer consumer some takes n room is fits =
+    let x : Clock = takes.2.0 in
+    let here = period_here hyper ops producer x some takes.2.2 in
+    let factor = factor_some k consumer.period x.period here.0 takes.2.1.0 in
+    let q : ℕ = nat_abs (floor_div n k) in
+    let near : q * k * consumer.period ≤ (nat_abs n + k) * consumer.period = mul-le-mul_right consumer.period (size_floor n k factor) in
+    let p : q * (k * consumer.period) ≡ q * x.period = ap (λ (y : ℕ). q * y) takes.2.1.0 in
+    let a : q * (k * consumer.period) ≡ q * k * consumer.period = omega arith in
+    let b : (nat_abs n + k) * consumer.period ≡ nat_abs n * consumer.period + k * consumer.period = omega arith in
+    let l : suc (length ops) * hyper ≡ length ops * hyper + hyper = omega arith in (
+      factor,
+      preceding_fits hyper ops producer x some takes.2.2 (floor_div n k) (room + hyper)
+          (omega (arith, near, p, a, b, is, takes.2.1.0, here.1)) (omega (arith, l, fits)),
+    )
+preceding_fits hyper (operators.Down k ∷ ops) producer consumer some takes n room is fits =
+    let x : Clock = takes.2.0 in
+    let here = period_here hyper ops producer x some takes.2.2 in
+    let factor = factor_of consumer.period k x.period takes.0 takes.2.1.0 in
+    let size : nat_abs (pos k *ℤ n) ≡ k * nat_abs n = size_mul k n in
+    let p : nat_abs n * consumer.period ≡ nat_abs n * (k * x.period) = ap (λ (y : ℕ). nat_abs n * y) takes.2.1.0 in
+    let a : nat_abs n * (k * x.period) ≡ k * nat_abs n * x.period = omega arith in
+    let within : nat_abs (pos k *ℤ n) * x.period ≤ room =
+    subst (λ (y : ℕ). y * x.period ≤ room) (sym size) (omega (arith, p, a, is)) in
+    let l : suc (length ops) * hyper ≡ length ops * hyper + hyper = omega arith in
+    let w = number_within (nat_abs (pos k *ℤ n)) x.period room here.0 within in (
+      factor,
+      fits_64 (pos k *ℤ n) (omega (arith, w, fits)),
+      preceding_fits hyper ops producer x some takes.2.2 (pos k *ℤ n) room within (omega (arith, l, fits)),
+    )
+  where
+    factor_of : (y k x : ℕ) → 1 ≤ y → y ≡ k * x → 1 ≤ k
+    factor_of y zero x some is = absurd (let z : 0 * x ≡ 0 = omega arith in omega (arith, z, is, some))
+    factor_of y (suc k) x some is = omega arith
+preceding_fits hyper (operators.Shift q ∷ ops) producer consumer some takes n room is fits =
+    let x : Clock = takes.2.0 in
+    let p : nat_abs n * consumer.period ≡ nat_abs n * x.period = ap (λ (y : ℕ). nat_abs n * y) takes.2.1.0 in
+    let l : suc (length ops) * hyper ≡ length ops * hyper + hyper = omega arith in
+    preceding_fits hyper ops producer x some takes.2.2 n room (omega (arith, p, is)) (omega (arith, l, fits))
+preceding_fits hyper (operators.Tail ∷ ops) producer consumer some takes n room is fits =
+    let x : Clock = takes.2.0 in
+    let same : suc_ℤ n ≡ n +ℤ pos 1 = suc_is n in
+    let next = next_fits hyper ops producer consumer x some takes.2.1.0 takes.2.2 n (suc_ℤ n) room (size_suc n) is fits in
+    (subst (λ (z : ℤ). Fits64 z × PrecedingFits ops z) same (next.0, preceding_fits hyper ops producer x some takes.2.2 (suc_ℤ n) (room + hyper) next.1 next.2))
+preceding_fits hyper (operators.Cons c ∷ ops) producer consumer some takes n room is fits =
+    let x : Clock = takes.2.0 in
+    let same : pred_ℤ n ≡ n -ℤ pos 1 = (let e = pred_is n in omega (arith, ints, e)) in
+    let next = next_fits hyper ops producer consumer x some takes.2.1.0 takes.2.2 n (pred_ℤ n) room (size_pred n) is fits in
+    (subst (λ (z : ℤ). Fits64 z × PrecedingFits ops z) same (next.0, preceding_fits hyper ops producer x some takes.2.2 (pred_ℤ n) (room + hyper) next.1 next.2))
+preceding_fits hyper (operators.Fby c ∷ ops) producer consumer some takes n room is fits =
+    let x : Clock = takes.2.0 in
+    let same : pred_ℤ n ≡ n -ℤ pos 1 = (let e = pred_is n in omega (arith, ints, e)) in
+    let next = next_fits hyper ops producer consumer x some takes.2.1.0 takes.2.2 n (pred_ℤ n) room (size_pred n) is fits in
+    (subst (λ (z : ℤ). Fits64 z × PrecedingFits ops z) same (next.0, preceding_fits hyper ops producer x some takes.2.2 (pred_ℤ n) (room + hyper) next.1 next.2))
