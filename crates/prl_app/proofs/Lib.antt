@@ -1,6 +1,6 @@
-pub mod RowLines
 pub mod Outputs
 pub mod ChainBodies
+pub mod SensorRows
 pub mod OneEnd
 pub mod Stops
 pub mod Exact

@@ -18,7 +18,7 @@ use Rattle.prl_names.specs.Uses.{used_imports}
 use Rattle.prl_chains.specs.declared.chains.Chain.{Chain}
 use Rattle.prl_chains.specs.Chains.{chain_of}
 use Rattle.prl_flow.specs.declared.evaluation.TheConstants.{MAX_VALUES}
-use Rattle.prl_flow.specs.Programs.{name_of}
+use Rattle.prl_flow.specs.Rows.{Rows}
 use Rattle.prl_flow.specs.Counts.{values_before}
 use Rattle.prl_plan.specs.declared.events.Event.{Event}
 use Rattle.prl_plan.specs.declared.horizons.Horizon.{Horizon}
@@ -30,6 +30,7 @@ use Rattle.prl_replay.specs.Replays.{after_all}
 use Rattle.prl_relays.specs.declared.relays.RelayFault.{RelayFault}
 use Rattle.prl_relays.specs.declared.relays.RelayFault.TheVariants as relays
 use Rattle.prl_relays.specs.Relays.{Relay, machine, is_in_time, relay_plan, task_names, IsReady, IsHorizonOf, IsHorizonUpTo, IsReplayText, IsRelayFault}
+use Rattle.prl_sensors.specs.declared.faults.SensorFault.{SensorFault}
 use Rattle.prl_app.specs.declared.faults.Part.TheVariants as parts
 use Rattle.prl_app.specs.declared.faults.Fault.{Fault}
 use Rattle.prl_app.specs.declared.faults.Fault.TheVariants as faults
@@ -37,9 +38,8 @@ use Rattle.prl_app.specs.declared.stages.Stage.{Stage}
 use Rattle.prl_app.specs.declared.stages.Stage.TheVariants as stages
 use Rattle.prl_app.specs.Given.{Given, content_of, text_of}
 use Rattle.prl_app.specs.Parts.{IsProgram, IsMain, AreBodies, RefusesBodies, told_parse, told_types, told_body}
-use Rattle.prl_app.specs.Rows.{rows_of}
 use Rattle.prl_app.specs.Runs.{too_many}
-use Rattle.prl_app.specs.Built.{IsFormed, IsTimely, HasHorizon, AreRows, HasRows, HasNoRows, HasFewRows, IsWholeRun, need, short_by, relay_of, told_relay}
+use Rattle.prl_app.specs.Built.{IsFormed, IsTimely, HasHorizon, HasRows, IsWholeRun, relay_of, rows_for, told_relay, told_sensors}
 use Rattle.prl_app.specs.Stages.{Holds, Refuses, Comes}
 
 -- the laws of the crates below
@@ -153,16 +153,16 @@ module _ (law : Laws) (g : Given) where
       let same = one_program k.program h.program k.is_program h.is_program in
       some_some (chain_of h.program) a b h.formed (subst (λ (x : ProgramTree). chain_of x ≡ Some b) same k.formed)
 
-  abbrev rows_text : Chain → Option (List Value)
-  rows_text c = rows_of (name_of c.flat.in_devices 0) (text_of g parts.Sensors)
+  values_in : (rows : Result Rows SensorFault) (xs ys : List Value) → rows ≡ Ok (xs ∷ []) → rows ≡ Ok (ys ∷ []) → xs ≡ ys
+  values_in rows xs ys h k = cc
 
-  one_rows : (a b : Chain) (xs ys : List Value) → AreRows g a xs → AreRows g b ys → xs ≡ ys
+  one_rows : (a b : Chain) (xs ys : List Value) → HasRows g a xs → HasRows g b ys → xs ≡ ys
   one_rows a b xs ys h k =
       let same = one_chain b a k.formed h.formed in
-      some_some (rows_text a) xs ys h.rows (subst (λ (c : Chain). rows_text c ≡ Some ys) same k.rows)
+      values_in (rows_for g a) xs ys h.rows (subst (λ (c : Chain). rows_for g c ≡ Ok (ys ∷ [])) same k.rows)
 
   -- a fault of the schedule for one chain and its rows is one for any
-  moved_fault : (a b : Chain) (xs ys : List Value) (cause : RelayFault) → AreRows g a xs → AreRows g b ys
+  moved_fault : (a b : Chain) (xs ys : List Value) (cause : RelayFault) → HasRows g a xs → HasRows g b ys
       → IsRelayFault (relay_of g a xs) (text_of g parts.Schedule) cause → IsRelayFault (relay_of g b ys) (text_of g parts.Schedule) cause
   moved_fault a b xs ys cause h k fault =
       let at = subst (λ (vs : List Value). IsRelayFault (relay_of g a vs) (text_of g parts.Schedule) cause) (one_rows a b xs ys h k) fault in
@@ -195,38 +195,16 @@ module _ (law : Laws) (g : Given) where
   apart stages.Horizon f h k =
       let same = one_chain k.0 h.0 k.1.formed h.2.timely.formed in
       law.horizon_or_limit h.0 g.until h.1 k.2 h.2.horizon (subst (λ (c : Chain). IsPastLimit (relay_plan c) g.until k.2) same k.3)
-  apart stages.Rows f h k = elim k.2 [
-    | inl none ↦ some_none (rows_text h.0) h.1 h.2.are.rows (subst (λ (c : Chain). rows_text c ≡ None) (one_chain k.0 h.0 k.1 h.2.are.formed) none.0)
-    | inr few ↦
-        let chains = one_chain k.0 h.0 k.1 h.2.are.formed in
-        let values = one_rows k.0 h.0 few.0 h.1 few.1 h.2.are in
-        let short : length h.1 < need g k.0 = subst (λ (xs : List Value). length xs < need g k.0) values few.2 in
-        let short : length h.1 < need g h.0 = subst (λ (c : Chain). length h.1 < need g c) chains short in
-        let enough = h.2.enough in omega (arith, short, enough)
-  ]
+  apart stages.Rows f h k =
+      let at = subst (λ (c : Chain). rows_for g c ≡ Err k.2) (one_chain k.0 h.0 k.1 h.2.formed) k.3 in
+      ok_err (rows_for g h.0) (h.1 ∷ []) k.2 h.2.rows at
   apart stages.Schedule f h k =
       let text = whole_text h.0 h.1 h.2 h.3 in
-      let fault = moved_fault k.0 h.0 k.1 h.1 k.3 k.2.are h.3.rows.are k.4 in
+      let fault = moved_fault k.0 h.0 k.1 h.1 k.3 k.2 h.3.rows k.4 in
       relay_told k.0 k.3 f k.5 (law.replay_or_fault (relay_of g h.0 h.1) (text_of g parts.Schedule) text.0 k.3 text.1 fault)
   apart stages.Values f h k =
       let few = h.2 in
       let many = subst (λ (c : Chain). MAX_VALUES < values_before g.until c.clocks.of) (one_chain k.0 h.0 k.1 h.1) k.2 in omega (arith, few, many)
-
-  abbrev RowsFault : Chain → Fault → Type 0
-  RowsFault c f = HasNoRows g c f ⊎ HasFewRows g c f
-
-  one_rows_fault : (c d : Chain) (a b : Fault) → c ≡ d → RowsFault c a → RowsFault d b → a ≡ b
-  one_rows_fault c d a b e x y = elim x [
-    | inl u ↦ elim y [
-      | inl v ↦ u.1 ∙ sym v.1
-      | inr v ↦ absurd (some_none (rows_text d) v.0 v.1.rows (subst (λ (c : Chain). rows_text c ≡ None) e u.0))
-    ]
-    | inr u ↦ elim y [
-      | inl v ↦ absurd (some_none (rows_text c) u.0 u.1.rows (subst (λ (c : Chain). rows_text c ≡ None) (sym e) v.0))
-      | inr v ↦
-          u.3 ∙ ap (short_by g c) (one_rows c d u.0 v.0 u.1 v.1) ∙ ap (λ (x : Chain). short_by g x v.0) e ∙ sym v.3
-    ]
-  ]
 
   one : (s : Stage) (a b : Fault) → Refuses g s a → Refuses g s b → a ≡ b
   one (stages.File part) a b h k = err_err (content_of g part) a b h k
@@ -245,11 +223,13 @@ module _ (law : Laws) (g : Given) where
       let same = one_chain k.0 h.0 k.1.formed h.1.formed in
       let limit = subst (λ (c : Chain). IsPastLimit (relay_plan c) g.until k.2) same k.3 in
       h.4 ∙ ap faults.Limit (law.one_limit h.0 g.until h.2 k.2 h.3 limit) ∙ sym k.4
-  one stages.Rows a b h k = one_rows_fault h.0 k.0 a b (one_chain h.0 k.0 h.1 k.1) h.2 k.2
+  one stages.Rows a b h k =
+      let at = subst (λ (c : Chain). rows_for g c ≡ Err k.2) (one_chain k.0 h.0 k.1 h.1) k.3 in
+      some_some (told_sensors k.2) a b (ap told_sensors (err_err (rows_for g h.0) k.2 h.2 at h.3) ∙ h.4) k.4
   one stages.Schedule a b h k =
-      let fault = moved_fault k.0 h.0 k.1 h.1 k.3 k.2.are h.2.are k.4 in
+      let fault = moved_fault k.0 h.0 k.1 h.1 k.3 k.2 h.2 k.4 in
       let same = law.one_fault (relay_of g h.0 h.1) (text_of g parts.Schedule) h.3 k.3 h.4 fault (relay_told h.0 h.3 a h.5) (relay_told k.0 k.3 b k.5) in
-      let chains = one_chain h.0 k.0 h.2.are.formed k.2.are.formed in
+      let chains = one_chain h.0 k.0 h.2.formed k.2.formed in
       let here = subst (λ (c : Chain). told_relay c h.3 ≡ Some a) chains h.5 in
       some_some (told_relay k.0 k.3) a b (ap (told_relay k.0) (sym same) ∙ here) k.5
   one stages.Values a b h k =

@@ -1,12 +1,14 @@
 -- Scaffolding: the programs, plans and rows that are built so far. It goes when each program has its flat program, its
 -- plan and its sensors.
-use Rattle.std.specs.Prelude.{◌≡◌, ◌<◌, ◌≤◌, ◌⊎◌, ℕ, zero, suc, true, false, List, length, Option, Some, None, Ok}
+use Rattle.std.specs.Prelude.{◌≡◌, ◌<◌, ◌≤◌, ℕ, zero, suc, true, false, List, [], ◌∷◌, Option, Some, None, Result, Ok, Err}
 use Rattle.prl_base.specs.declared.limits.Limit.{Limit}
+use Rattle.prl_base.specs.declared.values.Ty.TheVariants as types
 use Rattle.prl_base.specs.declared.values.Value.{Value}
 use Rattle.prl_ast.specs.Trees.{ProgramTree}
 use Rattle.prl_flow.specs.declared.evaluation.TheConstants.{MAX_VALUES}
 use Rattle.prl_flow.specs.Counts.{dates_before, values_before}
 use Rattle.prl_flow.specs.Programs.{name_of}
+use Rattle.prl_flow.specs.Rows.{Rows}
 use Rattle.prl_chains.specs.declared.chains.Chain.{Chain}
 use Rattle.prl_chains.specs.Chains.{chain_of}
 use Rattle.prl_chains.specs.Facts.{IsChain}
@@ -21,13 +23,15 @@ use Rattle.prl_core.specs.Machine.{CoreView, constants}
 use Rattle.prl_replay.specs.Schedules.{schedule_of}
 use Rattle.prl_replay.specs.Replays.{after_all}
 use Rattle.prl_relays.specs.Relays.{Relay, is_in_time, relay_plan, task_names, machine, input_clock, HasValues, IsHorizonUpTo, IsRelayFault}
+use Rattle.prl_sensors.specs.SensorRows.{Inputs, sensors_of}
+use Rattle.prl_sensors.specs.declared.faults.SensorFault.{SensorFault}
+use Rattle.prl_sensors.specs.declared.faults.SensorFault.TheVariants as sensors
 use Rattle.prl_app.specs.declared.faults.Part.TheVariants as parts
 use Rattle.prl_app.specs.declared.faults.RunFault.TheVariants as runs
 use Rattle.prl_app.specs.declared.faults.Fault.{Fault}
 use Rattle.prl_app.specs.declared.faults.Fault.TheVariants as faults
 use Rattle.prl_app.specs.Given.{Given, text_of}
 use Rattle.prl_app.specs.Parts.{IsProgram}
-use Rattle.prl_app.specs.Rows.{rows_of}
 use Rattle.prl_app.specs.Runs.{too_many}
 
 -- the program is a chain of equations: a flat program in order, with the clocks of its flows
@@ -60,35 +64,32 @@ abbrev pub RefusesHorizon : Given → Fault → Type 0
 RefusesHorizon g fault =
     (c : Chain) × IsTimely g c × (limit : Limit) × IsPastLimit (relay_plan c) g.until limit × (fault ≡ faults.Limit limit)
 
+-- main's one input, which is of integers
+abbrev pub inputs_of : Chain → Inputs
+inputs_of c = record { names = name_of c.flat.in_devices 0 ∷ []; types = types.Int ∷ [] }
+
+-- what the text of the sensors has for main's inputs: as many rows as they have dates are needed
+abbrev pub rows_for : Given → Chain → Result Rows SensorFault
+rows_for g c = sensors_of (inputs_of c) (dates_before g.until (input_clock c) ∷ []) (text_of g parts.Sensors)
+
 -- the rows of the sensor have these values
-pub record AreRows (g : Given) (c : Chain) (values : List Value) : Type 0 where
-  pub formed : IsFormed g c
-  pub rows : rows_of (name_of c.flat.in_devices 0) (text_of g parts.Sensors) ≡ Some values
-
--- how many rows are needed: one for each date of the input
-abbrev pub need : Given → Chain → ℕ
-need g c = dates_before g.until (input_clock c)
-
 pub record HasRows (g : Given) (c : Chain) (values : List Value) : Type 0 where
-  pub are : AreRows g c values
-  pub enough : need g c ≤ length values
+  pub formed : IsFormed g c
+  pub rows : rows_for g c ≡ Ok (values ∷ [])
   pub each : HasValues c values g.until
 
--- the text is no rows
-abbrev pub HasNoRows : Given → Chain → Fault → Type 0
-HasNoRows g c fault =
-    (rows_of (name_of c.flat.in_devices 0) (text_of g parts.Sensors) ≡ None) × (fault ≡ faults.NotBuilt parts.Sensors)
-
-abbrev pub short_by : Given → Chain → List Value → Fault
-short_by g c values = faults.Short (name_of c.flat.in_devices 0) (length values) (need g c)
-
--- there are too few rows
-abbrev pub HasFewRows : Given → Chain → Fault → Type 0
-HasFewRows g c fault =
-    (values : List Value) × AreRows g c values × (length values < need g c) × (fault ≡ short_by g c values)
+-- how the faults of rows are told
+abbrev pub told_sensors : SensorFault → Option Fault
+told_sensors (sensors.Row number) = Some (faults.Sensors (sensors.Row number))
+told_sensors (sensors.NoSensor number) = Some (faults.Sensors (sensors.NoSensor number))
+told_sensors (sensors.Order number) = Some (faults.Sensors (sensors.Order number))
+told_sensors (sensors.Value number) = Some (faults.Sensors (sensors.Value number))
+told_sensors (sensors.Short name have need) = Some (faults.Sensors (sensors.Short name have need))
+told_sensors sensors.Memory = None
 
 abbrev pub RefusesRows : Given → Fault → Type 0
-RefusesRows g fault = (c : Chain) × IsFormed g c × (HasNoRows g c fault ⊎ HasFewRows g c fault)
+RefusesRows g fault =
+    (c : Chain) × IsFormed g c × (cause : SensorFault) × (rows_for g c ≡ Err cause) × (told_sensors cause ≡ Some fault)
 
 abbrev pub relay_of : Given → Chain → List Value → Relay
 relay_of g c values = record { chain = c; values = values; until = g.until }

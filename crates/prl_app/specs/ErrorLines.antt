@@ -10,6 +10,8 @@ use Rattle.prl_body.specs.declared.faults.BodyFault.{BodyFault}
 use Rattle.prl_body.specs.declared.faults.BodyFault.TheVariants as body_faults
 use Rattle.prl_plan.specs.declared.events.Rule.{Rule}
 use Rattle.prl_plan.specs.Rules.{rule_text}
+use Rattle.prl_sensors.specs.declared.faults.SensorFault.{SensorFault}
+use Rattle.prl_sensors.specs.declared.faults.SensorFault.TheVariants as sensors
 use Rattle.prl_types.specs.declared.faults.TypeFault.{TypeFault}
 use Rattle.prl_types.specs.declared.faults.TypeFault.TheVariants as typing
 use Rattle.prl_app.specs.declared.endings.Ending.{Ending}
@@ -78,6 +80,14 @@ abbrev pub short_line : List ℕ → ℕ → ℕ → List ℕ
 short_line name have need =
     concat (codes "84 short " ∷ name ∷ codes " " ∷ decimal have ∷ codes " " ∷ decimal need ∷ codes "\n" ∷ [])
 
+abbrev pub sensors_line : SensorFault → List ℕ
+sensors_line (sensors.Row number) = placed_line (codes "80 row ") number
+sensors_line (sensors.NoSensor number) = placed_line (codes "81 no sensor ") number
+sensors_line (sensors.Order number) = placed_line (codes "82 order ") number
+sensors_line (sensors.Value number) = placed_line (codes "83 value ") number
+sensors_line (sensors.Short name have need) = short_line name have need
+sensors_line sensors.Memory = codes "memory\n"
+
 abbrev pub illegal_line : ℕ → Rule → List ℕ
 illegal_line line rule = concat (codes "71 illegal line " ∷ decimal line ∷ codes " rule " ∷ rule_text rule ∷ codes "\n" ∷ [])
 
@@ -96,7 +106,7 @@ line_of_fault command (faults.Grammar fault) = grammar_line fault
 line_of_fault command (faults.Types fault) = types_line fault
 line_of_fault command (faults.Bodies fault) = bodies_line fault
 line_of_fault command (faults.NotBuilt part) = named_line (codes "9 not built ") (file_name command part)
-line_of_fault command (faults.Short name have need) = short_line name have need
+line_of_fault command (faults.Sensors fault) = sensors_line fault
 line_of_fault command (faults.Limit limit) = limit_line limit
 line_of_fault command (faults.Schedule fault) = schedule_line fault
 

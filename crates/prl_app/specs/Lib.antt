@@ -4,8 +4,6 @@ pub mod Words
 pub mod Given
 -- The program and the bodies that the texts are.
 pub mod Parts
--- The rows of a sensor.
-pub mod Rows
 -- Scaffolding: the programs and plans that are built so far.
 pub mod Built
 -- What is to be computed, and its text.

@@ -1,3 +1,4 @@
 pub mod Settings
 pub mod Stops
 pub mod Performed
+pub mod Numbers

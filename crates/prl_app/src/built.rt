@@ -1,40 +1,39 @@
 //! Scaffolding: the stages over the programs, the plans and the rows that are built so far. It goes when each program
 //! has its flat program, its plan and its sensors.
 
-ghost use Rattle.std.specs.Prelude.{◌≡◌, ◌<◌, ◌≤◌, ◌^◌, ℕ, None, Some, IfOk, IfErr, IsTrue, IfSome, length, map, true};
-ghost use Rattle.std.specs.Vec.{vec_items};
+ghost use Rattle.std.specs.Prelude.{◌≡◌, ◌<◌, ◌≤◌, ◌^◌, ℕ, [], ◌∷◌, Some, IfOk, IfErr, map};
 ghost use Rattle.prl_base.specs.Clocks.{date_at};
 ghost use Rattle.prl_ast.specs.Trees.{program_tree};
 ghost use Rattle.prl_body.specs.Checks.{body_tree};
 ghost use Rattle.prl_flow.specs.Applications.{HaveBodies};
 ghost use Rattle.prl_flow.specs.Counts.{dates_before};
-ghost use Rattle.prl_flow.specs.Programs.{name_of};
+ghost use Rattle.prl_flow.specs.Rows.{rows_of};
 ghost use Rattle.prl_chains.specs.Facts.{IsChain};
 ghost use Rattle.prl_plan.specs.Plans.{IsPlan};
 ghost use Rattle.prl_relays.specs.Relays.{input_clock, relay_plan, HasValues, IsHorizonUpTo};
 ghost use Rattle.prl_app.specs.declared.faults.Fault.{Fault as AnyFault};
-ghost use Rattle.prl_app.specs.Built.{device_name, short_by, need, told_relay, IsFormed, IsTimely, HasHorizon, AreRows, HasRows, HasNoRows, HasFewRows, relay_of};
+ghost use Rattle.prl_app.specs.Built.{device_name, told_relay, IsFormed, IsTimely, HasHorizon, HasRows, relay_of};
 ghost use Rattle.prl_app.specs.Parts.{IsProgram, AreBodies};
-ghost use Rattle.prl_app.specs.Rows.{rows_of, AreNumbers};
 ghost use Rattle.prl_app.specs.Runs.{chain_run, IsReady};
 ghost use Rattle.prl_app.specs.Stages.{Holds, IsText};
+ghost use Rattle.prl_app.specs.code.Numbers.{AreNumbers};
 ghost use Rattle.prl_app.specs.code.Stops.{given_of, stop_of, StopsAt, StopsBy};
 
 use crate::faults::{Fault, Part, RunFault};
 use crate::reading::Texts;
-use crate::rows::rows_of;
 use crate::runs::{Run, chain_run, run_text};
 use crate::stages::{Stage, Stop};
 use crate::words::{Command, Mode};
 use prl_ast::Program;
-use prl_base::{Name, TaskNo, Value};
+use prl_base::{Name, TaskNo, Ty};
 use prl_body::Bodies;
 use prl_chains::{
     Chain, applied_imports_have_bodies, chain_of, numbers_are_rows, one_sensor_suffices,
 };
-use prl_flow::dates_before;
+use prl_flow::{Sensors, dates_before};
 use prl_plan::{Horizon, Plan};
 use prl_relays::{RelayFault, is_in_time, plan_of, replay_text};
+use prl_sensors::{SensorFault, read_sensors, rows_are_typed_and_enough};
 use std::alloc::{AllocError, Global};
 
 /// The chain of equations that the program is.
@@ -89,24 +88,6 @@ pub fn plan(
     }
 }
 
-/// The values of the rows of the chain's sensor.
-fn read_values(
-    alloc: Global,
-    command: &Command,
-    texts: &Texts,
-    chain: &Chain,
-) -> Result<Vec<Value>, Stop>
-    requires { IsFormed (given_of command.now texts.now) chain.now }
-    ensures found { IfOk result (λ values. AreRows (given_of command.now texts.now) chain.now values.items) }
-    ensures numbers { IfOk result (λ values. AreNumbers values.items) }
-    ensures stop { IfErr result (StopsBy Stage.Rows (HasNoRows (given_of command.now texts.now) chain.now)) }
-{
-    match rows_of(alloc, chain.flat.in_name(0).bytes(), &texts.sensors)? {
-        Some(values) => Ok(values),
-        None => Err(Stop::Refused(Stage::Rows, Fault::NotBuilt(Part::Sensors))),
-    }
-}
-
 /// How many rows the input needs: one for each date of its clock.
 fn rows_needed(chain: &Chain, until: u32) -> u64
     requires { IsChain chain.now }
@@ -116,47 +97,57 @@ fn rows_needed(chain: &Chain, until: u32) -> u64
     dates_before(until as u64, chain.input_clock())
 }
 
-/// The values of the rows of the chain's sensor: one for each date of the input below the date of the command, or more.
+impl From<SensorFault> for Stop {
+    ghost use Rattle.std.specs.Prelude.{◌≡◌};
+    ghost use Rattle.prl_app.specs.declared.stages.Stage.TheVariants.{Rows};
+    ghost use Rattle.prl_app.specs.Built.{told_sensors};
+    ghost use Rattle.prl_app.specs.code.Numbers.{AreNumbers};
+ghost use Rattle.prl_app.specs.code.Stops.{stop_of};
+
+    ghost from_gives = { λ fault stop. stop ≡ stop_of Rows (told_sensors fault) };
+
+    fn from(fault: SensorFault) -> Stop {
+        match fault {
+            SensorFault::Memory => Stop::Memory,
+            told => Stop::Refused(Stage::Rows, Fault::Sensors(told)),
+        }
+    }
+}
+
+/// The rows of the chain's sensor: one for each date of the input below the date of the command, or more.
 pub fn read_rows(
     alloc: Global,
     command: &Command,
     texts: &Texts,
     chain: &Chain,
-) -> Result<Vec<Value>, Stop>
+) -> Result<Sensors, Stop>
     requires { IsFormed (given_of command.now texts.now) chain.now }
-    ensures found { IfOk result (λ values. HasRows (given_of command.now texts.now) chain.now values.items) }
-    ensures numbers { IfOk result (λ values. AreNumbers values.items) }
+    ensures found { IfOk result (λ sensors. HasRows (given_of command.now texts.now) chain.now (rows_of sensors 0)) }
+    ensures one { IfOk result (λ sensors. sensors ≡ rows_of sensors 0 ∷ []) }
+    ensures numbers { IfOk result (λ sensors. AreNumbers (rows_of sensors 0)) }
     ensures holds { IfOk result (λ _. Holds (given_of command.now texts.now) Stage.Rows) }
     ensures stop { IfErr result (StopsAt (given_of command.now texts.now) Stage.Rows) }
 {
-    let values = read_values(alloc, command, texts, chain)?;
-    let need = rows_needed(chain, command.until);
-    let have = values.len() as u64;
-    if have < need {
-        let name = chain.flat.in_name(0).copy(alloc)?;
-        return Err(Stop::Refused(Stage::Rows, Fault::Short { name, have, need }));
-    }
-    Ok(values)
+    rows_are_typed_and_enough();
+    let names = [chain.flat.in_name(0).copy(alloc)?];
+    let needs = [rows_needed(chain, command.until)];
+    Ok(read_sensors(alloc, &texts.sensors, &names, &[Ty::Int], &needs)?)
 }
 
-/// A chain, its bodies and the values of its input, as what is to be computed.
-fn run_of(
-    alloc: Global,
-    chain: Chain,
-    bodies: Bodies,
-    values: Vec<Value>,
-    until: u32,
-) -> Result<Run, AllocError>
+/// A chain, its bodies and the rows of its sensor, as what is to be computed.
+fn run_of(chain: Chain, bodies: Bodies, sensors: Sensors, until: u32) -> Run
     requires chain { IsChain chain }
     requires bodies { HaveBodies chain.flat bodies }
-    requires values { HasValues chain values.items until }
-    requires numbers { AreNumbers values.items }
+    requires one { sensors ≡ rows_of sensors 0 ∷ [] }
+    requires values { HasValues chain (rows_of sensors 0) until }
+    requires numbers { AreNumbers (rows_of sensors 0) }
     requires until { until < 2 ^ 31 }
-    ensures { IfOk result (λ run. (run ≡ chain_run chain bodies values.items until) × IsReady run) }
+    ensures run { result ≡ chain_run chain bodies (rows_of sensors 0) until }
+    ensures ready { IsReady result }
 {
     one_sensor_suffices();
     numbers_are_rows();
-    Ok(chain_run(alloc, chain, bodies, values, until)?)
+    chain_run(chain, bodies, sensors, until)
 }
 
 /// The text of the actuators.
@@ -166,18 +157,19 @@ pub fn flows_of(
     texts: &Texts,
     chain: Chain,
     bodies: Bodies,
-    values: Vec<Value>,
+    sensors: Sensors,
 ) -> Result<Vec<u8>, Stop>
     requires until { command.now.until < 2 ^ 31 }
     requires bodies { AreBodies (given_of command.now texts.now) (map body_tree bodies) }
-    requires rows { HasRows (given_of command.now texts.now) chain values.items }
-    requires numbers { AreNumbers values.items }
+    requires rows { HasRows (given_of command.now texts.now) chain (rows_of sensors 0) }
+    requires one { sensors ≡ rows_of sensors 0 ∷ [] }
+    requires numbers { AreNumbers (rows_of sensors 0) }
     ensures text { IfOk result (λ text. IsText (given_of command.now texts.now) Mode.Flows text.items) }
     ensures holds { IfOk result (λ _. Holds (given_of command.now texts.now) Stage.Values) }
     ensures stop { IfErr result (StopsAt (given_of command.now texts.now) Stage.Values) }
 {
     applied_imports_have_bodies();
-    let run = run_of(alloc, chain, bodies, values, command.until)?;
+    let run = run_of(chain, bodies, sensors, command.until);
     run_text(alloc, &run)
 }
 
@@ -217,17 +209,18 @@ pub fn replay_of(
     texts: &Texts,
     chain: &Chain,
     planned: (Plan, Horizon),
-    values: Vec<Value>,
+    sensors: &Sensors,
 ) -> Result<Vec<u8>, Stop>
     requires plan { planned.0 ≡ relay_plan chain.now }
     requires horizon { HasHorizon (given_of command.now texts.now) chain.now planned.1 }
-    requires rows { HasRows (given_of command.now texts.now) chain.now values.items }
+    requires rows { HasRows (given_of command.now texts.now) chain.now (rows_of sensors.now 0) }
+    requires one { sensors.now ≡ rows_of sensors.now 0 ∷ [] }
     ensures text { IfOk result (λ text. IsText (given_of command.now texts.now) Mode.Replay text.items) }
     ensures holds { IfOk result (λ _. Holds (given_of command.now texts.now) Stage.Schedule) }
     ensures stop { IfErr result (StopsAt (given_of command.now texts.now) Stage.Schedule) }
 {
     let (plan, horizon) = planned;
-    match replay_text(alloc, chain, values, &plan, horizon, &texts.schedule) {
+    match replay_text(alloc, chain, sensors, &plan, horizon, &texts.schedule) {
         Ok(text) => Ok(text),
         Err(fault) => Err(of_relay(alloc, chain, fault)),
     }

@@ -3,6 +3,7 @@
 use prl_base::{Limit, Name};
 use prl_body::BodyFault;
 use prl_plan::Rule;
+use prl_sensors::SensorFault;
 use prl_types::TypeFault;
 
 /// A file that a command names.
@@ -51,8 +52,8 @@ pub enum Fault {
     Bodies(BodyFault),
     /// The file is not of the form that is built so far.
     NotBuilt(Part),
-    /// The sensor has fewer rows than its flow has dates.
-    Short { name: Name, have: u64, need: u64 },
+    /// The rows of the sensors are not right, or too few.
+    Sensors(SensorFault),
     /// A count is past its limit.
     Limit(Limit),
     /// The schedule is no whole run.

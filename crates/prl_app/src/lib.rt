@@ -10,7 +10,6 @@ mod lines;
 mod pipeline;
 mod programs;
 mod reading;
-mod rows;
 mod runs;
 mod stages;
 mod top;

@@ -2,7 +2,7 @@
 
 ghost use Rattle.std.specs.Prelude.{◌≡◌, ◌<◌, ◌≤◌, [], unwrap_or, OnErr};
 ghost use Rattle.prl_io.specs.Growth.{IsWritten};
-ghost use Rattle.prl_app.specs.ErrorLines.{file_name, named_line, placed_line, grammar_line, mismatch_line, type_free_line, types_line, limit_line, bodies_line, short_line, illegal_line, unfinished_line, schedule_line, line_of_fault, line_of_stop, line_of};
+ghost use Rattle.prl_app.specs.ErrorLines.{file_name, named_line, placed_line, grammar_line, mismatch_line, type_free_line, types_line, limit_line, bodies_line, short_line, sensors_line, illegal_line, unfinished_line, schedule_line, line_of_fault, line_of_stop, line_of};
 ghost use Rattle.prl_app.specs.Endings.{IsTold};
 
 use crate::endings::Ending;
@@ -14,6 +14,7 @@ use prl_base::{Label, Limit, Ty};
 use prl_body::BodyFault;
 use prl_io::{Failed, Sink, write_all, write_pieces};
 use prl_plan::Rule;
+use prl_sensors::SensorFault;
 use prl_types::TypeFault;
 
 fn label_bytes(label: &Option<Label>) -> &[u8]
@@ -49,7 +50,7 @@ fn write_two<E: Sink>(err: &mut E, front: &[u8], name: &[u8]) -> Result<(), Fail
     write_pieces(err, &[front, name, b"\n".as_slice()])
 }
 
-/// Writes a line that ends in a place of the text, or in the number of a line.
+/// Writes a line that ends in a place of the text, or in the number of a line or a record.
 fn write_placed<E: Sink>(err: &mut E, front: &[u8], at: u64) -> Result<(), Failed>
     ensures grown { IsWritten (E.seen err.old).written (E.seen err.new).written (placed_line front.now at) result }
     ensures counted { (E.seen err.old).faults ≤ (E.seen err.new).faults }
@@ -134,6 +135,22 @@ fn write_short<E: Sink>(err: &mut E, name: &[u8], have: u64, need: u64) -> Resul
     let blank = b" ".as_slice();
     let end = b"\n".as_slice();
     write_pieces(err, &[front, name, blank, have, blank, need, end])
+}
+
+/// Writes the line of rows that are not right, or too few.
+fn write_sensors<E: Sink>(err: &mut E, fault: &SensorFault) -> Result<(), Failed>
+    ensures grown { IsWritten (E.seen err.old).written (E.seen err.new).written (sensors_line fault.now) result }
+    ensures counted { (E.seen err.old).faults ≤ (E.seen err.new).faults }
+    ensures failed { OnErr result ((E.seen err.old).faults < (E.seen err.new).faults) }
+{
+    match fault {
+        SensorFault::Row(number) => write_placed(err, b"80 row ", *number),
+        SensorFault::NoSensor(number) => write_placed(err, b"81 no sensor ", *number),
+        SensorFault::Order(number) => write_placed(err, b"82 order ", *number),
+        SensorFault::Value(number) => write_placed(err, b"83 value ", *number),
+        SensorFault::Short { name, have, need } => write_short(err, name.bytes(), *have, *need),
+        SensorFault::Memory => write_all(err, b"memory\n"),
+    }
 }
 
 /// Writes the line of a limit that is passed.
@@ -224,7 +241,7 @@ fn write_fault<E: Sink>(err: &mut E, command: &Option<Command>, fault: &Fault) -
         Fault::Types(fault) => write_types(err, fault),
         Fault::Bodies(fault) => write_bodies(err, fault),
         Fault::NotBuilt(part) => write_two(err, b"9 not built ", file_name(command, *part)),
-        Fault::Short { name, have, need } => write_short(err, name.bytes(), *have, *need),
+        Fault::Sensors(fault) => write_sensors(err, fault),
         Fault::Limit(limit) => write_limit(err, *limit),
         Fault::Schedule(fault) => write_schedule(err, fault),
     }

@@ -37,8 +37,8 @@ fn flows_text(alloc: Global, command: &Command, texts: &Texts) -> Result<Vec<u8>
     let typed = check_types(alloc, command, texts, &program)?;
     let bodies = read_bodies(alloc, command, texts, &program, typed.main())?;
     let chain = form(alloc, command, texts, &program)?;
-    let values = read_rows(alloc, command, texts, &chain)?;
-    flows_of(alloc, command, texts, chain, bodies, values)
+    let sensors = read_rows(alloc, command, texts, &chain)?;
+    flows_of(alloc, command, texts, chain, bodies, sensors)
 }
 
 /// Mode `replay`.
@@ -55,8 +55,8 @@ fn replayed_text(alloc: Global, command: &Command, texts: &Texts) -> Result<Vec<
     let copies = form(alloc, command, texts, &program)?;
     check_timing(command, texts, &copies)?;
     let planned = plan(alloc, command, texts, &copies)?;
-    let values = read_rows(alloc, command, texts, &copies)?;
-    replay_of(alloc, command, texts, &copies, planned, values)
+    let sensors = read_rows(alloc, command, texts, &copies)?;
+    replay_of(alloc, command, texts, &copies, planned, &sensors)
 }
 
 /// The text of the mode of the command.

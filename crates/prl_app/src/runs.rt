@@ -4,6 +4,7 @@ ghost use Rattle.std.specs.Prelude.{◌≡◌, ◌<◌, ◌≤◌, ◌^◌, IfOk
 ghost use Rattle.std.specs.Vec.{vec_items};
 ghost use Rattle.prl_base.specs.Clocks.{IsClock};
 ghost use Rattle.prl_flow.specs.Programs.{IsFlat};
+ghost use Rattle.prl_flow.specs.Rows.{rows_of};
 ghost use Rattle.prl_flow.specs.Solutions.{AreClocks};
 ghost use Rattle.prl_flow.specs.Counts.{values_before};
 ghost use Rattle.prl_flow.specs.declared.evaluation.TheConstants.{MAX_VALUES};
@@ -12,7 +13,7 @@ ghost use Rattle.prl_app.specs.code.Stops.{StopsBy};
 
 use crate::faults::Fault;
 use crate::stages::{Stage, Stop};
-use prl_base::{FlowNo, Seq, Value};
+use prl_base::{FlowNo, Seq};
 use prl_body::Bodies;
 use prl_chains::Chain;
 use prl_flow::{Clocks, Flat, FlowFault, FlowTable, OutFlow, Sensors, evaluate};
@@ -30,24 +31,18 @@ pub struct Run {
     pub until: u32,
 }
 
-/// What a chain and the values of its input ask to be computed.
-pub fn chain_run(
-    alloc: Global,
-    chain: Chain,
-    bodies: Bodies,
-    values: Vec<Value>,
-    until: u32,
-) -> Result<Run, AllocError>
-    ensures { IfOk result (λ run. run ≡ chain_run chain bodies values.items until) }
+/// What a chain and the rows of its sensor ask to be computed.
+pub fn chain_run(chain: Chain, bodies: Bodies, sensors: Sensors, until: u32) -> Run
+    requires { sensors ≡ rows_of sensors 0 ∷ [] }
+    ensures { result ≡ chain_run chain bodies (rows_of sensors 0) until }
 {
-    let sensors = Sensors::new(vec![in alloc; Seq::new(values)]?);
-    Ok(Run {
+    Run {
         flat: chain.flat,
         clocks: chain.clocks,
         bodies,
         sensors,
         until,
-    })
+    }
 }
 
 /// The flow of main's output `k`, with its name and clock.

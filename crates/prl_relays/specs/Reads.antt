@@ -1,7 +1,6 @@
 -- The lines that tell what the jobs of a run read.
 use Rattle.std.specs.Prelude.{◌++◌, ℕ, List, [], slice_index_or, codes}
 use Rattle.std.specs.Fmt.{decimal}
-use Rattle.prl_base.specs.declared.values.Value.{Value}
 use Rattle.prl_base.specs.Texts.{value_text}
 use Rattle.prl_core.specs.declared.seen.Seen.{Seen}
 use Rattle.prl_core.specs.declared.seen.Seen.TheVariants as sights

@@ -3,6 +3,7 @@
 ghost use Rattle.std.specs.Prelude.{◌≡◌, ◌<◌, ◌^◌, ℕ, [], ◌∷◌, All, IfOk, MatchResult, length};
 ghost use Rattle.std.specs.Vec.{vec_items};
 ghost use Rattle.prl_flow.specs.Actuators.{AreUpTo, actuator_text};
+ghost use Rattle.prl_flow.specs.Rows.{rows_of};
 ghost use Rattle.prl_chains.specs.Facts.{IsChain};
 ghost use Rattle.prl_replay.specs.Schedules.{schedule_of, IsOfTasks};
 ghost use Rattle.prl_plan.specs.Horizons.{IsHorizon};
@@ -13,7 +14,7 @@ use crate::reads::reads_text;
 use crate::runs::replayed;
 use prl_base::{Label, Seq, TaskNo, Value};
 use prl_chains::Chain;
-use prl_flow::OutFlow;
+use prl_flow::{OutFlow, Sensors};
 use prl_plan::{Event, Horizon, Plan, Rule};
 use prl_replay::{ReplayFault, ScheduleFault, read_schedule};
 use prl_sensors::actuator_text;
@@ -95,30 +96,31 @@ fn output_rows(alloc: Global, chain: &Chain, outputs: Vec<Value>) -> Result<Vec<
 }
 
 /// The replay of a schedule, in a horizon of the chain's plan: a line `read TASK JOB PORT INSTANCE CELL VALUE` for each read, in
-/// order, and then the rows `NAME,INSTANCE,DATE,VALUE` of the actuator by date. The values are those of the sensor's instances,
-/// from 0 on, one for each date of the input or more, and the chain is one that
+/// order, and then the rows `NAME,INSTANCE,DATE,VALUE` of the actuator by date. The one sensor has a value for each date of the
+/// input, or more, and the chain is one that
 /// `is_in_time` takes. Refused are, in this order: a line that is no event, the first event that breaks a rule, and the first
 /// job that has not ended.
 pub fn replay_text(
     alloc: Global,
     chain: &Chain,
-    values: Vec<Value>,
+    sensors: &Sensors,
     plan: &Plan,
     horizon: Horizon,
     schedule: &[u8],
 ) -> Result<Vec<u8>, RelayFault>
-    requires ready { IsReady (record { chain = chain.now; values = values.items; until = horizon.until }) }
+    requires ready { IsReady (record { chain = chain.now; values = rows_of sensors.now 0; until = horizon.until }) }
+    requires one { sensors.now ≡ rows_of sensors.now 0 ∷ [] }
     requires plan { plan.now ≡ relay_plan chain.now }
     requires horizon { IsHorizon plan.now horizon }
-    ensures { MatchResult result (λ text. IsReplayText (record { chain = chain.now; values = values.items; until = horizon.until }) schedule.now text.items)
-        (IsRelayFault (record { chain = chain.now; values = values.items; until = horizon.until }) schedule.now) }
+    ensures { MatchResult result (λ text. IsReplayText (record { chain = chain.now; values = rows_of sensors.now 0; until = horizon.until }) schedule.now text.items)
+        (IsRelayFault (record { chain = chain.now; values = rows_of sensors.now 0; until = horizon.until }) schedule.now) }
 {
     let names = task_names(alloc, chain)?;
     let events = match events_of(alloc, &names, schedule) {
         Ok(events) => events,
         Err(fault) => return Err(fault),
     };
-    let run = match replayed(alloc, chain, values, plan, horizon, &events) {
+    let run = match replayed(alloc, chain, sensors, plan, horizon, &events) {
         Ok(run) => run,
         Err(fault) => return Err(of_fault(fault)),
     };

@@ -1,27 +1,19 @@
 //! A whole run of a chain's plan: what its jobs read, and the values of its actuator.
 
 ghost use Rattle.std.specs.Prelude.{◌≡◌, ◌∷◌, [], All, IfOk, MatchResult};
+ghost use Rattle.prl_flow.specs.Rows.{rows_of};
 ghost use Rattle.prl_plan.specs.Horizons.{IsHorizon};
 ghost use Rattle.prl_replay.specs.Replays.{IsReplay, IsReplayFault};
 ghost use Rattle.prl_replay.specs.Schedules.{IsOfTasks};
 ghost use Rattle.prl_relays.specs.Relays.{relay_plan, machine, IsReady, IsOutput, AreOperands};
 
-use prl_base::{Seq, Value};
+use prl_base::Value;
 use prl_chains::{Chain, copies_hand_on};
 use prl_core::{Core, Seen};
 use prl_flow::Sensors;
 use prl_plan::{Event, Horizon, Plan, gated_list_keeps_halves, legal_list_is_gated, plan_facts};
 use prl_replay::{ReplayFault, replay};
-use std::alloc::{AllocError, Global};
-
-/// The rows of the one sensor.
-fn sensors_of(alloc: Global, values: Vec<Value>) -> Result<Sensors, AllocError>
-    ensures { IfOk result (λ sensors. sensors ≡ values.items ∷ []) }
-{
-    let mut rows = Vec::with_capacity(alloc, 1)?;
-    rows.push(Seq::new(values))?;
-    Ok(Sensors::new(rows))
-}
+use std::alloc::Global;
 
 /// What the jobs of a whole run read, and what it gives.
 #[derive(Debug, Drop)]
@@ -35,29 +27,26 @@ pub(crate) struct WholeRun {
 pub(crate) fn replayed(
     alloc: Global,
     chain: &Chain,
-    values: Vec<Value>,
+    sensors: &Sensors,
     plan: &Plan,
     horizon: Horizon,
     events: &[Event],
 ) -> Result<WholeRun, ReplayFault>
-    requires ready { IsReady (record { chain = chain.now; values = values.items; until = horizon.until }) }
+    requires ready { IsReady (record { chain = chain.now; values = rows_of sensors.now 0; until = horizon.until }) }
+    requires one { sensors.now ≡ rows_of sensors.now 0 ∷ [] }
     requires plan { plan.now ≡ relay_plan chain.now }
     requires horizon { IsHorizon plan.now horizon }
     requires events { All (IsOfTasks 2) events.now }
-    ensures run { MatchResult result (λ run. IsReplay (machine (record { chain = chain.now; values = values.items; until = horizon.until }) horizon) events.now run.reads.items)
-        (IsReplayFault (machine (record { chain = chain.now; values = values.items; until = horizon.until }) horizon) events.now) }
-    ensures solved { IfOk result (λ run. IsOutput (record { chain = chain.now; values = values.items; until = horizon.until }) run.outputs.items) }
+    ensures run { MatchResult result (λ run. IsReplay (machine (record { chain = chain.now; values = rows_of sensors.now 0; until = horizon.until }) horizon) events.now run.reads.items)
+        (IsReplayFault (machine (record { chain = chain.now; values = rows_of sensors.now 0; until = horizon.until }) horizon) events.now) }
+    ensures solved { IfOk result (λ run. IsOutput (record { chain = chain.now; values = rows_of sensors.now 0; until = horizon.until }) run.outputs.items) }
     ensures operands { IfOk result (λ run. AreOperands run.outputs.items run.reads.items) }
 {
     copies_hand_on();
     legal_list_is_gated();
     gated_list_keeps_halves();
     plan_facts(plan, horizon);
-    let sensors = match sensors_of(alloc, values) {
-        Ok(sensors) => sensors,
-        Err(_) => return Err(ReplayFault::Memory),
-    };
-    let mut core = match Core::new(alloc, plan, &sensors, horizon) {
+    let mut core = match Core::new(alloc, plan, sensors, horizon) {
         Ok(core) => core,
         Err(_) => return Err(ReplayFault::Memory),
     };

@@ -1,1 +1,4 @@
 pub mod RowDates
+pub mod LeftRecords
+pub mod RowsRead
+pub mod TypedRows

@@ -5,9 +5,9 @@ ghost use Rattle.prl_chains.specs.Facts.{IsChain};
 ghost use Rattle.prl_relays.specs.Relays.{HasValues};
 
 use crate::schedules::{WHOLE, WHOLE_CELLS};
-use prl_base::{TaskNo, Value};
+use prl_base::{Seq, TaskNo, Value};
 use prl_chains::{Chain, chain_of};
-use prl_flow::dates_before;
+use prl_flow::{Sensors, dates_before};
 use prl_plan::{Horizon, Rule};
 use prl_relays::{RelayFault, is_in_time, plan_of, replay_text};
 use prl_syntax::parse;
@@ -33,7 +33,8 @@ fn outcome_of(alloc: Global, schedule: &str) -> Result<Result<Vec<u8>, RelayFaul
     }
     let plan = plan_of(alloc, &chain)?;
     let horizon = Horizon::new(&plan, 20).ok().ok_or("past a limit")?;
-    Ok(replay_text(alloc, &chain, values, &plan, horizon, schedule.as_bytes()))
+    let sensors = Sensors::new(vec![in alloc; Seq::new(values)]?);
+    Ok(replay_text(alloc, &chain, &sensors, &plan, horizon, schedule.as_bytes()))
 }
 
 #[test]

@@ -1,4 +1,4 @@
-//! Tests of the public calls on values: operators and bodies, the flows of chains, and the actuators' text.
+//! Tests of the public calls on values: operators and bodies, the flows of chains, rows of sensors, and the actuators' text.
 #![tactic(auto)]
 
 #[cfg(test)]
@@ -7,3 +7,5 @@ mod actuators;
 mod bodies;
 #[cfg(test)]
 mod chains;
+#[cfg(test)]
+mod sensors;

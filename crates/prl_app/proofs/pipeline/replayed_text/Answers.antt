@@ -7,9 +7,9 @@ use Rattle.prl_app.specs.code.Stops.{given_of, AllHold, StopsAt, StopsIn}
 use Rattle.prl_app.proofs.Stops.{ok_map, err_map}
 use Rattle.prl_app.proofs.pipeline.replayed_text.Goals as goal
 
-pub returns-in_err-values-clause-stop : goal.returns-in_err-values-clause-stop
-returns-in_err-values-clause-stop c =
-    let p = err_from_is_err_and c.from_residual-in_err-values.result c.from_residual-in_err-values.ensures.1 in
+pub returns-in_err-sensors-clause-stop : goal.returns-in_err-sensors-clause-stop
+returns-in_err-sensors-clause-stop c =
+    let p = err_from_is_err_and c.from_residual-in_err-sensors.result c.from_residual-in_err-sensors.ensures.1 in
     rw (p.1, p.2) (inr (
       c.in_ok-program.ensures.holds,
       inr (
@@ -18,7 +18,7 @@ returns-in_err-values-clause-stop c =
           c.in_ok-_bodies.ensures.holds,
           inr (
             c.in_ok-copies.ensures.holds,
-            inr (c.in_ok-check_timing.ensures.holds, inr (c.in_ok-planned.ensures.holds, inl c.in_err-values.ensures.stop)),
+            inr (c.in_ok-check_timing.ensures.holds, inr (c.in_ok-planned.ensures.holds, inl c.in_err-sensors.ensures.stop)),
           ),
         ),
       ),
@@ -36,7 +36,7 @@ returns-clause-holds c =
           c.in_ok-_bodies.ensures.holds,
           (
             c.in_ok-copies.ensures.holds,
-            (c.in_ok-check_timing.ensures.holds, (c.in_ok-planned.ensures.holds, (c.in_ok-values.ensures.holds, (schedule, tt)))),
+            (c.in_ok-check_timing.ensures.holds, (c.in_ok-planned.ensures.holds, (c.in_ok-sensors.ensures.holds, (schedule, tt)))),
           ),
         ),
       ),
@@ -55,7 +55,7 @@ returns-clause-stop c =
           c.in_ok-_bodies.ensures.holds,
           inr (
             c.in_ok-copies.ensures.holds,
-            inr (c.in_ok-check_timing.ensures.holds, inr (c.in_ok-planned.ensures.holds, inr (c.in_ok-values.ensures.holds, inl at))),
+            inr (c.in_ok-check_timing.ensures.holds, inr (c.in_ok-planned.ensures.holds, inr (c.in_ok-sensors.ensures.holds, inl at))),
           ),
         ),
       ),

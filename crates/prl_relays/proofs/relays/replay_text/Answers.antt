@@ -1,4 +1,5 @@
 use Rattle.std.proofs.Common.{◌≡◌, ℕ, List, Ok, refl, ◌∙◌, subst, arith}
+use Rattle.prl_flow.specs.Rows.{rows_of}
 use Rattle.prl_plan.specs.Plans.{PlanView}
 use Rattle.prl_plan.specs.Horizons.{IsHorizon}
 use Rattle.prl_replay.specs.Schedules.{schedule_of}
@@ -8,12 +9,12 @@ use Rattle.prl_relays.proofs.relays.replay_text.Goals as goal
 
 pub output_rows-requires-clause-up_to : goal.output_rows-requires-clause-up_to
 output_rows-requires-clause-up_to c =
-    let r : Relay = record { chain = c.args.chain.now; values = c.args.values.items; until = c.args.horizon.until } in
+    let r : Relay = record { chain = c.args.chain.now; values = rows_of c.args.sensors.now 0; until = c.args.horizon.until } in
     (c.args.horizon.until, (let small = c.requires.horizon.until in omega (arith, small)), outputs_up_to r c.in-Ok-replayed.run'.outputs.items c.requires.ready c.in-Ok-replayed.ensures.solved)
 
 pub returns : goal.returns
 returns c =
-    let r : Relay = record { chain = c.args.chain.now; values = c.args.values.items; until = c.args.horizon.until } in
+    let r : Relay = record { chain = c.args.chain.now; values = rows_of c.args.sensors.now 0; until = c.args.horizon.until } in
     let out = c.in-Ok-replayed.run'.outputs.items in
     let named = c.deref.ensures.value ∙ c.in_ok-names.ensures in
     record {

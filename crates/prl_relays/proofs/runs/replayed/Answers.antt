@@ -2,6 +2,7 @@ use Rattle.std.proofs.Common.{◌≡◌, ℕ, List, lit≤, refl, sym, ap, ◌�
 use Rattle.std.specs.Prelude.{nat_le, ◌+◌}
 use Rattle.prl_base.specs.declared.values.Value.{Value}
 use Rattle.prl_flow.specs.Programs.{wcet_of}
+use Rattle.prl_flow.specs.Rows.{rows_of}
 use Rattle.prl_chains.specs.Relays.{is_relay}
 use Rattle.prl_core.specs.Machine.{CoreView, Drives}
 use Rattle.prl_replay.specs.Replays.{IsReplay, after_all}
@@ -13,30 +14,30 @@ use Rattle.prl_relays.proofs.runs.replayed.Goals as goal
 
 pub new-requires-clause-rows : goal.new-requires-clause-rows
 new-requires-clause-rows c =
-    core_rows (record { chain = c.args.chain.now; values = c.args.values.items; until = c.args.horizon.until }) c.args.plan.now c.in-Ok.sensors
-    c.requires.ready c.requires.plan c.in-Ok.ensures
+    core_rows (record { chain = c.args.chain.now; values = rows_of c.args.sensors.now 0; until = c.args.horizon.until }) c.args.plan.now c.args.sensors.now
+    c.requires.ready c.requires.plan c.requires.one
 
 pub output-requires : goal.output-requires
 output-requires c =
-    let r : Relay = record { chain = c.args.chain.now; values = c.args.values.items; until = c.args.horizon.until } in
-    let is : c.in-Ok-new.core ≡ machine r c.args.horizon =
-    core_is r c.args.horizon c.in-Ok-new.core c.args.plan.now c.in-Ok.sensors c.in-Ok-new.ensures c.requires.plan c.in-Ok.ensures in
+    let r : Relay = record { chain = c.args.chain.now; values = rows_of c.args.sensors.now 0; until = c.args.horizon.until } in
+    let is : c.in-Ok.core ≡ machine r c.args.horizon =
+    core_is r c.args.horizon c.in-Ok.core c.args.plan.now c.args.sensors.now c.in-Ok.ensures c.requires.plan c.requires.one in
     let left : c.replay.new.core ≡ after_all (machine r c.args.horizon) c.args.events.now =
     c.in_ok-reads.ensures.state ∙ ap (λ (m : CoreView). after_all m c.args.events.now) is in
     subst (λ (m : CoreView). (i : ℕ) × Drives m.plan i 0) (sym left) (1, (lit≤ tt, refl))
 
 pub returns-in-Ok-from_slice-clause-run : goal.returns-in-Ok-from_slice-clause-run
 returns-in-Ok-from_slice-clause-run c =
-    let r : Relay = record { chain = c.args.chain.now; values = c.args.values.items; until = c.args.horizon.until } in
-    let is : c.in-Ok-new.core ≡ machine r c.args.horizon =
-    core_is r c.args.horizon c.in-Ok-new.core c.args.plan.now c.in-Ok.sensors c.in-Ok-new.ensures c.requires.plan c.in-Ok.ensures in
+    let r : Relay = record { chain = c.args.chain.now; values = rows_of c.args.sensors.now 0; until = c.args.horizon.until } in
+    let is : c.in-Ok.core ≡ machine r c.args.horizon =
+    core_is r c.args.horizon c.in-Ok.core c.args.plan.now c.args.sensors.now c.in-Ok.ensures c.requires.plan c.requires.one in
     subst (λ (m : CoreView). IsReplay m c.args.events.now c.in_ok-reads.reads.items) is c.in_ok-reads.ensures.run
 
 pub returns-in-Ok-from_slice-clause-solved : goal.returns-in-Ok-from_slice-clause-solved
 returns-in-Ok-from_slice-clause-solved c =
-    let r : Relay = record { chain = c.args.chain.now; values = c.args.values.items; until = c.args.horizon.until } in
-    let is : c.in-Ok-new.core ≡ machine r c.args.horizon =
-    core_is r c.args.horizon c.in-Ok-new.core c.args.plan.now c.in-Ok.sensors c.in-Ok-new.ensures c.requires.plan c.in-Ok.ensures in
+    let r : Relay = record { chain = c.args.chain.now; values = rows_of c.args.sensors.now 0; until = c.args.horizon.until } in
+    let is : c.in-Ok.core ≡ machine r c.args.horizon =
+    core_is r c.args.horizon c.in-Ok.core c.args.plan.now c.args.sensors.now c.in-Ok.ensures c.requires.plan c.requires.one in
     let run : IsReplay (machine r c.args.horizon) c.args.events.now c.in_ok-reads.reads.items =
     subst (λ (m : CoreView). IsReplay m c.args.events.now c.in_ok-reads.reads.items) is c.in_ok-reads.ensures.run in
     let left = c.in_ok-reads.ensures.state ∙ ap (λ (m : CoreView). after_all m c.args.events.now) is in
@@ -48,9 +49,9 @@ returns-in-Ok-from_slice-clause-solved c =
 
 pub returns-in-Ok-from_slice-clause-operands : goal.returns-in-Ok-from_slice-clause-operands
 returns-in-Ok-from_slice-clause-operands c =
-    let r : Relay = record { chain = c.args.chain.now; values = c.args.values.items; until = c.args.horizon.until } in
-    let is : c.in-Ok-new.core ≡ machine r c.args.horizon =
-    core_is r c.args.horizon c.in-Ok-new.core c.args.plan.now c.in-Ok.sensors c.in-Ok-new.ensures c.requires.plan c.in-Ok.ensures in
+    let r : Relay = record { chain = c.args.chain.now; values = rows_of c.args.sensors.now 0; until = c.args.horizon.until } in
+    let is : c.in-Ok.core ≡ machine r c.args.horizon =
+    core_is r c.args.horizon c.in-Ok.core c.args.plan.now c.args.sensors.now c.in-Ok.ensures c.requires.plan c.requires.one in
     let run : IsReplay (machine r c.args.horizon) c.args.events.now c.in_ok-reads.reads.items =
     subst (λ (m : CoreView). IsReplay m c.args.events.now c.in_ok-reads.reads.items) is c.in_ok-reads.ensures.run in
     let left = c.in_ok-reads.ensures.state ∙ ap (λ (m : CoreView). after_all m c.args.events.now) is in
