@@ -34,6 +34,7 @@ mod GapLaws
 mod CellPeriods
 mod LastTags
 mod Progress
+mod Decided
 mod ChainLaws
 mod Examples
 mod TableMade

@@ -8,6 +8,7 @@ ghost use Rattle.prl_plan.specs.declared.events.Action.{Action};
 ghost use Rattle.prl_plan.specs.declared.events.Action.TheVariants as actions;
 ghost use Rattle.prl_plan.specs.declared.events.Event.{Event};
 ghost use Rattle.prl_plan.specs.declared.events.Event.TheVariants as events;
+ghost use Rattle.prl_plan.specs.declared.events.Rule.{Rule};
 ghost use Rattle.prl_plan.specs.declared.horizons.Horizon.{Horizon};
 ghost use Rattle.prl_plan.specs.declared.walks.Operand.TheVariants as operands;
 ghost use Rattle.prl_plan.specs.Operands.{operand_of};
@@ -15,7 +16,7 @@ ghost use Rattle.prl_plan.specs.Precedence.{ComesFrom};
 ghost use Rattle.prl_plan.specs.Plans.{PlanView, IsPlan, edge_at, release_at, deadline_at, place_on, cell_of, low, high};
 ghost use Rattle.prl_plan.specs.Horizons.{IsHorizon, constants_of};
 ghost use Rattle.prl_plan.specs.Runs.{RunConstants, ExecState, opening, action_at, next_action, after_action, after_event, after_events};
-ghost use Rattle.prl_plan.specs.Rules.{IsLegal, IsGated, IsFree, IsUnfinished, HasJob, ActsReleased, FindsTag, first_unfinished, KeepsLegal, KeepsGated, KeepsFree};
+ghost use Rattle.prl_plan.specs.Rules.{IsLegal, IsGated, IsFree, IsUnfinished, HasJob, ActsReleased, FindsTag, first_unfinished, KeepsLegal, KeepsGated, KeepsFree, IsComplete, FirstBroken, IsFirstUnfinished};
 ghost use Rattle.prl_plan.specs.Facts.{HasPlanFacts, IsJob, ReadsAt, WritesAt};
 ghost use Rattle.prl_plan.specs.States.{IsDone, IsTagged, IsSound, IsLeastReleased};
 ghost use Rattle.prl_plan.specs.LastTags.{IsLeft};
@@ -155,4 +156,13 @@ pub fn replaced_instance_is_over()
         (i e n slot l k : ℕ) → HasJob (constants_of plan h) s i →
         next_action (constants_of plan h) s i ≡ actions.Write (record { 0 = e }) n (record { 0 = slot }) → slice_index s.tags slot ≡ l + 1 →
         operand_of (edge_at plan.graph e) k ≡ operands.From l → deadline_at plan (edge_at plan.graph e).to.0 k ≤ release_at plan i n }
+{}
+
+/// In each state, each event keeps the rules of legal lists or there is a first rule that it breaks; and every horizon job has
+/// ended or one is the first unfinished one of the lowest task that has one.
+pub fn events_are_decided()
+    ensures rules { (c : RunConstants) (s : ExecState) (event : Event) →
+        KeepsLegal c s event ⊎ ((rule : Rule) × FirstBroken c s event rule) }
+    ensures complete { (c : RunConstants) (s : ExecState) →
+        IsComplete c s ⊎ ((i : ℕ) × (n : ℕ) × IsFirstUnfinished c s i n) }
 {}
