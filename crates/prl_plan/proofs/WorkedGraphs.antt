@@ -1,5 +1,5 @@
 -- Worked graphs: two lanes that overload one processor for a while, and a loop that needs longer than its period.
-use Rattle.std.proofs.Common.{◌≡◌, ℕ, List, [], ◌∷◌, Some, refl, lit<}
+use Rattle.std.proofs.Common.{◌≡◌, ℕ, List, [], ◌∷◌, refl, lit<}
 use Rattle.std.specs.Prelude.{ℤ, pos, negsuc, codes}
 use Rattle.prl_base.specs.declared.operators.Op.TheVariants as operators
 use Rattle.prl_base.specs.declared.values.Ty.TheVariants as types
@@ -10,19 +10,16 @@ use Rattle.prl_plan.specs.declared.graphs.Edge.{Edge}
 use Rattle.prl_plan.specs.declared.graphs.Kind.{Kind}
 use Rattle.prl_plan.specs.declared.graphs.TaskGraph.{TaskGraph}
 use Rattle.prl_plan.specs.declared.graphs.Kind.TheVariants as kinds
-use Rattle.prl_plan.specs.declared.graphs.Producer.{Producer}
 use Rattle.prl_plan.specs.declared.graphs.Producer.TheVariants as producers
 use Rattle.prl_plan.specs.declared.walks.Operand.TheVariants as operands
-use Rattle.prl_plan.specs.declared.words.Word.{Word}
-use Rattle.prl_plan.specs.Jobs.{Job, release_of, deadline_of, task_at}
+use Rattle.prl_plan.specs.Jobs.{Job, deadline_of, task_at}
 use Rattle.prl_plan.specs.Operands.{operand_of}
 use Rattle.prl_plan.specs.Precedence.{Precedes}
 use Rattle.prl_plan.specs.Graphs.{jobs_in_hyperperiod}
-use Rattle.prl_plan.specs.Words.{word_at, constants_in}
 use Rattle.prl_plan.specs.Chains.{IsChain, needs_of}
 use Rattle.prl_plan.specs.Plans.{PlanView, edge_at, release_at, deadline_at, cell_of, actions_of}
 use Rattle.prl_plan.specs.Horizons.{jobs_up_to, actions_up_to}
-use Rattle.prl_plan.specs.JobTables.{TableRow, row_of, job_table}
+use Rattle.prl_plan.specs.JobTables.{row_of, job_table}
 
 -- a task on the clock of period 4 from 0 on
 abbrev lane_task : List ℕ → Kind → ℕ → Task
