@@ -47,3 +47,4 @@ mod PlanNumbers
 mod DateOrder
 mod RepeatLaws
 mod OnePlan
+mod WordPeriods
