@@ -1,6 +1,6 @@
 -- The least releases and the greatest deadlines repeat with the hyperperiod: moved by one, they keep the same rules.
-use Rattle.std.proofs.Common.{◌≡◌, ◌*◌, ◌/◌, ◌<◌, ℕ, length, refl, sym, ◌∙◌, ap, subst, arith}
-use Rattle.std.specs.Prelude.{ℤ, pos, ◌+ℤ◌, ◌-ℤ◌, neg_ℤ}
+use Rattle.std.proofs.Common.{◌≡◌, ◌*◌, ◌/◌, ◌<◌, ◌≤◌, ℕ, zero, suc, length, refl, sym, ◌∙◌, ap, subst, arith}
+use Rattle.std.specs.Prelude.{ℤ, pos, ◌+ℤ◌, ◌-ℤ◌, ◌≤ℤ◌, neg_ℤ}
 use Rattle.std.proofs.Math.Nat.{mul-div_cancel}
 use Rattle.std.proofs.lemmas.Int.{ints}
 use Rattle.prl_plan.specs.declared.graphs.Edge.{Edge}
@@ -9,6 +9,7 @@ use Rattle.prl_plan.specs.Jobs.{Job, task_at, release_of}
 use Rattle.prl_plan.specs.Precedence.{preceding, ComesFrom, Precedes, PrecedesAlong}
 use Rattle.prl_plan.specs.Graphs.{IsWellFormed, IsEdge}
 use Rattle.prl_plan.specs.Dates.{Family, AreReleases, AreDeadlines, AreLeastReleases, AreGreatestDeadlines, RepeatsByHyper}
+use Rattle.prl_plan.proofs.Periods.{everywhere}
 use Rattle.prl_plan.proofs.RoundLaws.{source_inside}
 use Rattle.prl_plan.proofs.RoundPeriods.{task_is, edge_precedes, release_shift}
 
@@ -120,3 +121,23 @@ module _ (graph : TaskGraph) (good : IsWellFormed graph) where
         let both : date i (m +ℤ pos (jobs_of i)) ≡ date i m +ℤ pos graph.hyper = omega (arith, ints, up, down, s) in
         subst (λ (k : ℕ). date i (m +ℤ pos k) ≡ date i m +ℤ pos graph.hyper) one both);
   }
+
+  some_jobs : (jobs period : ℕ) → graph.hyper ≡ jobs * period → 1 ≤ jobs
+  some_jobs zero period is = absurd (let z : 0 * period ≡ 0 = omega arith in let h = good.hyper in omega (arith, z, is, h))
+  some_jobs (suc jobs) period is = omega arith
+
+  -- two families that repeat and agree over a hyperperiod agree
+  pub families_agree : (one other : Family) → RepeatsByHyper graph one → RepeatsByHyper graph other → (i jobs : ℕ) → i < length graph.tasks →
+      graph.hyper ≡ jobs * (task_at graph i).clock.period → ((n : ℕ) → n < jobs → one i (pos n) ≡ other i (pos n)) → (m : ℤ) → one i m ≡ other i m
+  families_agree one other first second i jobs inside times base =
+      everywhere (λ (m : ℤ). one i m ≡ other i m) jobs (some_jobs jobs (task_at graph i).clock.period times) base
+      (λ m same. first.again i jobs inside times m ∙ ap (λ (z : ℤ). z +ℤ pos graph.hyper) same ∙ sym (second.again i jobs inside times m))
+      (λ m same. (let a = first.again i jobs inside times m in let b = second.again i jobs inside times m in omega (arith, ints, a, b, same)))
+
+  -- and so with their order
+  pub family_below : (one other : Family) → RepeatsByHyper graph one → RepeatsByHyper graph other → (i jobs : ℕ) → i < length graph.tasks →
+      graph.hyper ≡ jobs * (task_at graph i).clock.period → ((n : ℕ) → n < jobs → one i (pos n) ≤ℤ other i (pos n)) → (m : ℤ) → one i m ≤ℤ other i m
+  family_below one other first second i jobs inside times base =
+      everywhere (λ (m : ℤ). one i m ≤ℤ other i m) jobs (some_jobs jobs (task_at graph i).clock.period times) base
+      (λ m below. (let a = first.again i jobs inside times m in let b = second.again i jobs inside times m in omega (arith, ints, a, b, below)))
+      (λ m below. (let a = first.again i jobs inside times m in let b = second.again i jobs inside times m in omega (arith, ints, a, b, below)))

@@ -37,6 +37,7 @@ mod Progress
 mod Decided
 mod ChainLaws
 mod Examples
+mod WorkedGraphs
 mod TableMade
 mod WalkNumbers
 mod DatePeriods
@@ -46,3 +47,4 @@ mod PlanNumbers
 mod DateOrder
 mod RepeatLaws
 mod OnePlan
+mod WordPeriods

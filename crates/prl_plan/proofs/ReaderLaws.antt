@@ -102,7 +102,7 @@ up_least p n k h =
     let e : k * (n / k) + n % k ≡ n = omega arith in
     omega (arith, up, e)
 
-reads_from : (ty : Ty) (ops : List Op) → AreOperators ty ops → (n : ℕ) → first_reader ops ≤ n → (m : ℕ) × (walk ops n ≡ operands.From m)
+pub reads_from : (ty : Ty) (ops : List Op) → AreOperators ty ops → (n : ℕ) → first_reader ops ≤ n → (m : ℕ) × (walk ops n ≡ operands.From m)
 reads_from ty [] are n h = (n, refl)
 reads_from ty (operators.Up k ∷ ops) are n h =
     reads_from ty ops (λ j o is. are (suc j) o is) (n / k) (up_most (first_reader ops) n k (are 0 (operators.Up k) refl).0 h)
@@ -115,7 +115,7 @@ reads_from ty (operators.Cons c ∷ ops) are (suc n) h = reads_from ty ops (λ j
 reads_from ty (operators.Fby c ∷ ops) are zero h = absurd (omega (arith, h))
 reads_from ty (operators.Fby c ∷ ops) are (suc n) h = reads_from ty ops (λ j o is. are (suc j) o is) n (omega (arith, h))
 
-never_before : (ty : Ty) (ops : List Op) → AreOperators ty ops → (n m : ℕ) → walk ops n ≡ operands.From m → first_reader ops ≤ n
+pub never_before : (ty : Ty) (ops : List Op) → AreOperators ty ops → (n m : ℕ) → walk ops n ≡ operands.From m → first_reader ops ≤ n
 never_before ty [] are n m h = omega arith
 never_before ty (operators.Up k ∷ ops) are n m h =
     up_least (first_reader ops) n k (never_before ty ops (λ j o is. are (suc j) o is) (n / k) m h)

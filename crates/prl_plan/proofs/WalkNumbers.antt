@@ -26,13 +26,13 @@ divisor_within p h some (zero, is) = absurd (let z : 0 * p ≡ 0 = omega arith i
 divisor_within p h some (suc t, is) = (let e : suc t * p ≡ t * p + p = omega arith in omega (arith, e, is))
 
 -- the clock that an operator stands on has a period of at least 1 and within the hyperperiod
-period_here : (hyper : ℕ) (ops : List Op) (producer consumer : Clock) → 1 ≤ hyper → TakeClock hyper ops producer consumer →
+pub period_here : (hyper : ℕ) (ops : List Op) (producer consumer : Clock) → 1 ≤ hyper → TakeClock hyper ops producer consumer →
     (1 ≤ consumer.period) × (consumer.period ≤ hyper)
 period_here hyper ops producer consumer some takes =
     let d = clock_divides hyper ops producer consumer takes in
     (d.0, divisor_within consumer.period hyper some d.1)
 
-number_within : (n p room : ℕ) → 1 ≤ p → n * p ≤ room → n ≤ room
+pub number_within : (n p room : ℕ) → 1 ≤ p → n * p ≤ room → n ≤ room
 number_within n p room some is = (let up : n * 1 ≤ n * p = mul-le-mul_left n some in omega (arith, up, is))
 
 pub walk_fits : (hyper : ℕ) (ops : List Op) (producer consumer : Clock) → 1 ≤ hyper → TakeClock hyper ops producer consumer →

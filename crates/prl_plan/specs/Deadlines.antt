@@ -1,4 +1,4 @@
--- Encoded deadlines by rounds: each round lets the dates of the round before reach one edge further back.
+-- Scaffolding: encoded deadlines by rounds: each round lets the dates of the round before reach one edge further back.
 use Rattle.std.specs.Prelude.{◌≡◌, ◌==◌, ◌<◌, ℕ, zero, suc, ℤ, pos, ◌+ℤ◌, ◌-ℤ◌, List, [], ◌∷◌, length, if◌then◌else◌}
 use Rattle.std.specs.Int.{int_min}
 use Rattle.prl_plan.specs.declared.graphs.Edge.{Edge}

@@ -1,4 +1,4 @@
--- Plans whose tasks are sensors and actuators alone.
+-- Scaffolding: plans whose tasks are sensors and actuators alone.
 use Rattle.std.specs.Prelude.{◌≡◌, ◌<◌, ◌++◌, ℕ, [], ◌∷◌, length}
 use Rattle.prl_plan.specs.declared.events.Action.TheVariants as actions
 use Rattle.prl_plan.specs.declared.graphs.Kind.TheVariants as kinds

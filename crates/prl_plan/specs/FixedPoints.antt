@@ -1,4 +1,4 @@
--- Dates that a further round does not change, over a hyperperiod.
+-- Scaffolding: dates that a further round does not change, over a hyperperiod.
 use Rattle.std.specs.Prelude.{◌≡◌, ◌+◌, ◌/◌, ◌<◌, ◌^◌, ℕ, ℤ, pos, length}
 use Rattle.prl_plan.specs.declared.graphs.TaskGraph.{TaskGraph}
 use Rattle.prl_plan.specs.Jobs.{task_at}

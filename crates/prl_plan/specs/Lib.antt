@@ -1,3 +1,4 @@
+-- task graphs, jobs, operands, dates and cells
 pub mod Operands
 pub mod Jobs
 pub mod Precedence
@@ -5,22 +6,27 @@ pub mod Graphs
 pub mod Dates
 pub mod Chains
 pub mod Cells
+-- words, and lists that repeat
 pub mod Repeats
+pub mod FirstReaders
 pub mod Words
+-- plans, and what their jobs do
 pub mod Plans
 pub mod JobTables
+-- states of an executive, events and their rules
 pub mod Runs
 pub mod Rules
+pub mod Horizons
+-- what laws say of them
 pub mod Facts
 pub mod States
-pub mod Horizons
+pub mod LastTags
+pub mod CellTurns
+pub mod Intervals
+pub mod Ranges
+-- scaffolding: the plan of two tasks, and plain slow calls that decide the dates of small graphs
 pub mod TwoTasks
 pub mod Devices
 pub mod Rounds
-pub mod Intervals
 pub mod Deadlines
-pub mod Ranges
 pub mod FixedPoints
-pub mod FirstReaders
-pub mod CellTurns
-pub mod LastTags

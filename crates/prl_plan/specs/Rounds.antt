@@ -1,4 +1,4 @@
--- Encoded dates by rounds: each round lets the dates of the round before reach one edge further.
+-- Scaffolding: encoded dates by rounds: each round lets the dates of the round before reach one edge further.
 use Rattle.std.specs.Prelude.{◌≡◌, ◌==◌, ◌<◌, ℕ, zero, suc, ℤ, pos, ◌+ℤ◌, List, [], ◌∷◌, length, if◌then◌else◌}
 use Rattle.std.specs.Int.{int_max}
 use Rattle.prl_base.specs.declared.operators.Op.{Op}

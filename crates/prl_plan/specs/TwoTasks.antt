@@ -1,4 +1,4 @@
--- The plan of one sensor task and one actuator task of the same clock, with one edge between them.
+-- Scaffolding: the plan of one sensor task and one actuator task of the same clock, with one edge between them.
 use Rattle.std.specs.Prelude.{◌≡◌, ◌≢◌, ◌+◌, ◌-◌, ◌≤◌, ℕ, List, [], ◌∷◌}
 use Rattle.prl_base.specs.Names.{IsName}
 use Rattle.prl_base.specs.declared.values.Ty.TheVariants as types

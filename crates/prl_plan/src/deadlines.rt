@@ -1,4 +1,5 @@
-//! Encoded deadlines of small graphs, by a plain and slow recursion over rounds.
+//! Scaffolding until dates are computed for every graph: encoded deadlines of small graphs, by a plain and slow recursion over
+//! rounds.
 
 ghost use Rattle.std.specs.Prelude.{◌≡◌, ◌<◌, ◌^◌, ◌↔◌, ℕ, ℤ, pos, ◌+ℤ◌, ◌-ℤ◌, ◌≤ℤ◌, length, drop, IfSome, IsSome, MatchOption};
 ghost use Rattle.std.specs.Bool.{OnTrue, OnFalse};

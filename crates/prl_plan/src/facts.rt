@@ -158,6 +158,17 @@ pub fn precedence_is_not_later()
         release_of (task_at graph before.task) before.number ≤ℤ release_of (task_at graph after.task) after.number }
 {}
 
+/// Two families that come again with the hyperperiod and agree over the jobs of one agree; and where the one is nowhere above
+/// the other over these, it is nowhere so.
+pub fn hyperperiod_shows_all_jobs()
+    ensures agree { (graph : TaskGraph) → IsWellFormed graph → (one other : Family) → RepeatsByHyper graph one → RepeatsByHyper graph other →
+        (i jobs : ℕ) → i < length graph.tasks → graph.hyper ≡ jobs * (task_at graph i).clock.period →
+        ((n : ℕ) → n < jobs → one i (pos n) ≡ other i (pos n)) → (m : ℤ) → one i m ≡ other i m }
+    ensures below { (graph : TaskGraph) → IsWellFormed graph → (one other : Family) → RepeatsByHyper graph one → RepeatsByHyper graph other →
+        (i jobs : ℕ) → i < length graph.tasks → graph.hyper ≡ jobs * (task_at graph i).clock.period →
+        ((n : ℕ) → n < jobs → one i (pos n) ≤ℤ other i (pos n)) → (m : ℤ) → one i m ≤ℤ other i m }
+{}
+
 /// The least releases and the greatest deadlines come again a hyperperiod later, over all whole numbers.
 pub fn encoded_dates_repeat()
     ensures releases { (graph : TaskGraph) → IsWellFormed graph → (date : Family) → AreLeastReleases graph date → RepeatsByHyper graph date }

@@ -1,4 +1,5 @@
-//! Fixed points of rounds: the encoded dates of small graphs, decided over one hyperperiod.
+//! Scaffolding until dates are computed for every graph: fixed points of rounds, that is the encoded dates of small graphs,
+//! decided over one hyperperiod.
 
 ghost use Rattle.std.specs.Prelude.{◌≡◌, ◌<◌, ◌≤◌, ◌/◌, ◌+◌, ◌^◌, ◌↔◌, ℕ, pos, length, IsTrue, IfSome, MatchOption};
 ghost use Rattle.std.specs.Bool.{OnTrue};

@@ -25,10 +25,11 @@ pub use deadlines::{
 pub use events::{Action, Event, Rule, SlotNo};
 pub use facts::{
     actions_are_as_defined, constants_are_of_their_type, encoded_dates_keep_order,
-    encoded_dates_repeat, horizon_jobs_are_counted, operands_are_of_horizon_jobs, operands_precede,
-    operands_stand_earlier, plan_facts, plan_has_one_job_table, plan_is_one, plan_is_unique,
-    plan_links_devices, plans_keep_facts, precedence_is_not_later, precedence_repeats_and_rises,
-    room_leaves_no_narrow_chain, words_begin_with_constants,
+    encoded_dates_repeat, horizon_jobs_are_counted, hyperperiod_shows_all_jobs,
+    operands_are_of_horizon_jobs, operands_precede, operands_stand_earlier, plan_facts,
+    plan_has_one_job_table, plan_is_one, plan_is_unique, plan_links_devices, plans_keep_facts,
+    precedence_is_not_later, precedence_repeats_and_rises, room_leaves_no_narrow_chain,
+    words_begin_with_constants,
 };
 pub use fixed_points::{hyperperiod_decides, rounds_reach_dates};
 pub use graphs::{Edge, Kind, Producer, Task, TaskGraph};
@@ -44,7 +45,8 @@ pub use limits::{
     MAX_CELLS, MAX_EDGES, MAX_EVENTS, MAX_HYPER, MAX_JOBS, MAX_PERIOD_JOBS, MAX_PREFIX, MAX_TASKS,
 };
 pub use numbers::{
-    bests_are_near_releases, look_ups_fit, walk_numbers_fit, windows_are_within_dues,
+    bests_are_near_releases, first_readers_come_early, look_ups_fit, walk_numbers_fit,
+    windows_are_within_dues, words_repeat_by_hyperperiod,
 };
 pub use plans::Plan;
 pub use rounds::{AnyJob, preceding_job, release_after, rounds_reach_the_least_releases};

@@ -5,6 +5,9 @@ ghost use Rattle.std.specs.Prelude.{◌≡◌, ◌+◌, ◌*◌, ◌<◌, ◌≤
 ghost use Rattle.prl_plan.specs.declared.graphs.TaskGraph.{TaskGraph};
 ghost use Rattle.prl_plan.specs.declared.tables.Window.{Window};
 ghost use Rattle.prl_plan.specs.declared.walks.Operand.TheVariants as operands;
+ghost use Rattle.prl_plan.specs.declared.words.Word.{Word};
+ghost use Rattle.prl_plan.specs.FirstReaders.{first_reader};
+ghost use Rattle.prl_plan.specs.Words.{IsWordOf, RepeatsAfter, number_at};
 ghost use Rattle.prl_plan.specs.Chains.{IsBest};
 ghost use Rattle.prl_plan.specs.Dates.{AreEncodedDates, window_at};
 ghost use Rattle.prl_plan.specs.Graphs.{IsWellFormed};
@@ -22,6 +25,23 @@ pub fn walk_numbers_fit()
         m ≤ (task_at graph (edge_at graph e).to.0).clock.start + n * (task_at graph (edge_at graph e).to.0).clock.period }
     ensures precedence { (graph : TaskGraph) → IsWellFormed graph → (e : ℕ) (n : ℤ) → e < length graph.edges →
         nat_abs n * (task_at graph (edge_at graph e).to.0).clock.period ≤ 2 ^ 62 → PrecedingFits (edge_at graph e).ops n }
+{}
+
+/// The instances that are read on an edge come again with the hyperperiod, from each job on. So the step of a word is at most
+/// the consumer's jobs in a hyperperiod; and the numbers of a word are no higher than the dates of its jobs.
+pub fn words_repeat_by_hyperperiod()
+    ensures repeats { (graph : TaskGraph) → IsWellFormed graph → (e : ℕ) → e < length graph.edges → (jobs from : ℕ) →
+        graph.hyper ≡ jobs * (task_at graph (edge_at graph e).to.0).clock.period → RepeatsAfter (edge_at graph e).ops from jobs }
+    ensures step { (graph : TaskGraph) → IsWellFormed graph → (e : ℕ) → e < length graph.edges → (w : Word) (jobs : ℕ) → IsWordOf (edge_at graph e).ops w →
+        graph.hyper ≡ jobs * (task_at graph (edge_at graph e).to.0).clock.period → w.step_in ≤ jobs }
+    ensures numbers { (graph : TaskGraph) → IsWellFormed graph → (e : ℕ) → e < length graph.edges → (w : Word) (i : ℕ) → IsWordOf (edge_at graph e).ops w →
+        number_at w i ≤ (task_at graph (edge_at graph e).to.0).clock.start + (length w.prefix + i) * (task_at graph (edge_at graph e).to.0).clock.period }
+{}
+
+/// The first job that reads an instance on an edge is released at most a hyperperiod an operator after the first job.
+pub fn first_readers_come_early()
+    ensures { (graph : TaskGraph) → IsWellFormed graph → (e : ℕ) → e < length graph.edges →
+        first_reader (edge_at graph e).ops * (task_at graph (edge_at graph e).to.0).clock.period ≤ length (edge_at graph e).ops * graph.hyper }
 {}
 
 /// The best of a job over chains of at most so many jobs is at least its release and its WCET, and at most 2^31 ticks a job

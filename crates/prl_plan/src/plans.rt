@@ -1,4 +1,4 @@
-//! Plans: a task graph with its encoded dates and its buffer cells.
+//! Plans: a task graph with its words, its encoded dates and its buffer cells.
 
 ghost use Rattle.std.specs.Prelude.{◌≡◌, ◌+◌, ◌*◌, ◌<◌, ◌^◌, ◌↔◌, pos, length, sum, slice_index, slice_index_or, is_some, IsTrue, IfOk};
 ghost use Rattle.prl_plan.specs.declared.events.Action.TheVariants as actions;
@@ -14,7 +14,8 @@ use prl_base::{CellNo, Clock, EdgeNo, Label, Seq, TaskNo, Ty};
 use std::alloc::{AllocError, Global};
 use std::marker::Model;
 
-/// A plan: a well-formed task graph with its encoded dates and its buffer cells. Contracts see a `PlanView`.
+/// A plan: a well-formed task graph with its words, its encoded dates and its buffer cells. Contracts see a `PlanView`. So far it
+/// keeps the plan of two tasks alone, which is scaffolding until plans are made of every graph.
 #[derive(Debug, Drop)]
 pub struct Plan {
     graph: TaskGraph,

@@ -1,4 +1,5 @@
-//! Encoded releases of small graphs, by a plain and slow recursion over rounds.
+//! Scaffolding until dates are computed for every graph: encoded releases of small graphs, by a plain and slow recursion over
+//! rounds.
 
 ghost use Rattle.std.specs.Prelude.{◌≡◌, ◌<◌, ◌≤◌, ℕ, ℤ, pos, ◌+ℤ◌, ◌≤ℤ◌, length, drop, IfSome, IsSome, MatchOption};
 ghost use Rattle.std.specs.Int.{int_max};
