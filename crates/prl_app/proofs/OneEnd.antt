@@ -1,5 +1,5 @@
 -- A list of stages comes to one end.
-use Rattle.std.proofs.Common.{◌≡◌, ◌≢◌, ◌<◌, ◌≤◌, ◌⊎◌, ℕ, true, false, List, [], ◌∷◌, length, Option, Some, None, Result, Ok, Err, refl, sym, ap, ◌∙◌, inl, inr, subst, arith}
+use Rattle.std.proofs.Common.{◌≡◌, ◌≢◌, ◌<◌, ℕ, true, false, List, [], ◌∷◌, Option, Some, None, Result, Ok, Err, refl, sym, ap, ◌∙◌, inl, inr, subst, arith}
 use Rattle.std.specs.Prelude.{Bool, IsTrue}
 use Rattle.prl_base.specs.declared.limits.Limit.{Limit}
 use Rattle.prl_base.specs.declared.values.Ty.{Ty}
@@ -39,7 +39,7 @@ use Rattle.prl_app.specs.declared.stages.Stage.TheVariants as stages
 use Rattle.prl_app.specs.Given.{Given, content_of, text_of}
 use Rattle.prl_app.specs.Parts.{IsProgram, IsMain, AreBodies, RefusesBodies, told_parse, told_types, told_body}
 use Rattle.prl_app.specs.Runs.{too_many}
-use Rattle.prl_app.specs.Built.{IsFormed, IsTimely, HasHorizon, HasRows, IsWholeRun, relay_of, rows_for, told_relay, told_sensors}
+use Rattle.prl_app.specs.Built.{IsFormed, HasRows, IsWholeRun, relay_of, rows_for, told_relay, told_sensors}
 use Rattle.prl_app.specs.Stages.{Holds, Refuses, Comes}
 
 -- the laws of the crates below

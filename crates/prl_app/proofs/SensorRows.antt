@@ -1,5 +1,5 @@
 -- The rows of a chain's one sensor.
-use Rattle.std.proofs.Common.{◌≡◌, ◌<◌, ℕ, zero, suc, List, [], ◌∷◌, length, Some, Ok, refl, subst, arith}
+use Rattle.std.proofs.Common.{◌≡◌, ◌<◌, ℕ, List, [], ◌∷◌, length, Ok, refl, subst, arith}
 use Rattle.prl_base.specs.Clocks.{date_at}
 use Rattle.prl_chains.specs.declared.chains.Chain.{Chain}
 use Rattle.prl_flow.specs.Counts.{dates_before}

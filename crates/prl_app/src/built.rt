@@ -102,7 +102,7 @@ impl From<SensorFault> for Stop {
     ghost use Rattle.prl_app.specs.declared.stages.Stage.TheVariants.{Rows};
     ghost use Rattle.prl_app.specs.Built.{told_sensors};
     ghost use Rattle.prl_app.specs.code.Numbers.{AreNumbers};
-ghost use Rattle.prl_app.specs.code.Stops.{stop_of};
+    ghost use Rattle.prl_app.specs.code.Stops.{stop_of};
 
     ghost from_gives = { λ fault stop. stop ≡ stop_of Rows (told_sensors fault) };
 
