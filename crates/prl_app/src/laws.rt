@@ -6,7 +6,8 @@ ghost use Rattle.prl_app.specs.Stages.{Comes};
 ghost use Rattle.prl_app.specs.declared.stages.Stage.{Stage as AnyStage};
 ghost use Rattle.prl_app.specs.declared.faults.Fault.{Fault as AnyFault};
 
-use prl_relays::{horizons_end_one_way, replays_end_one_way, whole_runs_are_replayed};
+use prl_plan::horizons_end_one_way;
+use prl_relays::{replays_end_one_way, whole_runs_are_replayed};
 use prl_types::outcome_is_unique;
 
 /// A list of stages comes to one end: all hold, or one refuses, with one fault.
