@@ -4,3 +4,4 @@ pub mod SensorRows
 pub mod OneEnd
 pub mod Stops
 pub mod Exact
+pub mod Decided

@@ -22,14 +22,14 @@ use Rattle.prl_flow.specs.Rows.{Rows}
 use Rattle.prl_flow.specs.Counts.{values_before}
 use Rattle.prl_plan.specs.declared.events.Event.{Event}
 use Rattle.prl_plan.specs.declared.horizons.Horizon.{Horizon}
-use Rattle.prl_plan.specs.Horizons.{IsPastLimit}
+use Rattle.prl_plan.specs.Horizons.{IsHorizon, IsPastLimit}
+use Rattle.prl_plan.specs.Plans.{PlanView}
 use Rattle.prl_plan.specs.Rules.{IsLegal, IsComplete}
 use Rattle.prl_core.specs.Machine.{constants}
 use Rattle.prl_replay.specs.Schedules.{schedule_of}
 use Rattle.prl_replay.specs.Replays.{after_all}
 use Rattle.prl_relays.specs.declared.relays.RelayFault.{RelayFault}
-use Rattle.prl_relays.specs.declared.relays.RelayFault.TheVariants as relays
-use Rattle.prl_relays.specs.Relays.{Relay, machine, is_in_time, relay_plan, task_names, IsReady, IsHorizonOf, IsHorizonUpTo, IsReplayText, IsRelayFault}
+use Rattle.prl_relays.specs.Relays.{Relay, machine, is_in_time, relay_plan, task_names, IsReady, IsHorizonOf, IsReplayText, IsRelayFault}
 use Rattle.prl_sensors.specs.declared.faults.SensorFault.{SensorFault}
 use Rattle.prl_app.specs.declared.faults.Part.TheVariants as parts
 use Rattle.prl_app.specs.declared.faults.Fault.{Fault}
@@ -45,11 +45,11 @@ use Rattle.prl_app.specs.Stages.{Holds, Refuses, Comes}
 -- the laws of the crates below
 pub record Laws : Type 0 where
   pub one : (p : ProgramTree) (main : Option (List ℕ)) (r s : Result (ℕ × List Ty) TypeFault) → IsOutcome p main r → IsOutcome p main s → r ≡ s
-  pub horizon_or_limit : (chain : Chain) (until : ℕ) (horizon : Horizon) (limit : Limit) → IsHorizonUpTo chain until horizon
-      → IsPastLimit (relay_plan chain) until limit → ⊥
-  pub one_limit : (chain : Chain) (until : ℕ) (a b : Limit) → IsPastLimit (relay_plan chain) until a → IsPastLimit (relay_plan chain) until b → a ≡ b
-  pub replay_or_fault : (r : Relay) (schedule text : List ℕ) (fault : RelayFault) → IsReplayText r schedule text → IsRelayFault r schedule fault → fault ≡ relays.Memory
-  pub one_fault : (r : Relay) (schedule : List ℕ) (a b : RelayFault) → IsRelayFault r schedule a → IsRelayFault r schedule b → a ≢ relays.Memory → b ≢ relays.Memory → a ≡ b
+  pub horizon_or_limit : (plan : PlanView) (until : ℕ) (horizon : Horizon) (limit : Limit) → IsHorizon plan horizon → horizon.until ≡ until
+      → IsPastLimit plan until limit → ⊥
+  pub one_limit : (plan : PlanView) (until : ℕ) (a b : Limit) → IsPastLimit plan until a → IsPastLimit plan until b → a ≡ b
+  pub replay_or_fault : (r : Relay) (schedule text : List ℕ) (fault : RelayFault) → IsReplayText r schedule text → IsRelayFault r schedule fault → ⊥
+  pub one_fault : (r : Relay) (schedule : List ℕ) (a b : RelayFault) → IsRelayFault r schedule a → IsRelayFault r schedule b → a ≡ b
   pub whole_run : (r : Relay) (horizon : Horizon) (schedule : List ℕ) (events : List Event) → IsReady r → IsHorizonOf r horizon
       → schedule_of (task_names r.chain) schedule ≡ Ok events → IsLegal (constants (machine r horizon)) (machine r horizon).state events
       → IsComplete (constants (machine r horizon)) (after_all (machine r horizon) events).state → (text : List ℕ) × IsReplayText r schedule text
@@ -71,10 +71,6 @@ some_none r a h k = cc
 
 true_false : (b : Bool) → b ≡ true → b ≡ false → ⊥
 true_false b h k = cc
-
--- what is told is no want of memory
-relay_told : (c : Chain) (cause : RelayFault) (fault : Fault) → told_relay c cause ≡ Some fault → cause ≢ relays.Memory
-relay_told c cause fault e m = let none : told_relay c cause ≡ None = ap (told_relay c) m in cc
 
 abbrev failed : TypeFault → Result (ℕ × List Ty) TypeFault
 failed fault = Err fault
@@ -194,14 +190,14 @@ module _ (law : Laws) (g : Given) where
       true_false (is_in_time h.0) h.1.timely late
   apart stages.Horizon f h k =
       let same = one_chain k.0 h.0 k.1.formed h.2.timely.formed in
-      law.horizon_or_limit h.0 g.until h.1 k.2 h.2.horizon (subst (λ (c : Chain). IsPastLimit (relay_plan c) g.until k.2) same k.3)
+      law.horizon_or_limit (relay_plan h.0) g.until h.1 k.2 h.2.horizon.0 h.2.horizon.1 (subst (λ (c : Chain). IsPastLimit (relay_plan c) g.until k.2) same k.3)
   apart stages.Rows f h k =
       let at = subst (λ (c : Chain). rows_for g c ≡ Err k.2) (one_chain k.0 h.0 k.1 h.2.formed) k.3 in
       ok_err (rows_for g h.0) (h.1 ∷ []) k.2 h.2.rows at
   apart stages.Schedule f h k =
       let text = whole_text h.0 h.1 h.2 h.3 in
       let fault = moved_fault k.0 h.0 k.1 h.1 k.3 k.2 h.3.rows k.4 in
-      relay_told k.0 k.3 f k.5 (law.replay_or_fault (relay_of g h.0 h.1) (text_of g parts.Schedule) text.0 k.3 text.1 fault)
+      law.replay_or_fault (relay_of g h.0 h.1) (text_of g parts.Schedule) text.0 k.3 text.1 fault
   apart stages.Values f h k =
       let few = h.2 in
       let many = subst (λ (c : Chain). MAX_VALUES < values_before g.until c.clocks.of) (one_chain k.0 h.0 k.1 h.1) k.2 in omega (arith, few, many)
@@ -222,13 +218,13 @@ module _ (law : Laws) (g : Given) where
   one stages.Horizon a b h k =
       let same = one_chain k.0 h.0 k.1.formed h.1.formed in
       let limit = subst (λ (c : Chain). IsPastLimit (relay_plan c) g.until k.2) same k.3 in
-      h.4 ∙ ap faults.Limit (law.one_limit h.0 g.until h.2 k.2 h.3 limit) ∙ sym k.4
+      h.4 ∙ ap faults.Limit (law.one_limit (relay_plan h.0) g.until h.2 k.2 h.3 limit) ∙ sym k.4
   one stages.Rows a b h k =
       let at = subst (λ (c : Chain). rows_for g c ≡ Err k.2) (one_chain k.0 h.0 k.1 h.1) k.3 in
       some_some (told_sensors k.2) a b (ap told_sensors (err_err (rows_for g h.0) k.2 h.2 at h.3) ∙ h.4) k.4
   one stages.Schedule a b h k =
       let fault = moved_fault k.0 h.0 k.1 h.1 k.3 k.2 h.2 k.4 in
-      let same = law.one_fault (relay_of g h.0 h.1) (text_of g parts.Schedule) h.3 k.3 h.4 fault (relay_told h.0 h.3 a h.5) (relay_told k.0 k.3 b k.5) in
+      let same = law.one_fault (relay_of g h.0 h.1) (text_of g parts.Schedule) h.3 k.3 h.4 fault in
       let chains = one_chain h.0 k.0 h.2.formed k.2.formed in
       let here = subst (λ (c : Chain). told_relay c h.3 ≡ Some a) chains h.5 in
       some_some (told_relay k.0 k.3) a b (ap (told_relay k.0) (sym same) ∙ here) k.5

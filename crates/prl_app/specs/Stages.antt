@@ -59,6 +59,15 @@ Comes g [] end = end ≡ None
 Comes g (stage ∷ rest) end =
     (Holds g stage × Comes g rest end) ⊎ ((fault : Fault) × Refuses g stage fault × (end ≡ Some (stage, fault)))
 
+-- the stage finds what it looks for, or refuses with some fault
+abbrev pub IsDecided : Given → Stage → Type 0
+IsDecided g stage = Holds g stage ⊎ ((fault : Fault) × Refuses g stage fault)
+
+-- each stage of a list is decided where those before it hold
+abbrev pub AreDecided : Given → List Stage → Type 0
+AreDecided g [] = Unit {0}
+AreDecided g (stage ∷ rest) = IsDecided g stage × (Holds g stage → AreDecided g rest)
+
 -- the files are read first, in this order; one that is not named gives no bytes
 abbrev pub files : List Stage
 files =

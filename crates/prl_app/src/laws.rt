@@ -2,12 +2,19 @@
 
 ghost use Rattle.std.specs.Prelude.{◌≡◌, List, Option};
 ghost use Rattle.prl_app.specs.Given.{Given as AnyGiven};
-ghost use Rattle.prl_app.specs.Stages.{Comes};
+ghost use Rattle.prl_app.specs.Stages.{Holds, Comes, IsDecided, AreDecided};
 ghost use Rattle.prl_app.specs.declared.stages.Stage.{Stage as AnyStage};
 ghost use Rattle.prl_app.specs.declared.faults.Fault.{Fault as AnyFault};
+ghost use Rattle.prl_app.specs.declared.faults.Part.{Part as AnyPart};
 
-use prl_relays::{horizons_end_one_way, replays_end_one_way, whole_runs_are_replayed};
-use prl_types::outcome_is_unique;
+use crate::stages::Stage;
+use prl_body::each_list_of_bodies_has_an_outcome;
+use prl_bodytext::each_text_has_one_outcome as bodies_outcome;
+use prl_names::right_names_stand_for_something;
+use prl_plan::horizons_end_one_way;
+use prl_relays::{replays_end_one_way, whole_runs_are_replayed};
+use prl_syntax::each_text_has_one_outcome as programs_outcome;
+use prl_types::{each_program_has_an_outcome, outcome_is_unique};
 
 /// A list of stages comes to one end: all hold, or one refuses, with one fault.
 pub fn stages_end_one_way()
@@ -18,4 +25,24 @@ pub fn stages_end_one_way()
     horizons_end_one_way();
     replays_end_one_way();
     whole_runs_are_replayed();
+}
+
+/// A list of stages comes to some end, where each is decided once those before it hold.
+pub fn stages_come_to_an_end()
+    ensures { (g : AnyGiven) (stages : List AnyStage) → AreDecided g stages →
+        (end : Option (AnyStage × AnyFault)) × Comes g stages end }
+{}
+
+/// Files, grammar, types and bodies are decided: there is what they look for, or a fault.
+pub fn front_is_decided()
+    ensures files { (g : AnyGiven) (part : AnyPart) → IsDecided g (Stage.File part) }
+    ensures grammar { (g : AnyGiven) → IsDecided g Stage.Grammar }
+    ensures types { (g : AnyGiven) → Holds g Stage.Grammar → IsDecided g Stage.Types }
+    ensures bodies { (g : AnyGiven) → Holds g Stage.Types → IsDecided g Stage.Bodies }
+{
+    programs_outcome();
+    each_program_has_an_outcome();
+    right_names_stand_for_something();
+    bodies_outcome();
+    each_list_of_bodies_has_an_outcome();
 }

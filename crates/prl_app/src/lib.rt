@@ -17,7 +17,7 @@ mod words;
 
 pub use endings::Ending;
 pub use faults::{Fault, GrammarFault, Part, RunFault};
-pub use laws::stages_end_one_way;
+pub use laws::{front_is_decided, stages_come_to_an_end, stages_end_one_way};
 pub use reading::Texts;
 pub use runs::Run;
 pub use stages::{Stage, Stop};

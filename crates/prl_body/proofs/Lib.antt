@@ -7,6 +7,7 @@ pub mod Inversion
 pub mod TypedSound
 pub mod BodySound
 pub mod BodyList
+pub mod Outcomes
 pub mod FirstOf
 pub mod Lookups
 -- for the crates above: lists that a loop fills, element by element

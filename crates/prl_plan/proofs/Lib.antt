@@ -35,6 +35,7 @@ mod CellPeriods
 mod LastTags
 mod Progress
 mod Decided
+mod HorizonLaws
 mod ChainLaws
 mod Examples
 mod WorkedGraphs

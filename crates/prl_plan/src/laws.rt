@@ -1,7 +1,7 @@
 //! Laws of states, of events and of lists of events, as functions that do nothing: the contract of each is the law, over the
 //! definitions alone.
 
-ghost use Rattle.std.specs.Prelude.{◌≡◌, ◌+◌, ◌<◌, ◌≤◌, ◌⊎◌, ◌++◌, ◌↔◌, ℕ, List, IsSome, length, slice_index};
+ghost use Rattle.std.specs.Prelude.{◌≡◌, ◌+◌, ◌<◌, ◌≤◌, ◌⊎◌, ◌^◌, ◌++◌, ◌↔◌, ℕ, List, IsSome, length, slice_index};
 ghost use Rattle.prl_base.specs.declared.numbers.EdgeNo.{EdgeNo};
 ghost use Rattle.prl_base.specs.declared.numbers.TaskNo.{TaskNo};
 ghost use Rattle.prl_plan.specs.declared.events.Action.{Action};
@@ -14,7 +14,8 @@ ghost use Rattle.prl_plan.specs.declared.walks.Operand.TheVariants as operands;
 ghost use Rattle.prl_plan.specs.Operands.{operand_of};
 ghost use Rattle.prl_plan.specs.Precedence.{ComesFrom};
 ghost use Rattle.prl_plan.specs.Plans.{PlanView, IsPlan, edge_at, release_at, deadline_at, place_on, cell_of, low, high};
-ghost use Rattle.prl_plan.specs.Horizons.{IsHorizon, constants_of};
+ghost use Rattle.prl_base.specs.declared.limits.Limit.{Limit};
+ghost use Rattle.prl_plan.specs.Horizons.{IsHorizon, IsPastLimit, constants_of};
 ghost use Rattle.prl_plan.specs.Runs.{RunConstants, ExecState, opening, action_at, next_action, after_action, after_event, after_events};
 ghost use Rattle.prl_plan.specs.Rules.{IsLegal, IsGated, IsFree, IsUnfinished, HasJob, ActsReleased, FindsTag, first_unfinished, KeepsLegal, KeepsGated, KeepsFree, IsComplete, FirstBroken, IsFirstUnfinished};
 ghost use Rattle.prl_plan.specs.Facts.{HasPlanFacts, IsJob, ReadsAt, WritesAt};
@@ -165,4 +166,17 @@ pub fn events_are_decided()
         KeepsLegal c s event ⊎ ((rule : Rule) × FirstBroken c s event rule) }
     ensures complete { (c : RunConstants) (s : ExecState) →
         IsComplete c s ⊎ ((i : ℕ) × (n : ℕ) × IsFirstUnfinished c s i n) }
+{}
+
+/// A plan has one horizon up to a date, or passes one limit.
+pub fn horizons_end_one_way()
+    ensures end { (plan : PlanView) → IsPlan plan → (until : ℕ) → until < 2 ^ 32 →
+        ((horizon : Horizon) × IsHorizon plan horizon × (horizon.until ≡ until))
+        ⊎ ((limit : Limit) × IsPastLimit plan until limit) }
+    ensures one_horizon { (plan : PlanView) (until : ℕ) (a b : Horizon) → IsHorizon plan a → IsHorizon plan b →
+        a.until ≡ until → b.until ≡ until → a ≡ b }
+    ensures not_both { (plan : PlanView) (until : ℕ) (horizon : Horizon) (limit : Limit) →
+        IsHorizon plan horizon → horizon.until ≡ until → IsPastLimit plan until limit → ⊥ }
+    ensures one_limit { (plan : PlanView) (until : ℕ) (a b : Limit) →
+        IsPastLimit plan until a → IsPastLimit plan until b → a ≡ b }
 {}

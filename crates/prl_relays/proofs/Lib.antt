@@ -3,7 +3,5 @@ pub mod Handed
 pub mod Operands
 pub mod WholeRuns
 pub mod TwoNames
-pub mod Legality
-pub mod HorizonLimits
 pub mod OneEnd
 mod InPeriod

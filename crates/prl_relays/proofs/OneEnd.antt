@@ -10,8 +10,9 @@ use Rattle.prl_plan.specs.declared.events.Action.{Action}
 use Rattle.prl_plan.specs.declared.events.Action.TheVariants as actions
 use Rattle.prl_plan.specs.declared.events.Event.{Event}
 use Rattle.prl_plan.specs.declared.events.Event.TheVariants as events
-use Rattle.prl_plan.specs.declared.events.Rule.{Rule}
 use Rattle.prl_plan.specs.declared.horizons.Horizon.{Horizon}
+use Rattle.prl_plan.specs.Horizons.{IsHorizon}
+use Rattle.prl_plan.specs.Plans.{PlanView}
 use Rattle.prl_plan.specs.Runs.{next_action}
 use Rattle.prl_plan.specs.Rules.{first_unfinished}
 use Rattle.prl_core.specs.declared.seen.Seen.{Seen}
@@ -21,112 +22,10 @@ use Rattle.prl_replay.specs.declared.schedules.ScheduleFault.{ScheduleFault}
 use Rattle.prl_replay.specs.declared.schedules.ScheduleFault.TheVariants as lines
 use Rattle.prl_replay.specs.declared.replays.ReplayFault.{ReplayFault}
 use Rattle.prl_replay.specs.declared.replays.ReplayFault.TheVariants as replays
-use Rattle.prl_replay.specs.Replays.{IsReplay, IsReplayFault, TellsAll, is_read, after, after_all}
+use Rattle.prl_replay.specs.Replays.{IsReplay, IsReplayFault, IsWhole, TellsAll, is_read, after}
 use Rattle.prl_relays.specs.declared.relays.RelayFault.{RelayFault}
 use Rattle.prl_relays.specs.declared.relays.RelayFault.TheVariants as faults
 use Rattle.prl_relays.specs.Relays.{Relay, relay_plan, output_of, machine, replay_lines, of_fault, IsHorizonOf, IsOutput, IsReplayText, IsNoRun, IsRelayFault}
-use Rattle.prl_relays.proofs.Legality.{BreaksAt, legal_none_broken, one_break, complete_finished, one_unfinished}
-use Rattle.prl_relays.proofs.HorizonLimits.{one_horizon}
-
--- a first fault, as a break of a rule
-breaks : (core : CoreView) (list : List Event) (line : ℕ) (rule : Rule) (h : IsReplayFault core list (replays.Illegal line rule))
-    → BreaksAt (constants core) core.state list h.0 rule
-breaks core list line rule h = record { event = h.1; at = h.3; legal = h.4; broken = h.5 }
-
-whole_has_no_fault : (core : CoreView) (list : List Event) (reads : List Seen) (fault : ReplayFault) → IsReplay core list reads → IsReplayFault core list fault
-    → fault ≢ replays.Memory → ⊥
-whole_has_no_fault core list reads (replays.Illegal line rule) whole h some =
-    legal_none_broken (constants core) core.state list h.0 rule whole.legal (breaks core list line rule h)
-whole_has_no_fault core list reads (replays.Unfinished task job) whole h some =
-    complete_finished (constants core) (after_all core list).state task.0 job whole.complete h.1
-whole_has_no_fault core list reads replays.Memory whole h some = some refl
-
-one_fault : (core : CoreView) (list : List Event) (a b : ReplayFault) → IsReplayFault core list a → IsReplayFault core list b → a ≢ replays.Memory
-    → b ≢ replays.Memory → a ≡ b
-one_fault core list (replays.Illegal line rule) (replays.Illegal other broken) h k p q =
-    let same = one_break (constants core) core.state list h.0 k.0 rule broken (breaks core list line rule h) (breaks core list other broken k) in
-    let here = h.2 in
-    let there = k.2 in
-    let place = same.0 in
-    let lines : line ≡ other = omega (arith, here, there, place) in
-    ap (λ n. replays.Illegal n rule) lines ∙ ap (replays.Illegal other) same.1
-one_fault core list (replays.Illegal line rule) (replays.Unfinished task job) h k p q =
-    absurd (legal_none_broken (constants core) core.state list h.0 rule k.0 (breaks core list line rule h))
-one_fault core list (replays.Unfinished task job) (replays.Illegal line rule) h k p q =
-    absurd (legal_none_broken (constants core) core.state list k.0 rule h.0 (breaks core list line rule k))
-one_fault core list (replays.Unfinished task job) (replays.Unfinished other left) h k p q =
-    let same = one_unfinished (constants core) (after_all core list).state task.0 job other.0 left h.1 k.1 in
-    let tasks : task ≡ other = ap (λ (n : ℕ). record { 0 = n }) same.0 in
-    ap (λ (t : TaskNo). replays.Unfinished t job) tasks ∙ ap (replays.Unfinished other) same.1
-one_fault core list replays.Memory b h k p q = absurd (p refl)
-one_fault core list (replays.Illegal line rule) replays.Memory h k p q = absurd (q refl)
-one_fault core list (replays.Unfinished task job) replays.Memory h k p q = absurd (q refl)
-
-same_horizon : (r : Relay) (a b : Horizon) → IsHorizonOf r a → IsHorizonOf r b → a ≡ b
-same_horizon r a b h k = one_horizon (relay_plan r.chain) r.until a b h.0 k.0 h.1 k.1
-
-same_events : (written : Result (List Event) ScheduleFault) (a b : List Event) → written ≡ Ok a → written ≡ Ok b → a ≡ b
-same_events written a b h k = cc
-
-not_both : (written : Result (List Event) ScheduleFault) (a : List Event) (fault : ScheduleFault) → written ≡ Ok a → written ≡ Err fault → ⊥
-not_both written a fault h k = cc
-
-same_line : (written : Result (List Event) ScheduleFault) (a b : ℕ) → written ≡ Err (lines.Syntax a) → written ≡ Err (lines.Syntax b) → a ≡ b
-same_line written a b h k = cc
-
--- what is said of a horizon and events is said of those of the other end
-moved : (r : Relay) (fault : ReplayFault) (a b : Horizon) (es fs : List Event) → a ≡ b → es ≡ fs → IsReplayFault (machine r a) es fault → IsReplayFault (machine r b) fs fault
-moved r fault a b es fs same listed h =
-    subst (λ (xs : List Event). IsReplayFault (machine r b) xs fault) listed (subst (λ (z : Horizon). IsReplayFault (machine r z) es fault) same h)
-
-one_run_fault : (r : Relay) (schedule : List ℕ) (a b : ReplayFault) → IsNoRun r schedule a → IsNoRun r schedule b → a ≢ replays.Memory → b ≢ replays.Memory → a ≡ b
-one_run_fault r schedule a b h k p q =
-    one_fault (machine r k.horizon) k.events a b
-    (moved r a h.horizon k.horizon h.events k.events (same_horizon r h.horizon k.horizon h.of_plan k.of_plan) (same_events _ h.events k.events h.written k.written) h.fault_is)
-    k.fault_is p q
-
-run_has_no_fault : (r : Relay) (schedule text : List ℕ) (fault : ReplayFault) → IsReplayText r schedule text → IsNoRun r schedule fault → fault ≢ replays.Memory → ⊥
-run_has_no_fault r schedule text fault h k some =
-    whole_has_no_fault (machine r h.horizon) h.events h.reads fault h.replayed
-    (moved r fault k.horizon h.horizon k.events h.events (same_horizon r k.horizon h.horizon k.of_plan h.of_plan) (same_events _ k.events h.events k.written h.written) k.fault_is)
-    some
-
-told_illegal : (line : ℕ) (rule : Rule) → replays.Illegal line rule ≢ replays.Memory
-told_illegal line rule e = cc
-
-told_unfinished : (task : TaskNo) (job : ℕ) → replays.Unfinished task job ≢ replays.Memory
-told_unfinished task job e = cc
-
--- where there is a text, there is no refusal but want of memory
-pub text_has_no_fault : (r : Relay) (schedule text : List ℕ) (fault : RelayFault) → IsReplayText r schedule text → IsRelayFault r schedule fault → fault ≡ faults.Memory
-text_has_no_fault r schedule text (faults.Syntax line) h k = absurd (not_both _ h.events (lines.Syntax line) h.written k.2)
-text_has_no_fault r schedule text (faults.Illegal line rule) h k = absurd (run_has_no_fault r schedule text (replays.Illegal line rule) h k (told_illegal line rule))
-text_has_no_fault r schedule text (faults.Unfinished task job) h k = absurd (run_has_no_fault r schedule text (replays.Unfinished task job) h k (told_unfinished task job))
-text_has_no_fault r schedule text faults.Memory h k = refl
-
-no_run_written : (r : Relay) (schedule : List ℕ) (fault : ReplayFault) (line : ℕ) → IsNoRun r schedule fault → IsRelayFault r schedule (faults.Syntax line) → ⊥
-no_run_written r schedule fault line h k = not_both _ h.events (lines.Syntax line) h.written k.2
-
--- there is one refusal, want of memory aside
-pub one_relay_fault : (r : Relay) (schedule : List ℕ) (a b : RelayFault) → IsRelayFault r schedule a → IsRelayFault r schedule b → a ≢ faults.Memory
-    → b ≢ faults.Memory → a ≡ b
-one_relay_fault r s faults.Memory b h k p q = absurd (p refl)
-one_relay_fault r s (faults.Syntax x) (faults.Syntax y) h k p q = ap faults.Syntax (same_line _ x y h.2 k.2)
-one_relay_fault r s (faults.Syntax x) (faults.Illegal line rule) h k p q = absurd (no_run_written r s (replays.Illegal line rule) x k h)
-one_relay_fault r s (faults.Syntax x) (faults.Unfinished task job) h k p q = absurd (no_run_written r s (replays.Unfinished task job) x k h)
-one_relay_fault r s (faults.Syntax x) faults.Memory h k p q = absurd (q refl)
-one_relay_fault r s (faults.Illegal line rule) (faults.Syntax y) h k p q = absurd (no_run_written r s (replays.Illegal line rule) y h k)
-one_relay_fault r s (faults.Illegal line rule) (faults.Illegal other broken) h k p q =
-    ap of_fault (one_run_fault r s (replays.Illegal line rule) (replays.Illegal other broken) h k (told_illegal line rule) (told_illegal other broken))
-one_relay_fault r s (faults.Illegal line rule) (faults.Unfinished task job) h k p q =
-    ap of_fault (one_run_fault r s (replays.Illegal line rule) (replays.Unfinished task job) h k (told_illegal line rule) (told_unfinished task job))
-one_relay_fault r s (faults.Illegal line rule) faults.Memory h k p q = absurd (q refl)
-one_relay_fault r s (faults.Unfinished task job) (faults.Syntax y) h k p q = absurd (no_run_written r s (replays.Unfinished task job) y h k)
-one_relay_fault r s (faults.Unfinished task job) (faults.Illegal other broken) h k p q =
-    ap of_fault (one_run_fault r s (replays.Unfinished task job) (replays.Illegal other broken) h k (told_unfinished task job) (told_illegal other broken))
-one_relay_fault r s (faults.Unfinished task job) (faults.Unfinished other left) h k p q =
-    ap of_fault (one_run_fault r s (replays.Unfinished task job) (replays.Unfinished other left) h k (told_unfinished task job) (told_unfinished other left))
-one_relay_fault r s (faults.Unfinished task job) faults.Memory h k p q = absurd (q refl)
 
 -- the sights are one
 same_value : (at : Option Value) (a b : Value) → at ≡ Some a → at ≡ Some b → a ≡ b
@@ -164,12 +63,77 @@ one_reads core list a b h k = h.kept ∙ ap (λ (xs : List Seen). filter is_read
 one_output : (r : Relay) (a b : List Value) → IsOutput r a → IsOutput r b → a ≡ b
 one_output r a b h k = h.output ∙ ap (λ (flows : List (List Value)). values_of flows (output_of r.chain)) (sym (h.only k.flows k.solution)) ∙ sym k.output
 
--- there is one text
-pub one_text : (r : Relay) (schedule a b : List ℕ) → IsReplayText r schedule a → IsReplayText r schedule b → a ≡ b
-one_text r schedule a b h k =
-    let horizon = same_horizon r h.horizon k.horizon h.of_plan k.of_plan in
-    let listed = same_events _ h.events k.events h.written k.written in
-    let here : IsReplay (machine r k.horizon) k.events h.reads =
-    subst (λ (xs : List Event). IsReplay (machine r k.horizon) xs h.reads) listed (subst (λ (z : Horizon). IsReplay (machine r z) h.events h.reads) horizon h.replayed) in
-    h.text_is ∙ ap (λ (xs : List Seen). replay_lines r xs h.outputs) (one_reads (machine r k.horizon) k.events h.reads k.reads here k.replayed)
-    ∙ ap (λ (xs : List Value). replay_lines r k.reads xs) (one_output r h.outputs k.outputs h.solved k.solved) ∙ sym k.text_is
+same_events : (written : Result (List Event) ScheduleFault) (a b : List Event) → written ≡ Ok a → written ≡ Ok b → a ≡ b
+same_events written a b h k = cc
+
+not_both : (written : Result (List Event) ScheduleFault) (a : List Event) (fault : ScheduleFault) → written ≡ Ok a → written ≡ Err fault → ⊥
+not_both written a fault h k = cc
+
+same_line : (written : Result (List Event) ScheduleFault) (a b : ℕ) → written ≡ Err (lines.Syntax a) → written ≡ Err (lines.Syntax b) → a ≡ b
+same_line written a b h k = cc
+
+-- what is said of a horizon and events is said of those of the other end
+moved : (r : Relay) (fault : ReplayFault) (a b : Horizon) (es fs : List Event) → a ≡ b → es ≡ fs → IsReplayFault (machine r a) es fault → IsReplayFault (machine r b) fs fault
+moved r fault a b es fs same listed h =
+    subst (λ (xs : List Event). IsReplayFault (machine r b) xs fault) listed (subst (λ (z : Horizon). IsReplayFault (machine r z) es fault) same h)
+
+no_run_written : (r : Relay) (schedule : List ℕ) (fault : ReplayFault) (line : ℕ) → IsNoRun r schedule fault → IsRelayFault r schedule (faults.Syntax line) → ⊥
+no_run_written r schedule fault line h k = not_both _ h.events (lines.Syntax line) h.written k.2
+
+-- the laws of horizons and of lists of events
+pub record Laws : Type 0 where
+  pub one_horizon : (plan : PlanView) (until : ℕ) (a b : Horizon) → IsHorizon plan a → IsHorizon plan b → a.until ≡ until → b.until ≡ until → a ≡ b
+  pub not_both : (core : CoreView) (list : List Event) (fault : ReplayFault) → IsWhole core list → IsReplayFault core list fault → ⊥
+  pub one_fault : (core : CoreView) (list : List Event) (a b : ReplayFault) → IsReplayFault core list a → IsReplayFault core list b → a ≡ b
+
+module _ (law : Laws) where
+  same_horizon : (r : Relay) (a b : Horizon) → IsHorizonOf r a → IsHorizonOf r b → a ≡ b
+  same_horizon r a b h k = law.one_horizon (relay_plan r.chain) r.until a b h.0 k.0 h.1 k.1
+
+  one_run_fault : (r : Relay) (schedule : List ℕ) (a b : ReplayFault) → IsNoRun r schedule a → IsNoRun r schedule b → a ≡ b
+  one_run_fault r schedule a b h k =
+      law.one_fault (machine r k.horizon) k.events a b
+      (moved r a h.horizon k.horizon h.events k.events (same_horizon r h.horizon k.horizon h.of_plan k.of_plan) (same_events _ h.events k.events h.written k.written) h.fault_is)
+      k.fault_is
+
+  run_has_no_fault : (r : Relay) (schedule text : List ℕ) (fault : ReplayFault) → IsReplayText r schedule text → IsNoRun r schedule fault → ⊥
+  run_has_no_fault r schedule text fault h k =
+      law.not_both (machine r h.horizon) h.events fault (h.replayed.legal, h.replayed.complete)
+      (moved r fault k.horizon h.horizon k.events h.events (same_horizon r k.horizon h.horizon k.of_plan h.of_plan) (same_events _ k.events h.events k.written h.written) k.fault_is)
+
+  -- where there is a text, there is no refusal
+  pub text_has_no_fault : (r : Relay) (schedule text : List ℕ) (fault : RelayFault) → IsReplayText r schedule text → IsRelayFault r schedule fault → ⊥
+  text_has_no_fault r schedule text (faults.Syntax line) h k = not_both _ h.events (lines.Syntax line) h.written k.2
+  text_has_no_fault r schedule text (faults.Illegal line rule) h k = run_has_no_fault r schedule text (replays.Illegal line rule) h k
+  text_has_no_fault r schedule text (faults.Unfinished task job) h k = run_has_no_fault r schedule text (replays.Unfinished task job) h k
+  text_has_no_fault r schedule text faults.Memory h k = k
+
+  -- there is one refusal
+  pub one_relay_fault : (r : Relay) (schedule : List ℕ) (a b : RelayFault) → IsRelayFault r schedule a → IsRelayFault r schedule b → a ≡ b
+  one_relay_fault r s faults.Memory b h k = absurd h
+  one_relay_fault r s (faults.Syntax x) (faults.Syntax y) h k = ap faults.Syntax (same_line _ x y h.2 k.2)
+  one_relay_fault r s (faults.Syntax x) (faults.Illegal line rule) h k = absurd (no_run_written r s (replays.Illegal line rule) x k h)
+  one_relay_fault r s (faults.Syntax x) (faults.Unfinished task job) h k = absurd (no_run_written r s (replays.Unfinished task job) x k h)
+  one_relay_fault r s (faults.Syntax x) faults.Memory h k = absurd k
+  one_relay_fault r s (faults.Illegal line rule) (faults.Syntax y) h k = absurd (no_run_written r s (replays.Illegal line rule) y h k)
+  one_relay_fault r s (faults.Illegal line rule) (faults.Illegal other broken) h k =
+      ap of_fault (one_run_fault r s (replays.Illegal line rule) (replays.Illegal other broken) h k)
+  one_relay_fault r s (faults.Illegal line rule) (faults.Unfinished task job) h k =
+      ap of_fault (one_run_fault r s (replays.Illegal line rule) (replays.Unfinished task job) h k)
+  one_relay_fault r s (faults.Illegal line rule) faults.Memory h k = absurd k
+  one_relay_fault r s (faults.Unfinished task job) (faults.Syntax y) h k = absurd (no_run_written r s (replays.Unfinished task job) y h k)
+  one_relay_fault r s (faults.Unfinished task job) (faults.Illegal other broken) h k =
+      ap of_fault (one_run_fault r s (replays.Unfinished task job) (replays.Illegal other broken) h k)
+  one_relay_fault r s (faults.Unfinished task job) (faults.Unfinished other left) h k =
+      ap of_fault (one_run_fault r s (replays.Unfinished task job) (replays.Unfinished other left) h k)
+  one_relay_fault r s (faults.Unfinished task job) faults.Memory h k = absurd k
+
+  -- there is one text
+  pub one_text : (r : Relay) (schedule a b : List ℕ) → IsReplayText r schedule a → IsReplayText r schedule b → a ≡ b
+  one_text r schedule a b h k =
+      let horizon = same_horizon r h.horizon k.horizon h.of_plan k.of_plan in
+      let listed = same_events _ h.events k.events h.written k.written in
+      let here : IsReplay (machine r k.horizon) k.events h.reads =
+      subst (λ (xs : List Event). IsReplay (machine r k.horizon) xs h.reads) listed (subst (λ (z : Horizon). IsReplay (machine r z) h.events h.reads) horizon h.replayed) in
+      h.text_is ∙ ap (λ (xs : List Seen). replay_lines r xs h.outputs) (one_reads (machine r k.horizon) k.events h.reads k.reads here k.replayed)
+      ∙ ap (λ (xs : List Value). replay_lines r k.reads xs) (one_output r h.outputs k.outputs h.solved k.solved) ∙ sym k.text_is

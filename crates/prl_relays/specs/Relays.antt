@@ -156,13 +156,12 @@ abbrev pub IsUnwritten : List (List ℕ) → List ℕ → RelayFault → Type 0
 IsUnwritten names schedule (faults.Syntax line) = schedule_of names schedule ≡ Err (lines.Syntax line)
 IsUnwritten names schedule (faults.Illegal line rule) = ⊥
 IsUnwritten names schedule (faults.Unfinished task job) = ⊥
-IsUnwritten names schedule faults.Memory = Unit {0}
+IsUnwritten names schedule faults.Memory = ⊥
 
--- When a replay is refused: first by the text of the schedule, and then by its events. Want of memory is
--- free.
+-- When a replay is refused: first by the text of the schedule, and then by its events. It never is for want of memory.
 abbrev pub IsRelayFault : Relay → List ℕ → RelayFault → Type 0
 IsRelayFault r schedule (faults.Syntax line) =
     (horizon : Horizon) × IsHorizonOf r horizon × (schedule_of (task_names r.chain) schedule ≡ Err (lines.Syntax line))
 IsRelayFault r schedule (faults.Illegal line rule) = IsNoRun r schedule (replays.Illegal line rule)
 IsRelayFault r schedule (faults.Unfinished task job) = IsNoRun r schedule (replays.Unfinished task job)
-IsRelayFault r schedule faults.Memory = Unit {0}
+IsRelayFault r schedule faults.Memory = ⊥

@@ -1,39 +1,33 @@
 //! Laws of replays, each as a function that does nothing: its contract is the law.
 
-ghost use Rattle.std.specs.Prelude.{◌≡◌, ◌≢◌, ℕ, List, Ok};
-ghost use Rattle.prl_base.specs.declared.limits.Limit.{Limit};
-ghost use Rattle.prl_chains.specs.declared.chains.Chain.{Chain};
+ghost use Rattle.std.specs.Prelude.{◌≡◌, ℕ, List, Ok};
 ghost use Rattle.prl_plan.specs.declared.events.Event.{Event};
 ghost use Rattle.prl_plan.specs.declared.horizons.Horizon.{Horizon};
-ghost use Rattle.prl_plan.specs.Horizons.{IsPastLimit};
 ghost use Rattle.prl_plan.specs.Rules.{IsLegal, IsComplete};
 ghost use Rattle.prl_core.specs.Machine.{constants};
 ghost use Rattle.prl_replay.specs.Schedules.{schedule_of};
 ghost use Rattle.prl_replay.specs.Replays.{after_all};
 ghost use Rattle.prl_relays.specs.declared.relays.RelayFault.{RelayFault};
-ghost use Rattle.prl_relays.specs.declared.relays.RelayFault.TheVariants as faults;
-ghost use Rattle.prl_relays.specs.Relays.{Relay, relay_plan, machine, task_names, IsReady, IsHorizonOf, IsHorizonUpTo, IsReplayText, IsRelayFault};
+ghost use Rattle.prl_relays.specs.Relays.{Relay, machine, task_names, IsReady, IsHorizonOf, IsReplayText, IsRelayFault};
 
 use prl_chains::copies_hand_on;
 use prl_plan::{
-    gated_list_finds_halves_free, legal_list_is_gated, plans_keep_facts, run_of_two_lists,
+    gated_list_finds_halves_free, horizons_end_one_way, legal_list_is_gated, plans_keep_facts,
+    run_of_two_lists,
 };
+use prl_replay::events_end_one_way;
 
-/// A replay comes to one end, want of memory aside: it has one text and is not refused, or it is refused for one reason.
+/// A replay comes to one end: it has one text and is not refused, or it is refused for one reason.
 pub fn replays_end_one_way()
     ensures one_text { (r : Relay) (schedule a b : List ℕ) → IsReplayText r schedule a → IsReplayText r schedule b → a ≡ b }
-    ensures not_both { (r : Relay) (schedule text : List ℕ) (fault : RelayFault) → IsReplayText r schedule text → IsRelayFault r schedule fault → fault ≡ faults.Memory }
-    ensures one_fault { (r : Relay) (schedule : List ℕ) (a b : RelayFault) → IsRelayFault r schedule a → IsRelayFault r schedule b
-        → a ≢ faults.Memory → b ≢ faults.Memory → a ≡ b }
-{}
-
-/// A chain's plan has a horizon up to a date, or passes one limit.
-pub fn horizons_end_one_way()
-    ensures not_both { (chain : Chain) (until : ℕ) (horizon : Horizon) (limit : Limit) → IsHorizonUpTo chain until horizon
-        → IsPastLimit (relay_plan chain) until limit → ⊥ }
-    ensures one_limit { (chain : Chain) (until : ℕ) (a b : Limit) → IsPastLimit (relay_plan chain) until a → IsPastLimit (relay_plan chain) until b
-        → a ≡ b }
-{}
+    ensures not_both { (r : Relay) (schedule text : List ℕ) (fault : RelayFault) → IsReplayText r schedule text
+        → IsRelayFault r schedule fault → ⊥ }
+    ensures one_fault { (r : Relay) (schedule : List ℕ) (a b : RelayFault) → IsRelayFault r schedule a
+        → IsRelayFault r schedule b → a ≡ b }
+{
+    horizons_end_one_way();
+    events_end_one_way();
+}
 
 /// A schedule whose events are legal and complete in a horizon has a text.
 pub fn whole_runs_are_replayed()

@@ -8,6 +8,6 @@ mod reads;
 mod relays;
 mod runs;
 
-pub use laws::{horizons_end_one_way, replays_end_one_way, whole_runs_are_replayed};
+pub use laws::{replays_end_one_way, whole_runs_are_replayed};
 pub use plans::{is_in_time, plan_of};
 pub use relays::{RelayFault, replay_text};

@@ -1,6 +1,6 @@
 //! The replay of a schedule for a chain that only hands its input on.
 
-ghost use Rattle.std.specs.Prelude.{◌≡◌, ◌<◌, ◌^◌, ℕ, [], ◌∷◌, All, IfOk, MatchResult, length};
+ghost use Rattle.std.specs.Prelude.{◌≡◌, ◌≢◌, ◌<◌, ◌^◌, ℕ, [], ◌∷◌, All, IfOk, MatchResult, length};
 ghost use Rattle.std.specs.Vec.{vec_items};
 ghost use Rattle.prl_flow.specs.Actuators.{AreUpTo, actuator_text};
 ghost use Rattle.prl_flow.specs.Rows.{rows_of};
@@ -47,7 +47,8 @@ impl From<AllocError> for RelayFault {
 /// The events of the schedule, or the first line that is no event.
 fn events_of(alloc: Global, names: &[Label], schedule: &[u8]) -> Result<Vec<Event>, RelayFault>
     requires { length names.now ≡ 2 }
-    ensures exact { MatchResult result (λ events. schedule_of names.now schedule.now ≡ Ok (vec_items events)) (IsUnwritten names.now schedule.now) }
+    ensures exact { MatchResult result (λ events. schedule_of names.now schedule.now ≡ Ok (vec_items events)) 
+        (λ fault. fault ≢ RelayFault.Memory → IsUnwritten names.now schedule.now fault) }
     ensures tasks { IfOk result (λ events. All (IsOfTasks 2) events.items) }
 {
     match read_schedule(alloc, schedule, names) {
@@ -113,7 +114,8 @@ pub fn replay_text(
     requires plan { plan.now ≡ relay_plan chain.now }
     requires horizon { IsHorizon plan.now horizon }
     ensures { MatchResult result (λ text. IsReplayText (record { chain = chain.now; values = rows_of sensors.now 0; until = horizon.until }) schedule.now text.items)
-        (IsRelayFault (record { chain = chain.now; values = rows_of sensors.now 0; until = horizon.until }) schedule.now) }
+        (λ fault. fault ≢ RelayFault.Memory
+            → IsRelayFault (record { chain = chain.now; values = rows_of sensors.now 0; until = horizon.until }) schedule.now fault) }
 {
     let names = task_names(alloc, chain)?;
     let events = match events_of(alloc, &names, schedule) {

@@ -3,7 +3,7 @@
 ghost use Rattle.std.specs.Prelude.{◌≡◌, ◌∷◌, [], All, IfOk, MatchResult};
 ghost use Rattle.prl_flow.specs.Rows.{rows_of};
 ghost use Rattle.prl_plan.specs.Horizons.{IsHorizon};
-ghost use Rattle.prl_replay.specs.Replays.{IsReplay, IsReplayFault};
+ghost use Rattle.prl_replay.specs.Replays.{IsReplay, FailsWith};
 ghost use Rattle.prl_replay.specs.Schedules.{IsOfTasks};
 ghost use Rattle.prl_relays.specs.Relays.{relay_plan, machine, IsReady, IsOutput, AreOperands};
 
@@ -38,7 +38,7 @@ pub(crate) fn replayed(
     requires horizon { IsHorizon plan.now horizon }
     requires events { All (IsOfTasks 2) events.now }
     ensures run { MatchResult result (λ run. IsReplay (machine (record { chain = chain.now; values = rows_of sensors.now 0; until = horizon.until }) horizon) events.now run.reads.items)
-        (IsReplayFault (machine (record { chain = chain.now; values = rows_of sensors.now 0; until = horizon.until }) horizon) events.now) }
+        (FailsWith (machine (record { chain = chain.now; values = rows_of sensors.now 0; until = horizon.until }) horizon) events.now) }
     ensures solved { IfOk result (λ run. IsOutput (record { chain = chain.now; values = rows_of sensors.now 0; until = horizon.until }) run.outputs.items) }
     ensures operands { IfOk result (λ run. AreOperands run.outputs.items run.reads.items) }
 {

@@ -1,2 +1,4 @@
 pub mod Lines
 pub mod Runs
+mod Legality
+mod OneEnd

@@ -1,5 +1,5 @@
 -- What it is to replay a list of events.
-use Rattle.std.specs.Prelude.{◌≡◌, ◌+◌, ◌-◌, ◌≤◌, ℕ, Bool, true, false, List, [], ◌∷◌, length, take, filter, Some, slice_get}
+use Rattle.std.specs.Prelude.{◌≡◌, ◌≢◌, ◌+◌, ◌-◌, ◌≤◌, ℕ, Bool, true, false, List, [], ◌∷◌, length, take, filter, Some, slice_get}
 use Rattle.prl_plan.specs.declared.events.Event.{Event}
 use Rattle.prl_plan.specs.Runs.{after_event, after_events}
 use Rattle.prl_plan.specs.Rules.{IsLegal, IsComplete, FirstBroken, IsFirstUnfinished}
@@ -41,14 +41,22 @@ pub record IsReplay (core : CoreView) (events : List Event) (reads : List Seen) 
   pub told : TellsAll core events seens
   pub kept : reads ≡ filter is_read seens
 
--- why the events are no whole run; want of memory is free
+-- why the events are no whole run; they never are for want of memory
 abbrev pub IsReplayFault : CoreView → List Event → ReplayFault → Type 0
 IsReplayFault core events (faults.Illegal line rule) =
     (i : ℕ) × (event : Event) × (line ≡ i + 1) × (slice_get events i ≡ Some event)
     × IsLegal (constants core) core.state (take i events) × FirstBroken (constants core) (after_all core (take i events)).state event rule
 IsReplayFault core events (faults.Unfinished task job) =
     IsLegal (constants core) core.state events × IsFirstUnfinished (constants core) (after_all core events).state task.0 job
-IsReplayFault core events faults.Memory = Unit {0}
+IsReplayFault core events faults.Memory = ⊥
+
+-- the events are no whole run for this reason, unless it is want of memory, which may come at any events
+abbrev pub FailsWith : CoreView → List Event → ReplayFault → Type 0
+FailsWith core events fault = fault ≢ faults.Memory → IsReplayFault core events fault
+
+-- the events are legal and complete
+abbrev pub IsWhole : CoreView → List Event → Type 0
+IsWhole core events = IsLegal (constants core) core.state events × IsComplete (constants core) (after_all core events).state
 
 -- Where the machine stands when the events were no whole run: after those before the one that breaks a rule, or after all
 -- of them, or, where memory ran out, after a front of them.

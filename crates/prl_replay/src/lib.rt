@@ -2,8 +2,10 @@
 //! stands on `prl_plan` and `prl_core`.
 #![tactic(auto)]
 
+mod laws;
 mod replays;
 mod schedules;
 
+pub use laws::events_end_one_way;
 pub use replays::{ReplayFault, replay};
 pub use schedules::{ScheduleFault, read_schedule};

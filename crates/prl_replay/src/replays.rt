@@ -4,7 +4,7 @@ ghost use Rattle.std.specs.Prelude.{◌≡◌, ◌<◌, ◌≤◌, ◌++◌, [],
 ghost use Rattle.std.specs.Vec.{vec_items};
 ghost use Rattle.prl_plan.specs.Runs.{opening};
 ghost use Rattle.prl_core.specs.Machine.{CoreView, constants, IsOfPlan};
-ghost use Rattle.prl_replay.specs.Replays.{is_read, after_all, IsReplay, IsReplayFault, StopsAt};
+ghost use Rattle.prl_replay.specs.Replays.{is_read, after_all, IsReplay, FailsWith, StopsAt};
 
 use prl_base::TaskNo;
 use prl_core::{Core, Seen, Unfinished};
@@ -66,7 +66,7 @@ pub fn replay(
     events: &[Event],
 ) -> Result<Vec<Seen>, ReplayFault>
     requires plan { All (IsOfPlan core.old.plan) events.now }
-    ensures run { MatchResult result (λ reads. IsReplay core.entry.now events.now reads.items) (IsReplayFault core.entry.now events.now) }
+    ensures run { MatchResult result (λ reads. IsReplay core.entry.now events.now reads.items) (FailsWith core.entry.now events.now) }
     ensures state { MatchResult result (λ _. core.exit.now ≡ after_all core.entry.now events.now) (StopsAt core.entry.now events.now core.exit.now) }
 {
     let mut reads = Vec::new(alloc);

@@ -1,11 +1,11 @@
-use Rattle.prl_relays.proofs.OneEnd.{one_text, text_has_no_fault, one_relay_fault}
+use Rattle.prl_relays.proofs.OneEnd.{Laws, one_text, text_has_no_fault, one_relay_fault}
 use Rattle.prl_relays.proofs.laws.replays_end_one_way.Goals as goal
 
-pub returns-clause-one_text : goal.returns-clause-one_text
-returns-clause-one_text c = one_text
-
-pub returns-clause-not_both : goal.returns-clause-not_both
-returns-clause-not_both c = text_has_no_fault
-
-pub returns-clause-one_fault : goal.returns-clause-one_fault
-returns-clause-one_fault c = one_relay_fault
+pub returns : goal.returns
+returns c =
+    let law : Laws = record {
+      one_horizon = c.horizons_end_one_way.ensures.one_horizon;
+      not_both = c.events_end_one_way.ensures.not_both;
+      one_fault = c.events_end_one_way.ensures.one_fault;
+    } in
+    record { one_text = one_text law; not_both = text_has_no_fault law; one_fault = one_relay_fault law }

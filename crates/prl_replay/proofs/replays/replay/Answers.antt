@@ -38,7 +38,7 @@ returns-in-Ok-finished-clause-run c =
 pub returns-in-Err-finished-clause-run : goal.returns-in-Err-finished-clause-run
 returns-in-Err-finished-clause-run c =
     let whole = take_all c.loop-i.i c.args.events.now (omega arith) in
-    let state = c.loop-i.invariant.state ∙ ap (after_all c.args.core.now) whole in (
+    let state = c.loop-i.invariant.state ∙ ap (after_all c.args.core.now) whole in λ _. (
       subst (IsLegal (constants c.args.core.now) c.args.core.now.state) whole c.loop-i.invariant.legal,
       subst (λ (m : CoreView). IsFirstUnfinished (constants m) m.state c.in-Err-finished.field-0.task.0 c.in-Err-finished.field-0.job) state c.in-Err-finished.ensures,
     )
@@ -57,7 +57,7 @@ returns-in_err-keep_read-in-Ok-clause-state c =
 
 pub returns-in-Err-clause-run : goal.returns-in-Err-clause-run
 returns-in-Err-clause-run c =
-    let inside : c.loop-i.i < length c.args.events.now = c.loop-i-test.true in (
+    let inside : c.loop-i.i < length c.args.events.now = c.loop-i-test.true in λ _. (
       c.loop-i.i,
       get_or c.args.events.now c.loop-i.i events.Tick,
       refl,
