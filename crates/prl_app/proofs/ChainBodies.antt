@@ -9,7 +9,8 @@ use Rattle.prl_chains.specs.declared.chains.Chain.{Chain}
 use Rattle.prl_chains.specs.Chains.{chain_of, parts_of, node_defined, flat_chain}
 use Rattle.prl_flow.specs.Applications.{HaveBodies}
 use Rattle.prl_names.specs.Uses.{used_imports}
-use Rattle.prl_syntax.proofs.WholeTexts.{one_outcome}
+use Rattle.prl_syntax.specs.declared.parsing.ParseFault.{ParseFault}
+use Rattle.prl_syntax.specs.Parsing.{IsParsed}
 use Rattle.prl_app.specs.declared.faults.Part.TheVariants as parts
 use Rattle.prl_app.specs.Given.{Given, text_of}
 use Rattle.prl_app.specs.Parts.{IsProgram, AreBodies}
@@ -37,15 +38,18 @@ chain_main program chain main e below =
 ok_ok : {A F : Type 0} (r : Result A F) (a b : A) → r ≡ Ok a → r ≡ Ok b → a ≡ b
 ok_ok r a b h k = cc
 
--- the law of the crate below
+-- the laws of the crates below
+abbrev pub OneProgram : Type 0
+OneProgram = (text : List ℕ) (a b : Result ProgramTree ParseFault) → IsParsed text a → IsParsed text b → a ≡ b
+
 abbrev pub HaveTheirs : Type 0
 HaveTheirs = (p : ProgramTree) (c : Chain) → chain_of p ≡ Some c → (texts : List TextTree) (bodies : List CheckedBody)
     → checked p.imports (used_imports p 0) texts ≡ Ok (map body_tree bodies) → HaveBodies c.flat bodies
 
 -- each application of a formed chain has a body that fits
-pub formed_bodies : HaveTheirs → (g : Given) (c : Chain) (bodies : List CheckedBody) → IsFormed g c → AreBodies g (map body_tree bodies) → HaveBodies c.flat bodies
-formed_bodies law g c bodies f b =
-    let same = ok_ok (Ok f.program) f.program b.program refl (one_outcome (text_of g parts.Program) (Ok f.program) (Ok b.program) f.is_program.written b.is_main.program.written) in
+pub formed_bodies : OneProgram → HaveTheirs → (g : Given) (c : Chain) (bodies : List CheckedBody) → IsFormed g c → AreBodies g (map body_tree bodies) → HaveBodies c.flat bodies
+formed_bodies one law g c bodies f b =
+    let same = ok_ok (Ok f.program) f.program b.program refl (one (text_of g parts.Program) (Ok f.program) (Ok b.program) f.is_program.written b.is_main.program.written) in
     let formed : chain_of b.program ≡ Some c = subst (λ (p : ProgramTree). chain_of p ≡ Some c) same f.formed in
     let first = chain_main b.program c b.main formed b.is_main.below in
     law b.program c formed b.texts bodies (subst (λ (m : ℕ). checked b.program.imports (used_imports b.program m) b.texts ≡ Ok (map body_tree bodies)) first b.fitting)

@@ -5,9 +5,8 @@ use Rattle.prl_base.specs.declared.limits.Limit.{Limit}
 use Rattle.prl_base.specs.declared.values.Ty.{Ty}
 use Rattle.prl_base.specs.declared.values.Value.{Value}
 use Rattle.prl_ast.specs.Trees.{ProgramTree}
-use Rattle.prl_syntax.proofs.WholeTexts.{one_outcome}
-use Rattle.prl_bodytext.proofs.WholeTexts.{one_outcome as one_of_bodies}
 use Rattle.prl_syntax.specs.declared.parsing.ParseFault.{ParseFault}
+use Rattle.prl_syntax.specs.Parsing.{IsParsed as IsParsedProgram}
 use Rattle.prl_types.specs.declared.faults.TypeFault.{TypeFault}
 use Rattle.prl_types.specs.Typing.{IsTyped, IsFault, IsOutcome}
 use Rattle.prl_body.specs.declared.faults.BodyFault.{BodyFault}
@@ -44,6 +43,8 @@ use Rattle.prl_app.specs.Stages.{Holds, Refuses, Comes}
 
 -- the laws of the crates below
 pub record Laws : Type 0 where
+  pub programs : (text : List ℕ) (a b : Result ProgramTree ParseFault) → IsParsedProgram text a → IsParsedProgram text b → a ≡ b
+  pub bodies : (text : List ℕ) (a b : Result (List TextTree) BodyFault) → IsParsed text a → IsParsed text b → a ≡ b
   pub one : (p : ProgramTree) (main : Option (List ℕ)) (r s : Result (ℕ × List Ty) TypeFault) → IsOutcome p main r → IsOutcome p main s → r ≡ s
   pub horizon_or_limit : (plan : PlanView) (until : ℕ) (horizon : Horizon) (limit : Limit) → IsHorizon plan horizon → horizon.until ≡ until
       → IsPastLimit plan until limit → ⊥
@@ -100,7 +101,7 @@ module _ (law : Laws) (g : Given) where
       ok_main (a, s) (b, t) (law.one p g.node (Ok (a, s)) (Ok (b, t)) h k)
 
   one_program : (p q : ProgramTree) → IsProgram g p → IsProgram g q → p ≡ q
-  one_program p q h k = ok_ok (Ok p) p q refl (one_outcome (text_of g parts.Program) (Ok p) (Ok q) h.written k.written)
+  one_program p q h k = ok_ok (Ok p) p q refl (law.programs (text_of g parts.Program) (Ok p) (Ok q) h.written k.written)
 
   one_main : (p : ProgramTree) (main : ℕ) (q : ProgramTree) (other : ℕ) → IsMain g p main → IsMain g q other → main ≡ other
   one_main p main q other h k =
@@ -116,10 +117,10 @@ module _ (law : Laws) (g : Given) where
       subst (λ (x : ℕ). RefusesBodies q x (text_of g parts.Bodies) fault) (one_main p main q other h k) at
 
   one_text : (s t : List TextTree) → IsParsed (text_of g parts.Bodies) (Ok s) → IsParsed (text_of g parts.Bodies) (Ok t) → s ≡ t
-  one_text s t h k = ok_ok (Ok s) s t refl (one_of_bodies (text_of g parts.Bodies) (Ok s) (Ok t) h k)
+  one_text s t h k = ok_ok (Ok s) s t refl (law.bodies (text_of g parts.Bodies) (Ok s) (Ok t) h k)
 
   read_apart : (s : List TextTree) (fault : BodyFault) → IsParsed (text_of g parts.Bodies) (Ok s) → IsParsed (text_of g parts.Bodies) (Err fault) → ⊥
-  read_apart s fault h k = ok_err (Ok s) s fault refl (one_of_bodies (text_of g parts.Bodies) (Ok s) (Err fault) h k)
+  read_apart s fault h k = ok_err (Ok s) s fault refl (law.bodies (text_of g parts.Bodies) (Ok s) (Err fault) h k)
 
   bodies_apart : (trees : List BodyTree) (fault : BodyFault) (h : AreBodies g trees) → RefusesBodies h.program h.main (text_of g parts.Bodies) fault → ⊥
   bodies_apart trees fault h k = elim k [
@@ -133,7 +134,7 @@ module _ (law : Laws) (g : Given) where
   one_body_fault : (p : ProgramTree) (main : ℕ) (a b : BodyFault) → RefusesBodies p main (text_of g parts.Bodies) a → RefusesBodies p main (text_of g parts.Bodies) b → a ≡ b
   one_body_fault p main a b h k = elim h [
     | inl u ↦ elim k [
-      | inl v ↦ err_err (Err a) a b refl (one_of_bodies (text_of g parts.Bodies) (Err a) (Err b) u v)
+      | inl v ↦ err_err (Err a) a b refl (law.bodies (text_of g parts.Bodies) (Err a) (Err b) u v)
       | inr v ↦ absurd (read_apart v.0 a v.1 u)
     ]
     | inr u ↦ elim k [
@@ -176,7 +177,7 @@ module _ (law : Laws) (g : Given) where
 
   apart : (s : Stage) (f : Fault) → Holds g s → Refuses g s f → ⊥
   apart (stages.File part) f h k = ok_err (content_of g part) h.0 f h.1 k
-  apart stages.Grammar f h k = ok_err (Ok h.0) h.0 k.0 refl (one_outcome (text_of g parts.Program) (Ok h.0) (Err k.0) h.1.written k.1)
+  apart stages.Grammar f h k = ok_err (Ok h.0) h.0 k.0 refl (law.programs (text_of g parts.Program) (Ok h.0) (Err k.0) h.1.written k.1)
   apart stages.Types f h k =
       let same = one_program k.0 h.0 k.1 h.2.program in
       typed_is_no_fault h.0 h.1 h.2.types k.2 h.2.typed (subst (λ (p : ProgramTree). IsFault p g.node k.2) same k.3)
@@ -205,7 +206,7 @@ module _ (law : Laws) (g : Given) where
   one : (s : Stage) (a b : Fault) → Refuses g s a → Refuses g s b → a ≡ b
   one (stages.File part) a b h k = err_err (content_of g part) a b h k
   one stages.Grammar a b h k =
-      some_some (told_parse k.0) a b (ap told_parse (err_err (Err k.0) k.0 h.0 refl (one_outcome (text_of g parts.Program) (Err k.0) (Err h.0) k.1 h.1)) ∙ h.2) k.2
+      some_some (told_parse k.0) a b (ap told_parse (err_err (Err k.0) k.0 h.0 refl (law.programs (text_of g parts.Program) (Err k.0) (Err h.0) k.1 h.1)) ∙ h.2) k.2
   one stages.Types a b h k =
       let same = one_program k.0 h.0 k.1 h.1 in
       let fault = subst (λ (p : ProgramTree). IsFault p g.node k.2) same k.3 in

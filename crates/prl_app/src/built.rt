@@ -34,6 +34,7 @@ use prl_flow::{Sensors, dates_before};
 use prl_plan::{Horizon, Plan};
 use prl_relays::{RelayFault, is_in_time, plan_of, replay_text};
 use prl_sensors::{SensorFault, read_sensors, rows_are_typed_and_enough};
+use prl_syntax::each_text_has_one_outcome;
 use std::alloc::{AllocError, Global};
 
 /// The chain of equations that the program is.
@@ -168,6 +169,7 @@ pub fn flows_of(
     ensures holds { IfOk result (λ _. Holds (given_of command.now texts.now) Stage.Values) }
     ensures stop { IfErr result (StopsAt (given_of command.now texts.now) Stage.Values) }
 {
+    each_text_has_one_outcome();
     applied_imports_have_bodies();
     let run = run_of(chain, bodies, sensors, command.until);
     run_text(alloc, &run)

@@ -21,6 +21,8 @@ pub fn stages_end_one_way()
     ensures { (g : AnyGiven) (stages : List AnyStage) (a b : Option (AnyStage × AnyFault)) →
         Comes g stages a → Comes g stages b → a ≡ b }
 {
+    programs_outcome();
+    bodies_outcome();
     outcome_is_unique();
     horizons_end_one_way();
     replays_end_one_way();
