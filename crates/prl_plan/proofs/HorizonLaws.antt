@@ -120,11 +120,11 @@ module _ (plan : PlanView) (until : ℕ) (good : IsWellFormed plan.graph) where
   task_period : (i : ℕ) → i < length plan.graph.tasks → 1 ≤ (task_at plan.graph i).clock.period
   task_period i task = (good.tasks i (task_at plan.graph i) (slice_get-get_or plan.graph.tasks i no_task task)).period.0
 
-  count : ℕ → ℕ
+  abbrev count : ℕ → ℕ
   count i = job_count (task_at plan.graph i) until
 
   -- the greatest encoded deadline of a task's horizon jobs
-  task_end : ℕ → ℕ
+  abbrev task_end : ℕ → ℕ
   task_end i = (greatest (deadline_at plan i) (count i)).0
 
   some_end : (end : ℕ) × IsEnd plan until end
