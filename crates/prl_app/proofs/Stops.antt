@@ -17,11 +17,6 @@ use Rattle.prl_body.specs.Checks.{BodyTree, checked}
 use Rattle.prl_body.specs.Texts.{TextTree}
 use Rattle.prl_app.specs.declared.faults.Part.{Part}
 use Rattle.prl_app.specs.declared.faults.Part.TheVariants as parts
-use Rattle.prl_base.specs.declared.values.Value.{Value}
-use Rattle.prl_chains.specs.declared.chains.Chain.{Chain}
-use Rattle.prl_relays.specs.declared.relays.RelayFault.{RelayFault}
-use Rattle.prl_relays.specs.declared.relays.RelayFault.TheVariants as relays
-use Rattle.prl_relays.specs.Relays.{IsRelayFault}
 use Rattle.prl_app.specs.declared.faults.Fault.{Fault}
 use Rattle.prl_app.specs.declared.stages.Stage.{Stage}
 use Rattle.prl_app.specs.declared.stages.Stage.TheVariants as stages
@@ -31,9 +26,8 @@ use Rattle.prl_app.specs.declared.reading.Texts.{Texts}
 use Rattle.prl_app.specs.declared.words.Command.{Command}
 use Rattle.prl_app.specs.Given.{Folder, Given, IsContent, IsGiven, content_of, text_of, file_of, read_as}
 use Rattle.prl_app.specs.Parts.{IsProgram, IsMain, RefusesBodies, told_parse, told_types, told_body}
-use Rattle.prl_app.specs.Built.{HasRows, relay_of, told_relay}
 use Rattle.prl_app.specs.Stages.{Holds, Refuses, Comes, files, stages_after, stages_of}
-use Rattle.prl_app.specs.code.Stops.{given_of, stop_of, StopsBy, StopsAt, StopsIn, AllHold, IsFileStop, IsStopOfFiles, IsAnswerStop}
+use Rattle.prl_app.specs.code.Stops.{given_of, stop_of, StopsAt, StopsIn, AllHold, IsFileStop, IsStopOfFiles, IsAnswerStop}
 
 -- the grammar refuses
 pub grammar_stop : (g : Given) (fault : ParseFault) (stop : Stop) → (fault ≢ parsing.Memory → IsParsed (text_of g parts.Program) (Err fault))
@@ -68,17 +62,6 @@ bodies_stop g p main (body_faults.BodyType at) stop h e is = subst (StopsAt g st
 bodies_stop g p main (body_faults.BodyArity at) stop h e is = subst (StopsAt g stages.Bodies) (sym is) (refl, (p, main, h, body_faults.BodyArity at, e (λ k. cc), refl))
 bodies_stop g p main (body_faults.Missing name) stop h e is = subst (StopsAt g stages.Bodies) (sym is) (refl, (p, main, h, body_faults.Missing name, e (λ k. cc), refl))
 bodies_stop g p main body_faults.Memory stop h e is = subst (StopsAt g stages.Bodies) (sym is) tt
-
--- the schedule refuses
-relay_told : (c : Chain) (cause : RelayFault) (fault : Fault) → told_relay c cause ≡ Some fault → cause ≢ relays.Memory
-relay_told c cause fault e m = let none : told_relay c cause ≡ None = ap (told_relay c) m in cc
-
-pub schedule_stop : (g : Given) (c : Chain) (values : List Value) (fault : RelayFault) (stop : Stop) → HasRows g c values
-    → (fault ≢ relays.Memory → IsRelayFault (relay_of g c values) (text_of g parts.Schedule) fault)
-    → StopsBy stages.Schedule (λ told. told_relay c fault ≡ Some told) stop → StopsAt g stages.Schedule stop
-schedule_stop g c values fault (stops.Unread part) rows e h = h
-schedule_stop g c values fault (stops.Refused at told) rows e h = (h.0, (c, values, rows, fault, e (relay_told c fault told h.1), h.1))
-schedule_stop g c values fault stops.Memory rows e h = tt
 
 -- a stop of a list is a refusal of it
 pub stops_comes : (g : Given) (list : List Stage) (stage : Stage) (fault : Fault) → StopsIn g list (stops.Refused stage fault) → Comes g list (Some (stage, fault))

@@ -3,8 +3,8 @@ use Rattle.prl_app.proofs.laws.stages_end_one_way.Goals as goal
 
 pub returns : goal.returns
 returns c = one_end (record {
-  programs = c.programs_outcome.ensures.one;
-  bodies = c.bodies_outcome.ensures.one;
+  programs = c.each_text_has_one_outcome.ensures.one;
+  bodies = c.each_text_has_one_outcome-2.ensures.one;
   one = c.outcome_is_unique.ensures;
   horizon_or_limit = c.horizons_end_one_way.ensures.not_both;
   one_limit = c.horizons_end_one_way.ensures.one_limit;
