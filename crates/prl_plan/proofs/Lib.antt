@@ -39,6 +39,7 @@ mod HorizonLaws
 mod ChainLaws
 mod Examples
 mod WorkedGraphs
+mod WorkedPlan
 mod TableMade
 mod WalkNumbers
 mod DatePeriods

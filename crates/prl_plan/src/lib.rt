@@ -35,10 +35,11 @@ pub use fixed_points::{hyperperiod_decides, rounds_reach_dates};
 pub use graphs::{Edge, Kind, Producer, Task, TaskGraph};
 pub use horizons::Horizon;
 pub use laws::{
-    act_does_one_action, events_are_decided, free_events_keep_tags, free_list_leaves_tags, gated_events_keep_sound,
-    gated_list_finds_halves_free, gated_list_keeps_halves, horizons_end_one_way, instances_take_turns,
-    legal_list_is_gated, legal_read_finds_its_tag, replaced_instance_is_over, run_of_two_lists,
-    sound_state_goes_on, sound_state_keeps_halves, tag_is_of_the_latest_instance,
+    act_does_one_action, events_are_decided, free_events_keep_tags, free_list_leaves_tags,
+    gated_events_keep_sound, gated_list_finds_halves_free, gated_list_keeps_halves,
+    horizons_end_one_way, instances_take_turns, legal_list_is_gated, legal_read_finds_its_tag,
+    replaced_instance_is_over, run_of_two_lists, sound_state_goes_on, sound_state_keeps_halves,
+    tag_is_of_the_latest_instance,
     write_finds_half_free,
 };
 pub use limits::{
