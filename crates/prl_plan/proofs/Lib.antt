@@ -2,6 +2,7 @@
 pub mod Places
 pub mod WordNumbers
 pub mod ReadOrder
+pub mod ShortestRepeats
 pub mod StateLaws
 pub mod TwoTasks
 -- For this crate alone.
