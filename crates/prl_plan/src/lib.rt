@@ -39,8 +39,7 @@ pub use laws::{
     gated_events_keep_sound, gated_list_finds_halves_free, gated_list_keeps_halves,
     horizons_end_one_way, instances_take_turns, legal_list_is_gated, legal_read_finds_its_tag,
     replaced_instance_is_over, run_of_two_lists, sound_state_goes_on, sound_state_keeps_halves,
-    tag_is_of_the_latest_instance,
-    write_finds_half_free,
+    tag_is_of_the_latest_instance, write_finds_half_free,
 };
 pub use limits::{
     MAX_CELLS, MAX_EDGES, MAX_EVENTS, MAX_HYPER, MAX_JOBS, MAX_PERIOD_JOBS, MAX_PREFIX, MAX_TASKS,
