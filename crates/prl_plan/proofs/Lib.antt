@@ -51,3 +51,4 @@ mod DateOrder
 mod RepeatLaws
 mod OnePlan
 mod WordPeriods
+mod SmallHorizons

@@ -8,9 +8,12 @@ ghost use Rattle.prl_plan.specs.declared.walks.Operand.TheVariants as operands;
 ghost use Rattle.prl_plan.specs.declared.words.Word.{Word};
 ghost use Rattle.prl_plan.specs.FirstReaders.{first_reader};
 ghost use Rattle.prl_plan.specs.Words.{IsWordOf, RepeatsAfter, number_at};
+ghost use Rattle.prl_plan.specs.declared.horizons.Horizon.{Horizon};
+ghost use Rattle.prl_plan.specs.declared.limits.TheConstants.{MAX_JOBS, MAX_EVENTS};
 ghost use Rattle.prl_plan.specs.Chains.{IsBest};
 ghost use Rattle.prl_plan.specs.Dates.{AreEncodedDates, window_at};
 ghost use Rattle.prl_plan.specs.Graphs.{IsWellFormed};
+ghost use Rattle.prl_plan.specs.Horizons.{IsHorizon, constants_of};
 ghost use Rattle.prl_plan.specs.Jobs.{Job, task_at, release_of, IsHorizonJob};
 ghost use Rattle.prl_plan.specs.Operands.{walk, operand_of, WalkFits};
 ghost use Rattle.prl_plan.specs.Plans.{PlanView, IsPlan, HaveRoom, edge_at, release_at, deadline_at};
@@ -88,4 +91,12 @@ pub fn look_ups_fit()
     ensures horizon { (plan : PlanView) → IsPlan plan → (until i n : ℕ) → until < 2 ^ 32 →
         IsHorizonJob plan.graph until i n →
         (release_at plan i n < 2 ^ 33) × (deadline_at plan i n < 2 ^ 33) × (n < 2 ^ 32) }
+{}
+
+/// In a horizon within the limits no task has more jobs than the limit, and the end is within the
+/// limit of events.
+pub fn horizons_are_small()
+    ensures jobs { (plan : PlanView) (h : Horizon) → IsHorizon plan h → (i : ℕ) →
+        i < length plan.graph.tasks → (constants_of plan h).jobs i ≤ MAX_JOBS }
+    ensures end { (plan : PlanView) (h : Horizon) → IsHorizon plan h → h.end ≤ MAX_EVENTS }
 {}
