@@ -1,13 +1,13 @@
 -- Each event keeps the rules or is the first to break one, and in each state all jobs have ended or one is the first that
 -- has not.
-use Rattle.std.proofs.Common.{◌≡◌, ◌<◌, ◌≤◌, ◌+◌, ◌⊎◌, ℕ, zero, suc, List, [], ◌∷◌, length, take, Some, slice_get, slice_index, refl, inl, inr, arith, subst}
+use Rattle.std.proofs.Common.{◌≡◌, ◌<◌, ◌≤◌, ◌+◌, ◌⊎◌, ℕ, zero, suc, slice_index, refl, inl, inr, arith, subst}
 use Rattle.std.proofs.lemmas.Bool.{cases_lt}
 use Rattle.prl_plan.specs.declared.events.Event.{Event}
 use Rattle.prl_plan.specs.declared.events.Event.TheVariants as events
 use Rattle.prl_plan.specs.declared.events.Rule.{Rule}
 use Rattle.prl_plan.specs.declared.events.Rule.TheVariants as rules
 use Rattle.prl_plan.specs.Runs.{RunConstants, ExecState}
-use Rattle.prl_plan.specs.Rules.{first_unfinished, IsUnfinished, HasJob, ActsReleased, ActsFirst, MayTick, KeepsLegal, IsComplete, IsOvertaken, IsDue, FirstBroken, IsFirstUnfinished}
+use Rattle.prl_plan.specs.Rules.{first_unfinished, IsUnfinished, HasJob, ActsFirst, KeepsLegal, IsComplete, IsOvertaken, FirstBroken, IsFirstUnfinished}
 
 -- of the numbers below a bound all have one of two properties, or there is a least one that has the other
 record IsLeastSuch (P Q : ℕ → Type 0) (bound k : ℕ) : Type 0 where

@@ -155,14 +155,18 @@ module _ (plan : PlanView) (until : ℕ) (good : IsWellFormed plan.graph) where
   by_events : until < 2 ^ 32 → (end : ℕ) → IsEnd plan until end → jobs_up_to plan until ≤ MAX_JOBS → Outcome
   by_events small end is jobs = elim (cases_lt MAX_EVENTS (actions_up_to plan until + end)) [
     | inl many ↦ inr (limit_with whats.Events (actions_up_to plan until + end), (jobs, (end, is, refl), many))
-    | inr few ↦ inl (horizon_with until end (jobs_up_to plan until) (actions_up_to plan until + end), record {
-      until = small;
-      end = is;
-      jobs = refl;
-      events = refl;
-      few_jobs = jobs;
-      few_events = few;
-    }, refl)
+    | inr few ↦ inl (
+      horizon_with until end (jobs_up_to plan until) (actions_up_to plan until + end),
+      record {
+        until = small;
+        end = is;
+        jobs = refl;
+        events = refl;
+        few_jobs = jobs;
+        few_events = few;
+      },
+      refl,
+    )
   ]
 
   pub horizon_or_limit : until < 2 ^ 32 → Outcome

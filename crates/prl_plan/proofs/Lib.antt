@@ -2,6 +2,7 @@
 pub mod Places
 pub mod WordNumbers
 pub mod ReadOrder
+pub mod ShortestRepeats
 pub mod StateLaws
 pub mod TwoTasks
 -- For this crate alone.
@@ -39,6 +40,7 @@ mod HorizonLaws
 mod ChainLaws
 mod Examples
 mod WorkedGraphs
+mod WorkedPlan
 mod TableMade
 mod WalkNumbers
 mod DatePeriods
@@ -49,3 +51,4 @@ mod DateOrder
 mod RepeatLaws
 mod OnePlan
 mod WordPeriods
+mod SmallHorizons

@@ -1,5 +1,5 @@
-//! Laws of the numbers of graphs and plans: that they fit 64 bits, so that no real computation has to give up. Functions
-//! that do nothing: the contract of each is the law.
+//! Laws of the numbers of graphs and plans: that they fit 64 bits, so that no real computation has
+//! to give up. Functions that do nothing: the contract of each is the law.
 
 ghost use Rattle.std.specs.Prelude.{◌≡◌, ◌+◌, ◌*◌, ◌<◌, ◌≤◌, ◌^◌, ℕ, ℤ, pos, ◌+ℤ◌, ◌≤ℤ◌, nat_abs, List, length};
 ghost use Rattle.prl_plan.specs.declared.graphs.TaskGraph.{TaskGraph};
@@ -8,64 +8,95 @@ ghost use Rattle.prl_plan.specs.declared.walks.Operand.TheVariants as operands;
 ghost use Rattle.prl_plan.specs.declared.words.Word.{Word};
 ghost use Rattle.prl_plan.specs.FirstReaders.{first_reader};
 ghost use Rattle.prl_plan.specs.Words.{IsWordOf, RepeatsAfter, number_at};
+ghost use Rattle.prl_plan.specs.declared.horizons.Horizon.{Horizon};
+ghost use Rattle.prl_plan.specs.declared.limits.TheConstants.{MAX_JOBS, MAX_EVENTS};
 ghost use Rattle.prl_plan.specs.Chains.{IsBest};
 ghost use Rattle.prl_plan.specs.Dates.{AreEncodedDates, window_at};
 ghost use Rattle.prl_plan.specs.Graphs.{IsWellFormed};
+ghost use Rattle.prl_plan.specs.Horizons.{IsHorizon, constants_of};
 ghost use Rattle.prl_plan.specs.Jobs.{Job, task_at, release_of, IsHorizonJob};
 ghost use Rattle.prl_plan.specs.Operands.{walk, operand_of, WalkFits};
 ghost use Rattle.prl_plan.specs.Plans.{PlanView, IsPlan, HaveRoom, edge_at, release_at, deadline_at};
 ghost use Rattle.prl_plan.specs.Ranges.{PrecedingFits};
 
-/// The numbers on the walk of a job fit where the job's number times its period is below 2^63, and what it reads has no
-/// higher number than the job's date. The numbers on the way to the job that precedes fit likewise, below 2^62.
+/// The numbers on the walk of a job fit where the job's number times its period is below 2^63, and
+/// what it reads has no higher number than the job's date. The numbers on the way to the job that
+/// precedes fit likewise, below 2^62.
 pub fn walk_numbers_fit()
     ensures walk { (graph : TaskGraph) → IsWellFormed graph → (e n : ℕ) → e < length graph.edges →
-        n * (task_at graph (edge_at graph e).to.0).clock.period < 2 ^ 63 → WalkFits (edge_at graph e).ops n }
-    ensures read { (graph : TaskGraph) → IsWellFormed graph → (e n m : ℕ) → e < length graph.edges → walk (edge_at graph e).ops n ≡ operands.From m →
+        n * (task_at graph (edge_at graph e).to.0).clock.period < 2 ^ 63 →
+        WalkFits (edge_at graph e).ops n }
+    ensures read { (graph : TaskGraph) → IsWellFormed graph → (e n m : ℕ) →
+        e < length graph.edges → walk (edge_at graph e).ops n ≡ operands.From m →
         m ≤ (task_at graph (edge_at graph e).to.0).clock.start + n * (task_at graph (edge_at graph e).to.0).clock.period }
-    ensures precedence { (graph : TaskGraph) → IsWellFormed graph → (e : ℕ) (n : ℤ) → e < length graph.edges →
-        nat_abs n * (task_at graph (edge_at graph e).to.0).clock.period ≤ 2 ^ 62 → PrecedingFits (edge_at graph e).ops n }
+    ensures precedence { (graph : TaskGraph) → IsWellFormed graph → (e : ℕ) (n : ℤ) →
+        e < length graph.edges →
+        nat_abs n * (task_at graph (edge_at graph e).to.0).clock.period ≤ 2 ^ 62 →
+        PrecedingFits (edge_at graph e).ops n }
 {}
 
-/// The instances that are read on an edge come again with the hyperperiod, from each job on. So the step of a word is at most
-/// the consumer's jobs in a hyperperiod; and the numbers of a word are no higher than the dates of its jobs.
+/// The instances that are read on an edge come again with the hyperperiod, from each job on. So
+/// the step of a word is at most the consumer's jobs in a hyperperiod; and the numbers of a word
+/// are no higher than the dates of its jobs.
 pub fn words_repeat_by_hyperperiod()
-    ensures repeats { (graph : TaskGraph) → IsWellFormed graph → (e : ℕ) → e < length graph.edges → (jobs from : ℕ) →
-        graph.hyper ≡ jobs * (task_at graph (edge_at graph e).to.0).clock.period → RepeatsAfter (edge_at graph e).ops from jobs }
-    ensures step { (graph : TaskGraph) → IsWellFormed graph → (e : ℕ) → e < length graph.edges → (w : Word) (jobs : ℕ) → IsWordOf (edge_at graph e).ops w →
-        graph.hyper ≡ jobs * (task_at graph (edge_at graph e).to.0).clock.period → w.step_in ≤ jobs }
-    ensures numbers { (graph : TaskGraph) → IsWellFormed graph → (e : ℕ) → e < length graph.edges → (w : Word) (i : ℕ) → IsWordOf (edge_at graph e).ops w →
-        number_at w i ≤ (task_at graph (edge_at graph e).to.0).clock.start + (length w.prefix + i) * (task_at graph (edge_at graph e).to.0).clock.period }
+    ensures repeats { (graph : TaskGraph) → IsWellFormed graph → (e : ℕ) →
+        e < length graph.edges → (jobs from : ℕ) →
+        graph.hyper ≡ jobs * (task_at graph (edge_at graph e).to.0).clock.period →
+        RepeatsAfter (edge_at graph e).ops from jobs }
+    ensures step { (graph : TaskGraph) → IsWellFormed graph → (e : ℕ) →
+        e < length graph.edges → (w : Word) (jobs : ℕ) → IsWordOf (edge_at graph e).ops w →
+        graph.hyper ≡ jobs * (task_at graph (edge_at graph e).to.0).clock.period →
+        w.step_in ≤ jobs }
+    ensures numbers { (graph : TaskGraph) → IsWellFormed graph → (e : ℕ) →
+        e < length graph.edges → (w : Word) (i : ℕ) → IsWordOf (edge_at graph e).ops w →
+        number_at w i
+        ≤ (task_at graph (edge_at graph e).to.0).clock.start + (length w.prefix + i) * (task_at graph (edge_at graph e).to.0).clock.period }
 {}
 
-/// The first job that reads an instance on an edge is released at most a hyperperiod an operator after the first job.
+/// The first job that reads an instance on an edge is released at most a hyperperiod an operator
+/// after the first job.
 pub fn first_readers_come_early()
     ensures { (graph : TaskGraph) → IsWellFormed graph → (e : ℕ) → e < length graph.edges →
         first_reader (edge_at graph e).ops * (task_at graph (edge_at graph e).to.0).clock.period ≤ length (edge_at graph e).ops * graph.hyper }
 {}
 
-/// The best of a job over chains of at most so many jobs is at least its release and its WCET, and at most 2^31 ticks a job
-/// after its release.
+/// The best of a job over chains of at most so many jobs is at least its release and its WCET, and
+/// at most 2^31 ticks a job after its release.
 pub fn bests_are_near_releases()
-    ensures above { (graph : TaskGraph) → IsWellFormed graph → (most : ℕ) (job : Job) (needs : ℤ) → IsBest graph most job needs →
-        (release_of (task_at graph job.task) job.number +ℤ pos (task_at graph job.task).wcet) ≤ℤ needs }
-    ensures within { (graph : TaskGraph) → IsWellFormed graph → (most : ℕ) (job : Job) (needs : ℤ) → IsBest graph most job needs →
+    ensures above { (graph : TaskGraph) → IsWellFormed graph →
+        (most : ℕ) (job : Job) (needs : ℤ) → IsBest graph most job needs →
+        (release_of (task_at graph job.task) job.number +ℤ pos (task_at graph job.task).wcet)
+        ≤ℤ needs }
+    ensures within { (graph : TaskGraph) → IsWellFormed graph →
+        (most : ℕ) (job : Job) (needs : ℤ) → IsBest graph most job needs →
         needs ≤ℤ (release_of (task_at graph job.task) job.number +ℤ pos (most * 2 ^ 31)) }
 {}
 
-/// Where each job has room, its encoded release and then its WCET lie before its encoded deadline, and this is not after its
-/// deadline.
+/// Where each job has room, its encoded release and then its WCET lie before its encoded deadline,
+/// and this is not after its deadline.
 pub fn windows_are_within_dues()
-    ensures { (graph : TaskGraph) (windows : List (List Window)) → AreEncodedDates graph windows → HaveRoom graph windows →
+    ensures { (graph : TaskGraph) (windows : List (List Window)) →
+        AreEncodedDates graph windows → HaveRoom graph windows →
         (i : ℕ) (m : ℤ) → i < length graph.tasks →
-        ((window_at windows i m).lead + (task_at graph i).wcet ≤ (window_at windows i m).tail) × ((window_at windows i m).tail ≤ (task_at graph i).due) }
+        ((window_at windows i m).lead + (task_at graph i).wcet ≤ (window_at windows i m).tail) ×
+        ((window_at windows i m).tail ≤ (task_at graph i).due) }
 {}
 
-/// What a job reads has no higher number than its encoded release. The dates of a horizon job are below 2^33 and its number
-/// is below 2^32.
+/// What a job reads has no higher number than its encoded release. The dates of a horizon job are
+/// below 2^33 and its number is below 2^32.
 pub fn look_ups_fit()
-    ensures operand { (plan : PlanView) → IsPlan plan → (e n m : ℕ) → e < length plan.graph.edges → operand_of (edge_at plan.graph e) n ≡ operands.From m →
+    ensures operand { (plan : PlanView) → IsPlan plan → (e n m : ℕ) →
+        e < length plan.graph.edges → operand_of (edge_at plan.graph e) n ≡ operands.From m →
         m ≤ release_at plan (edge_at plan.graph e).to.0 n }
-    ensures horizon { (plan : PlanView) → IsPlan plan → (until i n : ℕ) → until < 2 ^ 32 → IsHorizonJob plan.graph until i n →
+    ensures horizon { (plan : PlanView) → IsPlan plan → (until i n : ℕ) → until < 2 ^ 32 →
+        IsHorizonJob plan.graph until i n →
         (release_at plan i n < 2 ^ 33) × (deadline_at plan i n < 2 ^ 33) × (n < 2 ^ 32) }
+{}
+
+/// In a horizon within the limits no task has more jobs than the limit, and the end is within the
+/// limit of events.
+pub fn horizons_are_small()
+    ensures jobs { (plan : PlanView) (h : Horizon) → IsHorizon plan h → (i : ℕ) →
+        i < length plan.graph.tasks → (constants_of plan h).jobs i ≤ MAX_JOBS }
+    ensures end { (plan : PlanView) (h : Horizon) → IsHorizon plan h → h.end ≤ MAX_EVENTS }
 {}

@@ -12,6 +12,6 @@ abbrev pub steps_made : PlanView → ExecState → ℕ → ℕ
 steps_made plan s i =
     slice_index s.ended i + (if nat_le (place_of_run plan i (slice_index s.ended i)) (slice_index s.places i) then 1 else 0)
 
--- whether the next action of task i runs its body
+-- 1 where the next action of task i runs its body, and 0 where it does not
 abbrev pub runs_next : PlanView → ExecState → ℕ → ℕ
 runs_next plan s i = if slice_index s.places i + 1 == place_of_run plan i (slice_index s.ended i) then 1 else 0

@@ -1,0 +1,127 @@
+-- The shortest list that repeats as a list does, found among the divisors of its length.
+use Rattle.std.proofs.Common.{◌≡◌, ◌+◌, ◌-◌, ◌*◌, ◌/◌, ◌%◌, ◌<◌, ◌≤◌, ℕ, zero, suc, List, [], ◌∷◌, length, length-take-le, take, inl, inr, refl, sym, ◌∙◌, ap, arith}
+use Rattle.std.specs.Prelude.{slice_get}
+use Rattle.std.proofs.Math.Nat.{add-mul-mod_self_right, mod-eq_of_lt, mod-add-div'}
+use Rattle.std.proofs.lemmas.Bool.{cases_lt}
+use Rattle.std.proofs.lemmas.Nat.{mod_below}
+use Rattle.prl_plan.specs.Repeats.{repeated, ComesAgain, IsShortestRepeat}
+
+-- so many places later the same stands, as far as the list goes
+abbrev pub ComesWithin : {A : Type 0} → List A → ℕ → Type 0
+ComesWithin list step = (i : ℕ) → i + step < length list → slice_get list (i + step) ≡ slice_get list i
+
+get_take : {A : Type 0} (list : List A) (r i : ℕ) → i < r → slice_get (take r list) i ≡ slice_get list i
+get_take list zero i below = absurd (omega (arith, below))
+get_take [] (suc r) i below = refl
+get_take (x ∷ list) (suc r) zero below = refl
+get_take (x ∷ list) (suc r) (suc i) below = get_take list r i (omega (arith, below))
+
+module _ {A : Type 0} (list : List A) where
+  within_often : (step : ℕ) → ComesWithin list step → (times i : ℕ) → i + times * step < length list → slice_get list (i + times * step) ≡ slice_get list i
+  within_often step comes zero i inside = ap (λ (k : ℕ). slice_get list k) (let e : i + 0 * step ≡ i = omega arith in e)
+  within_often step comes (suc times) i inside =
+      let e : i + suc times * step ≡ i + times * step + step = omega arith in
+      ap (λ (k : ℕ). slice_get list k) e ∙ comes (i + times * step) (omega (arith, e, inside)) ∙ within_often step comes times i (omega (arith, e, inside))
+
+  -- a divisor of the length that serves within the list serves without end
+  pub comes_again : (step : ℕ) → 1 ≤ step → 1 ≤ length list → length list % step ≡ 0 → ComesWithin list step → ComesAgain list step
+  comes_again step some long divides comes n =
+      let l : ℕ = length list in
+      let i : ℕ = n % length list in
+      let below : n % length list < length list = mod_below n (length list) long in
+      let turns : length list % step + length list / step * step ≡ length list = mod-add-div' (length list) step in
+      let whole : n % length list + n / length list * length list ≡ n = mod-add-div' n (length list) in
+      elim (cases_lt (n % length list + step) (length list)) [
+        | inl inside ↦
+            (let at : n + step ≡ n % length list + step + n / length list * length list = omega (arith, whole) in
+            let m : (n + step) % length list ≡ n % length list + step =
+            ap (λ (k : ℕ). k % length list) at ∙ add-mul-mod_self_right (n % length list + step) (n / length list) (length list) ∙ mod-eq_of_lt inside in
+            ap (λ (k : ℕ). slice_get list k) m ∙ comes (n % length list) inside)
+        | inr past ↦
+            (let q : ℕ = length list / step in
+            let more : 1 ≤ length list / step = some_turn (length list / step) step (length list) long (omega (arith, turns, divides)) in
+            let back : ℕ = n % length list + step - length list in
+            let last : (length list / step - 1) * step + step ≡ length list / step * step = times_before (length list / step) step more in
+            let small : n % length list + step - length list < length list = (let s : step ≤ length list = within step (length list / step) (length list) more (omega (arith, turns, divides)) in omega (arith, below, s)) in
+            let at : n + step ≡ n % length list + step - length list + (n / length list + 1) * length list =
+            (let e : (n / length list + 1) * length list ≡ n / length list * length list + length list = omega arith in omega (arith, whole, past, e)) in
+            let m : (n + step) % length list ≡ n % length list + step - length list =
+            ap (λ (k : ℕ). k % length list) at ∙ add-mul-mod_self_right (n % length list + step - length list) (n / length list + 1) (length list) ∙ mod-eq_of_lt small in
+            let up : n % length list + step - length list + (length list / step - 1) * step ≡ n % length list = omega (arith, last, turns, divides, past) in
+            let often = within_often step comes (length list / step - 1) (n % length list + step - length list) (omega (arith, up, below)) in
+            ap (λ (k : ℕ). slice_get list k) m ∙ sym often ∙ ap (λ (k : ℕ). slice_get list k) up)
+      ]
+    where
+      some_turn : (q s l : ℕ) → 1 ≤ l → q * s ≡ l → 1 ≤ q
+      some_turn zero s l long is = absurd (let z : 0 * s ≡ 0 = omega arith in omega (arith, z, is, long))
+      some_turn (suc q) s l long is = omega arith
+
+      times_before : (q s : ℕ) → 1 ≤ q → (q - 1) * s + s ≡ q * s
+      times_before zero s some = absurd (omega (arith, some))
+      times_before (suc q) s some = (let e : suc q * s ≡ q * s + s = omega arith in let f : suc q - 1 ≡ q = omega arith in let g : (suc q - 1) * s ≡ q * s = ap (λ (k : ℕ). k * s) f in omega (arith, e, g))
+
+      within : (s q l : ℕ) → 1 ≤ q → q * s ≡ l → s ≤ l
+      within s zero l some is = absurd (omega (arith, some))
+      within s (suc q) l some is = (let e : suc q * s ≡ q * s + s = omega arith in omega (arith, e, is))
+
+  again_often : (step : ℕ) → ComesAgain list step → (times n : ℕ) → repeated list (n + times * step) ≡ repeated list n
+  again_often step again zero n = ap (λ (k : ℕ). repeated list k) (let e : n + 0 * step ≡ n = omega arith in e)
+  again_often step again (suc times) n =
+      ap (λ (k : ℕ). repeated list k) (let e : n + suc times * step ≡ n + times * step + step = omega arith in e) ∙ again (n + times * step) ∙ again_often step again times n
+
+  own_length : (n : ℕ) → repeated list (n + length list) ≡ repeated list n
+  own_length n =
+      ap (λ (k : ℕ). slice_get list k)
+      (ap (λ (k : ℕ). (n + k) % length list) (let e : length list ≡ 1 * length list = omega arith in e) ∙ add-mul-mod_self_right n 1 (length list))
+
+  -- what is left of the length over a step that serves, serves
+  rest_serves : (step : ℕ) → ComesAgain list step → ComesAgain list (length list % step)
+  rest_serves step again n =
+      let turns : length list % step + length list / step * step ≡ length list = mod-add-div' (length list) step in
+      let at : n + length list % step + length list / step * step ≡ n + length list = omega (arith, turns) in
+      sym (again_often step again (length list / step) (n + length list % step)) ∙ ap (λ (k : ℕ). repeated list k) at ∙ own_length n
+
+  -- and a step that serves without end serves within the list
+  stays_within : (step : ℕ) → ComesAgain list step → ComesWithin list step
+  stays_within step again i inside =
+      let a : (i + step) % length list ≡ i + step = mod-eq_of_lt inside in
+      let b : i % length list ≡ i = mod-eq_of_lt (omega (arith, inside)) in
+      ap (λ (k : ℕ). slice_get list k) (sym a) ∙ again i ∙ ap (λ (k : ℕ). slice_get list k) b
+
+  module _ (shortest : ℕ) (some : 1 ≤ shortest) (fits : shortest ≤ length list) (divides : length list % shortest ≡ 0) (serves : ComesWithin list shortest)
+      (none_less : (d : ℕ) → 1 ≤ d → d < shortest → length list % d ≡ 0 → ComesWithin list d → ⊥) where
+    least_step : (most step : ℕ) → step ≤ most → 1 ≤ step → ComesAgain list step → shortest ≤ step
+    least_step zero step bound positive again = absurd (omega (arith, bound, positive))
+    least_step (suc most) step bound positive again =
+        elim (cases_lt step shortest) [
+          | inl less ↦
+              elim (cases_lt 0 (length list % step)) [
+                | inl left ↦
+                    (let part : length list % step < step = mod_below (length list) step positive in
+                    let down = least_step most (length list % step) (omega (arith, part, bound)) left (rest_serves step again) in
+                    omega (arith, down, part))
+                | inr done ↦ absurd (none_less step positive less (omega (arith, done)) (stays_within step again))
+              ]
+          | inr above ↦ above
+        ]
+
+    -- the list cut there repeats as the whole does
+    pub cut_repeats : (n : ℕ) → repeated (take shortest list) n ≡ repeated list n
+    cut_repeats n =
+        let long : length (take shortest list) ≡ shortest = length-take-le shortest list fits in
+        let below : n % shortest < shortest = mod_below n shortest some in
+        let whole : n % shortest + n / shortest * shortest ≡ n = mod-add-div' n shortest in
+        let again : ComesAgain list shortest = comes_again shortest some (omega (arith, some, fits)) divides serves in
+        ap (λ (k : ℕ). slice_get (take shortest list) (n % k)) long ∙ get_take list shortest (n % shortest) below
+        ∙ ap (λ (k : ℕ). slice_get list k) (sym (mod-eq_of_lt (let e : n % shortest < length list = omega (arith, below, fits) in e)))
+        ∙ sym (again_often shortest again (n / shortest) (n % shortest)) ∙ ap (λ (k : ℕ). repeated list k) whole
+
+    -- and no shorter one does
+    pub cut_is_shortest : IsShortestRepeat (take shortest list)
+    cut_is_shortest = record {
+      least = λ step positive again.
+          (let long : length (take shortest list) ≡ shortest = length-take-le shortest list fits in
+          let mine : ComesAgain list step = λ n. sym (cut_repeats (n + step)) ∙ again n ∙ cut_repeats n in
+          let least = least_step step step (omega arith) positive mine in
+          omega (arith, long, least));
+    }
