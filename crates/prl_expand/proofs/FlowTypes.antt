@@ -78,7 +78,7 @@ module _ (p : ProgramTree) (tys : Types) (flat : FlatProgram) where
       let moved : m + suc j ≡ (m + 1) + j = omega arith in
       subst (λ k. HasType flat (type_at tys k) (flow_no x)) moved (each (suc j) x e)))
 
-  variables_typed : (label : List ℕ) (m : ℕ) (qs : List Param) (is : List ℕ) (ds : List Def) → length is ≡ length qs → length is ≡ length ds
+  pub variables_typed : (label : List ℕ) (m : ℕ) (qs : List Param) (is : List ℕ) (ds : List Def) → length is ≡ length qs → length is ≡ length ds
       → AllByRecursion HasFlow (variable_flows label tys m qs is ds) → (j i : ℕ) → slice_get is j ≡ Some i → HasType flat (type_at tys (m + j)) (flow_no i)
   variables_typed label m qs [] ds a b h j i e = absurd (cc)
   variables_typed label m [] (x ∷ is) ds a b h j i e = absurd (omega (arith, a))
@@ -104,7 +104,7 @@ module _ (p : ProgramTree) (tys : Types) (flat : FlatProgram) where
   outputs_typed app out at (q ∷ qs) [] a h = absurd (omega (arith, a))
   outputs_typed app out at (q ∷ qs) (i ∷ is) a h = ((_, h.0, refl), outputs_typed app (out + 1) at qs is (omega (arith, a)) h.1)
 
-  last_kind : (ty : Ty) (of is : List ℕ) → HaveKind ty of → HaveKind ty is → HaveKind ty (last_of of is)
+  pub last_kind : (ty : Ty) (of is : List ℕ) → HaveKind ty of → HaveKind ty is → HaveKind ty (last_of of is)
   last_kind ty of [] a b = a
   last_kind ty of (i ∷ is) a b = last_kind ty (i ∷ []) is (b.0, tt) b.1
 
@@ -139,7 +139,7 @@ module _ (p : ProgramTree) (tys : Types) (flat : FlatProgram) where
   operated_typed (o ∷ pre) post (i ∷ pres) posts of ts a b typed f g = (g.0, tt)
 
   -- a slice of what stands at all variables
-  middle : (ins outs locals : List ℕ) (j i : ℕ) → slice_get outs j ≡ Some i → slice_get ((ins ++ outs) ++ locals) (length ins + j) ≡ Some i
+  pub middle : (ins outs locals : List ℕ) (j i : ℕ) → slice_get outs j ≡ Some i → slice_get ((ins ++ outs) ++ locals) (length ins + j) ≡ Some i
   middle ins outs locals j i e =
       ap (λ (xs : List ℕ). slice_get xs (length ins + j)) (append_assoc ins outs locals) ∙ get_second ins (outs ++ locals) j
       ∙ slice_get_append_left outs locals j (within outs j i e) ∙ e

@@ -8,3 +8,5 @@ pub mod Ranks
 pub mod Existence
 pub mod Examples
 pub mod FlowTypes
+pub mod WellDefined
+pub mod WellFormed
