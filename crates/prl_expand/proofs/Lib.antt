@@ -10,3 +10,4 @@ pub mod Examples
 pub mod FlowTypes
 pub mod WellDefined
 pub mod WellFormed
+pub mod Formed

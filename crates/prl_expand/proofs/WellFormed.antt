@@ -57,13 +57,25 @@ one_before count [] post e f some = absurd (omega (arith, some))
 one_before count (o ∷ pre) [] e f some = equal_unless count 1 (last_at o.at.at pre) e
 one_before count (o ∷ pre) (q ∷ post) e f some = postfix_one count (q ∷ post) f (omega arith)
 
-factor : (n : ℕ) → ranges.IsCount n → (1 ≤ n) × (n < 2 ^ 31)
+pub factor : (n : ℕ) → ranges.IsCount n → (1 ≤ n) × (n < 2 ^ 31)
 factor n h = (h.0, omega (arith, h.1))
 
-all_at : {A : Type 0} (Q : A → Type 0) (xs : List A) (t : ℕ) (x : A) → AllByRecursion Q xs → slice_get xs t ≡ Some x → Q x
+pub all_at : {A : Type 0} (Q : A → Type 0) (xs : List A) (t : ℕ) (x : A) → AllByRecursion Q xs → slice_get xs t ≡ Some x → Q x
 all_at Q [] t x h e = absurd (cc)
 all_at Q (y ∷ xs) zero x h e = subst Q (some_inner y x e) h.0
 all_at Q (y ∷ xs) (suc t) x h e = all_at Q xs t x h.1 e
+
+pub among_place : (ns : List (List ℕ)) (name : List ℕ) → is_among ns name ≡ true → (t : ℕ) × (slice_get ns t ≡ Some name)
+among_place ns name e =
+    elim (index_of ns name) as (λ o. index_of ns name ≡ o → is_some o ≡ true → (t : ℕ) × (slice_get ns t ≡ Some name)) [
+      | Some t ↦ λ f g. (t, index_found ns name t f)
+      | None ↦ λ f g. absurd (cc)
+    ] refl e
+
+pub among_at : (ns : List (List ℕ)) (qs : List Param) (u : ℕ) (q : Param) → AllAreAmong ns qs → slice_get qs u ≡ Some q → is_among ns q.name ≡ true
+among_at ns [] u q h e = absurd (cc)
+among_at ns (x ∷ qs) zero q h e = subst (λ (y : Param). is_among ns y.name ≡ true) (some_inner x q e) h.0
+among_at ns (x ∷ qs) (suc u) q h e = among_at ns qs u q h.1 e
 
 module _ (p : ProgramTree) (tys : Types) (flat : FlatProgram) where
   -- applications as a flat program wants them
@@ -146,18 +158,6 @@ module _ (p : ProgramTree) (tys : Types) (flat : FlatProgram) where
         (given_typed p tys flat sound k n env found count typed e.right q h.0 known.1 first (all_first (HasFlow p tys flat) a b flow)))
         (equated_given k n env found count typed es rest h.1 known.2 (no_second (equation_faults p k e) (equations_faults p k es) arity)
         (all_second (Met tys) (typing.equation_rules p k e) (typing.equations_rules p k es) met) (all_second (HasFlow p tys flat) a b flow))
-
-    among_place : (ns : List (List ℕ)) (name : List ℕ) → is_among ns name ≡ true → (t : ℕ) × (slice_get ns t ≡ Some name)
-    among_place ns name e =
-        elim (index_of ns name) as (λ o. index_of ns name ≡ o → is_some o ≡ true → (t : ℕ) × (slice_get ns t ≡ Some name)) [
-          | Some t ↦ λ f g. (t, index_found ns name t f)
-          | None ↦ λ f g. absurd (cc)
-        ] refl e
-
-    among_at : (ns : List (List ℕ)) (qs : List Param) (u : ℕ) (q : Param) → AllAreAmong ns qs → slice_get qs u ≡ Some q → is_among ns q.name ≡ true
-    among_at ns [] u q h e = absurd (cc)
-    among_at ns (x ∷ qs) zero q h e = subst (λ (y : Param). is_among ns y.name ≡ true) (some_inner x q e) h.0
-    among_at ns (x ∷ qs) (suc u) q h e = among_at ns qs u q h.1 e
 
     -- the definition of each variable of a node
     defined_at : (k : ℕ) (n : NodeTree) → IsRightNode p k n → slice_get p.nodes k ≡ Some n → (sources : List Def) (ins rest env : List ℕ) → env ≡ ins ++ rest → length env ≡ length (params_of n) → length sources ≡ length ins

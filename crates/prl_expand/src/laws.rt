@@ -1,13 +1,16 @@
 //! Laws of expansions, as functions that do nothing: the contract of each is the law, over the definitions alone.
 
-ghost use Rattle.std.specs.Prelude.{ℕ, List, Option};
+ghost use Rattle.std.specs.Prelude.{◌≤◌, ℕ, List, Option, length};
+ghost use Rattle.prl_ast.specs.InRange.{IsInRange};
 ghost use Rattle.prl_ast.specs.Trees.{ProgramTree};
 ghost use Rattle.prl_base.specs.declared.values.Ty.{Ty};
+ghost use Rattle.prl_behaviours.specs.Annotations.{flows_in};
 ghost use Rattle.prl_behaviours.specs.Behaviours.{Satisfies, state_in};
 ghost use Rattle.prl_body.specs.declared.bodies.CheckedBody.{CheckedBody};
 ghost use Rattle.prl_expand.specs.Correspondence.{IsOneToOne};
 ghost use Rattle.prl_expand.specs.Expansions.{Expansion, IsExpansion};
 ghost use Rattle.prl_expand.specs.Flats.{flat_of};
+ghost use Rattle.prl_flow.specs.Programs.{IsFlat};
 ghost use Rattle.prl_flow.specs.Rows.{Rows};
 ghost use Rattle.prl_flow.specs.States.{IsSolution};
 ghost use Rattle.prl_types.specs.Typing.{IsTyped};
@@ -22,4 +25,10 @@ pub fn behaviours_are_solutions()
 /// A program whose names and types are right has an expansion.
 pub fn programs_have_expansions()
     ensures { (p : ProgramTree) (asked : Option (List ℕ)) (main : ℕ) (types : List Ty) → IsTyped p asked main types → (e : Expansion) × IsExpansion p main e }
+{}
+
+/// The flat program of an expansion is well formed, where the program is in range and has at most 4,096 flows.
+pub fn flats_are_well_formed()
+    ensures { (p : ProgramTree) (asked : Option (List ℕ)) (main : ℕ) (types : List Ty) (e : Expansion) → IsInRange p → IsTyped p asked main types
+        → IsExpansion p main e → length (flows_in e) ≤ 4096 → IsFlat (flat_of p types main e) }
 {}

@@ -4,4 +4,4 @@
 
 mod laws;
 
-pub use laws::{behaviours_are_solutions, programs_have_expansions};
+pub use laws::{behaviours_are_solutions, flats_are_well_formed, programs_have_expansions};
