@@ -11,3 +11,4 @@ pub mod FlowTypes
 pub mod WellDefined
 pub mod WellFormed
 pub mod Formed
+pub mod Nested
