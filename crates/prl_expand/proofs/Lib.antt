@@ -12,3 +12,4 @@ pub mod WellDefined
 pub mod WellFormed
 pub mod Formed
 pub mod Nested
+pub mod Unique

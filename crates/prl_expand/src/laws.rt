@@ -1,6 +1,6 @@
 //! Laws of expansions, as functions that do nothing: the contract of each is the law, over the definitions alone.
 
-ghost use Rattle.std.specs.Prelude.{◌≤◌, ℕ, List, Option, length};
+ghost use Rattle.std.specs.Prelude.{◌≡◌, ◌≤◌, ℕ, List, Option, length};
 ghost use Rattle.prl_ast.specs.InRange.{IsInRange};
 ghost use Rattle.prl_ast.specs.Trees.{ProgramTree};
 ghost use Rattle.prl_base.specs.declared.values.Ty.{Ty};
@@ -25,6 +25,11 @@ pub fn behaviours_are_solutions()
 /// A program whose names and types are right has an expansion.
 pub fn programs_have_expansions()
     ensures { (p : ProgramTree) (asked : Option (List ℕ)) (main : ℕ) (types : List Ty) → IsTyped p asked main types → (e : Expansion) × IsExpansion p main e }
+{}
+
+/// And no other one.
+pub fn expansions_are_unique()
+    ensures { (p : ProgramTree) (main : ℕ) (one other : Expansion) → IsExpansion p main one → IsExpansion p main other → one ≡ other }
 {}
 
 /// The flat program of an expansion is well formed, where the program is in range and has at most 4,096 flows.
