@@ -155,7 +155,7 @@ module _ (p : ProgramTree) (tys : Types) (flat : FlatProgram) where
       let i = element_at env j (small j refl) in
       subst (λ (x : Option ℕ). AreTyped (one x) (terms.Parameter (first_of p k + j) ∷ [])) (sym i.1) (typed j i.0 i.1, tt)
 
-  import_typed : (o : Option Callee) (app : ℕ) (at : Span) (outs : List ℕ) → IsImportCall p (length outs) o → AllByRecursion HasFlow (output_flows app 0 at (ports_of (import_at p o)) outs)
+  pub import_typed : (o : Option Callee) (app : ℕ) (at : Span) (outs : List ℕ) → IsImportCall p (length outs) o → AllByRecursion HasFlow (output_flows app 0 at (ports_of (import_at p o)) outs)
       → AreTyped outs (flows.outputs_of p o)
   import_typed None app at outs call h = absurd call
   import_typed (Some (callees.Node k)) app at outs call h = absurd call

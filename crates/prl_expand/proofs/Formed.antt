@@ -70,7 +70,7 @@ node_met p tys (m ∷ ns) first zero k n met found at =
 node_met p tys (m ∷ ns) first (suc i) k n met found at =
     node_met p tys ns (first + 1) i k n (all_second (Met tys) (equations_rules p first m.eqs) (nodes_rules p (first + 1) ns) met) found (omega (arith, at))
 
-typed_nodes : (p : ProgramTree) (asked : Option (List ℕ)) (main : ℕ) (tys : List Ty) → ranges.IsInRange p → IsTyped p asked main tys → AreTypedNodes p tys
+pub typed_nodes : (p : ProgramTree) (asked : Option (List ℕ)) (main : ℕ) (tys : List Ty) → ranges.IsInRange p → IsTyped p asked main tys → AreTypedNodes p tys
 unfolding rules_of
 typed_nodes p asked main tys range typed =
     let only = typed.only in
@@ -137,7 +137,7 @@ sensor_at first (i ∷ is) zero k d e at =
     sym (some_inner (definitions.Sensor first) d e) ∙ ap definitions.Sensor number
 sensor_at first (i ∷ is) (suc j) k d e at = sensor_at (first + 1) is j k d e (omega (arith, at))
 
-sensors_count : (k : ℕ) (is : List ℕ) → length (sensors_from k is) ≡ length is
+pub sensors_count : (k : ℕ) (is : List ℕ) → length (sensors_from k is) ≡ length is
 sensors_count k [] = refl
 sensors_count k (i ∷ is) = ap suc (sensors_count (k + 1) is)
 
@@ -276,3 +276,11 @@ module _ (p : ProgramTree) (asked : Option (List ℕ)) (main : ℕ) (tys : List 
           let whole : param_names n ≡ (ins_names ++ outs_names) ++ locals_names =
               map-append (λ (q : Param). q.name) (n.ins ++ n.outs) n.locals ∙ ap (λ (xs : List (List ℕ)). xs ++ locals_names) (map-append (λ (q : Param). q.name) n.ins n.outs) in
           ap (λ (xs : List (List ℕ)). slice_get xs j) whole ∙ slice_get_append_left (ins_names ++ outs_names) locals_names j small ∙ names
+
+-- the flows of an expansion stand at their numbers
+pub flows_there : (p : ProgramTree) (tys : List Ty) (main : ℕ) (sound : IsSound p) (e : Expansion) → IsExpansion p main e → AllByRecursion (HasFlow p tys (flat_of p tys main e)) (all_numbered p tys main e)
+flows_there p tys main sound e expansion =
+    let fs : List Numbered = all_numbered p tys main e in
+    let numbers : numbers_of fs ≡ flows_in e = entered_numbered p tys sound [] main (sensors_from 0 (inputs_of e)) e expansion.text (sensors_count 0 (inputs_of e)) in
+    let number : length fs ≡ length (flows_in e) = sym (length-map fs (λ (f : Numbered). f.0)) ∙ ap length numbers in
+    flows_at [] 0 fs refl (numbers ∙ expansion.flows ∙ ap (range_with_len 0) (sym number))

@@ -13,3 +13,6 @@ pub mod WellFormed
 pub mod Formed
 pub mod Nested
 pub mod Unique
+pub mod Bodies
+pub mod Fitting
+pub mod Served

@@ -5,6 +5,6 @@
 mod laws;
 
 pub use laws::{
-    behaviours_are_solutions, expansions_are_unique, flats_are_well_formed,
+    behaviours_are_solutions, expansions_are_unique, expansions_have_bodies, flats_are_well_formed,
     programs_have_expansions,
 };
