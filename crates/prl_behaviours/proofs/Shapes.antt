@@ -146,8 +146,11 @@ module _ {F R N : Type 0} where
               let g = cut (parts_flows parts) (flows_in child) (parts_flows parts_b) (flows_in child_b) l.flows e in
               let h = cut (parts_imports parts) (imports_in child) (parts_imports parts_b) (imports_in child_b) l.imports f in
               let k = cut (parts_nodes parts) (n ∷ nodes_in child) (parts_nodes parts_b) (n_b ∷ nodes_in child_b) l.nodes m in
-              rw (l.same g.left h.left k.left, head_same n n_b (nodes_in child) (nodes_in child_b) k.right,
-              c.same g.right h.right (tail_same n n_b (nodes_in child) (nodes_in child_b) k.right)) refl;
+              rw (
+                l.same g.left h.left k.left,
+                head_same n n_b (nodes_in child) (nodes_in child_b) k.right,
+                c.same g.right h.right (tail_same n n_b (nodes_in child) (nodes_in child_b) k.right),
+              ) refl;
         }
     core_alike p (apply name at args) (notes.import parts r outs) (notes.node parts_b n child) x y = absurd (not_both p (callee_of p name) (length outs) x.0 y.0)
     core_alike p (apply name at args) (notes.node parts n child) (notes.import parts_b r outs) x y = absurd (not_both p (callee_of p name) (length outs) y.0 x.0)

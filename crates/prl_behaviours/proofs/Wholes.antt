@@ -1,27 +1,24 @@
 -- The clocks of a solution agree, and its values are a solution over them.
-use Rattle.std.proofs.Common.{◌≡◌, ◌<◌, ◌≤◌, ◌+◌, ◌*◌, ℕ, zero, suc, pos, List, [], ◌∷◌, ◌++◌, map, length, Option, Some, None, slice_get, slice_index_or, refl, sym, ap, ◌∙◌, subst, arith}
+use Rattle.std.proofs.Common.{◌≡◌, ◌<◌, ◌≤◌, ◌+◌, ◌*◌, ℕ, zero, suc, List, [], ◌∷◌, ◌++◌, map, length, Option, Some, None, slice_get, slice_index_or, refl, sym, ap, ◌∙◌, subst, arith}
 use Rattle.std.proofs.Math.Nat.{mul-le-mul_right}
-use Rattle.std.specs.Prelude.{unwrap_or, take}
+use Rattle.std.specs.Prelude.{take}
 use Rattle.std.specs.List.{AllByRecursion}
-use Rattle.std.specs.Option.{option_map}
 use Rattle.std.proofs.lemmas.List.{length-map}
-use Rattle.std.proofs.lemmas.Option.{slice_get-map, slice_get_within}
 use Rattle.prl_base.specs.Clocks.{IsClock, IsDate, date_at}
 use Rattle.prl_base.specs.Operators.{IsResultClock}
 use Rattle.prl_base.specs.declared.numbers.FlowNo.{FlowNo}
 use Rattle.prl_base.specs.declared.operators.Clock.{Clock}
 use Rattle.prl_base.specs.declared.values.Value.{Value}
-use Rattle.prl_base.specs.declared.values.Value.TheVariants as values
 use Rattle.prl_ast.specs.declared.declarations.Rate.{Rate}
 use Rattle.prl_body.specs.declared.bodies.CheckedBody.{CheckedBody}
-use Rattle.prl_body.specs.Bodies.{body_named, body_step, first_values}
+use Rattle.prl_body.specs.Bodies.{body_step}
 use Rattle.prl_flow.specs.Applications.{nth_step, registers_before, values_at}
 use Rattle.prl_flow.specs.Flows.{IsClockOf, IsUpTo, value_at, OperatorByDate}
 use Rattle.prl_flow.specs.Programs.{FlatProgram, IsFlat, IsWellDefined}
 use Rattle.prl_flow.specs.Rows.{Rows, rows_of}
-use Rattle.prl_flow.specs.Rules.{Rule, rated, constant, operator, applied, same, sensed, mark_rule, rate_rules, definition_rules, flow_rules, flows_rules, app_rule, apps_rules, flat_rules}
+use Rattle.prl_flow.specs.Rules.{Rule, mark_rule, rate_rules, definition_rules, flow_rules, flows_rules, app_rule, apps_rules, flat_rules}
 use Rattle.prl_flow.specs.Solutions.{AgreesClock, AreClocks, HasOneClock, HasRate, IsOutputFlow, MeetsDefinition, Solves, argument_flows, clock_of, values_of}
-use Rattle.prl_flow.specs.States.{Timed, State, IsTimed, Holds, HaveClock, IsApplied, IsStep, IsSolution, all_at, flow_at, registers_at}
+use Rattle.prl_flow.specs.States.{Timed, State, IsTimed, Holds, HaveClock, IsApplied, IsSolution, all_at, flow_at, registers_at}
 use Rattle.prl_flow.specs.declared.programs.App.{App}
 use Rattle.prl_flow.specs.declared.programs.Arg.{Arg}
 use Rattle.prl_flow.specs.declared.programs.Def.{Def}
@@ -91,7 +88,7 @@ inputs_are s c n (u ∷ us) (v ∷ inputs) clocks e =
     let f : Timed = flow_at s u.flow.0 in
     let first : value_at f.clock f.values (date_at c n) ≡ Some v = head_of (value_at f.clock f.values (date_at c n)) (Some v) _ _ e in
     let here : value_at c (values_of (values_in s) u.flow.0) (date_at c n) ≡ Some v =
-        ap (λ (xs : List Value). value_at c xs (date_at c n)) (values_are s u.flow.0) ∙ ap (λ (d : Clock). value_at d f.values (date_at c n)) (sym clocks.0) ∙ first in
+    ap (λ (xs : List Value). value_at c xs (date_at c n)) (values_are s u.flow.0) ∙ ap (λ (d : Clock). value_at d f.values (date_at c n)) (sym clocks.0) ∙ first in
     let rest = inputs_are s c n us inputs clocks.1 (tail_of (value_at f.clock f.values (date_at c n)) (Some v) _ _ e) in
     rw (here, rest) refl
   where
@@ -213,7 +210,7 @@ module _ (p : FlatProgram) (flat : IsFlat p) (bodies : List CheckedBody) (rows :
       let a = app_held app u there in
       let outs : HaveClock a.clock (map (λ (x : FlowNo). flow_at s x.0) u.outs) = subst (λ (fs : List Timed). HaveClock a.clock fs) (outs_twice s u.outs) a.outs_clock in
       let own_clock : (flow_at s i).clock ≡ a.clock = at_place (λ (x : FlowNo). (flow_at s x.0).clock ≡ a.clock) u.outs out (record { 0 = i })
-          (of_mapped (λ (f : Timed). f.clock ≡ a.clock) (λ (x : FlowNo). flow_at s x.0) u.outs outs) place in
+      (of_mapped (λ (f : Timed). f.clock ≡ a.clock) (λ (x : FlowNo). flow_at s x.0) u.outs outs) place in
       let clock : clock_of (clocks_in s) i ≡ a.clock = clock_is s i ∙ own_clock in
       let args : HaveClock a.clock (map (λ (x : Arg). flow_at s x.flow.0) u.args) = subst (λ (fs : List Timed). HaveClock a.clock fs) (mapped_twice s u.args) a.args_clock in
       record {
@@ -228,10 +225,10 @@ module _ (p : FlatProgram) (flat : IsFlat p) (bodies : List CheckedBody) (rows :
             let inputs = inputs_are s a.clock n u.args step.inputs args read in
             let held : step.before ≡ registers_before a.body (values_at a.clock (argument_flows (values_in s) u)) n = some_inner step.before _ (sym step.held ∙ registers_held app u a n below) in
             let value : value_at (flow_at s i).clock (flow_at s i).values (date_at a.clock n) ≡ slice_get (body_step a.body step.inputs step.before).outputs out =
-                output_value u out (record { 0 = i }) (date_at a.clock n) (body_step a.body step.inputs step.before).outputs place step.gives in
+            output_value u out (record { 0 = i }) (date_at a.clock n) (body_step a.body step.inputs step.before).outputs place step.gives in
             let made : slice_get (body_step a.body step.inputs step.before).outputs out ≡ slice_get (nth_step a.body (values_at a.clock (argument_flows (values_in s) u)) n).outputs out = rw (inputs, held) refl in
             let here : value_at a.clock (values_of (values_in s) i) (date_at a.clock n) ≡ slice_get (nth_step a.body (values_at a.clock (argument_flows (values_in s) u)) n).outputs out =
-                ap (λ (xs : List Value). value_at a.clock xs (date_at a.clock n)) (values_are s i) ∙ ap (λ (c : Clock). value_at c (flow_at s i).values (date_at a.clock n)) (sym own_clock) ∙ value ∙ made in
+            ap (λ (xs : List Value). value_at a.clock xs (date_at a.clock n)) (values_are s i) ∙ ap (λ (c : Clock). value_at c (flow_at s i).values (date_at a.clock n)) (sym own_clock) ∙ value ∙ made in
             subst (λ (c : Clock). value_at c (values_of (values_in s) i) (date_at c n) ≡ slice_get (nth_step a.body (values_at c (argument_flows (values_in s) u)) n).outputs out) (sym clock) here;
       }
 

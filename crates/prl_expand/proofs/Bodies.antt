@@ -1,29 +1,22 @@
 -- Over bodies of the imports that main's expansion applies, each application of its flat program has a body that fits.
-use Rattle.std.proofs.Common.{◌≡◌, ◌<◌, ◌+◌, ◌==◌, ◌||◌, ℕ, zero, suc, Bool, true, false, cond, List, [], ◌∷◌, ◌++◌, map, length, Option, Some, None, IsSome, slice_get, refl, sym, ap, ◌∙◌, subst, arith, inl, inr, ⊎_elim}
-use Rattle.std.specs.List.{AllByRecursion, flat_map}
+use Rattle.std.proofs.Common.{◌≡◌, ◌+◌, ◌==◌, ◌||◌, ℕ, zero, suc, Bool, true, false, cond, List, [], ◌∷◌, ◌++◌, map, length, Some, slice_get, refl, sym, ap, ◌∙◌, subst, arith, ⊎_elim}
 use Rattle.std.specs.Option.{option_map, is_some}
 use Rattle.std.specs.Str.{bytes_eq}
 use Rattle.std.specs.Cmp.Lexicographic.{bytes_decides}
 use Rattle.std.proofs.lemmas.Bool.{or_cases, eqb-true}
-use Rattle.std.proofs.lemmas.List.{length-append, length-map}
 use Rattle.std.proofs.lemmas.Option.{slice_get-map, slice_get_within}
-use Rattle.prl_base.specs.declared.numbers.FlowNo.{FlowNo}
-use Rattle.prl_base.specs.declared.places.Span.{Span}
-use Rattle.prl_base.specs.declared.values.Ty.{Ty}
 use Rattle.prl_ast.specs.declared.declarations.Import.{Import}
 use Rattle.prl_ast.specs.declared.declarations.Port.{Port}
-use Rattle.prl_ast.specs.declared.expressions.PlacedOp.{PlacedOp}
-use Rattle.prl_ast.specs.Trees.{Tree, tree, Root, const, var, apply, group, Trees, none, more, EquationTree, NodeTree, ProgramTree}
+use Rattle.prl_ast.specs.Trees.{NodeTree, ProgramTree}
 use Rattle.prl_body.specs.Checks.{import_named}
-use Rattle.prl_flow.specs.Applications.{HaveTypes, argument_numbers}
-use Rattle.prl_flow.specs.Programs.{FlatProgram, HasType}
-use Rattle.prl_flow.specs.declared.programs.App.{App}
+use Rattle.prl_flow.specs.Applications.{HaveTypes}
+use Rattle.prl_flow.specs.Programs.{FlatProgram}
 use Rattle.prl_flow.specs.declared.programs.Arg.{Arg}
 use Rattle.prl_flow.proofs.Lists.{slice_get_append_left}
-use Rattle.prl_names.specs.Applications.{applied_in, applied_root, applied_trees, applied_equations, applied_by, applies, is_node, Reaches, once, then, reaches}
-use Rattle.prl_names.specs.Lookups.{index_of, import_names}
+use Rattle.prl_names.specs.Applications.{applies, Reaches, once, then, reaches}
+use Rattle.prl_names.specs.Lookups.{index_of}
 use Rattle.prl_names.specs.Named.{AreApart}
-use Rattle.prl_names.specs.Uses.{applied_names, root_names, all_applied, node_applied, is_expanded, expanded_from, expanded_names, used_among, used_imports}
+use Rattle.prl_names.specs.Uses.{node_applied, is_expanded, expanded_from, expanded_names, used_among, used_imports}
 use Rattle.prl_names.proofs.Reaching.{reached, reaching}
 use Rattle.prl_types.specs.Flows as flows
 use Rattle.prl_expand.specs.Flats.{Types, flow_no}

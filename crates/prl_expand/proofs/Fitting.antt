@@ -1,27 +1,24 @@
 -- Each application of an expansion is of an import that main's expansion applies, with its ports.
-use Rattle.std.proofs.Common.{◌≡◌, ◌<◌, ◌+◌, ◌==◌, ◌||◌, ℕ, zero, suc, Bool, true, false, cond, List, [], ◌∷◌, ◌++◌, map, length, Option, Some, None, slice_get, refl, sym, ap, ◌∙◌, subst, arith}
+use Rattle.std.proofs.Common.{◌≡◌, ℕ, suc, Bool, true, List, [], ◌∷◌, ◌++◌, map, length, Option, Some, None, slice_get, refl, sym, ap, ◌∙◌, subst}
 use Rattle.std.specs.Prelude.{reverse}
 use Rattle.std.specs.List.{AllByRecursion, flat_map}
 use Rattle.std.specs.Option.{option_map}
-use Rattle.std.proofs.lemmas.List.{length-append, length-map}
+use Rattle.std.proofs.lemmas.List.{length-map}
 use Rattle.std.proofs.lemmas.Option.{slice_get-map}
 use Rattle.prl_base.specs.declared.numbers.FlowNo.{FlowNo}
 use Rattle.prl_base.specs.declared.places.Span.{Span}
 use Rattle.prl_base.specs.declared.values.Ty.{Ty}
-use Rattle.prl_ast.specs.InRange as ranges
 use Rattle.prl_ast.specs.declared.declarations.Import.{Import}
 use Rattle.prl_ast.specs.declared.declarations.Port.{Port}
-use Rattle.prl_ast.specs.declared.expressions.PlacedOp.{PlacedOp}
 use Rattle.prl_ast.specs.Trees.{Tree, tree, Root, const, var, apply, group, Trees, none, more, EquationTree, NodeTree, ProgramTree}
 use Rattle.prl_body.specs.declared.bodies.CheckedBody.{CheckedBody}
 use Rattle.prl_body.specs.Checks.{import_named}
-use Rattle.prl_body.specs.Used.{HaveBodiesOf, HasBodyOf}
-use Rattle.prl_flow.specs.Applications.{HaveTypes, HasBody, HaveBodies, argument_numbers}
-use Rattle.prl_flow.specs.Programs.{FlatProgram, HasType}
+use Rattle.prl_body.specs.Used.{HaveBodiesOf}
+use Rattle.prl_flow.specs.Applications.{HaveTypes, HasBody, argument_numbers}
+use Rattle.prl_flow.specs.Programs.{FlatProgram}
 use Rattle.prl_flow.specs.declared.programs.App.{App}
-use Rattle.prl_flow.specs.declared.programs.Arg.{Arg}
 use Rattle.prl_flow.specs.declared.programs.Def.{Def}
-use Rattle.prl_names.specs.Applications.{applied_in, applied_root, applied_trees, applied_equations, applied_by, applies, is_node}
+use Rattle.prl_names.specs.Applications.{applied_in, applied_root, applied_trees, applied_equations, applied_by, is_node}
 use Rattle.prl_names.specs.declared.lookups.Callee.{Callee}
 use Rattle.prl_names.specs.declared.lookups.Callee.TheVariants as callees
 use Rattle.prl_names.specs.Lookups.{callee_of, index_of, import_names, node_names, node_or as either_callee, params_of}
@@ -37,14 +34,14 @@ use Rattle.prl_types.specs.Parameters.{first_of}
 use Rattle.prl_types.proofs.Walking.{terms_placed_flows}
 use Rattle.prl_behaviours.specs.Annotations.{Entered, entered, Rights, done, next, Part, part, Core, Parts}
 use Rattle.prl_behaviours.specs.Annotations as notes
-use Rattle.prl_behaviours.specs.Asked.{inputs_of, last_of, given, root_given, all_given}
+use Rattle.prl_behaviours.specs.Asked.{inputs_of, last_of, root_given, all_given}
 use Rattle.prl_behaviours.specs.Texts.{node_at, node_or, node_of, IsNodeCall, IsImportCall, HasVariables, IsText, AreRights, IsPart, IsCore, AreParts}
 use Rattle.prl_expand.specs.Flats.{Numbered, Types, resolved, flow_no, copy_of, variable_flows, equated, copies, operator_flows, output_flows, import_at, ports_of, wcet_of, label_of_node, arguments, entered_flows, right_flows, part_flows, root_flows_of, all_flows, entered_apps, right_apps, part_apps, root_apps, all_apps}
 use Rattle.prl_expand.proofs.Bodies.{Has, has_left, has_right, import_is, import_used, expanded_more, port_types_are, numbers_are}
 use Rattle.prl_expand.proofs.Existence.{same_node, or_true, true_or}
 use Rattle.prl_expand.proofs.FlatRules.{arguments_are}
 use Rattle.prl_expand.proofs.FlowTypes.{HasFlow, AreTyped, IsEnvironment, entered_environment, all_typed, import_typed}
-use Rattle.prl_expand.proofs.Lists.{some_inner, all_both, all_first, all_second, no_first, no_second, equal_unless, lengths_append}
+use Rattle.prl_expand.proofs.Lists.{some_inner, all_both, all_first, all_second, no_first, no_second, equal_unless}
 use Rattle.prl_expand.proofs.Sound.{IsRightNode, IsSound, there, variables_count, all_length, inputs_length}
 use Rattle.prl_expand.proofs.WellDefined.{Met, AllMet, AreTypedNodes, arguments_typed}
 
@@ -106,8 +103,8 @@ module _ (p : ProgramTree) (tys : Types) (flat : FlatProgram) (sound : IsSound p
         let callee = callee_of p name in
         let gs : List ℕ = all_given n env args parts in
         let needed : length (flows.all_flows p k args) ≡ length (flows.inputs_of p (callee_of p name)) =
-            equal_unless (length (flows.all_flows p k args)) (length (flows.inputs_of p (callee_of p name))) place.at
-            (no_first (unless_equal (length (flows.all_flows p k args)) (length (flows.inputs_of p (callee_of p name))) place.at) (all_faults p k args) arity) in
+        equal_unless (length (flows.all_flows p k args)) (length (flows.inputs_of p (callee_of p name))) place.at
+        (no_first (unless_equal (length (flows.all_flows p k args)) (length (flows.inputs_of p (callee_of p name))) place.at) (all_faults p k args) arity) in
         let inner = no_second (unless_equal (length (flows.all_flows p k args)) (length (flows.inputs_of p callee)) place.at) (all_faults p k args) arity in
         let a : List Numbered = all_flows p tys k n env args parts in
         let b : List Numbered = output_flows x 0 place (ports_of (import_at p callee)) outs in
@@ -117,16 +114,16 @@ module _ (p : ProgramTree) (tys : Types) (flat : FlatProgram) (sound : IsSound p
         let kinds = all_typed p tys flat sound k n env found count typed args parts h.1 known.1 inner arg_flow in
         let placed_terms : flows.terms_of (flows.placed_flows p k args) ≡ flows.all_flows p k args = terms_placed_flows p k args in
         let as_many : length (flows.placed_flows p k args) ≡ length (flows.inputs_of p callee) =
-            sym (length-map (flows.placed_flows p k args) (λ (f : TermFlow). f.term)) ∙ ap length placed_terms ∙ needed in
+        sym (length-map (flows.placed_flows p k args) (λ (f : TermFlow). f.term)) ∙ ap length placed_terms ∙ needed in
         let inputs : AreTyped p tys flat gs (flows.inputs_of p callee) =
-            arguments_typed p tys flat (flows.inputs_of p callee) (flows.placed_flows p k args) gs as_many met_own (subst (λ (ts : List Term). AreTyped p tys flat gs ts) (sym placed_terms) kinds) in
+        arguments_typed p tys flat (flows.inputs_of p callee) (flows.placed_flows p k args) gs as_many met_own (subst (λ (ts : List Term). AreTyped p tys flat gs ts) (sym placed_terms) kinds) in
         let outputs : AreTyped p tys flat outs (flows.outputs_of p callee) = import_typed p tys flat callee x place outs h.0 (all_second (HasFlow p tys flat) a b flow) in
         let i = import_of p (length outs) callee h.0 in
         let own_name : i.1.name ≡ name = name_of_import p name i.0 i.1 i.2 i.3 in
         let in_ports : AreTyped p tys flat gs (flows.port_types i.1.ins) =
-            subst (λ (o : Option Import). AreTyped p tys flat gs (flows.import_inputs o)) i.3 (subst (λ (c : Option Callee). AreTyped p tys flat gs (flows.inputs_of p c)) i.2 inputs) in
+        subst (λ (o : Option Import). AreTyped p tys flat gs (flows.import_inputs o)) i.3 (subst (λ (c : Option Callee). AreTyped p tys flat gs (flows.inputs_of p c)) i.2 inputs) in
         let out_ports : AreTyped p tys flat outs (flows.port_types i.1.outs) =
-            subst (λ (o : Option Import). AreTyped p tys flat outs (flows.import_outputs o)) i.3 (subst (λ (c : Option Callee). AreTyped p tys flat outs (flows.outputs_of p c)) i.2 outputs) in
+        subst (λ (o : Option Import). AreTyped p tys flat outs (flows.import_outputs o)) i.3 (subst (λ (c : Option Callee). AreTyped p tys flat outs (flows.outputs_of p c)) i.2 outputs) in
         let there : Has (node_applied n) name = inside.named name (0, refl) in
         let call : App = record {
           name = name;
@@ -153,11 +150,11 @@ module _ (p : ProgramTree) (tys : Types) (flat : FlatProgram) (sound : IsSound p
         let gs : List ℕ = all_given n env args parts in
         let label : List ℕ = label_of_node name x in
         let needed : length (flows.all_flows p k args) ≡ length (flows.inputs_of p (callee_of p name)) =
-            equal_unless (length (flows.all_flows p k args)) (length (flows.inputs_of p (callee_of p name))) place.at
-            (no_first (unless_equal (length (flows.all_flows p k args)) (length (flows.inputs_of p (callee_of p name))) place.at) (all_faults p k args) arity) in
+        equal_unless (length (flows.all_flows p k args)) (length (flows.inputs_of p (callee_of p name))) place.at
+        (no_first (unless_equal (length (flows.all_flows p k args)) (length (flows.inputs_of p (callee_of p name))) place.at) (all_faults p k args) arity) in
         let inner = no_second (unless_equal (length (flows.all_flows p k args)) (length (flows.inputs_of p (callee_of p name))) place.at) (all_faults p k args) arity in
         let enough : length (map copy_of gs) ≡ length (inputs_of child) =
-            length-map gs copy_of ∙ all_length p k n env found count args parts h.1 known.1 ∙ needed ∙ sym (inputs_length p (callee_of p name) child h.0 h.2) in
+        length-map gs copy_of ∙ all_length p k n env found count args parts h.1 known.1 ∙ needed ∙ sym (inputs_length p (callee_of p name) child h.0 h.2) in
         let a : List Numbered = all_flows p tys k n env args parts in
         let b : List Numbered = entered_flows p tys label callee (map copy_of gs) child in
         let met_args = all_first (Met tys) (typing.all_rules p k args) (typing.argument_rules (flows.inputs_of p o) (flows.placed_flows p k args)) met in

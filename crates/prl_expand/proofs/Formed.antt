@@ -1,5 +1,5 @@
 -- The flat program of an expansion is well formed.
-use Rattle.std.proofs.Common.{◌≡◌, ◌≤◌, ◌<◌, ◌+◌, ◌^◌, ℕ, zero, suc, Bool, true, false, cond, List, [], ◌∷◌, ◌++◌, map, length, Option, Some, None, slice_get, slice_index_or, refl, sym, ap, ◌∙◌, subst, arith, ⊎_elim}
+use Rattle.std.proofs.Common.{◌≡◌, ◌≤◌, ◌<◌, ◌+◌, ℕ, zero, suc, true, false, cond, List, [], ◌∷◌, ◌++◌, map, length, Option, Some, slice_get, refl, sym, ap, ◌∙◌, subst, arith}
 use Rattle.std.specs.List.{AllByRecursion, range_with_len}
 use Rattle.std.specs.Option.{option_map}
 use Rattle.std.specs.Str.{bytes_eq}
@@ -23,31 +23,29 @@ use Rattle.prl_flow.specs.Rules.{Rule}
 use Rattle.prl_flow.proofs.Lists.{element_at, slice_get_append_left}
 use Rattle.prl_names.specs.Checks.{device_names}
 use Rattle.prl_names.specs.Lookups.{param_names, params_of}
-use Rattle.prl_names.specs.Named.{AreApart, AllAreAmong, HasDevices, IsNamed}
+use Rattle.prl_names.specs.Named.{AllAreAmong, IsNamed}
 use Rattle.prl_names.proofs.Right.{named}
-use Rattle.prl_types.specs.Arity.{arity_faults}
-use Rattle.prl_types.specs.Choices.{Choice, type_in, Meets, MeetsAll, FitsTerm, FitsRule, FitRules}
+use Rattle.prl_types.specs.Choices.{Choice, type_in, MeetsAll, FitsTerm, FitRules}
 use Rattle.prl_types.specs.declared.terms.Rule.{Rule as TypeRule}
 use Rattle.prl_types.specs.declared.terms.Term.{Term}
 use Rattle.prl_types.specs.declared.terms.Term.TheVariants as terms
 use Rattle.prl_types.specs.Parameters.{first_of, count_of, parameters_of}
 use Rattle.prl_types.specs.Rules.{rules_of, declared_rules, nodes_rules, equations_rules}
-use Rattle.prl_types.specs.Solutions.{AreTypes}
 use Rattle.prl_types.specs.Typing.{IsTyped}
 use Rattle.prl_types.proofs.Fitting.{rules_fit}
-use Rattle.prl_behaviours.specs.Annotations.{Entered, entered, Rights, flows_in, imports_in}
-use Rattle.prl_behaviours.specs.Asked.{inputs_of, outputs_of}
-use Rattle.prl_behaviours.specs.Texts.{node_at, node_or, HasVariables, IsText}
+use Rattle.prl_behaviours.specs.Annotations.{entered, flows_in, imports_in}
+use Rattle.prl_behaviours.specs.Asked.{inputs_of}
+use Rattle.prl_behaviours.specs.Texts.{node_at, node_or, HasVariables}
 use Rattle.prl_expand.specs.Expansions.{Expansion, IsExpansion}
-use Rattle.prl_expand.specs.Flats.{Numbered, Types, type_at, resolved, flow_no, variable_flows, equated, copies, right_flows, all_numbered, entered_flows, entered_apps, sensors_from, wcet_named, devices_of, flat_of}
-use Rattle.prl_expand.proofs.FlatRules.{entered_tells, definitions_sensors}
+use Rattle.prl_expand.specs.Flats.{Numbered, Types, type_at, resolved, flow_no, variable_flows, equated, copies, right_flows, all_numbered, entered_apps, sensors_from, wcet_named, devices_of, flat_of}
+use Rattle.prl_expand.proofs.FlatRules.{entered_tells}
 use Rattle.prl_expand.proofs.FlowTypes.{HasFlow, IsEnvironment, entered_environment, middle}
-use Rattle.prl_expand.proofs.Lists.{some_inner, all_both, all_first, all_second, lengths_append}
+use Rattle.prl_expand.proofs.Lists.{some_inner, all_both, all_first, all_second}
 use Rattle.prl_expand.proofs.Numbers.{entered_numbered, numbers_of}
 use Rattle.prl_expand.proofs.Sound.{IsSound, sound_from, there, variables_count}
-use Rattle.prl_expand.proofs.Sources.{mapped_from, get_second}
+use Rattle.prl_expand.proofs.Sources.{mapped_from}
 use Rattle.prl_expand.proofs.WellDefined.{Met, AllMet, AreTypedNodes, IsSoundFlow, HaveApps}
-use Rattle.prl_expand.proofs.WellFormed.{AreSoundApps, among_place, among_at, all_at, entered_sound, factor}
+use Rattle.prl_expand.proofs.WellFormed.{AreSoundApps, among_place, all_at, entered_sound, factor}
 
 -- types
 
@@ -103,15 +101,17 @@ flows_at front k (f ∷ fs) e counted =
     let here : f.0 ≡ length front = head_same f.0 k (numbers_of fs) (range_with_len (k + 1) (length fs)) counted ∙ e in
     let rest : List Flow = map (λ (g : Numbered). g.1) fs in
     let moved : (front ++ (f.1 ∷ [])) ++ rest ≡ front ++ (f.1 ∷ rest) = append_assoc front (f.1 ∷ []) rest in
-    let later = flows_at (front ++ (f.1 ∷ [])) (k + 1) fs (omega (arith, e, length-append front (f.1 ∷ []))) (tail_same f.0 k (numbers_of fs) (range_with_len (k + 1) (length fs)) counted) in
-    (ap (slice_get (front ++ (f.1 ∷ rest))) here ∙ get_end front f.1 rest,
-    subst (λ (all : List Flow). AllByRecursion (λ (g : Numbered). slice_get all g.0 ≡ Some g.1) fs) moved later)
+    let later = flows_at (front ++ (f.1 ∷ [])) (k + 1) fs (omega (arith, e, length-append front (f.1 ∷ []))) (tail_same f.0 k (numbers_of fs) (range_with_len (k + 1) (length fs)) counted) in (
+      ap (slice_get (front ++ (f.1 ∷ rest))) here ∙ get_end front f.1 rest,
+      subst (λ (all : List Flow). AllByRecursion (λ (g : Numbered). slice_get all g.0 ≡ Some g.1) fs) moved later,
+    )
 
 apps_at : (p : ProgramTree) (tys : Types) (flat : FlatProgram) (front : List App) (k : ℕ) (us : List App) → k ≡ length front → flat.apps ≡ front ++ us → HaveApps p tys flat (range_with_len k (length us)) us
 apps_at p tys flat front k [] e is = tt
-apps_at p tys flat front k (u ∷ us) e is =
-    (ap (λ (all : List App). slice_get all k) is ∙ ap (slice_get (front ++ (u ∷ us))) e ∙ get_end front u us,
-    apps_at p tys flat (front ++ (u ∷ [])) (k + 1) us (omega (arith, e, length-append front (u ∷ []))) (is ∙ sym (append_assoc front (u ∷ []) us)))
+apps_at p tys flat front k (u ∷ us) e is = (
+  ap (λ (all : List App). slice_get all k) is ∙ ap (slice_get (front ++ (u ∷ us))) e ∙ get_end front u us,
+  apps_at p tys flat (front ++ (u ∷ [])) (k + 1) us (omega (arith, e, length-append front (u ∷ []))) (is ∙ sym (append_assoc front (u ∷ []) us)),
+)
 
 app_at : (p : ProgramTree) (tys : Types) (flat : FlatProgram) (first : ℕ) (us : List App) (i k : ℕ) (u : App) → AreSoundApps p tys flat (range_with_len first (length us)) us → slice_get us i ≡ Some u → k ≡ first + i → IsApplication flat k u
 app_at p tys flat first [] i k u h e at = absurd (cc)
@@ -210,10 +210,10 @@ module _ (p : ProgramTree) (asked : Option (List ℕ)) (main : ℕ) (tys : List 
       let app_numbers : imports_in e ≡ range_with_len 0 (length us) = expansion.imports ∙ ap (range_with_len 0) tells.count in
       let apps : HaveApps p tys flat (imports_in e) us = subst (λ (ks : List ℕ). HaveApps p tys flat ks us) (sym app_numbers) (apps_at p tys flat [] 0 us refl refl) in
       let all = entered_sound p tys flat sound (typed_nodes p asked main tys range typed) [] main sources e expansion.text enough
-          (λ j i s a b.
-          let is : s ≡ definitions.Sensor j = sensor_at 0 ins j j s b (omega arith) in
-          subst (λ (d : Def). IsWellDefined flat i (type_at tys (first_of p main + j)) d) (sym is) (slice_get-map flow_no ins j ∙ ap (option_map flow_no) a))
-          flow apps in
+      (λ j i s a b.
+      let is : s ≡ definitions.Sensor j = sensor_at 0 ins j j s b (omega arith) in
+      subst (λ (d : Def). IsWellDefined flat i (type_at tys (first_of p main + j)) d) (sym is) (slice_get-map flow_no ins j ∙ ap (option_map flow_no) a))
+      flow apps in
       let sound_apps : AreSoundApps p tys flat (range_with_len 0 (length us)) us = subst (λ (ks : List ℕ). AreSoundApps p tys flat ks us) app_numbers all.1 in
       let env_typed : IsEnvironment p tys flat main env = entered_environment p tys flat sound [] main sources ins outs locals rights expansion.text enough flow in
       let vars : List Numbered = variable_flows [] tys (first_of p main) (params_of n) env (sources ++ copies (equated n env n.eqs rights) (n.outs ++ n.locals)) in
@@ -243,9 +243,9 @@ module _ (p : ProgramTree) (asked : Option (List ℕ)) (main : ℕ) (tys : List 
             let sensor = element_at sources k (omega (arith, small, enough)) in
             let is : sensor.0 ≡ definitions.Sensor k = sensor_at 0 ins k k sensor.0 sensor.1 (omega arith) in
             let in_env : slice_get env k ≡ Some i.0 =
-                ap (λ (xs : List ℕ). slice_get xs k) (append_assoc ins outs locals) ∙ slice_get_append_left ins (outs ++ locals) k small ∙ i.1 in
+            ap (λ (xs : List ℕ). slice_get xs k) (append_assoc ins outs locals) ∙ slice_get_append_left ins (outs ++ locals) k small ∙ i.1 in
             let in_sources : slice_get (sources ++ copies (equated n env n.eqs rights) (n.outs ++ n.locals)) k ≡ Some sensor.0 =
-                slice_get_append_left sources (copies (equated n env n.eqs rights) (n.outs ++ n.locals)) k (omega (arith, small, enough)) ∙ sensor.1 in
+            slice_get_append_left sources (copies (equated n env n.eqs rights) (n.outs ++ n.locals)) k (omega (arith, small, enough)) ∙ sensor.1 in
             let v = variable_at p tys flat [] (first_of p main) (params_of n) env (sources ++ copies (equated n env n.eqs rights) (n.outs ++ n.locals)) count var_flow k i.0 sensor.0 in_env in_sources in
             subst (λ (g : FlowNo). IsInput flat k g) i.2 (v.0, v.1, v.2 ∙ is);
         outs = λ k f found_f.
@@ -270,11 +270,11 @@ module _ (p : ProgramTree) (asked : Option (List ℕ)) (main : ℕ) (tys : List 
           let outs_names : List (List ℕ) = map (λ (q : Param). q.name) n.outs in
           let locals_names : List (List ℕ) = map (λ (q : Param). q.name) n.locals in
           let names : slice_get (ins_names ++ outs_names) j ≡ Some d.0 =
-              both_names (devices_of p.sensors n.ins) (devices_of p.actuators n.outs) ins_names outs_names (many ∙ sym (length-map n.ins (λ (q : Param). q.name)))
-              (device_name p.sensors n.ins) (device_name p.actuators n.outs) j d e in
+          both_names (devices_of p.sensors n.ins) (devices_of p.actuators n.outs) ins_names outs_names (many ∙ sym (length-map n.ins (λ (q : Param). q.name)))
+          (device_name p.sensors n.ins) (device_name p.actuators n.outs) j d e in
           let small : j < length (ins_names ++ outs_names) = slice_get_within (ins_names ++ outs_names) j d.0 names in
           let whole : param_names n ≡ (ins_names ++ outs_names) ++ locals_names =
-              map-append (λ (q : Param). q.name) (n.ins ++ n.outs) n.locals ∙ ap (λ (xs : List (List ℕ)). xs ++ locals_names) (map-append (λ (q : Param). q.name) n.ins n.outs) in
+          map-append (λ (q : Param). q.name) (n.ins ++ n.outs) n.locals ∙ ap (λ (xs : List (List ℕ)). xs ++ locals_names) (map-append (λ (q : Param). q.name) n.ins n.outs) in
           ap (λ (xs : List (List ℕ)). slice_get xs j) whole ∙ slice_get_append_left (ins_names ++ outs_names) locals_names j small ∙ names
 
 -- the flows of an expansion stand at their numbers

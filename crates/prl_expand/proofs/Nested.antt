@@ -13,16 +13,12 @@ use Rattle.prl_base.specs.declared.places.Span.{Span}
 use Rattle.prl_base.specs.declared.values.Ty.{Ty}
 use Rattle.prl_base.specs.declared.values.Ty.TheVariants as kinds
 use Rattle.prl_base.specs.declared.values.Value.TheVariants as values
-use Rattle.prl_ast.specs.declared.declarations.Import.{Import}
 use Rattle.prl_ast.specs.declared.declarations.Param.{Param}
 use Rattle.prl_ast.specs.declared.declarations.Placed.{Placed}
 use Rattle.prl_ast.specs.declared.declarations.Port.{Port}
 use Rattle.prl_ast.specs.declared.declarations.Rate.{Rate}
 use Rattle.prl_ast.specs.declared.expressions.PlacedOp.{PlacedOp}
-use Rattle.prl_ast.specs.Trees.{Tree, tree, const, var, apply, group, none, more, EquationTree, NodeTree, ProgramTree}
-use Rattle.prl_flow.specs.declared.programs.App.{App}
-use Rattle.prl_flow.specs.declared.programs.Arg.{Arg}
-use Rattle.prl_flow.specs.declared.programs.Def.{Def}
+use Rattle.prl_ast.specs.Trees.{Tree, tree, const, var, apply, group, none, more, NodeTree, ProgramTree}
 use Rattle.prl_flow.specs.declared.programs.Def.TheVariants as definitions
 use Rattle.prl_flow.specs.declared.programs.Flow.{Flow}
 use Rattle.prl_behaviours.specs.Annotations.{entered, done, next, Part, part}
@@ -71,8 +67,8 @@ h = record {
   outs = variable (codes "y") 22 ∷ [];
   locals = at_rate (codes "v") (Some 5) 23 ∷ [];
   eqs =
-    record { lefts = placed (codes "v") 24 ∷ []; right = tree [] (var (codes "x")) (operator (ops.Up 2) 26 ∷ operator (ops.Down 3) 27 ∷ []) (token 25); at = token 24 }
-    ∷ record { lefts = placed (codes "y") 28 ∷ []; right = use_of (codes "u") 29; at = token 28 } ∷ [];
+      record { lefts = placed (codes "v") 24 ∷ []; right = tree [] (var (codes "x")) (operator (ops.Up 2) 26 ∷ operator (ops.Down 3) 27 ∷ []) (token 25); at = token 24 }
+      ∷ record { lefts = placed (codes "y") 28 ∷ []; right = use_of (codes "u") 29; at = token 28 } ∷ [];
   at = token 19;
 }
 
@@ -83,20 +79,20 @@ main = record {
   outs = variable (codes "o") 41 ∷ variable (codes "q") 42 ∷ [];
   locals = variable (codes "m") 43 ∷ [];
   eqs =
-    record {
-      lefts = placed (codes "o") 44 ∷ placed (codes "m") 45 ∷ [];
-      right = tree [] (apply (codes "F") (token 46)
-          (more (tree [] (apply (codes "h") (token 47)
-          (more (tree [] (apply (codes "g") (token 48) (more (use_of (codes "i") 49) none)) [] (token 48))
-          (more (tree [] (const (values.Int (pos 7))) [] (token 50)) none))) [] (token 47)) none)) [] (token 46);
-      at = token 44;
-    }
-    ∷ record {
-      lefts = placed (codes "q") 51 ∷ [];
-      right = tree (operator (ops.Fby (values.Int (pos 0))) 53 ∷ operator ops.Tail 54 ∷ [])
-          (group (more (tree [] (apply (codes "g") (token 56) (more (use_of (codes "m") 57) none)) [] (token 56)) none)) [] (token 52);
-      at = token 51;
-    } ∷ [];
+      record {
+        lefts = placed (codes "o") 44 ∷ placed (codes "m") 45 ∷ [];
+        right = tree [] (apply (codes "F") (token 46)
+            (more (tree [] (apply (codes "h") (token 47)
+            (more (tree [] (apply (codes "g") (token 48) (more (use_of (codes "i") 49) none)) [] (token 48))
+            (more (tree [] (const (values.Int (pos 7))) [] (token 50)) none))) [] (token 47)) none)) [] (token 46);
+        at = token 44;
+      }
+      ∷ record {
+        lefts = placed (codes "q") 51 ∷ [];
+        right = tree (operator (ops.Fby (values.Int (pos 0))) 53 ∷ operator ops.Tail 54 ∷ [])
+            (group (more (tree [] (apply (codes "g") (token 56) (more (use_of (codes "m") 57) none)) [] (token 56)) none)) [] (token 52);
+        at = token 51;
+      } ∷ [];
   at = token 39;
 }
 
@@ -145,23 +141,23 @@ inner node k name = (node ++ (codes "#" ++ (decimal k ++ codes "."))) ++ name
 
 labels : map (λ (f : Flow). f.label) (flat_of program types 2 expansion).flows
     ≡ codes "i" ∷ codes "o" ∷ codes "q" ∷ codes "m"
-      ∷ inner (codes "g") 0 (codes "x") ∷ inner (codes "g") 0 (codes "y") ∷ made 6 ∷ made 7
-      ∷ inner (codes "h") 1 (codes "x") ∷ inner (codes "h") 1 (codes "u") ∷ inner (codes "h") 1 (codes "y") ∷ inner (codes "h") 1 (codes "v") ∷ made 12 ∷ made 13
-      ∷ made 14 ∷ made 15
-      ∷ inner (codes "g") 2 (codes "x") ∷ inner (codes "g") 2 (codes "y") ∷ made 18 ∷ made 19 ∷ made 20 ∷ []
+    ∷ inner (codes "g") 0 (codes "x") ∷ inner (codes "g") 0 (codes "y") ∷ made 6 ∷ made 7
+    ∷ inner (codes "h") 1 (codes "x") ∷ inner (codes "h") 1 (codes "u") ∷ inner (codes "h") 1 (codes "y") ∷ inner (codes "h") 1 (codes "v") ∷ made 12 ∷ made 13
+    ∷ made 14 ∷ made 15
+    ∷ inner (codes "g") 2 (codes "x") ∷ inner (codes "g") 2 (codes "y") ∷ made 18 ∷ made 19 ∷ made 20 ∷ []
 labels = refl
 
 definitions_are : map (λ (f : Flow). f.def) (flat_of program types 2 expansion).flows
     ≡ definitions.Sensor 0 ∷ definitions.Copy (flow 14) ∷ definitions.Copy (flow 20) ∷ definitions.Copy (flow 15)
-      ∷ definitions.Copy (flow 0) ∷ definitions.Copy (flow 6) ∷ definitions.Op ops.Tail (flow 4) ∷ definitions.Const (values.Int (pos 7))
-      ∷ definitions.Copy (flow 5) ∷ definitions.Copy (flow 7) ∷ definitions.Copy (flow 9) ∷ definitions.Copy (flow 13) ∷ definitions.Op (ops.Up 2) (flow 8) ∷ definitions.Op (ops.Down 3) (flow 12)
-      ∷ definitions.Apply 0 0 ∷ definitions.Apply 0 1
-      ∷ definitions.Copy (flow 3) ∷ definitions.Copy (flow 18) ∷ definitions.Op ops.Tail (flow 16) ∷ definitions.Op ops.Tail (flow 17) ∷ definitions.Op (ops.Fby (values.Int (pos 0))) (flow 19) ∷ []
+    ∷ definitions.Copy (flow 0) ∷ definitions.Copy (flow 6) ∷ definitions.Op ops.Tail (flow 4) ∷ definitions.Const (values.Int (pos 7))
+    ∷ definitions.Copy (flow 5) ∷ definitions.Copy (flow 7) ∷ definitions.Copy (flow 9) ∷ definitions.Copy (flow 13) ∷ definitions.Op (ops.Up 2) (flow 8) ∷ definitions.Op (ops.Down 3) (flow 12)
+    ∷ definitions.Apply 0 0 ∷ definitions.Apply 0 1
+    ∷ definitions.Copy (flow 3) ∷ definitions.Copy (flow 18) ∷ definitions.Op ops.Tail (flow 16) ∷ definitions.Op ops.Tail (flow 17) ∷ definitions.Op (ops.Fby (values.Int (pos 0))) (flow 19) ∷ []
 definitions_are = refl
 
 places_are : map (λ (f : Flow). f.at) (flat_of program types 2 expansion).flows
     ≡ token 40 ∷ token 41 ∷ token 42 ∷ token 43 ∷ token 10 ∷ token 11 ∷ token 13 ∷ token 50
-      ∷ token 20 ∷ token 21 ∷ token 22 ∷ token 23 ∷ token 26 ∷ token 27 ∷ token 46 ∷ token 46 ∷ token 10 ∷ token 11 ∷ token 13 ∷ token 54 ∷ token 53 ∷ []
+    ∷ token 20 ∷ token 21 ∷ token 22 ∷ token 23 ∷ token 26 ∷ token 27 ∷ token 46 ∷ token 46 ∷ token 10 ∷ token 11 ∷ token 13 ∷ token 54 ∷ token 53 ∷ []
 places_are = refl
 
 -- the rates of `i` and `v`, and the due of `v`

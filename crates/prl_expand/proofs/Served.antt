@@ -1,5 +1,5 @@
 -- Each application of the flat program of an expansion has a body that fits.
-use Rattle.std.proofs.Common.{◌≡◌, ◌==◌, ◌||◌, ℕ, Bool, true, List, Option, slice_get, sym, ap, ◌∙◌, refl, []}
+use Rattle.std.proofs.Common.{◌≡◌, ◌==◌, ℕ, true, List, Option, refl, []}
 use Rattle.std.proofs.lemmas.Bool.{eq-eqb}
 use Rattle.prl_base.specs.declared.values.Ty.{Ty}
 use Rattle.prl_ast.specs.InRange.{IsInRange}
@@ -31,5 +31,5 @@ have_bodies p asked main tys e range typed expansion bodies have =
     let sound : IsSound p = sound_from p right.nodes typed.arity in
     let flat = flat_of p tys main e in
     let uses = entered_used p tys flat sound (typed_nodes p asked main tys range typed) main right [] main (sensors_from 0 (inputs_of e)) e expansion.text (sensors_count 0 (inputs_of e))
-        (main_expanded p main) (flows_there p tys main sound e expansion) in
+    (main_expanded p main) (flows_there p tys main sound e expansion) in
     λ k app found. body_of p main flat bodies app have (all_at (IsOfUsed p main flat) (entered_apps p main e) k app uses found)

@@ -1,56 +1,31 @@
 -- The flows of an expansion are well defined where names, arity and types are right.
-use Rattle.std.proofs.Common.{◌≡◌, ◌≤◌, ◌<◌, ◌+◌, ◌^◌, ℕ, zero, suc, List, [], ◌∷◌, ◌++◌, map, length, Option, Some, None, IsSome, slice_get, true, false, cond, Bool, refl, sym, ap, ◌∙◌, subst, arith}
-use Rattle.std.specs.Prelude.{reverse}
-use Rattle.std.specs.List.{AllByRecursion, flat_map}
-use Rattle.std.specs.Option.{option_map, is_some}
+use Rattle.std.proofs.Common.{◌≡◌, ◌<◌, ◌+◌, ℕ, zero, suc, List, [], ◌∷◌, ◌++◌, length, Some, slice_get, true, false, cond, refl, sym, ap, subst, arith}
+use Rattle.std.specs.List.{AllByRecursion}
 use Rattle.std.specs.Str.{bytes_eq}
 use Rattle.std.specs.Cmp.Lexicographic.{bytes_decides}
-use Rattle.std.proofs.lemmas.List.{length-append, length-map, length-reverse, append_assoc}
-use Rattle.std.proofs.lemmas.Option.{slice_get-map, slice_get_within}
-use Rattle.prl_base.specs.Values.{IsOfType, FitsValue, type_of}
 use Rattle.prl_base.specs.declared.operators.Op.{Op}
 use Rattle.prl_base.specs.declared.operators.Op.TheVariants as ops
 use Rattle.prl_base.specs.declared.places.Span.{Span}
 use Rattle.prl_base.specs.declared.values.Ty.{Ty}
 use Rattle.prl_ast.specs.InRange as ranges
-use Rattle.prl_ast.specs.declared.declarations.Import.{Import}
 use Rattle.prl_ast.specs.declared.declarations.Param.{Param}
 use Rattle.prl_ast.specs.declared.declarations.Placed.{Placed}
 use Rattle.prl_ast.specs.declared.declarations.Port.{Port}
 use Rattle.prl_ast.specs.declared.expressions.PlacedOp.{PlacedOp}
-use Rattle.prl_ast.specs.Trees.{Tree, tree, Root, const, var, apply, group, Trees, none, more, EquationTree, NodeTree, ProgramTree}
+use Rattle.prl_ast.specs.Trees.{NodeTree, ProgramTree}
 use Rattle.prl_flow.specs.declared.programs.App.{App}
 use Rattle.prl_flow.specs.declared.programs.Def.{Def}
-use Rattle.prl_flow.specs.declared.programs.Def.TheVariants as definitions
-use Rattle.prl_flow.specs.declared.programs.Flow.{Flow}
 use Rattle.prl_flow.specs.Programs.{FlatProgram, HasType, FitsType, IsWellDefined, IsNoted}
-use Rattle.prl_flow.proofs.Lists.{element_at}
-use Rattle.prl_names.specs.declared.lookups.Callee.{Callee}
-use Rattle.prl_names.specs.declared.lookups.Callee.TheVariants as callees
-use Rattle.prl_names.specs.Lookups.{callee_of, param_at, param_of, param_names, params_of, index_of}
-use Rattle.prl_names.specs.Named.{IsKnown, IsKnownRoot, AreKnown, AreKnownEquations, AllAreAmong}
-use Rattle.prl_names.specs.Repeats.{is_among}
-use Rattle.prl_names.specs.Unknowns.{left_names}
-use Rattle.prl_names.proofs.Marking.{index_found}
-use Rattle.prl_types.specs.Arity.{equations_faults, equation_faults, faults_in, root_faults, all_faults, prefix_fault, postfix_fault, unless_equal}
 use Rattle.prl_types.specs.declared.terms.Flow.{Flow as TermFlow}
 use Rattle.prl_types.specs.declared.terms.Rule.{Rule as TypeRule}
 use Rattle.prl_types.specs.declared.terms.Term.{Term}
-use Rattle.prl_types.specs.declared.terms.Term.TheVariants as terms
 use Rattle.prl_types.specs.Flows as flows
 use Rattle.prl_types.specs.Rules as typing
-use Rattle.prl_types.specs.Parameters.{first_of, named, parameter_or}
-use Rattle.prl_types.proofs.Walking.{terms_placed_flows}
-use Rattle.prl_behaviours.specs.Annotations.{Entered, entered, Rights, done, next, Part, part, Core, Parts, imports_in, right_imports, part_imports, core_imports, parts_imports}
-use Rattle.prl_behaviours.specs.Annotations as notes
-use Rattle.prl_behaviours.specs.Asked.{inputs_of, last_of, given, root_given, all_given}
-use Rattle.prl_behaviours.specs.Texts.{node_at, node_or, node_of, IsNodeCall, IsImportCall, HasVariables, IsText, AreRights, IsPart, IsCore, AreParts}
-use Rattle.prl_expand.specs.Flats.{Numbered, Types, type_at, resolved, flow_no, copy_of, variable_flows, paired, equated, copies, source_of, operator_flows, output_flows, import_at, ports_of, wcet_of, label_of_node, constant_flows, arguments, entered_flows, right_flows, part_flows, root_flows_of, all_flows, entered_apps, right_apps, part_apps, root_apps, all_apps}
-use Rattle.prl_expand.proofs.FlowTypes.{HasFlow, AreTyped, IsEnvironment, HaveKind, all_reverse, all_reversed, operand_kind, operators_typed, entered_environment, given_typed, root_typed, all_typed}
-use Rattle.prl_expand.proofs.Lists.{some_inner, all_both, all_first, all_second, no_first, no_second, equal_unless, lengths_append}
-use Rattle.prl_expand.proofs.Numbers.{postfix_one, prefix_one, import_ports}
-use Rattle.prl_expand.proofs.Sound.{IsRightNode, IsSound, there, variables_count, given_length, all_length, inputs_length, root_length, param_known}
-use Rattle.prl_expand.proofs.Sources.{equated_names, index_is, names_of, get_second}
+use Rattle.prl_types.specs.Parameters.{named}
+use Rattle.prl_expand.specs.Flats.{Numbered, Types, type_at, resolved, flow_no, variable_flows, paired, source_of, operator_flows, output_flows}
+use Rattle.prl_expand.proofs.FlowTypes.{HasFlow, AreTyped, HaveKind}
+use Rattle.prl_expand.proofs.Lists.{some_inner, all_first, all_second}
+use Rattle.prl_expand.proofs.Sources.{names_of}
 
 -- a type rule that holds of the types
 abbrev pub Met : Types → TypeRule → Type 0
@@ -91,9 +66,10 @@ postfixes_fit ty (o ∷ os) h = (postfix_fits ty o.op h.0, postfixes_fit ty os h
 pub prefixes_fit : (tys : Types) (of : Term) (os : List PlacedOp) → AllByRecursion (λ (o : PlacedOp). ranges.IsPrefix o.op) os → AllMet tys (typing.constant_rules of os)
     → AllByRecursion (λ (o : PlacedOp). FitsType (resolved tys of) o.op) os
 prefixes_fit tys of [] h met = tt
-prefixes_fit tys of (o ∷ os) h met =
-    (prefix_fits tys of o.at.at o.op h.0 (all_second (Met tys) (typing.constant_rules of os) (typing.constant_rule of o.at.at o.op) met),
-    prefixes_fit tys of os h.1 (all_first (Met tys) (typing.constant_rules of os) (typing.constant_rule of o.at.at o.op) met))
+prefixes_fit tys of (o ∷ os) h met = (
+  prefix_fits tys of o.at.at o.op h.0 (all_second (Met tys) (typing.constant_rules of os) (typing.constant_rule of o.at.at o.op) met),
+  prefixes_fit tys of os h.1 (all_first (Met tys) (typing.constant_rules of os) (typing.constant_rule of o.at.at o.op) met),
+)
 
 at_place : {A : Type 0} (Q : A → Type 0) (xs : List A) (t : ℕ) (x : A) → AllByRecursion Q xs → slice_get xs t ≡ Some x → Q x
 at_place Q [] t x h e = absurd (cc)
@@ -152,11 +128,12 @@ module _ (p : ProgramTree) (tys : Types) (flat : FlatProgram) where
   outputs_sound app out at [] is a found each = tt
   outputs_sound app out at (q ∷ qs) [] a found each = tt
   outputs_sound app out at (q ∷ qs) (i ∷ is) a found each =
-      let zero_is : out + 0 ≡ out = omega arith in
-      (((a, found, subst (λ m. slice_get a.outs m ≡ Some (flow_no i)) zero_is (each 0 i refl)), (tt, tt)),
-      outputs_sound app (out + 1) at qs is a found (λ j x e.
-      let moved : out + suc j ≡ (out + 1) + j = omega arith in
-      subst (λ m. slice_get a.outs m ≡ Some (flow_no x)) moved (each (suc j) x e)))
+      let zero_is : out + 0 ≡ out = omega arith in (
+        ((a, found, subst (λ m. slice_get a.outs m ≡ Some (flow_no i)) zero_is (each 0 i refl)), (tt, tt)),
+        outputs_sound app (out + 1) at qs is a found (λ j x e.
+            let moved : out + suc j ≡ (out + 1) + j = omega arith in
+            subst (λ m. slice_get a.outs m ≡ Some (flow_no x)) moved (each (suc j) x e)),
+      )
 
   pub variables_sound : (label : List ℕ) (m : ℕ) (qs : List Param) (is : List ℕ) (ds : List Def) → AllByRecursion ranges.IsParamInRange qs
       → ((j i : ℕ) (d : Def) → slice_get is j ≡ Some i → slice_get ds j ≡ Some d → IsWellDefined flat i (type_at tys (m + j)) d)
@@ -165,11 +142,12 @@ module _ (p : ProgramTree) (tys : Types) (flat : FlatProgram) where
   variables_sound label m (q ∷ qs) [] ds range each = tt
   variables_sound label m (q ∷ qs) (i ∷ is) [] range each = tt
   variables_sound label m (q ∷ qs) (i ∷ is) (d ∷ ds) range each =
-      let zero_is : m + 0 ≡ m = omega arith in
-      ((subst (λ k. IsWellDefined flat i (type_at tys k) d) zero_is (each 0 i d refl refl), (range.0.rate, range.0.due)),
-      variables_sound label (m + 1) qs is ds range.1 (λ j x e f g.
-      let moved : m + suc j ≡ (m + 1) + j = omega arith in
-      subst (λ k. IsWellDefined flat x (type_at tys k) e) moved (each (suc j) x e f g)))
+      let zero_is : m + 0 ≡ m = omega arith in (
+        (subst (λ k. IsWellDefined flat i (type_at tys k) d) zero_is (each 0 i d refl refl), (range.0.rate, range.0.due)),
+        variables_sound label (m + 1) qs is ds range.1 (λ j x e f g.
+            let moved : m + suc j ≡ (m + 1) + j = omega arith in
+            subst (λ k. IsWellDefined flat x (type_at tys k) e) moved (each (suc j) x e f g)),
+      )
 
   -- arguments have the types of what they are given to
   pub arguments_typed : (ts : List Term) (fs : List TermFlow) (is : List ℕ) → length fs ≡ length ts → AllMet tys (typing.argument_rules ts fs) → AreTyped p tys flat is (flows.terms_of fs)

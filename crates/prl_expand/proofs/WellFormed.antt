@@ -1,10 +1,10 @@
 -- The flat program of an expansion is well formed where the program is in range and its names, arity and types are right.
-use Rattle.std.proofs.Common.{◌≡◌, ◌≤◌, ◌<◌, ◌+◌, ◌-◌, ◌^◌, ℕ, zero, suc, List, [], ◌∷◌, ◌++◌, map, length, Option, Some, None, IsSome, slice_get, true, false, cond, Bool, refl, sym, ap, ◌∙◌, subst, arith, ⊎_elim}
+use Rattle.std.proofs.Common.{◌≡◌, ◌≤◌, ◌<◌, ◌+◌, ◌-◌, ◌^◌, ℕ, zero, suc, List, [], ◌∷◌, ◌++◌, map, length, Option, Some, None, slice_get, true, refl, sym, ap, ◌∙◌, subst, arith, ⊎_elim}
 use Rattle.std.specs.Prelude.{reverse}
-use Rattle.std.specs.List.{AllByRecursion, flat_map}
+use Rattle.std.specs.List.{AllByRecursion}
 use Rattle.std.specs.Option.{option_map, is_some}
 use Rattle.std.proofs.lemmas.Bool.{cases_lt}
-use Rattle.std.proofs.lemmas.List.{length-append, length-map, length-reverse, append_assoc}
+use Rattle.std.proofs.lemmas.List.{length-map, length-reverse, append_assoc}
 use Rattle.std.proofs.lemmas.Option.{slice_get-map, slice_get_within}
 use Rattle.prl_base.specs.declared.numbers.FlowNo.{FlowNo}
 use Rattle.prl_base.specs.declared.places.Span.{Span}
@@ -12,21 +12,18 @@ use Rattle.prl_base.specs.declared.values.Ty.{Ty}
 use Rattle.prl_ast.specs.InRange as ranges
 use Rattle.prl_ast.specs.declared.declarations.Import.{Import}
 use Rattle.prl_ast.specs.declared.declarations.Param.{Param}
-use Rattle.prl_ast.specs.declared.declarations.Placed.{Placed}
 use Rattle.prl_ast.specs.declared.declarations.Port.{Port}
 use Rattle.prl_ast.specs.declared.expressions.PlacedOp.{PlacedOp}
 use Rattle.prl_ast.specs.Trees.{Tree, tree, Root, const, var, apply, group, Trees, none, more, EquationTree, NodeTree, ProgramTree}
 use Rattle.prl_flow.specs.declared.programs.App.{App}
 use Rattle.prl_flow.specs.declared.programs.Arg.{Arg}
 use Rattle.prl_flow.specs.declared.programs.Def.{Def}
-use Rattle.prl_flow.specs.declared.programs.Def.TheVariants as definitions
-use Rattle.prl_flow.specs.declared.programs.Flow.{Flow}
-use Rattle.prl_flow.specs.Programs.{FlatProgram, HasType, FitsType, IsWellDefined, IsNoted, IsApplication, IsOutput}
+use Rattle.prl_flow.specs.Programs.{FlatProgram, HasType, FitsType, IsWellDefined, IsApplication, IsOutput}
 use Rattle.prl_flow.specs.Rules.{Rule}
-use Rattle.prl_flow.proofs.Lists.{element_at, slice_get_append_left}
+use Rattle.prl_flow.proofs.Lists.{slice_get_append_left}
 use Rattle.prl_names.specs.declared.lookups.Callee.{Callee}
 use Rattle.prl_names.specs.declared.lookups.Callee.TheVariants as callees
-use Rattle.prl_names.specs.Lookups.{callee_of, param_at, param_of, param_names, params_of, index_of}
+use Rattle.prl_names.specs.Lookups.{callee_of, param_at, param_names, params_of, index_of}
 use Rattle.prl_names.specs.Named.{IsKnown, IsKnownRoot, AreKnown, AreKnownEquations, AllAreAmong}
 use Rattle.prl_names.specs.Repeats.{is_among}
 use Rattle.prl_names.specs.Unknowns.{left_names}
@@ -36,20 +33,20 @@ use Rattle.prl_types.specs.declared.terms.Flow.{Flow as TermFlow}
 use Rattle.prl_types.specs.declared.terms.Term.{Term}
 use Rattle.prl_types.specs.Flows as flows
 use Rattle.prl_types.specs.Rules as typing
-use Rattle.prl_types.specs.Parameters.{first_of, named, parameter_or}
+use Rattle.prl_types.specs.Parameters.{first_of, parameter_or}
 use Rattle.prl_types.proofs.Walking.{terms_placed_flows}
 use Rattle.prl_behaviours.specs.Annotations.{Entered, entered, Rights, done, next, Part, part, Core, Parts, imports_in, right_imports, part_imports, core_imports, parts_imports}
 use Rattle.prl_behaviours.specs.Annotations as notes
 use Rattle.prl_behaviours.specs.Asked.{inputs_of, last_of, given, root_given, all_given}
 use Rattle.prl_behaviours.specs.Texts.{node_at, node_or, node_of, IsNodeCall, IsImportCall, HasVariables, IsText, AreRights, IsPart, IsCore, AreParts}
-use Rattle.prl_expand.specs.Flats.{Numbered, Types, type_at, resolved, flow_no, copy_of, variable_flows, paired, equated, copies, source_of, operator_flows, output_flows, import_at, ports_of, wcet_of, label_of_node, constant_flows, arguments, entered_flows, right_flows, part_flows, root_flows_of, all_flows, entered_apps, right_apps, part_apps, root_apps, all_apps}
-use Rattle.prl_expand.proofs.FlatRules.{Tells, all_tells, right_tells, part_tells, arguments_are}
+use Rattle.prl_expand.specs.Flats.{Numbered, Types, type_at, resolved, flow_no, copy_of, variable_flows, paired, equated, copies, source_of, operator_flows, output_flows, import_at, ports_of, wcet_of, label_of_node, arguments, entered_flows, right_flows, part_flows, root_flows_of, all_flows, entered_apps, right_apps, part_apps, root_apps, all_apps}
+use Rattle.prl_expand.proofs.FlatRules.{all_tells, part_tells, arguments_are}
 use Rattle.prl_expand.proofs.FlowTypes.{HasFlow, AreTyped, IsEnvironment, HaveKind, all_reverse, last_kind, operand_kind, operators_typed, entered_environment, given_typed, root_typed, all_typed}
-use Rattle.prl_expand.proofs.Lists.{some_inner, all_both, all_first, all_second, no_first, no_second, equal_unless, lengths_append}
+use Rattle.prl_expand.proofs.Lists.{some_inner, all_both, all_first, all_second, no_first, no_second, equal_unless}
 use Rattle.prl_expand.proofs.Numbers.{postfix_one, import_ports}
-use Rattle.prl_expand.proofs.Sound.{IsRightNode, IsSound, there, variables_count, given_length, all_length, inputs_length, root_length, param_known}
+use Rattle.prl_expand.proofs.Sound.{IsRightNode, IsSound, there, variables_count, all_length, inputs_length, root_length, param_known}
 use Rattle.prl_expand.proofs.Sources.{equated_names, index_is, names_of, get_second, mapped_from}
-use Rattle.prl_expand.proofs.WellDefined.{Met, AllMet, IsTypedNode, AreTypedNodes, postfixes_fit, prefixes_fit, source_holds, IsSoundFlow, HaveApps, have_first, have_second, operators_sound, outputs_sound, variables_sound, arguments_typed, parameter_typed, IsGiven, pairs_given}
+use Rattle.prl_expand.proofs.WellDefined.{Met, AllMet, AreTypedNodes, postfixes_fit, prefixes_fit, source_holds, IsSoundFlow, HaveApps, have_first, have_second, operators_sound, outputs_sound, variables_sound, arguments_typed, parameter_typed, IsGiven, pairs_given}
 
 -- what operators stand on is one flow, where there are prefixes
 one_before : (count : ℕ) (pre post : List PlacedOp) → prefix_fault count pre post ≡ [] → postfix_fault count post ≡ [] → 0 < length pre → count ≡ 1
@@ -176,16 +173,16 @@ module _ (p : ProgramTree) (tys : Types) (flat : FlatProgram) where
         let q = mapped_from (λ (x : Param). copy_of (source_of (equated n env n.eqs rights) x.name)) (n.outs ++ n.locals) u s copy_at in
         let place : length n.ins + u ≡ j = omega (arith, at, enough, ins_count) in
         let param_there : slice_get (params_of n) j ≡ Some q.0 =
-            ap (λ (qs : List Param). slice_get qs j) (append_assoc n.ins n.outs n.locals) ∙ ap (slice_get (n.ins ++ (n.outs ++ n.locals))) (sym place) ∙ get_second n.ins (n.outs ++ n.locals) u ∙ q.1 in
+        ap (λ (qs : List Param). slice_get qs j) (append_assoc n.ins n.outs n.locals) ∙ ap (slice_get (n.ins ++ (n.outs ++ n.locals))) (sym place) ∙ get_second n.ins (n.outs ++ n.locals) u ∙ q.1 in
         let name_there : slice_get (param_names n) j ≡ Some q.0.name = slice_get-map (λ (x : Param). x.name) (params_of n) j ∙ ap (option_map (λ (x : Param). x.name)) param_there in
         let index : param_at p k q.0.name ≡ Some j = param_known p k n q.0.name found ∙ index_is (param_names n) j q.0.name right.named.params_apart name_there in
         let names_are : names_of (equated n env n.eqs rights) ≡ left_names n = equated_names p k n env found count n.eqs rights text right.named.known right.arity in
         let left = among_place (left_names n) q.0.name (among_at (left_names n) (n.outs ++ n.locals) u q.0 right.named.defined q.1) in
         let source_there : slice_get (names_of (equated n env n.eqs rights)) left.0 ≡ Some q.0.name = ap (λ (ns : List (List ℕ)). slice_get ns left.0) names_are ∙ left.1 in
         let kind : IsGiven p tys flat k (q.0.name, source_of (equated n env n.eqs rights) q.0.name) =
-            source_holds (IsGiven p tys flat k) (equated n env n.eqs rights) left.0 q.0.name source_there (equated_given k n env found count typed n.eqs rights text right.named.known right.arity met flow) in
+        source_holds (IsGiven p tys flat k) (equated n env n.eqs rights) left.0 q.0.name source_there (equated_given k n env found count typed n.eqs rights text right.named.known right.arity met flow) in
         let typed_source : HasType flat (type_at tys (first_of p k + j)) (flow_no (source_of (equated n env n.eqs rights) q.0.name)) =
-            subst (λ (o : Option ℕ). HasType flat (resolved tys (parameter_or p k o)) (flow_no (source_of (equated n env n.eqs rights) q.0.name))) index kind in
+        subst (λ (o : Option ℕ). HasType flat (resolved tys (parameter_or p k o)) (flow_no (source_of (equated n env n.eqs rights) q.0.name))) index kind in
         subst (λ (def : Def). IsWellDefined flat i (type_at tys (first_of p k + j)) def) q.2 typed_source)
         (cases_lt j (length sources))
 
@@ -215,13 +212,14 @@ module _ (p : ProgramTree) (tys : Types) (flat : FlatProgram) where
           let kinds : (length of ≡ 1) → HaveKind p tys flat ty of = λ e. operand_kind p tys flat of terms_of e root_kinds in
           let post_flow = all_first (HasFlow p tys flat) b c later in
           let pre_flow = all_second (HasFlow p tys flat) b c later in
-          let posts_kind = operators_typed p tys flat ty post posts of h.2 (λ some. one ∙ postfix_one needed post back some) post_flow in
-          (all_both (IsSoundFlow p tys flat) a (b ++ c) r.0
-          (all_both (IsSoundFlow p tys flat) b c
-          (operators_sound p tys flat ty post posts of (postfixes_fit ty post range.2) (λ some. kinds (one ∙ postfix_one needed post back some)) post_flow)
-          (operators_sound p tys flat ty (reverse pre) (reverse pres) (last_of of posts) (all_reverse (λ (o : PlacedOp). FitsType ty o.op) pre (prefixes_fit tys (flows.operand terms_of) pre range.0 pre_met))
-          (λ some. last_kind p tys flat ty of posts (kinds (one ∙ one_before needed pre post front back (omega (arith, some, length-reverse pre)))) posts_kind) pre_flow)),
-          r.1)
+          let posts_kind = operators_typed p tys flat ty post posts of h.2 (λ some. one ∙ postfix_one needed post back some) post_flow in (
+            all_both (IsSoundFlow p tys flat) a (b ++ c) r.0
+                (all_both (IsSoundFlow p tys flat) b c
+                (operators_sound p tys flat ty post posts of (postfixes_fit ty post range.2) (λ some. kinds (one ∙ postfix_one needed post back some)) post_flow)
+                (operators_sound p tys flat ty (reverse pre) (reverse pres) (last_of of posts) (all_reverse (λ (o : PlacedOp). FitsType ty o.op) pre (prefixes_fit tys (flows.operand terms_of) pre range.0 pre_met))
+                (λ some. last_kind p tys flat ty of posts (kinds (one ∙ one_before needed pre post front back (omega (arith, some, length-reverse pre)))) posts_kind) pre_flow)),
+            r.1,
+          )
 
       root_sound : (k : ℕ) (n : NodeTree) (env : List ℕ) → slice_get p.nodes k ≡ Some n → length env ≡ length (params_of n) → IsEnvironment p tys flat k env → (d : ℕ) (root : Root) (at : Span) (c : Core ℕ ℕ ℕ) → IsCore p root c → IsKnownRoot p k root
           → root_faults p k root ≡ [] → ranges.IsRootInRange d root → AllMet tys (typing.root_rules p k root) → AllByRecursion (HasFlow p tys flat) (root_flows_of p tys k n env root at c)
@@ -254,7 +252,7 @@ module _ (p : ProgramTree) (tys : Types) (flat : FlatProgram) where
             wcet = factor (wcet_of (import_at p callee)) range_of.0;
             args = λ j arg e.
                 let number_at : slice_get (map (λ (u : Arg). u.flow.0) (arguments n env args parts)) j ≡ Some arg.flow.0 =
-                    slice_get-map (λ (u : Arg). u.flow.0) (arguments n env args parts) j ∙ ap (option_map (λ (u : Arg). u.flow.0)) e in
+                slice_get-map (λ (u : Arg). u.flow.0) (arguments n env args parts) j ∙ ap (option_map (λ (u : Arg). u.flow.0)) e in
                 typed_within (all_given n env args parts) (flows.all_flows p k args) kinds j arg.flow.0 (ap (λ (is : List ℕ). slice_get is j) (sym (arguments_are n env args parts)) ∙ number_at);
             outs = λ j f e.
                 let o = mapped_from flow_no outs j f e in
@@ -263,22 +261,24 @@ module _ (p : ProgramTree) (tys : Types) (flat : FlatProgram) where
             has_output = let some = range_of.1 in omega (arith, some, length-map outs flow_no);
           } in
           sound_both a b (parts_imports parts) (x ∷ []) (all_apps p n env args parts) (call ∷ []) number
-          (all_sound k n env found count typed (d + 1) args parts h.1 known.1 inner range.2 met_args arg_flow arg_apps)
-          (outputs_sound p tys flat x 0 place ports outs call own_app
-          (λ j i e.
-          let plain : 0 + j ≡ j = omega arith in
-          ap (slice_get (map flow_no outs)) plain ∙ slice_get-map flow_no outs j ∙ ap (option_map flow_no) e), (application, tt))
+          (all_sound k n env found count typed (d + 1) args parts h.1 known.1 inner range.2 met_args arg_flow arg_apps) (
+            outputs_sound p tys flat x 0 place ports outs call own_app
+                (λ j i e.
+                let plain : 0 + j ≡ j = omega arith in
+                ap (slice_get (map flow_no outs)) plain ∙ slice_get-map flow_no outs j ∙ ap (option_map flow_no) e),
+            (application, tt),
+          )
       root_sound k n env found count typed d (apply name place args) at (notes.node parts x child) h known arity range met flow apps =
           let o = callee_of p name in
           let callee = node_of (callee_of p name) in
           let gs : List ℕ = all_given n env args parts in
           let label : List ℕ = label_of_node name x in
           let needed : length (flows.all_flows p k args) ≡ length (flows.inputs_of p (callee_of p name)) =
-              equal_unless (length (flows.all_flows p k args)) (length (flows.inputs_of p (callee_of p name))) place.at
-              (no_first (unless_equal (length (flows.all_flows p k args)) (length (flows.inputs_of p (callee_of p name))) place.at) (all_faults p k args) arity) in
+          equal_unless (length (flows.all_flows p k args)) (length (flows.inputs_of p (callee_of p name))) place.at
+          (no_first (unless_equal (length (flows.all_flows p k args)) (length (flows.inputs_of p (callee_of p name))) place.at) (all_faults p k args) arity) in
           let inner = no_second (unless_equal (length (flows.all_flows p k args)) (length (flows.inputs_of p (callee_of p name))) place.at) (all_faults p k args) arity in
           let enough : length (map copy_of gs) ≡ length (inputs_of child) =
-              length-map gs copy_of ∙ all_length p k n env found count args parts h.1 known.1 ∙ needed ∙ sym (inputs_length p (callee_of p name) child h.0 h.2) in
+          length-map gs copy_of ∙ all_length p k n env found count args parts h.1 known.1 ∙ needed ∙ sym (inputs_length p (callee_of p name) child h.0 h.2) in
           let a : List Numbered = all_flows p tys k n env args parts in
           let b : List Numbered = entered_flows p tys label callee (map copy_of gs) child in
           let arg_flow = all_first (HasFlow p tys flat) a b flow in
@@ -291,9 +291,9 @@ module _ (p : ProgramTree) (tys : Types) (flat : FlatProgram) where
           let kinds = all_typed p tys flat sound k n env found count typed args parts h.1 known.1 inner arg_flow in
           let placed_terms : flows.terms_of (flows.placed_flows p k args) ≡ flows.all_flows p k args = terms_placed_flows p k args in
           let as_many : length (flows.placed_flows p k args) ≡ length (flows.inputs_of p o) =
-              sym (length-map (flows.placed_flows p k args) (λ (f : TermFlow). f.term)) ∙ ap length placed_terms ∙ needed in
+          sym (length-map (flows.placed_flows p k args) (λ (f : TermFlow). f.term)) ∙ ap length placed_terms ∙ needed in
           let inputs : AreTyped p tys flat gs (flows.inputs_of p o) =
-              arguments_typed p tys flat (flows.inputs_of p o) (flows.placed_flows p k args) gs as_many met_own (subst (λ (ts : List Term). AreTyped p tys flat gs ts) (sym placed_terms) kinds) in
+          arguments_typed p tys flat (flows.inputs_of p o) (flows.placed_flows p k args) gs as_many met_own (subst (λ (ts : List Term). AreTyped p tys flat gs ts) (sym placed_terms) kinds) in
           sound_both a b (parts_imports parts) (imports_in child) (all_apps p n env args parts) (entered_apps p callee child) number
           (all_sound k n env found count typed (d + 1) args parts h.1 known.1 inner range.2 met_args arg_flow arg_apps)
           (entered_sound label callee (map copy_of gs) child h.2 enough
@@ -376,9 +376,11 @@ module _ (p : ProgramTree) (tys : Types) (flat : FlatProgram) where
           let vars : List Numbered = variable_flows label tys (first_of p k) (params_of n) env (sources ++ cs) in
           let others : List Numbered = right_flows p tys k n env n.eqs rights in
           let typed = entered_environment p tys flat sound label k sources ins outs locals rights text enough flow in
-          let rs = right_sound k n env found count typed n.eqs rights text.1 right.named.known right.arity node.range.eqs node.rules (all_second (HasFlow p tys flat) vars others flow) apps in
-          (all_both (IsSoundFlow p tys flat) vars others
-          (variables_sound p tys flat label (first_of p k) (params_of n) env (sources ++ cs)
-          (all_both ranges.IsParamInRange (n.ins ++ n.outs) n.locals (all_both ranges.IsParamInRange n.ins n.outs node.range.ins node.range.outs) node.range.locals)
-          (defined_at k n right found sources ins (outs ++ locals) env (append_assoc ins outs locals) count enough has.0 rights text.1 typed node.rules (all_second (HasFlow p tys flat) vars others flow) defined))
-          rs.0, rs.1)
+          let rs = right_sound k n env found count typed n.eqs rights text.1 right.named.known right.arity node.range.eqs node.rules (all_second (HasFlow p tys flat) vars others flow) apps in (
+            all_both (IsSoundFlow p tys flat) vars others
+                (variables_sound p tys flat label (first_of p k) (params_of n) env (sources ++ cs)
+                (all_both ranges.IsParamInRange (n.ins ++ n.outs) n.locals (all_both ranges.IsParamInRange n.ins n.outs node.range.ins node.range.outs) node.range.locals)
+                (defined_at k n right found sources ins (outs ++ locals) env (append_assoc ins outs locals) count enough has.0 rights text.1 typed node.rules (all_second (HasFlow p tys flat) vars others flow) defined))
+                rs.0,
+            rs.1,
+          )
