@@ -1,3 +1,4 @@
 pub mod Marks
 pub mod Shapes
 pub mod States
+pub mod Wholes

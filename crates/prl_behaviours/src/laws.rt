@@ -3,8 +3,12 @@
 ghost use Rattle.std.specs.Prelude.{◌≡◌, ℕ, List, length, map};
 ghost use Rattle.std.specs.List.{range_with_len};
 ghost use Rattle.prl_ast.specs.Trees.{ProgramTree};
+ghost use Rattle.prl_body.specs.declared.bodies.CheckedBody.{CheckedBody};
+ghost use Rattle.prl_flow.specs.Programs.{FlatProgram, IsFlat};
+ghost use Rattle.prl_flow.specs.Rows.{Rows};
 ghost use Rattle.prl_flow.specs.Rules.{mark_rule};
-ghost use Rattle.prl_flow.specs.States.{State, flow_at, registers_at};
+ghost use Rattle.prl_flow.specs.Solutions.{AreClocks, Solves};
+ghost use Rattle.prl_flow.specs.States.{IsSolution, State, Timed, flow_at, registers_at};
 ghost use Rattle.prl_behaviours.specs.Annotations.{Entered, flows_in, imports_in};
 ghost use Rattle.prl_behaviours.specs.Asked.{program_rules};
 ghost use Rattle.prl_behaviours.specs.Behaviours.{Behaviour, behaviour_of, state_in};
@@ -32,4 +36,11 @@ pub fn behaviours_are_of_their_states()
 pub fn states_make_behaviours()
     ensures { (p : ProgramTree) (k : ℕ) (e : Entered ℕ ℕ ℕ) (s : State) → IsText p k e → flows_in e ≡ range_with_len 0 (length s.flows)
         → imports_in e ≡ range_with_len 0 (length s.registers) → IsText p k (behaviour_of s e) × (state_in (behaviour_of s e) ≡ s) }
+{}
+
+/// The clocks of a solution agree as a flat program asks of clocks, and its values are a solution over these clocks.
+pub fn solutions_are_of_their_clocks()
+    ensures { (p : FlatProgram) (bodies : List CheckedBody) (rows : Rows) (until : ℕ) (s : State) → IsFlat p → IsSolution p bodies rows until s
+        → AreClocks p (map (λ (f : Timed). f.clock) s.flows)
+        × Solves p (map (λ (f : Timed). f.clock) s.flows) bodies rows until (map (λ (f : Timed). f.values) s.flows) }
 {}

@@ -60,14 +60,14 @@ BuiltNode p k f r n = Built (Entered ℕ ℕ ℕ) flows_in imports_in nodes_in (
 abbrev pub Enters : ProgramTree → (ℕ → Bool) → Type 0
 Enters p applied = (j : ℕ) → applied j ≡ true → j < length p.nodes → (f r n : ℕ) → BuiltNode p j f r n
 
-true_or : (a b : Bool) → a ≡ true → (a || b) ≡ true
+pub true_or : (a b : Bool) → a ≡ true → (a || b) ≡ true
 true_or a b h = rw h refl
 
-or_true : (a b : Bool) → b ≡ true → (a || b) ≡ true
+pub or_true : (a b : Bool) → b ≡ true → (a || b) ≡ true
 or_true true b h = refl
 or_true false b h = h
 
-same_node : (j : ℕ) (o : Option Callee) → o ≡ Some (callees.Node j) → is_node j o ≡ true
+pub same_node : (j : ℕ) (o : Option Callee) → o ≡ Some (callees.Node j) → is_node j o ≡ true
 same_node j o e = ap (is_node j) e ∙ eq-eqb j j refl
 
 import_found : (p : ProgramTree) (name : List ℕ) (j : ℕ) → callee_of p name ≡ Some (callees.Import j) → (i : Import) × (slice_get p.imports j ≡ Some i)

@@ -77,7 +77,7 @@ outs_are (i ∷ is) = ap (λ js. i ∷ js) (outs_are is)
 tree_placed : (t : Tree) (is : List ℕ) → map (λ (a : Arg). a.flow.0) (placed t is) ≡ is
 tree_placed (tree pre root post at) is = placed_are at is
 
-arguments_are : (n : NodeTree) (env : List ℕ) (ts : Trees) (qs : Parts ℕ ℕ ℕ) → map (λ (a : Arg). a.flow.0) (arguments n env ts qs) ≡ all_given n env ts qs
+pub arguments_are : (n : NodeTree) (env : List ℕ) (ts : Trees) (qs : Parts ℕ ℕ ℕ) → map (λ (a : Arg). a.flow.0) (arguments n env ts qs) ≡ all_given n env ts qs
 arguments_are n env ts notes.none = refl
 arguments_are n env none (notes.more q rest) = refl
 arguments_are n env (more t ts) (notes.more q rest) =
@@ -251,7 +251,7 @@ module _ (P : Rule ℕ ℕ → Type 0) where
           (numbered_append (operator_flows ty post posts of) (operator_flows ty (reverse pre) (reverse pres) (last_of of posts))
           ∙ rw (operators_are ty post posts of, operators_are ty (reverse pre) (reverse pres) (last_of of posts)) refl)
 
-      root_tells : (k : ℕ) (n : NodeTree) (env : List ℕ) → slice_get p.nodes k ≡ Some n → length env ≡ length (params_of n) → (root : Root) (at : Span) (c : Core ℕ ℕ ℕ) → IsCore p root c
+      pub root_tells : (k : ℕ) (n : NodeTree) (env : List ℕ) → slice_get p.nodes k ≡ Some n → length env ≡ length (params_of n) → (root : Root) (at : Span) (c : Core ℕ ℕ ℕ) → IsCore p root c
           → IsKnownRoot p k root → root_faults p k root ≡ []
           → Tells (root_flows_of p tys k n env root at c) (core_imports c) (root_apps p n env root at c) (root_rules p n env root c)
       root_tells k n env found count (const v) at (notes.constant i) h known arity = tells_flows (constant_flows (const v) i at) (constant_rules (const v) i) (constants_are (const v) i at)
@@ -306,7 +306,7 @@ module _ (P : Rule ℕ ℕ → Type 0) where
       root_tells k n env found count (group args) at (notes.import parts x outs) h known arity = absurd h
       root_tells k n env found count (group args) at (notes.node parts x child) h known arity = absurd h
 
-      all_tells : (k : ℕ) (n : NodeTree) (env : List ℕ) → slice_get p.nodes k ≡ Some n → length env ≡ length (params_of n) → (ts : Trees) (qs : Parts ℕ ℕ ℕ) → AreParts p ts qs → AreKnown p k ts
+      pub all_tells : (k : ℕ) (n : NodeTree) (env : List ℕ) → slice_get p.nodes k ≡ Some n → length env ≡ length (params_of n) → (ts : Trees) (qs : Parts ℕ ℕ ℕ) → AreParts p ts qs → AreKnown p k ts
           → all_faults p k ts ≡ [] → Tells (all_flows p tys k n env ts qs) (parts_imports qs) (all_apps p n env ts qs) (all_rules p n env ts qs)
       all_tells k n env found count none notes.none h known arity = tells_nothing
       all_tells k n env found count none (notes.more q rest) h known arity = absurd h
@@ -317,7 +317,7 @@ module _ (P : Rule ℕ ℕ → Type 0) where
           (part_tells k n env found count t q h.0 known.0 (no_first (faults_in p k t) (all_faults p k ts) arity))
           (all_tells k n env found count ts rest h.1 known.1 (no_second (faults_in p k t) (all_faults p k ts) arity))
 
-      right_tells : (k : ℕ) (n : NodeTree) (env : List ℕ) → slice_get p.nodes k ≡ Some n → length env ≡ length (params_of n) → (es : List EquationTree) (qs : Rights ℕ ℕ ℕ) → AreRights p es qs
+      pub right_tells : (k : ℕ) (n : NodeTree) (env : List ℕ) → slice_get p.nodes k ≡ Some n → length env ≡ length (params_of n) → (es : List EquationTree) (qs : Rights ℕ ℕ ℕ) → AreRights p es qs
           → AreKnownEquations p k es → equations_faults p k es ≡ [] → Tells (right_flows p tys k n env es qs) (right_imports qs) (right_apps p n env es qs) (right_part_rules p n env es qs)
       right_tells k n env found count [] done h known arity = tells_nothing
       right_tells k n env found count [] (next q rest) h known arity = absurd h

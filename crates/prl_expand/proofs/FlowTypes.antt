@@ -1,36 +1,35 @@
 -- The types of the flows that expressions give.
 use Rattle.std.proofs.Common.{◌≡◌, ◌<◌, ◌+◌, ℕ, zero, suc, List, [], ◌∷◌, ◌++◌, map, length, Option, Some, None, IsSome, slice_get, refl, sym, ap, ◌∙◌, subst, arith}
 use Rattle.std.specs.Prelude.{reverse}
-use Rattle.std.specs.List.{AllByRecursion, range_with_len}
-use Rattle.std.proofs.lemmas.List.{length-append, length-map, length-reverse, append_assoc, reverse-append}
+use Rattle.std.specs.List.{AllByRecursion}
+use Rattle.std.proofs.lemmas.List.{length-map, length-reverse, append_assoc, reverse-append}
 use Rattle.prl_base.specs.declared.places.Span.{Span}
 use Rattle.prl_base.specs.declared.values.Ty.{Ty}
 use Rattle.prl_ast.specs.declared.declarations.Import.{Import}
 use Rattle.prl_ast.specs.declared.declarations.Param.{Param}
 use Rattle.prl_ast.specs.declared.declarations.Port.{Port}
 use Rattle.prl_ast.specs.declared.expressions.PlacedOp.{PlacedOp}
-use Rattle.prl_ast.specs.Trees.{Tree, tree, Root, const, var, apply, group, Trees, none, more, EquationTree, NodeTree, ProgramTree}
+use Rattle.prl_ast.specs.Trees.{Tree, tree, Root, const, var, apply, group, Trees, none, more, NodeTree, ProgramTree}
 use Rattle.prl_flow.specs.declared.programs.Def.{Def}
-use Rattle.prl_flow.specs.declared.programs.Flow.{Flow}
 use Rattle.prl_flow.specs.Programs.{FlatProgram, HasType}
 use Rattle.prl_flow.proofs.Lists.{element_at, slice_get_append_left}
 use Rattle.prl_names.specs.declared.lookups.Callee.{Callee}
 use Rattle.prl_names.specs.declared.lookups.Callee.TheVariants as callees
-use Rattle.prl_names.specs.Lookups.{callee_of, param_at, param_of, param_names, params_of, index_of}
-use Rattle.prl_names.specs.Named.{IsKnown, IsKnownRoot, AreKnown, AreKnownEquations}
-use Rattle.prl_types.specs.Arity.{equations_faults, equation_faults, faults_in, root_faults, all_faults, prefix_fault, postfix_fault, unless_equal}
+use Rattle.prl_names.specs.Lookups.{callee_of, param_at, param_of, param_names, params_of}
+use Rattle.prl_names.specs.Named.{IsKnown, IsKnownRoot, AreKnown}
+use Rattle.prl_types.specs.Arity.{faults_in, root_faults, all_faults, prefix_fault, postfix_fault, unless_equal}
 use Rattle.prl_types.specs.declared.terms.Term.{Term}
 use Rattle.prl_types.specs.declared.terms.Term.TheVariants as terms
 use Rattle.prl_types.specs.Flows as flows
-use Rattle.prl_types.specs.Parameters.{first_of, named, parameter_or}
+use Rattle.prl_types.specs.Parameters.{first_of, parameter_or}
 use Rattle.prl_behaviours.specs.Annotations.{Entered, entered, Rights, done, next, Part, part, Core, Parts}
 use Rattle.prl_behaviours.specs.Annotations as notes
-use Rattle.prl_behaviours.specs.Asked.{inputs_of, outputs_of, one, at_index, at_variable, last_of, first_of as first_flow, given, root_given, all_given}
-use Rattle.prl_behaviours.specs.Texts.{node_at, node_or, node_of, IsNodeCall, IsImportCall, HasVariables, IsText, AreRights, IsPart, IsCore, AreParts}
+use Rattle.prl_behaviours.specs.Asked.{inputs_of, outputs_of, one, at_index, last_of, first_of as first_flow, given, root_given, all_given}
+use Rattle.prl_behaviours.specs.Texts.{node_at, node_or, node_of, IsNodeCall, IsImportCall, HasVariables, IsText, IsPart, IsCore, AreParts}
 use Rattle.prl_expand.specs.Flats.{Numbered, Types, type_at, resolved, flow_no, copy_of, variable_flows, equated, copies, source_of, operator_flows, output_flows, import_at, ports_of, label_of_node, entered_flows, right_flows, part_flows, root_flows_of, all_flows}
 use Rattle.prl_expand.proofs.Lists.{some_inner, all_both, all_first, all_second, no_first, no_second, equal_unless, lengths_append}
-use Rattle.prl_expand.proofs.Numbers.{postfix_one, prefix_one, import_ports}
-use Rattle.prl_expand.proofs.Sound.{IsRightNode, IsSound, there, variables_count, all_length, inputs_length, root_length, param_known, index_within}
+use Rattle.prl_expand.proofs.Numbers.{postfix_one, prefix_one}
+use Rattle.prl_expand.proofs.Sound.{IsSound, there, variables_count, all_length, inputs_length, root_length, param_known, index_within}
 use Rattle.prl_expand.proofs.Sources.{get_second}
 
 pub all_reverse : {A : Type 0} (P : A → Type 0) (xs : List A) → AllByRecursion P xs → AllByRecursion P (reverse xs)
@@ -72,13 +71,14 @@ module _ (p : ProgramTree) (tys : Types) (flat : FlatProgram) where
   pub typed_range : (is : List ℕ) (m : ℕ) → ((j i : ℕ) → slice_get is j ≡ Some i → HasType flat (type_at tys (m + j)) (flow_no i)) → AreTyped is (flows.parameters_from m (length is))
   typed_range [] m each = tt
   typed_range (i ∷ is) m each =
-      let zero_is : m + 0 ≡ m = omega arith in
-      (subst (λ k. HasType flat (type_at tys k) (flow_no i)) zero_is (each 0 i refl),
-      typed_range is (m + 1) (λ j x e.
-      let moved : m + suc j ≡ (m + 1) + j = omega arith in
-      subst (λ k. HasType flat (type_at tys k) (flow_no x)) moved (each (suc j) x e)))
+      let zero_is : m + 0 ≡ m = omega arith in (
+        subst (λ k. HasType flat (type_at tys k) (flow_no i)) zero_is (each 0 i refl),
+        typed_range is (m + 1) (λ j x e.
+            let moved : m + suc j ≡ (m + 1) + j = omega arith in
+            subst (λ k. HasType flat (type_at tys k) (flow_no x)) moved (each (suc j) x e)),
+      )
 
-  variables_typed : (label : List ℕ) (m : ℕ) (qs : List Param) (is : List ℕ) (ds : List Def) → length is ≡ length qs → length is ≡ length ds
+  pub variables_typed : (label : List ℕ) (m : ℕ) (qs : List Param) (is : List ℕ) (ds : List Def) → length is ≡ length qs → length is ≡ length ds
       → AllByRecursion HasFlow (variable_flows label tys m qs is ds) → (j i : ℕ) → slice_get is j ≡ Some i → HasType flat (type_at tys (m + j)) (flow_no i)
   variables_typed label m qs [] ds a b h j i e = absurd (cc)
   variables_typed label m [] (x ∷ is) ds a b h j i e = absurd (omega (arith, a))
@@ -104,7 +104,7 @@ module _ (p : ProgramTree) (tys : Types) (flat : FlatProgram) where
   outputs_typed app out at (q ∷ qs) [] a h = absurd (omega (arith, a))
   outputs_typed app out at (q ∷ qs) (i ∷ is) a h = ((_, h.0, refl), outputs_typed app (out + 1) at qs is (omega (arith, a)) h.1)
 
-  last_kind : (ty : Ty) (of is : List ℕ) → HaveKind ty of → HaveKind ty is → HaveKind ty (last_of of is)
+  pub last_kind : (ty : Ty) (of is : List ℕ) → HaveKind ty of → HaveKind ty is → HaveKind ty (last_of of is)
   last_kind ty of [] a b = a
   last_kind ty of (i ∷ is) a b = last_kind ty (i ∷ []) is (b.0, tt) b.1
 
@@ -139,7 +139,7 @@ module _ (p : ProgramTree) (tys : Types) (flat : FlatProgram) where
   operated_typed (o ∷ pre) post (i ∷ pres) posts of ts a b typed f g = (g.0, tt)
 
   -- a slice of what stands at all variables
-  middle : (ins outs locals : List ℕ) (j i : ℕ) → slice_get outs j ≡ Some i → slice_get ((ins ++ outs) ++ locals) (length ins + j) ≡ Some i
+  pub middle : (ins outs locals : List ℕ) (j i : ℕ) → slice_get outs j ≡ Some i → slice_get ((ins ++ outs) ++ locals) (length ins + j) ≡ Some i
   middle ins outs locals j i e =
       ap (λ (xs : List ℕ). slice_get xs (length ins + j)) (append_assoc ins outs locals) ∙ get_second ins (outs ++ locals) j
       ∙ slice_get_append_left outs locals j (within outs j i e) ∙ e
@@ -155,7 +155,7 @@ module _ (p : ProgramTree) (tys : Types) (flat : FlatProgram) where
       let i = element_at env j (small j refl) in
       subst (λ (x : Option ℕ). AreTyped (one x) (terms.Parameter (first_of p k + j) ∷ [])) (sym i.1) (typed j i.0 i.1, tt)
 
-  import_typed : (o : Option Callee) (app : ℕ) (at : Span) (outs : List ℕ) → IsImportCall p (length outs) o → AllByRecursion HasFlow (output_flows app 0 at (ports_of (import_at p o)) outs)
+  pub import_typed : (o : Option Callee) (app : ℕ) (at : Span) (outs : List ℕ) → IsImportCall p (length outs) o → AllByRecursion HasFlow (output_flows app 0 at (ports_of (import_at p o)) outs)
       → AreTyped outs (flows.outputs_of p o)
   import_typed None app at outs call h = absurd call
   import_typed (Some (callees.Node k)) app at outs call h = absurd call
@@ -179,7 +179,7 @@ module _ (p : ProgramTree) (tys : Types) (flat : FlatProgram) where
         let copied : length given_flows ≡ length (n.outs ++ n.locals) = length-map (n.outs ++ n.locals) (λ (q : Param). copy_of (source_of (equated n env n.eqs rights) q.name)) in
         let rest_count : length (outs ++ locals) ≡ length (n.outs ++ n.locals) = lengths_append outs locals n.outs n.locals has.1 has.2 in
         let as_many : length env ≡ length (sources ++ given_flows) =
-            ap length (append_assoc ins outs locals) ∙ lengths_append ins (outs ++ locals) sources given_flows (sym enough) (rest_count ∙ sym copied) in
+        ap length (append_assoc ins outs locals) ∙ lengths_append ins (outs ++ locals) sources given_flows (sym enough) (rest_count ∙ sym copied) in
         variables_typed label (first_of p k) (params_of n) env (sources ++ given_flows) count as_many
         (all_first HasFlow (variable_flows label tys (first_of p k) (params_of n) env (sources ++ given_flows)) (right_flows p tys k n env n.eqs rights) h)
 
@@ -192,9 +192,9 @@ module _ (p : ProgramTree) (tys : Types) (flat : FlatProgram) where
         let has : HasVariables (Some n) (length ins) (length outs) (length locals) = subst (λ (o : Option NodeTree). HasVariables o (length ins) (length outs) (length locals)) found text.0 in
         let env = entered_environment label k sources ins outs locals rights text enough h in
         let range : AreTyped outs (flows.parameters_from (first_of p k + length ins) (length outs)) =
-            typed_range outs (first_of p k + length ins) (λ j i e.
-            let moved : first_of p k + (length ins + j) ≡ (first_of p k + length ins) + j = omega arith in
-            subst (λ m. HasType flat (type_at tys m) (flow_no i)) moved (env (length ins + j) i (middle ins outs locals j i e))) in
+        typed_range outs (first_of p k + length ins) (λ j i e.
+        let moved : first_of p k + (length ins + j) ≡ (first_of p k + length ins) + j = omega arith in
+        subst (λ m. HasType flat (type_at tys m) (flow_no i)) moved (env (length ins + j) i (middle ins outs locals j i e))) in
         subst (λ (o : Option NodeTree). AreTyped outs (flows.node_outputs (first_of p k) o)) (sym found)
         (subst (λ m. AreTyped outs (flows.parameters_from (first_of p k + length n.ins) m)) has.1 (subst (λ m. AreTyped outs (flows.parameters_from (first_of p k + m) (length outs))) has.0 range))
 
@@ -243,10 +243,10 @@ module _ (p : ProgramTree) (tys : Types) (flat : FlatProgram) where
             let callee = node_of (callee_of p name) in
             let gs : List ℕ = all_given n env args parts in
             let needed : length (flows.all_flows p k args) ≡ length (flows.inputs_of p (callee_of p name)) =
-                equal_unless (length (flows.all_flows p k args)) (length (flows.inputs_of p (callee_of p name))) place.at
-                (no_first (unless_equal (length (flows.all_flows p k args)) (length (flows.inputs_of p (callee_of p name))) place.at) (all_faults p k args) arity) in
+            equal_unless (length (flows.all_flows p k args)) (length (flows.inputs_of p (callee_of p name))) place.at
+            (no_first (unless_equal (length (flows.all_flows p k args)) (length (flows.inputs_of p (callee_of p name))) place.at) (all_faults p k args) arity) in
             let enough : length (map copy_of gs) ≡ length (inputs_of child) =
-                length-map gs copy_of ∙ all_length p k n env found count args parts h.1 known.1 ∙ needed ∙ sym (inputs_length p (callee_of p name) child h.0 h.2) in
+            length-map gs copy_of ∙ all_length p k n env found count args parts h.1 known.1 ∙ needed ∙ sym (inputs_length p (callee_of p name) child h.0 h.2) in
             call_outputs (callee_of p name) (label_of_node name x) (map copy_of gs) child h.0 h.2 enough
             (all_second HasFlow (all_flows p tys k n env args parts) (entered_flows p tys (label_of_node name x) callee (map copy_of gs) child) flow)
         root_typed (group args) at (notes.group parts) h known arity flow = all_typed args parts h known arity flow

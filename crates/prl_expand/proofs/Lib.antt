@@ -8,3 +8,11 @@ pub mod Ranks
 pub mod Existence
 pub mod Examples
 pub mod FlowTypes
+pub mod WellDefined
+pub mod WellFormed
+pub mod Formed
+pub mod Nested
+pub mod Unique
+pub mod Bodies
+pub mod Fitting
+pub mod Served

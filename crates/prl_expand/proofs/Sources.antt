@@ -49,7 +49,7 @@ get_second (x ∷ xs) ys t =
     let e : suc (length xs) + t ≡ suc (length xs + t) = omega arith in
     ap (slice_get (x ∷ xs ++ ys)) e ∙ get_second xs ys t
 
-index_some : (k : ℕ) (ns : List (List ℕ)) (j : ℕ) (name : List ℕ) → slice_get ns j ≡ Some name → (i : ℕ) × (index_from k ns name ≡ Some i)
+pub index_some : (k : ℕ) (ns : List (List ℕ)) (j : ℕ) (name : List ℕ) → slice_get ns j ≡ Some name → (i : ℕ) × (index_from k ns name ≡ Some i)
 index_some k [] j name e = absurd (cc)
 index_some k (x ∷ xs) zero name e =
     let at : bytes_eq x name ≡ true = (bytes_decides x name).1 (some_inner x name e) in

@@ -1,15 +1,21 @@
 //! Laws of expansions, as functions that do nothing: the contract of each is the law, over the definitions alone.
 
-ghost use Rattle.std.specs.Prelude.{ℕ, List, Option};
+ghost use Rattle.std.specs.Prelude.{◌≡◌, ◌≤◌, ℕ, List, Option, length};
+ghost use Rattle.prl_ast.specs.InRange.{IsInRange};
 ghost use Rattle.prl_ast.specs.Trees.{ProgramTree};
 ghost use Rattle.prl_base.specs.declared.values.Ty.{Ty};
+ghost use Rattle.prl_behaviours.specs.Annotations.{flows_in};
 ghost use Rattle.prl_behaviours.specs.Behaviours.{Satisfies, state_in};
+ghost use Rattle.prl_body.specs.Used.{HaveBodiesOf};
 ghost use Rattle.prl_body.specs.declared.bodies.CheckedBody.{CheckedBody};
 ghost use Rattle.prl_expand.specs.Correspondence.{IsOneToOne};
 ghost use Rattle.prl_expand.specs.Expansions.{Expansion, IsExpansion};
 ghost use Rattle.prl_expand.specs.Flats.{flat_of};
+ghost use Rattle.prl_flow.specs.Applications.{HaveBodies};
+ghost use Rattle.prl_flow.specs.Programs.{IsFlat};
 ghost use Rattle.prl_flow.specs.Rows.{Rows};
 ghost use Rattle.prl_flow.specs.States.{IsSolution};
+ghost use Rattle.prl_names.specs.Uses.{used_imports};
 ghost use Rattle.prl_types.specs.Typing.{IsTyped};
 
 /// The behaviours of a program are the solutions of the flat program of its expansion, for all bodies, sensor rows and dates.
@@ -22,4 +28,21 @@ pub fn behaviours_are_solutions()
 /// A program whose names and types are right has an expansion.
 pub fn programs_have_expansions()
     ensures { (p : ProgramTree) (asked : Option (List ℕ)) (main : ℕ) (types : List Ty) → IsTyped p asked main types → (e : Expansion) × IsExpansion p main e }
+{}
+
+/// And no other one.
+pub fn expansions_are_unique()
+    ensures { (p : ProgramTree) (main : ℕ) (one other : Expansion) → IsExpansion p main one → IsExpansion p main other → one ≡ other }
+{}
+
+/// The flat program of an expansion is well formed, where the program is in range and has at most 4,096 flows.
+pub fn flats_are_well_formed()
+    ensures { (p : ProgramTree) (asked : Option (List ℕ)) (main : ℕ) (types : List Ty) (e : Expansion) → IsInRange p → IsTyped p asked main types
+        → IsExpansion p main e → length (flows_in e) ≤ 4096 → IsFlat (flat_of p types main e) }
+{}
+
+/// Over bodies of the imports that main's expansion applies, each application of the flat program has a body that fits.
+pub fn expansions_have_bodies()
+    ensures { (p : ProgramTree) (asked : Option (List ℕ)) (main : ℕ) (types : List Ty) (e : Expansion) → IsInRange p → IsTyped p asked main types
+        → IsExpansion p main e → (bodies : List CheckedBody) → HaveBodiesOf p.imports (used_imports p main) bodies → HaveBodies (flat_of p types main e) bodies }
 {}

@@ -4,4 +4,7 @@
 
 mod laws;
 
-pub use laws::{behaviours_are_solutions, programs_have_expansions};
+pub use laws::{
+    behaviours_are_solutions, expansions_are_unique, expansions_have_bodies, flats_are_well_formed,
+    programs_have_expansions,
+};
