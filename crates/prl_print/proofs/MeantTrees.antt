@@ -8,13 +8,13 @@ use Rattle.prl_base.specs.declared.places.Span.{Span}
 use Rattle.prl_base.specs.declared.values.Value.TheVariants as values
 use Rattle.prl_ast.specs.declared.declarations.Placed.{Placed}
 use Rattle.prl_ast.specs.Trees.{Tree, tree, Root, const, var, apply, group, Trees, none, more, ProgramTree}
-use Rattle.prl_reader.specs.Lexemes.{Lexeme}
-use Rattle.prl_reader.specs.Grammars.{One, Then, Give, Either, Many, Named, FromFirst}
-use Rattle.prl_reader.specs.Language.{within, nested, Text}
-use Rattle.prl_reader.specs.Productions.{written}
+use Rattle.prl_grammar.specs.Lexemes.{Lexeme}
+use Rattle.prl_grammar.specs.Grammars.{One, Then, Give, Either, Many, Named, FromFirst}
+use Rattle.prl_grammar.specs.Language.{within, nested, Text}
+use Rattle.prl_grammar.specs.Productions.{written}
 use Rattle.prl_syntax.specs.declared.words.Fixed.{Fixed}
 use Rattle.prl_syntax.specs.declared.words.Fixed.TheVariants as fixed
-use Rattle.prl_reader.specs.Numbers.{positive, negative}
+use Rattle.prl_grammar.specs.Numbers.{positive, negative}
 use Rattle.prl_syntax.specs.Values.{small, ratio_with}
 use Rattle.prl_syntax.specs.Words.{class_of}
 use Rattle.prl_syntax.specs.Trees.{StemTree, prefixed, tree_from, root_of_name, trees_from, Declared, imported, sensor, actuator, node, with_declared, program_of}

@@ -7,18 +7,20 @@ use Rattle.prl_base.specs.declared.values.Value.TheVariants as values
 use Rattle.prl_ast.specs.Trees.{Tree, const, none}
 use Rattle.prl_ast.specs.declared.declarations.Param.{Param}
 use Rattle.prl_ast.specs.declared.declarations.Port.{Port}
-use Rattle.prl_reader.specs.Lexemes.{Lexeme}
-use Rattle.prl_reader.specs.Reads.{Reads}
-use Rattle.prl_reader.specs.Readers.{Deep}
-use Rattle.prl_reader.specs.Productions.{many, shape}
-use Rattle.prl_reader.specs.Language.{inner_of, Text, read_at}
-use Rattle.prl_reader.specs.LookAhead.{IsApart}
-use Rattle.prl_reader.proofs.Basics.{apart}
-use Rattle.prl_reader.proofs.Decides.{IsGuarded}
-use Rattle.prl_reader.proofs.Ending.{never_deep}
-use Rattle.prl_reader.proofs.Loops.{Steps}
-use Rattle.prl_reader.proofs.Nesting.{IsRight, IsFounded, widens, text_reads}
-use Rattle.prl_reader.proofs.Repeats.{many_step, leaves_fewer}
+use Rattle.prl_grammar.specs.Lexemes.{Lexeme}
+use Rattle.prl_grammar.specs.code.Reads.{Reads}
+use Rattle.prl_grammar.specs.code.Readers.{Deep}
+use Rattle.prl_grammar.specs.Productions.{many}
+use Rattle.prl_grammar.specs.code.Shapes.{shape}
+use Rattle.prl_grammar.specs.code.Languages.{inner_of, read_at}
+use Rattle.prl_grammar.specs.Language.{Text}
+use Rattle.prl_grammar.specs.code.LookAhead.{IsApart}
+use Rattle.prl_grammar.proofs.Basics.{apart}
+use Rattle.prl_grammar.proofs.Decides.{IsGuarded}
+use Rattle.prl_grammar.proofs.Ending.{never_deep}
+use Rattle.prl_grammar.proofs.Loops.{Steps}
+use Rattle.prl_grammar.proofs.Nesting.{IsRight, IsFounded, widens, text_reads}
+use Rattle.prl_grammar.proofs.Repeats.{many_step, leaves_fewer}
 use Rattle.prl_syntax.specs.declared.words.Fixed.{Fixed}
 use Rattle.prl_syntax.specs.declared.words.Fixed.TheVariants as fixed
 use Rattle.prl_syntax.specs.code.Links.{Step, ConstantLink, NextLink, PrefixLink}
