@@ -1,5 +1,6 @@
 -- For the crates above: lemmas over public definitions.
 pub mod Places
+pub mod Ceilings
 pub mod WordNumbers
 pub mod ReadOrder
 pub mod ShortestRepeats

@@ -1,7 +1,6 @@
 -- Which jobs read an instance: those from the first reader on, by the periodic precedence.
-use Rattle.std.proofs.Common.{◌≡◌, ◌+◌, ◌*◌, ◌/◌, ◌%◌, ◌<◌, ◌≤◌, ◌↔◌, ℕ, zero, suc, List, [], ◌∷◌, Some, inl, inr, refl, sym, ◌∙◌, ap, arith}
+use Rattle.std.proofs.Common.{◌≡◌, ◌+◌, ◌*◌, ◌/◌, ◌%◌, ◌≤◌, ◌↔◌, ℕ, zero, suc, List, [], ◌∷◌, Some, inl, inr, refl, sym, ◌∙◌, ap, arith}
 use Rattle.std.specs.Prelude.{ℤ, pos, negsuc, ◌*ℤ◌, ◌≤ℤ◌, slice_get}
-use Rattle.std.specs.Int.{div_ceil}
 use Rattle.std.proofs.Math.Nat.{mul-le-mul_left}
 use Rattle.std.proofs.lemmas.Nat.{le-div}
 use Rattle.std.proofs.lemmas.Bool.{cases_lt}
@@ -22,6 +21,7 @@ use Rattle.prl_plan.specs.Intervals.{natural}
 use Rattle.prl_plan.specs.Cells.{Reads, IsUsed}
 use Rattle.prl_plan.specs.FirstReaders.{IsFirstReader, first_reader, first_instance}
 use Rattle.prl_plan.specs.CellTurns.{IsAsked, IsAskedFrom}
+use Rattle.prl_plan.proofs.Ceilings.{ceil_most, ceil_least}
 use Rattle.prl_plan.proofs.Floors.{floor_least, mono, suc_is, pred_is}
 use Rattle.prl_plan.proofs.WalkLaws.{walk_preceding, operand_walks}
 
@@ -57,41 +57,6 @@ preceding_rises ty (operators.Fby c ∷ ops) are a b h =
     let x = pred_is a in
     let y = pred_is b in
     preceding_rises ty ops (λ j o is. are (suc j) o is) _ _ (omega (arith, ints, h, x, y))
-
--- the quotient rounded up
-ceil_most : (p n k : ℕ) → 1 ≤ k → p ≤ k * n → div_ceil p k ≤ n
-ceil_most p n k some h =
-    let e : k * (p / k) + p % k ≡ p = omega arith in
-    elim (cases_lt n (p / k)) [
-      | inl below ↦ absurd
-          (let up : k * (n + 1) ≤ k * (p / k) = mul-le-mul_left k (let g : n + 1 ≤ p / k = omega arith in g) in
-          let d : k * (n + 1) ≡ k * n + k = omega arith in
-          omega (arith, e, up, d, some, h))
-      | inr above ↦
-          elim (cases_lt (p / k) n) [
-            | inl under ↦ omega (arith, under)
-            | inr over ↦
-                (let same : p / k ≡ n = omega (arith, above, over) in
-                let f : k * (p / k) ≡ k * n = ap (λ (x : ℕ). k * x) same in
-                omega (arith, e, f, h, same))
-          ]
-    ]
-
-ceil_least : (p n k : ℕ) → 1 ≤ k → div_ceil p k ≤ n → p ≤ k * n
-ceil_least p n k some h =
-    let e : k * (p / k) + p % k ≡ p = omega arith in
-    let b : p % k < k = omega (arith, some) in
-    elim (cases_lt (p / k) n) [
-      | inl below ↦
-          (let up : k * (p / k + 1) ≤ k * n = mul-le-mul_left k (let g : p / k + 1 ≤ n = omega arith in g) in
-          let d : k * (p / k + 1) ≡ k * (p / k) + k = omega arith in
-          omega (arith, e, b, up, d))
-      | inr above ↦
-          (let same : p / k ≡ n = omega (arith, above, h) in
-          let none : p % k ≡ 0 = omega (arith, above, h) in
-          let f : k * (p / k) ≡ k * n = ap (λ (x : ℕ). k * x) same in
-          omega (arith, e, f, none))
-    ]
 
 up_most : (p n k : ℕ) → 1 ≤ k → k * p ≤ n → p ≤ n / k
 up_most p n k some h = le-div p n k some (let e : p * k ≡ k * p = omega arith in omega (arith, e, h))

@@ -1,5 +1,5 @@
 -- Words repeat with the hyperperiod, and first readers come early: at most a hyperperiod an operator.
-use Rattle.std.proofs.Common.{◌≡◌, ◌+◌, ◌-◌, ◌*◌, ◌/◌, ◌%◌, ◌<◌, ◌≤◌, ℕ, zero, suc, List, [], ◌∷◌, length, Some, refl, sym, ◌∙◌, ap, subst, arith}
+use Rattle.std.proofs.Common.{◌≡◌, ◌+◌, ◌-◌, ◌*◌, ◌<◌, ◌≤◌, ℕ, zero, suc, List, [], ◌∷◌, length, Some, refl, sym, ◌∙◌, ap, subst, arith}
 use Rattle.std.specs.Prelude.{ℤ, pos, ◌+ℤ◌, slice_get}
 use Rattle.std.specs.Int.{div_ceil}
 use Rattle.std.proofs.Math.Nat.{mul-le-mul_right}
@@ -20,6 +20,7 @@ use Rattle.prl_plan.specs.Precedence.{preceding}
 use Rattle.prl_plan.specs.FirstReaders.{first_reader}
 use Rattle.prl_plan.specs.Words.{IsWordOf, RepeatsAfter, number_at}
 use Rattle.prl_plan.specs.Plans.{edge_at, no_edge}
+use Rattle.prl_plan.proofs.Ceilings.{ceil_times}
 use Rattle.prl_plan.proofs.Periods.{preceding_shift}
 use Rattle.prl_plan.proofs.PlanNumbers.{walked_within}
 use Rattle.prl_plan.proofs.ReaderLaws.{reads_from, never_before}
@@ -52,16 +53,6 @@ module _ (ty : Ty) (hyper : ℕ) (ops : List Op) (are : (k : ℕ) (op : Op) → 
             let f : preceding ops (pos (n + jobs)) ≡ pos (m + d.0) = ap (λ (z : ℤ). preceding ops z) (sym e) ∙ c ∙ omega (arith, ints, b) in
             later.1 ∙ ap (λ (k : ℕ). operands.From k) (same_number later.0 (m + d.0) (sym a ∙ f))),
       )
-
--- a number rounded up to a multiple is less than one multiple higher
-ceil_times : (p k : ℕ) → 1 ≤ k → div_ceil p k * k ≤ p + k
-ceil_times p k some =
-    let e : k * (p / k) + p % k ≡ p = omega arith in
-    let f : (p / k + 1) * k ≡ p / k * k + k = omega arith in
-    let g : k * (p / k) ≡ p / k * k = omega arith in
-    let h : div_ceil p k ≤ p / k + 1 = omega arith in
-    let up : div_ceil p k * k ≤ (p / k + 1) * k = mul-le-mul_right k h in
-    omega (arith, e, f, g, up)
 
 pub first_reader_early : (ty : Ty) (hyper : ℕ) (ops : List Op) → ((k : ℕ) (op : Op) → slice_get ops k ≡ Some op → IsOperatorFor ty op) →
     (producer consumer : Clock) → 1 ≤ hyper → TakeClock hyper ops producer consumer → first_reader ops * consumer.period ≤ length ops * hyper

@@ -1,15 +1,15 @@
 -- Counts of instances in a hyperperiod from clocks, and how many constants there can be at most.
-use Rattle.std.proofs.Common.{◌≡◌, ◌+◌, ◌*◌, ◌/◌, ◌%◌, ◌<◌, ◌≤◌, ◌^◌, ℕ, zero, suc, List, [], ◌∷◌, Some, inl, inr, refl, sym, ◌∙◌, ap, subst, arith, length, drop, get_or, map, sum}
+use Rattle.std.proofs.Common.{◌≡◌, ◌+◌, ◌*◌, ◌/◌, ◌<◌, ◌≤◌, ◌^◌, ℕ, zero, suc, List, [], ◌∷◌, Some, refl, sym, ◌∙◌, ap, subst, arith, length, drop, get_or, map, sum}
 use Rattle.std.specs.Prelude.{slice_get, sum_by}
 use Rattle.std.proofs.lemmas.List.Sums.{sum-map, get_or-le-sum_by}
 use Rattle.std.proofs.lemmas.Option.{slice_get_read}
 use Rattle.std.specs.Int.{div_ceil}
 use Rattle.std.proofs.Math.Nat.{mul-le-mul_left, eq_of_mul-eq-mul_right, div-eq_of_eq-mul_left}
-use Rattle.std.proofs.lemmas.Bool.{cases_lt}
 use Rattle.prl_base.specs.Operators.{IsResultClock}
 use Rattle.prl_base.specs.declared.operators.Clock.{Clock}
 use Rattle.prl_base.specs.declared.operators.Op.{Op}
 use Rattle.prl_base.specs.declared.operators.Op.TheVariants as operators
+use Rattle.prl_plan.proofs.Ceilings.{ceil_most}
 use Rattle.prl_plan.specs.declared.graphs.Edge.{Edge}
 use Rattle.prl_plan.specs.declared.graphs.Task.{Task}
 use Rattle.prl_plan.specs.declared.graphs.TaskGraph.{TaskGraph}
@@ -33,25 +33,6 @@ factor_here (operators.Shift q) count before is some before_some = tt
 factor_here operators.Tail count before is some before_some = tt
 factor_here (operators.Cons c) count before is some before_some = tt
 factor_here (operators.Fby c) count before is some before_some = tt
-
--- the quotient rounded up
-ceil_most : (p n k : ℕ) → 1 ≤ k → p ≤ k * n → div_ceil p k ≤ n
-ceil_most p n k some h =
-    let e : k * (p / k) + p % k ≡ p = omega arith in
-    elim (cases_lt n (p / k)) [
-      | inl below ↦ absurd
-          (let up : k * (n + 1) ≤ k * (p / k) = mul-le-mul_left k (let g : n + 1 ≤ p / k = omega arith in g) in
-          let d : k * (n + 1) ≡ k * n + k = omega arith in
-          omega (arith, e, up, d, some, h))
-      | inr above ↦
-          elim (cases_lt (p / k) n) [
-            | inl under ↦ omega (arith, under)
-            | inr over ↦
-                (let same : p / k ≡ n = omega (arith, above, over) in
-                let f : k * (p / k) ≡ k * n = ap (λ (x : ℕ). k * x) same in
-                omega (arith, e, f, h, same))
-          ]
-    ]
 
 pub counts_start : (ops : List Op) (count : ℕ) → HaveCounts ops count → IsCount count
 counts_start [] count counts = counts

@@ -1,0 +1,50 @@
+-- Quotients rounded up.
+use Rattle.std.proofs.Common.{◌≡◌, ◌+◌, ◌*◌, ◌/◌, ◌%◌, ◌<◌, ◌≤◌, ℕ, inl, inr, ap, arith}
+use Rattle.std.specs.Int.{div_ceil}
+use Rattle.std.proofs.Math.Nat.{mul-le-mul_left, mul-le-mul_right}
+use Rattle.std.proofs.lemmas.Bool.{cases_lt}
+
+-- the least whole number whose product is not below
+pub ceil_most : (p n k : ℕ) → 1 ≤ k → p ≤ k * n → div_ceil p k ≤ n
+ceil_most p n k some h =
+    let e : k * (p / k) + p % k ≡ p = omega arith in
+    elim (cases_lt n (p / k)) [
+      | inl below ↦ absurd
+          (let up : k * (n + 1) ≤ k * (p / k) = mul-le-mul_left k (let g : n + 1 ≤ p / k = omega arith in g) in
+          let d : k * (n + 1) ≡ k * n + k = omega arith in
+          omega (arith, e, up, d, some, h))
+      | inr above ↦
+          elim (cases_lt (p / k) n) [
+            | inl under ↦ omega (arith, under)
+            | inr over ↦
+                (let same : p / k ≡ n = omega (arith, above, over) in
+                let f : k * (p / k) ≡ k * n = ap (λ (x : ℕ). k * x) same in
+                omega (arith, e, f, h, same))
+          ]
+    ]
+
+pub ceil_least : (p n k : ℕ) → 1 ≤ k → div_ceil p k ≤ n → p ≤ k * n
+ceil_least p n k some h =
+    let e : k * (p / k) + p % k ≡ p = omega arith in
+    let b : p % k < k = omega (arith, some) in
+    elim (cases_lt (p / k) n) [
+      | inl below ↦
+          (let up : k * (p / k + 1) ≤ k * n = mul-le-mul_left k (let g : p / k + 1 ≤ n = omega arith in g) in
+          let d : k * (p / k + 1) ≡ k * (p / k) + k = omega arith in
+          omega (arith, e, b, up, d))
+      | inr above ↦
+          (let same : p / k ≡ n = omega (arith, above, h) in
+          let none : p % k ≡ 0 = omega (arith, above, h) in
+          let f : k * (p / k) ≡ k * n = ap (λ (x : ℕ). k * x) same in
+          omega (arith, e, f, none))
+    ]
+
+-- a number rounded up to a multiple is less than one multiple higher
+pub ceil_times : (p k : ℕ) → 1 ≤ k → div_ceil p k * k ≤ p + k
+ceil_times p k some =
+    let e : k * (p / k) + p % k ≡ p = omega arith in
+    let f : (p / k + 1) * k ≡ p / k * k + k = omega arith in
+    let g : k * (p / k) ≡ p / k * k = omega arith in
+    let h : div_ceil p k ≤ p / k + 1 = omega arith in
+    let up : div_ceil p k * k ≤ (p / k + 1) * k = mul-le-mul_right k h in
+    omega (arith, e, f, g, up)
