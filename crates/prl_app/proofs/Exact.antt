@@ -8,8 +8,8 @@ use Rattle.prl_app.specs.declared.faults.Part.TheVariants as parts
 use Rattle.prl_app.specs.declared.faults.Fault.{Fault}
 use Rattle.prl_app.specs.declared.stages.Stage.{Stage}
 use Rattle.prl_app.specs.declared.stages.Stop.TheVariants as stops
-use Rattle.prl_app.specs.declared.words.Command.{Command}
-use Rattle.prl_app.specs.Words.{command_of}
+use Rattle.prl_app.specs.declared.arguments.Command.{Command}
+use Rattle.prl_app.specs.Arguments.{command_of}
 use Rattle.prl_app.specs.Given.{Folder, Given, IsContent, IsGiven}
 use Rattle.prl_app.specs.Stages.{Comes, stages_of}
 use Rattle.prl_app.specs.Endings.{Outside, Ends, IsExact, NoFault, NoneFailed, ending_of}

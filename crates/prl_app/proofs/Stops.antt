@@ -23,7 +23,7 @@ use Rattle.prl_app.specs.declared.stages.Stage.TheVariants as stages
 use Rattle.prl_app.specs.declared.stages.Stop.{Stop}
 use Rattle.prl_app.specs.declared.stages.Stop.TheVariants as stops
 use Rattle.prl_app.specs.declared.reading.Texts.{Texts}
-use Rattle.prl_app.specs.declared.words.Command.{Command}
+use Rattle.prl_app.specs.declared.arguments.Command.{Command}
 use Rattle.prl_app.specs.Given.{Folder, Given, IsContent, IsGiven, content_of, text_of, file_of, read_as}
 use Rattle.prl_app.specs.Parts.{IsProgram, IsMain, RefusesBodies, told_parse, told_types, told_body}
 use Rattle.prl_app.specs.Stages.{Holds, Refuses, Comes, files, stages_after, stages_of}

@@ -25,7 +25,7 @@ use Rattle.prl_app.specs.declared.faults.Fault.{Fault}
 use Rattle.prl_app.specs.declared.faults.Fault.TheVariants as faults
 use Rattle.prl_app.specs.declared.stages.Stop.{Stop}
 use Rattle.prl_app.specs.declared.stages.Stop.TheVariants as stops
-use Rattle.prl_app.specs.declared.words.Command.{Command}
+use Rattle.prl_app.specs.declared.arguments.Command.{Command}
 use Rattle.prl_app.specs.Given.{file_of}
 
 -- the name that the command gives to a file

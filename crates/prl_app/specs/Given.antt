@@ -5,7 +5,7 @@ use Rattle.prl_app.specs.declared.faults.Part.TheVariants as parts
 use Rattle.prl_app.specs.declared.faults.Fault.{Fault}
 use Rattle.prl_app.specs.declared.faults.Fault.TheVariants as faults
 use Rattle.prl_app.specs.declared.reading.TheConstants.{MAX_PROGRAM, MAX_BODIES, MAX_SENSORS, MAX_SCHEDULE}
-use Rattle.prl_app.specs.declared.words.Command.{Command}
+use Rattle.prl_app.specs.declared.arguments.Command.{Command}
 
 -- what each file gives; the name of the node that is to be main, where one is asked for; and the date
 pub record Given : Type 0 where

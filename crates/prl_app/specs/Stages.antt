@@ -15,8 +15,8 @@ use Rattle.prl_app.specs.declared.faults.Part.TheVariants as parts
 use Rattle.prl_app.specs.declared.faults.Fault.{Fault}
 use Rattle.prl_app.specs.declared.stages.Stage.{Stage}
 use Rattle.prl_app.specs.declared.stages.Stage.TheVariants as stages
-use Rattle.prl_app.specs.declared.words.Mode.{Mode}
-use Rattle.prl_app.specs.declared.words.Mode.TheVariants as modes
+use Rattle.prl_app.specs.declared.arguments.Mode.{Mode}
+use Rattle.prl_app.specs.declared.arguments.Mode.TheVariants as modes
 use Rattle.prl_app.specs.Given.{Given, content_of, text_of}
 use Rattle.prl_app.specs.Parts.{IsProgram, IsMain, AreBodies, RefusesBodies, told_parse, told_types, told_body}
 use Rattle.prl_app.specs.Built.{IsFormed, IsTimely, HasHorizon, HasRows, relay_of, IsWholeRun, HasFewValues, RefusesForm, RefusesTiming, RefusesHorizon, RefusesRows, RefusesSchedule, RefusesValues}

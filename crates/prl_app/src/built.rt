@@ -19,11 +19,11 @@ ghost use Rattle.prl_app.specs.Stages.{Holds, IsText};
 ghost use Rattle.prl_app.specs.code.Numbers.{AreNumbers};
 ghost use Rattle.prl_app.specs.code.Stops.{given_of, stop_of, StopsAt, StopsBy};
 
+use crate::arguments::{Command, Mode};
 use crate::faults::{Fault, Part, RunFault};
 use crate::reading::Texts;
 use crate::runs::{Run, chain_run, run_text};
 use crate::stages::{Stage, Stop};
-use crate::words::{Command, Mode};
 use prl_ast::Program;
 use prl_base::{Name, TaskNo, Ty};
 use prl_body::Bodies;

@@ -5,10 +5,10 @@ ghost use Rattle.prl_io.specs.Growth.{IsWritten};
 ghost use Rattle.prl_app.specs.ErrorLines.{file_name, named_line, placed_line, grammar_line, mismatch_line, type_free_line, types_line, limit_line, bodies_line, short_line, sensors_line, illegal_line, unfinished_line, schedule_line, line_of_fault, line_of_stop, line_of};
 ghost use Rattle.prl_app.specs.Endings.{IsTold};
 
+use crate::arguments::Command;
 use crate::endings::Ending;
 use crate::faults::{Fault, GrammarFault, Part, RunFault};
 use crate::stages::Stop;
-use crate::words::Command;
 use itoa::Buffer;
 use prl_base::{Label, Limit, Ty};
 use prl_body::BodyFault;

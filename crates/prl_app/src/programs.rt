@@ -10,10 +10,10 @@ ghost use Rattle.prl_app.specs.Parts.{told_parse, told_types, told_body, IsProgr
 ghost use Rattle.prl_app.specs.Stages.{Holds};
 ghost use Rattle.prl_app.specs.code.Stops.{given_of, stop_of, StopsAt};
 
+use crate::arguments::Command;
 use crate::faults::{Fault, GrammarFault};
 use crate::reading::{MAX_BODIES, MAX_PROGRAM, Texts};
 use crate::stages::{Stage, Stop};
-use crate::words::Command;
 use prl_ast::Program;
 use prl_body::{Bodies, BodyFault, BodyTexts, check_bodies};
 use prl_bodytext::parse_bodies;

@@ -5,12 +5,12 @@ ghost use Rattle.std.specs.String.{string_bytes};
 ghost use Rattle.prl_app.specs.Endings.{Answers};
 ghost use Rattle.prl_app.specs.code.Performed.{Performs, line_is};
 
+use crate::arguments::{ArgumentsFault, Command, read_arguments};
 use crate::endings::{Ending, status_of};
 use crate::laws::stages_end_one_way;
 use crate::lines::tell;
 use crate::pipeline::answer;
 use crate::stages::Stop;
-use crate::words::{Command, WordsFault, read_words};
 use prl_io::{Files, Probe, Sink, write_all};
 use std::alloc::Global;
 use std::sync::Wait;
@@ -37,10 +37,10 @@ fn perform<F: Files, S: Sink>(
     ensures line { line_is (map string_bytes words.now) result.0 result.1 }
     ensures kept { (F.seen files.new).folder ≡ (F.seen files.old).folder }
 {
-    let command = match read_words(alloc, words) {
+    let command = match read_arguments(alloc, words) {
         Ok(command) => command,
-        Err(WordsFault::Refused) => return (None, Ending::Words),
-        Err(WordsFault::Memory) => return (None, Ending::Stopped(Stop::Memory)),
+        Err(ArgumentsFault::Refused) => return (None, Ending::Words),
+        Err(ArgumentsFault::Memory) => return (None, Ending::Stopped(Stop::Memory)),
     };
     let text = match answer(alloc, files, &command) {
         Ok(text) => text,

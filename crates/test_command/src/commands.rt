@@ -55,7 +55,12 @@ fn programs_rows_and_dates(rt: HostRuntime) -> Result<(), Fail> {
             (9, "", "82 order 3\n"),
         ),
         ("i", "i,0,x\n", "10", (9, "", "83 value 1\n")),
-        ("i", "i,0,9223372036854775808\n", "10", (9, "", "83 value 1\n")),
+        (
+            "i",
+            "i,0,9223372036854775808\n",
+            "10",
+            (9, "", "83 value 1\n"),
+        ),
         ("i", "i,0,1\no,0,1\n", "10", (9, "", "81 no sensor 2\n")),
         ("i", "i,0,1\ni,1\n", "10", (9, "", "80 row 2\n")),
         (
@@ -64,12 +69,7 @@ fn programs_rows_and_dates(rt: HostRuntime) -> Result<(), Fail> {
             "60",
             (9, "", "84 short i 5 6\n"),
         ),
-        (
-            "i",
-            SIX,
-            "2147483647",
-            (9, "", "84 short i 6 214748365\n"),
-        ),
+        ("i", SIX, "2147483647", (9, "", "84 short i 6 214748365\n")),
         ("i", SIX, "2147483648", (2, "", USAGE)),
     ];
     for (right, rows, until, told) in cases {
@@ -196,12 +196,12 @@ fn words_that_are_refused(rt: HostRuntime) -> Result<(), Fail> {
         &[
             flows[0],
             flows[1],
-            "--sensors",
-            "i.csv",
             flows[2],
             "p.prl",
+            "--sensors=i.csv",
             "--until",
             "10",
+            "--until=10",
         ],
         &[
             flows[0],

@@ -6,7 +6,7 @@ use Rattle.prl_app.specs.declared.faults.Fault.{Fault}
 use Rattle.prl_app.specs.declared.stages.Stage.{Stage}
 use Rattle.prl_app.specs.declared.stages.Stop.{Stop}
 use Rattle.prl_app.specs.declared.stages.Stop.TheVariants as stops
-use Rattle.prl_app.specs.declared.words.Command.{Command}
+use Rattle.prl_app.specs.declared.arguments.Command.{Command}
 use Rattle.prl_app.specs.declared.faults.Part.{Part}
 use Rattle.prl_app.specs.declared.stages.Stage.TheVariants as stages
 use Rattle.prl_app.specs.Given.{Folder, Given, IsContent, IsGiven, file_of}

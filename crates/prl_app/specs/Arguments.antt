@@ -1,0 +1,191 @@
+-- The arguments of the command line.
+use Rattle.std.specs.Prelude.{◌==◌, ◌&&◌, ◌||◌, ℕ, zero, suc, Bool, true, false, not, List, [], ◌∷◌, ◌++◌, drop, length, take, Option, Some, None, is_some, nat_le, if◌then◌else◌, codes}
+use Rattle.std.specs.List.{list_all}
+use Rattle.std.specs.Option.{option_map}
+use Rattle.std.specs.Str.{bytes_eq}
+use Rattle.prl_base.specs.Decimals.{decimal_of}
+use Rattle.prl_base.specs.Options.{◌>>=◌}
+use Rattle.prl_app.specs.declared.arguments.TheConstants.{MAX_UNTIL}
+use Rattle.prl_app.specs.declared.arguments.Mode.{Mode}
+use Rattle.prl_app.specs.declared.arguments.Mode.TheVariants as modes
+use Rattle.prl_app.specs.declared.arguments.Setting.{Setting}
+use Rattle.prl_app.specs.declared.arguments.Setting.TheVariants as settings
+use Rattle.prl_app.specs.declared.arguments.Command.{Command}
+
+-- the mode of a name
+abbrev pub mode_named : List ℕ → Option Mode
+mode_named name =
+    if bytes_eq name (codes "flows") then Some modes.Flows
+    else if bytes_eq name (codes "print") then Some modes.Print
+    else if bytes_eq name (codes "replay") then Some modes.Replay
+    else None
+
+-- the options that a mode needs, and those that it may have
+abbrev pub needs : Mode → Setting → Bool
+needs modes.Print settings.Program = true
+needs modes.Print other = false
+needs modes.Flows settings.Program = true
+needs modes.Flows settings.Sensors = true
+needs modes.Flows settings.Until = true
+needs modes.Flows other = false
+needs modes.Replay settings.Program = true
+needs modes.Replay settings.Sensors = true
+needs modes.Replay settings.Schedule = true
+needs modes.Replay settings.Until = true
+needs modes.Replay other = false
+
+abbrev pub may : Mode → Setting → Bool
+may modes.Print other = false
+may modes.Flows settings.Bodies = true
+may modes.Flows settings.Node = true
+may modes.Flows other = false
+may modes.Replay settings.Bodies = true
+may modes.Replay settings.Node = true
+may modes.Replay other = false
+
+abbrev pub all_settings : List Setting
+all_settings =
+    settings.Program ∷ settings.Bodies ∷ settings.Sensors ∷ settings.Schedule ∷ settings.Node ∷ settings.Until ∷ []
+
+-- how an option is written
+abbrev pub front_of : Setting → List ℕ
+front_of settings.Program = codes "--program"
+front_of settings.Bodies = codes "--bodies"
+front_of settings.Sensors = codes "--sensors"
+front_of settings.Schedule = codes "--schedule"
+front_of settings.Node = codes "--node"
+front_of settings.Until = codes "--until"
+
+-- what stands after the front, where the text begins with it
+abbrev pub after_front : List ℕ → List ℕ → Option (List ℕ)
+after_front front text = if bytes_eq (take (length front) text) front then Some (drop (length front) text) else None
+
+-- after an option in its word stands nothing, or `=` and its value
+abbrev pub own_value : List ℕ → Option (Option (List ℕ))
+own_value [] = Some None
+own_value (b ∷ value) = if b == 61 then Some (Some value) else None
+
+-- an option, with its value where that stands in the same word
+abbrev pub Named : Type 0
+Named = Setting × Option (List ℕ)
+
+abbrev pub named_by : Setting → List ℕ → Option Named
+named_by setting word = do
+  rest ← after_front (front_of setting) word
+  value ← own_value rest
+  Some (setting, value)
+
+abbrev pub or_else : Option Named → Option Named → Option Named
+or_else (Some named) other = Some named
+or_else None other = other
+
+-- the one of these options that the word names
+abbrev pub named_in : List Setting → List ℕ → Option Named
+named_in [] word = None
+named_in (setting ∷ rest) word = or_else (named_by setting word) (named_in rest word)
+
+-- the values of options, where they are given
+pub record Values : Type 0 where
+  pub program : Option (List ℕ)
+  pub bodies : Option (List ℕ)
+  pub sensors : Option (List ℕ)
+  pub schedule : Option (List ℕ)
+  pub node : Option (List ℕ)
+  pub until : Option (List ℕ)
+
+abbrev pub nothing : Values
+nothing = record { program = None; bodies = None; sensors = None; schedule = None; node = None; until = None }
+
+abbrev pub value_of : Values → Setting → Option (List ℕ)
+value_of given settings.Program = given.program
+value_of given settings.Bodies = given.bodies
+value_of given settings.Sensors = given.sensors
+value_of given settings.Schedule = given.schedule
+value_of given settings.Node = given.node
+value_of given settings.Until = given.until
+
+abbrev pub with_value : Values → Setting → List ℕ → Values
+with_value given settings.Program value = record given { program = Some value }
+with_value given settings.Bodies value = record given { bodies = Some value }
+with_value given settings.Sensors value = record given { sensors = Some value }
+with_value given settings.Schedule value = record given { schedule = Some value }
+with_value given settings.Node value = record given { node = Some value }
+with_value given settings.Until value = record given { until = Some value }
+
+-- the value of an option is not empty and does not begin with `-`
+abbrev pub is_value : List ℕ → Bool
+is_value [] = false
+is_value (b ∷ bs) = not (b == 45)
+
+-- one option more, which is not given yet
+abbrev pub with_option : Values → Setting → List ℕ → Option Values
+with_option given setting value =
+    if is_value value && not (is_some (value_of given setting)) then Some (with_value given setting value) else None
+
+-- the value of an option, from its own word or else the next one, and the words after it
+abbrev pub value_from : Option (List ℕ) → List (List ℕ) → Option (List ℕ × List (List ℕ))
+value_from (Some value) later = Some (value, later)
+value_from None [] = None
+value_from None (value ∷ after) = Some (value, after)
+
+-- the values with those of the option that stands first, and the words after it
+abbrev pub first_option : Values → List ℕ → List (List ℕ) → Option (Values × List (List ℕ))
+first_option given word later = do
+  named ← named_in all_settings word
+  taken ← value_from named.1 later
+  more ← with_option given named.0 taken.0
+  Some (more, taken.1)
+
+-- The values with those of all these words, at most so many options.
+abbrev pub with_options : ℕ → Values → List (List ℕ) → Option Values
+with_options n given [] = Some given
+with_options zero given (word ∷ later) = None
+with_options (suc n) given (word ∷ later) = do
+  read ← first_option given word later
+  with_options n read.0 read.1
+
+-- the same of all options that they can hold
+abbrev pub with_words : Values → List (List ℕ) → Option Values
+with_words given words = with_options (length words) given words
+
+-- a mode has the options that it needs, and none but these and those that it may have
+abbrev pub fits : Mode → Values → Setting → Bool
+fits mode given setting =
+    if is_some (value_of given setting) then needs mode setting || may mode setting else not (needs mode setting)
+
+-- a number of 1 to 20 digits that is at most so much
+abbrev pub number_up_to : ℕ → List ℕ → Option ℕ
+number_up_to most text = do
+  number ← decimal_of text
+  if nat_le (length text) 20 && nat_le number most then Some number else None
+
+-- the date, 0 where none is given
+abbrev pub date_of : Option (List ℕ) → Option ℕ
+date_of None = Some 0
+date_of (Some text) = number_up_to MAX_UNTIL text
+
+abbrev pub command_with : Mode → Values → ℕ → Command
+command_with mode given until = record {
+  mode = mode;
+  program = given.program;
+  bodies = given.bodies;
+  sensors = given.sensors;
+  schedule = given.schedule;
+  node = given.node;
+  until = until;
+}
+
+-- the command of a mode with these options
+unfoldable pub command_of_mode : Mode → List (List ℕ) → Option Command
+command_of_mode mode words = do
+  given ← with_words nothing words
+  until ← date_of given.until
+  if list_all (fits mode given) all_settings then Some (command_with mode given until) else None
+
+-- The command that the words ask for: the program's own name, which is not read, the mode, and its options.
+abbrev pub command_of : List (List ℕ) → Option Command
+command_of [] = None
+command_of (own ∷ []) = None
+command_of (own ∷ name ∷ rest) = do
+  mode ← mode_named name
+  command_of_mode mode rest

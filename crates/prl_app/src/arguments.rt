@@ -1,0 +1,437 @@
+//! The arguments of the command line.
+
+ghost use Rattle.std.specs.Prelude.{◌≡◌, ◌<◌, ◌≤◌, ◌^◌, map, IfOk, IfSome, IsSome, Some, Err, None};
+ghost use Rattle.std.specs.List.{list_all};
+ghost use Rattle.std.specs.Option.{option_map};
+ghost use Rattle.std.specs.String.{string_bytes};
+ghost use Rattle.prl_app.specs.Arguments.{after_front, all_settings, command_of, command_of_mode, date_of, first_option, fits, front_of, is_value, may, mode_named, named_by, named_in, needs, nothing, number_up_to, own_value, value_from, value_of, with_option, with_options, with_value, with_words};
+ghost use Rattle.prl_app.specs.code.Settings.{bytes_of, given_by, named_as, wanted_command};
+
+use prl_base::{Label, decimal_of};
+use std::alloc::{AllocError, Global};
+
+/// The greatest date up to which a mode may run, in ticks.
+pub const MAX_UNTIL: u32 = 2_147_483_647;
+
+/// What the command is to do.
+#[derive(Clone, Copy, Debug, PartialEq, Eq)]
+pub enum Mode {
+    /// Writes the flows of the actuators.
+    Flows,
+    /// Writes the program in its printed form.
+    Print,
+    /// Replays a schedule: writes what the jobs read, and the flows of the actuators.
+    Replay,
+}
+
+/// What an option of the command line gives.
+#[derive(Clone, Copy, Debug, PartialEq, Eq)]
+pub enum Setting {
+    /// `--program`: the file of the program.
+    Program,
+    /// `--bodies`: the file of the bodies of imported nodes.
+    Bodies,
+    /// `--sensors`: the file of the sensor rows.
+    Sensors,
+    /// `--schedule`: the file of the schedule.
+    Schedule,
+    /// `--node`: the name of the main node.
+    Node,
+    /// `--until`: the date up to which the mode runs, in ticks.
+    Until,
+}
+
+/// What the arguments of a command line ask for. An option that is not given is None, and a number that is
+/// not given is 0.
+#[derive(Debug, Drop)]
+pub struct Command {
+    pub mode: Mode,
+    /// The file of the program.
+    pub program: Option<Label>,
+    /// The file of the bodies of imported nodes.
+    pub bodies: Option<Label>,
+    /// The file of the sensor rows.
+    pub sensors: Option<Label>,
+    /// The file of the schedule.
+    pub schedule: Option<Label>,
+    /// The name of the main node; where none is given it is the last node of the program.
+    pub node: Option<Label>,
+    /// The date up to which the mode runs, in ticks.
+    pub until: u32,
+}
+
+/// Why arguments are no command.
+#[derive(Clone, Copy, Debug, PartialEq, Eq)]
+pub enum ArgumentsFault {
+    /// The arguments are not of the form of a command.
+    Refused,
+    Memory,
+}
+
+impl From<AllocError> for ArgumentsFault {
+    ghost use Rattle.std.specs.Prelude.{◌≡◌};
+    ghost use Rattle.prl_app.specs.declared.arguments.ArgumentsFault.TheVariants.{Memory};
+
+    ghost from_gives = { λ _ e. e ≡ Memory };
+
+    fn from(_error: AllocError) -> ArgumentsFault {
+        ArgumentsFault::Memory
+    }
+}
+
+/// The values of options, where they are given.
+#[derive(Clone, Copy)]
+struct Given<'a> {
+    program: Option<&'a [u8]>,
+    bodies: Option<&'a [u8]>,
+    sensors: Option<&'a [u8]>,
+    schedule: Option<&'a [u8]>,
+    node: Option<&'a [u8]>,
+    until: Option<&'a [u8]>,
+}
+
+/// An option, with its value where that stands in the same word.
+type Named<'a> = (Setting, Option<&'a [u8]>);
+
+/// The value of an option, and the words after it.
+type Taken<'a> = (&'a [u8], &'a [String]);
+
+/// Values of options, and the words after them.
+type Read<'a> = (Given<'a>, &'a [String]);
+
+/// All options.
+static SETTINGS: [Setting; 6] = [
+    Setting::Program,
+    Setting::Bodies,
+    Setting::Sensors,
+    Setting::Schedule,
+    Setting::Node,
+    Setting::Until,
+];
+
+/// The mode of a name.
+fn mode_named(name: &[u8]) -> Option<Mode>
+    ensures { result ≡ mode_named name.now }
+{
+    if name == b"flows".as_slice() {
+        Some(Mode::Flows)
+    } else if name == b"print".as_slice() {
+        Some(Mode::Print)
+    } else if name == b"replay".as_slice() {
+        Some(Mode::Replay)
+    } else {
+        None
+    }
+}
+
+/// Whether the mode needs the option.
+fn needs(mode: Mode, setting: Setting) -> bool
+    ensures { result ≡ needs mode setting }
+{
+    match (mode, setting) {
+        (Mode::Print, Setting::Program) => true,
+        (Mode::Print, _) => false,
+        (Mode::Flows, Setting::Program | Setting::Sensors | Setting::Until) => true,
+        (Mode::Flows, _) => false,
+        (Mode::Replay, Setting::Program | Setting::Sensors | Setting::Schedule | Setting::Until) =>
+            true,
+        (Mode::Replay, _) => false,
+    }
+}
+
+/// Whether the mode may have the option, beside those that it needs.
+fn may(mode: Mode, setting: Setting) -> bool
+    ensures { result ≡ may mode setting }
+{
+    match (mode, setting) {
+        (Mode::Print, _) => false,
+        (Mode::Flows | Mode::Replay, Setting::Bodies | Setting::Node) => true,
+        (Mode::Flows | Mode::Replay, _) => false,
+    }
+}
+
+/// How an option is written.
+fn front_of(setting: Setting) -> &'static [u8]
+    ensures { result.now ≡ front_of setting }
+{
+    match setting {
+        Setting::Program => b"--program",
+        Setting::Bodies => b"--bodies",
+        Setting::Sensors => b"--sensors",
+        Setting::Schedule => b"--schedule",
+        Setting::Node => b"--node",
+        Setting::Until => b"--until",
+    }
+}
+
+/// What stands after the front, where the text begins with it.
+fn after_front<'a>(front: &[u8], text: &'a [u8]) -> Option<&'a [u8]>
+    ensures { option_map (λ rest. rest.now) result ≡ after_front front.now text.now }
+{
+    text.strip_prefix(front)
+}
+
+/// What stands after an option in its word: nothing, or `=` and its value.
+fn own_value(rest: &[u8]) -> Option<Option<&[u8]>>
+    ensures { option_map bytes_of result ≡ own_value rest.now }
+{
+    match rest {
+        [] => Some(None),
+        [first, value @ ..] => {
+            if *first == b'=' {
+                Some(Some(value))
+            } else {
+                None
+            }
+        }
+    }
+}
+
+/// The option, where the word names it.
+fn named_by<'a>(setting: Setting, word: &'a [u8]) -> Option<Named<'a>>
+    ensures { option_map named_as result ≡ named_by setting word.now }
+{
+    let rest = after_front(front_of(setting), word)?;
+    let value = own_value(rest)?;
+    Some((setting, value))
+}
+
+/// The one of these options that the word names.
+fn named_in<'a>(settings: &[Setting], word: &'a [u8]) -> Option<Named<'a>>
+    ensures { option_map named_as result ≡ named_in settings.now word.now }
+{
+    match settings {
+        [] => None,
+        [first, rest @ ..] => match named_by(*first, word) {
+            Some(named) => Some(named),
+            None => named_in(rest, word),
+        },
+    }
+}
+
+/// No option is given.
+fn nothing<'a>() -> Given<'a>
+    ensures { given_by result ≡ nothing }
+{
+    Given {
+        program: None,
+        bodies: None,
+        sensors: None,
+        schedule: None,
+        node: None,
+        until: None,
+    }
+}
+
+impl<'a> Given<'a> {
+    /// The value of an option.
+    fn value_of(self, setting: Setting) -> Option<&'a [u8]>
+        ensures { bytes_of result ≡ value_of (given_by self.entry) setting }
+    {
+        match setting {
+            Setting::Program => self.program,
+            Setting::Bodies => self.bodies,
+            Setting::Sensors => self.sensors,
+            Setting::Schedule => self.schedule,
+            Setting::Node => self.node,
+            Setting::Until => self.until,
+        }
+    }
+
+    /// The values with one more.
+    fn with_value(self, setting: Setting, value: &'a [u8]) -> Given<'a>
+        ensures { given_by result ≡ with_value (given_by self.entry) setting value.now }
+    {
+        let mut more = self;
+        match setting {
+            Setting::Program => more.program = Some(value),
+            Setting::Bodies => more.bodies = Some(value),
+            Setting::Sensors => more.sensors = Some(value),
+            Setting::Schedule => more.schedule = Some(value),
+            Setting::Node => more.node = Some(value),
+            Setting::Until => more.until = Some(value),
+        }
+        more
+    }
+
+    /// The values with one more, where it has the form of a value and the option is not given yet.
+    fn with_option(self, setting: Setting, value: &'a [u8]) -> Option<Given<'a>>
+        ensures { option_map given_by result ≡ with_option (given_by self.entry) setting value.now }
+    {
+        if is_value(value) && self.value_of(setting).is_none() {
+            Some(self.with_value(setting, value))
+        } else {
+            None
+        }
+    }
+}
+
+fn is_value(word: &[u8]) -> bool
+    ensures { result ≡ is_value word.now }
+{
+    match word {
+        [] => false,
+        [first, ..] => *first != b'-',
+    }
+}
+
+fn number_up_to(most: u32, word: &[u8]) -> Option<u32>
+    ensures exact { result ≡ number_up_to most word.now }
+    ensures within { IfSome result (λ number. number ≤ most) }
+{
+    match decimal_of(word) {
+        None => None,
+        Some(number) => {
+            if word.len() <= 20 && number <= u64::from(most) {
+                Some(number as u32)
+            } else {
+                None
+            }
+        }
+    }
+}
+
+/// The value of an option, from its own word or else the next one, and the words after it.
+fn value_from<'a>(own: Option<&'a [u8]>, later: &'a [String]) -> Option<Taken<'a>>
+    ensures { option_map (λ t. (t.0.now, map string_bytes t.1.now)) result ≡ value_from (bytes_of own.entry) (map string_bytes later.now) }
+{
+    match own {
+        Some(value) => Some((value, later)),
+        None => match later {
+            [] => None,
+            [value, after @ ..] => Some((value.as_bytes(), after)),
+        },
+    }
+}
+
+/// The values with those of the option that stands first, and the words after it.
+fn first_option<'a>(given: Given<'a>, word: &'a [u8], later: &'a [String]) -> Option<Read<'a>>
+    ensures { option_map (λ r. (given_by r.0, map string_bytes r.1.now)) result ≡ first_option (given_by given.entry) word.now (map string_bytes later.now) }
+{
+    let (setting, own) = named_in(&SETTINGS, word)?;
+    let (value, after) = value_from(own, later)?;
+    let more = given.with_option(setting, value)?;
+    Some((more, after))
+}
+
+/// The values with those of all options that the words give, which are at most so many. Each is given once, so no more
+/// calls stand in one another than there are options.
+fn with_options<'a>(most: usize, given: Given<'a>, words: &'a [String]) -> Option<Given<'a>>
+    ensures { option_map given_by result ≡ with_options most (given_by given.entry) (map string_bytes words.now) }
+{
+    match words {
+        [] => Some(given),
+        [word, later @ ..] => {
+            if most == 0 {
+                return None;
+            }
+            let (more, after) = first_option(given, word.as_bytes(), later)?;
+            with_options(most - 1, more, after)
+        }
+    }
+}
+
+/// The date of the command, 0 where none is given.
+fn date_of(text: Option<&[u8]>) -> Option<u32>
+    ensures exact { result ≡ date_of (bytes_of text.entry) }
+    ensures until { IfSome result (λ until. until < 2 ^ 31) }
+{
+    match text {
+        None => Some(0),
+        Some(text) => number_up_to(MAX_UNTIL, text),
+    }
+}
+
+/// Whether the mode has the option where it needs it, and only where it may have it.
+fn fits(mode: Mode, given: Given<'_>, setting: Setting) -> bool
+    ensures { result ≡ fits mode (given_by given.entry) setting }
+{
+    if given.value_of(setting).is_some() {
+        needs(mode, setting) || may(mode, setting)
+    } else {
+        !needs(mode, setting)
+    }
+}
+
+/// Whether the options are those of the mode.
+fn fit(mode: Mode, given: Given<'_>) -> bool
+    ensures { result ≡ list_all (fits mode (given_by given.entry)) all_settings }
+{
+    fits(mode, given, Setting::Program)
+        && fits(mode, given, Setting::Bodies)
+        && fits(mode, given, Setting::Sensors)
+        && fits(mode, given, Setting::Schedule)
+        && fits(mode, given, Setting::Node)
+        && fits(mode, given, Setting::Until)
+}
+
+/// A mode, the values of its options, and its date.
+#[derive(Clone, Copy)]
+struct Wanted<'a> {
+    mode: Mode,
+    given: Given<'a>,
+    until: u32,
+}
+
+/// What is wanted of a mode with these options.
+#[tactic(auto, unfolding(crate::specs::Arguments::command_of_mode))]
+fn wanted_of_mode<'a>(mode: Mode, words: &'a [String]) -> Option<Wanted<'a>>
+    ensures exact { option_map wanted_command result ≡ command_of_mode mode (map string_bytes words.now) }
+    ensures until { IfSome result (λ wanted. wanted.until < 2 ^ 31) }
+{
+    let given = with_options(words.len(), nothing(), words)?;
+    let until = date_of(given.until)?;
+    if fit(mode, given) {
+        Some(Wanted { mode, given, until })
+    } else {
+        None
+    }
+}
+
+/// What the words want.
+fn read_wanted<'a>(words: &'a [String]) -> Option<Wanted<'a>>
+    ensures exact { option_map wanted_command result ≡ command_of (map string_bytes words.now) }
+    ensures until { IfSome result (λ wanted. wanted.until < 2 ^ 31) }
+{
+    match words {
+        [_, mode, rest @ ..] => {
+            let mode = mode_named(mode.as_bytes())?;
+            wanted_of_mode(mode, rest)
+        }
+        [_] => None,
+        [] => None,
+    }
+}
+
+fn label_of(alloc: Global, name: Option<&[u8]>) -> Result<Option<Label>, AllocError>
+    ensures { IfOk result (λ label. label ≡ bytes_of name.entry) }
+{
+    match name {
+        None => Ok(None),
+        Some(bytes) => Ok(Some(Label::new(alloc, bytes)?)),
+    }
+}
+
+/// The command that the words of a command line ask for. The first word is the program's own name and is not read, and
+/// the second is the mode. Options follow in any order, each at most once, as `--NAME VALUE` in two words or as
+/// `--NAME=VALUE` in one: those that the mode needs, and any of those that it may have. A value is not empty and does not
+/// begin with `-`; a date has 1 to 20 digits and is at most `MAX_UNTIL`.
+pub fn read_arguments(alloc: Global, words: &[String]) -> Result<Command, ArgumentsFault>
+    ensures found { IfOk result (λ command. command_of (map string_bytes words.now) ≡ Some command) }
+    ensures until { IfOk result (λ command. command.until < 2 ^ 31) }
+    ensures refused { result ≡ Err ArgumentsFault.Refused → command_of (map string_bytes words.now) ≡ None }
+    ensures memory { result ≡ Err ArgumentsFault.Memory → IsSome (command_of (map string_bytes words.now)) }
+{
+    let Some(wanted) = read_wanted(words) else {
+        return Err(ArgumentsFault::Refused);
+    };
+    Ok(Command {
+        mode: wanted.mode,
+        program: label_of(alloc, wanted.given.program)?,
+        bodies: label_of(alloc, wanted.given.bodies)?,
+        sensors: label_of(alloc, wanted.given.sensors)?,
+        schedule: label_of(alloc, wanted.given.schedule)?,
+        node: label_of(alloc, wanted.given.node)?,
+        until: wanted.until,
+    })
+}
