@@ -3,18 +3,20 @@ use Rattle.std.proofs.lemmas.List.{map-id}
 use Rattle.prl_body.specs.declared.texts.RegisterText.{RegisterText}
 use Rattle.std.proofs.Common.{map, ◌≡◌, ◌<◌, ◌≤◌, ℕ, true, false, List, length, Ok, Err, refl, ap, arith, length-append}
 use Rattle.prl_base.specs.declared.places.Span.{Span}
-use Rattle.prl_reader.specs.Lexemes.{Lexeme}
-use Rattle.prl_reader.proofs.Repeats.{leaves_fewer}
+use Rattle.prl_grammar.specs.Lexemes.{Lexeme}
+use Rattle.prl_grammar.proofs.Repeats.{leaves_fewer}
 use Rattle.prl_bodytext.specs.Trees.{Sign}
 use Rattle.prl_body.specs.Texts.{Tree, constant}
-use Rattle.prl_reader.specs.Reads.{Reads}
-use Rattle.prl_reader.proofs.Ending.{never_deep}
-use Rattle.prl_reader.specs.Readers.{Deep}
-use Rattle.prl_reader.specs.Productions.{Grammar, many, inner, shape}
-use Rattle.prl_reader.specs.Language.{inner_of, Text, read_at}
-use Rattle.prl_reader.specs.LookAhead.{IsApart}
-use Rattle.prl_reader.proofs.Decides.{IsGuarded}
-use Rattle.prl_reader.proofs.Nesting.{IsRight, IsFounded, widens, text_reads}
+use Rattle.prl_grammar.specs.code.Reads.{Reads}
+use Rattle.prl_grammar.proofs.Ending.{never_deep}
+use Rattle.prl_grammar.specs.code.Readers.{Deep}
+use Rattle.prl_grammar.specs.Productions.{Grammar, many, inner}
+use Rattle.prl_grammar.specs.code.Shapes.{shape}
+use Rattle.prl_grammar.specs.code.Languages.{inner_of, read_at}
+use Rattle.prl_grammar.specs.Language.{Text}
+use Rattle.prl_grammar.specs.code.LookAhead.{IsApart}
+use Rattle.prl_grammar.proofs.Decides.{IsGuarded}
+use Rattle.prl_grammar.proofs.Nesting.{IsRight, IsFounded, widens, text_reads}
 use Rattle.prl_base.specs.declared.values.Value.TheVariants as values
 use Rattle.prl_bodytext.specs.declared.levels.Level.{Level}
 use Rattle.prl_bodytext.specs.declared.levels.Level.TheVariants as levels
@@ -144,14 +146,6 @@ statement_loop = (statement_apart, refl, refl)
 
 pub prefix_loop : (f : Fixed) → IsApart (inner_of bodies) (many (the f))
 prefix_loop f = (the_apart f, refl, refl)
-
-pub operand_apart : (level : Level) → IsApart (inner_of bodies) (Operand level)
-unfolding Operand
-operand_apart levels.Disjunction = conjunction_apart
-operand_apart levels.Conjunction = negation_apart
-operand_apart levels.Comparison = sum_apart
-operand_apart levels.Sum = product_apart
-operand_apart levels.Product = unary_apart
 
 fewer : {A : Type 0} (g : Grammar Tree A) → IsApart (inner_of bodies) g → (shape (inner_of bodies) g).nullable ≡ false → (ts : List Lexeme) (a : A) (rest : List Lexeme) → read_at bodies g ts ≡ Ok (a, rest) → length rest < length ts
 fewer g apart solid = leaves_fewer 0 (text_reads bodies right g apart 0) solid

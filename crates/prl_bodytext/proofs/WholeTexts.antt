@@ -8,18 +8,20 @@ use Rattle.prl_lex.specs.declared.tokens.LexFault.{LexFault}
 use Rattle.prl_lex.specs.declared.tokens.LexFault.TheVariants as lexical
 use Rattle.prl_lex.specs.declared.tokens.Token.{Token}
 use Rattle.prl_lex.specs.Lexing.{tokens_of}
-use Rattle.prl_reader.specs.Lexemes.{Lexeme}
-use Rattle.prl_reader.specs.Lexing.{lexemes_of}
-use Rattle.prl_reader.specs.Readers.{Stop, Stuck, Deep}
-use Rattle.prl_reader.specs.Language.{Text, read_at}
-use Rattle.prl_reader.specs.Whole.{place_of, told, all_at}
-use Rattle.prl_reader.proofs.Whole.{all_ok, all_only, all_stuck}
-use Rattle.prl_reader.proofs.Outcomes.{all_end, all_unexpected}
+use Rattle.prl_grammar.specs.Lexemes.{Lexeme}
+use Rattle.prl_grammar.specs.Lexing.{lexemes_of}
+use Rattle.prl_grammar.specs.code.Readers.{Stop, Stuck, Deep}
+use Rattle.prl_grammar.specs.Language.{Text}
+use Rattle.prl_grammar.specs.code.Languages.{read_at}
+use Rattle.prl_grammar.specs.Whole.{place_of}
+use Rattle.prl_grammar.specs.code.Whole.{told, all_at}
+use Rattle.prl_grammar.proofs.Whole.{all_ok, all_only, all_stuck}
+use Rattle.prl_grammar.proofs.Outcomes.{all_end, all_unexpected}
 use Rattle.prl_lex.proofs.Outcomes.{text_has_outcome}
 use Rattle.prl_bodytext.specs.Grammar.{Bodies, bodies}
 use Rattle.prl_bodytext.specs.Parsing.{AreBodiesOf, Explains, IsParsed}
 use Rattle.prl_bodytext.specs.code.Outcomes.{of_lexical, of_stop, ranged, bodies_of_tokens, bodies_of}
-use Rattle.prl_reader.specs.Ranges.{out_of_range}
+use Rattle.prl_grammar.specs.Ranges.{out_of_range}
 use Rattle.prl_bodytext.specs.Ranges.{body_ranges}
 use Rattle.prl_bodytext.specs.Words.{body_vocabulary}
 use Rattle.prl_bodytext.proofs.Right.{bodies_reads, bodies_end}

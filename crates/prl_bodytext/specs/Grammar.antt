@@ -9,9 +9,9 @@ use Rattle.prl_body.specs.declared.operators.Prefix.{Prefix}
 use Rattle.prl_body.specs.declared.operators.Prefix.TheVariants as prefixes
 use Rattle.prl_body.specs.declared.texts.RegisterText.{RegisterText}
 use Rattle.prl_body.specs.Texts.{Tree, constant, name, choice, StatementTree, TextTree}
-use Rattle.prl_reader.specs.Numbers.{positive, negative}
-use Rattle.prl_reader.specs.Productions.{Grammar as GrammarIn, token, give, either, many, separated, inner, ◌>>=◌}
-use Rattle.prl_reader.specs.Language.{Language}
+use Rattle.prl_grammar.specs.Numbers.{positive, negative}
+use Rattle.prl_grammar.specs.Productions.{Grammar as GrammarIn, token, give, either, many, separated, inner, ◌>>=◌}
+use Rattle.prl_grammar.specs.Language.{Language}
 use Rattle.prl_bodytext.specs.declared.levels.Level.{Level}
 use Rattle.prl_bodytext.specs.declared.levels.Level.TheVariants as levels
 use Rattle.prl_bodytext.specs.declared.words.Fixed.{Fixed}

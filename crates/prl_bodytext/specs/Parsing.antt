@@ -1,21 +1,15 @@
 -- The bodies that a text has, or its first fault.
-use Rattle.prl_reader.specs.declared.reading.Stop.{Stop as Stopped}
-use Rattle.prl_reader.specs.declared.reading.Stop.TheVariants as stops
-use Rattle.std.specs.Prelude.{◌≡◌, ◌⊎◌, ℕ, false, List, length, Option, Some, None, Result, Ok, Err}
-use Rattle.prl_base.specs.Reading.{◌>>=◌}
+use Rattle.std.specs.Prelude.{◌≡◌, ◌⊎◌, ℕ, false, List, length, Some, None, Result, Ok, Err}
 use Rattle.prl_body.specs.declared.faults.BodyFault.{BodyFault}
 use Rattle.prl_body.specs.declared.faults.BodyFault.TheVariants as faults
 use Rattle.prl_body.specs.Texts.{TextTree}
-use Rattle.prl_lex.specs.declared.tokens.LexFault.{LexFault}
 use Rattle.prl_lex.specs.declared.tokens.LexFault.TheVariants as lexical
 use Rattle.prl_lex.specs.declared.tokens.Token.{Token}
 use Rattle.prl_lex.specs.Lexing.{tokens_of}
-use Rattle.prl_reader.specs.Lexemes.{Lexeme}
-use Rattle.prl_reader.specs.Lexing.{lexemes_of}
-use Rattle.prl_reader.specs.Ranges.{out_of_range}
-use Rattle.prl_reader.specs.Readers.{Stop, Stuck, Deep}
-use Rattle.prl_reader.specs.Language.{Text, read_at}
-use Rattle.prl_reader.specs.Whole.{place_of, told, all_at, IsFirstUnexpected}
+use Rattle.prl_grammar.specs.Lexing.{lexemes_of}
+use Rattle.prl_grammar.specs.Ranges.{out_of_range}
+use Rattle.prl_grammar.specs.Language.{Text}
+use Rattle.prl_grammar.specs.Whole.{place_of, IsFirstUnexpected}
 use Rattle.prl_bodytext.specs.Grammar.{Bodies, bodies}
 use Rattle.prl_bodytext.specs.Ranges.{body_ranges}
 use Rattle.prl_bodytext.specs.Words.{body_vocabulary}

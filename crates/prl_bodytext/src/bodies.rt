@@ -3,9 +3,9 @@
 ghost use Rattle.std.specs.Prelude.{◌≡◌};
 ghost use Rattle.prl_base.specs.Reading.{Gives};
 ghost use Rattle.prl_body.specs.Texts.{statement_tree, text_tree, text_trees};
-ghost use Rattle.prl_reader.specs.Language.{read_at};
-ghost use Rattle.prl_reader.specs.Stops.{stop_of};
-ghost use Rattle.prl_reader.specs.Whole.{all_at};
+ghost use Rattle.prl_grammar.specs.code.Languages.{read_at};
+ghost use Rattle.prl_grammar.specs.code.Stops.{stop_of};
+ghost use Rattle.prl_grammar.specs.code.Whole.{all_at};
 ghost use Rattle.prl_bodytext.specs.Grammar.{Register, StatementLine, Body, Bodies, bodies};
 ghost use Rattle.prl_bodytext.specs.code.Parses.{Parses};
 
@@ -14,7 +14,7 @@ use crate::repeats::Item;
 use crate::words::Fixed;
 use prl_base::Seq;
 use prl_body::{BodyText, BodyTexts, RegisterText, Statement};
-use prl_reader::{Stop, Terminal};
+use prl_grammar::{Stop, Terminal};
 use std::alloc::Global;
 
 impl<'a> Parser<'a> {

@@ -2,9 +2,10 @@
 
 ghost use Rattle.std.specs.Prelude.{◌≡◌, ◌∷◌, [], map};
 ghost use Rattle.prl_body.specs.Texts.{tree_of};
-ghost use Rattle.prl_reader.specs.Readers.{next_in};
-ghost use Rattle.prl_reader.specs.Productions.{many, inner, shape};
-ghost use Rattle.prl_reader.specs.Language.{inner_of};
+ghost use Rattle.prl_grammar.specs.code.Readers.{next_in};
+ghost use Rattle.prl_grammar.specs.Productions.{many, inner};
+ghost use Rattle.prl_grammar.specs.code.Shapes.{shape};
+ghost use Rattle.prl_grammar.specs.code.Languages.{inner_of};
 ghost use Rattle.prl_bodytext.specs.Grammar.{the, sign, Operators, LinkOf, ChainOf, Comparison, Negation, Unary, Primary, Enclosed, Conditional, Operand, bodies};
 ghost use Rattle.prl_bodytext.specs.code.Parses.{Parses};
 ghost use Rattle.prl_bodytext.specs.Trees.{link_view};
@@ -15,7 +16,7 @@ use crate::trees::{chained, choice, prefixed};
 use crate::words::Fixed;
 use prl_base::{Span, Value};
 use prl_body::{Expr, ExprLink, Operator, Prefix};
-use prl_reader::{Stop, positive};
+use prl_grammar::{Stop, positive};
 
 impl<'a> Parser<'a> {
     #[tactic(auto, unfolding(crate::specs::Grammar::Operators, crate::specs::Grammar::LinkOf))]
@@ -113,7 +114,7 @@ impl<'a> Parser<'a> {
     fn primary(&mut self) -> Result<Expr, Stop>
         ensures { Parses tree_of Primary result self.entry.now self.exit.now }
     {
-        if prl_reader::next_is(self.rest, 1) {
+        if prl_grammar::next_is(self.rest, 1) {
             return Ok(Expr::Const(positive(self.number()?)));
         }
         if self.next_is(Fixed::True) {

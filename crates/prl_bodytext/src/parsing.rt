@@ -11,7 +11,7 @@ use crate::ranges::BodyRanges;
 use crate::words::BodySpelling;
 use prl_body::{BodyFault, BodyTexts};
 use prl_lex::{LexFault, lex};
-use prl_reader::{Stop, Terminal, out_of_range, place_of, terminals_of};
+use prl_grammar::{Stop, Terminal, out_of_range, place_of, terminals_of};
 use std::alloc::Global;
 
 fn of_lexical(fault: LexFault) -> BodyFault

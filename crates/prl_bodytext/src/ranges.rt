@@ -5,7 +5,7 @@ ghost use Rattle.prl_bodytext.specs.Ranges.{greatest};
 
 use crate::words::{Fixed, class_of};
 use prl_base::{MAX_NEGATIVE, MAX_POSITIVE};
-use prl_reader::Ranged;
+use prl_grammar::Ranged;
 
 /// The greatest number, where a register is being declared or not, and after a token of the class.
 fn greatest(declares: bool, last: u8) -> u64

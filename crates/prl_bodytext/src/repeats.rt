@@ -1,20 +1,22 @@
 //! What is read one after another.
 
 ghost use Rattle.std.specs.Prelude.{◌≡◌, map};
-ghost use Rattle.prl_reader.specs.Language.{inner_of};
-ghost use Rattle.prl_reader.specs.LookAhead.{IsApart};
-ghost use Rattle.prl_reader.specs.Productions.{many, shape};
-ghost use Rattle.prl_reader.specs.Readers.{next_in};
+ghost use Rattle.prl_grammar.specs.code.Languages.{inner_of};
+ghost use Rattle.prl_grammar.specs.code.LookAhead.{IsApart};
+ghost use Rattle.prl_grammar.specs.Productions.{many};
+ghost use Rattle.prl_grammar.specs.code.Shapes.{shape};
+ghost use Rattle.prl_grammar.specs.code.Readers.{next_in};
 ghost use Rattle.prl_bodytext.specs.Grammar.{bodies};
 ghost use Rattle.prl_bodytext.specs.code.Parses.{Parses};
 
 use crate::parser::Parser;
-use prl_reader::Stop;
+use prl_grammar::Stop;
 
 /// What may stand many times in a row.
 pub trait Item: Sized + Drop {
-    ghost use Rattle.prl_reader.specs.Productions.{Grammar, shape};
-    ghost use Rattle.prl_reader.specs.Language.{inner_of};
+    ghost use Rattle.prl_grammar.specs.Productions.{Grammar};
+    ghost use Rattle.prl_grammar.specs.code.Shapes.{shape};
+    ghost use Rattle.prl_grammar.specs.code.Languages.{inner_of};
     ghost use Rattle.prl_body.specs.Texts.{Tree};
     ghost use Rattle.prl_bodytext.specs.Grammar.{bodies};
 

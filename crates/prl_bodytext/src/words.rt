@@ -1,10 +1,10 @@
 //! The keywords and symbols of bodies.
 
 ghost use Rattle.std.specs.Prelude.{◌≡◌, ◌≤◌};
-ghost use Rattle.prl_reader.specs.Lexing.{row_of};
+ghost use Rattle.prl_grammar.specs.Lexing.{row_of};
 ghost use Rattle.prl_bodytext.specs.Words.{class_of, plain_keywords, operator_keywords, punctuation, comparisons, arithmetic, keyword_of, symbol_of};
 
-use prl_reader::Spelling;
+use prl_grammar::Spelling;
 
 /// A keyword or a symbol of bodies.
 #[derive(Clone, Copy, Debug, PartialEq, Eq)]

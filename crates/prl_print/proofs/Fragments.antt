@@ -5,11 +5,11 @@ use Rattle.std.proofs.lemmas.Bool.Decides.{nat_tests}
 use Rattle.std.specs.List.{flat_map, AllByRecursion}
 use Rattle.prl_base.specs.Names.{is_word_byte, IsName}
 use Rattle.prl_lex.specs.Tokens.{is_blank, begins, is_two_byte_symbol}
-use Rattle.prl_reader.specs.Lexemes.{Lexeme}
+use Rattle.prl_grammar.specs.Lexemes.{Lexeme}
 use Rattle.prl_syntax.specs.declared.words.Fixed.{Fixed}
 use Rattle.prl_syntax.specs.declared.words.Fixed.TheVariants as fixed
 use Rattle.prl_syntax.specs.Words.{class_of, keyword_of}
-use Rattle.prl_reader.specs.Ranges.{inside_after, is_fault}
+use Rattle.prl_grammar.specs.Ranges.{inside_after, is_fault}
 use Rattle.prl_syntax.specs.Ranges.{is_count, in_range, program_ranges}
 use Rattle.prl_base.specs.declared.decimals.TheConstants.{MAX_NEGATIVE, MAX_POSITIVE}
 use Rattle.prl_print.proofs.Scanning.{Scan, scan_blank, begins_other}

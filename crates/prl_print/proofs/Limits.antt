@@ -16,12 +16,12 @@ use Rattle.prl_lex.specs.declared.pieces.Piece.TheVariants as pieces
 use Rattle.prl_lex.specs.Tokens.{is_number, kind_of, piece_of, FitsPiece}
 use Rattle.prl_lex.specs.Lexing.{token_text, token_at, depth_after, checked, with_piece, tokens_from}
 use Rattle.prl_lex.proofs.Fits.{piece_of_fits}
-use Rattle.prl_reader.specs.Lexemes.{Lexeme}
-use Rattle.prl_reader.specs.Lexing.{row_of}
+use Rattle.prl_grammar.specs.Lexemes.{Lexeme}
+use Rattle.prl_grammar.specs.Lexing.{row_of}
 use Rattle.prl_syntax.specs.declared.words.Fixed.{Fixed}
 use Rattle.prl_syntax.specs.Words.{class_of, declaration_keywords, flow_keywords, punctuation, operators, or_foreign, keyword_of, symbol_of}
 use Rattle.prl_syntax.specs.Lexing.{word_lexeme, kind_lexeme, lexeme_of, lexemes_of}
-use Rattle.prl_reader.specs.Ranges.{inside_after, is_fault, out_of_range}
+use Rattle.prl_grammar.specs.Ranges.{inside_after, is_fault, out_of_range}
 use Rattle.prl_syntax.specs.Ranges.{program_ranges}
 use Rattle.prl_print.proofs.Words.{IsOwnName}
 use Rattle.prl_print.proofs.Source.{deeper, FineFrom}

@@ -16,11 +16,11 @@ use Rattle.prl_syntax.specs.declared.words.Fixed.TheVariants as fixed
 use Rattle.prl_syntax.specs.declared.notes.Note.{Note}
 use Rattle.prl_syntax.specs.declared.parameters.Item.{Item}
 use Rattle.prl_base.specs.declared.decimals.TheConstants.{MAX_NEGATIVE, MAX_POSITIVE}
-use Rattle.prl_reader.specs.Numbers.{positive, negative}
+use Rattle.prl_grammar.specs.Numbers.{positive, negative}
 use Rattle.prl_syntax.specs.Values.{small, common_divisor, reduced, ratio_of, ratio_with}
 use Rattle.prl_syntax.specs.Trees.{StemTree, joined, param_of, note_or, first_note, params_before, params_of, port_of}
-use Rattle.prl_reader.specs.Lexemes.{Lexeme}
-use Rattle.prl_reader.specs.Productions.{written}
+use Rattle.prl_grammar.specs.Lexemes.{Lexeme}
+use Rattle.prl_grammar.specs.Productions.{written}
 use Rattle.prl_syntax.specs.Grammar.{Grammar, closed, in_parens, maybe_in_parens, Const, Ratio, Name, Names, Rate, Due, Note as NoteText, Item as ItemText, Run, Params, EndedRun, Locals, PortGroup, NextGroup, Ports, Wcet, Import, Device}
 use Rattle.prl_syntax.proofs.Ratios.{divisor_is, positive_divisor, reduced_fits}
 use Rattle.prl_print.proofs.Words.{IsOwnName, IsConstant, IsOwnRatio, IsCount, IsOwnRate, IsOwnMaybe, IsOwnParam, IsOwnPort, IsSome, IsOwnImport, IsOwnDevice}

@@ -13,11 +13,11 @@ use Rattle.prl_lex.specs.declared.pieces.Piece.TheVariants as pieces
 use Rattle.prl_lex.specs.Tokens.{is_blank, begins, is_one_byte_symbol, is_two_byte_symbol}
 use Rattle.prl_lex.specs.FirstByte.{symbol_by_bytes}
 use Rattle.prl_lex.specs.Lexing.{depth_after}
-use Rattle.prl_reader.specs.Lexemes.{Lexeme}
+use Rattle.prl_grammar.specs.Lexemes.{Lexeme}
 use Rattle.prl_syntax.specs.declared.words.Fixed.{Fixed}
 use Rattle.prl_syntax.specs.Words.{class_of, keyword_of, symbol_of}
 use Rattle.prl_syntax.specs.Lexing.{word_lexeme}
-use Rattle.prl_reader.specs.Ranges.{inside_after, is_fault}
+use Rattle.prl_grammar.specs.Ranges.{inside_after, is_fault}
 use Rattle.prl_syntax.specs.Ranges.{program_ranges}
 use Rattle.prl_print.specs.Places.{nowhere}
 use Rattle.prl_print.proofs.Scanning.{bare, AreBytes, bytes_append, Scan, scan_token, first_piece, begins_other}

@@ -2,8 +2,8 @@
 use Rattle.std.proofs.Common.{◌≡◌, ℕ, List, [], ◌∷◌, ◌++◌, map, Option, Some, None, refl, ap, ◌∙◌, subst, inl, inr}
 use Rattle.std.proofs.lemmas.List.{append-nil}
 use Rattle.std.specs.List.{flat_map, AllByRecursion}
-use Rattle.prl_reader.specs.Lexemes.{Lexeme, first_place}
-use Rattle.prl_reader.specs.Grammars.{One, Then, Give, Either, Many, Maybe, Named, FromFirst}
+use Rattle.prl_grammar.specs.Lexemes.{Lexeme, first_place}
+use Rattle.prl_grammar.specs.Grammars.{One, Then, Give, Either, Many, Maybe, Named, FromFirst}
 use Rattle.prl_syntax.specs.declared.words.Fixed.{Fixed}
 use Rattle.prl_syntax.specs.Words.{class_of}
 use Rattle.prl_print.proofs.Scanning.{bare}
@@ -95,9 +95,6 @@ p_one {B} class f F k is h = record { read = read }
             tail = record { is = refl; whole = refl };
           };
         }
-
-abbrev pub Any : {A : Type 0} → A → Type 0
-Any a = Unit {0}
 
 pub p_the : (f : Fixed) → Prints (The f) (λ at. Unit {0}) (one f)
 p_the f = p_one (class_of f) (λ t. t.at) (λ at. Unit {0}) (a_fixed f) refl (λ t e. tt)

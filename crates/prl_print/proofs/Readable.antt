@@ -14,13 +14,13 @@ use Rattle.prl_ast.specs.declared.declarations.Param.{Param}
 use Rattle.prl_ast.specs.declared.declarations.Placed.{Placed}
 use Rattle.prl_ast.specs.declared.declarations.Port.{Port}
 use Rattle.prl_ast.specs.declared.declarations.Rate.{Rate}
-use Rattle.prl_reader.specs.Lexemes.{Lexeme}
-use Rattle.prl_reader.specs.Language.{Text}
+use Rattle.prl_grammar.specs.Lexemes.{Lexeme}
+use Rattle.prl_grammar.specs.Language.{Text}
 use Rattle.prl_syntax.specs.declared.words.Fixed.{Fixed}
 use Rattle.prl_syntax.specs.declared.words.Fixed.TheVariants as fixed
 use Rattle.prl_syntax.specs.declared.notes.Note.{Note}
 use Rattle.prl_base.specs.declared.decimals.TheConstants.{MAX_NEGATIVE, MAX_POSITIVE}
-use Rattle.prl_reader.specs.Numbers.{positive, negative}
+use Rattle.prl_grammar.specs.Numbers.{positive, negative}
 use Rattle.prl_syntax.specs.Values.{small, ratio_with, ratio_of}
 use Rattle.prl_syntax.specs.Trees.{joined, param_of, note_or, params_of, port_of}
 use Rattle.prl_syntax.specs.Grammar.{Grammar, maybe, after, closed, in_parens, maybe_in_parens, number, Const, Ratio, Name, Names, TypeName, Rate as RateText, Due, Note as NoteText, Item as ItemText, Run, Params, EndedRun, Locals, PortGroup, NextGroup, Ports, Wcet, Import as ImportText, Device as DeviceText, programs}

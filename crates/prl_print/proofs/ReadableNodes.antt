@@ -13,10 +13,10 @@ use Rattle.prl_ast.specs.declared.declarations.Param.{Param}
 use Rattle.prl_ast.specs.declared.declarations.Placed.{Placed}
 use Rattle.prl_ast.specs.declared.expressions.PlacedOp.{PlacedOp}
 use Rattle.prl_ast.specs.Trees.{Tree, tree, Root, const, var, apply, group, Trees, none, more, EquationTree, NodeTree, ProgramTree}
-use Rattle.prl_reader.specs.Lexemes.{Lexeme}
-use Rattle.prl_reader.specs.Grammars.{Many, Maybe}
-use Rattle.prl_reader.specs.Language.{Text, nested}
-use Rattle.prl_reader.proofs.Growing.{to_nested}
+use Rattle.prl_grammar.specs.Lexemes.{Lexeme}
+use Rattle.prl_grammar.specs.Grammars.{Many, Maybe}
+use Rattle.prl_grammar.specs.Language.{Text, nested}
+use Rattle.prl_grammar.proofs.Growing.{to_nested}
 use Rattle.prl_syntax.specs.declared.words.Fixed.{Fixed}
 use Rattle.prl_syntax.specs.declared.words.Fixed.TheVariants as fixed
 use Rattle.prl_base.specs.declared.values.Value.{Value}

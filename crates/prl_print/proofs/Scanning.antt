@@ -13,9 +13,9 @@ use Rattle.prl_lex.specs.Lexing.{token_text, token_at, depth_after, checked, tok
 use Rattle.prl_lex.proofs.Fits.{piece_of_fits}
 use Rattle.prl_lex.proofs.Longest.{token_by_first_longest}
 use Rattle.prl_lex.proofs.Steps.{with_front, step}
-use Rattle.prl_reader.specs.Lexemes.{Lexeme}
+use Rattle.prl_grammar.specs.Lexemes.{Lexeme}
 use Rattle.prl_syntax.specs.Lexing.{kind_lexeme, lexeme_of, lexemes_of}
-use Rattle.prl_reader.specs.Ranges.{inside_after, is_fault, out_of_range}
+use Rattle.prl_grammar.specs.Ranges.{inside_after, is_fault, out_of_range}
 use Rattle.prl_syntax.specs.Ranges.{program_ranges}
 use Rattle.prl_print.specs.Places.{nowhere}
 

@@ -3,11 +3,11 @@ use Rattle.std.proofs.Common.{◌≡◌, ◌==◌, ◌≤◌, ◌+◌, ◌-◌, 
 use Rattle.std.proofs.lemmas.Bool.{cond-true, and_parts, leb-true}
 use Rattle.std.specs.List.{AllByRecursion}
 use Rattle.prl_base.specs.declared.places.Span.{Span}
-use Rattle.prl_reader.specs.Lexemes.{Lexeme}
-use Rattle.prl_reader.specs.Grammars.{One, Then, Give, Either, Many, Maybe, Place, Named, FromFirst}
+use Rattle.prl_grammar.specs.Lexemes.{Lexeme}
+use Rattle.prl_grammar.specs.Grammars.{One, Then, Give, Either, Many, Maybe, Place, Named, FromFirst}
 use Rattle.prl_syntax.specs.declared.words.Fixed.{Fixed}
 use Rattle.prl_syntax.specs.Words.{class_of}
-use Rattle.prl_reader.specs.Ranges.{inside_after, is_fault}
+use Rattle.prl_grammar.specs.Ranges.{inside_after, is_fault}
 use Rattle.prl_syntax.specs.Ranges.{is_count, in_range, program_ranges}
 use Rattle.prl_print.proofs.Words.{IsOwnName, IsOwnMaybe, IsSome}
 

@@ -7,15 +7,16 @@ use Rattle.prl_base.specs.declared.operators.Op.{Op}
 use Rattle.prl_base.specs.declared.operators.Op.TheVariants as ops
 use Rattle.prl_base.specs.declared.values.Value.{Value}
 use Rattle.prl_base.specs.Reading.{◌>>=◌, FailsAs}
-use Rattle.prl_reader.specs.Stops.{stop_of}
-use Rattle.prl_reader.specs.declared.reading.Stop.{Stop}
-use Rattle.prl_reader.specs.declared.reading.Stop.TheVariants as stops
-use Rattle.prl_reader.specs.Lexemes.{Lexeme}
-use Rattle.prl_reader.specs.Readers.{Read, next_in}
-use Rattle.prl_reader.specs.Productions.{give, either, shape}
-use Rattle.prl_reader.specs.Language.{inner_of, read_at, read_nested}
-use Rattle.prl_reader.proofs.Nesting.{nested_step}
-use Rattle.prl_reader.proofs.Repeats.{same_bind}
+use Rattle.prl_grammar.specs.code.Stops.{stop_of}
+use Rattle.prl_grammar.specs.declared.reading.Stop.{Stop}
+use Rattle.prl_grammar.specs.declared.reading.Stop.TheVariants as stops
+use Rattle.prl_grammar.specs.Lexemes.{Lexeme}
+use Rattle.prl_grammar.specs.code.Readers.{Read, next_in}
+use Rattle.prl_grammar.specs.Productions.{give, either}
+use Rattle.prl_grammar.specs.code.Shapes.{shape}
+use Rattle.prl_grammar.specs.code.Languages.{inner_of, read_at, read_nested}
+use Rattle.prl_grammar.proofs.Nesting.{nested_step}
+use Rattle.prl_grammar.proofs.Repeats.{same_bind}
 use Rattle.prl_syntax.specs.declared.words.Fixed.{Fixed}
 use Rattle.prl_syntax.specs.declared.words.Fixed.TheVariants as fixed
 use Rattle.prl_syntax.specs.Grammar.{Grammar, the, Const, Base, Prefixed, Stem, programs}

@@ -3,12 +3,12 @@ use Rattle.std.proofs.Common.{◌≡◌, ℕ, true, false, List, ◌∷◌, ◌+
 use Rattle.std.proofs.lemmas.Bool.{cond-true, cond-false}
 use Rattle.std.proofs.lemmas.List.{append-nil}
 use Rattle.prl_base.specs.Reading.{◌>>=◌, FailsAs}
-use Rattle.prl_reader.specs.Lexemes.{Lexeme}
-use Rattle.prl_reader.specs.Readers.{Read, next_in, many_at}
-use Rattle.prl_reader.specs.Stops.{stop_of}
-use Rattle.prl_reader.specs.declared.reading.Stop.{Stop}
-use Rattle.prl_reader.specs.declared.reading.Stop.TheVariants as stops
-use Rattle.prl_reader.proofs.Loops.{Steps}
+use Rattle.prl_grammar.specs.Lexemes.{Lexeme}
+use Rattle.prl_grammar.specs.code.Readers.{Read, next_in, many_at}
+use Rattle.prl_grammar.specs.code.Stops.{stop_of}
+use Rattle.prl_grammar.specs.declared.reading.Stop.{Stop}
+use Rattle.prl_grammar.specs.declared.reading.Stop.TheVariants as stops
+use Rattle.prl_grammar.proofs.Loops.{Steps}
 use Rattle.prl_syntax.specs.Trees.{joined}
 use Rattle.prl_syntax.specs.code.Loops.{with_joined}
 

@@ -7,18 +7,20 @@ use Rattle.prl_base.specs.declared.values.Value.TheVariants as values
 use Rattle.prl_ast.specs.Trees.{Tree, const, none}
 use Rattle.prl_ast.specs.declared.declarations.Param.{Param}
 use Rattle.prl_ast.specs.declared.declarations.Port.{Port}
-use Rattle.prl_reader.specs.Lexemes.{Lexeme}
-use Rattle.prl_reader.specs.Reads.{Reads}
-use Rattle.prl_reader.specs.Readers.{Deep}
-use Rattle.prl_reader.specs.Productions.{many, shape}
-use Rattle.prl_reader.specs.Language.{inner_of, Text, read_at}
-use Rattle.prl_reader.specs.LookAhead.{IsApart}
-use Rattle.prl_reader.proofs.Basics.{apart}
-use Rattle.prl_reader.proofs.Decides.{IsGuarded}
-use Rattle.prl_reader.proofs.Ending.{never_deep}
-use Rattle.prl_reader.proofs.Loops.{Steps}
-use Rattle.prl_reader.proofs.Nesting.{IsRight, IsFounded, widens, text_reads}
-use Rattle.prl_reader.proofs.Repeats.{many_step, leaves_fewer}
+use Rattle.prl_grammar.specs.Lexemes.{Lexeme}
+use Rattle.prl_grammar.specs.code.Reads.{Reads}
+use Rattle.prl_grammar.specs.code.Readers.{Deep}
+use Rattle.prl_grammar.specs.Productions.{many}
+use Rattle.prl_grammar.specs.code.Shapes.{shape}
+use Rattle.prl_grammar.specs.code.Languages.{inner_of, read_at}
+use Rattle.prl_grammar.specs.Language.{Text}
+use Rattle.prl_grammar.specs.code.LookAhead.{IsApart}
+use Rattle.prl_grammar.proofs.Basics.{apart}
+use Rattle.prl_grammar.proofs.Decides.{IsGuarded}
+use Rattle.prl_grammar.proofs.Ending.{never_deep}
+use Rattle.prl_grammar.proofs.Loops.{Steps}
+use Rattle.prl_grammar.proofs.Nesting.{IsRight, IsFounded, widens, text_reads}
+use Rattle.prl_grammar.proofs.Repeats.{many_step, leaves_fewer}
 use Rattle.prl_syntax.specs.declared.words.Fixed.{Fixed}
 use Rattle.prl_syntax.specs.declared.words.Fixed.TheVariants as fixed
 use Rattle.prl_syntax.specs.code.Links.{Step, ConstantLink, NextLink, PrefixLink}
@@ -387,9 +389,6 @@ fewer g apart solid = leaves_fewer 0 (text_reads programs right g apart 0) solid
 
 pub token_fewer : (f : Fixed) (ts : List Lexeme) (p : Span) (rest : List Lexeme) → read_at programs (the f) ts ≡ Ok (p, rest) → length rest < length ts
 token_fewer f = fewer (the f) (the_apart f) refl
-
-pub name_fewer : (ts : List Lexeme) (x : List ℕ × Span) (rest : List Lexeme) → read_at programs named ts ≡ Ok (x, rest) → length rest < length ts
-name_fewer = fewer named named_apart refl
 
 pub expr_fewer : (ts : List Lexeme) (t : Tree) (rest : List Lexeme) → read_at programs Expr ts ≡ Ok (t, rest) → length rest < length ts
 unfolding programs Stem Base Prefixed Const Expr Exprs Postfix Ratio

@@ -4,8 +4,8 @@ use Rattle.std.specs.Option.{option_map}
 use Rattle.prl_base.specs.declared.places.Span.{Span}
 use Rattle.prl_lex.specs.declared.tokens.Kind.{Kind}
 use Rattle.prl_lex.specs.declared.tokens.Token.{Token}
-use Rattle.prl_reader.specs.Lexemes.{Lexeme}
-use Rattle.prl_reader.specs.Lexing.{word_lexeme as word_of_class, kind_lexeme as kind_in, lexeme_of as lexeme_in, lexemes_of as lexemes_in}
+use Rattle.prl_grammar.specs.Lexemes.{Lexeme}
+use Rattle.prl_grammar.specs.Lexing.{word_lexeme as word_of_class, kind_lexeme as kind_in, lexeme_of as lexeme_in, lexemes_of as lexemes_in}
 use Rattle.prl_syntax.specs.declared.words.Fixed.{Fixed}
 use Rattle.prl_syntax.specs.Words.{class_of, program_vocabulary}
 

@@ -1,7 +1,7 @@
 -- The keywords and symbols of programs.
 use Rattle.std.specs.Prelude.{ℕ, List, [], ◌∷◌, Option, Some, None, codes}
 use Rattle.std.specs.Option.{option_map, option_or}
-use Rattle.prl_reader.specs.Lexing.{Vocabulary, row_of}
+use Rattle.prl_grammar.specs.Lexing.{Vocabulary, row_of}
 use Rattle.prl_syntax.specs.declared.words.Fixed.{Fixed}
 use Rattle.prl_syntax.specs.declared.words.Fixed.TheVariants as fixed
 

@@ -2,14 +2,15 @@
 
 ghost use Rattle.std.specs.Prelude.{◌≡◌, ◌∷◌, [], map, IfOk};
 ghost use Rattle.prl_base.specs.Reading.{Gives};
-ghost use Rattle.prl_reader.specs.Stops.{stop_of};
+ghost use Rattle.prl_grammar.specs.code.Stops.{stop_of};
 ghost use Rattle.prl_syntax.specs.code.Loops.{with_joined};
 ghost use Rattle.prl_syntax.specs.Grammar as grammar;
 ghost use Rattle.prl_syntax.specs.code.Parses.{Parses};
 ghost use Rattle.prl_syntax.specs.Grammar.{programs};
-ghost use Rattle.prl_reader.specs.Language.{inner_of, read_at};
-ghost use Rattle.prl_reader.specs.Productions.{either, many, shape};
-ghost use Rattle.prl_reader.specs.Readers.{next_in};
+ghost use Rattle.prl_grammar.specs.code.Languages.{inner_of, read_at};
+ghost use Rattle.prl_grammar.specs.Productions.{either, many};
+ghost use Rattle.prl_grammar.specs.code.Shapes.{shape};
+ghost use Rattle.prl_grammar.specs.code.Readers.{next_in};
 ghost use Rattle.prl_syntax.specs.Trees.{port_of};
 ghost use Rattle.prl_syntax.specs.declared.words.Fixed.TheVariants as kinds;
 
@@ -18,7 +19,7 @@ use crate::values::small;
 use crate::words::Fixed;
 use prl_ast::{Device, Import, Placed, Port};
 use prl_base::{Seq, Span, Ty};
-use prl_reader::Stop;
+use prl_grammar::Stop;
 use std::alloc::{AllocError, Global};
 
 /// Ports of the names and the type.

@@ -3,18 +3,19 @@
 ghost use Rattle.std.specs.Prelude.{◌≡◌, ◌∷◌, ◌≤◌, [], length, map, IfOk};
 ghost use Rattle.prl_base.specs.Reading.{Gives};
 ghost use Rattle.prl_ast.specs.Trees.{root_of, tree_of};
-ghost use Rattle.prl_reader.specs.Lexemes.{first_place};
-ghost use Rattle.prl_reader.specs.Stops.{stop_of};
-ghost use Rattle.prl_reader.specs.Loops.{with_front};
+ghost use Rattle.prl_grammar.specs.Lexemes.{first_place};
+ghost use Rattle.prl_grammar.specs.code.Stops.{stop_of};
+ghost use Rattle.prl_grammar.specs.code.Loops.{with_front};
 ghost use Rattle.prl_ast.specs.Trees.{none};
 ghost use Rattle.prl_syntax.specs.code.Links.{link_view, with_prefixes};
 ghost use Rattle.prl_syntax.specs.code.Links as links;
 ghost use Rattle.prl_syntax.specs.Grammar as grammar;
 ghost use Rattle.prl_syntax.specs.code.Parses.{Parses};
 ghost use Rattle.prl_syntax.specs.Grammar.{programs};
-ghost use Rattle.prl_reader.specs.Language.{inner_of, read_at, read_nested};
-ghost use Rattle.prl_reader.specs.Productions.{either, many, shape};
-ghost use Rattle.prl_reader.specs.Readers.{next_in};
+ghost use Rattle.prl_grammar.specs.code.Languages.{inner_of, read_at, read_nested};
+ghost use Rattle.prl_grammar.specs.Productions.{either, many};
+ghost use Rattle.prl_grammar.specs.code.Shapes.{shape};
+ghost use Rattle.prl_grammar.specs.code.Readers.{next_in};
 ghost use Rattle.prl_syntax.specs.Trees.{trees_from};
 ghost use Rattle.prl_syntax.specs.declared.words.Fixed.TheVariants as kinds;
 
@@ -23,7 +24,7 @@ use crate::values::small;
 use crate::words::Fixed;
 use prl_ast::{Base, Expr, PlacedOp};
 use prl_base::{Op, Seq};
-use prl_reader::Stop;
+use prl_grammar::Stop;
 
 impl<'a> Parser<'a> {
     /// Takes a postfix.

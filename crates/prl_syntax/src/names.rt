@@ -2,19 +2,19 @@
 
 ghost use Rattle.std.specs.Prelude.{◌≡◌};
 ghost use Rattle.prl_base.specs.Reading.{Gives};
-ghost use Rattle.prl_reader.specs.Stops.{stop_of};
+ghost use Rattle.prl_grammar.specs.code.Stops.{stop_of};
 ghost use Rattle.prl_syntax.specs.Grammar as grammar;
 ghost use Rattle.prl_syntax.specs.code.Parses.{Parses};
 ghost use Rattle.prl_syntax.specs.Grammar.{programs};
-ghost use Rattle.prl_reader.specs.Language.{read_at};
-ghost use Rattle.prl_reader.specs.Productions.{many};
-ghost use Rattle.prl_reader.specs.Loops.{with_front};
+ghost use Rattle.prl_grammar.specs.code.Languages.{read_at};
+ghost use Rattle.prl_grammar.specs.Productions.{many};
+ghost use Rattle.prl_grammar.specs.code.Loops.{with_front};
 ghost use Rattle.prl_syntax.specs.declared.words.Fixed.TheVariants as kinds;
 
 use crate::parser::Parser;
 use crate::words::Fixed;
 use prl_ast::Placed;
-use prl_reader::Stop;
+use prl_grammar::Stop;
 
 impl<'a> Parser<'a> {
     /// Takes a name.

@@ -3,16 +3,17 @@
 ghost use Rattle.std.specs.Prelude.{◌≡◌, ◌∷◌, [], map, reverse, IfOk};
 ghost use Rattle.prl_base.specs.Reading.{Gives};
 ghost use Rattle.prl_ast.specs.Trees.{equation_tree, node_tree, program_tree};
-ghost use Rattle.prl_reader.specs.Stops.{stop_of};
-ghost use Rattle.prl_reader.specs.Whole.{all_at};
-ghost use Rattle.prl_reader.specs.Loops.{with_front};
+ghost use Rattle.prl_grammar.specs.code.Stops.{stop_of};
+ghost use Rattle.prl_grammar.specs.code.Whole.{all_at};
+ghost use Rattle.prl_grammar.specs.code.Loops.{with_front};
 ghost use Rattle.prl_syntax.specs.code.Nodes.{declared_view, declarations_view, with_last};
 ghost use Rattle.prl_syntax.specs.Grammar as grammar;
 ghost use Rattle.prl_syntax.specs.code.Parses.{Parses};
 ghost use Rattle.prl_syntax.specs.Grammar.{programs};
-ghost use Rattle.prl_reader.specs.Language.{inner_of, read_at};
-ghost use Rattle.prl_reader.specs.Productions.{either, many, shape};
-ghost use Rattle.prl_reader.specs.Readers.{next_in};
+ghost use Rattle.prl_grammar.specs.code.Languages.{inner_of, read_at};
+ghost use Rattle.prl_grammar.specs.Productions.{either, many};
+ghost use Rattle.prl_grammar.specs.code.Shapes.{shape};
+ghost use Rattle.prl_grammar.specs.code.Readers.{next_in};
 ghost use Rattle.prl_syntax.specs.Trees.{program_of};
 ghost use Rattle.prl_syntax.specs.declared.words.Fixed.TheVariants as kinds;
 
@@ -20,7 +21,7 @@ use crate::parser::Parser;
 use crate::words::Fixed;
 use prl_ast::{Device, Equation, Import, Node, Placed, Program};
 use prl_base::{Seq, Span};
-use prl_reader::{Stop, Terminal};
+use prl_grammar::{Stop, Terminal};
 use std::alloc::{AllocError, Global};
 
 impl<'a> Parser<'a> {

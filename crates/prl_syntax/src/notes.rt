@@ -2,7 +2,7 @@
 
 ghost use Rattle.std.specs.Prelude.{◌≡◌};
 ghost use Rattle.prl_base.specs.Reading.{Gives};
-ghost use Rattle.prl_reader.specs.Stops.{stop_of};
+ghost use Rattle.prl_grammar.specs.code.Stops.{stop_of};
 ghost use Rattle.prl_syntax.specs.Grammar as grammar;
 ghost use Rattle.prl_syntax.specs.code.Parses.{Parses};
 ghost use Rattle.prl_syntax.specs.declared.words.Fixed.TheVariants as kinds;
@@ -12,7 +12,7 @@ use crate::values::small;
 use crate::words::Fixed;
 use prl_ast::Rate;
 use prl_base::Ty;
-use prl_reader::Stop;
+use prl_grammar::Stop;
 
 /// What a note says of a name.
 #[derive(Clone, Copy, Debug, PartialEq, Eq)]

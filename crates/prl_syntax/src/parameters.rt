@@ -2,14 +2,14 @@
 
 ghost use Rattle.std.specs.Prelude.{◌≡◌, ◌∷◌, [], ◌++◌, reverse, None, IfOk};
 ghost use Rattle.prl_base.specs.Reading.{Gives};
-ghost use Rattle.prl_reader.specs.Stops.{stop_of};
-ghost use Rattle.prl_reader.specs.Loops.{with_front};
+ghost use Rattle.prl_grammar.specs.code.Stops.{stop_of};
+ghost use Rattle.prl_grammar.specs.code.Loops.{with_front};
 ghost use Rattle.prl_syntax.specs.code.Loops.{with_joined};
 ghost use Rattle.prl_syntax.specs.Grammar as grammar;
 ghost use Rattle.prl_syntax.specs.code.Parses.{Parses};
 ghost use Rattle.prl_syntax.specs.Grammar.{programs};
-ghost use Rattle.prl_reader.specs.Language.{read_at};
-ghost use Rattle.prl_reader.specs.Productions.{many};
+ghost use Rattle.prl_grammar.specs.code.Languages.{read_at};
+ghost use Rattle.prl_grammar.specs.Productions.{many};
 ghost use Rattle.prl_syntax.specs.Trees.{param_of, params_of};
 ghost use Rattle.prl_syntax.specs.code.Groups.{noted, params_after, waiting_after};
 ghost use Rattle.prl_syntax.specs.declared.words.Fixed.TheVariants as kinds;
@@ -18,7 +18,7 @@ use crate::notes::Note;
 use crate::parser::Parser;
 use crate::words::Fixed;
 use prl_ast::{Param, Placed};
-use prl_reader::Stop;
+use prl_grammar::Stop;
 use std::alloc::{AllocError, Global};
 
 /// A name, with the note that stands after it.

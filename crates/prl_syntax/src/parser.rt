@@ -1,15 +1,15 @@
 //! The parser: what is left of the tokens, and what is taken of them.
 
 ghost use Rattle.std.specs.Prelude.{◌≡◌, ◌∷◌, []};
-ghost use Rattle.prl_reader.specs.Lexemes.{first_place};
-ghost use Rattle.prl_reader.specs.Readers.{next_in};
+ghost use Rattle.prl_grammar.specs.Lexemes.{first_place};
+ghost use Rattle.prl_grammar.specs.code.Readers.{next_in};
 ghost use Rattle.prl_syntax.specs.Grammar.{the, named, number};
 ghost use Rattle.prl_syntax.specs.code.Parses.{Parses};
 ghost use Rattle.prl_syntax.specs.Words.{class_of};
 
 use crate::words::Fixed;
 use prl_base::{Name, Span};
-use prl_reader::{Stop, Terminal};
+use prl_grammar::{Stop, Terminal};
 use std::alloc::Global;
 use std::marker::Model;
 
@@ -22,7 +22,7 @@ pub struct Parser<'a> {
 
 impl<'a> Model for Parser<'a> {
     ghost use Rattle.std.specs.Prelude.{List};
-    ghost use Rattle.prl_reader.specs.Lexemes.{Lexeme};
+    ghost use Rattle.prl_grammar.specs.Lexemes.{Lexeme};
 
     ghost Value = { List Lexeme };
 
@@ -34,21 +34,21 @@ impl<'a> Parser<'a> {
     pub fn next_is(&self, fixed: Fixed) -> bool
         ensures { result ≡ next_in (class_of fixed ∷ []) self.now }
     {
-        prl_reader::next_is(self.rest, fixed as u8)
+        prl_grammar::next_is(self.rest, fixed as u8)
     }
 
     /// Whether a name is next.
     pub fn next_is_name(&self) -> bool
         ensures { result ≡ next_in (0 ∷ []) self.now }
     {
-        prl_reader::next_is(self.rest, 0)
+        prl_grammar::next_is(self.rest, 0)
     }
 
     /// Whether a number is next.
     pub fn next_is_number(&self) -> bool
         ensures { result ≡ next_in (1 ∷ []) self.now }
     {
-        prl_reader::next_is(self.rest, 1)
+        prl_grammar::next_is(self.rest, 1)
     }
 
     /// The place of the next token.
@@ -65,7 +65,7 @@ impl<'a> Parser<'a> {
     pub fn expect(&mut self, fixed: Fixed) -> Result<Span, Stop>
         ensures { Parses (λ x. x) (the fixed) result self.entry.now self.exit.now }
     {
-        let (at, rest) = prl_reader::expect(self.rest, fixed as u8)?;
+        let (at, rest) = prl_grammar::expect(self.rest, fixed as u8)?;
         self.rest = rest;
         Ok(at)
     }
@@ -74,7 +74,7 @@ impl<'a> Parser<'a> {
     pub fn name(&mut self) -> Result<(Name, Span), Stop>
         ensures { Parses (λ x. (x.0, x.1)) named result self.entry.now self.exit.now }
     {
-        let (name, at, rest) = prl_reader::name(self.alloc, self.rest)?;
+        let (name, at, rest) = prl_grammar::name(self.alloc, self.rest)?;
         self.rest = rest;
         Ok((name, at))
     }
@@ -83,7 +83,7 @@ impl<'a> Parser<'a> {
     pub fn number(&mut self) -> Result<u64, Stop>
         ensures { Parses (λ x. x) number result self.entry.now self.exit.now }
     {
-        let (number, _, rest) = prl_reader::number(self.rest)?;
+        let (number, _, rest) = prl_grammar::number(self.rest)?;
         self.rest = rest;
         Ok(number)
     }

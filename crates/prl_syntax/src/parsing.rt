@@ -12,7 +12,7 @@ use crate::words::ProgramSpelling;
 use prl_ast::Program;
 use prl_base::{Limit, What};
 use prl_lex::{LexFault, lex};
-use prl_reader::{Stop, Terminal, out_of_range, place_of, terminals_of};
+use prl_grammar::{Stop, Terminal, out_of_range, place_of, terminals_of};
 use std::alloc::{AllocError, Global};
 
 /// The most nodes of a program.

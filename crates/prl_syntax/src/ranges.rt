@@ -5,7 +5,7 @@ ghost use Rattle.prl_syntax.specs.Ranges.{greatest, in_range, is_count, is_part}
 
 use crate::words::{Fixed, class_of};
 use prl_base::{MAX_NEGATIVE, MAX_PART, MAX_POSITIVE};
-use prl_reader::Ranged;
+use prl_grammar::Ranged;
 
 /// Whether a count is next, in a rate or not, and after a token of the class.
 fn is_count(in_rate: bool, last: u8) -> bool

@@ -2,7 +2,7 @@
 
 ghost use Rattle.std.specs.Prelude.{◌≡◌, ◌<◌, ◌≤◌};
 ghost use Rattle.prl_base.specs.Reading.{Gives};
-ghost use Rattle.prl_reader.specs.Stops.{stop_of};
+ghost use Rattle.prl_grammar.specs.code.Stops.{stop_of};
 ghost use Rattle.prl_base.specs.declared.ratios.TheConstants.{MAX_PART};
 ghost use Rattle.prl_syntax.specs.Values.{small, reduced, ratio_of};
 ghost use Rattle.prl_syntax.specs.Grammar as grammar;
@@ -12,7 +12,7 @@ ghost use Rattle.prl_syntax.specs.declared.words.Fixed.TheVariants as kinds;
 use crate::parser::Parser;
 use crate::words::Fixed;
 use prl_base::{MAX_PART, Ratio, Value, gcd};
-use prl_reader::{Stop, negative, positive};
+use prl_grammar::{Stop, negative, positive};
 
 /// The number, or the greatest one that is in a range.
 pub fn small(number: u64) -> u32

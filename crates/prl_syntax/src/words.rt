@@ -1,10 +1,10 @@
 //! The keywords and symbols of programs.
 
 ghost use Rattle.std.specs.Prelude.{◌≡◌, ◌≤◌};
-ghost use Rattle.prl_reader.specs.Lexing.{row_of};
+ghost use Rattle.prl_grammar.specs.Lexing.{row_of};
 ghost use Rattle.prl_syntax.specs.Words.{class_of, declaration_keywords, flow_keywords, punctuation, operators, keyword_of, symbol_of};
 
-use prl_reader::Spelling;
+use prl_grammar::Spelling;
 
 /// A keyword or a symbol of programs.
 #[derive(Clone, Copy, Debug, PartialEq, Eq)]

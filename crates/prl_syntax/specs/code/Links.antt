@@ -5,10 +5,10 @@ use Rattle.prl_base.specs.declared.operators.Op.{Op}
 use Rattle.prl_base.specs.declared.operators.Op.TheVariants as ops
 use Rattle.prl_ast.specs.declared.expressions.PlacedOp.{PlacedOp}
 use Rattle.prl_ast.specs.Trees.{Root, const, root_of}
-use Rattle.prl_reader.specs.Lexemes.{Lexeme}
-use Rattle.prl_reader.specs.Readers.{Read}
-use Rattle.prl_reader.specs.Productions.{give, either, ◌>>=◌}
-use Rattle.prl_reader.specs.Language.{read_nested}
+use Rattle.prl_grammar.specs.Lexemes.{Lexeme}
+use Rattle.prl_grammar.specs.code.Readers.{Read}
+use Rattle.prl_grammar.specs.Productions.{give, either, ◌>>=◌}
+use Rattle.prl_grammar.specs.code.Languages.{read_nested}
 use Rattle.prl_syntax.specs.declared.words.Fixed.{Fixed}
 use Rattle.prl_syntax.specs.declared.words.Fixed.TheVariants as fixed
 use Rattle.prl_syntax.specs.declared.expressions.Link.{Link}

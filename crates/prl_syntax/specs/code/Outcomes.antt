@@ -1,20 +1,20 @@
 -- The program that a text is, or its first fault, as a function.
-use Rattle.prl_reader.specs.declared.reading.Stop.{Stop as Stopped}
-use Rattle.prl_reader.specs.declared.reading.Stop.TheVariants as stops
-use Rattle.std.specs.Prelude.{◌≡◌, ◌<◌, ◌≤◌, ◌⊎◌, ◌+◌, ℕ, nat_le, false, List, length, Option, Some, None, Result, Ok, Err, if◌then◌else◌}
 use Rattle.prl_base.specs.Reading.{◌>>=◌}
+use Rattle.prl_grammar.specs.declared.reading.Stop.{Stop as Stopped}
+use Rattle.prl_grammar.specs.declared.reading.Stop.TheVariants as stops
+use Rattle.std.specs.Prelude.{◌≡◌, ◌+◌, ℕ, nat_le, false, List, length, Option, Some, None, Result, Ok, Err, if◌then◌else◌}
 use Rattle.prl_base.specs.declared.limits.Limit.{Limit}
 use Rattle.prl_base.specs.declared.limits.What.TheVariants as limits
 use Rattle.prl_ast.specs.Trees.{ProgramTree}
 use Rattle.prl_lex.specs.declared.tokens.LexFault.{LexFault}
 use Rattle.prl_lex.specs.declared.tokens.LexFault.TheVariants as lexical
-use Rattle.prl_lex.specs.declared.tokens.Token.{Token}
 use Rattle.prl_lex.specs.Lexing.{tokens_of}
-use Rattle.prl_reader.specs.Lexemes.{Lexeme}
-use Rattle.prl_reader.specs.Ranges.{out_of_range}
-use Rattle.prl_reader.specs.Language.{Text, read_at}
-use Rattle.prl_reader.specs.Readers.{Stop, Stuck, Deep}
-use Rattle.prl_reader.specs.Whole.{place_of, told, all_at, IsFirstUnexpected}
+use Rattle.prl_grammar.specs.Lexemes.{Lexeme}
+use Rattle.prl_grammar.specs.Ranges.{out_of_range}
+use Rattle.prl_grammar.specs.code.Languages.{read_at}
+use Rattle.prl_grammar.specs.code.Readers.{Stop, Stuck, Deep}
+use Rattle.prl_grammar.specs.Whole.{place_of}
+use Rattle.prl_grammar.specs.code.Whole.{told, all_at}
 use Rattle.prl_syntax.specs.declared.parsing.TheConstants.{MAX_NODES}
 use Rattle.prl_syntax.specs.declared.parsing.ParseFault.{ParseFault}
 use Rattle.prl_syntax.specs.declared.parsing.ParseFault.TheVariants as faults
@@ -22,7 +22,6 @@ use Rattle.prl_syntax.specs.Grammar.{Program, programs}
 use Rattle.prl_syntax.specs.Lexing.{lexemes_of}
 use Rattle.prl_syntax.specs.Ranges.{program_ranges}
 
-use Rattle.prl_syntax.specs.Parsing.{IsProgramOf}
 
 abbrev pub of_lexical : LexFault → ParseFault
 of_lexical (lexical.BadToken at) = faults.BadToken at

@@ -1,8 +1,8 @@
 use Rattle.std.proofs.Common.{map, sym, ap, ◌∙◌, arith}
 use Rattle.std.proofs.lemmas.List.{map_push}
 use Rattle.std.proofs.lemmas.Result.{err_from_is_err_and}
-use Rattle.prl_reader.proofs.Loops.{fewer, goes_on, halts, fails}
-use Rattle.prl_reader.proofs.Nesting.{nested_step}
+use Rattle.prl_grammar.proofs.Loops.{fewer, goes_on, halts, fails}
+use Rattle.prl_grammar.proofs.Nesting.{nested_step}
 use Rattle.prl_bodytext.specs.declared.levels.Level.TheVariants as levels
 use Rattle.prl_bodytext.specs.declared.words.Fixed.TheVariants as fixed
 use Rattle.prl_bodytext.specs.Grammar.{LinkOf, Operand, Expression, bodies}

@@ -1,5 +1,5 @@
 use Rattle.std.proofs.Common.{◌≤◌, ◌+◌, ◌*◌, length, map}
-use Rattle.prl_reader.specs.Loops.{GoesOn}
+use Rattle.prl_grammar.specs.code.Loops.{GoesOn}
 use Rattle.prl_bodytext.specs.Grammar.{LinkOf, Operand, bodies}
 use Rattle.prl_bodytext.specs.Trees.{link_view}
 use Rattle.prl_bodytext.proofs.Calls.{calls_of}

@@ -1,7 +1,7 @@
 use Rattle.std.proofs.Common.{map, sym, ap, ◌∙◌}
 use Rattle.std.proofs.lemmas.List.{map_push}
 use Rattle.std.proofs.lemmas.Result.{err_from_is_err_and}
-use Rattle.prl_reader.proofs.Loops.{fewer, goes_on, halts, fails, none_before}
+use Rattle.prl_grammar.proofs.Loops.{fewer, goes_on, halts, fails, none_before}
 use Rattle.prl_bodytext.proofs.Right.{right}
 use Rattle.prl_bodytext.proofs.parser.Parser.many.Goals as goal
 

@@ -1,6 +1,6 @@
 use Rattle.std.proofs.Common.{sym, ◌∙◌}
 use Rattle.std.proofs.lemmas.Result.{err_from_is_err_and}
-use Rattle.prl_reader.proofs.Loops.{fewer, goes_on, halts, fails, none_before}
+use Rattle.prl_grammar.proofs.Loops.{fewer, goes_on, halts, fails, none_before}
 use Rattle.prl_bodytext.specs.Grammar.{the, Register, StatementLine, Constant}
 use Rattle.prl_bodytext.proofs.Right.{right, prefix_loop}
 use Rattle.prl_bodytext.proofs.parser.Parser.prefixes.Goals as goal

@@ -1,10 +1,10 @@
 use Rattle.std.proofs.Common.{◌≡◌, ◌≤◌, ◌+◌, ◌*◌, length, map}
 use Rattle.prl_ast.specs.Trees.{tree_of}
-use Rattle.prl_reader.specs.Language.{read_at, read_nested}
-use Rattle.prl_reader.specs.Productions.{many}
+use Rattle.prl_grammar.specs.code.Languages.{read_at, read_nested}
+use Rattle.prl_grammar.specs.Productions.{many}
 use Rattle.prl_syntax.specs.declared.words.Fixed.TheVariants as fixed
 use Rattle.prl_syntax.specs.code.Links.{with_prefixes}
-use Rattle.prl_reader.specs.Loops.{with_front}
+use Rattle.prl_grammar.specs.code.Loops.{with_front}
 use Rattle.prl_syntax.specs.Grammar.{after, Expr, programs}
 use Rattle.prl_syntax.proofs.parser.Parser.+expression.Given as goal
 

@@ -2,7 +2,7 @@ use Rattle.std.proofs.Common.{map, sym, ap, ◌∙◌}
 use Rattle.std.proofs.lemmas.List.{map_push}
 use Rattle.std.proofs.lemmas.Result.{err_from_is_err_and}
 use Rattle.prl_syntax.specs.code.Nodes.{declared_view}
-use Rattle.prl_reader.proofs.Loops.{step_goes_on, step_halts, step_fails}
+use Rattle.prl_grammar.proofs.Loops.{step_goes_on, step_halts, step_fails}
 use Rattle.prl_syntax.proofs.Right.{declaration_steps}
 use Rattle.prl_syntax.proofs.parser.Parser.more_declarations.Goals as goal
 

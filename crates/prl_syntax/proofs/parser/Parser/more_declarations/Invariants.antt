@@ -1,9 +1,9 @@
 use Rattle.std.proofs.Common.{◌≡◌, map, length}
 use Rattle.prl_syntax.specs.code.Nodes.{declared_view}
-use Rattle.prl_reader.specs.Language.{read_at}
-use Rattle.prl_reader.specs.Productions.{many}
+use Rattle.prl_grammar.specs.code.Languages.{read_at}
+use Rattle.prl_grammar.specs.Productions.{many}
 use Rattle.prl_syntax.specs.Grammar.{Declaration, programs}
-use Rattle.prl_reader.specs.Loops.{with_front}
+use Rattle.prl_grammar.specs.code.Loops.{with_front}
 use Rattle.prl_syntax.proofs.parser.Parser.more_declarations.Given as goal
 
 abbrev pub invariant-more : goal.invariant-more

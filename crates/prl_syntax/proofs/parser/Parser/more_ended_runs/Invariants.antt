@@ -1,6 +1,6 @@
 use Rattle.std.proofs.Common.{◌≡◌, length}
-use Rattle.prl_reader.specs.Language.{read_at}
-use Rattle.prl_reader.specs.Productions.{many}
+use Rattle.prl_grammar.specs.code.Languages.{read_at}
+use Rattle.prl_grammar.specs.Productions.{many}
 use Rattle.prl_syntax.specs.Grammar.{EndedRun, programs}
 use Rattle.prl_syntax.specs.code.Loops.{with_joined}
 use Rattle.prl_syntax.proofs.parser.Parser.more_ended_runs.Given as goal

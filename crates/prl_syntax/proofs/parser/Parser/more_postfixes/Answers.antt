@@ -1,6 +1,6 @@
 use Rattle.std.proofs.Common.{sym, ◌∙◌}
 use Rattle.std.proofs.lemmas.Result.{err_from_is_err_and}
-use Rattle.prl_reader.proofs.Loops.{step_goes_on, step_halts, step_fails}
+use Rattle.prl_grammar.proofs.Loops.{step_goes_on, step_halts, step_fails}
 use Rattle.prl_syntax.proofs.Right.{postfix_steps}
 use Rattle.prl_syntax.proofs.parser.Parser.more_postfixes.Goals as goal
 

@@ -1,8 +1,8 @@
 use Rattle.std.proofs.Common.{◌≡◌, length}
-use Rattle.prl_reader.specs.Language.{read_at}
-use Rattle.prl_reader.specs.Productions.{many}
+use Rattle.prl_grammar.specs.code.Languages.{read_at}
+use Rattle.prl_grammar.specs.Productions.{many}
 use Rattle.prl_syntax.specs.Grammar.{Postfix, programs}
-use Rattle.prl_reader.specs.Loops.{with_front}
+use Rattle.prl_grammar.specs.code.Loops.{with_front}
 use Rattle.prl_syntax.proofs.parser.Parser.more_postfixes.Given as goal
 
 abbrev pub invariant-more : goal.invariant-more

@@ -1,6 +1,6 @@
 use Rattle.std.proofs.Common.{◌≡◌, length}
-use Rattle.prl_reader.specs.Language.{read_at}
-use Rattle.prl_reader.specs.Productions.{many}
+use Rattle.prl_grammar.specs.code.Languages.{read_at}
+use Rattle.prl_grammar.specs.Productions.{many}
 use Rattle.prl_syntax.specs.declared.words.Fixed.TheVariants as fixed
 use Rattle.prl_syntax.specs.Grammar.{after, Run, programs}
 use Rattle.prl_syntax.specs.code.Loops.{with_joined}

@@ -1,0 +1,13 @@
+-- The tokens of a text as a grammar sees them.
+pub mod Lexemes
+pub mod Lexing
+-- Grammars: relations between tokens and trees, and data that stand for them.
+pub mod Grammars
+pub mod Productions
+pub mod Language
+-- The first unexpected token, and the numbers.
+pub mod Whole
+pub mod Numbers
+pub mod Ranges
+-- What private functions say to one another.
+pub mod code

@@ -1,0 +1,36 @@
+-- Grammars as data. What stands for R is read in parentheses.
+use Rattle.std.specs.Prelude.{ℕ, List}
+use Rattle.prl_base.specs.declared.places.Span.{Span}
+use Rattle.prl_grammar.specs.Lexemes.{Lexeme}
+use Rattle.prl_grammar.specs.Grammars.{One, Then, Give, Either, Many, FromFirst}
+
+pub data Grammar (R : Type 0) : Type 0 → Type 1 where
+  token : ℕ → Grammar R Lexeme
+  give : {A : Type 0} → A → Grammar R A
+  bind : {A B : Type 0} → Grammar R A → (A → Grammar R B) → Grammar R B
+  either : {A : Type 0} → Grammar R A → Grammar R A → Grammar R A
+  many : {A : Type 0} → Grammar R A → Grammar R (List A)
+  -- one, and others after a separator each
+  separated : {A S : Type 0} → Grammar R S → Grammar R A → Grammar R (A × List (S × A))
+  -- with the place of the first token
+  placed : {A : Type 0} → Grammar R A → Grammar R (Span × A)
+  inner : Grammar R R
+
+infixl 10 ◌>>=◌
+abbrev pub ◌>>=◌ : {R A B : Type 0} → Grammar R A → (A → Grammar R B) → Grammar R B
+g >>= f = bind g f
+
+-- one, and others after a separator each
+abbrev pub Row : {A S : Type 0} → (S → List Lexeme → Type 0) → (A → List Lexeme → Type 0) → A × List (S × A) → List Lexeme → Type 0
+Row {A} {S} V W = Then W (λ first. Then (Many {A = S × A} (Then V (λ x. Then W (λ y. Give (x, y))))) (λ rest. Give (first, rest)))
+
+-- which trees the lists of tokens stand for
+abbrev pub written : {R A : Type 0} → (R → List Lexeme → Type 0) → Grammar R A → A → List Lexeme → Type 0
+written I (token class) = One class
+written I (give x) = Give x
+written I (bind g f) = Then (written I g) (λ a. written I (f a))
+written I (either g h) = Either (written I g) (written I h)
+written I (many g) = Many (written I g)
+written I (separated s g) = Row (written I s) (written I g)
+written I (placed g) = FromFirst (written I g)
+written I inner = I

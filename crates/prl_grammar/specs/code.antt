@@ -1,0 +1,9 @@
+pub mod Readers
+pub mod Reads
+pub mod Terminals
+pub mod Stops
+pub mod Shapes
+pub mod Languages
+pub mod Whole
+pub mod Loops
+pub mod LookAhead

@@ -1,6 +1,0 @@
-use Rattle.std.proofs.Common.{◌≡◌, drop, false}
-use Rattle.prl_reader.specs.Ranges.{out_of_range}
-use Rattle.prl_reader.proofs.numbers.out_of_range.Given as goal
-
-abbrev pub invariant-each : goal.invariant-each
-invariant-each g l = out_of_range g.R.Ranged.ranges l.inside l.last (drop l.terminal-index l.terminals) ≡ out_of_range g.R.Ranged.ranges false 0 l.terminals
