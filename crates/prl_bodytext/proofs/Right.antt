@@ -147,14 +147,6 @@ statement_loop = (statement_apart, refl, refl)
 pub prefix_loop : (f : Fixed) → IsApart (inner_of bodies) (many (the f))
 prefix_loop f = (the_apart f, refl, refl)
 
-pub operand_apart : (level : Level) → IsApart (inner_of bodies) (Operand level)
-unfolding Operand
-operand_apart levels.Disjunction = conjunction_apart
-operand_apart levels.Conjunction = negation_apart
-operand_apart levels.Comparison = sum_apart
-operand_apart levels.Sum = product_apart
-operand_apart levels.Product = unary_apart
-
 fewer : {A : Type 0} (g : Grammar Tree A) → IsApart (inner_of bodies) g → (shape (inner_of bodies) g).nullable ≡ false → (ts : List Lexeme) (a : A) (rest : List Lexeme) → read_at bodies g ts ≡ Ok (a, rest) → length rest < length ts
 fewer g apart solid = leaves_fewer 0 (text_reads bodies right g apart 0) solid
 

@@ -1,19 +1,16 @@
 -- Readers of one token read their grammars.
-use Rattle.std.proofs.Common.{◌≡◌, ◌≤◌, ℕ, true, false, List, [], ◌∷◌, ◌++◌, length, Ok, Err, Some, None, refl, sym, ap, ◌∙◌, subst, ⊎_elim, arith, length-append}
+use Rattle.std.proofs.Common.{◌≡◌, ◌≤◌, ℕ, true, false, List, [], ◌∷◌, ◌++◌, length, Ok, Err, refl, sym, ap, ◌∙◌, subst, ⊎_elim, arith, length-append}
 use Rattle.std.proofs.lemmas.Bool.{false≢true}
-use Rattle.std.proofs.lemmas.List.{append-nil, append_cancel_right}
+use Rattle.std.proofs.lemmas.List.{append_cancel_right}
 use Rattle.prl_base.specs.Reading.{◌>>=◌}
 use Rattle.prl_base.specs.declared.places.Span.{Span}
 use Rattle.prl_grammar.specs.Lexemes.{Lexeme, first_place}
-use Rattle.prl_grammar.specs.Grammars.{One, Then, Give, Either, Maybe, FromFirst, Place, Named, Numbered}
-use Rattle.prl_grammar.specs.code.Readers.{Stuck, Read, is_in, choice, maybe_at, from_first, one_at, place_at, name_at, number_at}
-use Rattle.prl_grammar.specs.code.Reads.{Shape, then_shape, either_shape, Begins, CanComplete, Taken, Reads}
+use Rattle.prl_grammar.specs.Grammars.{Then, FromFirst}
+use Rattle.prl_grammar.specs.code.Readers.{Stuck, Read, from_first}
+use Rattle.prl_grammar.specs.code.Reads.{Shape, then_shape, Begins, CanComplete, Taken, Reads}
 use Rattle.prl_grammar.specs.Whole.{next_class}
-use Rattle.prl_grammar.specs.code.LookAhead.{disjoint}
 use Rattle.prl_grammar.proofs.Basics.{Apart, apart, bind_ok, bind_err, same_tree, same_rest}
-use Rattle.prl_grammar.proofs.Steps.{one_shape, one_reads, give, give_reads}
-use Rattle.prl_grammar.proofs.Sequences.{then_read, bind_reads, choice_reads}
-use Rattle.prl_grammar.proofs.Repeats.{restate}
+use Rattle.prl_grammar.proofs.Sequences.{then_read, bind_reads}
 
 -- the parts of a text have no more tokens than it
 pub both_fit : (n : ℕ) (s : Shape) (u v : List Lexeme) → Begins s u → length (u ++ v) ≤ n → (length u ≤ n) × (length v ≤ n)
@@ -24,34 +21,9 @@ pub then_reads : {A B : Type 0} {W : A → List Lexeme → Type 0} {V : A → B 
     → Reads n W s p → ((a : A) → Reads n (V a) r (q a)) → Apart s.more r.first → Reads n (Then W V) (then_shape s r) (then_read p q)
 then_reads {s} n one two apart = bind_reads n n n one two apart (both_fit n s)
 
-one_then : {A : Type 0} (n class : ℕ) (f : Lexeme → A) → Reads n (Then (One class) (λ t. Give (f t))) (one_shape class) (then_read (λ ts. one_at class ts) (λ t. give (f t)))
-one_then n class f = then_reads n (one_reads n class) (λ t. give_reads n (f t)) (λ c h. refl)
-
-pub place_reads : (n class : ℕ) → Reads n (Place class) (one_shape class) (place_at class)
-place_reads n class = one_then n class (λ t. t.at)
-
-pub name_reads : (n : ℕ) → Reads n Named (one_shape 0) name_at
-name_reads n = one_then n 0 (λ t. (t.name, t.at))
-
-pub number_reads : (n : ℕ) → Reads n Numbered (one_shape 1) number_at
-number_reads n = one_then n 1 (λ t. (t.number, t.at))
-
 -- a text that is not empty, with what it begins with and what would continue it
 abbrev pub solid : List ℕ → List ℕ → Shape
 solid first more = record { first = first; nullable = false; more = more }
-
--- one that may be empty
-abbrev pub loose : List ℕ → List ℕ → Shape
-loose first more = record { first = first; nullable = true; more = more }
-
-pub maybe_reads : {A : Type 0} {W : A → List Lexeme → Type 0} {p : List Lexeme → Read A} (first more : List ℕ) (n : ℕ) → Reads n W (solid first more) p → Reads n (Maybe W) (loose first (more ++ first)) (maybe_at first p)
-maybe_reads {A} {W} {p} first more n reads =
-    restate n (choice_reads n (then_reads n reads (λ a. give_reads n (Some a)) (λ c h. refl)) (give_reads n None) refl (λ c h. refl)) (λ a w h. h) (λ a w h. h)
-    (record {
-      first = λ c h. sym (ap (is_in c) (append-nil first)) ∙ h;
-      nullable = λ h. refl;
-      more = λ c h. ap (is_in c) (ap (λ ks. ks ++ first) (append-nil more)) ∙ h;
-    })
 
 abbrev pair_of : {A : Type 0} → Span → A → Span × A
 pair_of at a = (at, a)
@@ -116,12 +88,3 @@ first_reads {A} {W} {p} first more n reads = record {
         (λ h. ap (λ r. r >>= λ y. Ok ((first_place (w ++ other), y.0), y.1)) (reads.local_stuck w rest other n h))
         (λ h. let no_error = h.two in cc)
         (bind_err (p (w ++ rest)) (λ y. Ok ((first_place (w ++ rest), y.0), y.1)) (Stuck (length rest)) e)
-
--- one text after another, and one of two, where the classes are written out: `refl` shows that they are apart
-pub followed : {A B : Type 0} {W : A → List Lexeme → Type 0} {V : A → B → List Lexeme → Type 0} {s r : Shape} {p : List Lexeme → Read A} {q : A → List Lexeme → Read B} (n : ℕ)
-    → Reads n W s p → ((a : A) → Reads n (V a) r (q a)) → disjoint s.more r.first ≡ true → Reads n (Then W V) (then_shape s r) (then_read p q)
-followed {s} {r} n one two d = then_reads n one two (apart s.more r.first d)
-
-pub either : {A : Type 0} {W V : A → List Lexeme → Type 0} {s r : Shape} {p q : List Lexeme → Read A} (n : ℕ)
-    → Reads n W s p → Reads n V r q → s.nullable ≡ false → disjoint s.first r.first ≡ true → Reads n (Either W V) (either_shape s r) (choice s.first p q)
-either {s} {r} n one two solid d = choice_reads n one two solid (apart s.first r.first d)

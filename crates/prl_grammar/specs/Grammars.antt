@@ -40,10 +40,6 @@ Place class = Then (One class) (λ t. Give t.at)
 abbrev pub Named : List ℕ × Span → List Lexeme → Type 0
 Named = Then (One 0) (λ t. Give (t.name, t.at))
 
--- a number and its place
-abbrev pub Numbered : ℕ × Span → List Lexeme → Type 0
-Numbered = Then (One 1) (λ t. Give (t.number, t.at))
-
 -- one text after another, as a block of steps
 infixl 10 ◌>>=◌
 abbrev pub ◌>>=◌ : {A B : Type 0} → (A → List Lexeme → Type 0) → (A → B → List Lexeme → Type 0) → B → List Lexeme → Type 0

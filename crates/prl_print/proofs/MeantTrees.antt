@@ -47,13 +47,6 @@ fl_either {A} {W} {V} one two = record { flat = flat }
     flat a w (inl h) d = one.flat a w h d
     flat a w (inr h) d = two.flat a w h d
 
-fl_many : {A : Type 0} {W : A → List Lexeme → Type 0} → Flat W → Flat (Many W)
-fl_many {A} {W} m = record { flat = flat }
-  where
-    flat : (xs : List A) (w : List Lexeme) → Many W xs w → (d : ℕ) → depth_along d w ≡ d
-    flat [] w h d = ap (depth_along d) h
-    flat (x ∷ xs) w h d = both_flat w h.0 h.1 d d d h.2 (m.flat x h.0 h.3 d) (flat xs h.1 h.4 d)
-
 fl_one : {B : Type 0} (class : ℕ) (f : Lexeme → B) → (class == 19) ≡ false → (class == 20) ≡ false → Flat (Then (One class) (λ t. Give (f t)))
 fl_one class f a b = fl_ends f (record { flat = λ t w o d. ap (depth_along d) o.whole ∙ ap (deeper d) o.is ∙ cond-false (class == 19) _ _ a ∙ cond-false (class == 20) _ _ b })
 

@@ -96,9 +96,6 @@ p_one {B} class f F k is h = record { read = read }
           };
         }
 
-abbrev pub Any : {A : Type 0} → A → Type 0
-Any a = Unit {0}
-
 pub p_the : (f : Fixed) → Prints (The f) (λ at. Unit {0}) (one f)
 p_the f = p_one (class_of f) (λ t. t.at) (λ at. Unit {0}) (a_fixed f) refl (λ t e. tt)
 

@@ -390,9 +390,6 @@ fewer g apart solid = leaves_fewer 0 (text_reads programs right g apart 0) solid
 pub token_fewer : (f : Fixed) (ts : List Lexeme) (p : Span) (rest : List Lexeme) → read_at programs (the f) ts ≡ Ok (p, rest) → length rest < length ts
 token_fewer f = fewer (the f) (the_apart f) refl
 
-pub name_fewer : (ts : List Lexeme) (x : List ℕ × Span) (rest : List Lexeme) → read_at programs named ts ≡ Ok (x, rest) → length rest < length ts
-name_fewer = fewer named named_apart refl
-
 pub expr_fewer : (ts : List Lexeme) (t : Tree) (rest : List Lexeme) → read_at programs Expr ts ≡ Ok (t, rest) → length rest < length ts
 unfolding programs Stem Base Prefixed Const Expr Exprs Postfix Ratio
 expr_fewer = fewer Expr expr_apart refl

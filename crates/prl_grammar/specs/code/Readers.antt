@@ -61,10 +61,6 @@ number_at ts = do
   t ← one_at 1 ts
   Ok ((t.0.number, t.0.at), t.1)
 
--- what may be left out, told by the next token
-abbrev pub maybe_at : {A : Type 0} → List ℕ → (List Lexeme → Read A) → List Lexeme → Read (Option A)
-maybe_at classes read ts = if next_in classes ts then (read ts >>= λ x. Ok (Some x.0, x.1)) else Ok (None, ts)
-
 -- with the place of the first token
 abbrev pub from_first : {A : Type 0} → (List Lexeme → Read A) → List Lexeme → Read (Span × A)
 from_first read ts = read ts >>= λ x. Ok ((first_place ts, x.0), x.1)
