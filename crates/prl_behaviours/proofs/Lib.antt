@@ -2,3 +2,4 @@ pub mod Marks
 pub mod Shapes
 pub mod States
 pub mod Wholes
+pub mod Made

@@ -1,9 +1,13 @@
 //! Laws of annotated texts, as functions that do nothing: the contract of each is the law, over the definitions alone.
 
 ghost use Rattle.std.specs.Prelude.{◌≡◌, ℕ, List, length, map};
-ghost use Rattle.std.specs.List.{range_with_len};
+ghost use Rattle.std.specs.List.{AllByRecursion, range_with_len};
+ghost use Rattle.prl_base.specs.declared.operators.Clock.{Clock};
+ghost use Rattle.prl_base.specs.declared.values.Value.{Value};
 ghost use Rattle.prl_ast.specs.Trees.{ProgramTree};
+ghost use Rattle.prl_body.specs.Bodies.{IsWellTyped};
 ghost use Rattle.prl_body.specs.declared.bodies.CheckedBody.{CheckedBody};
+ghost use Rattle.prl_flow.specs.Applications.{HaveBodies};
 ghost use Rattle.prl_flow.specs.Programs.{FlatProgram, IsFlat};
 ghost use Rattle.prl_flow.specs.Rows.{Rows};
 ghost use Rattle.prl_flow.specs.Rules.{mark_rule};
@@ -43,4 +47,11 @@ pub fn solutions_are_of_their_clocks()
     ensures { (p : FlatProgram) (bodies : List CheckedBody) (rows : Rows) (until : ℕ) (s : State) → IsFlat p → IsSolution p bodies rows until s
         → AreClocks p (map (λ (f : Timed). f.clock) s.flows)
         × Solves p (map (λ (f : Timed). f.clock) s.flows) bodies rows until (map (λ (f : Timed). f.values) s.flows) }
+{}
+
+/// And clocks that agree, with a solution over them for bodies that fit, are those of a solution whole.
+pub fn solutions_over_clocks_are_whole()
+    ensures { (p : FlatProgram) (clocks : List Clock) (bodies : List CheckedBody) (rows : Rows) (until : ℕ) (flows : List (List Value))
+        → IsFlat p → AreClocks p clocks → HaveBodies p bodies → AllByRecursion IsWellTyped bodies → Solves p clocks bodies rows until flows
+        → (s : State) × IsSolution p bodies rows until s × (map (λ (f : Timed). f.clock) s.flows ≡ clocks) × (map (λ (f : Timed). f.values) s.flows ≡ flows) }
 {}

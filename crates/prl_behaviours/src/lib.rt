@@ -7,5 +7,5 @@ mod laws;
 
 pub use laws::{
     behaviours_are_of_their_states, rules_follow_marks, solutions_are_of_their_clocks,
-    states_make_behaviours, texts_have_one_shape,
+    solutions_over_clocks_are_whole, states_make_behaviours, texts_have_one_shape,
 };
