@@ -3,3 +3,5 @@ pub mod Shapes
 pub mod States
 pub mod Wholes
 pub mod Made
+-- for the crates above: lists
+pub mod Lists

@@ -1,5 +1,5 @@
 -- Clocks that agree and a solution over them are a solution whole, with the registers that the steps make.
-use Rattle.std.proofs.Common.{◌≡◌, ◌<◌, ◌+◌, ℕ, zero, suc, List, [], ◌∷◌, ◌++◌, map, length, Option, Some, None, slice_get, slice_index_or, refl, sym, ap, ◌∙◌, subst, arith, true, false, cond}
+use Rattle.std.proofs.Common.{◌≡◌, ◌<◌, ◌+◌, ℕ, zero, suc, List, [], ◌∷◌, map, length, Option, Some, None, slice_get, slice_index_or, refl, sym, ap, ◌∙◌, subst, arith, true, false, cond}
 use Rattle.std.specs.List.{AllByRecursion, range_with_len}
 use Rattle.std.specs.Option.{option_map}
 use Rattle.std.specs.Str.{bytes_eq}
@@ -32,26 +32,8 @@ use Rattle.prl_flow.specs.declared.programs.Def.TheVariants as definitions
 use Rattle.prl_flow.specs.declared.programs.Flow.{Flow}
 use Rattle.prl_flow.proofs.Applied.{length_HaveTypes}
 use Rattle.prl_flow.proofs.ClockDates.{dates_before_number, value_at_date}
+use Rattle.prl_behaviours.proofs.Lists.{some_inner, all_both, to_mapped, all_from, map_same}
 use Rattle.prl_flow.proofs.Lists.{element_at, same_from_elements}
-
-some_inner : {A : Type 0} (x y : A) → Some x ≡ Some y → x ≡ y
-some_inner x y e = cc
-
-both_parts : {A : Type 0} (P : A → Type 0) (xs ys : List A) → AllByRecursion P xs → AllByRecursion P ys → AllByRecursion P (xs ++ ys)
-both_parts P [] ys f g = g
-both_parts P (x ∷ xs) ys f g = (f.0, both_parts P xs ys f.1 g)
-
-to_mapped : {A B : Type 0} (P : B → Type 0) (f : A → B) (xs : List A) → AllByRecursion (λ x. P (f x)) xs → AllByRecursion P (map f xs)
-to_mapped P f [] h = tt
-to_mapped P f (x ∷ xs) h = (h.0, to_mapped P f xs h.1)
-
-all_from : {A : Type 0} (P : A → Type 0) (xs : List A) → ((j : ℕ) (x : A) → slice_get xs j ≡ Some x → P x) → AllByRecursion P xs
-all_from P [] each = tt
-all_from P (x ∷ xs) each = (each 0 x refl, all_from P xs (λ j y e. each (suc j) y e))
-
-map_same : {A B : Type 0} (f g : A → B) → ((x : A) → f x ≡ g x) → (xs : List A) → map f xs ≡ map g xs
-map_same f g e [] = refl
-map_same f g e (x ∷ xs) = rw (e x, map_same f g e xs) refl
 
 rule_same : (f g : ℕ → Timed) (r : ℕ → List (List Value)) → ((i : ℕ) → f i ≡ g i) → (rule : Rule ℕ ℕ) → mark_rule f r rule ≡ mark_rule g r rule
 rule_same f g r e (rated rate x) = ap (rated rate) (e x)
@@ -160,14 +142,14 @@ module _ (p : FlatProgram) (flat : IsFlat p) (clocks : List Clock) (agree : AreC
   flows_held : (k : ℕ) (fs : List Flow) → ((i j : ℕ) (f : Flow) → slice_get fs i ≡ Some f → j ≡ k + i → AllByRecursion Held (flow_rules j f)) → AllByRecursion Held (flows_rules k fs)
   flows_held k [] each = tt
   flows_held k (f ∷ fs) each =
-      both_parts Held (flow_rules k f) (flows_rules (k + 1) fs) (each 0 k f refl (omega arith)) (flows_held (k + 1) fs (λ i j g e at. each (suc i) j g e (omega (arith, at))))
+      all_both Held (flow_rules k f) (flows_rules (k + 1) fs) (each 0 k f refl (omega arith)) (flows_held (k + 1) fs (λ i j g e at. each (suc i) j g e (omega (arith, at))))
 
   apps_held : (k : ℕ) (us : List App) → ((i j : ℕ) (u : App) → slice_get us i ≡ Some u → j ≡ k + i → Held (app_rule j u)) → AllByRecursion Held (apps_rules k us)
   apps_held k [] each = tt
   apps_held k (u ∷ us) each = (each 0 k u refl (omega arith), apps_held (k + 1) us (λ i j v e at. each (suc i) j v e (omega (arith, at))))
 
   flow_held : (i : ℕ) (f : Flow) → slice_get p.flows i ≡ Some f → AllByRecursion Held (flow_rules i f)
-  flow_held i f e = both_parts Held (rate_rules f.rate i) (definition_rules i f.def) (rate_held i f.rate (agree.rates i f e)) (def_held i f.def (agree.agree i f e) (h.meets i f e))
+  flow_held i f e = all_both Held (rate_rules f.rate i) (definition_rules i f.def) (rate_held i f.rate (agree.rates i f e)) (def_held i f.def (agree.agree i f e) (h.meets i f e))
 
   -- the values of the arguments at a date
   read_args : (c : Clock) (n : ℕ) (us : List Arg) → IsClock c → date_at c n < until → ((j : ℕ) (u : Arg) → slice_get us j ≡ Some u → (clock_of clocks u.flow.0 ≡ c) × (u.flow.0 < length flows))
@@ -282,7 +264,7 @@ module _ (p : FlatProgram) (flat : IsFlat p) (clocks : List Clock) (agree : AreC
   whole =
       let same_flows : (i : ℕ) → flow_at state i ≡ own i = λ i. timed_at clocks flows count i in
       let held : AllByRecursion Held (flat_rules p) =
-      both_parts Held (flows_rules 0 p.flows) (apps_rules 0 p.apps)
+      all_both Held (flows_rules 0 p.flows) (apps_rules 0 p.apps)
       (flows_held 0 p.flows (λ i j f e at. let number : i ≡ j = omega (arith, at) in subst (λ m. AllByRecursion Held (flow_rules m f)) number (flow_held i f e)))
       (apps_held 0 p.apps (λ i j u e at. let number : i ≡ j = omega (arith, at) in subst (λ m. Held (app_rule m u)) number (app_rule_held i u e))) in
       record {

@@ -10,18 +10,13 @@ use Rattle.prl_names.specs.Lookups.{callee_of}
 use Rattle.prl_behaviours.specs.Annotations.{Entered, entered, Rights, done, next, Part, part, Core, Parts, flows_in, right_flows, part_flows, core_flows, parts_flows, imports_in, right_imports, part_imports, core_imports, parts_imports, nodes_in, right_nodes, part_nodes, core_nodes, parts_nodes}
 use Rattle.prl_behaviours.specs.Annotations as notes
 use Rattle.prl_behaviours.specs.Behaviours.{Behaviour}
+use Rattle.prl_behaviours.proofs.Lists.{some_inner, head_same, tail_same}
 use Rattle.prl_behaviours.specs.Texts.{node_of, IsNodeCall, IsImportCall, HasVariables, node_at, IsText, AreRights, IsPart, IsCore, AreParts}
 
 -- two lists of one, of equal first parts
 record Cut {A : Type 0} (xs ys us vs : List A) : Type 0 where
   left : xs ≡ us
   right : ys ≡ vs
-
-head_same : {A : Type 0} (x y : A) (xs ys : List A) → x ∷ xs ≡ y ∷ ys → x ≡ y
-head_same x y xs ys e = cc
-
-tail_same : {A : Type 0} (x y : A) (xs ys : List A) → x ∷ xs ≡ y ∷ ys → xs ≡ ys
-tail_same x y xs ys e = cc
 
 cut : {A : Type 0} (xs ys us vs : List A) → length xs ≡ length us → xs ++ ys ≡ us ++ vs → Cut xs ys us vs
 cut [] ys [] vs n e = record { left = refl; right = e }
@@ -35,14 +30,11 @@ same_variables : (o : Option NodeTree) (a b c d e f : ℕ) → HasVariables o a 
 same_variables None a b c d e f x y = absurd x
 same_variables (Some n) a b c d e f x y = (x.0 ∙ sym y.0, x.1 ∙ sym y.1, x.2 ∙ sym y.2)
 
-some_same : {A : Type 0} (x y : A) → Some x ≡ Some y → x ≡ y
-some_same x y e = cc
-
 same_outputs : (p : ProgramTree) (o : Option Callee) (a b : ℕ) → IsImportCall p a o → IsImportCall p b o → a ≡ b
 same_outputs p None a b x y = absurd x
 same_outputs p (Some (callees.Node k)) a b x y = absurd x
 same_outputs p (Some (callees.Import k)) a b x y =
-    let same : x.0 ≡ y.0 = some_same x.0 y.0 (sym x.1 ∙ y.1) in
+    let same : x.0 ≡ y.0 = some_inner x.0 y.0 (sym x.1 ∙ y.1) in
     x.2 ∙ ap (λ (i : Import). length i.outs) same ∙ sym y.2
 
 -- an application is not of a node and of an import

@@ -19,31 +19,12 @@ use Rattle.prl_flow.specs.Rows.{Rows, rows_of}
 use Rattle.prl_flow.specs.Rules.{Rule, mark_rule, rate_rules, definition_rules, flow_rules, flows_rules, app_rule, apps_rules, flat_rules}
 use Rattle.prl_flow.specs.Solutions.{AgreesClock, AreClocks, HasOneClock, HasRate, IsOutputFlow, MeetsDefinition, Solves, argument_flows, clock_of, values_of}
 use Rattle.prl_flow.specs.States.{Timed, State, IsTimed, Holds, HaveClock, IsApplied, IsSolution, all_at, flow_at, registers_at}
+use Rattle.prl_behaviours.proofs.Lists.{some_inner, all_first, all_second, of_mapped, at_place}
 use Rattle.prl_flow.specs.declared.programs.App.{App}
 use Rattle.prl_flow.specs.declared.programs.Arg.{Arg}
 use Rattle.prl_flow.specs.declared.programs.Def.{Def}
 use Rattle.prl_flow.specs.declared.programs.Def.TheVariants as definitions
 use Rattle.prl_flow.specs.declared.programs.Flow.{Flow}
-
-some_inner : {A : Type 0} (x y : A) → Some x ≡ Some y → x ≡ y
-some_inner x y e = cc
-
-first_part : {A : Type 0} (P : A → Type 0) (xs ys : List A) → AllByRecursion P (xs ++ ys) → AllByRecursion P xs
-first_part P [] ys h = tt
-first_part P (x ∷ xs) ys h = (h.0, first_part P xs ys h.1)
-
-second_part : {A : Type 0} (P : A → Type 0) (xs ys : List A) → AllByRecursion P (xs ++ ys) → AllByRecursion P ys
-second_part P [] ys h = h
-second_part P (x ∷ xs) ys h = second_part P xs ys h.1
-
-of_mapped : {A B : Type 0} (P : B → Type 0) (f : A → B) (xs : List A) → AllByRecursion P (map f xs) → AllByRecursion (λ x. P (f x)) xs
-of_mapped P f [] h = tt
-of_mapped P f (x ∷ xs) h = (h.0, of_mapped P f xs h.1)
-
-at_place : {A : Type 0} (Q : A → Type 0) (xs : List A) (t : ℕ) (x : A) → AllByRecursion Q xs → slice_get xs t ≡ Some x → Q x
-at_place Q [] t x h e = absurd (cc)
-at_place Q (y ∷ xs) zero x h e = subst Q (some_inner y x e) h.0
-at_place Q (y ∷ xs) (suc t) x h e = at_place Q xs t x h.1 e
 
 -- the rules of one flow, and of one application
 flow_at_place : (P : Rule ℕ ℕ → Type 0) (k : ℕ) (fs : List Flow) (i j : ℕ) (f : Flow) → AllByRecursion P (flows_rules k fs) → slice_get fs i ≡ Some f → j ≡ k + i → AllByRecursion P (flow_rules j f)
@@ -51,8 +32,8 @@ flow_at_place P k [] i j f h e at = absurd (cc)
 flow_at_place P k (g ∷ fs) zero j f h e at =
     let number : k ≡ j = omega (arith, at) in
     subst (λ (x : Flow). AllByRecursion P (flow_rules j x)) (some_inner g f e)
-    (subst (λ m. AllByRecursion P (flow_rules m g)) number (first_part P (flow_rules k g) (flows_rules (k + 1) fs) h))
-flow_at_place P k (g ∷ fs) (suc i) j f h e at = flow_at_place P (k + 1) fs i j f (second_part P (flow_rules k g) (flows_rules (k + 1) fs) h) e (omega (arith, at))
+    (subst (λ m. AllByRecursion P (flow_rules m g)) number (all_first P (flow_rules k g) (flows_rules (k + 1) fs) h))
+flow_at_place P k (g ∷ fs) (suc i) j f h e at = flow_at_place P (k + 1) fs i j f (all_second P (flow_rules k g) (flows_rules (k + 1) fs) h) e (omega (arith, at))
 
 app_at_place : (P : Rule ℕ ℕ → Type 0) (k : ℕ) (us : List App) (i j : ℕ) (u : App) → AllByRecursion P (apps_rules k us) → slice_get us i ≡ Some u → j ≡ k + i → P (app_rule j u)
 app_at_place P k [] i j u h e at = absurd (cc)
@@ -121,17 +102,17 @@ module _ (p : FlatProgram) (flat : IsFlat p) (bodies : List CheckedBody) (rows :
   all_held = of_mapped (Holds bodies rows until) (mark_rule (flow_at s) (registers_at s)) (flat_rules p) h.rules
 
   flow_held : (i : ℕ) (f : Flow) → slice_get p.flows i ≡ Some f → AllByRecursion Held (flow_rules i f)
-  flow_held i f e = flow_at_place Held 0 p.flows i i f (first_part Held (flows_rules 0 p.flows) (apps_rules 0 p.apps) all_held) e (omega arith)
+  flow_held i f e = flow_at_place Held 0 p.flows i i f (all_first Held (flows_rules 0 p.flows) (apps_rules 0 p.apps) all_held) e (omega arith)
 
   app_held : (k : ℕ) (u : App) → slice_get p.apps k ≡ Some u → Held (app_rule k u)
-  app_held k u e = app_at_place Held 0 p.apps k k u (second_part Held (flows_rules 0 p.flows) (apps_rules 0 p.apps) all_held) e (omega arith)
+  app_held k u e = app_at_place Held 0 p.apps k k u (all_second Held (flows_rules 0 p.flows) (apps_rules 0 p.apps) all_held) e (omega arith)
 
   rate_held : (i : ℕ) (o : Option Rate) → AllByRecursion Held (rate_rules o i) → HasRate (clock_of (clocks_in s) i) o
   rate_held i None g = tt
   rate_held i (Some rate) g = subst (λ (c : Clock). IsClockOf rate c) (sym (clock_is s i)) g.0
 
   def_held : (i : ℕ) (f : Flow) → slice_get p.flows i ≡ Some f → AllByRecursion Held (definition_rules i f.def)
-  def_held i f e = second_part Held (rate_rules f.rate i) (definition_rules i f.def) (flow_held i f e)
+  def_held i f e = all_second Held (rate_rules f.rate i) (definition_rules i f.def) (flow_held i f e)
 
   agrees : (i : ℕ) (d : Def) → AllByRecursion Held (definition_rules i d) → AgreesClock (clocks_in s) (clock_of (clocks_in s) i) d
   agrees i (definitions.Sensor k) g = tt
@@ -167,7 +148,7 @@ module _ (p : FlatProgram) (flat : IsFlat p) (bodies : List CheckedBody) (rows :
   clocks_agree = record {
     count = length-map s.flows (λ (f : Timed). f.clock) ∙ h.flow_count;
     clock = λ i within. subst IsClock (sym (clock_is s i)) (timed_at i (omega (arith, within, length-map s.flows (λ (f : Timed). f.clock)))).0;
-    rates = λ i f e. rate_held i f.rate (first_part Held (rate_rules f.rate i) (definition_rules i f.def) (flow_held i f e));
+    rates = λ i f e. rate_held i f.rate (all_first Held (rate_rules f.rate i) (definition_rules i f.def) (flow_held i f e));
     agree = λ i f e. agrees i f.def (def_held i f e);
     apps = one_clock;
   }

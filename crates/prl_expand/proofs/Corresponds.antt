@@ -1,5 +1,5 @@
 -- The behaviours of a program are the solutions of the flat program of its expansion.
-use Rattle.std.proofs.Common.{◌≡◌, ◌+◌, ℕ, suc, List, [], ◌∷◌, ◌++◌, map, length, Option, refl, sym, ap, ◌∙◌, subst}
+use Rattle.std.proofs.Common.{◌≡◌, ◌+◌, ℕ, List, [], ◌∷◌, ◌++◌, map, length, Option, refl, sym, ap, ◌∙◌, subst}
 use Rattle.std.specs.List.{AllByRecursion, range_with_len}
 use Rattle.std.proofs.lemmas.List.{length-map}
 use Rattle.prl_ast.specs.Trees.{ProgramTree}
@@ -21,24 +21,10 @@ use Rattle.prl_behaviours.proofs.States.{made, own, flow_places, import_places}
 use Rattle.prl_expand.specs.Correspondence.{IsOneToOne}
 use Rattle.prl_expand.specs.Expansions.{Expansion, IsExpansion}
 use Rattle.prl_expand.specs.Flats.{Numbered, all_numbered, entered_apps, flat_of, sensors_from}
-use Rattle.prl_expand.proofs.FlatRules.{Tells, numbered_rules, zipped_rules, entered_tells, definitions_sensors}
-use Rattle.prl_expand.proofs.Lists.{all_both, all_first, all_second}
+use Rattle.prl_expand.proofs.FlatRules.{sensors_count, Tells, numbered_rules, zipped_rules, entered_tells, definitions_sensors}
+use Rattle.prl_expand.proofs.Lists.{head_same, tail_same, to_mapped, of_mapped, all_both, all_first, all_second}
 use Rattle.prl_expand.proofs.Numbers.{entered_numbered, numbers_of}
 use Rattle.prl_expand.proofs.Sound.{IsSound, sound_from}
-
-all_map : {A B : Type 0} (P : B → Type 0) (f : A → B) (xs : List A) → AllByRecursion (λ x. P (f x)) xs → AllByRecursion P (map f xs)
-all_map P f [] h = tt
-all_map P f (x ∷ xs) h = (h.0, all_map P f xs h.1)
-
-all_unmap : {A B : Type 0} (P : B → Type 0) (f : A → B) (xs : List A) → AllByRecursion P (map f xs) → AllByRecursion (λ x. P (f x)) xs
-all_unmap P f [] h = tt
-all_unmap P f (x ∷ xs) h = (h.0, all_unmap P f xs h.1)
-
-head_same : (x y : ℕ) (xs ys : List ℕ) → x ∷ xs ≡ y ∷ ys → x ≡ y
-head_same x y xs ys e = cc
-
-tail_same : (x y : ℕ) (xs ys : List ℕ) → x ∷ xs ≡ y ∷ ys → xs ≡ ys
-tail_same x y xs ys e = cc
 
 -- flows in order of their numbers
 flows_rules_are : (k : ℕ) (fs : List Numbered) → numbers_of fs ≡ range_with_len k (length fs) → flows_rules k (map (λ (f : Numbered). f.1) fs) ≡ numbered_rules fs
@@ -51,10 +37,6 @@ apps_rules_are : (k : ℕ) (us : List App) → apps_rules k us ≡ zipped_rules 
 apps_rules_are k [] = refl
 apps_rules_are k (a ∷ us) = ap (λ rs. app_rule k a ∷ rs) (apps_rules_are (k + 1) us)
 
-sensors_length : (k : ℕ) (is : List ℕ) → length (sensors_from k is) ≡ length is
-sensors_length k [] = refl
-sensors_length k (i ∷ is) = ap suc (sensors_length (k + 1) is)
-
 module _ (p : ProgramTree) (asked : Option (List ℕ)) (main : ℕ) (tys : List Ty) (e : Expansion) (typed : IsTyped p asked main tys) (expansion : IsExpansion p main e) where
   sound : IsSound p
   sound = sound_from p (named p asked main typed.names).nodes typed.arity
@@ -66,7 +48,7 @@ module _ (p : ProgramTree) (asked : Option (List ℕ)) (main : ℕ) (tys : List 
   flat = flat_of p tys main e
 
   sources_count : length (sensors_from 0 (inputs_of e)) ≡ length (inputs_of e)
-  sources_count = sensors_length 0 (inputs_of e)
+  sources_count = sensors_count 0 (inputs_of e)
 
   numbers_are : numbers_of numbered ≡ flows_in e
   numbers_are = entered_numbered p tys sound [] main (sensors_from 0 (inputs_of e)) e expansion.text sources_count
@@ -99,19 +81,19 @@ module _ (p : ProgramTree) (asked : Option (List ℕ)) (main : ℕ) (tys : List 
         → AllByRecursion (Holds bodies rows until) (map (mark_rule (flow_at s) (registers_at s)) (flat_rules flat))
     to_flat s h =
         let marked = subst (λ rs. AllByRecursion (Holds bodies rows until) rs) (program-map (flow_at s) (registers_at s) (λ k. tt {0}) p main e) h in
-        let rules = all_unmap (Holds bodies rows until) (mark_rule (flow_at s) (registers_at s)) (program_rules p main e) marked in
-        all_map (Holds bodies rows until) (mark_rule (flow_at s) (registers_at s)) (flat_rules flat)
+        let rules = of_mapped (Holds bodies rows until) (mark_rule (flow_at s) (registers_at s)) (program_rules p main e) marked in
+        to_mapped (Holds bodies rows until) (mark_rule (flow_at s) (registers_at s)) (flat_rules flat)
         (subst (λ rs. AllByRecursion (Held s) rs) (sym flat_are)
         (all_both (Held s) (numbered_rules numbered) (zipped_rules (imports_in e) (entered_apps p main e)) ((tells (Held s)).flows rules) ((tells (Held s)).apps rules)))
 
     from_flat : (s : State) → AllByRecursion (Holds bodies rows until) (map (mark_rule (flow_at s) (registers_at s)) (flat_rules flat))
         → AllByRecursion (Holds bodies rows until) (program_rules p main (behaviour_of s e))
     from_flat s h =
-        let rules = subst (λ rs. AllByRecursion (Held s) rs) flat_are (all_unmap (Holds bodies rows until) (mark_rule (flow_at s) (registers_at s)) (flat_rules flat) h) in
+        let rules = subst (λ rs. AllByRecursion (Held s) rs) flat_are (of_mapped (Holds bodies rows until) (mark_rule (flow_at s) (registers_at s)) (flat_rules flat) h) in
         let asked_rules = (tells (Held s)).to (all_first (Held s) (numbered_rules numbered) (zipped_rules (imports_in e) (entered_apps p main e)) rules)
         (all_second (Held s) (numbered_rules numbered) (zipped_rules (imports_in e) (entered_apps p main e)) rules) in
         subst (λ rs. AllByRecursion (Holds bodies rows until) rs) (sym (program-map (flow_at s) (registers_at s) (λ k. tt {0}) p main e))
-        (all_map (Holds bodies rows until) (mark_rule (flow_at s) (registers_at s)) (program_rules p main e) asked_rules)
+        (to_mapped (Holds bodies rows until) (mark_rule (flow_at s) (registers_at s)) (program_rules p main e) asked_rules)
 
     into : (b : Behaviour) → Satisfies p main bodies rows until b → IsSolution flat bodies rows until (state_in b)
     into b h =

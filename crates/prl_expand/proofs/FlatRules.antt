@@ -1,5 +1,5 @@
 -- The rules of the flat program of an expansion are those that the text asks: the same hold.
-use Rattle.std.proofs.Common.{◌≡◌, ◌+◌, ℕ, List, [], ◌∷◌, ◌++◌, map, length, Option, Some, slice_get, refl, sym, ap, ◌∙◌, subst, arith}
+use Rattle.std.proofs.Common.{suc, ◌≡◌, ◌+◌, ℕ, List, [], ◌∷◌, ◌++◌, map, length, Option, Some, slice_get, refl, sym, ap, ◌∙◌, subst, arith}
 use Rattle.std.specs.Prelude.{reverse}
 use Rattle.std.specs.List.{AllByRecursion}
 use Rattle.std.proofs.lemmas.List.{length-map, map-append, append_assoc, append-nil}
@@ -96,6 +96,10 @@ pub definitions_copies : (is gs : List ℕ) → definitions_rules is (map copy_o
 definitions_copies [] gs = refl
 definitions_copies (i ∷ is) [] = refl
 definitions_copies (i ∷ is) (g ∷ gs) = ap (λ rs. same i g ∷ rs) (definitions_copies is gs)
+
+pub sensors_count : (k : ℕ) (is : List ℕ) → length (sensors_from k is) ≡ length is
+sensors_count k [] = refl
+sensors_count k (i ∷ is) = ap suc (sensors_count (k + 1) is)
 
 pub definitions_sensors : (k : ℕ) (is : List ℕ) → definitions_rules is (sensors_from k is) ≡ sensed_rules k is
 definitions_sensors k [] = refl

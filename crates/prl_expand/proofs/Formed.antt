@@ -38,14 +38,14 @@ use Rattle.prl_behaviours.specs.Asked.{inputs_of}
 use Rattle.prl_behaviours.specs.Texts.{node_at, node_or, HasVariables}
 use Rattle.prl_expand.specs.Expansions.{Expansion, IsExpansion}
 use Rattle.prl_expand.specs.Flats.{Numbered, Types, type_at, resolved, flow_no, variable_flows, equated, copies, right_flows, all_numbered, entered_apps, sensors_from, wcet_named, devices_of, flat_of}
-use Rattle.prl_expand.proofs.FlatRules.{entered_tells}
+use Rattle.prl_expand.proofs.FlatRules.{sensors_count, entered_tells}
 use Rattle.prl_expand.proofs.FlowTypes.{HasFlow, IsEnvironment, entered_environment, middle}
-use Rattle.prl_expand.proofs.Lists.{some_inner, all_both, all_first, all_second}
+use Rattle.prl_expand.proofs.Lists.{some_inner, head_same, tail_same, at_place, all_both, all_first, all_second}
 use Rattle.prl_expand.proofs.Numbers.{entered_numbered, numbers_of}
 use Rattle.prl_expand.proofs.Sound.{IsSound, sound_from, there, variables_count}
 use Rattle.prl_expand.proofs.Sources.{mapped_from}
 use Rattle.prl_expand.proofs.WellDefined.{Met, AllMet, AreTypedNodes, IsSoundFlow, HaveApps}
-use Rattle.prl_expand.proofs.WellFormed.{AreSoundApps, among_place, all_at, entered_sound, factor}
+use Rattle.prl_expand.proofs.WellFormed.{AreSoundApps, among_place, entered_sound, factor}
 
 -- types
 
@@ -77,18 +77,12 @@ typed_nodes p asked main tys range typed =
     record {
       node = λ k n found. record {
         rules = node_met p tys p.nodes 0 k k n nodes found (omega arith);
-        range = all_at ranges.IsNodeInRange p.nodes k n range.nodes found;
+        range = at_place ranges.IsNodeInRange p.nodes k n range.nodes found;
       };
       imports = range.imports;
     }
 
 -- flows and applications at their numbers
-
-head_same : (x y : ℕ) (xs ys : List ℕ) → x ∷ xs ≡ y ∷ ys → x ≡ y
-head_same x y xs ys e = cc
-
-tail_same : (x y : ℕ) (xs ys : List ℕ) → x ∷ xs ≡ y ∷ ys → xs ≡ ys
-tail_same x y xs ys e = cc
 
 get_end : {A : Type 0} (front : List A) (x : A) (rest : List A) → slice_get (front ++ (x ∷ rest)) (length front) ≡ Some x
 get_end [] x rest = refl
@@ -136,10 +130,6 @@ sensor_at first (i ∷ is) zero k d e at =
     let number : first ≡ k = omega (arith, at) in
     sym (some_inner (definitions.Sensor first) d e) ∙ ap definitions.Sensor number
 sensor_at first (i ∷ is) (suc j) k d e at = sensor_at (first + 1) is j k d e (omega (arith, at))
-
-pub sensors_count : (k : ℕ) (is : List ℕ) → length (sensors_from k is) ≡ length is
-sensors_count k [] = refl
-sensors_count k (i ∷ is) = ap suc (sensors_count (k + 1) is)
 
 variable_at : (p : ProgramTree) (tys : Types) (flat : FlatProgram) (label : List ℕ) (m : ℕ) (qs : List Param) (is : List ℕ) (ds : List Def) → length is ≡ length qs → AllByRecursion (HasFlow p tys flat) (variable_flows label tys m qs is ds)
     → (j i : ℕ) (d : Def) → slice_get is j ≡ Some i → slice_get ds j ≡ Some d → (f : Flow) × (slice_get flat.flows i ≡ Some f) × (f.def ≡ d)
@@ -227,7 +217,7 @@ module _ (p : ProgramTree) (asked : Option (List ℕ)) (main : ℕ) (tys : List 
         in_count = ins_count ∙ sym has.0 ∙ sym (length-map ins flow_no);
         out_count = outs_count ∙ sym has.1 ∙ sym (length-map outs flow_no);
         devices = (
-          λ k d found_d. all_at (λ (x : flats.Device). IsFactor x.1) (ins_of ++ outs_of) k d
+          λ k d found_d. at_place (λ (x : flats.Device). IsFactor x.1) (ins_of ++ outs_of) k d
               (all_both (λ (x : flats.Device). IsFactor x.1) ins_of outs_of (devices_range p.sensors n.ins devices.sensors range.sensors) (devices_range p.actuators n.outs devices.actuators range.actuators)) found_d,
           λ j k c d at_c at_d same_name.
               let first = device_there n ins_count j c at_c in
@@ -260,7 +250,7 @@ module _ (p : ProgramTree) (asked : Option (List ℕ)) (main : ℕ) (tys : List 
       flow_sound flat fs counted sounds i f found_f =
           let g = mapped_from (λ (x : Numbered). x.1) fs i f found_f in
           let number : g.0.0 ≡ i = number_at 0 fs i i g.0 counted g.1 (omega arith) in
-          let is = all_at (IsSoundFlow p tys flat) fs i g.0 sounds g.1 in
+          let is = at_place (IsSoundFlow p tys flat) fs i g.0 sounds g.1 in
           subst (λ (x : Flow). IsWellDefined flat i x.ty x.def × IsNoted x) g.2 (subst (λ k. IsWellDefined flat k g.0.1.ty g.0.1.def × IsNoted g.0.1) number is)
 
       device_there : (n : NodeTree) → length (devices_of p.sensors n.ins) ≡ length n.ins → (j : ℕ) (d : flats.Device) → slice_get (devices_of p.sensors n.ins ++ devices_of p.actuators n.outs) j ≡ Some d

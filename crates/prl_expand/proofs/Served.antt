@@ -17,9 +17,10 @@ use Rattle.prl_expand.specs.Expansions.{Expansion, IsExpansion}
 use Rattle.prl_expand.specs.Flats.{entered_apps, flat_of, sensors_from}
 use Rattle.prl_expand.proofs.Existence.{true_or}
 use Rattle.prl_expand.proofs.Fitting.{IsOfUsed, entered_used, body_of}
-use Rattle.prl_expand.proofs.Formed.{typed_nodes, flows_there, sensors_count}
+use Rattle.prl_expand.proofs.FlatRules.{sensors_count}
+use Rattle.prl_expand.proofs.Formed.{typed_nodes, flows_there}
 use Rattle.prl_expand.proofs.Sound.{IsSound, sound_from}
-use Rattle.prl_expand.proofs.WellFormed.{all_at}
+use Rattle.prl_expand.proofs.Lists.{at_place}
 
 main_expanded : (p : ProgramTree) (main : ℕ) → is_expanded p main main ≡ true
 main_expanded p main = true_or (main == main) (reaches p main main) (eq-eqb main main refl)
@@ -32,4 +33,4 @@ have_bodies p asked main tys e range typed expansion bodies have =
     let flat = flat_of p tys main e in
     let uses = entered_used p tys flat sound (typed_nodes p asked main tys range typed) main right [] main (sensors_from 0 (inputs_of e)) e expansion.text (sensors_count 0 (inputs_of e))
     (main_expanded p main) (flows_there p tys main sound e expansion) in
-    λ k app found. body_of p main flat bodies app have (all_at (IsOfUsed p main flat) (entered_apps p main e) k app uses found)
+    λ k app found. body_of p main flat bodies app have (at_place (IsOfUsed p main flat) (entered_apps p main e) k app uses found)

@@ -27,7 +27,7 @@ use Rattle.prl_behaviours.specs.Annotations.{Rights, done, next}
 use Rattle.prl_behaviours.specs.Asked.{one, at_index, at_variable, at_lefts, all_same, given}
 use Rattle.prl_behaviours.specs.Texts.{AreRights}
 use Rattle.prl_expand.specs.Flats.{copies, equated, paired, source_of}
-use Rattle.prl_expand.proofs.Lists.{some_inner, all_both, all_first, all_second, no_first, no_second, equal_unless}
+use Rattle.prl_expand.proofs.Lists.{at_place, some_inner, all_both, all_first, all_second, no_first, no_second, equal_unless}
 use Rattle.prl_expand.proofs.Sound.{IsRightNode, given_length, param_known, variable_length}
 
 abbrev Source : Type 0
@@ -237,11 +237,6 @@ all_known : (p : ProgramTree) (k : ℕ) (es : List EquationTree) → AreKnownEqu
 all_known p k [] h = tt
 all_known p k (e ∷ es) h =
     all_both (λ (l : Placed). IsSome (param_at p k l.name)) e.lefts (flat_map (λ (x : EquationTree). x.lefts) es) (left_known p k e.lefts h.0) (all_known p k es h.2)
-
-at_place : {A : Type 0} (Q : A → Type 0) (xs : List A) (t : ℕ) (x : A) → AllByRecursion Q xs → slice_get xs t ≡ Some x → Q x
-at_place Q [] t x h e = absurd (cc)
-at_place Q (y ∷ xs) zero x h e = subst Q (some_inner y x e) h.0
-at_place Q (y ∷ xs) (suc t) x h e = at_place Q xs t x h.1 e
 
 some_true : (o : Option ℕ) → IsSome o → is_some o ≡ true
 some_true None h = absurd (cc)

@@ -71,11 +71,6 @@ prefixes_fit tys of (o ∷ os) h met = (
   prefixes_fit tys of os h.1 (all_first (Met tys) (typing.constant_rules of os) (typing.constant_rule of o.at.at o.op) met),
 )
 
-at_place : {A : Type 0} (Q : A → Type 0) (xs : List A) (t : ℕ) (x : A) → AllByRecursion Q xs → slice_get xs t ≡ Some x → Q x
-at_place Q [] t x h e = absurd (cc)
-at_place Q (y ∷ xs) zero x h e = subst Q (some_inner y x e) h.0
-at_place Q (y ∷ xs) (suc t) x h e = at_place Q xs t x h.1 e
-
 abbrev Source : Type 0
 Source = List ℕ × ℕ
 

@@ -42,7 +42,7 @@ use Rattle.prl_behaviours.specs.Texts.{node_at, node_or, node_of, IsNodeCall, Is
 use Rattle.prl_expand.specs.Flats.{Numbered, Types, type_at, resolved, flow_no, copy_of, variable_flows, paired, equated, copies, source_of, operator_flows, output_flows, import_at, ports_of, wcet_of, label_of_node, arguments, entered_flows, right_flows, part_flows, root_flows_of, all_flows, entered_apps, right_apps, part_apps, root_apps, all_apps}
 use Rattle.prl_expand.proofs.FlatRules.{all_tells, part_tells, arguments_are}
 use Rattle.prl_expand.proofs.FlowTypes.{HasFlow, AreTyped, IsEnvironment, HaveKind, all_reverse, last_kind, operand_kind, operators_typed, entered_environment, given_typed, root_typed, all_typed}
-use Rattle.prl_expand.proofs.Lists.{some_inner, all_both, all_first, all_second, no_first, no_second, equal_unless}
+use Rattle.prl_expand.proofs.Lists.{at_place, some_inner, all_both, all_first, all_second, no_first, no_second, equal_unless}
 use Rattle.prl_expand.proofs.Numbers.{postfix_one, import_ports}
 use Rattle.prl_expand.proofs.Sound.{IsRightNode, IsSound, there, variables_count, all_length, inputs_length, root_length, param_known}
 use Rattle.prl_expand.proofs.Sources.{equated_names, index_is, names_of, get_second, mapped_from}
@@ -56,11 +56,6 @@ one_before count (o ∷ pre) (q ∷ post) e f some = postfix_one count (q ∷ po
 
 pub factor : (n : ℕ) → ranges.IsCount n → (1 ≤ n) × (n < 2 ^ 31)
 factor n h = (h.0, omega (arith, h.1))
-
-pub all_at : {A : Type 0} (Q : A → Type 0) (xs : List A) (t : ℕ) (x : A) → AllByRecursion Q xs → slice_get xs t ≡ Some x → Q x
-all_at Q [] t x h e = absurd (cc)
-all_at Q (y ∷ xs) zero x h e = subst Q (some_inner y x e) h.0
-all_at Q (y ∷ xs) (suc t) x h e = all_at Q xs t x h.1 e
 
 pub among_place : (ns : List (List ℕ)) (name : List ℕ) → is_among ns name ≡ true → (t : ℕ) × (slice_get ns t ≡ Some name)
 among_place ns name e =
@@ -118,7 +113,7 @@ module _ (p : ProgramTree) (tys : Types) (flat : FlatProgram) where
   import_range imports None count h = absurd h
   import_range imports (Some (callees.Node k)) count h = absurd h
   import_range imports (Some (callees.Import k)) count h =
-      let range = all_at ranges.IsImportInRange p.imports k h.0 imports h.1 in
+      let range = at_place ranges.IsImportInRange p.imports k h.0 imports h.1 in
       let some = range.some in
       (subst (λ (o : Option Import). ranges.IsCount (wcet_of o)) (sym h.1) range.wcet, omega (arith, h.2, some))
 
