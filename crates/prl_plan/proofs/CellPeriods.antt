@@ -55,7 +55,7 @@ module _ (graph : TaskGraph) (good : IsWellFormed graph) (edge : Edge) (is : IsE
   positive zero p some is = absurd (let e : 0 * p ≡ 0 = omega arith in omega (arith, some, is, e))
   positive (suc c) p some is = omega arith
 
-  some_span : 1 ≤ span_of graph edge
+  pub some_span : 1 ≤ span_of graph edge
   some_span = positive (span_of graph edge) (task_at graph i).clock.period good.hyper spans
 
   -- how many jobs the consumer has in a hyperperiod
@@ -88,7 +88,7 @@ module _ (graph : TaskGraph) (good : IsWellFormed graph) (edge : Edge) (is : IsE
   here : IsAskedFrom edge.ops (first_instance edge.ops) 0
   here = (pos (first_reader edge.ops), (let e = first_precedes edge.ty edge.ops is.operators in omega (arith, ints, e)))
 
-  again : (x : ℕ) → IsAskedFrom edge.ops (first_instance edge.ops) x ↔ IsAskedFrom edge.ops (first_instance edge.ops) (x + span_of graph edge)
+  pub again : (x : ℕ) → IsAskedFrom edge.ops (first_instance edge.ops) x ↔ IsAskedFrom edge.ops (first_instance edge.ops) (x + span_of graph edge)
   again x = (
     (λ h. (h.0 +ℤ pos turn, (let o = once h.0 in let at = h.1 in omega (arith, ints, o, at)))),
     (λ h.

@@ -53,3 +53,4 @@ mod RepeatLaws
 mod OnePlan
 mod WordPeriods
 mod SmallHorizons
+mod UsedPeriods

@@ -142,7 +142,7 @@ one_word ops a b of_a of_b =
     word_is a b prefix repeat step out
 
 -- the next of the numbers that gaps list is a gap higher
-next_gap : (used : Used) → 1 ≤ length used.gaps → (k : ℕ) → used_at used (k + 1) ≡ used_at used k + get_or used.gaps (k % length used.gaps) 0
+pub next_gap : (used : Used) → 1 ≤ length used.gaps → (k : ℕ) → used_at used (k + 1) ≡ used_at used k + get_or used.gaps (k % length used.gaps) 0
 next_gap used some k =
     let l : ℕ = length used.gaps in
     let gaps : List ℕ = used.gaps in
@@ -171,7 +171,7 @@ next_gap used some k =
           omega (arith, a, b, z, w, t, more))
     ]
 
-first_number : (used : Used) → 1 ≤ length used.gaps → used_at used 0 ≡ used.first
+pub first_number : (used : Used) → 1 ≤ length used.gaps → used_at used 0 ≡ used.first
 first_number used some =
     let l : ℕ = length used.gaps in
     let at : 0 ≡ 0 * l + 0 = omega arith in
@@ -214,7 +214,7 @@ used_is a b f g =
     ap (λ (x : ℕ). (let u : Used = record { first = x; gaps = a.gaps } in u)) f
     ∙ ap (λ (x : List ℕ). (let u : Used = record { first = b.first; gaps = x } in u)) g
 
-some_length : (n : ℕ) → (n ≡ 0 → ⊥) → 1 ≤ n
+pub some_length : (n : ℕ) → (n ≡ 0 → ⊥) → 1 ≤ n
 some_length zero some = absurd (some refl)
 some_length (suc n) some = omega arith
 

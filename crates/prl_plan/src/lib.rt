@@ -45,8 +45,8 @@ pub use limits::{
     MAX_CELLS, MAX_EDGES, MAX_EVENTS, MAX_HYPER, MAX_JOBS, MAX_PERIOD_JOBS, MAX_PREFIX, MAX_TASKS,
 };
 pub use numbers::{
-    bests_are_near_releases, first_readers_come_early, horizons_are_small, look_ups_fit,
-    walk_numbers_fit, windows_are_within_dues, words_repeat_by_hyperperiod,
+    bests_are_near_releases, first_readers_come_early, gaps_fit_a_hyperperiod, horizons_are_small,
+    look_ups_fit, walk_numbers_fit, windows_are_within_dues, words_repeat_by_hyperperiod,
 };
 pub use plans::Plan;
 pub use rounds::{AnyJob, preceding_job, release_after, rounds_reach_the_least_releases};

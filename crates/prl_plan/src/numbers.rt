@@ -1,9 +1,14 @@
 //! Laws of the numbers of graphs and plans: that they fit 64 bits, so that no real computation has
 //! to give up. Functions that do nothing: the contract of each is the law.
 
-ghost use Rattle.std.specs.Prelude.{◌≡◌, ◌+◌, ◌*◌, ◌<◌, ◌≤◌, ◌^◌, ℕ, ℤ, pos, ◌+ℤ◌, ◌≤ℤ◌, nat_abs, List, length};
+ghost use Rattle.std.specs.Prelude.{◌≡◌, ◌+◌, ◌*◌, ◌<◌, ◌≤◌, ◌^◌, ℕ, ℤ, pos, ◌+ℤ◌, ◌≤ℤ◌, nat_abs, List, length, sum};
 ghost use Rattle.prl_plan.specs.declared.graphs.TaskGraph.{TaskGraph};
 ghost use Rattle.prl_plan.specs.declared.tables.Window.{Window};
+ghost use Rattle.prl_plan.specs.declared.tables.Used.{Used};
+ghost use Rattle.prl_plan.specs.Cells.{EnumeratesUsed};
+ghost use Rattle.prl_plan.specs.CellTurns.{span_of};
+ghost use Rattle.prl_plan.specs.Precedence.{ComesFrom};
+ghost use Rattle.prl_plan.specs.Repeats.{IsShortestRepeat};
 ghost use Rattle.prl_plan.specs.declared.walks.Operand.TheVariants as operands;
 ghost use Rattle.prl_plan.specs.declared.words.Word.{Word};
 ghost use Rattle.prl_plan.specs.FirstReaders.{first_reader};
@@ -58,6 +63,15 @@ pub fn words_repeat_by_hyperperiod()
 pub fn first_readers_come_early()
     ensures { (graph : TaskGraph) → IsWellFormed graph → (e : ℕ) → e < length graph.edges →
         first_reader (edge_at graph e).ops * (task_at graph (edge_at graph e).to.0).clock.period ≤ length (edge_at graph e).ops * graph.hyper }
+{}
+
+/// The shortest gaps between the used instances of an edge from a task are no more than the task's
+/// jobs in a hyperperiod, nor is their sum.
+pub fn gaps_fit_a_hyperperiod()
+    ensures { (graph : TaskGraph) → IsWellFormed graph → (e i : ℕ) (used : Used) →
+        e < length graph.edges → ComesFrom (edge_at graph e).from i →
+        EnumeratesUsed (edge_at graph e) used → IsShortestRepeat used.gaps →
+        (length used.gaps ≤ span_of graph (edge_at graph e)) × (sum used.gaps ≤ span_of graph (edge_at graph e)) }
 {}
 
 /// The best of a job over chains of at most so many jobs is at least its release and its WCET, and
