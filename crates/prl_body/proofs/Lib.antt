@@ -1,6 +1,5 @@
 pub mod Quotients
 pub mod Chains
-pub mod Sound
 pub mod Typing
 pub mod Lists
 pub mod Inversion
@@ -14,5 +13,6 @@ pub mod Lookups
 pub mod Steps
 -- for the crates above: the trees of chains of operators
 pub mod TextChains
--- for the crates above: the bodies of used imports
+-- for the crates above: the bodies of used imports, and the types of what a step gives
 pub mod UsedBodies
+pub mod Sound

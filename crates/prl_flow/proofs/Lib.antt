@@ -1,10 +1,10 @@
-pub mod ClockDates
-pub mod Applied
 pub mod Placed
 pub mod Types
 pub mod Solved
 pub mod Ahead
 pub mod Progressed
 pub mod Examples
--- for the crates above: the elements of lists by their numbers
+-- for the crates above: the elements of lists by their numbers, dates of clocks with the values of flows at them, and applications
 pub mod Lists
+pub mod ClockDates
+pub mod Applied

@@ -4,9 +4,10 @@ pub mod Meeting
 pub mod Starting
 pub mod Ending
 pub mod Declared
-pub mod Walking
 pub mod Counting
-pub mod Fitting
 pub mod Opening
 pub mod Outcomes
 pub mod Existence
+-- for the crates above: the rules speak of the program's parameters alone, and the flows of expressions
+pub mod Fitting
+pub mod Walking
