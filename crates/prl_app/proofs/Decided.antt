@@ -85,12 +85,16 @@ module _ (law : Laws) (g : Given) where
   grammar_decided = let r = law.programs (text_of g parts.Program) in grammar_by g r.0 r.1
 
   types_by : (grammar : Holds g stages.Grammar) (outcome : Result (ℕ × List Ty) TypeFault) → IsOutcome grammar.0 g.node outcome → IsDecided g stages.Types
-  types_by grammar (Ok t) h = inl (grammar.0, t.0, record {
-    program = grammar.1;
-    types = t.1;
-    typed = h;
-    below = (law.names grammar.0 g.node t.0 h.names).main_below;
-  })
+  types_by grammar (Ok t) h = inl (
+    grammar.0,
+    t.0,
+    record {
+      program = grammar.1;
+      types = t.1;
+      typed = h;
+      below = (law.names grammar.0 g.node t.0 h.names).main_below;
+    },
+  )
   types_by grammar (Err cause) h =
       let t = types_told grammar.0 g.node cause h in inr (t.0, (grammar.0, grammar.1, cause, h, t.1))
 
@@ -112,14 +116,17 @@ module _ (law : Laws) (g : Given) where
 
     checked_by : (texts : List TextTree) → IsParsedBodies (text_of g parts.Bodies) (Ok texts) → (r : Result (List BodyTree) BodyFault)
         → checked types.0.imports (used_imports types.0 types.1) texts ≡ r → IsDecided g stages.Bodies
-    checked_by texts written (Ok trees) e = inl (trees, record {
-      program = types.0;
-      main = types.1;
-      is_main = types.2;
-      texts = texts;
-      written = written;
-      fitting = e;
-    })
+    checked_by texts written (Ok trees) e = inl (
+      trees,
+      record {
+        program = types.0;
+        main = types.1;
+        is_main = types.2;
+        texts = texts;
+        written = written;
+        fitting = e;
+      },
+    )
     checked_by texts written (Err cause) e =
         refused_by cause (inr (texts, written, e))
         (λ same. law.checks types.0.imports (used_imports types.0 types.1) texts (e ∙ ap (λ (x : BodyFault). Err x) same))

@@ -10,8 +10,8 @@ use crate::bodies::bodies;
 use crate::ranges::BodyRanges;
 use crate::words::BodySpelling;
 use prl_body::{BodyFault, BodyTexts};
-use prl_lex::{LexFault, lex};
 use prl_grammar::{Stop, Terminal, out_of_range, place_of, terminals_of};
+use prl_lex::{LexFault, lex};
 use std::alloc::Global;
 
 fn of_lexical(fault: LexFault) -> BodyFault

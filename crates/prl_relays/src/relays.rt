@@ -47,7 +47,7 @@ impl From<AllocError> for RelayFault {
 /// The events of the schedule, or the first line that is no event.
 fn events_of(alloc: Global, names: &[Label], schedule: &[u8]) -> Result<Vec<Event>, RelayFault>
     requires { length names.now ≡ 2 }
-    ensures exact { MatchResult result (λ events. schedule_of names.now schedule.now ≡ Ok (vec_items events)) 
+    ensures exact { MatchResult result (λ events. schedule_of names.now schedule.now ≡ Ok (vec_items events))
         (λ fault. fault ≢ RelayFault.Memory → IsUnwritten names.now schedule.now fault) }
     ensures tasks { IfOk result (λ events. All (IsOfTasks 2) events.items) }
 {
@@ -115,7 +115,7 @@ pub fn replay_text(
     requires horizon { IsHorizon plan.now horizon }
     ensures { MatchResult result (λ text. IsReplayText (record { chain = chain.now; values = rows_of sensors.now 0; until = horizon.until }) schedule.now text.items)
         (λ fault. fault ≢ RelayFault.Memory
-            → IsRelayFault (record { chain = chain.now; values = rows_of sensors.now 0; until = horizon.until }) schedule.now fault) }
+        → IsRelayFault (record { chain = chain.now; values = rows_of sensors.now 0; until = horizon.until }) schedule.now fault) }
 {
     let names = task_names(alloc, chain)?;
     let events = match events_of(alloc, &names, schedule) {

@@ -26,12 +26,16 @@ legal_or_broken law c s (event ∷ list) = elim (law.rules c s event) [
   | inr broken ↦ inr (0, broken.0, record { event = event; at = refl; legal = tt; broken = broken.1 })
   | inl keeps ↦ elim (legal_or_broken law c (after_event c s event) list) [
     | inl legal ↦ inl (keeps, legal)
-    | inr later ↦ inr (suc later.0, later.1, record {
-      event = later.2.event;
-      at = later.2.at;
-      legal = (keeps, later.2.legal);
-      broken = later.2.broken;
-    })
+    | inr later ↦ inr (
+      suc later.0,
+      later.1,
+      record {
+        event = later.2.event;
+        at = later.2.at;
+        legal = (keeps, later.2.legal);
+        broken = later.2.broken;
+      },
+    )
   ]
 ]
 

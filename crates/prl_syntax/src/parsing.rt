@@ -11,8 +11,8 @@ use crate::ranges::ProgramRanges;
 use crate::words::ProgramSpelling;
 use prl_ast::Program;
 use prl_base::{Limit, What};
-use prl_lex::{LexFault, lex};
 use prl_grammar::{Stop, Terminal, out_of_range, place_of, terminals_of};
+use prl_lex::{LexFault, lex};
 use std::alloc::{AllocError, Global};
 
 /// The most nodes of a program.

@@ -125,18 +125,23 @@ ruled count done (rule ∷ rest) fits m =
     let fits_marks : FitsRule (length m.marks) rule = subst (λ (n : ℕ). FitsRule n rule) (sym m.long) fits.0 in
     elim (meet done count m rule fits_marks (resolved m.marks rule.wanted) (resolved m.marks rule.found) (record { wanted_is = refl; found_is = refl })) [
       | inl more ↦ subst (λ (rules : List Rule). Ruled rules count) (append_assoc done (rule ∷ []) rest) (ruled count (done ++ rule ∷ []) rest fits.1 more)
-      | inr h ↦ inr (rule.at, h.0, h.1, record {
-        earlier = done;
-        rule = rule;
-        later = rest;
-        whole = refl;
-        choice = h.2.choice;
-        meets = h.2.meets;
-        place = refl;
-        wanted_is = h.2.wanted_is;
-        found_is = h.2.found_is;
-        differ = h.2.differ;
-      })
+      | inr h ↦ inr (
+        rule.at,
+        h.0,
+        h.1,
+        record {
+          earlier = done;
+          rule = rule;
+          later = rest;
+          whole = refl;
+          choice = h.2.choice;
+          meets = h.2.meets;
+          place = refl;
+          wanted_is = h.2.wanted_is;
+          found_is = h.2.found_is;
+          differ = h.2.differ;
+        },
+      )
     ]
 
 -- the first marks are types, or one of them is the first that is none
@@ -236,18 +241,20 @@ module _ (p : ProgramTree) (main : Option (List ℕ)) (node : ℕ) (names : name
   of_types : arity_faults p ≡ [] → Typed_or_free (rules_of p) (count_of p) → Answer p main
   of_types arity (inl h) = (Ok (node, h.0), record { names = names; arity = arity; only = h.1 })
   of_types arity (inr h) =
-      let owned = some_at (parameters_of p) h.0 h.1 in
-      (Err (faults.TypeFree owned.0.node owned.0.param.name), record {
-        node = node;
-        names = names;
-        arity = arity;
-        number = h.0;
-        first = h.2;
-        owned = owned.0;
-        is = owned.1;
-        node_is = refl;
-        name_is = refl;
-      })
+      let owned = some_at (parameters_of p) h.0 h.1 in (
+        Err (faults.TypeFree owned.0.node owned.0.param.name),
+        record {
+          node = node;
+          names = names;
+          arity = arity;
+          number = h.0;
+          first = h.2;
+          owned = owned.0;
+          is = owned.1;
+          node_is = refl;
+          name_is = refl;
+        },
+      )
     where
       some_at : {X : Type 0} (xs : List X) (k : ℕ) → k < length xs → (x : X) × (slice_get xs k ≡ Some x)
       some_at [] k lt = absurd (omega arith)

@@ -48,4 +48,3 @@ unfoldable pub bodies_of : List ℕ → Result (List TextTree) BodyFault
 bodies_of text = do
   tokens ← told of_lexical (tokens_of text)
   bodies_of_tokens (lexemes_of body_vocabulary text tokens) (length text)
-

@@ -22,7 +22,6 @@ use Rattle.prl_syntax.specs.Grammar.{Program, programs}
 use Rattle.prl_syntax.specs.Lexing.{lexemes_of}
 use Rattle.prl_syntax.specs.Ranges.{program_ranges}
 
-
 abbrev pub of_lexical : LexFault → ParseFault
 of_lexical (lexical.BadToken at) = faults.BadToken at
 of_lexical (lexical.NumberRange at) = faults.NumberRange at
@@ -55,4 +54,3 @@ unfoldable pub parse_of : List ℕ → Result ProgramTree ParseFault
 parse_of text = do
   tokens ← told of_lexical (tokens_of text)
   program_of_tokens (lexemes_of text tokens) (length text)
-
