@@ -1,0 +1,6 @@
+mod Labels
+mod Lists
+mod Ways
+mod Meanings
+mod Placing
+mod Searching

@@ -1,0 +1,38 @@
+-- Flows put in order one by one: which are placed, and where; and an order of all.
+use Rattle.std.specs.Prelude.{◌≡◌, ◌<◌, ℕ, Bool, true, false, List, length, Some, slice_get, slice_index_or, count_by}
+use Rattle.prl_base.specs.declared.numbers.FlowNo.{FlowNo}
+
+-- the mark of number `i` is set
+abbrev pub IsMarked : List Bool → ℕ → Type 0
+IsMarked marks i = slice_index_or marks i false ≡ true
+
+-- how many marks are set
+abbrev pub marked_count : List Bool → ℕ
+marked_count = count_by (λ b. b)
+
+-- Each flow of the list stands in it once, after those that it uses; the marks are of the flows in the list.
+pub record IsPart (U : ℕ → ℕ → Type 0) (order : List FlowNo) (placed : List Bool) : Type 0 where
+  pub count : marked_count placed ≡ length order
+  pub marked : (k : ℕ) (x : FlowNo) → slice_get order k ≡ Some x → IsMarked placed x.0
+  pub listed : (i : ℕ) → IsMarked placed i → (k : ℕ) × (slice_get order k ≡ Some (record { 0 = i }))
+  pub once : (j k : ℕ) (x : FlowNo) → slice_get order j ≡ Some x → slice_get order k ≡ Some x → j ≡ k
+  pub after : (k : ℕ) (x : FlowNo) (y : ℕ) → slice_get order k ≡ Some x → U x.0 y → (j : ℕ) × (j < k) × (slice_get order j ≡ Some (record { 0 = y }))
+
+-- a flow without its mark that uses another without its mark
+pub record IsStuck (U : ℕ → ℕ → Type 0) (placed : List Bool) (i : ℕ) : Type 0 where
+  pub used : ℕ
+  pub uses : U i used
+  pub unmarked : slice_index_or placed used false ≡ false
+
+-- each flow below this number, once, after those that it uses
+pub record IsWhole (U : ℕ → ℕ → Type 0) (n : ℕ) (order : List FlowNo) : Type 0 where
+  pub count : length order ≡ n
+  pub each : (i : ℕ) → i < n → (k : ℕ) × (slice_get order k ≡ Some (record { 0 = i }))
+  pub once : (j k : ℕ) (x : FlowNo) → slice_get order j ≡ Some x → slice_get order k ≡ Some x → j ≡ k
+  pub after : (k : ℕ) (x : FlowNo) (y : ℕ) → slice_get order k ≡ Some x → U x.0 y → (j : ℕ) × (j < k) × (slice_get order j ≡ Some (record { 0 = y }))
+
+-- one of these is without its mark
+pub record LacksMark (Named : ℕ → Type 0) (marks : List Bool) : Type 0 where
+  pub used : ℕ
+  pub named : Named used
+  pub unmarked : slice_index_or marks used false ≡ false

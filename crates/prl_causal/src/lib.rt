@@ -1,0 +1,10 @@
+//! Causality of flat programs: an order of the flows in which each comes after those that it uses undelayed, or a
+//! flow on a cycle. It stands on the flat programs of `prl_flow`.
+#![tactic(auto)]
+
+mod causality;
+mod orders;
+mod searches;
+mod sources;
+
+pub use causality::{CausalFault, Order, causal};

@@ -1,0 +1,93 @@
+//! What the values of flows are made of: undelayed, and through no application.
+
+ghost use Rattle.std.specs.Prelude.{◌≡◌, ◌<◌, IfOk, length};
+ghost use Rattle.prl_base.specs.Operators.{delays};
+ghost use Rattle.prl_causal.specs.Sources.{AreArguments, AreWithin, all_inside, all_undelayed, inside_of, undelayed_of};
+
+use prl_base::{FlowNo, Op};
+use prl_flow::{Arg, Def, Flat};
+use std::alloc::{AllocError, Global};
+
+/// What a flow uses, along uses of one kind.
+#[derive(Clone, Copy, Debug, PartialEq, Eq)]
+pub enum Source {
+    Nothing,
+    Flow(FlowNo),
+    /// The arguments of the application of this number.
+    Arguments(u32),
+}
+
+/// Whether the operator's result has only values of earlier dates.
+fn delays(op: &Op) -> bool
+    ensures { result ≡ delays op.now }
+{
+    match op {
+        Op::Fby(_) => true,
+        Op::Cons(_) => false,
+        Op::Tail => false,
+        Op::Up(_) => false,
+        Op::Down(_) => false,
+        Op::Shift(by) => by.num > 0,
+    }
+}
+
+/// What a definition uses undelayed.
+fn undelayed_of(def: &Def) -> Source
+    ensures { result ≡ undelayed_of def.now }
+{
+    match def {
+        Def::Sensor(_) => Source::Nothing,
+        Def::Copy(of) => Source::Flow(*of),
+        Def::Const(_) => Source::Nothing,
+        Def::Apply { app, .. } => Source::Arguments(*app),
+        Def::Op { op, of } => {
+            if delays(op) {
+                Source::Nothing
+            } else {
+                Source::Flow(*of)
+            }
+        }
+    }
+}
+
+/// What a definition uses, delayed or not, and not through an application.
+fn inside_of(def: &Def) -> Source
+    ensures { result ≡ inside_of def.now }
+{
+    match def {
+        Def::Sensor(_) => Source::Nothing,
+        Def::Copy(of) => Source::Flow(*of),
+        Def::Const(_) => Source::Nothing,
+        Def::Apply { .. } => Source::Nothing,
+        Def::Op { of, .. } => Source::Flow(*of),
+    }
+}
+
+/// What each flow uses undelayed.
+pub fn undelayed(alloc: Global, flat: &Flat) -> Result<Vec<Source>, AllocError>
+    ensures { IfOk result (λ sources. sources.items ≡ all_undelayed flat.now) }
+{
+    flat.flows()
+        .iter()
+        .map(|flow| undelayed_of(&flow.def))
+        .collect(alloc)
+}
+
+/// What each flow uses, delayed or not, and not through an application.
+pub fn inside(alloc: Global, flat: &Flat) -> Result<Vec<Source>, AllocError>
+    ensures { IfOk result (λ sources. sources.items ≡ all_inside flat.now) }
+{
+    flat.flows()
+        .iter()
+        .map(|flow| inside_of(&flow.def))
+        .collect(alloc)
+}
+
+/// The arguments of the application of this number.
+pub fn arguments(flat: &Flat, app: u32) -> &[Arg]
+    requires { app < length flat.now.apps }
+    ensures arguments { AreArguments flat.now app result.now }
+    ensures within { AreWithin result.now (length flat.now.flows) }
+{
+    flat.apps()[app as usize].args.as_slice()
+}
