@@ -1,3 +1,4 @@
+mod Arriving
 mod Labels
 mod Lists
 mod Ways

@@ -20,7 +20,7 @@ marked_within [] i h = absurd (false≢true h)
 marked_within (b ∷ marks) zero h = omega arith
 marked_within (b ∷ marks) (suc i) h = (let below = marked_within marks i h in omega arith)
 
-equal_or_not : (i j : ℕ) → (i ≡ j) ⊎ (i ≢ j)
+pub equal_or_not : (i j : ℕ) → (i ≡ j) ⊎ (i ≢ j)
 equal_or_not i j = ⊎_elim (λ a. inr (λ e. omega arith)) (λ b. ⊎_elim (λ c. inr (λ e. omega arith)) (λ d. inl (omega arith)) (cases_lt j i)) (cases_lt i j)
 
 pub mark_set : (marks : List Bool) (i : ℕ) → i < length marks → IsMarked (set marks i true) i

@@ -1,6 +1,9 @@
 -- Flows put in order one by one: which are placed, and where; and an order of all.
 use Rattle.std.specs.Prelude.{◌≡◌, ◌<◌, ℕ, Bool, true, false, List, length, Some, slice_get, slice_index_or, count_by}
 use Rattle.prl_base.specs.declared.numbers.FlowNo.{FlowNo}
+use Rattle.prl_flow.specs.declared.programs.App.{App}
+use Rattle.prl_flow.specs.declared.programs.Arg.{Arg}
+use Rattle.prl_flow.specs.Programs.{FlatProgram}
 
 -- the mark of number `i` is set
 abbrev pub IsMarked : List Bool → ℕ → Type 0
@@ -36,3 +39,11 @@ pub record LacksMark (Named : ℕ → Type 0) (marks : List Bool) : Type 0 where
   pub used : ℕ
   pub named : Named used
   pub unmarked : slice_index_or marks used false ≡ false
+
+-- the first `n` of the arguments have their marks
+abbrev pub ArePlaced : List Arg → List Bool → ℕ → Type 0
+ArePlaced args marks n = (j : ℕ) → j < n → (arg : Arg) → slice_get args j ≡ Some arg → IsMarked marks arg.flow.0
+
+-- of each application, so many of the first arguments have their marks
+pub record AreSeen (p : FlatProgram) (marks : List Bool) (seen : List ℕ) : Type 0 where
+  pub placed : (k : ℕ) (app : App) → slice_get p.apps k ≡ Some app → ArePlaced app.args marks (slice_index_or seen k 0)
