@@ -4,13 +4,13 @@ use Rattle.std.proofs.lemmas.Bool.{cases_lt}
 use Rattle.std.proofs.lemmas.List.{length_push, take_more}
 use Rattle.std.proofs.lemmas.Option.{slice_get_within, slice_get-get_or}
 use Rattle.prl_flow.specs.declared.programs.Arg.{Arg}
-use Rattle.prl_flow.specs.Uses.{Leads, once, then}
+use Rattle.prl_flow.specs.Uses.{IsArgument, Leads, once, then}
 use Rattle.prl_flow.proofs.Lists.{slice_get_push, element_at}
 use Rattle.prl_flow.specs.Programs.{FlatProgram}
 use Rattle.prl_causal.specs.declared.sources.Source.{Source}
 use Rattle.prl_causal.specs.Parts.{IsMarked}
-use Rattle.prl_causal.specs.Searches.{Adds, IsList, IsUnderWay}
-use Rattle.prl_causal.specs.Sources.{AreSources, IsAmong, IsSource, UsesBy, Names}
+use Rattle.prl_causal.specs.Searches.{Adds, AreOpened, IsList, IsUnderWay}
+use Rattle.prl_causal.specs.Sources.{AreArguments, AreSources, IsAmong, IsSource, UsesBy, Names}
 use Rattle.prl_causal.proofs.Lists.{push_cases, push_keeps, mark_set, mark_kept, mark_cases, mark_counted, marked_within}
 use Rattle.prl_causal.proofs.Placing.{names_of_use}
 use Rattle.prl_causal.proofs.Ways.{onward}
@@ -178,3 +178,44 @@ source_there p all d i are below = are.each i (get_or all i d) (slice_get-get_or
 
 pub reached_within : (U : ℕ → ℕ → Type 0) (n from done : ℕ) (reached : List ℕ) (marks : List Bool) (x : ℕ) → IsUnderWay U n from done reached marks → slice_get reached done ≡ Some x → x < n
 reached_within U n from done reached marks x way at = (let below = marked_within marks x (way.list.marked done x at) in rw (sym way.len) below)
+
+-- where all that is named is marked, nothing is to do
+pub adds_known : (reached : List ℕ) (marks : List Bool) (Named : ℕ → Type 0) → IsList reached marks → ((i : ℕ) → Named i → IsMarked marks i) → Adds Named reached reached marks marks
+adds_known reached marks Named list known = record {
+  list = list;
+  same = refl;
+  stays = λ k x h. h;
+  kept = λ j h. h;
+  only = λ j h. inl h;
+  all = known;
+}
+
+among_argument : (p : FlatProgram) (k : ℕ) (args : List Arg) → AreArguments p k args → (i : ℕ) → IsAmong args i → IsArgument p k i
+among_argument p k args of i a =
+    record { app = of.app; applied = of.found; index = a.index; arg = a.arg; found = subst (λ l. slice_get l a.index ≡ Some a.arg) (sym of.are) a.found; is = a.is }
+
+argument_among : (p : FlatProgram) (k : ℕ) (args : List Arg) → AreArguments p k args → (i : ℕ) → IsArgument p k i → IsAmong args i
+argument_among p k args of i a =
+    let there = of.found in
+    let here = a.applied in
+    let one : a.app ≡ of.app = cc in
+    let list : a.app.args ≡ args = ap (λ x. x.args) one ∙ of.are in
+    record { index = a.index; arg = a.arg; found = subst (λ l. slice_get l a.index ≡ Some a.arg) list a.found; is = a.is }
+
+pub adds_arguments : (p : FlatProgram) (k : ℕ) (args : List Arg) (reached reached' : List ℕ) (marks marks' : List Bool) → AreArguments p k args
+    → Adds (IsAmong args) reached reached' marks marks' → Adds (IsArgument p k) reached reached' marks marks'
+adds_arguments p k args reached reached' marks marks' of adds =
+    adds_as (IsAmong args) (IsArgument p k) reached reached' marks marks' (among_argument p k args of) (argument_among p k args of) adds
+
+pub opened_kept : (p : FlatProgram) (Named : ℕ → Type 0) (reached reached' : List ℕ) (marks marks' opened : List Bool) → AreOpened p marks opened
+    → Adds Named reached reached' marks marks' → AreOpened p marks' opened
+opened_kept p Named reached reached' marks marks' opened are adds = record { marked = λ k h i a. adds.kept i (are.marked k h i a) }
+
+pub opened_set : (p : FlatProgram) (k : ℕ) (reached reached' : List ℕ) (marks marks' opened : List Bool) → AreOpened p marks opened
+    → Adds (IsArgument p k) reached reached' marks marks' → AreOpened p marks' (set opened k true)
+opened_set p k reached reached' marks marks' opened are adds = record {
+  marked = λ m h i a. ⊎_elim
+      (λ same. adds.all i (subst (λ n. IsArgument p n i) same a))
+      (λ old. adds.kept i (are.marked m old i a))
+      (mark_cases opened k m h);
+}

@@ -1,6 +1,7 @@
 -- A list of flows and their marks, and marks set for more flows.
 use Rattle.std.specs.Prelude.{◌≡◌, ◌<◌, ◌≤◌, ◌⊎◌, ℕ, Bool, List, length, Some, slice_get}
-use Rattle.prl_flow.specs.Uses.{Leads}
+use Rattle.prl_flow.specs.Programs.{FlatProgram}
+use Rattle.prl_flow.specs.Uses.{IsArgument, Leads}
 use Rattle.prl_causal.specs.Parts.{IsMarked, marked_count}
 
 -- the marks are of the flows in the list, where each stands once
@@ -26,3 +27,7 @@ pub record IsUnderWay (U : ℕ → ℕ → Type 0) (n from done : ℕ) (reached 
   pub led : (i : ℕ) → IsMarked marks i → Leads U from i
   pub first : (i : ℕ) → U from i → IsMarked marks i
   pub closed : (k x : ℕ) → k < done → slice_get reached k ≡ Some x → (i : ℕ) → U x i → IsMarked marks i
+
+-- the arguments of each application with a mark of its own have their marks
+pub record AreOpened (p : FlatProgram) (marks opened : List Bool) : Type 0 where
+  pub marked : (k : ℕ) → IsMarked opened k → (i : ℕ) → IsArgument p k i → IsMarked marks i

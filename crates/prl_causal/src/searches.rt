@@ -1,8 +1,8 @@
 //! Searches along uses.
 
 ghost use Rattle.std.specs.Prelude.{◌≡◌, ◌<◌, [], IfOk, false, length, true};
-ghost use Rattle.prl_flow.specs.Uses.{Leads};
-ghost use Rattle.prl_causal.specs.Searches.{Adds, IsList};
+ghost use Rattle.prl_flow.specs.Uses.{IsArgument, Leads};
+ghost use Rattle.prl_causal.specs.Searches.{Adds, AreOpened, IsList};
 ghost use Rattle.prl_causal.specs.Sources.{AreSources, AreWithin, IsAmong, IsSource, Names, UsesBy};
 
 use crate::sources::{Source, arguments};
@@ -36,22 +36,51 @@ fn reach_all(args: &[Arg], reached: &mut Vec<u32>, marks: &mut [bool]) -> Result
     Ok(())
 }
 
+/// Adds the arguments of the application to the flows that are reached. It looks at them but once: `opened` has a mark
+/// for each application whose arguments are reached.
+fn reach_arguments(
+    flat: &Flat,
+    app: u32,
+    reached: &mut Vec<u32>,
+    marks: &mut [bool],
+    opened: &mut [bool],
+) -> Result<(), AllocError>
+    requires list { IsList reached.old.items marks.old }
+    requires len { length marks.old ≡ length flat.now.flows }
+    requires within { app < length flat.now.apps }
+    requires apps { length opened.old ≡ length flat.now.apps }
+    requires opened { AreOpened flat.now marks.old opened.old }
+    ensures adds { IfOk result (λ done. Adds (IsArgument flat.now app) reached.old.items reached.new.items marks.old marks.new) }
+    ensures opened { IfOk result (λ done. AreOpened flat.now marks.new opened.new) }
+{
+    if opened[app as usize] {
+        return Ok(());
+    }
+    reach_all(arguments(flat, app), reached, marks)?;
+    opened[app as usize] = true;
+    Ok(())
+}
+
 /// Adds what a flow uses to the flows that are reached.
 fn reach_used(
     flat: &Flat,
     source: &Source,
     reached: &mut Vec<u32>,
     marks: &mut [bool],
+    opened: &mut [bool],
 ) -> Result<(), AllocError>
     requires list { IsList reached.old.items marks.old }
     requires len { length marks.old ≡ length flat.now.flows }
     requires there { IsSource flat.now source.now }
-    ensures { IfOk result (λ done. Adds (Names flat.now source.now) reached.old.items reached.new.items marks.old marks.new) }
+    requires apps { length opened.old ≡ length flat.now.apps }
+    requires opened { AreOpened flat.now marks.old opened.old }
+    ensures adds { IfOk result (λ done. Adds (Names flat.now source.now) reached.old.items reached.new.items marks.old marks.new) }
+    ensures opened { IfOk result (λ done. AreOpened flat.now marks.new opened.new) }
 {
     match source {
         Source::Nothing => Ok(()),
         Source::Flow(of) => reach(*of, reached, marks),
-        Source::Arguments(app) => reach_all(arguments(flat, *app), reached, marks),
+        Source::Arguments(app) => reach_arguments(flat, *app, reached, marks, opened),
     }
 }
 
@@ -62,20 +91,23 @@ fn follow(
     sources: &[Source],
     from: usize,
     marks: &mut [bool],
+    opened: &mut [bool],
 ) -> Result<bool, AllocError>
     requires sources { AreSources flat.now sources.now }
     requires within { from < length sources.now }
     requires len { length marks.old ≡ length sources.now }
     requires unmarked { IsList [] marks.old }
+    requires apps { length opened.old ≡ length flat.now.apps }
+    requires opened { AreOpened flat.now marks.old opened.old }
     ensures back { IfOk result (λ back. back ≡ true → Leads (UsesBy flat.now sources.now) from from) }
     ensures none { IfOk result (λ back. back ≡ false → Leads (UsesBy flat.now sources.now) from from → ⊥) }
 {
     let mut reached = Vec::new(alloc);
-    reach_used(flat, &sources[from], &mut reached, marks)?;
+    reach_used(flat, &sources[from], &mut reached, marks, opened)?;
     let mut done = 0;
     while done < reached.len() {
         let next = reached[done];
-        reach_used(flat, &sources[next as usize], &mut reached, marks)?;
+        reach_used(flat, &sources[next as usize], &mut reached, marks, opened)?;
         done += 1;
     }
     Ok(marks[from])
@@ -94,5 +126,13 @@ pub fn leads_back(
     ensures none { IfOk result (λ back. back ≡ false → Leads (UsesBy flat.now sources.now) from from → ⊥) }
 {
     let mut marks = vec![in alloc; false; sources.len()]?;
-    follow(alloc, flat, sources, from, marks.as_mut_slice())
+    let mut opened = vec![in alloc; false; flat.apps().len()]?;
+    follow(
+        alloc,
+        flat,
+        sources,
+        from,
+        marks.as_mut_slice(),
+        opened.as_mut_slice(),
+    )
 }

@@ -1,4 +1,4 @@
-use Rattle.std.proofs.Common.{◌≡◌, ◌<◌, ℕ, length}
+use Rattle.std.proofs.Common.{◌<◌, length}
 use Rattle.prl_causal.proofs.Arriving.{seen_set}
 use Rattle.prl_causal.proofs.orders.have_arrived.Goals as goal
 

@@ -1,10 +1,13 @@
 use Rattle.std.proofs.Common.{◌-◌, length}
-use Rattle.prl_causal.specs.Searches.{IsUnderWay}
+use Rattle.prl_causal.specs.Searches.{AreOpened, IsUnderWay}
 use Rattle.prl_causal.specs.Sources.{UsesBy}
 use Rattle.prl_causal.proofs.searches.follow.Given as goal
 
 abbrev pub invariant-loop-done : goal.invariant-loop-done
-invariant-loop-done l = IsUnderWay (UsesBy l.flat l.sources) (length l.sources) l.from l.done l.reached.items l.marks
+invariant-loop-done l = record {
+  way : IsUnderWay (UsesBy l.flat l.sources) (length l.sources) l.from l.done l.reached.items l.marks;
+  opened : AreOpened l.flat l.marks l.opened;
+}
 
 abbrev pub decreases-loop-done : goal.decreases-loop-done
 decreases-loop-done l = length l.sources - l.done
