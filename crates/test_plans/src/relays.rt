@@ -2,13 +2,14 @@
 
 ghost use Rattle.std.specs.Prelude.{◌≡◌, ◌<◌, ◌≤◌, IfOk};
 ghost use Rattle.prl_chains.specs.Facts.{IsChain};
+ghost use Rattle.prl_plan.specs.Horizons.{IsHorizon};
 ghost use Rattle.prl_relays.specs.Relays.{HasValues};
 
 use crate::schedules::{WHOLE, WHOLE_CELLS};
 use prl_base::{Seq, TaskNo, Value};
 use prl_chains::{Chain, chain_of};
 use prl_flow::{Sensors, dates_before};
-use prl_plan::{Horizon, Rule};
+use prl_plan::{Horizon, Plan, Rule};
 use prl_relays::{RelayFault, is_in_time, plan_of, replay_text};
 use prl_syntax::parse;
 use std::alloc::Global;
@@ -24,6 +25,17 @@ fn chain(alloc: Global) -> Result<Chain, Fail>
     Ok(chain_of(alloc, &program)?.ok_or("not of the form")?)
 }
 
+/// The horizon of the plan until 20.
+fn horizon_of(plan: &Plan) -> Result<Horizon, Fail>
+    ensures horizon { IfOk result (IsHorizon plan.now) }
+    ensures until { IfOk result (λ horizon. horizon.until ≡ 20) }
+{
+    match Horizon::new(plan, 20) {
+        Ok(horizon) => Ok(horizon),
+        Err(_) => Err(Fail::from("past a limit")),
+    }
+}
+
 /// What the replay of a schedule comes to.
 fn outcome_of(alloc: Global, schedule: &str) -> Result<Result<Vec<u8>, RelayFault>, Fail> {
     let chain = chain(alloc)?;
@@ -32,7 +44,7 @@ fn outcome_of(alloc: Global, schedule: &str) -> Result<Result<Vec<u8>, RelayFaul
         return Err(Fail::from("not in time"));
     }
     let plan = plan_of(alloc, &chain)?;
-    let horizon = Horizon::new(&plan, 20).ok().ok_or("past a limit")?;
+    let horizon = horizon_of(&plan)?;
     let sensors = Sensors::new(vec![in alloc; Seq::new(values)]?);
     Ok(replay_text(alloc, &chain, &sensors, &plan, horizon, schedule.as_bytes()))
 }
