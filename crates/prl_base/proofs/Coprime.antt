@@ -1,7 +1,8 @@
--- What divides a product and is prime to one factor divides the other.
+-- Numbers without a common divisor: what divides a product and is prime to one factor divides the other; over their
+-- greatest common divisor, two numbers have none but 1.
 use Prim.Native.Nat.{◌∣◌}
-use Rattle.std.proofs.Common.{◌≡◌, ◌+◌, ◌-◌, ◌*◌, ◌≤◌, ℕ, zero, suc, refl, ap, ◌∙◌, subst, arith, inl, inr}
-use Rattle.std.proofs.Math.Nat.{mul-sub, mul_comm, dvd-mul_right, mul-le-mul_right, zero-mul, one-mul}
+use Rattle.std.proofs.Common.{◌≡◌, ◌+◌, ◌-◌, ◌*◌, ◌/◌, ◌<◌, ◌≤◌, ℕ, zero, suc, refl, sym, ap, ◌∙◌, subst, arith, inl, inr}
+use Rattle.std.proofs.Math.Nat.{mul-sub, mul_comm, dvd-mul_right, mul-le-mul_right, zero-mul, one-mul, one-dvd, div-mul_cancel, mul-dvd-mul_right, dvd_of_mul-dvd-mul_right}
 use Rattle.std.proofs.lemmas.Bool.{cases_lt}
 use Rattle.std.specs.Int.{IsGcd}
 use Rattle.std.proofs.lemmas.Nat.Gcd.{IsGcd-from_zero, IsGcd-swap, IsGcd-from_sub, same_from_IsGcd}
@@ -56,3 +57,16 @@ divides_other a d b coprime divides =
     let whole : d ∣ s.gcd * b = (s.times b).2 d divides (dvd-mul_right d b) in
     let one : s.gcd * b ≡ b = ap (λ g. g * b) (same_from_IsGcd a d s.gcd 1 s.here coprime) ∙ one-mul b in
     let P : ℕ → Type 0 = λ n. d ∣ n in subst P one whole
+
+-- both divided by their greatest common divisor
+pub quotients_coprime : (a b g : ℕ) → 0 < g → IsGcd a b g → IsGcd (a / g) (b / g) 1
+quotients_coprime a b g some gcd = (
+  one-dvd (a / g),
+  one-dvd (b / g),
+  λ d p q.
+      let P : ℕ → ℕ → Type 0 = λ m n. m ∣ n in
+      let over_a : d * g ∣ a = subst (P (d * g)) (div-mul_cancel g gcd.0) (mul-dvd-mul_right d p g) in
+      let over_b : d * g ∣ b = subst (P (d * g)) (div-mul_cancel g gcd.1) (mul-dvd-mul_right d q g) in
+      let over_g : d * g ∣ 1 * g = subst (P (d * g)) (sym (one-mul g)) (gcd.2 (d * g) over_a over_b) in
+      dvd_of_mul-dvd-mul_right d some over_g,
+)

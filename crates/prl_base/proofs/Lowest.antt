@@ -6,6 +6,7 @@ use Rattle.std.specs.Int.{IsGcd}
 use Rattle.std.specs.Int.Signed.{lt_z}
 use Rattle.std.proofs.lemmas.Nat.Gcd.{dvd_antisymm}
 use Rattle.std.proofs.lemmas.Int.{unsigned_abs-mul}
+use Rattle.prl_base.proofs.Coprime.{quotients_coprime}
 use Rattle.prl_base.specs.Ratios.{Fraction, IsSmallFraction}
 use Rattle.prl_base.specs.declared.ratios.TheConstants.{MAX_PART}
 use Rattle.prl_base.specs.Reductions.{IsReducedForm, IsReduction, IsPast, signed}
@@ -52,19 +53,6 @@ divisor_positive size den zero positive gcd =
     let e : den / 0 * 0 ≡ den = div-mul_cancel 0 gcd.1 in absurd (omega arith)
 divisor_positive size den (suc g) positive gcd = omega arith
 
--- both divided by their greatest common divisor
-lowest_sizes : (size den g : ℕ) → 0 < g → IsGcd size den g → IsGcd (size / g) (den / g) 1
-lowest_sizes size den g some gcd = (
-  one-dvd (size / g),
-  one-dvd (den / g),
-  λ d p q.
-      let P : ℕ → ℕ → Type 0 = λ m n. m ∣ n in
-      let over_size : d * g ∣ size = subst (P (d * g)) (div-mul_cancel g gcd.0) (mul-dvd-mul_right d p g) in
-      let over_den : d * g ∣ den = subst (P (d * g)) (div-mul_cancel g gcd.1) (mul-dvd-mul_right d q g) in
-      let over_g : d * g ∣ 1 * g = subst (P (d * g)) (sym (one-mul g)) (gcd.2 (d * g) over_size over_den) in
-      dvd_of_mul-dvd-mul_right d some over_g,
-)
-
 products : (size den g : ℕ) → g ∣ size → g ∣ den → size / g * den ≡ size * (den / g)
 products size den g p q =
     ap (λ n. size / g * n) (sym (div-mul_cancel g q)) ∙ sym (mul_assoc (size / g) (den / g) g) ∙ mul_right_comm (size / g) (den / g) g
@@ -87,7 +75,7 @@ lowest_form num negative size den g is positive gcd =
     let some : 0 < g = divisor_positive size den g positive gcd in
     record {
       positive = factor_positive (den / g) g den (div-mul_cancel g gcd.1) positive;
-      reduced = rw (nat_abs_signed negative (size / g)) (lowest_sizes size den g some gcd);
+      reduced = rw (nat_abs_signed negative (size / g)) (quotients_coprime size den g some gcd);
       equal = rw is (signed_equal negative size den g gcd.0 gcd.1);
     }
 

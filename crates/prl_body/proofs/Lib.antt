@@ -1,5 +1,5 @@
 pub mod Quotients
-pub mod Chains
+pub mod Series
 pub mod Typing
 pub mod Lists
 pub mod Inversion
@@ -11,8 +11,8 @@ pub mod FirstOf
 pub mod Lookups
 -- for the crates above: lists that a loop fills, element by element
 pub mod Steps
--- for the crates above: the trees of chains of operators
-pub mod TextChains
+-- for the crates above: the trees of series of operators
+pub mod TextSeries
 -- for the crates above: the bodies of used imports, and the types of what a step gives
 pub mod UsedBodies
 pub mod Sound

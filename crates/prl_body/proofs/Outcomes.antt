@@ -13,8 +13,8 @@ use Rattle.prl_body.specs.declared.faults.BodyFault.TheVariants as faults
 use Rattle.prl_body.specs.declared.texts.RegisterText.{RegisterText}
 use Rattle.prl_body.specs.Checks.{BodyTree, typed_as, left_type, typed_statement, typed_statements, statement_named, output_value, output_values, next_value, resolved_registers, without_fault, checked_body, import_named, has_text, checked_one, checked_bodies, has_body, all_there, checked}
 use Rattle.prl_body.specs.NameChecks.{name_fault}
-use Rattle.prl_body.specs.Texts.{Tree, constant, name, run, chain, choice, TreeLinks, none, more, StatementTree, TextTree}
-use Rattle.prl_body.specs.TypeChecks.{typed_name, named, typed, typed_links}
+use Rattle.prl_body.specs.Texts.{Tree, constant, name, run, series, choice, TreeRights, none, more, StatementTree, TextTree}
+use Rattle.prl_body.specs.TypeChecks.{typed_name, named, typed, typed_rights}
 
 -- a result that is not want of memory
 abbrev Told : {A : Type 0} → Result A BodyFault → Type 0
@@ -60,17 +60,17 @@ module _ (ins : List Port) (registers : List RegisterText) where
     typed_told (constant v) = told_ok _ (typed ins registers (constant v)) refl
     typed_told (name n at) = name_told at (named ins registers n)
     typed_told (run prefix ats of) = then_told (typed ins registers of) _ (typed_told of) (λ x. told_if _ _ _ (told_ok _ _ refl) (told_err _ _ refl (other_type _)))
-    typed_told (chain first links) = then_told (typed ins registers first) _ (typed_told first)
-        (λ x. then_told (typed_links ins registers x.1 links) _ (links_told x.1 links) (λ y. told_ok _ _ refl))
+    typed_told (series first rights) = then_told (typed ins registers first) _ (typed_told first)
+        (λ x. then_told (typed_rights ins registers x.1 rights) _ (rights_told x.1 rights) (λ y. told_ok _ _ refl))
     typed_told (choice at test chosen other) = then_told (typed ins registers test) _ (typed_told test)
         (λ t. then_told (typed ins registers chosen) _ (typed_told chosen)
         (λ x. then_told (typed ins registers other) _ (typed_told other)
         (λ y. told_if _ _ _ (told_ok _ _ refl) (told_err _ _ refl (other_type _)))))
 
-    links_told : (left : Ty) (links : TreeLinks) → Told (typed_links ins registers left links)
-    links_told left none = told_ok _ (typed_links ins registers left none) refl
-    links_told left (more operator at right links) = then_told (typed ins registers right) _ (typed_told right)
-        (λ x. told_if _ _ _ (then_told (typed_links ins registers _ links) _ (links_told _ links) (λ y. told_ok _ _ refl)) (told_err _ _ refl (other_type _)))
+    rights_told : (left : Ty) (rights : TreeRights) → Told (typed_rights ins registers left rights)
+    rights_told left none = told_ok _ (typed_rights ins registers left none) refl
+    rights_told left (more operator at right rights) = then_told (typed ins registers right) _ (typed_told right)
+        (λ x. told_if _ _ _ (then_told (typed_rights ins registers _ rights) _ (rights_told _ rights) (λ y. told_ok _ _ refl)) (told_err _ _ refl (other_type _)))
 
   as_told : (ty : Ty) (s : StatementTree) → Told (typed_as ins registers ty s)
   as_told ty s = then_told (typed ins registers s.right) _ (typed_told s.right) (λ x. told_if _ _ _ (told_ok _ _ refl) (told_err _ _ refl (other_type _)))

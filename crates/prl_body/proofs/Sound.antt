@@ -11,9 +11,9 @@ use Rattle.prl_body.specs.declared.operators.Operator.{Operator}
 use Rattle.prl_body.specs.declared.operators.Operator.TheVariants as operators
 use Rattle.prl_body.specs.declared.operators.Prefix.{Prefix}
 use Rattle.prl_body.specs.declared.operators.Prefix.TheVariants as prefixes
-use Rattle.prl_body.specs.Expressions.{Expression, constant, name, run, chain, choice, Links, none, more}
+use Rattle.prl_body.specs.Expressions.{Expression, constant, name, run, series, choice, Rights, none, more}
 use Rattle.prl_body.specs.Operators.{truth_of, prefixed, result_of}
-use Rattle.prl_body.specs.Types.{variable_type, result_type, prefix_type, HasType, LinksHaveType}
+use Rattle.prl_body.specs.Types.{variable_type, result_type, prefix_type, HasType, RightsHaveType}
 use Rattle.prl_body.specs.Values.{variable_value, prefixed_times, value, value_along}
 use Rattle.prl_body.specs.declared.bodies.CheckedBody.{CheckedBody}
 use Rattle.prl_body.specs.Bodies.{HaveTypes, IsWellTyped, input_types, output_types, register_types, value_expressions, next_expressions}
@@ -64,18 +64,18 @@ mutual
   type_of_value inputs registers (name variable) t typed = type_of_variable inputs registers variable t typed
   type_of_value inputs registers (run prefix times of) t typed =
       type_of_prefixed_times prefix times (value inputs registers of) (type_of_value inputs registers of (prefix_type prefix) typed.0) ∙ typed.1
-  type_of_value inputs registers (chain first links) t typed =
-      type_of_value_along inputs registers (value inputs registers first) links typed.0 t (type_of_value inputs registers first typed.0 typed.1) typed.2
+  type_of_value inputs registers (series first rights) t typed =
+      type_of_value_along inputs registers (value inputs registers first) rights typed.0 t (type_of_value inputs registers first typed.0 typed.1) typed.2
   type_of_value inputs registers (choice test chosen other) t typed =
       type_of_choice (truth_of (value inputs registers test)) (value inputs registers chosen) (value inputs registers other) t
       (type_of_value inputs registers chosen t typed.1) (type_of_value inputs registers other t typed.2)
 
-  type_of_value_along : (inputs registers : List Value) (left : Value) (links : Links) (s t : Ty) →
-      type_of left ≡ s → LinksHaveType (map type_of inputs) (map type_of registers) s links t →
-      type_of (value_along inputs registers left links) ≡ t
+  type_of_value_along : (inputs registers : List Value) (left : Value) (rights : Rights) (s t : Ty) →
+      type_of left ≡ s → RightsHaveType (map type_of inputs) (map type_of registers) s rights t →
+      type_of (value_along inputs registers left rights) ≡ t
   type_of_value_along inputs registers left none s t is typed = is ∙ typed
-  type_of_value_along inputs registers left (more operator right links) s t is typed =
-      type_of_value_along inputs registers (result_of operator left (value inputs registers right)) links (result_type operator) t
+  type_of_value_along inputs registers left (more operator right rights) s t is typed =
+      type_of_value_along inputs registers (result_of operator left (value inputs registers right)) rights (result_type operator) t
       (type_of_result operator left (value inputs registers right)) typed.1
 
 pub types_values : (inputs registers : List Value) (es : List Expression) (ts : List Ty) →

@@ -14,11 +14,11 @@ use Rattle.prl_body.specs.declared.codes.Variable.TheVariants as variables
 use Rattle.prl_body.specs.declared.faults.BodyFault.{BodyFault}
 use Rattle.prl_body.specs.declared.faults.BodyFault.TheVariants as faults
 use Rattle.prl_body.specs.declared.texts.RegisterText.{RegisterText}
-use Rattle.prl_body.specs.Expressions.{Expression, Links}
+use Rattle.prl_body.specs.Expressions.{Expression, Rights}
 use Rattle.prl_body.specs.Expressions as expressions
-use Rattle.prl_body.specs.Texts.{Tree, constant, name, run, chain, choice, TreeLinks, none, more}
-use Rattle.prl_body.specs.TypeChecks.{input_named, register_named, either_variable, named, typed_name, last_at, typed, typed_links}
-use Rattle.prl_body.specs.Types.{is_same_type, are_allowed, operand_type, result_type, prefix_type, variable_type, HasType, LinksHaveType}
+use Rattle.prl_body.specs.Texts.{Tree, constant, name, run, series, choice, TreeRights, none, more}
+use Rattle.prl_body.specs.TypeChecks.{input_named, register_named, either_variable, named, typed_name, last_at, typed, typed_rights}
+use Rattle.prl_body.specs.Types.{is_same_type, are_allowed, operand_type, result_type, prefix_type, variable_type, HasType, RightsHaveType}
 use Rattle.prl_body.proofs.Inversion.{both_ok, passed_ok}
 
 abbrev pub port_types : List Port → List Ty
@@ -121,14 +121,14 @@ mutual
       let Typed : Expression × Ty → Type 0 = λ z. HasType (port_types ins) (text_types registers) z.0 z.1 in
       let Inner : Ty → Type 0 = λ s. HasType (port_types ins) (text_types registers) both.first.0 s in
       subst Typed same (subst Inner type inner, sym type)
-  typed_sound ins registers (chain first links) x is =
-      let after : Expression × Ty → Result (Expression × Ty) BodyFault = λ y. (typed_links ins registers y.1 links >>= λ z. Ok (expressions.chain y.0 z.0, z.1)) in
+  typed_sound ins registers (series first rights) x is =
+      let after : Expression × Ty → Result (Expression × Ty) BodyFault = λ y. (typed_rights ins registers y.1 rights >>= λ z. Ok (expressions.series y.0 z.0, z.1)) in
       let both = both_ok (typed ins registers first) after x is in
-      let last : Links × Ty → Result (Expression × Ty) BodyFault = λ z. Ok (expressions.chain both.first.0 z.0, z.1) in
-      let next = both_ok (typed_links ins registers both.first.1 links) last x both.rest in
-      let same : (expressions.chain both.first.0 next.first.0, next.first.1) ≡ x = cc (next.rest) in
+      let last : Rights × Ty → Result (Expression × Ty) BodyFault = λ z. Ok (expressions.series both.first.0 z.0, z.1) in
+      let next = both_ok (typed_rights ins registers both.first.1 rights) last x both.rest in
+      let same : (expressions.series both.first.0 next.first.0, next.first.1) ≡ x = cc (next.rest) in
       let Typed : Expression × Ty → Type 0 = λ z. HasType (port_types ins) (text_types registers) z.0 z.1 in
-      subst Typed same (both.first.1, typed_sound ins registers first both.first both.is, links_sound ins registers both.first.1 links next.first next.is)
+      subst Typed same (both.first.1, typed_sound ins registers first both.first both.is, rights_sound ins registers both.first.1 rights next.first next.is)
   typed_sound ins registers (choice at test chosen other) x is =
       let after : Expression × Ty → Result (Expression × Ty) BodyFault = λ t. (typed ins registers chosen >>= λ y. (typed ins registers other >>= λ z.
       (if is_same_type t.1 types.Bool && is_same_type y.1 z.1 then Ok (expressions.choice t.0 y.0 z.0, y.1) else Err (faults.BodyType at.at)))) in
@@ -149,19 +149,19 @@ mutual
       let Other : Ty → Type 0 = λ s. HasType (port_types ins) (text_types registers) three.first.0 s in
       subst Typed same (subst Test test_type (typed_sound ins registers test one.first one.is), typed_sound ins registers chosen two.first two.is, subst Other (sym other_type) (typed_sound ins registers other three.first three.is))
 
-  pub links_sound : (ins : List Port) (registers : List RegisterText) (left : Ty) (links : TreeLinks) (x : Links × Ty) → typed_links ins registers left links ≡ Ok x →
-      LinksHaveType (port_types ins) (text_types registers) left x.0 x.1
-  links_sound ins registers left none x is =
+  pub rights_sound : (ins : List Port) (registers : List RegisterText) (left : Ty) (rights : TreeRights) (x : Rights × Ty) → typed_rights ins registers left rights ≡ Ok x →
+      RightsHaveType (port_types ins) (text_types registers) left x.0 x.1
+  rights_sound ins registers left none x is =
       let same : (expressions.none, left) ≡ x = cc in
-      let Typed : Links × Ty → Type 0 = λ z. LinksHaveType (port_types ins) (text_types registers) left z.0 z.1 in
+      let Typed : Rights × Ty → Type 0 = λ z. RightsHaveType (port_types ins) (text_types registers) left z.0 z.1 in
       subst Typed same refl
-  links_sound ins registers left (more operator at right links) x is =
-      let after : Expression × Ty → Result (Links × Ty) BodyFault = λ y. (if are_allowed (operand_type operator) left y.1
-      then (typed_links ins registers (result_type operator) links >>= λ z. Ok (expressions.more operator y.0 z.0, z.1)) else Err (faults.BodyType at.at)) in
+  rights_sound ins registers left (more operator at right rights) x is =
+      let after : Expression × Ty → Result (Rights × Ty) BodyFault = λ y. (if are_allowed (operand_type operator) left y.1
+      then (typed_rights ins registers (result_type operator) rights >>= λ z. Ok (expressions.more operator y.0 z.0, z.1)) else Err (faults.BodyType at.at)) in
       let both = both_ok (typed ins registers right) after x is in
-      let last : Links × Ty → Result (Links × Ty) BodyFault = λ z. Ok (expressions.more operator both.first.0 z.0, z.1) in
-      let passed = passed_ok (are_allowed (operand_type operator) left both.first.1) (typed_links ins registers (result_type operator) links >>= last) x (faults.BodyType at.at) both.rest in
-      let next = both_ok (typed_links ins registers (result_type operator) links) last x passed.1 in
+      let last : Rights × Ty → Result (Rights × Ty) BodyFault = λ z. Ok (expressions.more operator both.first.0 z.0, z.1) in
+      let passed = passed_ok (are_allowed (operand_type operator) left both.first.1) (typed_rights ins registers (result_type operator) rights >>= last) x (faults.BodyType at.at) both.rest in
+      let next = both_ok (typed_rights ins registers (result_type operator) rights) last x passed.1 in
       let same : (expressions.more operator both.first.0 next.first.0, next.first.1) ≡ x = cc (next.rest) in
-      let Typed : Links × Ty → Type 0 = λ z. LinksHaveType (port_types ins) (text_types registers) left z.0 z.1 in
-      subst Typed same ((both.first.1, typed_sound ins registers right both.first both.is, passed.0), links_sound ins registers (result_type operator) links next.first next.is)
+      let Typed : Rights × Ty → Type 0 = λ z. RightsHaveType (port_types ins) (text_types registers) left z.0 z.1 in
+      subst Typed same ((both.first.1, typed_sound ins registers right both.first both.is, passed.0), rights_sound ins registers (result_type operator) rights next.first next.is)

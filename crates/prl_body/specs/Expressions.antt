@@ -12,10 +12,10 @@ mutual
     -- the same operator before the operand so many times
     run : Prefix → ℕ → Expression → Expression
     -- the first operand, and the others with the operator before each
-    chain : Expression → Links → Expression
+    series : Expression → Rights → Expression
     -- if(c, a, b)
     choice : Expression → Expression → Expression → Expression
 
-  pub data Links : Type 0 where
-    none : Links
-    more : Operator → Expression → Links → Links
+  pub data Rights : Type 0 where
+    none : Rights
+    more : Operator → Expression → Rights → Rights

@@ -4,7 +4,7 @@ use Rattle.std.specs.List.{list_any}
 use Rattle.std.specs.Str.{bytes_eq}
 use Rattle.prl_ast.specs.declared.declarations.Port.{Port}
 use Rattle.prl_body.specs.declared.texts.RegisterText.{RegisterText}
-use Rattle.prl_body.specs.Texts.{Tree, constant, name, run, chain, choice, TreeLinks, none, more, StatementTree, TextTree}
+use Rattle.prl_body.specs.Texts.{Tree, constant, name, run, series, choice, TreeRights, none, more, StatementTree, TextTree}
 
 abbrev pub has_port : List Port → List ℕ → Bool
 has_port ports n = list_any (λ (p : Port). bytes_eq p.name n) ports
@@ -33,14 +33,14 @@ abbrev mutual
   unknown_name ins registers (constant v) = None
   unknown_name ins registers (name n at) = if has_port ins n || has_register registers n then None else Some at.at
   unknown_name ins registers (run prefix ats of) = unknown_name ins registers of
-  unknown_name ins registers (chain first links) = either_fault (unknown_name ins registers first) (unknown_name_in ins registers links)
+  unknown_name ins registers (series first rights) = either_fault (unknown_name ins registers first) (unknown_name_in ins registers rights)
   unknown_name ins registers (choice at test chosen other) =
       either_fault (unknown_name ins registers test) (either_fault (unknown_name ins registers chosen) (unknown_name ins registers other))
 
-  pub unknown_name_in : List Port → List RegisterText → TreeLinks → Option ℕ
+  pub unknown_name_in : List Port → List RegisterText → TreeRights → Option ℕ
   unknown_name_in ins registers none = None
-  unknown_name_in ins registers (more operator at right links) =
-      either_fault (unknown_name ins registers right) (unknown_name_in ins registers links)
+  unknown_name_in ins registers (more operator at right rights) =
+      either_fault (unknown_name ins registers right) (unknown_name_in ins registers rights)
 
 -- a left name that is no output or register or has an earlier statement, or an unknown name on the right
 abbrev pub statement_fault : List Port → List Port → List RegisterText → List StatementTree → List StatementTree → Option ℕ

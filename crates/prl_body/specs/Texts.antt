@@ -4,8 +4,8 @@ use Rattle.prl_base.specs.declared.places.Span.{Span}
 use Rattle.prl_base.specs.declared.values.Value.{Value}
 use Rattle.prl_body.specs.declared.operators.Operator.{Operator}
 use Rattle.prl_body.specs.declared.operators.Prefix.{Prefix}
-use Rattle.prl_body.specs.declared.texts.Expr.{Expr, Const, Name, Run', Chain', If', Row_of-ExprLink, end_of-ExprLink, more_of-ExprLink}
-use Rattle.prl_body.specs.declared.texts.ExprLink.{ExprLink}
+use Rattle.prl_body.specs.declared.texts.Expr.{Expr, Const, Name, Run', Series', If', Row_of-ExprRight, end_of-ExprRight, more_of-ExprRight}
+use Rattle.prl_body.specs.declared.texts.ExprRight.{ExprRight}
 use Rattle.prl_body.specs.declared.texts.RegisterText.{RegisterText}
 use Rattle.prl_body.specs.declared.texts.Statement.{Statement}
 use Rattle.prl_body.specs.declared.texts.BodyText.{BodyText}
@@ -18,30 +18,30 @@ mutual
     -- the same operator before the operand, the outermost first
     run : Prefix → List Span → Tree → Tree
     -- the first operand, and the others with the operator before each
-    chain : Tree → TreeLinks → Tree
+    series : Tree → TreeRights → Tree
     -- if(c, a, b)
     choice : Span → Tree → Tree → Tree → Tree
 
-  pub data TreeLinks : Type 0 where
-    none : TreeLinks
-    more : Operator → Span → Tree → TreeLinks → TreeLinks
+  pub data TreeRights : Type 0 where
+    none : TreeRights
+    more : Operator → Span → Tree → TreeRights → TreeRights
 
 abbrev mutual
   pub tree_of : Expr → Tree
   tree_of (Const value) = constant value
   tree_of (Name n at) = name n at
   tree_of (Run' prefix ats p of) = run prefix ats (tree_of of)
-  tree_of (Chain' p first shape links) = chain (tree_of first) (tree_links links)
+  tree_of (Series' p first shape rights) = series (tree_of first) (tree_rights rights)
   tree_of (If' at p test q chosen r other) = choice at (tree_of test) (tree_of chosen) (tree_of other)
 
-  pub tree_links : {m : _} → Row_of-ExprLink m → TreeLinks
-  tree_links end_of-ExprLink = none
-  tree_links (more_of-ExprLink operator at right rest) = more operator at (tree_of right) (tree_links rest)
+  pub tree_rights : {m : _} → Row_of-ExprRight m → TreeRights
+  tree_rights end_of-ExprRight = none
+  tree_rights (more_of-ExprRight operator at right rest) = more operator at (tree_of right) (tree_rights rest)
 
--- of a list of links
-abbrev pub link_trees : List ExprLink → TreeLinks
-link_trees [] = none
-link_trees (link ∷ links) = more link.operator link.at (tree_of link.right) (link_trees links)
+-- of a list of operators with their right operands
+abbrev pub pair_trees : List ExprRight → TreeRights
+pair_trees [] = none
+pair_trees (pair ∷ rights) = more pair.operator pair.at (tree_of pair.right) (pair_trees rights)
 
 pub record StatementTree : Type 0 where
   pub left : List ℕ

@@ -12,9 +12,9 @@ use Rattle.prl_body.specs.declared.codes.Variable.TheVariants as variables
 use Rattle.prl_body.specs.declared.faults.BodyFault.{BodyFault}
 use Rattle.prl_body.specs.declared.faults.BodyFault.TheVariants as faults
 use Rattle.prl_body.specs.declared.texts.RegisterText.{RegisterText}
-use Rattle.prl_body.specs.Expressions.{Expression, Links}
+use Rattle.prl_body.specs.Expressions.{Expression, Rights}
 use Rattle.prl_body.specs.Expressions as expressions
-use Rattle.prl_body.specs.Texts.{Tree, constant, name, run, chain, choice, TreeLinks, none, more}
+use Rattle.prl_body.specs.Texts.{Tree, constant, name, run, series, choice, TreeRights, none, more}
 use Rattle.prl_body.specs.Types.{is_same_type, are_allowed, operand_type, result_type, prefix_type}
 
 -- the first input of this name and its type; the inputs are counted from k
@@ -52,15 +52,15 @@ abbrev mutual
   typed ins registers (name n at) = typed_name at (named ins registers n)
   typed ins registers (run prefix ats of) = typed ins registers of >>= λ x.
       if is_same_type x.1 (prefix_type prefix) then Ok (expressions.run prefix (length ats) x.0, x.1) else Err (faults.BodyType (last_at ats))
-  typed ins registers (chain first links) = typed ins registers first >>= λ x. (typed_links ins registers x.1 links >>= λ y.
-      Ok (expressions.chain x.0 y.0, y.1))
+  typed ins registers (series first rights) = typed ins registers first >>= λ x. (typed_rights ins registers x.1 rights >>= λ y.
+      Ok (expressions.series x.0 y.0, y.1))
   typed ins registers (choice at test chosen other) = typed ins registers test >>= λ t. (typed ins registers chosen >>= λ x. (typed ins registers other >>= λ y.
       if is_same_type t.1 types.Bool && is_same_type x.1 y.1 then Ok (expressions.choice t.0 x.0 y.0, x.1) else Err (faults.BodyType at.at)))
 
   -- after a left operand of this type
-  pub typed_links : List Port → List RegisterText → Ty → TreeLinks → Result (Links × Ty) BodyFault
-  typed_links ins registers left none = Ok (expressions.none, left)
-  typed_links ins registers left (more operator at right links) = typed ins registers right >>= λ x.
+  pub typed_rights : List Port → List RegisterText → Ty → TreeRights → Result (Rights × Ty) BodyFault
+  typed_rights ins registers left none = Ok (expressions.none, left)
+  typed_rights ins registers left (more operator at right rights) = typed ins registers right >>= λ x.
       if are_allowed (operand_type operator) left x.1
-      then (typed_links ins registers (result_type operator) links >>= λ y. Ok (expressions.more operator x.0 y.0, y.1))
+      then (typed_rights ins registers (result_type operator) rights >>= λ y. Ok (expressions.more operator x.0 y.0, y.1))
       else Err (faults.BodyType at.at)

@@ -9,7 +9,7 @@ use Rattle.prl_body.specs.declared.operators.Operator.{Operator}
 use Rattle.prl_body.specs.declared.operators.Operator.TheVariants as operators
 use Rattle.prl_body.specs.declared.operators.Prefix.{Prefix}
 use Rattle.prl_body.specs.declared.operators.Prefix.TheVariants as prefixes
-use Rattle.prl_body.specs.Expressions.{Expression, constant, name, run, chain, choice, Links, none, more}
+use Rattle.prl_body.specs.Expressions.{Expression, constant, name, run, series, choice, Rights, none, more}
 
 -- the type of an input or a register, where there is one of this number
 abbrev pub variable_type : List Ty → List Ty → Variable → Option Ty
@@ -71,11 +71,11 @@ abbrev mutual
   HasType ins regs (constant v) t = type_of v ≡ t
   HasType ins regs (name variable) t = variable_type ins regs variable ≡ Some t
   HasType ins regs (run prefix times of) t = HasType ins regs of (prefix_type prefix) × (prefix_type prefix ≡ t)
-  HasType ins regs (chain first links) t = (s : Ty) × HasType ins regs first s × LinksHaveType ins regs s links t
+  HasType ins regs (series first rights) t = (s : Ty) × HasType ins regs first s × RightsHaveType ins regs s rights t
   HasType ins regs (choice test chosen other) t = HasType ins regs test types.Bool × HasType ins regs chosen t × HasType ins regs other t
 
   -- after a left operand of this type
-  pub LinksHaveType : List Ty → List Ty → Ty → Links → Ty → Type 0
-  LinksHaveType ins regs left none t = left ≡ t
-  LinksHaveType ins regs left (more operator right links) t =
-      ((r : Ty) × HasType ins regs right r × (are_allowed (operand_type operator) left r ≡ true)) × LinksHaveType ins regs (result_type operator) links t
+  pub RightsHaveType : List Ty → List Ty → Ty → Rights → Ty → Type 0
+  RightsHaveType ins regs left none t = left ≡ t
+  RightsHaveType ins regs left (more operator right rights) t =
+      ((r : Ty) × HasType ins regs right r × (are_allowed (operand_type operator) left r ≡ true)) × RightsHaveType ins regs (result_type operator) rights t

@@ -5,7 +5,7 @@ use Rattle.prl_base.specs.declared.values.Value.TheVariants as values
 use Rattle.prl_body.specs.declared.codes.Variable.{Variable}
 use Rattle.prl_body.specs.declared.codes.Variable.TheVariants as variables
 use Rattle.prl_body.specs.declared.operators.Prefix.{Prefix}
-use Rattle.prl_body.specs.Expressions.{Expression, constant, name, run, chain, choice, Links, none, more}
+use Rattle.prl_body.specs.Expressions.{Expression, constant, name, run, series, choice, Rights, none, more}
 use Rattle.prl_body.specs.Operators.{truth_of, prefixed, result_of}
 
 -- an input or a register that is not there, which no checked body names, counts as 0
@@ -23,12 +23,12 @@ abbrev mutual
   value inputs registers (constant v) = v
   value inputs registers (name variable) = variable_value inputs registers variable
   value inputs registers (run prefix times of) = prefixed_times prefix times (value inputs registers of)
-  value inputs registers (chain first links) = value_along inputs registers (value inputs registers first) links
+  value inputs registers (series first rights) = value_along inputs registers (value inputs registers first) rights
   value inputs registers (choice test chosen other) =
       if truth_of (value inputs registers test) then value inputs registers chosen else value inputs registers other
 
   -- from left to right
-  pub value_along : List Value → List Value → Value → Links → Value
+  pub value_along : List Value → List Value → Value → Rights → Value
   value_along inputs registers left none = left
-  value_along inputs registers left (more operator right links) =
-      value_along inputs registers (result_of operator left (value inputs registers right)) links
+  value_along inputs registers left (more operator right rights) =
+      value_along inputs registers (result_of operator left (value inputs registers right)) rights

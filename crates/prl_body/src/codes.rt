@@ -12,7 +12,7 @@ pub enum Variable {
     Register(usize),
 }
 
-/// An expression. A chain and a run are one level, however long they are, so that only parentheses nest.
+/// An expression. A series and a run are one level, however long they are, so that only parentheses nest.
 #[derive(Debug, Drop)]
 #[cycle(tree)]
 pub enum Code {
@@ -25,9 +25,9 @@ pub enum Code {
         of: Box<Code>,
     },
     /// From left to right.
-    Chain {
+    Series {
         first: Box<Code>,
-        links: Vec<Link>,
+        rights: Vec<OperatorAndRight>,
     },
     If {
         test: Box<Code>,
@@ -39,7 +39,7 @@ pub enum Code {
 /// An operator and its right operand.
 #[derive(Debug, Drop)]
 #[cycle(tree)]
-pub struct Link {
+pub struct OperatorAndRight {
     pub operator: Operator,
     pub right: Code,
 }

@@ -18,10 +18,10 @@ mod types;
 mod values;
 
 pub use bodies::{Body, CheckedBody, Register};
-pub use codes::{Code, Link, Variable};
+pub use codes::{Code, OperatorAndRight, Variable};
 pub use faults::BodyFault;
 pub use laws::{each_list_of_bodies_has_an_outcome, used_imports_have_bodies};
 pub use machines::Machine;
 pub use operators::{Operator, Prefix};
 pub use program_bodies::{Bodies, check_bodies, import_named};
-pub use texts::{BodyText, BodyTexts, Expr, ExprLink, RegisterText, Statement};
+pub use texts::{BodyText, BodyTexts, Expr, ExprRight, RegisterText, Statement};

@@ -38,12 +38,12 @@ fn unknown_name(scope: &Scope<'_>, expr: &Expr) -> Option<u32>
             }
         }
         Expr::Run { of, .. } => unknown_name(scope, of),
-        Expr::Chain { first, links } => {
+        Expr::Series { first, rights } => {
             if let Some(at) = unknown_name(scope, first) {
                 return Some(at);
             }
-            for link in links {
-                if let Some(at) = unknown_name(scope, &link.right) {
+            for pair in rights {
+                if let Some(at) = unknown_name(scope, &pair.right) {
                     return Some(at);
                 }
             }

@@ -37,7 +37,7 @@ pub struct Statement {
     pub at: Span,
 }
 
-/// An expression. A chain and a run are one level, however long they are, so that only parentheses nest.
+/// An expression. A series and a run are one level, however long they are, so that only parentheses nest.
 #[derive(Debug, Drop)]
 #[cycle(text)]
 pub enum Expr {
@@ -53,9 +53,9 @@ pub enum Expr {
         of: Box<Expr>,
     },
     /// From left to right.
-    Chain {
+    Series {
         first: Box<Expr>,
-        links: Vec<ExprLink>,
+        rights: Vec<ExprRight>,
     },
     /// `if(test, chosen, other)`; where the keyword `if` stands.
     If {
@@ -69,7 +69,7 @@ pub enum Expr {
 /// An operator, where it stands, and its right operand.
 #[derive(Debug, Drop)]
 #[cycle(text)]
-pub struct ExprLink {
+pub struct ExprRight {
     pub operator: Operator,
     pub at: Span,
     pub right: Expr,

@@ -2,16 +2,16 @@
 
 ghost use Rattle.std.specs.Prelude.{◌≡◌};
 ghost use Rattle.prl_base.specs.Reading.{GivesBut};
-ghost use Rattle.prl_body.specs.Codes.{expression_of, link_expressions};
-ghost use Rattle.prl_body.specs.Texts.{tree_of, link_trees};
-ghost use Rattle.prl_body.specs.TypeChecks.{last_at, typed, typed_links};
+ghost use Rattle.prl_body.specs.Codes.{expression_of, pair_expressions};
+ghost use Rattle.prl_body.specs.Texts.{tree_of, pair_trees};
+ghost use Rattle.prl_body.specs.TypeChecks.{last_at, typed, typed_rights};
 ghost use Rattle.prl_body.specs.Types.{is_same_type, are_allowed, operand_type, result_type, prefix_type};
 
-use crate::codes::{Code, Link};
+use crate::codes::{Code, OperatorAndRight};
 use crate::faults::BodyFault;
 use crate::operators::{Operator, Prefix};
 use crate::scopes::Scope;
-use crate::texts::{Expr, ExprLink};
+use crate::texts::{Expr, ExprRight};
 use prl_base::{Span, Ty};
 use std::alloc::Global;
 
@@ -89,28 +89,28 @@ fn last_at(ats: &[Span]) -> u32
     }
 }
 
-/// The links with their names resolved, after a left operand of this type, and the type of the chain.
+/// The operators and right operands with their names resolved, after a left operand of this type, and the type of the series.
 #[cycle(typing)]
-fn typed_links(
+fn typed_rights(
     alloc: Global,
     scope: &Scope<'_>,
     left: Ty,
-    links: &[ExprLink],
-) -> Result<(Vec<Link>, Ty), BodyFault>
-    ensures { GivesBut BodyFault.Memory (λ x. (link_expressions x.0.items, x.1)) result (typed_links scope.now.ins scope.now.registers left (link_trees links.now)) }
+    rights: &[ExprRight],
+) -> Result<(Vec<OperatorAndRight>, Ty), BodyFault>
+    ensures { GivesBut BodyFault.Memory (λ x. (pair_expressions x.0.items, x.1)) result (typed_rights scope.now.ins scope.now.registers left (pair_trees rights.now)) }
 {
     let mut ty = left;
     let mut typed_ones = Vec::new(alloc);
-    for link in links {
-        let (right, right_ty) = typed(alloc, scope, &link.right)?;
-        if !link.operator.allows(ty, right_ty) {
-            return Err(BodyFault::BodyType(link.at.at));
+    for pair in rights {
+        let (right, right_ty) = typed(alloc, scope, &pair.right)?;
+        if !pair.operator.allows(ty, right_ty) {
+            return Err(BodyFault::BodyType(pair.at.at));
         }
-        typed_ones.push(Link {
-            operator: link.operator,
+        typed_ones.push(OperatorAndRight {
+            operator: pair.operator,
             right,
         })?;
-        ty = link.operator.result_type();
+        ty = pair.operator.result_type();
     }
     Ok((typed_ones, ty))
 }
@@ -142,11 +142,11 @@ pub fn typed(alloc: Global, scope: &Scope<'_>, expr: &Expr) -> Result<(Code, Ty)
                 ty,
             ))
         }
-        Expr::Chain { first, links } => {
+        Expr::Series { first, rights } => {
             let (code, left) = typed(alloc, scope, first)?;
             let first = Box::new(alloc, code)?;
-            let (links, ty) = typed_links(alloc, scope, left, links)?;
-            Ok((Code::Chain { first, links }, ty))
+            let (rights, ty) = typed_rights(alloc, scope, left, rights)?;
+            Ok((Code::Series { first, rights }, ty))
         }
         Expr::If {
             at,

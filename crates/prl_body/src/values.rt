@@ -44,12 +44,12 @@ pub fn value_of(code: &Code, inputs: &[Value], registers: &[Value]) -> Value
         Code::Run { prefix, times, of } => {
             prefixed_times(*prefix, *times, value_of(of, inputs, registers))
         }
-        Code::Chain { first, links } => {
+        Code::Series { first, rights } => {
             let mut value = value_of(first, inputs, registers);
-            for link in links {
-                value = link
+            for pair in rights {
+                value = pair
                     .operator
-                    .between(value, value_of(&link.right, inputs, registers));
+                    .between(value, value_of(&pair.right, inputs, registers));
             }
             value
         }

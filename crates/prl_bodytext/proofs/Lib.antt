@@ -1,4 +1,4 @@
-pub mod LinkTrees
+pub mod OperatorAndRightTrees
 pub mod Calls
 pub mod Right
 -- for the crates above: the outcomes of texts

@@ -1,13 +1,13 @@
--- The links of a chain, as the tree has them.
+-- The rights of a series, as the tree has them.
 use Rattle.std.proofs.Common.{◌≡◌, ◌<◌, List, [], ◌∷◌, map, length, refl, ap, arith}
-use Rattle.prl_body.specs.declared.texts.ExprLink.{ExprLink}
-use Rattle.prl_body.specs.Texts.{Tree, chain, more, tree_of, link_trees}
-use Rattle.prl_bodytext.specs.Trees.{links_from, link_view, chained}
+use Rattle.prl_body.specs.declared.texts.ExprRight.{ExprRight}
+use Rattle.prl_body.specs.Texts.{Tree, series, more, tree_of, pair_trees}
+use Rattle.prl_bodytext.specs.Trees.{rights_from, pair_view, in_series}
 
-links_viewed : (ls : List ExprLink) → link_trees ls ≡ links_from (map link_view ls)
-links_viewed [] = refl
-links_viewed (l ∷ ls) = ap (more l.operator l.at (tree_of l.right)) (links_viewed ls)
+rights_viewed : (ls : List ExprRight) → pair_trees ls ≡ rights_from (map pair_view ls)
+rights_viewed [] = refl
+rights_viewed (l ∷ ls) = ap (more l.operator l.at (tree_of l.right)) (rights_viewed ls)
 
-pub some_links : (t : Tree) (ls : List ExprLink) → 0 < length ls → chain t (link_trees ls) ≡ chained t (map link_view ls)
-some_links t [] lt = absurd (omega arith)
-some_links t (l ∷ ls) lt = ap (chain t) (links_viewed (l ∷ ls))
+pub some_rights : (t : Tree) (ls : List ExprRight) → 0 < length ls → series t (pair_trees ls) ≡ in_series t (map pair_view ls)
+some_rights t [] lt = absurd (omega arith)
+some_rights t (l ∷ ls) lt = ap (series t) (rights_viewed (l ∷ ls))

@@ -17,7 +17,7 @@ use Rattle.prl_bodytext.specs.declared.levels.Level.TheVariants as levels
 use Rattle.prl_bodytext.specs.declared.words.Fixed.{Fixed}
 use Rattle.prl_bodytext.specs.declared.words.Fixed.TheVariants as fixed
 use Rattle.prl_bodytext.specs.Words.{class_of}
-use Rattle.prl_bodytext.specs.Trees.{Sign, Link, chained, compared, prefixed}
+use Rattle.prl_bodytext.specs.Trees.{Sign, OperatorAndRight, in_series, compared, prefixed}
 
 -- a grammar, in which parentheses hold trees
 abbrev pub Grammar : Type 0 → Type 1
@@ -78,26 +78,26 @@ Operators levels.Comparison =
 Operators levels.Sum = either (sign fixed.Plus operators.Plus) (sign fixed.Minus operators.Minus)
 Operators levels.Product = either (sign fixed.Star operators.Times) (either (sign fixed.Slash operators.Over) (sign fixed.Percent operators.Modulo))
 
-unfoldable pub LinkOf : Level → Grammar Tree → Grammar Link
-LinkOf level operand = do
+unfoldable pub RightOf : Level → Grammar Tree → Grammar OperatorAndRight
+RightOf level operand = do
   s ← Operators level
   t ← operand
   give (s, t)
 
 -- operands with operators of the level between, from left to right
-unfoldable pub ChainOf : Level → Grammar Tree → Grammar Tree
-ChainOf level operand = do
+unfoldable pub SeriesOf : Level → Grammar Tree → Grammar Tree
+SeriesOf level operand = do
   row ← separated (Operators level) operand
-  give (chained row.0 row.1)
+  give (in_series row.0 row.1)
 
 -- two operands with an operator of the level between, or one
 unfoldable pub PairOf : Level → Grammar Tree → Grammar Tree
 PairOf level operand = do
   first ← operand
-  link ← either (do
-    l ← LinkOf level operand
+  pair ← either (do
+    l ← RightOf level operand
     give (Some l)) (give None)
-  give (compared first link)
+  give (compared first pair)
 
 -- a prefix so many times, and its operand
 unfoldable pub RunOf : Fixed → Prefix → Grammar Tree → Grammar Tree
@@ -144,10 +144,10 @@ unfoldable pub Unary : Grammar Tree
 Unary = RunOf fixed.Minus prefixes.Negated Primary
 
 unfoldable pub Product : Grammar Tree
-Product = ChainOf levels.Product Unary
+Product = SeriesOf levels.Product Unary
 
 unfoldable pub Sum : Grammar Tree
-Sum = ChainOf levels.Sum Product
+Sum = SeriesOf levels.Sum Product
 
 unfoldable pub Comparison : Grammar Tree
 Comparison = PairOf levels.Comparison Sum
@@ -156,10 +156,10 @@ unfoldable pub Negation : Grammar Tree
 Negation = RunOf fixed.Not prefixes.Not Comparison
 
 unfoldable pub Conjunction : Grammar Tree
-Conjunction = ChainOf levels.Conjunction Negation
+Conjunction = SeriesOf levels.Conjunction Negation
 
 unfoldable pub Expression : Grammar Tree
-Expression = ChainOf levels.Disjunction Conjunction
+Expression = SeriesOf levels.Disjunction Conjunction
 
 -- what operators of a level stand between
 unfoldable pub Operand : Level → Grammar Tree

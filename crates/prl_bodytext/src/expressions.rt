@@ -1,4 +1,4 @@
-//! Expressions. Only parentheses nest: chains and runs are read by loops.
+//! Expressions. Only parentheses nest: series and runs are read by loops.
 
 ghost use Rattle.std.specs.Prelude.{◌≡◌, ◌∷◌, [], map};
 ghost use Rattle.prl_body.specs.Texts.{tree_of};
@@ -6,22 +6,22 @@ ghost use Rattle.prl_grammar.specs.code.Readers.{next_in};
 ghost use Rattle.prl_grammar.specs.Productions.{many, inner};
 ghost use Rattle.prl_grammar.specs.code.Shapes.{shape};
 ghost use Rattle.prl_grammar.specs.code.Languages.{inner_of};
-ghost use Rattle.prl_bodytext.specs.Grammar.{the, sign, Operators, LinkOf, ChainOf, Comparison, Negation, Unary, Primary, Enclosed, Conditional, Operand, bodies};
+ghost use Rattle.prl_bodytext.specs.Grammar.{the, sign, Operators, RightOf, SeriesOf, Comparison, Negation, Unary, Primary, Enclosed, Conditional, Operand, bodies};
 ghost use Rattle.prl_bodytext.specs.code.Parses.{Parses};
-ghost use Rattle.prl_bodytext.specs.Trees.{link_view};
+ghost use Rattle.prl_bodytext.specs.Trees.{pair_view};
 
 use crate::levels::Level;
 use crate::parser::Parser;
-use crate::trees::{chained, choice, prefixed};
+use crate::trees::{choice, in_series, prefixed};
 use crate::words::Fixed;
 use prl_base::{Span, Value};
-use prl_body::{Expr, ExprLink, Operator, Prefix};
+use prl_body::{Expr, ExprRight, Operator, Prefix};
 use prl_grammar::{Stop, positive};
 
 impl<'a> Parser<'a> {
-    #[tactic(auto, unfolding(crate::specs::Grammar::Operators, crate::specs::Grammar::LinkOf))]
+    #[tactic(auto, unfolding(crate::specs::Grammar::Operators, crate::specs::Grammar::RightOf))]
     fn begins_operator(&self, level: Level) -> bool
-        ensures { result ≡ next_in (shape (inner_of bodies) (LinkOf level (Operand level))).first self.now }
+        ensures { result ≡ next_in (shape (inner_of bodies) (RightOf level (Operand level))).first self.now }
     {
         match level {
             Level::Disjunction => self.next_is(Fixed::Or) || self.next_is(Fixed::Xor),
@@ -173,7 +173,7 @@ impl<'a> Parser<'a> {
     }
 
     #[cycle(expression)]
-    #[tactic(auto, unfolding(crate::specs::Grammar::Comparison, crate::specs::Grammar::PairOf, crate::specs::Grammar::Operand, crate::specs::Grammar::LinkOf))]
+    #[tactic(auto, unfolding(crate::specs::Grammar::Comparison, crate::specs::Grammar::PairOf, crate::specs::Grammar::Operand, crate::specs::Grammar::RightOf))]
     fn comparison(&mut self) -> Result<Expr, Stop>
         ensures { Parses tree_of Comparison result self.entry.now self.exit.now }
     {
@@ -181,10 +181,10 @@ impl<'a> Parser<'a> {
         if !self.begins_operator(Level::Comparison) {
             return Ok(first);
         }
-        let link = self.link(Level::Comparison)?;
-        let mut links = Vec::new(self.alloc);
-        links.push(link)?;
-        Ok(chained(self.alloc, first, links)?)
+        let pair = self.pair(Level::Comparison)?;
+        let mut rights = Vec::new(self.alloc);
+        rights.push(pair)?;
+        Ok(in_series(self.alloc, first, rights)?)
     }
 
     #[cycle(expression)]
@@ -203,22 +203,22 @@ impl<'a> Parser<'a> {
         ensures { Parses tree_of (Operand level) result self.entry.now self.exit.now }
     {
         match level {
-            Level::Disjunction => self.chain(Level::Conjunction),
+            Level::Disjunction => self.series(Level::Conjunction),
             Level::Conjunction => self.negation(),
-            Level::Comparison => self.chain(Level::Sum),
-            Level::Sum => self.chain(Level::Product),
+            Level::Comparison => self.series(Level::Sum),
+            Level::Sum => self.series(Level::Product),
             Level::Product => self.unary(),
         }
     }
 
     #[cycle(expression)]
-    #[tactic(auto, unfolding(crate::specs::Grammar::LinkOf))]
-    fn link(&mut self, level: Level) -> Result<ExprLink, Stop>
-        ensures { Parses link_view (LinkOf level (Operand level)) result self.entry.now self.exit.now }
+    #[tactic(auto, unfolding(crate::specs::Grammar::RightOf))]
+    fn pair(&mut self, level: Level) -> Result<ExprRight, Stop>
+        ensures { Parses pair_view (RightOf level (Operand level)) result self.entry.now self.exit.now }
     {
         let (operator, at) = self.operator(level)?;
         let right = self.operand(level)?;
-        Ok(ExprLink {
+        Ok(ExprRight {
             operator,
             at,
             right,
@@ -226,24 +226,24 @@ impl<'a> Parser<'a> {
     }
 
     #[cycle(expression)]
-    fn links(&mut self, level: Level) -> Result<Vec<ExprLink>, Stop>
-        ensures { Parses (λ x. map link_view x.items) (many (LinkOf level (Operand level))) result self.entry.now self.exit.now }
+    fn rights(&mut self, level: Level) -> Result<Vec<ExprRight>, Stop>
+        ensures { Parses (λ x. map pair_view x.items) (many (RightOf level (Operand level))) result self.entry.now self.exit.now }
     {
-        let mut links = Vec::new(self.alloc);
+        let mut rights = Vec::new(self.alloc);
         'more: while self.begins_operator(level) {
-            links.push(self.link(level)?)?;
+            rights.push(self.pair(level)?)?;
         }
-        Ok(links)
+        Ok(rights)
     }
 
     #[cycle(expression)]
-    #[tactic(auto, unfolding(crate::specs::Grammar::ChainOf, crate::specs::Grammar::LinkOf))]
-    fn chain(&mut self, level: Level) -> Result<Expr, Stop>
-        ensures { Parses tree_of (ChainOf level (Operand level)) result self.entry.now self.exit.now }
+    #[tactic(auto, unfolding(crate::specs::Grammar::SeriesOf, crate::specs::Grammar::RightOf))]
+    fn series(&mut self, level: Level) -> Result<Expr, Stop>
+        ensures { Parses tree_of (SeriesOf level (Operand level)) result self.entry.now self.exit.now }
     {
         let first = self.operand(level)?;
-        let links = self.links(level)?;
-        Ok(chained(self.alloc, first, links)?)
+        let rights = self.rights(level)?;
+        Ok(in_series(self.alloc, first, rights)?)
     }
 
     /// Takes an expression.
@@ -251,6 +251,6 @@ impl<'a> Parser<'a> {
     pub fn expression(&mut self) -> Result<Expr, Stop>
         ensures { Parses tree_of inner result self.entry.now self.exit.now }
     {
-        self.chain(Level::Disjunction)
+        self.series(Level::Disjunction)
     }
 }

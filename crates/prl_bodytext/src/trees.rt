@@ -2,21 +2,21 @@
 
 ghost use Rattle.std.specs.Prelude.{◌≡◌, map, IfOk};
 ghost use Rattle.prl_body.specs.Texts.{tree_of, choice};
-ghost use Rattle.prl_bodytext.specs.Trees.{link_view, chained, prefixed};
+ghost use Rattle.prl_bodytext.specs.Trees.{pair_view, in_series, prefixed};
 
 use prl_base::{Seq, Span};
-use prl_body::{Expr, ExprLink, Prefix};
+use prl_body::{Expr, ExprRight, Prefix};
 use std::alloc::{AllocError, Global};
 
-/// The chain of these links; without links it is its operand.
-pub fn chained(alloc: Global, first: Expr, links: Vec<ExprLink>) -> Result<Expr, AllocError>
-    ensures { IfOk result (λ e. tree_of e ≡ chained (tree_of first) (map link_view links.items)) }
+/// The series of these operators and right operands; without any it is its first operand.
+pub fn in_series(alloc: Global, first: Expr, rights: Vec<ExprRight>) -> Result<Expr, AllocError>
+    ensures { IfOk result (λ e. tree_of e ≡ in_series (tree_of first) (map pair_view rights.items)) }
 {
-    if links.is_empty() {
+    if rights.is_empty() {
         return Ok(first);
     }
     let first = Box::new(alloc, first)?;
-    Ok(Expr::Chain { first, links })
+    Ok(Expr::Series { first, rights })
 }
 
 /// The prefix at each of the places before the operand; without any it is the operand.

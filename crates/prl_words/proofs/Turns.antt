@@ -4,7 +4,8 @@ use Rattle.std.proofs.Common.{◌≡◌, ◌+◌, ◌*◌, ◌/◌, ◌%◌, ◌
 use Rattle.std.proofs.Math.Nat.{mul-le-mul_left, mul-le-mul_right, div-mul_cancel, dvd-mul_right, eq_of_mul-eq-mul_right, one-dvd, one-mul, mul-dvd-mul_right, dvd_of_mul-dvd-mul_right, div-zero}
 use Rattle.std.proofs.lemmas.Nat.{mod_below, div_below, le-div}
 use Rattle.std.specs.Int.{IsGcd}
-use Rattle.prl_base.proofs.Coprime.{divides_other}
+use Rattle.prl_base.proofs.Coprime.{divides_other, quotients_coprime}
+use Rattle.std.proofs.lemmas.Nat.Gcd.{IsGcd-swap}
 use Rattle.prl_base.specs.declared.operators.Op.{Op}
 use Rattle.prl_base.specs.declared.operators.Op.TheVariants as operators
 use Rattle.prl_plan.specs.declared.words.Word.{Word}
@@ -19,19 +20,6 @@ first_some (suc a) b whole is some = omega arith
 
 pub second_some : (a b whole : ℕ) → whole ≡ a * b → 1 ≤ whole → 1 ≤ b
 second_some a b whole is some = first_some b a whole (let e : a * b ≡ b * a = omega arith in is ∙ e) some
-
--- over their greatest common divisor, two numbers have none but 1
-lowest : (a b g : ℕ) → 0 < g → IsGcd a b g → IsGcd (b / g) (a / g) 1
-lowest a b g some gcd = (
-  one-dvd (b / g),
-  one-dvd (a / g),
-  λ d q p.
-      let P : ℕ → ℕ → Type 0 = λ m n. m ∣ n in
-      let over_a : d * g ∣ a = subst (P (d * g)) (div-mul_cancel g gcd.0) (mul-dvd-mul_right d p g) in
-      let over_b : d * g ∣ b = subst (P (d * g)) (div-mul_cancel g gcd.1) (mul-dvd-mul_right d q g) in
-      let over_g : d * g ∣ 1 * g = subst (P (d * g)) (sym (one-mul g)) (gcd.2 (d * g) over_a over_b) in
-      dvd_of_mul-dvd-mul_right d some over_g,
-)
 
 -- So many turns of the word are `rounds` times as many of the longer one, and these give the instances before.
 pub record AreTurns (rounds after turns before : ℕ) : Type 0 where
@@ -54,7 +42,7 @@ turns_up k step turns rounds after count before g gcd rounds_are after_is count_
     let right : k * before ≡ f * before * g = (ap (λ (x : ℕ). x * before) (sym k_is) ∙ (let e : f * g * before ≡ f * before * g = omega arith in e)) in
     let cross : f * before ≡ o * turns = eq_of_mul-eq-mul_right g g_some (f * before) (o * turns) (sym right ∙ sym both ∙ left) in
     let P : ℕ → Type 0 = λ n. f ∣ n in
-    let divides : f ∣ turns = divides_other o f turns (lowest k step g g_some gcd) (subst P cross (dvd-mul_right f before)) in
+    let divides : f ∣ turns = divides_other o f turns (IsGcd-swap (k / g) (step / g) 1 (quotients_coprime k step g g_some gcd)) (subst P cross (dvd-mul_right f before)) in
     let longer = turns / f in
     let turns_is : longer * f ≡ turns = div-mul_cancel f divides in
     let again : before * f ≡ o * longer * f =

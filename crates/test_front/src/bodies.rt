@@ -46,8 +46,8 @@ fn registers(rt: HostRuntime) -> Result<(), Fail> {
 /// `a and not b - 1 - c < 0`: two operands of `and`, the second a comparison after a `not`.
 fn binds_as_it_should(right: &Expr) -> bool {
     match right {
-        Expr::Chain { first: _, links } => match links.as_slice() {
-            [link] => link.operator == Operator::And && is_negated_comparison(&link.right),
+        Expr::Series { first: _, rights } => match rights.as_slice() {
+            [pair] => pair.operator == Operator::And && is_negated_comparison(&pair.right),
             _ => false,
         },
         _ => false,
@@ -67,8 +67,8 @@ fn is_negated_comparison(expr: &Expr) -> bool {
 
 fn is_comparison(expr: &Expr) -> bool {
     match expr {
-        Expr::Chain { first, links } => match links.as_slice() {
-            [link] => link.operator == Operator::Less && is_difference(first),
+        Expr::Series { first, rights } => match rights.as_slice() {
+            [pair] => pair.operator == Operator::Less && is_difference(first),
             _ => false,
         },
         _ => false,
@@ -77,7 +77,7 @@ fn is_comparison(expr: &Expr) -> bool {
 
 fn is_difference(expr: &Expr) -> bool {
     match expr {
-        Expr::Chain { first: _, links } => match links.as_slice() {
+        Expr::Series { first: _, rights } => match rights.as_slice() {
             [b, c] => {
                 b.operator == Operator::Minus && b.at.at == 25 && c.operator == Operator::Minus
             }

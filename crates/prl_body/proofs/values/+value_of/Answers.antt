@@ -1,8 +1,8 @@
 use Rattle.std.proofs.Common.{sym}
-use Rattle.prl_body.proofs.Chains.{value_Chain}
+use Rattle.prl_body.proofs.Series.{value_Series}
 use Rattle.prl_body.proofs.values.+value_of.Goals as goal
 
-pub loop-link-init : goal.loop-link-init
-loop-link-init t c =
-    let whole = value_Chain c.args.inputs.now c.args.registers.now c.in-Chain.first c.in-Chain.links in
-    rw (c.in-Chain.is, c.value_of-value.ensures, c.deref-in-Chain.ensures, c.deref-link-items.ensures.value) (sym whole)
+pub loop-pair-init : goal.loop-pair-init
+loop-pair-init t c =
+    let whole = value_Series c.args.inputs.now c.args.registers.now c.in-Series.first c.in-Series.rights in
+    rw (c.in-Series.is, c.value_of-value.ensures, c.deref-in-Series.ensures, c.deref-pair-items.ensures.value) (sym whole)

@@ -5,24 +5,24 @@ use Rattle.prl_grammar.proofs.Loops.{fewer, goes_on, halts, fails}
 use Rattle.prl_grammar.proofs.Nesting.{nested_step}
 use Rattle.prl_bodytext.specs.declared.levels.Level.TheVariants as levels
 use Rattle.prl_bodytext.specs.declared.words.Fixed.TheVariants as fixed
-use Rattle.prl_bodytext.specs.Grammar.{LinkOf, Operand, Expression, bodies}
-use Rattle.prl_bodytext.specs.Trees.{link_view}
+use Rattle.prl_bodytext.specs.Grammar.{RightOf, Operand, Expression, bodies}
+use Rattle.prl_bodytext.specs.Trees.{pair_view}
 use Rattle.prl_bodytext.proofs.Calls.{few_calls}
-use Rattle.prl_bodytext.proofs.Right.{right, link_loop, operand_fewer, operator_fewer, token_fewer, inner_fewer, run_left}
+use Rattle.prl_bodytext.proofs.Right.{right, pair_loop, operand_fewer, operator_fewer, token_fewer, inner_fewer, run_left}
 use Rattle.prl_bodytext.proofs.parser.Parser.+expression.Goals as goal
 
-pub chain-links-requires : goal.chain-links-requires
-chain-links-requires t c =
+pub series-rights-requires : goal.series-rights-requires
+series-rights-requires t c =
     let fewer = operand_fewer c.args.level c.args.self.now _ _ c.in_ok-first.ensures in
     (omega (arith, fewer), tt)
 
-pub comparison-link-requires : goal.comparison-link-requires
-comparison-link-requires t c =
+pub comparison-pair-requires : goal.comparison-pair-requires
+comparison-pair-requires t c =
     let fewer = operand_fewer levels.Comparison c.args.self.now _ _ c.in_ok-first.ensures in
     (omega (arith, fewer), tt)
 
-pub link-operand-requires : goal.link-operand-requires
-link-operand-requires t c =
+pub pair-operand-requires : goal.pair-operand-requires
+pair-operand-requires t c =
     let fewer = operator_fewer c.args.level c.args.self.now _ _ c.in_ok-operator.ensures in
     (omega (arith, fewer, few_calls c.args.level), tt)
 
@@ -38,24 +38,24 @@ negation-comparison-requires t c =
 
 pub expression-returns : goal.expression-returns
 unfolding Expression Operand bodies
-expression-returns t c = rw (nested_step bodies right c.args.self.now) c.chain.ensures
+expression-returns t c = rw (nested_step bodies right c.args.self.now) c.series.ensures
 
-pub links-returns : goal.links-returns
-links-returns t c = halts right (LinkOf c.args.level (Operand c.args.level)) (link_loop c.args.level) _ _ _ (sym c.begins_operator.ensures ∙ c.more-test.false) c.more.invariant.exact
+pub rights-returns : goal.rights-returns
+rights-returns t c = halts right (RightOf c.args.level (Operand c.args.level)) (pair_loop c.args.level) _ _ _ (sym c.begins_operator.ensures ∙ c.more-test.false) c.more.invariant.exact
 
-pub links-returns-in_err-link : goal.links-returns-in_err-link
-links-returns-in_err-link t c =
+pub rights-returns-in_err-pair : goal.rights-returns-in_err-pair
+rights-returns-in_err-pair t c =
     let p = err_from_is_err_and c.from_residual.result c.from_residual.ensures.1 in
-    rw (p.1, p.2) (fails right (LinkOf c.args.level (Operand c.args.level)) (link_loop c.args.level) c.in_err-link.field-0.0 _ _ c.more.self (sym c.begins_operator.ensures ∙ c.more-test.true) c.in_err-link.ensures c.more.invariant.exact)
+    rw (p.1, p.2) (fails right (RightOf c.args.level (Operand c.args.level)) (pair_loop c.args.level) c.in_err-pair.field-0.0 _ _ c.more.self (sym c.begins_operator.ensures ∙ c.more-test.true) c.in_err-pair.ensures c.more.invariant.exact)
 
-pub links-more-smaller : goal.links-more-smaller
-links-more-smaller t c = fewer right (LinkOf c.args.level (Operand c.args.level)) (link_loop c.args.level) c.more.self _ _ c.in_ok-link.ensures
+pub rights-more-smaller : goal.rights-more-smaller
+rights-more-smaller t c = fewer right (RightOf c.args.level (Operand c.args.level)) (pair_loop c.args.level) c.more.self _ _ c.in_ok-pair.ensures
 
-pub links-more-preserved : goal.links-more-preserved
-links-more-preserved t c =
-    let less = fewer right (LinkOf c.args.level (Operand c.args.level)) (link_loop c.args.level) c.more.self _ _ c.in_ok-link.ensures in
+pub rights-more-preserved : goal.rights-more-preserved
+rights-more-preserved t c =
+    let less = fewer right (RightOf c.args.level (Operand c.args.level)) (pair_loop c.args.level) c.more.self _ _ c.in_ok-pair.ensures in
     record {
-      exact = rw (ap (map link_view) c.in_ok-push.ensures.items ∙ map_push link_view c.more.links.items _) (goes_on right (LinkOf c.args.level (Operand c.args.level)) (link_loop c.args.level) _ _ _ _ _ (sym c.begins_operator.ensures ∙ c.more-test.true) c.in_ok-link.ensures c.more.invariant.exact);
+      exact = rw (ap (map pair_view) c.in_ok-push.ensures.items ∙ map_push pair_view c.more.rights.items _) (goes_on right (RightOf c.args.level (Operand c.args.level)) (pair_loop c.args.level) _ _ _ _ _ (sym c.begins_operator.ensures ∙ c.more-test.true) c.in_ok-pair.ensures c.more.invariant.exact);
       shorter = omega (arith, less);
     }
 

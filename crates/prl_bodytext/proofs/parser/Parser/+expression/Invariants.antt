@@ -1,7 +1,7 @@
 use Rattle.std.proofs.Common.{◌≤◌, ◌+◌, ◌*◌, length, map}
 use Rattle.prl_grammar.specs.code.Loops.{GoesOn}
-use Rattle.prl_bodytext.specs.Grammar.{LinkOf, Operand, bodies}
-use Rattle.prl_bodytext.specs.Trees.{link_view}
+use Rattle.prl_bodytext.specs.Grammar.{RightOf, Operand, bodies}
+use Rattle.prl_bodytext.specs.Trees.{pair_view}
 use Rattle.prl_bodytext.proofs.Calls.{calls_of}
 use Rattle.prl_bodytext.proofs.parser.Parser.+expression.Given as goal
 
@@ -11,11 +11,11 @@ decreases-enclosed l = 32 * length l.self.now
 abbrev pub decreases-conditional : goal.decreases-conditional
 decreases-conditional l = 32 * length l.self.now
 
-abbrev pub decreases-link : goal.decreases-link
-decreases-link l = 32 * length l.self.now
+abbrev pub decreases-pair : goal.decreases-pair
+decreases-pair l = 32 * length l.self.now
 
-abbrev pub decreases-links : goal.decreases-links
-decreases-links l = 32 * length l.self.now + 1
+abbrev pub decreases-rights : goal.decreases-rights
+decreases-rights l = 32 * length l.self.now + 1
 
 abbrev pub decreases-primary : goal.decreases-primary
 decreases-primary l = 32 * length l.self.now + 2
@@ -26,8 +26,8 @@ decreases-unary l = 32 * length l.self.now + 3
 abbrev pub decreases-operand : goal.decreases-operand
 decreases-operand l = 32 * length l.self.now + calls_of l.level
 
-abbrev pub decreases-chain : goal.decreases-chain
-decreases-chain l = 32 * length l.self.now + (calls_of l.level + 1)
+abbrev pub decreases-series : goal.decreases-series
+decreases-series l = 32 * length l.self.now + (calls_of l.level + 1)
 
 abbrev pub decreases-comparison : goal.decreases-comparison
 decreases-comparison l = 32 * length l.self.now + 10
@@ -38,11 +38,11 @@ decreases-negation l = 32 * length l.self.now + 11
 abbrev pub decreases-expression : goal.decreases-expression
 decreases-expression l = 32 * length l.self.now + 16
 
-abbrev pub invariant-links-more : goal.invariant-links-more
-invariant-links-more l = record {
-  exact : GoesOn bodies (LinkOf l.fn.level (Operand l.fn.level)) l.fn.self (map link_view l.links.items) l.self;
+abbrev pub invariant-rights-more : goal.invariant-rights-more
+invariant-rights-more l = record {
+  exact : GoesOn bodies (RightOf l.fn.level (Operand l.fn.level)) l.fn.self (map pair_view l.rights.items) l.self;
   shorter : length l.self ≤ length l.fn.self;
 }
 
-abbrev pub decreases-links-more : goal.decreases-links-more
-decreases-links-more l = length l.self
+abbrev pub decreases-rights-more : goal.decreases-rights-more
+decreases-rights-more l = length l.self
