@@ -1,4 +1,4 @@
-pub mod OperatorAndRightTrees
+pub mod RightTrees
 pub mod Calls
 pub mod Right
 -- for the crates above: the outcomes of texts

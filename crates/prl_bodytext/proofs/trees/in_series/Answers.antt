@@ -2,7 +2,7 @@ use Rattle.std.proofs.Common.{◌≡◌, ◌<◌, ◌==◌, ℕ, zero, suc, fals
 use Rattle.std.proofs.lemmas.Bool.{false≢true}
 use Rattle.prl_body.specs.Texts.{series, tree_of, pair_trees}
 use Rattle.prl_body.proofs.TextSeries.{tree_of_Series}
-use Rattle.prl_bodytext.proofs.OperatorAndRightTrees.{some_rights}
+use Rattle.prl_bodytext.proofs.RightTrees.{some_rights}
 use Rattle.prl_bodytext.proofs.trees.in_series.Goals as goal
 
 some : (n : ℕ) → (n == 0) ≡ false → 0 < n
