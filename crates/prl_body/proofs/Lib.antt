@@ -9,6 +9,7 @@ pub mod BodyList
 pub mod Outcomes
 pub mod FirstOf
 pub mod Lookups
+pub mod ThereBodies
 -- for the crates above: lists that a loop fills, element by element
 pub mod Steps
 -- for the crates above: the trees of series of operators

@@ -7,16 +7,19 @@ use Rattle.std.specs.Str.{bytes_eq}
 use denote.Ref.{Bor}
 use Rattle.prl_base.specs.Values.{type_of}
 use Rattle.prl_base.specs.declared.values.Ty.{Ty}
+use Rattle.prl_ast.specs.declared.declarations.Import.{Import}
 use Rattle.prl_ast.specs.declared.declarations.Port.{Port}
 use Rattle.prl_body.specs.declared.codes.Variable.{Variable}
 use Rattle.prl_body.specs.declared.codes.Variable.TheVariants as variables
+use Rattle.prl_body.specs.declared.texts.BodyText.{BodyText}
 use Rattle.prl_body.specs.declared.texts.RegisterText.{RegisterText}
 use Rattle.prl_body.specs.declared.texts.Statement.{Statement}
 use Rattle.prl_names.specs.Tables.{AreIndices, found}
 use Rattle.prl_body.specs.NameChecks.{has_port, has_register, has_statement}
 use Rattle.prl_body.specs.Scopes.{is_before, left_names, port_names, register_names}
-use Rattle.prl_body.specs.Checks.{port_type, register_type, statement_named}
-use Rattle.prl_body.specs.Texts.{statement_tree}
+use Rattle.prl_body.specs.Checks.{port_type, register_type, statement_named, import_named, has_text}
+use Rattle.prl_body.specs.Directories.{text_names}
+use Rattle.prl_body.specs.Texts.{statement_tree, text_tree}
 use Rattle.prl_body.specs.TypeChecks.{input_named, register_named}
 use Rattle.prl_body.proofs.FirstOf.{Searches, any_is, earlier_is}
 
@@ -31,6 +34,12 @@ register_name r = r.name
 
 abbrev pub left_name : Statement → List ℕ
 left_name s = s.left
+
+abbrev pub import_name : Import → List ℕ
+import_name i = i.name
+
+abbrev pub text_name : BodyText → List ℕ
+text_name t = t.name
 
 abbrev pub as_input : ℕ → Port → Variable × Ty
 as_input k p = (variables.Input k, p.ty)
@@ -53,6 +62,9 @@ register_types_searched n = record { end = λ k. refl; step = λ k x xs. refl }
 pub statements_searched : (n : List ℕ) → Searches left_name n (λ k s. statement_tree s) (λ k ss. statement_named (map statement_tree ss) n)
 statements_searched n = record { end = λ k. refl; step = λ k x xs. refl }
 
+pub imports_searched : (n : List ℕ) → Searches import_name n (λ k i. i) (λ k is. import_named is n)
+imports_searched n = record { end = λ k. refl; step = λ k x xs. refl }
+
 -- whether a name is there, and before an index, by the tables
 pub port_is_there : (table : Table) (ports : List Port) (n : List ℕ) → AreIndices table (port_names ports) → has_port ports n ≡ is_some (found table n)
 port_is_there table ports n are = any_is port_name n ports ∙ ap is_some (sym (are n))
@@ -71,3 +83,14 @@ tree_has (s ∷ statements) n = ap (λ (b : Bool). bytes_eq s.left n || b) (tree
 pub statement_is_earlier : (table : Table) (statements : List Statement) (n : List ℕ) (k : ℕ) → AreIndices table (left_names statements) →
     has_statement (map statement_tree (take k statements)) n ≡ is_before k (found table n)
 statement_is_earlier table statements n k are = tree_has (take k statements) n ∙ earlier_is left_name n k statements ∙ ap (is_before k) (sym (are n))
+
+tree_has_text : (texts : List BodyText) (n : List ℕ) → has_text (map text_tree texts) n ≡ list_any (λ (t : BodyText). bytes_eq t.name n) texts
+tree_has_text [] n = refl
+tree_has_text (t ∷ ts) n = ap (λ (b : Bool). bytes_eq t.name n || b) (tree_has_text ts n)
+
+pub text_is_there : (table : Table) (texts : List BodyText) (n : List ℕ) → AreIndices table (text_names texts) → has_text (map text_tree texts) n ≡ is_some (found table n)
+text_is_there table texts n are = tree_has_text texts n ∙ any_is text_name n texts ∙ ap is_some (sym (are n))
+
+pub text_is_earlier : (table : Table) (texts : List BodyText) (n : List ℕ) (k : ℕ) → AreIndices table (text_names texts) →
+    has_text (map text_tree (take k texts)) n ≡ is_before k (found table n)
+text_is_earlier table texts n k are = tree_has_text (take k texts) n ∙ earlier_is text_name n k texts ∙ ap (is_before k) (sym (are n))

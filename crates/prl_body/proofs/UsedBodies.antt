@@ -35,12 +35,12 @@ one_more imports t ts h hs zero x found =
     subst (IsTreeOf imports) same h
 one_more imports t ts h hs (suc k) x found = hs k x found
 
-record HasPorts (of : Import) (name : List ℕ) (t : BodyTree) : Type 0 where
-  name_is : t.name ≡ name
-  ins : t.ins ≡ of.ins
-  outs : t.outs ≡ of.outs
+pub record HasPorts (of : Import) (name : List ℕ) (t : BodyTree) : Type 0 where
+  pub name_is : t.name ≡ name
+  pub ins : t.ins ≡ of.ins
+  pub outs : t.outs ≡ of.outs
 
-checked_ports : (of : Import) (body : TextTree) (t : BodyTree) → checked_body of body ≡ Ok t → HasPorts of body.name t
+pub checked_ports : (of : Import) (body : TextTree) (t : BodyTree) → checked_body of body ≡ Ok t → HasPorts of body.name t
 checked_ports of body t is =
     let ins = of.ins in
     let finish : List Expression → List RegisterTree → BodyTree = λ values registers. record { name = body.name; ins = ins; outs = of.outs; registers = registers; values = values } in
@@ -55,7 +55,7 @@ checked_ports of body t is =
     let same : finish values.first registers.first ≡ t = cc (registers.rest) in
     subst (HasPorts of body.name) same (record { name_is = refl; ins = refl; outs = refl })
 
-refused_ok : {A F : Type 0} (b : Bool) (r : Result A F) (y : A) (e : F) → (if b then Err e else r) ≡ Ok y → r ≡ Ok y
+pub refused_ok : {A F : Type 0} (b : Bool) (r : Result A F) (y : A) (e : F) → (if b then Err e else r) ≡ Ok y → r ≡ Ok y
 refused_ok true r y e is = absurd (cc)
 refused_ok false r y e is = is
 

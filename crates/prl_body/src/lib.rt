@@ -6,6 +6,7 @@
 mod bodies;
 mod checks;
 mod codes;
+mod directories;
 mod faults;
 mod laws;
 mod machines;

@@ -1,16 +1,17 @@
 //! The checked bodies of a program.
 
-ghost use Rattle.std.specs.Prelude.{◌≡◌, [], map};
+ghost use Rattle.std.specs.Prelude.{◌≡◌, [], map, Ok};
 ghost use Rattle.std.specs.Option.{option_copied};
 ghost use Rattle.prl_base.specs.Reading.{GivesBut};
 ghost use Rattle.prl_body.specs.Bodies.{body_named};
-ghost use Rattle.prl_body.specs.Checks.{body_tree, import_named, has_text, has_body, checked_bodies, all_there, checked};
+ghost use Rattle.prl_body.specs.Checks.{body_tree, import_named, has_body, checked_bodies, all_there, checked};
 ghost use Rattle.prl_body.specs.Texts.{text_tree, text_trees};
 
 use crate::bodies::Body;
 use crate::checks::checked_body;
+use crate::directories::Directory;
 use crate::faults::BodyFault;
-use crate::texts::{BodyText, BodyTexts};
+use crate::texts::BodyTexts;
 use prl_ast::Import;
 use prl_base::Name;
 use std::alloc::Global;
@@ -65,30 +66,6 @@ fn body_named<'a>(bodies: &'a [Body], name: &Name) -> Option<&'a Body>
     None
 }
 
-/// Whether a body has the name.
-fn has_body(bodies: &[Body], name: &Name) -> bool
-    ensures { result ≡ has_body (map body_tree bodies.now) name.now }
-{
-    for body in bodies {
-        if body.parts().name.bytes() == name.bytes() {
-            return true;
-        }
-    }
-    false
-}
-
-/// Whether a body of the text has the name.
-fn has_text(texts: &[BodyText], name: &Name) -> bool
-    ensures { result ≡ has_text (map text_tree texts.now) name.now }
-{
-    for text in texts {
-        if text.name.bytes() == name.bytes() {
-            return true;
-        }
-    }
-    false
-}
-
 /// The import of this name.
 pub fn import_named<'a>(imports: &'a [Import], name: &Name) -> Option<&'a Import>
     ensures { option_copied result ≡ import_named imports.now name.now }
@@ -102,19 +79,16 @@ pub fn import_named<'a>(imports: &'a [Import], name: &Name) -> Option<&'a Import
 }
 
 /// The checked bodies of imports, in the order of the text.
-fn checked_bodies(
-    alloc: Global,
-    texts: &[BodyText],
-    imports: &[Import],
-) -> Result<Vec<Body>, BodyFault>
-    ensures { GivesBut BodyFault.Memory (λ v. map body_tree v.items) result (checked_bodies imports.now [] (map text_tree texts.now)) }
+fn checked_bodies(alloc: Global, directory: &Directory<'_>) -> Result<Vec<Body>, BodyFault>
+    ensures { GivesBut BodyFault.Memory (λ v. map body_tree v.items) result (checked_bodies directory.now.imports [] (map text_tree directory.now.texts)) }
 {
     let mut bodies = Vec::new(alloc);
+    let texts = directory.texts();
     for (k, text) in texts.iter().enumerate() {
-        match import_named(imports, &text.name) {
+        match directory.import(&text.name) {
             None => {}
             Some(import) => {
-                if has_text(&texts[..k], &text.name) {
+                if directory.has_earlier_text(&text.name, k) {
                     return Err(BodyFault::BodyName(text.at.at));
                 }
                 let body = checked_body(alloc, import, text)?;
@@ -125,12 +99,26 @@ fn checked_bodies(
     Ok(bodies)
 }
 
-/// Checks that each used import has a body.
-fn all_there(alloc: Global, bodies: &[Body], used: &[Name]) -> Result<(), BodyFault>
+/// Whether a body has the name, where these are the checked ones: one of the text has it, and an import.
+fn has_body(directory: &Directory<'_>, _bodies: &[Body], name: &Name) -> bool
+    requires { checked_bodies directory.now.imports [] (map text_tree directory.now.texts) ≡ Ok (map body_tree _bodies.now) }
+    ensures { result ≡ has_body (map body_tree _bodies.now) name.now }
+{
+    directory.has_text(name) && directory.import(name).is_some()
+}
+
+/// Checks that each used import has a body, where these are the checked ones.
+fn all_there(
+    alloc: Global,
+    directory: &Directory<'_>,
+    bodies: &[Body],
+    used: &[Name],
+) -> Result<(), BodyFault>
+    requires { checked_bodies directory.now.imports [] (map text_tree directory.now.texts) ≡ Ok (map body_tree bodies.now) }
     ensures { GivesBut BodyFault.Memory (λ x. x) result (all_there (map body_tree bodies.now) used.now) }
 {
     for name in used {
-        if !has_body(bodies, name) {
+        if !has_body(directory, bodies, name) {
             return Err(BodyFault::Missing(name.copy(alloc)?));
         }
     }
@@ -151,7 +139,8 @@ pub fn check_bodies(
 ) -> Result<Bodies, BodyFault>
     ensures { GivesBut BodyFault.Memory (λ bodies. map body_tree bodies) result (checked imports.now used.now (text_trees texts.now)) }
 {
-    let bodies = checked_bodies(alloc, texts.bodies.as_slice(), imports)?;
-    all_there(alloc, bodies.as_slice(), used)?;
+    let directory = Directory::new(alloc, imports, texts.bodies.as_slice())?;
+    let bodies = checked_bodies(alloc, &directory)?;
+    all_there(alloc, &directory, bodies.as_slice(), used)?;
     Ok(Bodies { bodies })
 }

@@ -120,7 +120,7 @@ pub fn left_indices<'a>(
 }
 
 /// Whether the name stands in the table with an index below `k`.
-fn is_before(table: &Indices<'_>, name: &Name, k: usize) -> bool
+pub fn is_before(table: &Indices<'_>, name: &Name, k: usize) -> bool
     ensures { result ≡ is_before k (found table.now name.now) }
 {
     match found(table, name.bytes()) {

@@ -6,5 +6,5 @@ use Rattle.prl_body.proofs.program_bodies.checked_bodies.Given as goal
 
 abbrev pub invariant-loop-k : goal.invariant-loop-k
 invariant-loop-k l =
-    added_to (map body_tree l.bodies.items) (checked_bodies l.imports (map text_tree (take l.k l.texts)) (map text_tree (drop l.k l.texts)))
-    ≡ checked_bodies l.imports [] (map text_tree l.texts)
+    added_to (map body_tree l.bodies.items) (checked_bodies l.directory.imports (map text_tree (take l.k l.directory.texts)) (map text_tree (drop l.k l.directory.texts)))
+    ≡ checked_bodies l.directory.imports [] (map text_tree l.directory.texts)
