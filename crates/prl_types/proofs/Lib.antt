@@ -5,6 +5,7 @@ pub mod Starting
 pub mod Ending
 pub mod Declared
 pub mod Counting
+pub mod RuleStates
 pub mod Opening
 pub mod Outcomes
 pub mod Existence

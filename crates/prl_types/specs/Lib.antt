@@ -8,3 +8,5 @@ pub mod Arity
 pub mod Contexts
 pub mod Typing
 pub mod Typings
+pub mod MetViews
+pub mod States

@@ -1,25 +1,28 @@
-//! The rules of a program, in their order.
+//! The rules of a program, made and met in their order.
 
 ghost use Rattle.std.specs.Prelude.{◌≡◌, ◌++◌, ◌∷◌, [], map, IfOk, OnOk};
 ghost use Rattle.prl_ast.specs.Trees.{tree_of, root_of, equation_tree, node_tree, program_tree};
 ghost use Rattle.prl_names.specs.ExprLists.{all_trees};
 ghost use Rattle.prl_types.specs.Contexts.{owned_of};
 ghost use Rattle.prl_types.specs.Flows.{operand, operated, flows_of, root_flows, placed, placed_flows, terms_of};
+ghost use Rattle.prl_types.specs.Parameters.{count_of};
 ghost use Rattle.prl_types.specs.Rules.{declared_rules, constant_rule, constant_rules, argument_rules, rules_in, root_rules, all_rules, left_rules, equations_rules, nodes_rules, rules_of};
 
 use crate::contexts::{Context, Parameter};
+use crate::progress::Met;
 use crate::terms::{Flow, Rule, Term};
 use prl_ast::{Base, Equation, Expr, Placed, PlacedOp};
 use prl_base::{Op, Ty};
 use std::alloc::{AllocError, Global};
 
 /// Adds the rules of the declared types.
-fn add_declared(rules: &mut Vec<Rule>, parameters: &[Parameter<'_>]) -> Result<(), AllocError>
-    ensures { OnOk result (rules.new.items ≡ rules.old.items ++ declared_rules 0 (map owned_of parameters.now)) }
+fn add_declared(rules: &mut Met, parameters: &[Parameter<'_>]) -> Result<(), AllocError>
+    ensures count { OnOk result (rules.new.count ≡ rules.old.count) }
+    ensures rules { OnOk result (rules.new.rules ≡ rules.old.rules ++ declared_rules 0 (map owned_of parameters.now)) }
 {
     for (k, parameter) in parameters.iter().enumerate() {
         if let Some(ty) = parameter.param.ty {
-            rules.push(Rule {
+            rules.add(Rule {
                 at: parameter.param.at.at,
                 wanted: Term::Known(ty),
                 found: Term::Parameter(k),
@@ -30,12 +33,13 @@ fn add_declared(rules: &mut Vec<Rule>, parameters: &[Parameter<'_>]) -> Result<(
 }
 
 /// Adds the rule of an operator of a flow of this type.
-fn add_constant(rules: &mut Vec<Rule>, of: Term, operator: PlacedOp) -> Result<(), AllocError>
-    ensures { OnOk result (rules.new.items ≡ rules.old.items ++ constant_rule of operator.at.at operator.op) }
+fn add_constant(rules: &mut Met, of: Term, operator: PlacedOp) -> Result<(), AllocError>
+    ensures count { OnOk result (rules.new.count ≡ rules.old.count) }
+    ensures rules { OnOk result (rules.new.rules ≡ rules.old.rules ++ constant_rule of operator.at.at operator.op) }
 {
     match operator.op {
         Op::Fby(value) | Op::Cons(value) => {
-            rules.push(Rule {
+            rules.add(Rule {
                 at: operator.at.at,
                 wanted: of,
                 found: Term::Known(value.ty()),
@@ -47,8 +51,9 @@ fn add_constant(rules: &mut Vec<Rule>, of: Term, operator: PlacedOp) -> Result<(
 }
 
 /// Adds the rules of prefixes, the innermost first.
-fn add_constants(rules: &mut Vec<Rule>, of: Term, prefixes: &[PlacedOp]) -> Result<(), AllocError>
-    ensures { OnOk result (rules.new.items ≡ rules.old.items ++ constant_rules of prefixes.now) }
+fn add_constants(rules: &mut Met, of: Term, prefixes: &[PlacedOp]) -> Result<(), AllocError>
+    ensures count { OnOk result (rules.new.count ≡ rules.old.count) }
+    ensures rules { OnOk result (rules.new.rules ≡ rules.old.rules ++ constant_rules of prefixes.now) }
 {
     let mut k = prefixes.len();
     while k > 0 {
@@ -59,12 +64,13 @@ fn add_constants(rules: &mut Vec<Rule>, of: Term, prefixes: &[PlacedOp]) -> Resu
 }
 
 /// Adds the rules of the arguments.
-fn add_arguments(rules: &mut Vec<Rule>, inputs: &[Term], flows: &[Flow]) -> Result<(), AllocError>
-    ensures { OnOk result (rules.new.items ≡ rules.old.items ++ argument_rules inputs.now flows.now) }
+fn add_arguments(rules: &mut Met, inputs: &[Term], flows: &[Flow]) -> Result<(), AllocError>
+    ensures count { OnOk result (rules.new.count ≡ rules.old.count) }
+    ensures rules { OnOk result (rules.new.rules ≡ rules.old.rules ++ argument_rules inputs.now flows.now) }
 {
     let mut k = 0;
     while k < inputs.len() && k < flows.len() {
-        rules.push(Rule {
+        rules.add(Rule {
             at: flows[k].at,
             wanted: inputs[k],
             found: flows[k].term,
@@ -118,10 +124,11 @@ fn expression(
     context: &Context<'_, '_>,
     node: usize,
     expr: &Expr,
-    rules: &mut Vec<Rule>,
+    rules: &mut Met,
 ) -> Result<Vec<Term>, AllocError>
     ensures flows { IfOk result (λ flows. flows.items ≡ flows_of (program_tree context.now) node (tree_of expr.now)) }
-    ensures rules { OnOk result (rules.new.items ≡ rules.old.items ++ rules_in (program_tree context.now) node (tree_of expr.now)) }
+    ensures count { OnOk result (rules.new.count ≡ rules.old.count) }
+    ensures rules { OnOk result (rules.new.rules ≡ rules.old.rules ++ rules_in (program_tree context.now) node (tree_of expr.now)) }
 {
     let flows = base(alloc, context, node, &expr.base, rules)?;
     add_constants(rules, operand(flows.as_slice()), expr.pre.as_slice())?;
@@ -135,10 +142,11 @@ fn base(
     context: &Context<'_, '_>,
     node: usize,
     base: &Base,
-    rules: &mut Vec<Rule>,
+    rules: &mut Met,
 ) -> Result<Vec<Term>, AllocError>
     ensures flows { IfOk result (λ flows. flows.items ≡ root_flows (program_tree context.now) node (root_of base.now)) }
-    ensures rules { OnOk result (rules.new.items ≡ rules.old.items ++ root_rules (program_tree context.now) node (root_of base.now)) }
+    ensures count { OnOk result (rules.new.count ≡ rules.old.count) }
+    ensures rules { OnOk result (rules.new.rules ≡ rules.old.rules ++ root_rules (program_tree context.now) node (root_of base.now)) }
 {
     match base {
         Base::Const(value) => Ok(vec![in alloc; Term::Known(value.ty())]?),
@@ -166,10 +174,11 @@ fn parts(
     context: &Context<'_, '_>,
     node: usize,
     exprs: &[Expr],
-    rules: &mut Vec<Rule>,
+    rules: &mut Met,
 ) -> Result<Vec<Flow>, AllocError>
     ensures flows { IfOk result (λ flows. flows.items ≡ placed_flows (program_tree context.now) node (all_trees exprs.now)) }
-    ensures rules { OnOk result (rules.new.items ≡ rules.old.items ++ all_rules (program_tree context.now) node (all_trees exprs.now)) }
+    ensures count { OnOk result (rules.new.count ≡ rules.old.count) }
+    ensures rules { OnOk result (rules.new.rules ≡ rules.old.rules ++ all_rules (program_tree context.now) node (all_trees exprs.now)) }
 {
     let mut list = Vec::new(alloc);
     for expr in exprs {
@@ -181,17 +190,18 @@ fn parts(
 
 /// Adds the rules of the left names.
 fn add_lefts(
-    rules: &mut Vec<Rule>,
+    rules: &mut Met,
     context: &Context<'_, '_>,
     node: usize,
     lefts: &[Placed],
     flows: &[Term],
 ) -> Result<(), AllocError>
-    ensures { OnOk result (rules.new.items ≡ rules.old.items ++ left_rules (program_tree context.now) node lefts.now flows.now) }
+    ensures count { OnOk result (rules.new.count ≡ rules.old.count) }
+    ensures rules { OnOk result (rules.new.rules ≡ rules.old.rules ++ left_rules (program_tree context.now) node lefts.now flows.now) }
 {
     let mut k = 0;
     while k < lefts.len() && k < flows.len() {
-        rules.push(Rule {
+        rules.add(Rule {
             at: lefts[k].at.at,
             wanted: context.named(node, lefts[k].name.bytes()),
             found: flows[k],
@@ -203,12 +213,13 @@ fn add_lefts(
 
 fn add_equations(
     alloc: Global,
-    rules: &mut Vec<Rule>,
+    rules: &mut Met,
     context: &Context<'_, '_>,
     node: usize,
     equations: &[Equation],
 ) -> Result<(), AllocError>
-    ensures { OnOk result (rules.new.items ≡ rules.old.items ++ equations_rules (program_tree context.now) node (map equation_tree equations.now)) }
+    ensures count { OnOk result (rules.new.count ≡ rules.old.count) }
+    ensures rules { OnOk result (rules.new.rules ≡ rules.old.rules ++ equations_rules (program_tree context.now) node (map equation_tree equations.now)) }
 {
     for equation in equations {
         let flows = expression(alloc, context, node, &equation.right, rules)?;
@@ -225,10 +236,11 @@ fn add_equations(
 
 fn add_nodes(
     alloc: Global,
-    rules: &mut Vec<Rule>,
+    rules: &mut Met,
     context: &Context<'_, '_>,
 ) -> Result<(), AllocError>
-    ensures { OnOk result (rules.new.items ≡ rules.old.items ++ nodes_rules (program_tree context.now) 0 (program_tree context.now).nodes) }
+    ensures count { OnOk result (rules.new.count ≡ rules.old.count) }
+    ensures rules { OnOk result (rules.new.rules ≡ rules.old.rules ++ nodes_rules (program_tree context.now) 0 (program_tree context.now).nodes) }
 {
     for (k, node) in context.program().nodes.as_slice().iter().enumerate() {
         add_equations(alloc, rules, context, k, node.eqs.as_slice())?;
@@ -236,12 +248,13 @@ fn add_nodes(
     Ok(())
 }
 
-/// The rules of the program.
+/// The rules of the program, each met as it is made.
 #[tactic(auto, unfolding(crate::specs::Rules::rules_of))]
-pub fn rules(alloc: Global, context: &Context<'_, '_>) -> Result<Vec<Rule>, AllocError>
-    ensures { IfOk result (λ rules. rules.items ≡ rules_of (program_tree context.now)) }
+pub fn rules(alloc: Global, context: &Context<'_, '_>) -> Result<Met, AllocError>
+    ensures count { IfOk result (λ met. met.count ≡ count_of (program_tree context.now)) }
+    ensures rules { IfOk result (λ met. met.rules ≡ rules_of (program_tree context.now)) }
 {
-    let mut list = Vec::new(alloc);
+    let mut list = Met::new(alloc, context.parameters().len())?;
     add_declared(&mut list, context.parameters())?;
     add_nodes(alloc, &mut list, context)?;
     Ok(list)

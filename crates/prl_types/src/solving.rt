@@ -3,7 +3,7 @@
 ghost use Rattle.std.specs.Prelude.{◌≡◌, ◌≢◌, ◌<◌, ℕ, ◌++◌, ◌∷◌, [], length, map, slice_index_or, IfOk, IfErr, MatchResult, List};
 ghost use Rattle.prl_types.specs.declared.terms.Rule.{Rule as RuleOf};
 ghost use Rattle.prl_types.specs.declared.terms.Term.TheVariants as terms;
-ghost use Rattle.prl_types.specs.Choices.{FitsTerm, FitsRule, FitRules};
+ghost use Rattle.prl_types.specs.Choices.{FitsTerm, FitsRule};
 ghost use Rattle.prl_types.specs.Solutions.{AreTypes};
 ghost use Rattle.prl_types.specs.Marks.{mark_of, resolved, added, IsKept, IsReplaced, IsApart, AreApart, AreJoined, Solves, Refuses, Explains};
 ghost use Rattle.prl_types.specs.declared.solving.Unsolved.TheVariants as unsolved;
@@ -68,7 +68,7 @@ fn add_members(members: &mut Vec<Vec<usize>>, to: Term, moved: &[usize]) -> Resu
 
 impl Marks {
     /// Each parameter stands for itself.
-    fn new(alloc: Global, count: usize) -> Result<Marks, AllocError>
+    pub(crate) fn new(alloc: Global, count: usize) -> Result<Marks, AllocError>
         ensures count { IfOk result (λ m. length m.marks.items ≡ count) }
         ensures kept { IfOk result (λ m. IsKept m) }
         ensures solves { IfOk result (λ m. Solves [] m.marks.items) }
@@ -149,7 +149,7 @@ impl Marks {
     }
 
     /// Takes one more rule.
-    fn meet(&mut self, alloc: Global, rule: Rule) -> Result<(), Unsolved>
+    pub(crate) fn meet(&mut self, alloc: Global, rule: Rule) -> Result<(), Unsolved>
         requires kept { IsKept self.old }
         requires fits { FitsRule (length self.old.marks.items) rule }
         ensures count { IfOk result (λ _. length self.new.marks.items ≡ length self.old.marks.items) }
@@ -181,7 +181,7 @@ fn add_type(types: &mut Vec<Ty>, ty: Ty) -> Result<(), AllocError>
 
 impl Marks {
     /// The types of all parameters, if none is open.
-    fn types(&self, alloc: Global) -> Result<Vec<Ty>, Unsolved>
+    pub(crate) fn types(&self, alloc: Global) -> Result<Vec<Ty>, Unsolved>
         requires { IsKept self.now }
         ensures { (rules : List RuleOf) → Solves rules self.now.marks.items
             → MatchResult result (λ types. AreTypes rules (length self.now.marks.items) types.items) (Explains rules (length self.now.marks.items)) }
@@ -195,37 +195,4 @@ impl Marks {
         }
         Ok(types)
     }
-}
-
-/// The marks of so many parameters before any rule.
-fn unruled(alloc: Global, count: usize) -> Result<Marks, Unsolved>
-    ensures count { IfOk result (λ m. length m.marks.items ≡ count) }
-    ensures kept { IfOk result (λ m. IsKept m) }
-    ensures solves { IfOk result (λ m. Solves [] m.marks.items) }
-    ensures memory { IfErr result (λ e. e ≡ unsolved.Memory) }
-{
-    Ok(Marks::new(alloc, count)?)
-}
-
-/// What the rules, in their order, say of so many parameters.
-fn ruled(alloc: Global, rules: &[Rule], count: usize) -> Result<Marks, Unsolved>
-    requires { FitRules count rules.now }
-    ensures count { IfOk result (λ m. length m.marks.items ≡ count) }
-    ensures kept { IfOk result (λ m. IsKept m) }
-    ensures solves { IfOk result (λ m. Solves rules.now m.marks.items) }
-    ensures explains { IfErr result (Explains rules.now count) }
-{
-    let mut marks = unruled(alloc, count)?;
-    for rule in rules {
-        marks.meet(alloc, *rule)?;
-    }
-    Ok(marks)
-}
-
-/// The types of so many parameters that the rules leave.
-pub(crate) fn solve(alloc: Global, rules: &[Rule], count: usize) -> Result<Vec<Ty>, Unsolved>
-    requires { FitRules count rules.now }
-    ensures { MatchResult result (λ types. AreTypes rules.now count types.items) (Explains rules.now count) }
-{
-    ruled(alloc, rules, count)?.types(alloc)
 }

@@ -18,7 +18,7 @@ use crate::arities::arity_fault;
 use crate::contexts::{Context, Parameter};
 use crate::faults::TypeFault;
 use crate::rules::rules;
-use crate::solving::{Unsolved, solve};
+use crate::solving::Unsolved;
 use prl_ast::Program;
 use prl_base::{Label, Ty};
 use prl_names::{Names, check_names, right_names_stand_for_something};
@@ -89,8 +89,7 @@ fn types(alloc: Global, context: &Context<'_, '_>) -> Result<Vec<Ty>, Unsolved>
     ensures { MatchResult result (λ types. AreTypes (rules_of (program_tree context.now)) (count_of (program_tree context.now)) types.items)
         (Explains (rules_of (program_tree context.now)) (count_of (program_tree context.now))) }
 {
-    let rules = rules(alloc, context)?;
-    solve(alloc, rules.as_slice(), context.parameters().len())
+    rules(alloc, context)?.types()
 }
 
 /// The fault that a parameter's type is open.

@@ -19,10 +19,10 @@ base-returns-in_ok-add_arguments-in-Apply-clause-rules t c =
     let callee = c.callee-callee.ensures ∙ ap (callee_of p) c.bytes-in-Apply.ensures.bytes in
     let inputs = c.as_slice-in-Apply.ensures.value ∙ c.in_ok-inputs-in-Apply.ensures ∙ ap (inputs_of p) callee in
     let flows = c.as_slice-in-Apply-2.ensures.value ∙ c.in_ok-flows-in-Apply.ensures.flows ∙ ap (placed_flows p node) trees in
-    let middle = c.in_ok-flows-in-Apply.ensures.rules ∙ ap (λ ts. c.args.rules.now.items ++ all_rules p node ts) trees in
-    rw c.in-Apply.is (application_rules c.args.rules.now.items c.parts.new.rules.items c.add_arguments.new.rules.items (all_rules p node args) _
+    let middle = c.in_ok-flows-in-Apply.ensures.rules ∙ ap (λ ts. c.args.rules.now.rules ++ all_rules p node ts) trees in
+    rw c.in-Apply.is (application_rules c.args.rules.now.rules c.parts.new.rules.rules c.add_arguments.new.rules.rules (all_rules p node args) _
     (inputs_of p (callee_of p c.in-Apply.name)) c.as_slice-in-Apply.result.now (placed_flows p node args) c.as_slice-in-Apply-2.result.now
-    middle c.in_ok-add_arguments-in-Apply.ensures inputs flows whole)
+    middle c.in_ok-add_arguments-in-Apply.ensures.rules inputs flows whole)
 
 pub base-returns-in_ok-terms-in-Group-clause-flows : goal.base-returns-in_ok-terms-in-Group-clause-flows
 base-returns-in_ok-terms-in-Group-clause-flows t c =
@@ -39,4 +39,4 @@ base-returns-in_ok-terms-in-Group-clause-rules t c =
     let node = c.args.node in
     let whole = ap (root_rules p node) (root_of_Group c.in-Group.exprs) in
     let trees = ap all_trees c.as_slice-in-Group.ensures.value in
-    rw c.in-Group.is (c.in_ok-flows-in-Group.ensures.rules ∙ ap (λ ts. c.args.rules.now.items ++ all_rules p node ts) trees ∙ ap (λ (rs : List Rule). c.args.rules.now.items ++ rs) (sym whole))
+    rw c.in-Group.is (c.in_ok-flows-in-Group.ensures.rules ∙ ap (λ ts. c.args.rules.now.rules ++ all_rules p node ts) trees ∙ ap (λ (rs : List Rule). c.args.rules.now.rules ++ rs) (sym whole))

@@ -7,5 +7,6 @@ use Rattle.prl_types.proofs.rules.+rules.Given as goal
 
 abbrev pub invariant-parts-loop-expr : goal.invariant-parts-loop-expr
 invariant-parts-loop-expr l =
-    (l.list.items ++ placed_flows (program_tree l.context) l.node (all_trees (drop l.expr-index l.exprs)) ≡ placed_flows (program_tree l.context) l.node (all_trees l.exprs))
-    × (l.rules.items ++ all_rules (program_tree l.context) l.node (all_trees (drop l.expr-index l.exprs)) ≡ l.initial.rules.items ++ all_rules (program_tree l.context) l.node (all_trees l.exprs))
+    (l.rules.count ≡ l.initial.rules.count)
+    × (l.list.items ++ placed_flows (program_tree l.context) l.node (all_trees (drop l.expr-index l.exprs)) ≡ placed_flows (program_tree l.context) l.node (all_trees l.exprs))
+    × (l.rules.rules ++ all_rules (program_tree l.context) l.node (all_trees (drop l.expr-index l.exprs)) ≡ l.initial.rules.rules ++ all_rules (program_tree l.context) l.node (all_trees l.exprs))

@@ -4,4 +4,4 @@ use Rattle.prl_types.specs.Rules.{declared_rules}
 use Rattle.prl_types.proofs.rules.add_declared.Given as goal
 
 abbrev pub invariant-loop-k : goal.invariant-loop-k
-invariant-loop-k l = l.rules.items ++ declared_rules l.k (map owned_of (drop l.k l.parameters)) ≡ l.initial.rules.items ++ declared_rules 0 (map owned_of l.parameters)
+invariant-loop-k l = (l.rules.count ≡ l.initial.rules.count) × (l.rules.rules ++ declared_rules l.k (map owned_of (drop l.k l.parameters)) ≡ l.initial.rules.rules ++ declared_rules 0 (map owned_of l.parameters))
