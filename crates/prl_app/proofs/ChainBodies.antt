@@ -1,9 +1,9 @@
 -- The bodies of a chain.
-use Rattle.std.proofs.Common.{◌≡◌, ℕ, ◌<◌, List, [], ◌∷◌, length, map, Option, Some, None, Result, Ok, Err, refl, sym, subst, arith}
+use Rattle.std.proofs.Common.{◌≡◌, ℕ, ◌<◌, List, [], ◌∷◌, length, map, Option, Some, None, Result, Ok, refl, subst, arith}
 use Rattle.prl_base.specs.Options.{the_one, ◌>>=◌ as ◌>>?◌}
-use Rattle.prl_ast.specs.Trees.{NodeTree, ProgramTree}
+use Rattle.prl_ast.specs.Trees.{ProgramTree}
 use Rattle.prl_body.specs.declared.bodies.CheckedBody.{CheckedBody}
-use Rattle.prl_body.specs.Checks.{BodyTree, body_tree, checked}
+use Rattle.prl_body.specs.Checks.{body_tree, checked}
 use Rattle.prl_body.specs.Texts.{TextTree}
 use Rattle.prl_chains.specs.declared.chains.Chain.{Chain}
 use Rattle.prl_chains.specs.Chains.{chain_of, parts_of, node_defined, flat_chain}
@@ -13,7 +13,7 @@ use Rattle.prl_syntax.specs.declared.parsing.ParseFault.{ParseFault}
 use Rattle.prl_syntax.specs.Parsing.{IsParsed}
 use Rattle.prl_app.specs.declared.faults.Part.TheVariants as parts
 use Rattle.prl_app.specs.Given.{Given, text_of}
-use Rattle.prl_app.specs.Parts.{IsProgram, AreBodies}
+use Rattle.prl_app.specs.Parts.{AreBodies}
 use Rattle.prl_app.specs.Built.{IsFormed}
 
 given : {A B : Type 0} (o : Option A) (f : A → Option B) (y : B) → (o >>? f) ≡ Some y → (x : A) × (o ≡ Some x) × (f x ≡ Some y)

@@ -1,5 +1,5 @@
 -- Lists of stages come to an end, and the first stages are decided.
-use Rattle.std.proofs.Common.{◌≡◌, ◌≢◌, ◌<◌, ◌⊎◌, ℕ, List, [], ◌∷◌, length, Option, Some, None, Result, Ok, Err, refl, sym, ap, ◌∙◌, inl, inr}
+use Rattle.std.proofs.Common.{◌≡◌, ◌≢◌, ℕ, List, [], ◌∷◌, Option, Some, None, Result, Ok, Err, refl, ap, ◌∙◌, inl, inr, subst}
 use Rattle.prl_base.specs.declared.values.Ty.{Ty}
 use Rattle.prl_ast.specs.declared.declarations.Import.{Import}
 use Rattle.prl_ast.specs.Trees.{ProgramTree}
@@ -17,14 +17,21 @@ use Rattle.prl_body.specs.declared.faults.BodyFault.TheVariants as body_faults
 use Rattle.prl_body.specs.Checks.{BodyTree, checked}
 use Rattle.prl_body.specs.Texts.{TextTree}
 use Rattle.prl_bodytext.specs.Parsing.{IsParsed as IsParsedBodies}
+use Rattle.prl_app.specs.declared.faults.GrammarRefusal.{GrammarRefusal}
+use Rattle.prl_app.specs.declared.faults.GrammarRefusal.TheVariants as bad_grammar
+use Rattle.prl_app.specs.declared.faults.TypesRefusal.{TypesRefusal}
+use Rattle.prl_app.specs.declared.faults.TypesRefusal.TheVariants as bad_types
+use Rattle.prl_app.specs.declared.faults.BodiesRefusal.{BodiesRefusal}
+use Rattle.prl_app.specs.declared.faults.BodiesRefusal.TheVariants as bad_bodies
 use Rattle.prl_app.specs.declared.faults.Fault.{Fault}
+use Rattle.prl_app.specs.declared.faults.Fault.TheVariants as faults
 use Rattle.prl_app.specs.declared.faults.Part.{Part}
 use Rattle.prl_app.specs.declared.faults.Part.TheVariants as parts
 use Rattle.prl_app.specs.declared.stages.Stage.{Stage}
 use Rattle.prl_app.specs.declared.stages.Stage.TheVariants as stages
 use Rattle.prl_app.specs.Given.{Given, content_of, text_of}
-use Rattle.prl_app.specs.Parts.{IsMain, RefusesBodies, told_parse, told_types, told_body}
-use Rattle.prl_app.specs.Stages.{Holds, Refuses, Comes, IsDecided, AreDecided}
+use Rattle.prl_app.specs.Parts.{RefusesBodies, grammar_fault, types_fault, bodies_fault}
+use Rattle.prl_app.specs.Stages.{Holds, Comes, IsDecided, AreDecided}
 
 pub some_end : (g : Given) (list : List Stage) → AreDecided g list → (end : Option (Stage × Fault)) × Comes g list end
 some_end g [] h = (None, refl)
@@ -40,37 +47,39 @@ content_decided g part (Err fault) e = inr (fault, e)
 pub file_decided : (g : Given) (part : Part) → IsDecided g (stages.File part)
 file_decided g part = content_decided g part (content_of g part) refl
 
--- each fault but want of memory is told
-parse_told : (g : Given) (cause : ParseFault) → IsParsed (text_of g parts.Program) (Err cause) → (fault : Fault) × (told_parse cause ≡ Some fault)
-parse_told g (parsing.BadToken at) h = (_, refl)
-parse_told g (parsing.Unexpected at) h = (_, refl)
-parse_told g (parsing.NumberRange at) h = (_, refl)
-parse_told g (parsing.Limit limit) h = (_, refl)
-parse_told g parsing.Memory h = absurd h
+-- each fault but want of memory is a refusal's
+grammar_refusal : (g : Given) (cause : ParseFault) → IsParsed (text_of g parts.Program) (Err cause) → (r : GrammarRefusal) × (cause ≡ grammar_fault r)
+grammar_refusal g (parsing.BadToken at) h = (bad_grammar.BadToken at, refl)
+grammar_refusal g (parsing.Unexpected at) h = (bad_grammar.Unexpected at, refl)
+grammar_refusal g (parsing.NumberRange at) h = (bad_grammar.NumberRange at, refl)
+grammar_refusal g (parsing.Limit limit) h = (bad_grammar.Limit limit, refl)
+grammar_refusal g parsing.Memory h = absurd h
 
 grammar_by : (g : Given) (outcome : Result ProgramTree ParseFault) → IsParsed (text_of g parts.Program) outcome → IsDecided g stages.Grammar
 grammar_by g (Ok p) h = inl (p, record { written = h })
-grammar_by g (Err cause) h = let t = parse_told g cause h in inr (t.0, (cause, h, t.1))
+grammar_by g (Err cause) h =
+    let t = grammar_refusal g cause h in
+    inr (faults.Grammar t.0, (t.0, subst (λ (x : ParseFault). IsParsed (text_of g parts.Program) (Err x)) t.1 h, refl))
 
-types_told : (p : ProgramTree) (main : Option (List ℕ)) (cause : TypeFault) → IsOutcome p main (Err cause) → (fault : Fault) × (told_types cause ≡ Some fault)
-types_told p main (typing.Twice name) h = (_, refl)
-types_told p main (typing.Unknown name) h = (_, refl)
-types_told p main (typing.Undefined name) h = (_, refl)
-types_told p main (typing.Recursive name) h = (_, refl)
-types_told p main typing.NoMain h = (_, refl)
-types_told p main (typing.Arity at) h = (_, refl)
-types_told p main (typing.Mismatch at wanted found) h = (_, refl)
-types_told p main (typing.TypeFree node name) h = (_, refl)
-types_told p main typing.Memory h = absurd h
+types_refusal : (p : ProgramTree) (main : Option (List ℕ)) (cause : TypeFault) → IsOutcome p main (Err cause) → (r : TypesRefusal) × (cause ≡ types_fault r)
+types_refusal p main (typing.Twice name) h = (bad_types.Twice name, refl)
+types_refusal p main (typing.Unknown name) h = (bad_types.Unknown name, refl)
+types_refusal p main (typing.Undefined name) h = (bad_types.Undefined name, refl)
+types_refusal p main (typing.Recursive name) h = (bad_types.Recursive name, refl)
+types_refusal p main typing.NoMain h = (bad_types.NoMain, refl)
+types_refusal p main (typing.Arity at) h = (bad_types.Arity at, refl)
+types_refusal p main (typing.Mismatch at wanted found) h = (bad_types.Mismatch at wanted found, refl)
+types_refusal p main (typing.TypeFree node name) h = (bad_types.TypeFree node name, refl)
+types_refusal p main typing.Memory h = absurd h
 
-body_told : (cause : BodyFault) → cause ≢ body_faults.Memory → (fault : Fault) × (told_body cause ≡ Some fault)
-body_told (body_faults.Syntax at) h = (_, refl)
-body_told (body_faults.Limit limit) h = (_, refl)
-body_told (body_faults.BodyName at) h = (_, refl)
-body_told (body_faults.BodyType at) h = (_, refl)
-body_told (body_faults.BodyArity at) h = (_, refl)
-body_told (body_faults.Missing name) h = (_, refl)
-body_told body_faults.Memory h = absurd (h refl)
+bodies_refusal : (cause : BodyFault) → cause ≢ body_faults.Memory → (r : BodiesRefusal) × (cause ≡ bodies_fault r)
+bodies_refusal (body_faults.Syntax at) h = (bad_bodies.Syntax at, refl)
+bodies_refusal (body_faults.Limit limit) h = (bad_bodies.Limit limit, refl)
+bodies_refusal (body_faults.BodyName at) h = (bad_bodies.BodyName at, refl)
+bodies_refusal (body_faults.BodyType at) h = (bad_bodies.BodyType at, refl)
+bodies_refusal (body_faults.BodyArity at) h = (bad_bodies.BodyArity at, refl)
+bodies_refusal (body_faults.Missing name) h = (bad_bodies.Missing name, refl)
+bodies_refusal body_faults.Memory h = absurd (h refl)
 
 -- the laws of the crates below
 pub record Laws : Type 0 where
@@ -96,7 +105,8 @@ module _ (law : Laws) (g : Given) where
     },
   )
   types_by grammar (Err cause) h =
-      let t = types_told grammar.0 g.node cause h in inr (t.0, (grammar.0, grammar.1, cause, h, t.1))
+      let t = types_refusal grammar.0 g.node cause h in
+      inr (faults.Types t.0, (grammar.0, grammar.1, t.0, subst (λ (x : TypeFault). IsOutcome grammar.0 g.node (Err x)) t.1 h, refl))
 
   pub types_decided : Holds g stages.Grammar → IsDecided g stages.Types
   types_decided grammar = let r = law.types grammar.0 g.node in types_by grammar r.0 r.1
@@ -112,7 +122,9 @@ module _ (law : Laws) (g : Given) where
 
   module _ (types : Holds g stages.Types) where
     refused_by : (cause : BodyFault) → RefusesBodies types.0 types.1 (text_of g parts.Bodies) cause → cause ≢ body_faults.Memory → IsDecided g stages.Bodies
-    refused_by cause h some = let t = body_told cause some in inr (t.0, (types.0, types.1, types.2, cause, h, t.1))
+    refused_by cause h some =
+        let t = bodies_refusal cause some in
+        inr (faults.Bodies t.0, (types.0, types.1, types.2, t.0, subst (RefusesBodies types.0 types.1 (text_of g parts.Bodies)) t.1 h, refl))
 
     checked_by : (texts : List TextTree) → IsParsedBodies (text_of g parts.Bodies) (Ok texts) → (r : Result (List BodyTree) BodyFault)
         → checked types.0.imports (used_imports types.0 types.1) texts ≡ r → IsDecided g stages.Bodies

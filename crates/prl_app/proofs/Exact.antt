@@ -1,6 +1,5 @@
 -- What a command comes to over known files is how its call ends.
-use Rattle.std.proofs.Common.{◌≡◌, ◌≤◌, ◌<◌, ◌++◌, ℕ, List, [], ◌∷◌, drop, Option, Some, None, Result, refl, sym, ap, ◌∙◌, inl, inr, subst, arith}
-use Rattle.prl_io.specs.Views.{FolderView, SinkView}
+use Rattle.std.proofs.Common.{◌≡◌, ◌++◌, ℕ, List, [], ◌∷◌, drop, Option, Some, None, Result, refl, sym, ap, ◌∙◌, inl, inr, subst, arith}
 use Rattle.prl_app.specs.declared.endings.Ending.{Ending}
 use Rattle.prl_app.specs.declared.endings.Ending.TheVariants as endings
 use Rattle.prl_app.specs.declared.faults.Part.{Part}
@@ -8,8 +7,8 @@ use Rattle.prl_app.specs.declared.faults.Part.TheVariants as parts
 use Rattle.prl_app.specs.declared.faults.Fault.{Fault}
 use Rattle.prl_app.specs.declared.stages.Stage.{Stage}
 use Rattle.prl_app.specs.declared.stages.Stop.TheVariants as stops
-use Rattle.prl_app.specs.declared.arguments.Command.{Command}
-use Rattle.prl_app.specs.Arguments.{command_of}
+use Rattle.prl_arguments.specs.declared.arguments.Command.{Command}
+use Rattle.prl_arguments.specs.Arguments.{command_of}
 use Rattle.prl_app.specs.Given.{Folder, Given, IsContent, IsGiven}
 use Rattle.prl_app.specs.Stages.{Comes, stages_of}
 use Rattle.prl_app.specs.Endings.{Outside, Ends, IsExact, NoFault, NoneFailed, ending_of}

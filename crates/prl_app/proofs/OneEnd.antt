@@ -1,5 +1,5 @@
 -- A list of stages comes to one end.
-use Rattle.std.proofs.Common.{◌≡◌, ◌≢◌, ◌<◌, ℕ, true, false, List, [], ◌∷◌, Option, Some, None, Result, Ok, Err, refl, sym, ap, ◌∙◌, inl, inr, subst, arith}
+use Rattle.std.proofs.Common.{◌≡◌, ◌<◌, ℕ, true, false, List, [], ◌∷◌, Option, Some, None, Result, Ok, Err, refl, sym, ap, ◌∙◌, inl, inr, subst, arith}
 use Rattle.std.specs.Prelude.{Bool, IsTrue}
 use Rattle.prl_base.specs.declared.limits.Limit.{Limit}
 use Rattle.prl_base.specs.declared.values.Ty.{Ty}
@@ -36,9 +36,11 @@ use Rattle.prl_app.specs.declared.faults.Fault.TheVariants as faults
 use Rattle.prl_app.specs.declared.stages.Stage.{Stage}
 use Rattle.prl_app.specs.declared.stages.Stage.TheVariants as stages
 use Rattle.prl_app.specs.Given.{Given, content_of, text_of}
-use Rattle.prl_app.specs.Parts.{IsProgram, IsMain, AreBodies, RefusesBodies, told_parse, told_types, told_body}
+use Rattle.prl_app.specs.Parts.{IsProgram, IsMain, AreBodies, RefusesBodies, grammar_fault, types_fault, bodies_fault}
 use Rattle.prl_app.specs.Runs.{too_many}
-use Rattle.prl_app.specs.Built.{IsFormed, HasRows, IsWholeRun, relay_of, rows_for, told_relay, told_sensors}
+use Rattle.prl_app.specs.Built.{IsFormed, HasRows, IsWholeRun, Tells, relay_of, rows_for, sensors_fault}
+use Rattle.prl_app.specs.code.Told.{told_parse, told_types, told_body, told_relay, told_sensors}
+use Rattle.prl_app.proofs.Told.{grammar_told, types_told, bodies_told, sensors_told, schedule_told}
 use Rattle.prl_app.specs.Stages.{Holds, Refuses, Comes}
 
 -- the laws of the crates below
@@ -66,6 +68,11 @@ ok_err r a b h k = cc
 
 some_some : {A : Type 0} (r : Option A) (a b : A) → r ≡ Some a → r ≡ Some b → a ≡ b
 some_some r a b h k = cc
+
+-- faults that are one are told as one
+same_told : {F : Type 0} (told : F → Option Fault) (x y : F) (told_x told_y a b : Fault) → x ≡ y → told x ≡ Some told_x → a ≡ told_x
+    → told y ≡ Some told_y → b ≡ told_y → a ≡ b
+same_told told x y told_x told_y a b same h ha k kb = ha ∙ some_some (told y) told_x told_y (sym (ap told same) ∙ h) k ∙ sym kb
 
 some_none : {A : Type 0} (r : Option A) (a : A) → r ≡ Some a → r ≡ None → ⊥
 some_none r a h k = cc
@@ -177,12 +184,16 @@ module _ (law : Laws) (g : Given) where
 
   apart : (s : Stage) (f : Fault) → Holds g s → Refuses g s f → ⊥
   apart (stages.File part) f h k = ok_err (content_of g part) h.0 f h.1 k
-  apart stages.Grammar f h k = ok_err (Ok h.0) h.0 k.0 refl (law.programs (text_of g parts.Program) (Ok h.0) (Err k.0) h.1.written k.1)
+  apart stages.Grammar f h k =
+      let fault = grammar_fault k.0 in
+      ok_err (Ok h.0) h.0 fault refl (law.programs (text_of g parts.Program) (Ok h.0) (Err fault) h.1.written k.1)
   apart stages.Types f h k =
       let same = one_program k.0 h.0 k.1 h.2.program in
-      typed_is_no_fault h.0 h.1 h.2.types k.2 h.2.typed (subst (λ (p : ProgramTree). IsFault p g.node k.2) same k.3)
+      let fault = types_fault k.2 in
+      typed_is_no_fault h.0 h.1 h.2.types fault h.2.typed (subst (λ (p : ProgramTree). IsFault p g.node fault) same k.3)
   apart stages.Bodies f h k =
-      bodies_apart h.0 k.3 h.1 (moved_bodies k.0 k.1 h.1.program h.1.main k.3 k.2 h.1.is_main k.4)
+      let fault = bodies_fault k.3 in
+      bodies_apart h.0 fault h.1 (moved_bodies k.0 k.1 h.1.program h.1.main fault k.2 h.1.is_main k.4)
   apart stages.Form f h k =
       let same = one_program k.0 h.1.program k.1 h.1.is_program in
       some_none (chain_of h.1.program) h.0 h.1.formed (subst (λ (p : ProgramTree). chain_of p ≡ None) same k.2)
@@ -193,8 +204,9 @@ module _ (law : Laws) (g : Given) where
       let same = one_chain k.0 h.0 k.1.formed h.2.timely.formed in
       law.horizon_or_limit (relay_plan h.0) g.until h.1 k.2 h.2.horizon.0 h.2.horizon.1 (subst (λ (c : Chain). IsPastLimit (relay_plan c) g.until k.2) same k.3)
   apart stages.Rows f h k =
-      let at = subst (λ (c : Chain). rows_for g c ≡ Err k.2) (one_chain k.0 h.0 k.1 h.2.formed) k.3 in
-      ok_err (rows_for g h.0) (h.1 ∷ []) k.2 h.2.rows at
+      let fault = sensors_fault k.2 in
+      let at = subst (λ (c : Chain). rows_for g c ≡ Err fault) (one_chain k.0 h.0 k.1 h.2.formed) k.3 in
+      ok_err (rows_for g h.0) (h.1 ∷ []) fault h.2.rows at
   apart stages.Schedule f h k =
       let text = whole_text h.0 h.1 h.2 h.3 in
       let fault = moved_fault k.0 h.0 k.1 h.1 k.3 k.2 h.3.rows k.4 in
@@ -206,14 +218,21 @@ module _ (law : Laws) (g : Given) where
   one : (s : Stage) (a b : Fault) → Refuses g s a → Refuses g s b → a ≡ b
   one (stages.File part) a b h k = err_err (content_of g part) a b h k
   one stages.Grammar a b h k =
-      some_some (told_parse k.0) a b (ap told_parse (err_err (Err k.0) k.0 h.0 refl (law.programs (text_of g parts.Program) (Err k.0) (Err h.0) k.1 h.1)) ∙ h.2) k.2
+      let x = grammar_fault h.0 in
+      let y = grammar_fault k.0 in
+      let same = err_err (Err x) x y refl (law.programs (text_of g parts.Program) (Err x) (Err y) h.1 k.1) in
+      same_told told_parse x y (faults.Grammar h.0) (faults.Grammar k.0) a b same (grammar_told h.0) h.2 (grammar_told k.0) k.2
   one stages.Types a b h k =
       let same = one_program k.0 h.0 k.1 h.1 in
-      let fault = subst (λ (p : ProgramTree). IsFault p g.node k.2) same k.3 in
-      some_some (told_types k.2) a b (ap told_types (one_type_fault h.0 k.2 h.2 fault h.3) ∙ h.4) k.4
+      let x = types_fault h.2 in
+      let y = types_fault k.2 in
+      let fault = subst (λ (p : ProgramTree). IsFault p g.node y) same k.3 in
+      same_told told_types x y (faults.Types h.2) (faults.Types k.2) a b (one_type_fault h.0 x y h.3 fault) (types_told h.2) h.4 (types_told k.2) k.4
   one stages.Bodies a b h k =
-      let at = moved_bodies k.0 k.1 h.0 h.1 k.3 k.2 h.2 k.4 in
-      some_some (told_body k.3) a b (ap told_body (one_body_fault h.0 h.1 k.3 h.3 at h.4) ∙ h.5) k.5
+      let x = bodies_fault h.3 in
+      let y = bodies_fault k.3 in
+      let at = moved_bodies k.0 k.1 h.0 h.1 y k.2 h.2 k.4 in
+      same_told told_body x y (faults.Bodies h.3) (faults.Bodies k.3) a b (one_body_fault h.0 h.1 x y h.4 at) (bodies_told h.3) h.5 (bodies_told k.3) k.5
   one stages.Form a b h k = h.3 ∙ sym k.3
   one stages.Timing a b h k = h.3 ∙ sym k.3
   one stages.Horizon a b h k =
@@ -221,14 +240,17 @@ module _ (law : Laws) (g : Given) where
       let limit = subst (λ (c : Chain). IsPastLimit (relay_plan c) g.until k.2) same k.3 in
       h.4 ∙ ap faults.Limit (law.one_limit (relay_plan h.0) g.until h.2 k.2 h.3 limit) ∙ sym k.4
   one stages.Rows a b h k =
-      let at = subst (λ (c : Chain). rows_for g c ≡ Err k.2) (one_chain k.0 h.0 k.1 h.1) k.3 in
-      some_some (told_sensors k.2) a b (ap told_sensors (err_err (rows_for g h.0) k.2 h.2 at h.3) ∙ h.4) k.4
+      let x = sensors_fault h.2 in
+      let y = sensors_fault k.2 in
+      let at = subst (λ (c : Chain). rows_for g c ≡ Err y) (one_chain k.0 h.0 k.1 h.1) k.3 in
+      same_told told_sensors x y (faults.Sensors h.2) (faults.Sensors k.2) a b (err_err (rows_for g h.0) x y h.3 at) (sensors_told h.2) h.4 (sensors_told k.2) k.4
   one stages.Schedule a b h k =
       let fault = moved_fault k.0 h.0 k.1 h.1 k.3 k.2 h.2 k.4 in
       let same = law.one_fault (relay_of g h.0 h.1) (text_of g parts.Schedule) h.3 k.3 h.4 fault in
       let chains = one_chain h.0 k.0 h.2.formed k.2.formed in
-      let here = subst (λ (c : Chain). told_relay c h.3 ≡ Some a) chains h.5 in
-      some_some (told_relay k.0 k.3) a b (ap (told_relay k.0) (sym same) ∙ here) k.5
+      let here = subst (λ (c : Chain). Tells c h.5 h.3) chains h.6 in
+      same_told (told_relay k.0) h.3 k.3 (faults.Schedule h.5) (faults.Schedule k.5) a b same
+      (schedule_told k.0 h.5 h.3 here) h.7 (schedule_told k.0 k.5 k.3 k.6) k.7
   one stages.Values a b h k =
       h.3 ∙ ap (λ (c : Chain). too_many (values_before g.until c.clocks.of)) (one_chain h.0 k.0 h.1 k.1) ∙ sym k.3
 

@@ -1,67 +1,96 @@
 -- Stops of stages, of lists of stages and of files.
-use Rattle.std.proofs.Common.{◌≡◌, ◌≢◌, ◌<◌, ◌≤◌, ◌+◌, ◌++◌, ℕ, List, [], ◌∷◌, Option, Some, None, IsSome, Result, Ok, Err, refl, sym, ap, ◌∙◌, inl, inr, subst, arith}
+use Rattle.std.proofs.Common.{◌≡◌, ◌≢◌, ◌++◌, ℕ, List, [], ◌∷◌, Option, Some, None, Result, Ok, Err, refl, sym, ap, ◌∙◌, inl, inr, subst, arith}
 use Rattle.std.specs.Prelude.{IfOk, IfErr}
-use Rattle.prl_base.specs.Reading.{◌>>=◌}
 use Rattle.prl_ast.specs.Trees.{ProgramTree}
 use Rattle.prl_io.specs.Views.{FolderView}
 use Rattle.prl_syntax.specs.declared.parsing.ParseFault.{ParseFault}
 use Rattle.prl_syntax.specs.declared.parsing.ParseFault.TheVariants as parsing
 use Rattle.prl_syntax.specs.Parsing.{IsParsed}
-use Rattle.prl_names.specs.Uses.{used_imports}
 use Rattle.prl_types.specs.declared.faults.TypeFault.{TypeFault}
 use Rattle.prl_types.specs.declared.faults.TypeFault.TheVariants as typing
 use Rattle.prl_types.specs.Typing.{FailsWith}
 use Rattle.prl_body.specs.declared.faults.BodyFault.{BodyFault}
 use Rattle.prl_body.specs.declared.faults.BodyFault.TheVariants as body_faults
-use Rattle.prl_body.specs.Checks.{BodyTree, checked}
-use Rattle.prl_body.specs.Texts.{TextTree}
+use Rattle.prl_base.specs.declared.values.Value.{Value}
+use Rattle.prl_chains.specs.declared.chains.Chain.{Chain}
+use Rattle.prl_relays.specs.Relays.{IsRelayFault}
+use Rattle.prl_relays.specs.declared.relays.RelayFault.{RelayFault}
+use Rattle.prl_sensors.specs.declared.faults.SensorFault.{SensorFault}
+use Rattle.prl_sensors.specs.declared.faults.SensorFault.TheVariants as sensor_faults
 use Rattle.prl_app.specs.declared.faults.Part.{Part}
 use Rattle.prl_app.specs.declared.faults.Part.TheVariants as parts
+use Rattle.prl_app.specs.declared.faults.GrammarRefusal.TheVariants as bad_grammar
+use Rattle.prl_app.specs.declared.faults.TypesRefusal.TheVariants as bad_types
+use Rattle.prl_app.specs.declared.faults.BodiesRefusal.TheVariants as bad_bodies
+use Rattle.prl_app.specs.declared.faults.SensorsRefusal.TheVariants as bad_rows
 use Rattle.prl_app.specs.declared.faults.Fault.{Fault}
 use Rattle.prl_app.specs.declared.stages.Stage.{Stage}
 use Rattle.prl_app.specs.declared.stages.Stage.TheVariants as stages
 use Rattle.prl_app.specs.declared.stages.Stop.{Stop}
 use Rattle.prl_app.specs.declared.stages.Stop.TheVariants as stops
 use Rattle.prl_app.specs.declared.reading.Texts.{Texts}
-use Rattle.prl_app.specs.declared.arguments.Command.{Command}
+use Rattle.prl_arguments.specs.declared.arguments.Command.{Command}
 use Rattle.prl_app.specs.Given.{Folder, Given, IsContent, IsGiven, content_of, text_of, file_of, read_as}
-use Rattle.prl_app.specs.Parts.{IsProgram, IsMain, RefusesBodies, told_parse, told_types, told_body}
-use Rattle.prl_app.specs.Stages.{Holds, Refuses, Comes, files, stages_after, stages_of}
-use Rattle.prl_app.specs.code.Stops.{given_of, stop_of, StopsAt, StopsIn, AllHold, IsFileStop, IsStopOfFiles, IsAnswerStop}
+use Rattle.prl_app.specs.Parts.{IsProgram, IsMain, RefusesBodies}
+use Rattle.prl_app.specs.Built.{HasRows, IsFormed, relay_of, rows_for}
+use Rattle.prl_app.specs.Stages.{Comes, files, stages_after}
+use Rattle.prl_app.specs.code.Stops.{given_of, StopsAt, StopsBy, StopsIn, AllHold, IsFileStop, IsStopOfFiles, IsAnswerStop}
+use Rattle.prl_app.specs.code.Told.{stop_of, told_parse, told_types, told_body, told_sensors, told_relay}
+use Rattle.prl_app.proofs.Told.{schedule_refusal}
 
 -- the grammar refuses
 pub grammar_stop : (g : Given) (fault : ParseFault) (stop : Stop) → (fault ≢ parsing.Memory → IsParsed (text_of g parts.Program) (Err fault))
     → stop ≡ stop_of stages.Grammar (told_parse fault) → StopsAt g stages.Grammar stop
-grammar_stop g (parsing.BadToken at) stop h is = subst (StopsAt g stages.Grammar) (sym is) (refl, (parsing.BadToken at, h (λ k. cc), refl))
-grammar_stop g (parsing.Unexpected at) stop h is = subst (StopsAt g stages.Grammar) (sym is) (refl, (parsing.Unexpected at, h (λ k. cc), refl))
-grammar_stop g (parsing.NumberRange at) stop h is = subst (StopsAt g stages.Grammar) (sym is) (refl, (parsing.NumberRange at, h (λ k. cc), refl))
-grammar_stop g (parsing.Limit limit) stop h is = subst (StopsAt g stages.Grammar) (sym is) (refl, (parsing.Limit limit, h (λ k. cc), refl))
+grammar_stop g (parsing.BadToken at) stop h is = subst (StopsAt g stages.Grammar) (sym is) (refl, (bad_grammar.BadToken at, h (λ k. cc), refl))
+grammar_stop g (parsing.Unexpected at) stop h is = subst (StopsAt g stages.Grammar) (sym is) (refl, (bad_grammar.Unexpected at, h (λ k. cc), refl))
+grammar_stop g (parsing.NumberRange at) stop h is = subst (StopsAt g stages.Grammar) (sym is) (refl, (bad_grammar.NumberRange at, h (λ k. cc), refl))
+grammar_stop g (parsing.Limit limit) stop h is = subst (StopsAt g stages.Grammar) (sym is) (refl, (bad_grammar.Limit limit, h (λ k. cc), refl))
 grammar_stop g parsing.Memory stop h is = subst (StopsAt g stages.Grammar) (sym is) tt
 
 -- names or types refuse
 pub types_stop : (g : Given) (p : ProgramTree) (fault : TypeFault) (stop : Stop) → IsProgram g p → FailsWith p g.node fault
     → stop ≡ stop_of stages.Types (told_types fault) → StopsAt g stages.Types stop
-types_stop g p (typing.Twice name) stop h e is = subst (StopsAt g stages.Types) (sym is) (refl, (p, h, typing.Twice name, e (λ k. cc), refl))
-types_stop g p (typing.Unknown name) stop h e is = subst (StopsAt g stages.Types) (sym is) (refl, (p, h, typing.Unknown name, e (λ k. cc), refl))
-types_stop g p (typing.Undefined name) stop h e is = subst (StopsAt g stages.Types) (sym is) (refl, (p, h, typing.Undefined name, e (λ k. cc), refl))
-types_stop g p (typing.Recursive name) stop h e is = subst (StopsAt g stages.Types) (sym is) (refl, (p, h, typing.Recursive name, e (λ k. cc), refl))
-types_stop g p typing.NoMain stop h e is = subst (StopsAt g stages.Types) (sym is) (refl, (p, h, typing.NoMain, e (λ k. cc), refl))
-types_stop g p (typing.Arity at) stop h e is = subst (StopsAt g stages.Types) (sym is) (refl, (p, h, typing.Arity at, e (λ k. cc), refl))
-types_stop g p (typing.Mismatch at wanted found) stop h e is = subst (StopsAt g stages.Types) (sym is) (refl, (p, h, typing.Mismatch at wanted found, e (λ k. cc), refl))
-types_stop g p (typing.TypeFree node name) stop h e is = subst (StopsAt g stages.Types) (sym is) (refl, (p, h, typing.TypeFree node name, e (λ k. cc), refl))
+types_stop g p (typing.Twice name) stop h e is = subst (StopsAt g stages.Types) (sym is) (refl, (p, h, bad_types.Twice name, e (λ k. cc), refl))
+types_stop g p (typing.Unknown name) stop h e is = subst (StopsAt g stages.Types) (sym is) (refl, (p, h, bad_types.Unknown name, e (λ k. cc), refl))
+types_stop g p (typing.Undefined name) stop h e is = subst (StopsAt g stages.Types) (sym is) (refl, (p, h, bad_types.Undefined name, e (λ k. cc), refl))
+types_stop g p (typing.Recursive name) stop h e is = subst (StopsAt g stages.Types) (sym is) (refl, (p, h, bad_types.Recursive name, e (λ k. cc), refl))
+types_stop g p typing.NoMain stop h e is = subst (StopsAt g stages.Types) (sym is) (refl, (p, h, bad_types.NoMain, e (λ k. cc), refl))
+types_stop g p (typing.Arity at) stop h e is = subst (StopsAt g stages.Types) (sym is) (refl, (p, h, bad_types.Arity at, e (λ k. cc), refl))
+types_stop g p (typing.Mismatch at wanted found) stop h e is = subst (StopsAt g stages.Types) (sym is) (refl, (p, h, bad_types.Mismatch at wanted found, e (λ k. cc), refl))
+types_stop g p (typing.TypeFree node name) stop h e is = subst (StopsAt g stages.Types) (sym is) (refl, (p, h, bad_types.TypeFree node name, e (λ k. cc), refl))
 types_stop g p typing.Memory stop h e is = subst (StopsAt g stages.Types) (sym is) tt
 
 -- bodies refuse
 pub bodies_stop : (g : Given) (p : ProgramTree) (main : ℕ) (fault : BodyFault) (stop : Stop) → IsMain g p main
     → (fault ≢ body_faults.Memory → RefusesBodies p main (text_of g parts.Bodies) fault)
     → stop ≡ stop_of stages.Bodies (told_body fault) → StopsAt g stages.Bodies stop
-bodies_stop g p main (body_faults.Syntax at) stop h e is = subst (StopsAt g stages.Bodies) (sym is) (refl, (p, main, h, body_faults.Syntax at, e (λ k. cc), refl))
-bodies_stop g p main (body_faults.Limit limit) stop h e is = subst (StopsAt g stages.Bodies) (sym is) (refl, (p, main, h, body_faults.Limit limit, e (λ k. cc), refl))
-bodies_stop g p main (body_faults.BodyName at) stop h e is = subst (StopsAt g stages.Bodies) (sym is) (refl, (p, main, h, body_faults.BodyName at, e (λ k. cc), refl))
-bodies_stop g p main (body_faults.BodyType at) stop h e is = subst (StopsAt g stages.Bodies) (sym is) (refl, (p, main, h, body_faults.BodyType at, e (λ k. cc), refl))
-bodies_stop g p main (body_faults.BodyArity at) stop h e is = subst (StopsAt g stages.Bodies) (sym is) (refl, (p, main, h, body_faults.BodyArity at, e (λ k. cc), refl))
-bodies_stop g p main (body_faults.Missing name) stop h e is = subst (StopsAt g stages.Bodies) (sym is) (refl, (p, main, h, body_faults.Missing name, e (λ k. cc), refl))
+bodies_stop g p main (body_faults.Syntax at) stop h e is = subst (StopsAt g stages.Bodies) (sym is) (refl, (p, main, h, bad_bodies.Syntax at, e (λ k. cc), refl))
+bodies_stop g p main (body_faults.Limit limit) stop h e is = subst (StopsAt g stages.Bodies) (sym is) (refl, (p, main, h, bad_bodies.Limit limit, e (λ k. cc), refl))
+bodies_stop g p main (body_faults.BodyName at) stop h e is = subst (StopsAt g stages.Bodies) (sym is) (refl, (p, main, h, bad_bodies.BodyName at, e (λ k. cc), refl))
+bodies_stop g p main (body_faults.BodyType at) stop h e is = subst (StopsAt g stages.Bodies) (sym is) (refl, (p, main, h, bad_bodies.BodyType at, e (λ k. cc), refl))
+bodies_stop g p main (body_faults.BodyArity at) stop h e is = subst (StopsAt g stages.Bodies) (sym is) (refl, (p, main, h, bad_bodies.BodyArity at, e (λ k. cc), refl))
+bodies_stop g p main (body_faults.Missing name) stop h e is = subst (StopsAt g stages.Bodies) (sym is) (refl, (p, main, h, bad_bodies.Missing name, e (λ k. cc), refl))
 bodies_stop g p main body_faults.Memory stop h e is = subst (StopsAt g stages.Bodies) (sym is) tt
+
+-- rows refuse
+pub rows_stop : (g : Given) (c : Chain) (fault : SensorFault) (stop : Stop) → IsFormed g c
+    → (fault ≢ sensor_faults.Memory → rows_for g c ≡ Err fault)
+    → stop ≡ stop_of stages.Rows (told_sensors fault) → StopsAt g stages.Rows stop
+rows_stop g c (sensor_faults.Row number) stop h e is = subst (StopsAt g stages.Rows) (sym is) (refl, (c, h, bad_rows.Row number, e (λ k. cc), refl))
+rows_stop g c (sensor_faults.NoSensor number) stop h e is = subst (StopsAt g stages.Rows) (sym is) (refl, (c, h, bad_rows.NoSensor number, e (λ k. cc), refl))
+rows_stop g c (sensor_faults.Order number) stop h e is = subst (StopsAt g stages.Rows) (sym is) (refl, (c, h, bad_rows.Order number, e (λ k. cc), refl))
+rows_stop g c (sensor_faults.Value number) stop h e is = subst (StopsAt g stages.Rows) (sym is) (refl, (c, h, bad_rows.Value number, e (λ k. cc), refl))
+rows_stop g c (sensor_faults.Short name have need) stop h e is = subst (StopsAt g stages.Rows) (sym is) (refl, (c, h, bad_rows.Short name have need, e (λ k. cc), refl))
+rows_stop g c sensor_faults.Memory stop h e is = subst (StopsAt g stages.Rows) (sym is) tt
+
+-- the schedule refuses
+pub schedule_stop : (g : Given) (c : Chain) (values : List Value) (cause : RelayFault) (stop : Stop) → HasRows g c values
+    → ((told : Fault) → told_relay c cause ≡ Some told → IsRelayFault (relay_of g c values) (text_of g parts.Schedule) cause)
+    → StopsBy stages.Schedule (λ told. told_relay c cause ≡ Some told) stop → StopsAt g stages.Schedule stop
+schedule_stop g c values cause (stops.Unread part) h e is = is
+schedule_stop g c values cause (stops.Refused stage fault) h e is =
+    let r = schedule_refusal c cause fault is.1 in (is.0, (c, values, h, cause, e fault is.1, r.0, r.1, r.2))
+schedule_stop g c values cause stops.Memory h e is = is
 
 -- a stop of a list is a refusal of it
 pub stops_comes : (g : Given) (list : List Stage) (stage : Stage) (fault : Fault) → StopsIn g list (stops.Refused stage fault) → Comes g list (Some (stage, fault))

@@ -1,7 +1,8 @@
 -- Scaffolding: the programs, plans and rows that are built so far. It goes when each program has its flat program, its
 -- plan and its sensors.
-use Rattle.std.specs.Prelude.{◌≡◌, ◌<◌, ◌≤◌, ℕ, zero, suc, true, false, List, [], ◌∷◌, Option, Some, None, Result, Ok, Err}
+use Rattle.std.specs.Prelude.{◌≡◌, ◌<◌, ◌≤◌, ℕ, zero, suc, true, false, List, [], ◌∷◌, Some, None, Result, Ok, Err}
 use Rattle.prl_base.specs.declared.limits.Limit.{Limit}
+use Rattle.prl_base.specs.declared.numbers.TaskNo.{TaskNo}
 use Rattle.prl_base.specs.declared.values.Ty.TheVariants as types
 use Rattle.prl_base.specs.declared.values.Value.{Value}
 use Rattle.prl_ast.specs.Trees.{ProgramTree}
@@ -27,7 +28,10 @@ use Rattle.prl_sensors.specs.SensorRows.{Inputs, sensors_of}
 use Rattle.prl_sensors.specs.declared.faults.SensorFault.{SensorFault}
 use Rattle.prl_sensors.specs.declared.faults.SensorFault.TheVariants as sensors
 use Rattle.prl_app.specs.declared.faults.Part.TheVariants as parts
-use Rattle.prl_app.specs.declared.faults.RunFault.TheVariants as runs
+use Rattle.prl_app.specs.declared.faults.SensorsRefusal.{SensorsRefusal}
+use Rattle.prl_app.specs.declared.faults.SensorsRefusal.TheVariants as bad_rows
+use Rattle.prl_app.specs.declared.faults.ScheduleRefusal.{ScheduleRefusal}
+use Rattle.prl_app.specs.declared.faults.ScheduleRefusal.TheVariants as bad_schedule
 use Rattle.prl_app.specs.declared.faults.Fault.{Fault}
 use Rattle.prl_app.specs.declared.faults.Fault.TheVariants as faults
 use Rattle.prl_app.specs.Given.{Given, text_of}
@@ -43,7 +47,7 @@ pub record IsFormed (g : Given) (c : Chain) : Type 0 where
 
 abbrev pub RefusesForm : Given → Fault → Type 0
 RefusesForm g fault =
-    (p : ProgramTree) × IsProgram g p × (chain_of p ≡ None) × (fault ≡ faults.NotBuilt parts.Program)
+    (p : ProgramTree) × IsProgram g p × (chain_of p ≡ None) × (fault ≡ faults.NotBuilt)
 
 -- it only hands its input on, in time
 pub record IsTimely (g : Given) (c : Chain) : Type 0 where
@@ -52,7 +56,7 @@ pub record IsTimely (g : Given) (c : Chain) : Type 0 where
 
 abbrev pub RefusesTiming : Given → Fault → Type 0
 RefusesTiming g fault =
-    (c : Chain) × IsFormed g c × (is_in_time c ≡ false) × (fault ≡ faults.NotBuilt parts.Program)
+    (c : Chain) × IsFormed g c × (is_in_time c ≡ false) × (fault ≡ faults.NotBuilt)
 
 -- its plan has this horizon up to the date
 pub record HasHorizon (g : Given) (c : Chain) (h : Horizon) : Type 0 where
@@ -78,18 +82,17 @@ pub record HasRows (g : Given) (c : Chain) (values : List Value) : Type 0 where
   pub rows : rows_for g c ≡ Ok (values ∷ [])
   pub each : HasValues c values g.until
 
--- how the faults of rows are told
-abbrev pub told_sensors : SensorFault → Option Fault
-told_sensors (sensors.Row number) = Some (faults.Sensors (sensors.Row number))
-told_sensors (sensors.NoSensor number) = Some (faults.Sensors (sensors.NoSensor number))
-told_sensors (sensors.Order number) = Some (faults.Sensors (sensors.Order number))
-told_sensors (sensors.Value number) = Some (faults.Sensors (sensors.Value number))
-told_sensors (sensors.Short name have need) = Some (faults.Sensors (sensors.Short name have need))
-told_sensors sensors.Memory = None
+-- the fault of rows that is told as a refusal
+abbrev pub sensors_fault : SensorsRefusal → SensorFault
+sensors_fault (bad_rows.Row number) = sensors.Row number
+sensors_fault (bad_rows.NoSensor number) = sensors.NoSensor number
+sensors_fault (bad_rows.Order number) = sensors.Order number
+sensors_fault (bad_rows.Value number) = sensors.Value number
+sensors_fault (bad_rows.Short name have need) = sensors.Short name have need
 
 abbrev pub RefusesRows : Given → Fault → Type 0
 RefusesRows g fault =
-    (c : Chain) × IsFormed g c × (cause : SensorFault) × (rows_for g c ≡ Err cause) × (told_sensors cause ≡ Some fault)
+    (c : Chain) × IsFormed g c × (refusal : SensorsRefusal) × (rows_for g c ≡ Err (sensors_fault refusal)) × (fault ≡ faults.Sensors refusal)
 
 abbrev pub relay_of : Given → Chain → List Value → Relay
 relay_of g c values = record { chain = c; values = values; until = g.until }
@@ -112,17 +115,18 @@ abbrev pub device_name : Chain → ℕ → List ℕ
 device_name c zero = name_of c.flat.in_devices 0
 device_name c (suc k) = name_of c.flat.out_devices 0
 
--- how the faults of a schedule are told
-abbrev pub told_relay : Chain → RelayFault → Option Fault
-told_relay c (relays.Syntax line) = Some (faults.Schedule (runs.Syntax line))
-told_relay c (relays.Illegal line rule) = Some (faults.Schedule (runs.Illegal line rule))
-told_relay c (relays.Unfinished task job) = Some (faults.Schedule (runs.Unfinished (device_name c task.0) job))
-told_relay c relays.Memory = None
+-- a refusal of the schedule tells this fault of its replay, in which tasks have numbers
+abbrev pub Tells : Chain → ScheduleRefusal → RelayFault → Type 0
+Tells c (bad_schedule.Syntax line) cause = cause ≡ relays.Syntax line
+Tells c (bad_schedule.Illegal line rule) cause = cause ≡ relays.Illegal line rule
+Tells c (bad_schedule.Unfinished name job) cause =
+    (task : TaskNo) × (cause ≡ relays.Unfinished task job) × (name ≡ device_name c task.0)
 
 abbrev pub RefusesSchedule : Given → Fault → Type 0
 RefusesSchedule g fault =
     (c : Chain) × (values : List Value) × HasRows g c values × (cause : RelayFault)
-    × IsRelayFault (relay_of g c values) (text_of g parts.Schedule) cause × (told_relay c cause ≡ Some fault)
+    × IsRelayFault (relay_of g c values) (text_of g parts.Schedule) cause
+    × (refusal : ScheduleRefusal) × Tells c refusal cause × (fault ≡ faults.Schedule refusal)
 
 -- its flows have few enough values
 abbrev pub HasFewValues : Given → Type 0

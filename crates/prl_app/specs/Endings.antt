@@ -8,8 +8,8 @@ use Rattle.prl_app.specs.declared.faults.Fault.{Fault}
 use Rattle.prl_app.specs.declared.stages.Stage.{Stage}
 use Rattle.prl_app.specs.declared.stages.Stage.TheVariants as stages
 use Rattle.prl_app.specs.declared.stages.Stop.TheVariants as stops
-use Rattle.prl_app.specs.declared.arguments.Command.{Command}
-use Rattle.prl_app.specs.Arguments.{command_of}
+use Rattle.prl_arguments.specs.declared.arguments.Command.{Command}
+use Rattle.prl_arguments.specs.Arguments.{command_of}
 use Rattle.prl_app.specs.Given.{Folder, Given, IsGiven, file_of}
 use Rattle.prl_app.specs.Stages.{stages_of, Comes, IsText}
 use Rattle.prl_app.specs.ErrorLines.{line_of}

@@ -6,26 +6,27 @@ use Rattle.prl_base.specs.Limits.{what_text}
 use Rattle.prl_base.specs.declared.limits.Limit.{Limit}
 use Rattle.prl_base.specs.Texts.{type_text}
 use Rattle.prl_base.specs.declared.values.Ty.{Ty}
-use Rattle.prl_body.specs.declared.faults.BodyFault.{BodyFault}
-use Rattle.prl_body.specs.declared.faults.BodyFault.TheVariants as body_faults
 use Rattle.prl_plan.specs.declared.events.Rule.{Rule}
 use Rattle.prl_plan.specs.Rules.{rule_text}
-use Rattle.prl_sensors.specs.declared.faults.SensorFault.{SensorFault}
-use Rattle.prl_sensors.specs.declared.faults.SensorFault.TheVariants as sensors
-use Rattle.prl_types.specs.declared.faults.TypeFault.{TypeFault}
-use Rattle.prl_types.specs.declared.faults.TypeFault.TheVariants as typing
 use Rattle.prl_app.specs.declared.endings.Ending.{Ending}
 use Rattle.prl_app.specs.declared.endings.Ending.TheVariants as endings
-use Rattle.prl_app.specs.declared.faults.GrammarFault.{GrammarFault}
-use Rattle.prl_app.specs.declared.faults.GrammarFault.TheVariants as grammar
+use Rattle.prl_app.specs.declared.faults.GrammarRefusal.{GrammarRefusal}
+use Rattle.prl_app.specs.declared.faults.GrammarRefusal.TheVariants as bad_grammar
+use Rattle.prl_app.specs.declared.faults.TypesRefusal.{TypesRefusal}
+use Rattle.prl_app.specs.declared.faults.TypesRefusal.TheVariants as bad_types
+use Rattle.prl_app.specs.declared.faults.BodiesRefusal.{BodiesRefusal}
+use Rattle.prl_app.specs.declared.faults.BodiesRefusal.TheVariants as bad_bodies
+use Rattle.prl_app.specs.declared.faults.SensorsRefusal.{SensorsRefusal}
+use Rattle.prl_app.specs.declared.faults.SensorsRefusal.TheVariants as bad_rows
+use Rattle.prl_app.specs.declared.faults.ScheduleRefusal.{ScheduleRefusal}
+use Rattle.prl_app.specs.declared.faults.ScheduleRefusal.TheVariants as bad_schedule
 use Rattle.prl_app.specs.declared.faults.Part.{Part}
-use Rattle.prl_app.specs.declared.faults.RunFault.{RunFault}
-use Rattle.prl_app.specs.declared.faults.RunFault.TheVariants as runs
+use Rattle.prl_app.specs.declared.faults.Part.TheVariants as parts
 use Rattle.prl_app.specs.declared.faults.Fault.{Fault}
 use Rattle.prl_app.specs.declared.faults.Fault.TheVariants as faults
 use Rattle.prl_app.specs.declared.stages.Stop.{Stop}
 use Rattle.prl_app.specs.declared.stages.Stop.TheVariants as stops
-use Rattle.prl_app.specs.declared.arguments.Command.{Command}
+use Rattle.prl_arguments.specs.declared.arguments.Command.{Command}
 use Rattle.prl_app.specs.Given.{file_of}
 
 -- the name that the command gives to a file
@@ -40,10 +41,15 @@ named_line front name = concat (front ∷ name ∷ codes "\n" ∷ [])
 abbrev pub placed_line : List ℕ → ℕ → List ℕ
 placed_line front at = named_line front (decimal at)
 
-abbrev pub grammar_line : GrammarFault → List ℕ
-grammar_line (grammar.BadToken at) = placed_line (codes "1 bad token at ") at
-grammar_line (grammar.Unexpected at) = placed_line (codes "2 unexpected at ") at
-grammar_line (grammar.NumberRange at) = placed_line (codes "3 number range at ") at
+abbrev pub limit_line : Limit → List ℕ
+limit_line limit =
+    concat (codes "4 limit " ∷ what_text limit.what ∷ codes " found " ∷ decimal limit.found ∷ codes "\n" ∷ [])
+
+abbrev pub grammar_line : GrammarRefusal → List ℕ
+grammar_line (bad_grammar.BadToken at) = placed_line (codes "1 bad token at ") at
+grammar_line (bad_grammar.Unexpected at) = placed_line (codes "2 unexpected at ") at
+grammar_line (bad_grammar.NumberRange at) = placed_line (codes "3 number range at ") at
+grammar_line (bad_grammar.Limit limit) = limit_line limit
 
 abbrev pub mismatch_line : ℕ → Ty → Ty → List ℕ
 mismatch_line at wanted found =
@@ -52,41 +58,34 @@ mismatch_line at wanted found =
 abbrev pub type_free_line : List ℕ → List ℕ → List ℕ
 type_free_line node name = concat (codes "17 type free " ∷ node ∷ codes "." ∷ name ∷ codes "\n" ∷ [])
 
-abbrev pub types_line : TypeFault → List ℕ
-types_line (typing.Twice name) = named_line (codes "11 twice ") name
-types_line (typing.Unknown name) = named_line (codes "10 unknown ") name
-types_line (typing.Undefined name) = named_line (codes "15 undefined ") name
-types_line (typing.Recursive name) = named_line (codes "16 recursive ") name
-types_line typing.NoMain = codes "14 no main\n"
-types_line (typing.Arity at) = placed_line (codes "12 arity at ") at
-types_line (typing.Mismatch at wanted found) = mismatch_line at wanted found
-types_line (typing.TypeFree node name) = type_free_line node name
-types_line typing.Memory = codes "memory\n"
+abbrev pub types_line : TypesRefusal → List ℕ
+types_line (bad_types.Twice name) = named_line (codes "11 twice ") name
+types_line (bad_types.Unknown name) = named_line (codes "10 unknown ") name
+types_line (bad_types.Undefined name) = named_line (codes "15 undefined ") name
+types_line (bad_types.Recursive name) = named_line (codes "16 recursive ") name
+types_line bad_types.NoMain = codes "14 no main\n"
+types_line (bad_types.Arity at) = placed_line (codes "12 arity at ") at
+types_line (bad_types.Mismatch at wanted found) = mismatch_line at wanted found
+types_line (bad_types.TypeFree node name) = type_free_line node name
 
-abbrev pub limit_line : Limit → List ℕ
-limit_line limit =
-    concat (codes "4 limit " ∷ what_text limit.what ∷ codes " found " ∷ decimal limit.found ∷ codes "\n" ∷ [])
-
-abbrev pub bodies_line : BodyFault → List ℕ
-bodies_line (body_faults.Syntax at) = placed_line (codes "23 body syntax at ") at
-bodies_line (body_faults.Limit limit) = limit_line limit
-bodies_line (body_faults.BodyName at) = placed_line (codes "24 body name at ") at
-bodies_line (body_faults.BodyType at) = placed_line (codes "22 body type at ") at
-bodies_line (body_faults.BodyArity at) = placed_line (codes "21 body arity at ") at
-bodies_line (body_faults.Missing name) = named_line (codes "20 body missing ") name
-bodies_line body_faults.Memory = codes "memory\n"
+abbrev pub bodies_line : BodiesRefusal → List ℕ
+bodies_line (bad_bodies.Syntax at) = placed_line (codes "23 body syntax at ") at
+bodies_line (bad_bodies.Limit limit) = limit_line limit
+bodies_line (bad_bodies.BodyName at) = placed_line (codes "24 body name at ") at
+bodies_line (bad_bodies.BodyType at) = placed_line (codes "22 body type at ") at
+bodies_line (bad_bodies.BodyArity at) = placed_line (codes "21 body arity at ") at
+bodies_line (bad_bodies.Missing name) = named_line (codes "20 body missing ") name
 
 abbrev pub short_line : List ℕ → ℕ → ℕ → List ℕ
 short_line name have need =
     concat (codes "84 short " ∷ name ∷ codes " " ∷ decimal have ∷ codes " " ∷ decimal need ∷ codes "\n" ∷ [])
 
-abbrev pub sensors_line : SensorFault → List ℕ
-sensors_line (sensors.Row number) = placed_line (codes "80 row ") number
-sensors_line (sensors.NoSensor number) = placed_line (codes "81 no sensor ") number
-sensors_line (sensors.Order number) = placed_line (codes "82 order ") number
-sensors_line (sensors.Value number) = placed_line (codes "83 value ") number
-sensors_line (sensors.Short name have need) = short_line name have need
-sensors_line sensors.Memory = codes "memory\n"
+abbrev pub sensors_line : SensorsRefusal → List ℕ
+sensors_line (bad_rows.Row number) = placed_line (codes "80 row ") number
+sensors_line (bad_rows.NoSensor number) = placed_line (codes "81 no sensor ") number
+sensors_line (bad_rows.Order number) = placed_line (codes "82 order ") number
+sensors_line (bad_rows.Value number) = placed_line (codes "83 value ") number
+sensors_line (bad_rows.Short name have need) = short_line name have need
 
 abbrev pub illegal_line : ℕ → Rule → List ℕ
 illegal_line line rule = concat (codes "71 illegal line " ∷ decimal line ∷ codes " rule " ∷ rule_text rule ∷ codes "\n" ∷ [])
@@ -94,21 +93,21 @@ illegal_line line rule = concat (codes "71 illegal line " ∷ decimal line ∷ c
 abbrev pub unfinished_line : List ℕ → ℕ → List ℕ
 unfinished_line name job = concat (codes "72 unfinished " ∷ name ∷ codes " " ∷ decimal job ∷ codes "\n" ∷ [])
 
-abbrev pub schedule_line : RunFault → List ℕ
-schedule_line (runs.Syntax line) = placed_line (codes "70 schedule syntax line ") line
-schedule_line (runs.Illegal line rule) = illegal_line line rule
-schedule_line (runs.Unfinished name job) = unfinished_line name job
+abbrev pub schedule_line : ScheduleRefusal → List ℕ
+schedule_line (bad_schedule.Syntax line) = placed_line (codes "70 schedule syntax line ") line
+schedule_line (bad_schedule.Illegal line rule) = illegal_line line rule
+schedule_line (bad_schedule.Unfinished name job) = unfinished_line name job
 
 abbrev pub line_of_fault : Option Command → Fault → List ℕ
 line_of_fault command (faults.Absent part) = named_line (codes "absent ") (file_name command part)
 line_of_fault command (faults.TooLong part) = named_line (codes "too long ") (file_name command part)
-line_of_fault command (faults.Grammar fault) = grammar_line fault
-line_of_fault command (faults.Types fault) = types_line fault
-line_of_fault command (faults.Bodies fault) = bodies_line fault
-line_of_fault command (faults.NotBuilt part) = named_line (codes "9 not built ") (file_name command part)
-line_of_fault command (faults.Sensors fault) = sensors_line fault
+line_of_fault command (faults.Grammar refusal) = grammar_line refusal
+line_of_fault command (faults.Types refusal) = types_line refusal
+line_of_fault command (faults.Bodies refusal) = bodies_line refusal
+line_of_fault command faults.NotBuilt = named_line (codes "9 not built ") (file_name command parts.Program)
+line_of_fault command (faults.Sensors refusal) = sensors_line refusal
 line_of_fault command (faults.Limit limit) = limit_line limit
-line_of_fault command (faults.Schedule fault) = schedule_line fault
+line_of_fault command (faults.Schedule refusal) = schedule_line refusal
 
 -- the line that tells why there is no text
 abbrev pub line_of_stop : Option Command → Stop → List ℕ

@@ -1,11 +1,11 @@
 -- What the files of a command give to its stages.
-use Rattle.std.specs.Prelude.{◌≡◌, ◌≤◌, ◌+◌, ◌⊎◌, ℕ, List, [], length, Option, Some, None, Result, Ok, Err, nat_le, if◌then◌else◌}
+use Rattle.std.specs.Prelude.{◌≡◌, ◌≤◌, ◌⊎◌, ℕ, List, [], length, Option, Some, None, Result, Ok, Err, nat_le, if◌then◌else◌}
 use Rattle.prl_app.specs.declared.faults.Part.{Part}
 use Rattle.prl_app.specs.declared.faults.Part.TheVariants as parts
 use Rattle.prl_app.specs.declared.faults.Fault.{Fault}
 use Rattle.prl_app.specs.declared.faults.Fault.TheVariants as faults
 use Rattle.prl_app.specs.declared.reading.TheConstants.{MAX_PROGRAM, MAX_BODIES, MAX_SENSORS, MAX_SCHEDULE}
-use Rattle.prl_app.specs.declared.arguments.Command.{Command}
+use Rattle.prl_arguments.specs.declared.arguments.Command.{Command}
 
 -- what each file gives; the name of the node that is to be main, where one is asked for; and the date
 pub record Given : Type 0 where

@@ -1,5 +1,3 @@
--- The arguments of a command line.
-pub mod Arguments
 -- What the files of a command give.
 pub mod Given
 -- The program and the bodies that the texts are.

@@ -1,5 +1,5 @@
 -- What a command's texts are: its program with its main node, and its bodies.
-use Rattle.std.specs.Prelude.{◌≡◌, ◌⊎◌, ◌<◌, ℕ, List, length, Option, Some, None, Ok, Err}
+use Rattle.std.specs.Prelude.{◌≡◌, ◌⊎◌, ◌<◌, ℕ, List, length, Ok, Err}
 use Rattle.prl_base.specs.declared.values.Ty.{Ty}
 use Rattle.prl_ast.specs.Trees.{ProgramTree}
 use Rattle.prl_syntax.specs.declared.parsing.ParseFault.{ParseFault}
@@ -15,9 +15,12 @@ use Rattle.prl_body.specs.Checks.{BodyTree, checked}
 use Rattle.prl_body.specs.Texts.{TextTree}
 use Rattle.prl_bodytext.specs.Parsing.{IsParsed as IsParsedBodies}
 use Rattle.prl_app.specs.declared.faults.Part.TheVariants as parts
-use Rattle.prl_app.specs.declared.faults.GrammarFault.TheVariants as grammar
-use Rattle.prl_app.specs.declared.faults.Fault.{Fault}
-use Rattle.prl_app.specs.declared.faults.Fault.TheVariants as faults
+use Rattle.prl_app.specs.declared.faults.GrammarRefusal.{GrammarRefusal}
+use Rattle.prl_app.specs.declared.faults.GrammarRefusal.TheVariants as bad_grammar
+use Rattle.prl_app.specs.declared.faults.TypesRefusal.{TypesRefusal}
+use Rattle.prl_app.specs.declared.faults.TypesRefusal.TheVariants as bad_types
+use Rattle.prl_app.specs.declared.faults.BodiesRefusal.{BodiesRefusal}
+use Rattle.prl_app.specs.declared.faults.BodiesRefusal.TheVariants as bad_bodies
 use Rattle.prl_app.specs.Given.{Given, text_of}
 
 -- the text is this program of the grammar
@@ -46,30 +49,27 @@ RefusesBodies p main text fault =
     IsParsedBodies text (Err fault)
     ⊎ ((texts : List TextTree) × IsParsedBodies text (Ok texts) × (checked p.imports (used_imports p main) texts ≡ Err fault))
 
--- how the faults of the grammar, of types and of bodies are told; None is what no text is refused for
-abbrev pub told_parse : ParseFault → Option Fault
-told_parse (parsing.BadToken at) = Some (faults.Grammar (grammar.BadToken at))
-told_parse (parsing.Unexpected at) = Some (faults.Grammar (grammar.Unexpected at))
-told_parse (parsing.NumberRange at) = Some (faults.Grammar (grammar.NumberRange at))
-told_parse (parsing.Limit limit) = Some (faults.Limit limit)
-told_parse parsing.Memory = None
+-- the fault of the crate below that is told as a refusal
+abbrev pub grammar_fault : GrammarRefusal → ParseFault
+grammar_fault (bad_grammar.BadToken at) = parsing.BadToken at
+grammar_fault (bad_grammar.Unexpected at) = parsing.Unexpected at
+grammar_fault (bad_grammar.NumberRange at) = parsing.NumberRange at
+grammar_fault (bad_grammar.Limit limit) = parsing.Limit limit
 
-abbrev pub told_types : TypeFault → Option Fault
-told_types (typing.Twice name) = Some (faults.Types (typing.Twice name))
-told_types (typing.Unknown name) = Some (faults.Types (typing.Unknown name))
-told_types (typing.Undefined name) = Some (faults.Types (typing.Undefined name))
-told_types (typing.Recursive name) = Some (faults.Types (typing.Recursive name))
-told_types typing.NoMain = Some (faults.Types typing.NoMain)
-told_types (typing.Arity at) = Some (faults.Types (typing.Arity at))
-told_types (typing.Mismatch at wanted found) = Some (faults.Types (typing.Mismatch at wanted found))
-told_types (typing.TypeFree node name) = Some (faults.Types (typing.TypeFree node name))
-told_types typing.Memory = None
+abbrev pub types_fault : TypesRefusal → TypeFault
+types_fault (bad_types.Twice name) = typing.Twice name
+types_fault (bad_types.Unknown name) = typing.Unknown name
+types_fault (bad_types.Undefined name) = typing.Undefined name
+types_fault (bad_types.Recursive name) = typing.Recursive name
+types_fault bad_types.NoMain = typing.NoMain
+types_fault (bad_types.Arity at) = typing.Arity at
+types_fault (bad_types.Mismatch at wanted found) = typing.Mismatch at wanted found
+types_fault (bad_types.TypeFree node name) = typing.TypeFree node name
 
-abbrev pub told_body : BodyFault → Option Fault
-told_body (body_faults.Syntax at) = Some (faults.Bodies (body_faults.Syntax at))
-told_body (body_faults.Limit limit) = Some (faults.Limit limit)
-told_body (body_faults.BodyName at) = Some (faults.Bodies (body_faults.BodyName at))
-told_body (body_faults.BodyType at) = Some (faults.Bodies (body_faults.BodyType at))
-told_body (body_faults.BodyArity at) = Some (faults.Bodies (body_faults.BodyArity at))
-told_body (body_faults.Missing name) = Some (faults.Bodies (body_faults.Missing name))
-told_body body_faults.Memory = None
+abbrev pub bodies_fault : BodiesRefusal → BodyFault
+bodies_fault (bad_bodies.Syntax at) = body_faults.Syntax at
+bodies_fault (bad_bodies.Limit limit) = body_faults.Limit limit
+bodies_fault (bad_bodies.BodyName at) = body_faults.BodyName at
+bodies_fault (bad_bodies.BodyType at) = body_faults.BodyType at
+bodies_fault (bad_bodies.BodyArity at) = body_faults.BodyArity at
+bodies_fault (bad_bodies.Missing name) = body_faults.Missing name

@@ -1,5 +1,5 @@
 -- What a program, its bodies and its rows ask to be computed, and the text that they mean.
-use Rattle.std.specs.Prelude.{◌≡◌, ◌+◌, ◌<◌, ◌^◌, ℕ, List, [], ◌∷◌, map, Option, Some, None}
+use Rattle.std.specs.Prelude.{◌≡◌, ◌+◌, ◌<◌, ◌^◌, ℕ, List, [], ◌∷◌, map}
 use Rattle.prl_body.specs.declared.bodies.CheckedBody.{CheckedBody}
 use Rattle.prl_body.specs.Checks.{BodyTree, body_tree}
 use Rattle.prl_flow.specs.declared.programs.Clocks.{Clocks}
@@ -15,8 +15,6 @@ use Rattle.prl_flow.specs.Actuators.{actuator_text}
 use Rattle.prl_chains.specs.declared.chains.Chain.{Chain}
 use Rattle.prl_base.specs.declared.limits.What.TheVariants as whats
 use Rattle.prl_flow.specs.Counts.{values_before}
-use Rattle.prl_flow.specs.declared.evaluation.FlowFault.{FlowFault}
-use Rattle.prl_flow.specs.declared.evaluation.FlowFault.TheVariants as flows
 use Rattle.prl_flow.specs.declared.evaluation.TheConstants.{MAX_VALUES}
 use Rattle.prl_app.specs.declared.faults.Fault.{Fault}
 use Rattle.prl_app.specs.declared.faults.Fault.TheVariants as faults
@@ -59,11 +57,6 @@ too_many found = faults.Limit (record { what = whats.Values; found = found })
 abbrev pub HasManyValues : Run → Fault → Type 0
 HasManyValues run fault =
     (MAX_VALUES < values_before run.until run.clocks.of) × (fault ≡ too_many (values_before run.until run.clocks.of))
-
--- how the faults of an evaluation are told
-abbrev pub told_flow : FlowFault → Option Fault
-told_flow (flows.Limit limit) = Some (faults.Limit limit)
-told_flow flows.Memory = None
 
 -- the flow of main's output of number k, with its name and clock
 abbrev pub out_flow : Run → List (List Value) → ℕ → FlowNo → OutFlow

@@ -1,24 +1,25 @@
 -- The stages of the command in the order of refusals, and the modes as lists of them.
-use Rattle.std.specs.Prelude.{◌≡◌, ◌⊎◌, ℕ, List, [], ◌∷◌, ◌++◌, Option, Some, None, Result, Ok, Err}
+use Rattle.std.specs.Prelude.{◌≡◌, ◌⊎◌, ℕ, List, [], ◌∷◌, ◌++◌, Option, Some, None, Ok, Err}
 use Rattle.prl_ast.specs.Trees.{ProgramTree}
-use Rattle.prl_syntax.specs.declared.parsing.ParseFault.{ParseFault}
 use Rattle.prl_syntax.specs.Parsing.{IsParsed}
-use Rattle.prl_types.specs.declared.faults.TypeFault.{TypeFault}
 use Rattle.prl_types.specs.Typing.{IsFault}
-use Rattle.prl_body.specs.declared.faults.BodyFault.{BodyFault}
 use Rattle.prl_body.specs.Checks.{BodyTree}
 use Rattle.prl_base.specs.declared.values.Value.{Value}
 use Rattle.prl_chains.specs.declared.chains.Chain.{Chain}
 use Rattle.prl_plan.specs.declared.horizons.Horizon.{Horizon}
 use Rattle.prl_print.specs.Printing.{printed}
 use Rattle.prl_app.specs.declared.faults.Part.TheVariants as parts
+use Rattle.prl_app.specs.declared.faults.GrammarRefusal.{GrammarRefusal}
+use Rattle.prl_app.specs.declared.faults.TypesRefusal.{TypesRefusal}
+use Rattle.prl_app.specs.declared.faults.BodiesRefusal.{BodiesRefusal}
 use Rattle.prl_app.specs.declared.faults.Fault.{Fault}
+use Rattle.prl_app.specs.declared.faults.Fault.TheVariants as faults
 use Rattle.prl_app.specs.declared.stages.Stage.{Stage}
 use Rattle.prl_app.specs.declared.stages.Stage.TheVariants as stages
-use Rattle.prl_app.specs.declared.arguments.Mode.{Mode}
-use Rattle.prl_app.specs.declared.arguments.Mode.TheVariants as modes
+use Rattle.prl_arguments.specs.declared.arguments.Mode.{Mode}
+use Rattle.prl_arguments.specs.declared.arguments.Mode.TheVariants as modes
 use Rattle.prl_app.specs.Given.{Given, content_of, text_of}
-use Rattle.prl_app.specs.Parts.{IsProgram, IsMain, AreBodies, RefusesBodies, told_parse, told_types, told_body}
+use Rattle.prl_app.specs.Parts.{IsProgram, IsMain, AreBodies, RefusesBodies, grammar_fault, types_fault, bodies_fault}
 use Rattle.prl_app.specs.Built.{IsFormed, IsTimely, HasHorizon, HasRows, relay_of, IsWholeRun, HasFewValues, RefusesForm, RefusesTiming, RefusesHorizon, RefusesRows, RefusesSchedule, RefusesValues}
 use Rattle.prl_relays.specs.Relays.{IsReplayText}
 use Rattle.prl_app.specs.Runs.{IsFlowsText, chain_computation}
@@ -40,12 +41,12 @@ Holds g stages.Values = HasFewValues g
 abbrev pub Refuses : Given → Stage → Fault → Type 0
 Refuses g (stages.File part) fault = content_of g part ≡ Err fault
 Refuses g stages.Grammar fault =
-    (cause : ParseFault) × IsParsed (text_of g parts.Program) (Err cause) × (told_parse cause ≡ Some fault)
+    (refusal : GrammarRefusal) × IsParsed (text_of g parts.Program) (Err (grammar_fault refusal)) × (fault ≡ faults.Grammar refusal)
 Refuses g stages.Types fault =
-    (p : ProgramTree) × IsProgram g p × (cause : TypeFault) × IsFault p g.node cause × (told_types cause ≡ Some fault)
+    (p : ProgramTree) × IsProgram g p × (refusal : TypesRefusal) × IsFault p g.node (types_fault refusal) × (fault ≡ faults.Types refusal)
 Refuses g stages.Bodies fault =
-    (p : ProgramTree) × (main : ℕ) × IsMain g p main × (cause : BodyFault)
-    × RefusesBodies p main (text_of g parts.Bodies) cause × (told_body cause ≡ Some fault)
+    (p : ProgramTree) × (main : ℕ) × IsMain g p main × (refusal : BodiesRefusal)
+    × RefusesBodies p main (text_of g parts.Bodies) (bodies_fault refusal) × (fault ≡ faults.Bodies refusal)
 Refuses g stages.Form fault = RefusesForm g fault
 Refuses g stages.Timing fault = RefusesTiming g fault
 Refuses g stages.Horizon fault = RefusesHorizon g fault

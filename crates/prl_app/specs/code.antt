@@ -1,4 +1,4 @@
-pub mod Settings
+pub mod Told
 pub mod Stops
 pub mod Performed
 pub mod Numbers

@@ -12,18 +12,19 @@ ghost use Rattle.prl_chains.specs.Facts.{IsChain};
 ghost use Rattle.prl_plan.specs.Plans.{IsPlan};
 ghost use Rattle.prl_relays.specs.Relays.{input_clock, relay_plan, HasValues, IsHorizonUpTo};
 ghost use Rattle.prl_app.specs.declared.faults.Fault.{Fault as AnyFault};
-ghost use Rattle.prl_app.specs.Built.{device_name, told_relay, IsFormed, IsTimely, HasHorizon, HasRows, relay_of};
+ghost use Rattle.prl_app.specs.Built.{device_name, IsFormed, IsTimely, HasHorizon, HasRows, relay_of};
 ghost use Rattle.prl_app.specs.Parts.{IsProgram, AreBodies};
 ghost use Rattle.prl_app.specs.Runs.{chain_run, IsReady};
 ghost use Rattle.prl_app.specs.Stages.{Holds, IsText};
 ghost use Rattle.prl_app.specs.code.Numbers.{AreNumbers};
-ghost use Rattle.prl_app.specs.code.Stops.{given_of, stop_of, StopsAt, StopsBy};
+ghost use Rattle.prl_app.specs.code.Stops.{given_of, StopsAt, StopsBy};
+ghost use Rattle.prl_app.specs.code.Told.{told_relay};
 
-use crate::arguments::{Command, Mode};
-use crate::faults::{Fault, Part, RunFault};
+use crate::faults::{Fault, ScheduleRefusal, SensorsRefusal};
 use crate::reading::Texts;
 use crate::runs::{Run, chain_run, run_text};
 use crate::stages::{Stage, Stop};
+use prl_arguments::{Command, Mode};
 use prl_ast::Program;
 use prl_base::{Name, TaskNo, Ty};
 use prl_body::Bodies;
@@ -51,7 +52,7 @@ pub fn form(
 {
     match chain_of(alloc, program)? {
         Some(chain) => Ok(chain),
-        None => Err(Stop::Refused(Stage::Form, Fault::NotBuilt(Part::Program))),
+        None => Err(Stop::Refused(Stage::Form, Fault::NotBuilt)),
     }
 }
 
@@ -65,7 +66,7 @@ pub fn check_timing(command: &Command, texts: &Texts, chain: &Chain) -> Result<(
     if is_in_time(chain) {
         Ok(())
     } else {
-        Err(Stop::Refused(Stage::Timing, Fault::NotBuilt(Part::Program)))
+        Err(Stop::Refused(Stage::Timing, Fault::NotBuilt))
     }
 }
 
@@ -101,17 +102,20 @@ fn rows_needed(chain: &Chain, until: u32) -> u64
 impl From<SensorFault> for Stop {
     ghost use Rattle.std.specs.Prelude.{◌≡◌};
     ghost use Rattle.prl_app.specs.declared.stages.Stage.TheVariants.{Rows};
-    ghost use Rattle.prl_app.specs.Built.{told_sensors};
-    ghost use Rattle.prl_app.specs.code.Numbers.{AreNumbers};
-    ghost use Rattle.prl_app.specs.code.Stops.{stop_of};
+    ghost use Rattle.prl_app.specs.code.Told.{stop_of, told_sensors};
 
     ghost from_gives = { λ fault stop. stop ≡ stop_of Rows (told_sensors fault) };
 
     fn from(fault: SensorFault) -> Stop {
-        match fault {
-            SensorFault::Memory => Stop::Memory,
-            told => Stop::Refused(Stage::Rows, Fault::Sensors(told)),
-        }
+        let refusal = match fault {
+            SensorFault::Row(number) => SensorsRefusal::Row(number),
+            SensorFault::NoSensor(number) => SensorsRefusal::NoSensor(number),
+            SensorFault::Order(number) => SensorsRefusal::Order(number),
+            SensorFault::Value(number) => SensorsRefusal::Value(number),
+            SensorFault::Short { name, have, need } => SensorsRefusal::Short { name, have, need },
+            SensorFault::Memory => return Stop::Memory,
+        };
+        Stop::Refused(Stage::Rows, Fault::Sensors(refusal))
     }
 }
 
@@ -192,16 +196,16 @@ fn of_relay(alloc: Global, chain: &Chain, fault: RelayFault) -> Stop
     requires { IsChain chain.now }
     ensures { StopsBy Stage.Schedule (λ told. told_relay chain.now fault ≡ Some told) result }
 {
-    let told = match fault {
-        RelayFault::Syntax(line) => RunFault::Syntax(line),
-        RelayFault::Illegal { line, rule } => RunFault::Illegal { line, rule },
+    let refusal = match fault {
+        RelayFault::Syntax(line) => ScheduleRefusal::Syntax(line),
+        RelayFault::Illegal { line, rule } => ScheduleRefusal::Illegal { line, rule },
         RelayFault::Unfinished { task, job } => match device_name(alloc, chain, task) {
-            Ok(name) => RunFault::Unfinished { name, job },
+            Ok(name) => ScheduleRefusal::Unfinished { name, job },
             Err(_) => return Stop::Memory,
         },
         RelayFault::Memory => return Stop::Memory,
     };
-    Stop::Refused(Stage::Schedule, Fault::Schedule(told))
+    Stop::Refused(Stage::Schedule, Fault::Schedule(refusal))
 }
 
 /// The text of the replay of the schedule.

@@ -1,10 +1,7 @@
-//! Why a stage of a command refuses.
+//! Why a stage of a command refuses. Want of memory is no refusal, so the faults of the crates below are told here without it.
 
-use prl_base::{Limit, Name};
-use prl_body::BodyFault;
+use prl_base::{Limit, Name, Ty};
 use prl_plan::Rule;
-use prl_sensors::SensorFault;
-use prl_types::TypeFault;
 
 /// A file that a command names.
 #[derive(Clone, Copy, Debug, PartialEq, Eq)]
@@ -15,23 +12,78 @@ pub enum Part {
     Schedule,
 }
 
-/// Why a text is not of the grammar, with the place in its bytes.
+/// Why a text is no program of the grammar. Numbers count the bytes of the text from 0.
 #[derive(Clone, Copy, Debug, PartialEq, Eq)]
-pub enum GrammarFault {
+pub enum GrammarRefusal {
     /// No token begins here.
     BadToken(u32),
     /// No program begins with the tokens up to the one here, or up to the end of the text.
     Unexpected(u32),
     /// The number here is out of its range.
     NumberRange(u32),
+    /// A count is past its limit.
+    Limit(Limit),
 }
 
-/// Why a schedule is no whole run of the program's tasks.
+/// Why the names, the arity or the types of a program are not right, as `TypeFault` of `prl_types` has it.
 #[derive(Debug, Drop)]
-pub enum RunFault {
-    /// The line of this number, counted from 1, is no event.
+pub enum TypesRefusal {
+    /// A name that is declared or defined a second time.
+    Twice(Name),
+    /// A name that stands for nothing, or an input or output of main without a device.
+    Unknown(Name),
+    /// An output or a local without an equation.
+    Undefined(Name),
+    /// A node that applies itself through a cycle of applications.
+    Recursive(Name),
+    /// No node is there to be main.
+    NoMain,
+    /// What stands here has another number of flows than it needs.
+    Arity(u32),
+    /// The rule from here contradicts the earlier ones, which give its two sides these types.
+    Mismatch { at: u32, wanted: Ty, found: Ty },
+    /// A flow of a node whose type the rules leave open.
+    TypeFree { node: Name, name: Name },
+}
+
+/// Why the bodies of imported nodes are refused, as `BodyFault` of `prl_body` has it.
+#[derive(Debug, Drop)]
+pub enum BodiesRefusal {
+    /// No text of bodies has this token here, or the number here is out of its range.
+    Syntax(u32),
+    /// A count is past its limit.
+    Limit(Limit),
+    /// The body may not have the name here.
+    BodyName(u32),
+    /// The operator here has an operand of a wrong type, or the statement another type than its left name.
+    BodyType(u32),
+    /// The body here lacks a statement for an output.
+    BodyArity(u32),
+    /// An import that main's expansion applies has no body.
+    Missing(Name),
+}
+
+/// Why the rows of the sensors are refused, as `SensorFault` of `prl_sensors` has it. Records count from 1.
+#[derive(Debug, Drop)]
+pub enum SensorsRefusal {
+    /// The record of this number has not three fields.
+    Row(u64),
+    /// The record of this number names no input of main.
+    NoSensor(u64),
+    /// The instance of the record of this number is not the next one of its sensor.
+    Order(u64),
+    /// The value of the record of this number is none of its sensor's type.
+    Value(u64),
+    /// The input has fewer rows than it needs.
+    Short { name: Name, have: u64, need: u64 },
+}
+
+/// Why a schedule is no whole run of the program's tasks. Lines count from 1.
+#[derive(Debug, Drop)]
+pub enum ScheduleRefusal {
+    /// The line of this number is no event.
     Syntax(u64),
-    /// The event of this line, counted from 1, is the first that breaks a rule, and this is the first rule that it breaks.
+    /// The event of this line is the first that breaks a rule, and this is the first rule that it breaks.
     Illegal { line: u64, rule: Rule },
     /// No event breaks a rule, but this job of the task has not ended.
     Unfinished { name: Name, job: u64 },
@@ -45,17 +97,17 @@ pub enum Fault {
     /// The file has more bytes than it may have.
     TooLong(Part),
     /// The program is not of the grammar.
-    Grammar(GrammarFault),
+    Grammar(GrammarRefusal),
     /// The names or the types of the program are not right.
-    Types(TypeFault),
+    Types(TypesRefusal),
     /// The bodies of imported nodes are not of their grammar, do not fit, or lack one.
-    Bodies(BodyFault),
-    /// The file is not of the form that is built so far.
-    NotBuilt(Part),
+    Bodies(BodiesRefusal),
+    /// The program is not of the form that is built so far.
+    NotBuilt,
     /// The rows of the sensors are not right, or too few.
-    Sensors(SensorFault),
+    Sensors(SensorsRefusal),
     /// A count is past its limit.
     Limit(Limit),
     /// The schedule is no whole run.
-    Schedule(RunFault),
+    Schedule(ScheduleRefusal),
 }

@@ -1,8 +1,7 @@
-//! The command `prelude`: its arguments, the stages of its modes, what it writes, and its status. The top
+//! The command `prelude`: the stages of its modes, what it writes, and its status. The top
 //! calls `prelude` and `prelude_alone` stand on the public clauses of the crates below.
 #![tactic(auto)]
 
-mod arguments;
 mod built;
 mod endings;
 mod faults;
@@ -15,10 +14,12 @@ mod runs;
 mod stages;
 mod top;
 
-pub use arguments::{ArgumentsFault, Command, Mode, Setting, read_arguments};
 pub use endings::Ending;
-pub use faults::{Fault, GrammarFault, Part, RunFault};
+pub use faults::{
+    BodiesRefusal, Fault, GrammarRefusal, Part, ScheduleRefusal, SensorsRefusal, TypesRefusal,
+};
 pub use laws::{front_is_decided, stages_come_to_an_end, stages_end_one_way};
+pub use prl_arguments::{ArgumentsFault, Command, Mode, Setting, read_arguments};
 pub use reading::Texts;
 pub use runs::Run;
 pub use stages::{Stage, Stop};

@@ -5,17 +5,16 @@ ghost use Rattle.prl_io.specs.Growth.{IsWritten};
 ghost use Rattle.prl_app.specs.ErrorLines.{file_name, named_line, placed_line, grammar_line, mismatch_line, type_free_line, types_line, limit_line, bodies_line, short_line, sensors_line, illegal_line, unfinished_line, schedule_line, line_of_fault, line_of_stop, line_of};
 ghost use Rattle.prl_app.specs.Endings.{IsTold};
 
-use crate::arguments::Command;
 use crate::endings::Ending;
-use crate::faults::{Fault, GrammarFault, Part, RunFault};
+use crate::faults::{
+    BodiesRefusal, Fault, GrammarRefusal, Part, ScheduleRefusal, SensorsRefusal, TypesRefusal,
+};
 use crate::stages::Stop;
 use itoa::Buffer;
+use prl_arguments::Command;
 use prl_base::{Label, Limit, Ty};
-use prl_body::BodyFault;
 use prl_io::{Failed, Sink, write_all, write_pieces};
 use prl_plan::Rule;
-use prl_sensors::SensorFault;
-use prl_types::TypeFault;
 
 fn label_bytes(label: &Option<Label>) -> &[u8]
     ensures { result.now ≡ unwrap_or label.now [] }
@@ -61,15 +60,16 @@ fn write_placed<E: Sink>(err: &mut E, front: &[u8], at: u64) -> Result<(), Faile
 }
 
 /// Writes the line of a fault of the grammar.
-fn write_grammar<E: Sink>(err: &mut E, fault: GrammarFault) -> Result<(), Failed>
+fn write_grammar<E: Sink>(err: &mut E, fault: GrammarRefusal) -> Result<(), Failed>
     ensures grown { IsWritten (E.seen err.old).written (E.seen err.new).written (grammar_line fault) result }
     ensures counted { (E.seen err.old).faults ≤ (E.seen err.new).faults }
     ensures failed { OnErr result ((E.seen err.old).faults < (E.seen err.new).faults) }
 {
     match fault {
-        GrammarFault::BadToken(at) => write_placed(err, b"1 bad token at ", at as u64),
-        GrammarFault::Unexpected(at) => write_placed(err, b"2 unexpected at ", at as u64),
-        GrammarFault::NumberRange(at) => write_placed(err, b"3 number range at ", at as u64),
+        GrammarRefusal::BadToken(at) => write_placed(err, b"1 bad token at ", at as u64),
+        GrammarRefusal::Unexpected(at) => write_placed(err, b"2 unexpected at ", at as u64),
+        GrammarRefusal::NumberRange(at) => write_placed(err, b"3 number range at ", at as u64),
+        GrammarRefusal::Limit(limit) => write_limit(err, limit),
     }
 }
 
@@ -103,21 +103,20 @@ fn write_type_free<E: Sink>(err: &mut E, node: &[u8], name: &[u8]) -> Result<(),
 }
 
 /// Writes the line of a fault of names or types.
-fn write_types<E: Sink>(err: &mut E, fault: &TypeFault) -> Result<(), Failed>
+fn write_types<E: Sink>(err: &mut E, fault: &TypesRefusal) -> Result<(), Failed>
     ensures grown { IsWritten (E.seen err.old).written (E.seen err.new).written (types_line fault.now) result }
     ensures counted { (E.seen err.old).faults ≤ (E.seen err.new).faults }
     ensures failed { OnErr result ((E.seen err.old).faults < (E.seen err.new).faults) }
 {
     match fault {
-        TypeFault::Twice(name) => write_two(err, b"11 twice ", name.bytes()),
-        TypeFault::Unknown(name) => write_two(err, b"10 unknown ", name.bytes()),
-        TypeFault::Undefined(name) => write_two(err, b"15 undefined ", name.bytes()),
-        TypeFault::Recursive(name) => write_two(err, b"16 recursive ", name.bytes()),
-        TypeFault::NoMain => write_all(err, b"14 no main\n"),
-        TypeFault::Arity(at) => write_placed(err, b"12 arity at ", *at as u64),
-        TypeFault::Mismatch { at, wanted, found } => write_mismatch(err, *at, *wanted, *found),
-        TypeFault::TypeFree { node, name } => write_type_free(err, node.bytes(), name.bytes()),
-        TypeFault::Memory => write_all(err, b"memory\n"),
+        TypesRefusal::Twice(name) => write_two(err, b"11 twice ", name.bytes()),
+        TypesRefusal::Unknown(name) => write_two(err, b"10 unknown ", name.bytes()),
+        TypesRefusal::Undefined(name) => write_two(err, b"15 undefined ", name.bytes()),
+        TypesRefusal::Recursive(name) => write_two(err, b"16 recursive ", name.bytes()),
+        TypesRefusal::NoMain => write_all(err, b"14 no main\n"),
+        TypesRefusal::Arity(at) => write_placed(err, b"12 arity at ", *at as u64),
+        TypesRefusal::Mismatch { at, wanted, found } => write_mismatch(err, *at, *wanted, *found),
+        TypesRefusal::TypeFree { node, name } => write_type_free(err, node.bytes(), name.bytes()),
     }
 }
 
@@ -138,18 +137,17 @@ fn write_short<E: Sink>(err: &mut E, name: &[u8], have: u64, need: u64) -> Resul
 }
 
 /// Writes the line of rows that are not right, or too few.
-fn write_sensors<E: Sink>(err: &mut E, fault: &SensorFault) -> Result<(), Failed>
+fn write_sensors<E: Sink>(err: &mut E, fault: &SensorsRefusal) -> Result<(), Failed>
     ensures grown { IsWritten (E.seen err.old).written (E.seen err.new).written (sensors_line fault.now) result }
     ensures counted { (E.seen err.old).faults ≤ (E.seen err.new).faults }
     ensures failed { OnErr result ((E.seen err.old).faults < (E.seen err.new).faults) }
 {
     match fault {
-        SensorFault::Row(number) => write_placed(err, b"80 row ", *number),
-        SensorFault::NoSensor(number) => write_placed(err, b"81 no sensor ", *number),
-        SensorFault::Order(number) => write_placed(err, b"82 order ", *number),
-        SensorFault::Value(number) => write_placed(err, b"83 value ", *number),
-        SensorFault::Short { name, have, need } => write_short(err, name.bytes(), *have, *need),
-        SensorFault::Memory => write_all(err, b"memory\n"),
+        SensorsRefusal::Row(number) => write_placed(err, b"80 row ", *number),
+        SensorsRefusal::NoSensor(number) => write_placed(err, b"81 no sensor ", *number),
+        SensorsRefusal::Order(number) => write_placed(err, b"82 order ", *number),
+        SensorsRefusal::Value(number) => write_placed(err, b"83 value ", *number),
+        SensorsRefusal::Short { name, have, need } => write_short(err, name.bytes(), *have, *need),
     }
 }
 
@@ -171,19 +169,18 @@ fn write_limit<E: Sink>(err: &mut E, limit: Limit) -> Result<(), Failed>
 }
 
 /// Writes the line of a fault of bodies.
-fn write_bodies<E: Sink>(err: &mut E, fault: &BodyFault) -> Result<(), Failed>
+fn write_bodies<E: Sink>(err: &mut E, fault: &BodiesRefusal) -> Result<(), Failed>
     ensures grown { IsWritten (E.seen err.old).written (E.seen err.new).written (bodies_line fault.now) result }
     ensures counted { (E.seen err.old).faults ≤ (E.seen err.new).faults }
     ensures failed { OnErr result ((E.seen err.old).faults < (E.seen err.new).faults) }
 {
     match fault {
-        BodyFault::Syntax(at) => write_placed(err, b"23 body syntax at ", *at as u64),
-        BodyFault::Limit(limit) => write_limit(err, *limit),
-        BodyFault::BodyName(at) => write_placed(err, b"24 body name at ", *at as u64),
-        BodyFault::BodyType(at) => write_placed(err, b"22 body type at ", *at as u64),
-        BodyFault::BodyArity(at) => write_placed(err, b"21 body arity at ", *at as u64),
-        BodyFault::Missing(name) => write_two(err, b"20 body missing ", name.bytes()),
-        BodyFault::Memory => write_all(err, b"memory\n"),
+        BodiesRefusal::Syntax(at) => write_placed(err, b"23 body syntax at ", *at as u64),
+        BodiesRefusal::Limit(limit) => write_limit(err, *limit),
+        BodiesRefusal::BodyName(at) => write_placed(err, b"24 body name at ", *at as u64),
+        BodiesRefusal::BodyType(at) => write_placed(err, b"22 body type at ", *at as u64),
+        BodiesRefusal::BodyArity(at) => write_placed(err, b"21 body arity at ", *at as u64),
+        BodiesRefusal::Missing(name) => write_two(err, b"20 body missing ", name.bytes()),
     }
 }
 
@@ -216,15 +213,15 @@ fn write_unfinished<E: Sink>(err: &mut E, name: &[u8], job: u64) -> Result<(), F
 }
 
 /// Writes the line of a schedule that is no whole run.
-fn write_schedule<E: Sink>(err: &mut E, fault: &RunFault) -> Result<(), Failed>
+fn write_schedule<E: Sink>(err: &mut E, fault: &ScheduleRefusal) -> Result<(), Failed>
     ensures grown { IsWritten (E.seen err.old).written (E.seen err.new).written (schedule_line fault.now) result }
     ensures counted { (E.seen err.old).faults ≤ (E.seen err.new).faults }
     ensures failed { OnErr result ((E.seen err.old).faults < (E.seen err.new).faults) }
 {
     match fault {
-        RunFault::Syntax(line) => write_placed(err, b"70 schedule syntax line ", *line),
-        RunFault::Illegal { line, rule } => write_illegal(err, *line, *rule),
-        RunFault::Unfinished { name, job } => write_unfinished(err, name.bytes(), *job),
+        ScheduleRefusal::Syntax(line) => write_placed(err, b"70 schedule syntax line ", *line),
+        ScheduleRefusal::Illegal { line, rule } => write_illegal(err, *line, *rule),
+        ScheduleRefusal::Unfinished { name, job } => write_unfinished(err, name.bytes(), *job),
     }
 }
 
@@ -240,7 +237,7 @@ fn write_fault<E: Sink>(err: &mut E, command: &Option<Command>, fault: &Fault) -
         Fault::Grammar(fault) => write_grammar(err, *fault),
         Fault::Types(fault) => write_types(err, fault),
         Fault::Bodies(fault) => write_bodies(err, fault),
-        Fault::NotBuilt(part) => write_two(err, b"9 not built ", file_name(command, *part)),
+        Fault::NotBuilt => write_two(err, b"9 not built ", file_name(command, Part::Program)),
         Fault::Sensors(fault) => write_sensors(err, fault),
         Fault::Limit(limit) => write_limit(err, *limit),
         Fault::Schedule(fault) => write_schedule(err, fault),

@@ -4,11 +4,11 @@ ghost use Rattle.std.specs.Prelude.{◌≡◌, ◌<◌, ◌≤◌, ◌^◌, IfOk
 ghost use Rattle.prl_app.specs.Stages.{stages_after, IsText};
 ghost use Rattle.prl_app.specs.code.Stops.{given_of, AllHold, StopsIn, IsAnswer, IsAnswerStop};
 
-use crate::arguments::{Command, Mode};
 use crate::built::{check_timing, flows_of, form, plan, read_rows, replay_of};
 use crate::programs::{check_types, read_bodies, read_program};
 use crate::reading::{MAX_BODIES, MAX_PROGRAM, Texts, read_texts};
 use crate::stages::Stop;
+use prl_arguments::{Command, Mode};
 use prl_io::Files;
 use prl_print::print;
 use std::alloc::Global;

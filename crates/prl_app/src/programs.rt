@@ -6,14 +6,14 @@ ghost use Rattle.prl_ast.specs.Trees.{program_tree};
 ghost use Rattle.prl_body.specs.Checks.{body_tree, checked};
 ghost use Rattle.prl_body.specs.Texts.{text_trees};
 ghost use Rattle.prl_names.specs.Uses.{used_imports};
-ghost use Rattle.prl_app.specs.Parts.{told_parse, told_types, told_body, IsProgram, IsMain, AreBodies};
+ghost use Rattle.prl_app.specs.Parts.{IsProgram, IsMain, AreBodies};
 ghost use Rattle.prl_app.specs.Stages.{Holds};
-ghost use Rattle.prl_app.specs.code.Stops.{given_of, stop_of, StopsAt};
+ghost use Rattle.prl_app.specs.code.Stops.{given_of, StopsAt};
 
-use crate::arguments::Command;
-use crate::faults::{Fault, GrammarFault};
+use crate::faults::{BodiesRefusal, Fault, GrammarRefusal, TypesRefusal};
 use crate::reading::{MAX_BODIES, MAX_PROGRAM, Texts};
 use crate::stages::{Stage, Stop};
+use prl_arguments::Command;
 use prl_ast::Program;
 use prl_body::{Bodies, BodyFault, BodyTexts, check_bodies};
 use prl_bodytext::parse_bodies;
@@ -26,53 +26,67 @@ use std::alloc::Global;
 impl From<ParseFault> for Stop {
     ghost use Rattle.std.specs.Prelude.{◌≡◌};
     ghost use Rattle.prl_app.specs.declared.stages.Stage.TheVariants.{Grammar};
-    ghost use Rattle.prl_app.specs.Parts.{told_parse};
-    ghost use Rattle.prl_app.specs.code.Stops.{stop_of};
+    ghost use Rattle.prl_app.specs.code.Told.{stop_of, told_parse};
 
     ghost from_gives = { λ fault stop. stop ≡ stop_of Grammar (told_parse fault) };
 
     fn from(fault: ParseFault) -> Stop {
-        let told = match fault {
-            ParseFault::BadToken(at) => Fault::Grammar(GrammarFault::BadToken(at)),
-            ParseFault::Unexpected(at) => Fault::Grammar(GrammarFault::Unexpected(at)),
-            ParseFault::NumberRange(at) => Fault::Grammar(GrammarFault::NumberRange(at)),
-            ParseFault::Limit(limit) => Fault::Limit(limit),
+        let refusal = match fault {
+            ParseFault::BadToken(at) => GrammarRefusal::BadToken(at),
+            ParseFault::Unexpected(at) => GrammarRefusal::Unexpected(at),
+            ParseFault::NumberRange(at) => GrammarRefusal::NumberRange(at),
+            ParseFault::Limit(limit) => GrammarRefusal::Limit(limit),
             ParseFault::Memory => return Stop::Memory,
         };
-        Stop::Refused(Stage::Grammar, told)
+        Stop::Refused(Stage::Grammar, Fault::Grammar(refusal))
     }
 }
 
 impl From<TypeFault> for Stop {
     ghost use Rattle.std.specs.Prelude.{◌≡◌};
     ghost use Rattle.prl_app.specs.declared.stages.Stage.TheVariants.{Types};
-    ghost use Rattle.prl_app.specs.Parts.{told_types};
-    ghost use Rattle.prl_app.specs.code.Stops.{stop_of};
+    ghost use Rattle.prl_app.specs.code.Told.{stop_of, told_types};
 
     ghost from_gives = { λ fault stop. stop ≡ stop_of Types (told_types fault) };
 
     fn from(fault: TypeFault) -> Stop {
-        match fault {
-            TypeFault::Memory => Stop::Memory,
-            fault => Stop::Refused(Stage::Types, Fault::Types(fault)),
-        }
+        let refusal = match fault {
+            TypeFault::Twice(name) => TypesRefusal::Twice(name),
+            TypeFault::Unknown(name) => TypesRefusal::Unknown(name),
+            TypeFault::Undefined(name) => TypesRefusal::Undefined(name),
+            TypeFault::Recursive(name) => TypesRefusal::Recursive(name),
+            TypeFault::NoMain => TypesRefusal::NoMain,
+            TypeFault::Arity(at) => TypesRefusal::Arity(at),
+            TypeFault::Mismatch { at, wanted, found } => TypesRefusal::Mismatch {
+                at,
+                wanted,
+                found,
+            },
+            TypeFault::TypeFree { node, name } => TypesRefusal::TypeFree { node, name },
+            TypeFault::Memory => return Stop::Memory,
+        };
+        Stop::Refused(Stage::Types, Fault::Types(refusal))
     }
 }
 
 impl From<BodyFault> for Stop {
     ghost use Rattle.std.specs.Prelude.{◌≡◌};
     ghost use Rattle.prl_app.specs.declared.stages.Stage.TheVariants.{Bodies};
-    ghost use Rattle.prl_app.specs.Parts.{told_body};
-    ghost use Rattle.prl_app.specs.code.Stops.{stop_of};
+    ghost use Rattle.prl_app.specs.code.Told.{stop_of, told_body};
 
     ghost from_gives = { λ fault stop. stop ≡ stop_of Bodies (told_body fault) };
 
     fn from(fault: BodyFault) -> Stop {
-        match fault {
-            BodyFault::Limit(limit) => Stop::Refused(Stage::Bodies, Fault::Limit(limit)),
-            BodyFault::Memory => Stop::Memory,
-            fault => Stop::Refused(Stage::Bodies, Fault::Bodies(fault)),
-        }
+        let refusal = match fault {
+            BodyFault::Syntax(at) => BodiesRefusal::Syntax(at),
+            BodyFault::Limit(limit) => BodiesRefusal::Limit(limit),
+            BodyFault::BodyName(at) => BodiesRefusal::BodyName(at),
+            BodyFault::BodyType(at) => BodiesRefusal::BodyType(at),
+            BodyFault::BodyArity(at) => BodiesRefusal::BodyArity(at),
+            BodyFault::Missing(name) => BodiesRefusal::Missing(name),
+            BodyFault::Memory => return Stop::Memory,
+        };
+        Stop::Refused(Stage::Bodies, Fault::Bodies(refusal))
     }
 }
 

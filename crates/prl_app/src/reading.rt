@@ -4,9 +4,9 @@ ghost use Rattle.std.specs.Prelude.{◌≡◌, ◌≤◌, Ok, IfOk, IfErr, lengt
 ghost use Rattle.prl_app.specs.Given.{IsContent, IsGiven, most_of};
 ghost use Rattle.prl_app.specs.code.Stops.{given_of, IsFileStop, IsStopOfFiles};
 
-use crate::arguments::Command;
 use crate::faults::{Fault, Part};
 use crate::stages::{Stage, Stop};
+use prl_arguments::Command;
 use prl_base::Label;
 use prl_io::{FileFault, Files};
 use std::alloc::Global;

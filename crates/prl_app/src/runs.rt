@@ -89,8 +89,7 @@ fn out_flows(alloc: Global, run: &Run, table: &FlowTable) -> Result<Vec<OutFlow>
 impl From<FlowFault> for Stop {
     ghost use Rattle.std.specs.Prelude.{◌≡◌};
     ghost use Rattle.prl_app.specs.declared.stages.Stage.TheVariants.{Values};
-    ghost use Rattle.prl_app.specs.Runs.{told_flow};
-    ghost use Rattle.prl_app.specs.code.Stops.{stop_of};
+    ghost use Rattle.prl_app.specs.code.Told.{stop_of, told_flow};
 
     ghost from_gives = { λ fault stop. stop ≡ stop_of Values (told_flow fault) };
 

@@ -5,12 +5,12 @@ ghost use Rattle.std.specs.String.{string_bytes};
 ghost use Rattle.prl_app.specs.Endings.{Answers};
 ghost use Rattle.prl_app.specs.code.Performed.{Performs, line_is};
 
-use crate::arguments::{ArgumentsFault, Command, read_arguments};
 use crate::endings::{Ending, status_of};
 use crate::laws::stages_end_one_way;
 use crate::lines::tell;
 use crate::pipeline::answer;
 use crate::stages::Stop;
+use prl_arguments::{ArgumentsFault, Command, read_arguments};
 use prl_io::{Files, Probe, Sink, write_all};
 use std::alloc::Global;
 use std::sync::Wait;

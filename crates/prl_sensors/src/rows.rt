@@ -1,6 +1,6 @@
 //! The rows of sensors.
 
-ghost use Rattle.std.specs.Prelude.{◌≡◌, ◌<◌, ℕ, List, IfOk, IfSome, OnOk, bytes_eq, decimal, length, map};
+ghost use Rattle.std.specs.Prelude.{◌≡◌, ◌<◌, ◌+◌, ◌/◌, ℕ, List, IfOk, IfSome, OnOk, bytes_eq, decimal, length, map, min};
 ghost use Rattle.std.specs.Option.{option_map};
 ghost use Rattle.std.specs.Vec.{vec_items};
 ghost use Rattle.csv.specs.Records.{fields_of};
@@ -36,8 +36,10 @@ fn table_of(alloc: Global, names: &[Name]) -> Result<Indices<'_>, AllocError>
     indices(alloc, mentions.as_slice())
 }
 
-/// How many rows an input may have at most in a text of this length, where it needs no more.
-fn room_for(name: &Name, need: u64, len: usize) -> usize {
+/// Room for the rows that an input needs, but for no more than a text of this length can hold.
+fn room_for(name: &Name, need: u64, len: usize) -> usize
+    ensures { result ≡ min need (len / (length name.now + LEAST_ROW) + 1) }
+{
     let most = len / (name.bytes().len() + LEAST_ROW) + 1;
     if need < most as u64 {
         need as usize

@@ -2,8 +2,8 @@
 use Rattle.std.specs.Prelude.{◌≡◌, ℕ, List, Option}
 use Rattle.prl_io.specs.Views.{FolderView, SinkView}
 use Rattle.prl_app.specs.declared.endings.Ending.{Ending}
-use Rattle.prl_app.specs.declared.arguments.Command.{Command}
-use Rattle.prl_app.specs.Arguments.{command_of}
+use Rattle.prl_arguments.specs.declared.arguments.Command.{Command}
+use Rattle.prl_arguments.specs.Arguments.{command_of}
 use Rattle.prl_app.specs.ErrorLines.{line_of}
 use Rattle.prl_app.specs.Endings.{Ends}
 

@@ -1,12 +1,12 @@
 -- What private functions say of stops.
-use Rattle.std.specs.Prelude.{◌≡◌, ◌++◌, ◌⊎◌, ℕ, List, [], ◌∷◌, Option, Some, None, IsSome, Ok, Err}
+use Rattle.std.specs.Prelude.{◌≡◌, ◌++◌, ◌⊎◌, ℕ, List, [], ◌∷◌, Option, Some, None, Ok, Err}
 use Rattle.prl_io.specs.Views.{FolderView}
 use Rattle.prl_app.specs.declared.reading.Texts.{Texts}
 use Rattle.prl_app.specs.declared.faults.Fault.{Fault}
 use Rattle.prl_app.specs.declared.stages.Stage.{Stage}
 use Rattle.prl_app.specs.declared.stages.Stop.{Stop}
 use Rattle.prl_app.specs.declared.stages.Stop.TheVariants as stops
-use Rattle.prl_app.specs.declared.arguments.Command.{Command}
+use Rattle.prl_arguments.specs.declared.arguments.Command.{Command}
 use Rattle.prl_app.specs.declared.faults.Part.{Part}
 use Rattle.prl_app.specs.declared.stages.Stage.TheVariants as stages
 use Rattle.prl_app.specs.Given.{Folder, Given, IsContent, IsGiven, file_of}
@@ -22,11 +22,6 @@ given_of c t = record {
   node = c.node;
   until = c.until;
 }
-
--- the stop that a fault of a stage is; None is want of memory
-abbrev pub stop_of : Stage → Option Fault → Stop
-stop_of stage None = stops.Memory
-stop_of stage (Some fault) = stops.Refused stage fault
 
 -- the stage refuses for such a cause, or memory ran out
 abbrev pub StopsBy : Stage → (Fault → Type 0) → Stop → Type 0

@@ -2,7 +2,7 @@ use Rattle.std.proofs.Common.{inl, inr}
 use Rattle.std.proofs.lemmas.Result.{err_from_is_err_and}
 use Rattle.prl_app.specs.declared.stages.Stage.TheVariants as stages
 use Rattle.prl_app.specs.Stages.{Holds, stages_after}
-use Rattle.prl_app.specs.declared.arguments.Mode.TheVariants as modes
+use Rattle.prl_arguments.specs.declared.arguments.Mode.TheVariants as modes
 use Rattle.prl_app.specs.code.Stops.{given_of, AllHold, StopsAt, StopsIn}
 use Rattle.prl_app.proofs.Stops.{ok_map, err_map}
 use Rattle.prl_app.proofs.pipeline.replayed_text.Goals as goal

@@ -1,10 +1,9 @@
-use Rattle.std.proofs.Common.{Ok, Err, map, inl, inr}
+use Rattle.std.proofs.Common.{Ok, map, inl, inr}
 use Rattle.std.proofs.lemmas.Result.{err_from_is_err_and}
 use Rattle.prl_ast.specs.Trees.{program_tree}
 use Rattle.prl_body.specs.Checks.{body_tree}
 use Rattle.prl_body.specs.Texts.{text_trees}
 use Rattle.prl_bodytext.specs.Parsing.{IsParsed}
-use Rattle.prl_app.specs.Parts.{AreBodies}
 use Rattle.prl_app.specs.code.Stops.{given_of}
 use Rattle.prl_app.proofs.Stops.{bodies_stop}
 use Rattle.prl_app.proofs.programs.read_bodies.Goals as goal

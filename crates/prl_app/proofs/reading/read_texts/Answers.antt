@@ -1,4 +1,4 @@
-use Rattle.std.proofs.Common.{◌≡◌, ◌+◌, Option, Ok, refl, ◌∙◌, sym, subst, List, ℕ, arith}
+use Rattle.std.proofs.Common.{Option, Ok, refl, ◌∙◌, subst}
 use Rattle.std.proofs.lemmas.Result.{err_from_is_err_and}
 use Rattle.prl_app.specs.declared.faults.Part.TheVariants as parts
 use Rattle.prl_app.specs.Given.{Folder, IsContent}

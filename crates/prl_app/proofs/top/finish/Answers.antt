@@ -1,4 +1,4 @@
-use Rattle.std.proofs.Common.{◌≡◌, Option, List, ℕ, map, subst}
+use Rattle.std.proofs.Common.{Option, List, ℕ, map, subst}
 use Rattle.std.specs.String.{string_bytes}
 use Rattle.prl_app.specs.Endings.{Outside, IsTold}
 use Rattle.prl_app.proofs.Exact.{exact_by}

@@ -1,11 +1,11 @@
-use Rattle.std.proofs.Common.{◌≡◌, ◌≢◌, ◌<◌, ◌-◌, ◌∙◌, ℕ, zero, suc, List, [], ◌∷◌, length, map, drop, take, get_or, Option, None, refl, sym, ap, arith, rules}
+use Rattle.std.proofs.Common.{◌≡◌, ◌≢◌, ◌<◌, ◌-◌, ◌∙◌, ℕ, zero, suc, List, [], ◌∷◌, length, map, drop, take, get_or, Option, refl, ap, arith}
 use Rattle.std.proofs.lemmas.List.{take_rest}
 use Rattle.std.specs.Option.{option_map}
 use Rattle.std.specs.String.{string_bytes}
 use Rattle.prl_base.specs.Options.{◌>>=◌}
-use Rattle.prl_app.specs.Arguments.{Values, first_option, with_options}
-use Rattle.prl_app.specs.code.Settings.{given_by}
-use Rattle.prl_app.proofs.arguments.+with_options.Goals as goal
+use Rattle.prl_arguments.specs.Arguments.{Values, first_option, with_options}
+use Rattle.prl_arguments.specs.code.Settings.{given_by}
+use Rattle.prl_arguments.proofs.arguments.+with_options.Goals as goal
 
 -- the options of words that begin with this one
 step : {A : Type 0} (f : A → List ℕ) (most : ℕ) (given : Values) (words : List A) (word : A) → 0 < length words → most ≢ 0 → word ≡ get_or words 0 word

@@ -2,11 +2,11 @@
 use Rattle.std.specs.Prelude.{ℕ, List, Option}
 use Rattle.std.specs.Option.{option_map}
 use denote.Ref.{Bor}
-use Rattle.prl_app.specs.Arguments.{Named, Values, command_with}
-use Rattle.prl_app.specs.declared.arguments.Setting.{Setting}
-use Rattle.prl_app.specs.declared.arguments.Command.{Command}
-use Rattle.prl_app.specs.declared.arguments.Given.{Given}
-use Rattle.prl_app.specs.declared.arguments.Wanted.{Wanted}
+use Rattle.prl_arguments.specs.Arguments.{Named, Values, command_with}
+use Rattle.prl_arguments.specs.declared.arguments.Setting.{Setting}
+use Rattle.prl_arguments.specs.declared.arguments.Command.{Command}
+use Rattle.prl_arguments.specs.declared.arguments.Given.{Given}
+use Rattle.prl_arguments.specs.declared.arguments.Wanted.{Wanted}
 
 abbrev pub bytes_of : Option (Bor (List ℕ)) → Option (List ℕ)
 bytes_of = option_map (λ bytes. bytes.now)

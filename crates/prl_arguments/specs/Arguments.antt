@@ -1,16 +1,15 @@
 -- The arguments of the command line.
-use Rattle.std.specs.Prelude.{◌==◌, ◌&&◌, ◌||◌, ℕ, zero, suc, Bool, true, false, not, List, [], ◌∷◌, ◌++◌, drop, length, take, Option, Some, None, is_some, nat_le, if◌then◌else◌, codes}
+use Rattle.std.specs.Prelude.{◌==◌, ◌&&◌, ◌||◌, ℕ, zero, suc, Bool, true, false, not, List, [], ◌∷◌, drop, length, take, Option, Some, None, is_some, nat_le, if◌then◌else◌, codes}
 use Rattle.std.specs.List.{list_all}
-use Rattle.std.specs.Option.{option_map}
 use Rattle.std.specs.Str.{bytes_eq}
 use Rattle.prl_base.specs.Decimals.{decimal_of}
 use Rattle.prl_base.specs.Options.{◌>>=◌}
-use Rattle.prl_app.specs.declared.arguments.TheConstants.{MAX_UNTIL}
-use Rattle.prl_app.specs.declared.arguments.Mode.{Mode}
-use Rattle.prl_app.specs.declared.arguments.Mode.TheVariants as modes
-use Rattle.prl_app.specs.declared.arguments.Setting.{Setting}
-use Rattle.prl_app.specs.declared.arguments.Setting.TheVariants as settings
-use Rattle.prl_app.specs.declared.arguments.Command.{Command}
+use Rattle.prl_arguments.specs.declared.arguments.TheConstants.{MAX_UNTIL}
+use Rattle.prl_arguments.specs.declared.arguments.Mode.{Mode}
+use Rattle.prl_arguments.specs.declared.arguments.Mode.TheVariants as modes
+use Rattle.prl_arguments.specs.declared.arguments.Setting.{Setting}
+use Rattle.prl_arguments.specs.declared.arguments.Setting.TheVariants as settings
+use Rattle.prl_arguments.specs.declared.arguments.Command.{Command}
 
 -- the mode of a name
 abbrev pub mode_named : List ℕ → Option Mode
@@ -47,14 +46,14 @@ abbrev pub all_settings : List Setting
 all_settings =
     settings.Program ∷ settings.Bodies ∷ settings.Sensors ∷ settings.Schedule ∷ settings.Node ∷ settings.Until ∷ []
 
--- how an option is written
-abbrev pub front_of : Setting → List ℕ
-front_of settings.Program = codes "--program"
-front_of settings.Bodies = codes "--bodies"
-front_of settings.Sensors = codes "--sensors"
-front_of settings.Schedule = codes "--schedule"
-front_of settings.Node = codes "--node"
-front_of settings.Until = codes "--until"
+-- the name of an option, which is written after `--`
+abbrev pub name_of : Setting → List ℕ
+name_of settings.Program = codes "program"
+name_of settings.Bodies = codes "bodies"
+name_of settings.Sensors = codes "sensors"
+name_of settings.Schedule = codes "schedule"
+name_of settings.Node = codes "node"
+name_of settings.Until = codes "until"
 
 -- what stands after the front, where the text begins with it
 abbrev pub after_front : List ℕ → List ℕ → Option (List ℕ)
@@ -71,7 +70,8 @@ Named = Setting × Option (List ℕ)
 
 abbrev pub named_by : Setting → List ℕ → Option Named
 named_by setting word = do
-  rest ← after_front (front_of setting) word
+  dashed ← after_front (codes "--") word
+  rest ← after_front (name_of setting) dashed
   value ← own_value rest
   Some (setting, value)
 

@@ -4,8 +4,8 @@ ghost use Rattle.std.specs.Prelude.{◌≡◌, ◌<◌, ◌≤◌, ◌^◌, map,
 ghost use Rattle.std.specs.List.{list_all};
 ghost use Rattle.std.specs.Option.{option_map};
 ghost use Rattle.std.specs.String.{string_bytes};
-ghost use Rattle.prl_app.specs.Arguments.{after_front, all_settings, command_of, command_of_mode, date_of, first_option, fits, front_of, is_value, may, mode_named, named_by, named_in, needs, nothing, number_up_to, own_value, value_from, value_of, with_option, with_options, with_value, with_words};
-ghost use Rattle.prl_app.specs.code.Settings.{bytes_of, given_by, named_as, wanted_command};
+ghost use Rattle.prl_arguments.specs.Arguments.{after_front, all_settings, command_of, command_of_mode, date_of, first_option, fits, is_value, may, mode_named, name_of, named_by, named_in, needs, nothing, number_up_to, own_value, value_from, value_of, with_option, with_options, with_value, with_words};
+ghost use Rattle.prl_arguments.specs.code.Settings.{bytes_of, given_by, named_as, wanted_command};
 
 use prl_base::{Label, decimal_of};
 use std::alloc::{AllocError, Global};
@@ -70,7 +70,7 @@ pub enum ArgumentsFault {
 
 impl From<AllocError> for ArgumentsFault {
     ghost use Rattle.std.specs.Prelude.{◌≡◌};
-    ghost use Rattle.prl_app.specs.declared.arguments.ArgumentsFault.TheVariants.{Memory};
+    ghost use Rattle.prl_arguments.specs.declared.arguments.ArgumentsFault.TheVariants.{Memory};
 
     ghost from_gives = { λ _ e. e ≡ Memory };
 
@@ -150,17 +150,17 @@ fn may(mode: Mode, setting: Setting) -> bool
     }
 }
 
-/// How an option is written.
-fn front_of(setting: Setting) -> &'static [u8]
-    ensures { result.now ≡ front_of setting }
+/// The name of an option, which is written after `--`.
+fn name_of<'a>(setting: Setting) -> &'a str
+    ensures { result.now ≡ name_of setting }
 {
     match setting {
-        Setting::Program => b"--program",
-        Setting::Bodies => b"--bodies",
-        Setting::Sensors => b"--sensors",
-        Setting::Schedule => b"--schedule",
-        Setting::Node => b"--node",
-        Setting::Until => b"--until",
+        Setting::Program => "program",
+        Setting::Bodies => "bodies",
+        Setting::Sensors => "sensors",
+        Setting::Schedule => "schedule",
+        Setting::Node => "node",
+        Setting::Until => "until",
     }
 }
 
@@ -191,7 +191,8 @@ fn own_value(rest: &[u8]) -> Option<Option<&[u8]>>
 fn named_by<'a>(setting: Setting, word: &'a [u8]) -> Option<Named<'a>>
     ensures { option_map named_as result ≡ named_by setting word.now }
 {
-    let rest = after_front(front_of(setting), word)?;
+    let dashed = after_front(b"--", word)?;
+    let rest = after_front(name_of(setting).as_bytes(), dashed)?;
     let value = own_value(rest)?;
     Some((setting, value))
 }
@@ -412,10 +413,10 @@ fn label_of(alloc: Global, name: Option<&[u8]>) -> Result<Option<Label>, AllocEr
     }
 }
 
-/// The command that the words of a command line ask for. The first word is the program's own name and is not read, and
-/// the second is the mode. Options follow in any order, each at most once, as `--NAME VALUE` in two words or as
-/// `--NAME=VALUE` in one: those that the mode needs, and any of those that it may have. A value is not empty and does not
-/// begin with `-`; a date has 1 to 20 digits and is at most `MAX_UNTIL`.
+/// The command that the words of a command line ask for. The first word is the program's own name, which is passed over, and
+/// the second is the mode. After it come the options, in whatever order and none twice: all that the mode needs, and any
+/// of those that it may have. The value of an option stands in the next word, or in its own word after `=`; it is not
+/// empty, and `-` is not its first byte. A date has 1 to 20 digits and is at most `MAX_UNTIL`.
 pub fn read_arguments(alloc: Global, words: &[String]) -> Result<Command, ArgumentsFault>
     ensures found { IfOk result (λ command. command_of (map string_bytes words.now) ≡ Some command) }
     ensures until { IfOk result (λ command. command.until < 2 ^ 31) }

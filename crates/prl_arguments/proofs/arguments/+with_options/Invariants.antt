@@ -1,4 +1,4 @@
-use Rattle.prl_app.proofs.arguments.+with_options.Given as goal
+use Rattle.prl_arguments.proofs.arguments.+with_options.Given as goal
 
 abbrev pub decreases-with_options : goal.decreases-with_options
 decreases-with_options l = l.most

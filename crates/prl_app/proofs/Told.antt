@@ -1,0 +1,76 @@
+-- Refusals and the faults of the crates below that they tell.
+use Rattle.std.proofs.Common.{◌≡◌, Some, None, refl, sym}
+use Rattle.prl_chains.specs.declared.chains.Chain.{Chain}
+use Rattle.prl_relays.specs.declared.relays.RelayFault.{RelayFault}
+use Rattle.prl_relays.specs.declared.relays.RelayFault.TheVariants as relays
+use Rattle.prl_app.specs.declared.faults.GrammarRefusal.{GrammarRefusal}
+use Rattle.prl_app.specs.declared.faults.GrammarRefusal.TheVariants as bad_grammar
+use Rattle.prl_app.specs.declared.faults.TypesRefusal.{TypesRefusal}
+use Rattle.prl_app.specs.declared.faults.TypesRefusal.TheVariants as bad_types
+use Rattle.prl_app.specs.declared.faults.BodiesRefusal.{BodiesRefusal}
+use Rattle.prl_app.specs.declared.faults.BodiesRefusal.TheVariants as bad_bodies
+use Rattle.prl_app.specs.declared.faults.SensorsRefusal.{SensorsRefusal}
+use Rattle.prl_app.specs.declared.faults.SensorsRefusal.TheVariants as bad_rows
+use Rattle.prl_app.specs.declared.faults.ScheduleRefusal.{ScheduleRefusal}
+use Rattle.prl_app.specs.declared.faults.ScheduleRefusal.TheVariants as bad_schedule
+use Rattle.prl_app.specs.declared.faults.Fault.{Fault}
+use Rattle.prl_app.specs.declared.faults.Fault.TheVariants as faults
+use Rattle.prl_app.specs.Parts.{grammar_fault, types_fault, bodies_fault}
+use Rattle.prl_app.specs.Built.{Tells, device_name, sensors_fault}
+use Rattle.prl_app.specs.code.Told.{told_parse, told_types, told_body, told_sensors, told_relay}
+
+-- the fault of a refusal is told as that refusal
+pub grammar_told : (r : GrammarRefusal) → told_parse (grammar_fault r) ≡ Some (faults.Grammar r)
+grammar_told (bad_grammar.BadToken at) = refl
+grammar_told (bad_grammar.Unexpected at) = refl
+grammar_told (bad_grammar.NumberRange at) = refl
+grammar_told (bad_grammar.Limit limit) = refl
+
+pub types_told : (r : TypesRefusal) → told_types (types_fault r) ≡ Some (faults.Types r)
+types_told (bad_types.Twice name) = refl
+types_told (bad_types.Unknown name) = refl
+types_told (bad_types.Undefined name) = refl
+types_told (bad_types.Recursive name) = refl
+types_told bad_types.NoMain = refl
+types_told (bad_types.Arity at) = refl
+types_told (bad_types.Mismatch at wanted found) = refl
+types_told (bad_types.TypeFree node name) = refl
+
+pub bodies_told : (r : BodiesRefusal) → told_body (bodies_fault r) ≡ Some (faults.Bodies r)
+bodies_told (bad_bodies.Syntax at) = refl
+bodies_told (bad_bodies.Limit limit) = refl
+bodies_told (bad_bodies.BodyName at) = refl
+bodies_told (bad_bodies.BodyType at) = refl
+bodies_told (bad_bodies.BodyArity at) = refl
+bodies_told (bad_bodies.Missing name) = refl
+
+pub sensors_told : (r : SensorsRefusal) → told_sensors (sensors_fault r) ≡ Some (faults.Sensors r)
+sensors_told (bad_rows.Row number) = refl
+sensors_told (bad_rows.NoSensor number) = refl
+sensors_told (bad_rows.Order number) = refl
+sensors_told (bad_rows.Value number) = refl
+sensors_told (bad_rows.Short name have need) = refl
+
+pub schedule_told : (c : Chain) (r : ScheduleRefusal) (cause : RelayFault) → Tells c r cause → told_relay c cause ≡ Some (faults.Schedule r)
+schedule_told c (bad_schedule.Syntax line) cause h = rw h refl
+schedule_told c (bad_schedule.Illegal line rule) cause h = rw h refl
+schedule_told c (bad_schedule.Unfinished name job) cause h = rw (h.1, h.2) refl
+
+the : {A : Type 0} (a b : A) → Some a ≡ Some b → a ≡ b
+the a b e = cc
+
+none_some : {A : Type 0} (a : A) → None ≡ Some a → ⊥
+none_some a e = cc
+
+-- a fault of a schedule that is told has a refusal
+pub schedule_refusal : (c : Chain) (cause : RelayFault) (fault : Fault) → told_relay c cause ≡ Some fault
+    → (r : ScheduleRefusal) × Tells c r cause × (fault ≡ faults.Schedule r)
+schedule_refusal c (relays.Syntax line) fault e = (bad_schedule.Syntax line, refl, sym (the (faults.Schedule (bad_schedule.Syntax line)) fault e))
+schedule_refusal c (relays.Illegal line rule) fault e =
+    (bad_schedule.Illegal line rule, refl, sym (the (faults.Schedule (bad_schedule.Illegal line rule)) fault e))
+schedule_refusal c (relays.Unfinished task job) fault e = (
+  bad_schedule.Unfinished (device_name c task.0) job,
+  (task, refl, refl),
+  sym (the (faults.Schedule (bad_schedule.Unfinished (device_name c task.0) job)) fault e),
+)
+schedule_refusal c relays.Memory fault e = absurd (none_some fault e)

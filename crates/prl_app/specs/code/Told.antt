@@ -1,0 +1,76 @@
+-- How private functions tell the faults of the crates below; None is want of memory.
+use Rattle.std.specs.Prelude.{Option, Some, None}
+use Rattle.prl_syntax.specs.declared.parsing.ParseFault.{ParseFault}
+use Rattle.prl_syntax.specs.declared.parsing.ParseFault.TheVariants as parsing
+use Rattle.prl_types.specs.declared.faults.TypeFault.{TypeFault}
+use Rattle.prl_types.specs.declared.faults.TypeFault.TheVariants as typing
+use Rattle.prl_body.specs.declared.faults.BodyFault.{BodyFault}
+use Rattle.prl_body.specs.declared.faults.BodyFault.TheVariants as body_faults
+use Rattle.prl_flow.specs.declared.evaluation.FlowFault.{FlowFault}
+use Rattle.prl_flow.specs.declared.evaluation.FlowFault.TheVariants as flows
+use Rattle.prl_chains.specs.declared.chains.Chain.{Chain}
+use Rattle.prl_relays.specs.declared.relays.RelayFault.{RelayFault}
+use Rattle.prl_relays.specs.declared.relays.RelayFault.TheVariants as relays
+use Rattle.prl_sensors.specs.declared.faults.SensorFault.{SensorFault}
+use Rattle.prl_sensors.specs.declared.faults.SensorFault.TheVariants as sensors
+use Rattle.prl_app.specs.declared.faults.GrammarRefusal.TheVariants as bad_grammar
+use Rattle.prl_app.specs.declared.faults.TypesRefusal.TheVariants as bad_types
+use Rattle.prl_app.specs.declared.faults.BodiesRefusal.TheVariants as bad_bodies
+use Rattle.prl_app.specs.declared.faults.SensorsRefusal.TheVariants as bad_rows
+use Rattle.prl_app.specs.declared.faults.ScheduleRefusal.TheVariants as bad_schedule
+use Rattle.prl_app.specs.declared.faults.Fault.{Fault}
+use Rattle.prl_app.specs.declared.faults.Fault.TheVariants as faults
+use Rattle.prl_app.specs.declared.stages.Stage.{Stage}
+use Rattle.prl_app.specs.declared.stages.Stop.{Stop}
+use Rattle.prl_app.specs.declared.stages.Stop.TheVariants as stops
+use Rattle.prl_app.specs.Built.{device_name}
+
+-- the stop that a fault of a stage is
+abbrev pub stop_of : Stage → Option Fault → Stop
+stop_of stage None = stops.Memory
+stop_of stage (Some fault) = stops.Refused stage fault
+
+abbrev pub told_parse : ParseFault → Option Fault
+told_parse (parsing.BadToken at) = Some (faults.Grammar (bad_grammar.BadToken at))
+told_parse (parsing.Unexpected at) = Some (faults.Grammar (bad_grammar.Unexpected at))
+told_parse (parsing.NumberRange at) = Some (faults.Grammar (bad_grammar.NumberRange at))
+told_parse (parsing.Limit limit) = Some (faults.Grammar (bad_grammar.Limit limit))
+told_parse parsing.Memory = None
+
+abbrev pub told_types : TypeFault → Option Fault
+told_types (typing.Twice name) = Some (faults.Types (bad_types.Twice name))
+told_types (typing.Unknown name) = Some (faults.Types (bad_types.Unknown name))
+told_types (typing.Undefined name) = Some (faults.Types (bad_types.Undefined name))
+told_types (typing.Recursive name) = Some (faults.Types (bad_types.Recursive name))
+told_types typing.NoMain = Some (faults.Types bad_types.NoMain)
+told_types (typing.Arity at) = Some (faults.Types (bad_types.Arity at))
+told_types (typing.Mismatch at wanted found) = Some (faults.Types (bad_types.Mismatch at wanted found))
+told_types (typing.TypeFree node name) = Some (faults.Types (bad_types.TypeFree node name))
+told_types typing.Memory = None
+
+abbrev pub told_body : BodyFault → Option Fault
+told_body (body_faults.Syntax at) = Some (faults.Bodies (bad_bodies.Syntax at))
+told_body (body_faults.Limit limit) = Some (faults.Bodies (bad_bodies.Limit limit))
+told_body (body_faults.BodyName at) = Some (faults.Bodies (bad_bodies.BodyName at))
+told_body (body_faults.BodyType at) = Some (faults.Bodies (bad_bodies.BodyType at))
+told_body (body_faults.BodyArity at) = Some (faults.Bodies (bad_bodies.BodyArity at))
+told_body (body_faults.Missing name) = Some (faults.Bodies (bad_bodies.Missing name))
+told_body body_faults.Memory = None
+
+abbrev pub told_sensors : SensorFault → Option Fault
+told_sensors (sensors.Row number) = Some (faults.Sensors (bad_rows.Row number))
+told_sensors (sensors.NoSensor number) = Some (faults.Sensors (bad_rows.NoSensor number))
+told_sensors (sensors.Order number) = Some (faults.Sensors (bad_rows.Order number))
+told_sensors (sensors.Value number) = Some (faults.Sensors (bad_rows.Value number))
+told_sensors (sensors.Short name have need) = Some (faults.Sensors (bad_rows.Short name have need))
+told_sensors sensors.Memory = None
+
+abbrev pub told_relay : Chain → RelayFault → Option Fault
+told_relay c (relays.Syntax line) = Some (faults.Schedule (bad_schedule.Syntax line))
+told_relay c (relays.Illegal line rule) = Some (faults.Schedule (bad_schedule.Illegal line rule))
+told_relay c (relays.Unfinished task job) = Some (faults.Schedule (bad_schedule.Unfinished (device_name c task.0) job))
+told_relay c relays.Memory = None
+
+abbrev pub told_flow : FlowFault → Option Fault
+told_flow (flows.Limit limit) = Some (faults.Limit limit)
+told_flow flows.Memory = None
