@@ -1,11 +1,11 @@
 -- How many arguments of applications are placed.
-use Rattle.std.proofs.Common.{◌≡◌, ◌<◌, ℕ, Bool, true, List, length, set, get_or, slice_get, Some, sym, ◌∙◌, ap, subst, ⊎_elim, get_or-set_same, get_or-set_other}
-use Rattle.std.proofs.lemmas.Option.{slice_get_within}
+use Rattle.std.proofs.Common.{◌≡◌, ◌<◌, ℕ, Bool, true, List, length, set, get_or, slice_get, Some, refl, sym, ◌∙◌, ap, subst, ⊎_elim, get_or-set_same, get_or-set_other}
+use Rattle.std.proofs.lemmas.Option.{slice_get_within, get_or_from_slice_get}
 use Rattle.prl_flow.specs.declared.programs.Arg.{Arg}
 use Rattle.prl_flow.specs.Programs.{FlatProgram}
 use Rattle.prl_flow.specs.Uses.{IsArgument}
-use Rattle.prl_causal.specs.Parts.{ArePlaced, AreSeen, IsMarked, LacksMark}
-use Rattle.prl_causal.specs.Sources.{AreArguments, IsAmong}
+use Rattle.prl_causal.specs.Parts.{ArePlaced, AreSeen, IsMarked, IsMissing, IsUnplaced}
+use Rattle.prl_causal.specs.Sources.{AreArguments}
 use Rattle.prl_causal.proofs.Lists.{equal_or_not, mark_kept}
 
 pub seen_here : (p : FlatProgram) (marks : List Bool) (seen : List ℕ) (k : ℕ) (args : List Arg) → AreSeen p marks seen → AreArguments p k args → ArePlaced args marks (get_or seen k 0)
@@ -38,11 +38,13 @@ all_arrived p marks k args of placed i a =
     let found = subst (λ l. slice_get l a.index ≡ Some a.arg) list a.found in
     subst (λ x. IsMarked marks x) a.is (placed a.index (slice_get_within args a.index a.arg found) a.arg found)
 
-pub one_lacks : (p : FlatProgram) (marks : List Bool) (k : ℕ) (args : List Arg) → AreArguments p k args → LacksMark (IsAmong args) marks → LacksMark (IsArgument p k) marks
-one_lacks p marks k args of lacks =
-    let a = lacks.named in
-    record {
-      used = lacks.used;
-      named = record { app = of.app; applied = of.found; index = a.index; arg = a.arg; found = subst (λ l. slice_get l a.index ≡ Some a.arg) (sym of.are) a.found; is = a.is };
-      unmarked = lacks.unmarked;
-    }
+pub one_missing : (p : FlatProgram) (marks : List Bool) (k n : ℕ) (d : Arg) (args : List Arg) → AreArguments p k args → n < length args → IsUnplaced args marks n
+    → IsMissing (IsArgument p k) marks (get_or args n d).flow
+one_missing p marks k n d args of below unplaced =
+    let arg = unplaced.arg in
+    let is : get_or args n d ≡ arg = get_or_from_slice_get args n arg d unplaced.found in
+    let missing : IsMissing (IsArgument p k) marks arg.flow = record {
+      named = record { app = of.app; applied = of.found; index = n; arg = arg; found = subst (λ l. slice_get l n ≡ Some arg) (sym of.are) unplaced.found; is = refl };
+      unmarked = unplaced.unmarked;
+    } in
+    subst (λ x. IsMissing (IsArgument p k) marks x.flow) (sym is) missing

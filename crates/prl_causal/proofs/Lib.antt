@@ -5,3 +5,4 @@ mod Ways
 mod Meanings
 mod Placing
 mod Searching
+mod Sorting

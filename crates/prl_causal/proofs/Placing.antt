@@ -9,10 +9,8 @@ use Rattle.prl_flow.specs.Uses.{Leads, once, then}
 use Rattle.prl_flow.specs.Programs.{FlatProgram}
 use Rattle.prl_causal.specs.declared.sources.Source.{Source}
 use Rattle.prl_causal.specs.Sources.{UsesBy, Names}
-use Rattle.prl_causal.specs.Parts.{IsMarked, IsPart, IsStuck, IsWhole, marked_count}
+use Rattle.prl_causal.specs.Parts.{IsMarked, IsPart, IsWhole, marked_count}
 use Rattle.prl_causal.proofs.Lists.{push_cases, push_keeps, mark_set, mark_kept, mark_cases, mark_counted, count_below, counted_true}
-use Rattle.prl_causal.specs.Ways.{HasWayBack}
-use Rattle.prl_causal.proofs.Ways.{cycle_of_set}
 
 pub one_more : (U : ℕ → ℕ → Type 0) (order : List FlowNo) (placed : List Bool) (i : ℕ) → IsPart U order placed → i < length placed → get_or placed i false ≡ false
     → ((j : ℕ) → U i j → IsMarked placed j) → IsPart U (order ++ record { 0 = i } ∷ []) (set placed i true)
@@ -79,7 +77,7 @@ all_marked marks i below full =
       | false ↦ λ e. absurd (let few = count_below marks i below e in omega arith)
     ] refl
 
-some_clear : (marks : List Bool) → (marked_count marks ≡ length marks → ⊥) → (i : ℕ) × (i < length marks) × (get_or marks i false ≡ false)
+pub some_clear : (marks : List Bool) → (marked_count marks ≡ length marks → ⊥) → (i : ℕ) × (i < length marks) × (get_or marks i false ≡ false)
 some_clear [] short = absurd (short refl)
 some_clear (false ∷ marks) short = (zero, omega arith, refl)
 some_clear (true ∷ marks) short =
@@ -94,15 +92,6 @@ whole_part U order placed part full = record {
   once = part.once;
   after = part.after;
 }
-
--- where none that is not placed can be, there is a cycle
-pub stuck_part : (U : ℕ → ℕ → Type 0) (order : List FlowNo) (placed : List Bool) → IsPart U order placed → (length order ≡ length placed → ⊥)
-    → ((i j : ℕ) → U i j → j < length placed) → ((i : ℕ) → i < length placed → get_or placed i false ≡ false → IsStuck U placed i) → HasWayBack U
-stuck_part U order placed part short within stuck =
-    let first = some_clear placed (λ full. short (sym part.count ∙ full)) in
-    cycle_of_set U (λ i. get_or placed i false ≡ false) (length placed)
-    (λ i clear below. (let s = stuck i below clear in (s.used, within i s.used s.uses, s.unmarked, s.uses)))
-    first.0 first.2 first.1
 
 -- what is listed at `i` says what `i` uses
 pub names_of_use : (p : FlatProgram) (all : List Source) (d : Source) (i j : ℕ) → UsesBy p all i j → Names p (get_or all i d) j

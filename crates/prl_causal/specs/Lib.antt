@@ -1,5 +1,6 @@
 pub mod Cycles
 pub mod Parts
 pub mod Searches
+pub mod Sorting
 pub mod Sources
 pub mod Ways

@@ -21,12 +21,6 @@ pub record IsPart (U : ℕ → ℕ → Type 0) (order : List FlowNo) (placed : L
   pub once : (j k : ℕ) (x : FlowNo) → slice_get order j ≡ Some x → slice_get order k ≡ Some x → j ≡ k
   pub after : (k : ℕ) (x : FlowNo) (y : ℕ) → slice_get order k ≡ Some x → U x.0 y → (j : ℕ) × (j < k) × (slice_get order j ≡ Some (record { 0 = y }))
 
--- a flow without its mark that uses another without its mark
-pub record IsStuck (U : ℕ → ℕ → Type 0) (placed : List Bool) (i : ℕ) : Type 0 where
-  pub used : ℕ
-  pub uses : U i used
-  pub unmarked : slice_index_or placed used false ≡ false
-
 -- each flow below this number, once, after those that it uses
 pub record IsWhole (U : ℕ → ℕ → Type 0) (n : ℕ) (order : List FlowNo) : Type 0 where
   pub count : length order ≡ n
@@ -34,11 +28,16 @@ pub record IsWhole (U : ℕ → ℕ → Type 0) (n : ℕ) (order : List FlowNo) 
   pub once : (j k : ℕ) (x : FlowNo) → slice_get order j ≡ Some x → slice_get order k ≡ Some x → j ≡ k
   pub after : (k : ℕ) (x : FlowNo) (y : ℕ) → slice_get order k ≡ Some x → U x.0 y → (j : ℕ) × (j < k) × (slice_get order j ≡ Some (record { 0 = y }))
 
--- one of these is without its mark
-pub record LacksMark (Named : ℕ → Type 0) (marks : List Bool) : Type 0 where
-  pub used : ℕ
-  pub named : Named used
-  pub unmarked : slice_index_or marks used false ≡ false
+-- this flow is one of these, and without its mark
+pub record IsMissing (Named : ℕ → Type 0) (marks : List Bool) (flow : FlowNo) : Type 0 where
+  pub named : Named flow.0
+  pub unmarked : slice_index_or marks flow.0 false ≡ false
+
+-- the argument of this index is without its mark
+pub record IsUnplaced (args : List Arg) (marks : List Bool) (n : ℕ) : Type 0 where
+  pub arg : Arg
+  pub found : slice_get args n ≡ Some arg
+  pub unmarked : slice_index_or marks arg.flow.0 false ≡ false
 
 -- the first `n` of the arguments have their marks
 abbrev pub ArePlaced : List Arg → List Bool → ℕ → Type 0

@@ -1,9 +1,14 @@
 //! Orders of flows, each after those that it uses.
+//!
+//! A flow is placed after what it uses: while something that it uses is not placed, that is looked at first. What is looked
+//! at stands on a stack, each flow used by the one below it, so a flow that is met there again is on a cycle. Each flow is
+//! opened once and each argument of an application found placed once.
 
-ghost use Rattle.std.specs.Prelude.{◌≡◌, ◌≢◌, ◌<◌, ℕ, IfOk, MatchOption, false, length, slice_index_or, true};
+ghost use Rattle.std.specs.Prelude.{◌≡◌, ◌≢◌, ◌<◌, ◌++◌, ◌∷◌, [], ℕ, IfOk, MatchOption, false, length, slice_index_or, true};
 ghost use Rattle.prl_flow.specs.Uses.{IsArgument};
-ghost use Rattle.prl_causal.specs.Parts.{ArePlaced, AreSeen, IsMarked, IsPart, IsStuck, IsWhole, LacksMark};
-ghost use Rattle.prl_causal.specs.Sources.{AreSources, AreWithin, IsAmong, IsSource, Names, UsesBy};
+ghost use Rattle.prl_causal.specs.Parts.{ArePlaced, AreSeen, IsMarked, IsMissing, IsUnplaced, IsWhole};
+ghost use Rattle.prl_causal.specs.Sorting.{IsSorted, left};
+ghost use Rattle.prl_causal.specs.Sources.{AreSources, AreWithin, IsSource, Names, UsesBy};
 ghost use Rattle.prl_causal.specs.Ways.{HasWayBack};
 
 use crate::sources::{Source, arguments};
@@ -16,7 +21,7 @@ fn placed_count(args: &[Arg], placed: &[bool], seen: usize) -> usize
     requires within { AreWithin args.now (length placed.now) }
     requires seen { ArePlaced args.now placed.now seen }
     ensures placed { ArePlaced args.now placed.now result }
-    ensures next { result ≢ length args.now → LacksMark (IsAmong args.now) placed.now }
+    ensures next { result ≢ length args.now → IsUnplaced args.now placed.now result }
 {
     for i in seen..args.len() {
         if !placed[args[i].flow.0 as usize] {
@@ -26,108 +31,117 @@ fn placed_count(args: &[Arg], placed: &[bool], seen: usize) -> usize
     args.len()
 }
 
-/// Whether the arguments of the application are all placed. It looks at each but once: `seen` has the number of
-/// those that were found placed, for each application.
-fn have_arrived(flat: &Flat, app: u32, placed: &[bool], seen: &mut [usize]) -> bool
+/// The first argument of the application that is not placed. It looks at each that is placed but once: `seen` has the
+/// number of those that were found placed, for each application.
+fn missing_argument(flat: &Flat, app: u32, placed: &[bool], seen: &mut [usize]) -> Option<FlowNo>
     requires len { length placed.now ≡ length flat.now.flows }
     requires within { app < length flat.now.apps }
     requires apps { length seen.old ≡ length flat.now.apps }
     requires seen { AreSeen flat.now placed.now seen.old }
     ensures seen { AreSeen flat.now placed.now seen.new }
-    ensures ready { result ≡ true → (i : ℕ) → IsArgument flat.now app i → IsMarked placed.now i }
-    ensures stuck { result ≡ false → LacksMark (IsArgument flat.now app) placed.now }
+    ensures missing { MatchOption result ((i : ℕ) → IsArgument flat.now app i → IsMarked placed.now i) (IsMissing (IsArgument flat.now app) placed.now) }
 {
     let args = arguments(flat, app);
     let count = placed_count(args, placed, seen[app as usize]);
     seen[app as usize] = count;
-    count == args.len()
+    if count < args.len() {
+        Some(args[count].flow)
+    } else {
+        None
+    }
 }
 
-/// Whether all that a flow uses is placed.
-fn is_ready(flat: &Flat, source: &Source, placed: &[bool], seen: &mut [usize]) -> bool
+/// A flow that is used and not placed.
+fn missing(flat: &Flat, source: &Source, placed: &[bool], seen: &mut [usize]) -> Option<FlowNo>
     requires len { length placed.now ≡ length flat.now.flows }
     requires there { IsSource flat.now source.now }
     requires apps { length seen.old ≡ length flat.now.apps }
     requires seen { AreSeen flat.now placed.now seen.old }
     ensures seen { AreSeen flat.now placed.now seen.new }
-    ensures ready { result ≡ true → (i : ℕ) → Names flat.now source.now i → IsMarked placed.now i }
-    ensures stuck { result ≡ false → LacksMark (Names flat.now source.now) placed.now }
+    ensures missing { MatchOption result ((i : ℕ) → Names flat.now source.now i → IsMarked placed.now i) (IsMissing (Names flat.now source.now) placed.now) }
 {
     match source {
-        Source::Nothing => true,
-        Source::Flow(of) => placed[of.0 as usize],
-        Source::Arguments(app) => have_arrived(flat, *app, placed, seen),
+        Source::Nothing => None,
+        Source::Flow(of) => {
+            if placed[of.0 as usize] {
+                None
+            } else {
+                Some(*of)
+            }
+        }
+        Source::Arguments(app) => missing_argument(flat, *app, placed, seen),
     }
 }
 
-/// Places flow `i` if it is not placed and all that it uses is; whether it was placed now.
-fn place(
+/// Looks at a flow that was on top of the stack: places it if all that it uses is placed, else lays it back with a flow
+/// that it uses. False where that flow is on the stack.
+fn step(
     flat: &Flat,
     sources: &[Source],
-    i: usize,
+    top: u32,
     order: &mut Vec<FlowNo>,
+    stack: &mut Vec<u32>,
     placed: &mut [bool],
+    opened: &mut [bool],
     seen: &mut [usize],
 ) -> Result<bool, AllocError>
     requires sources { AreSources flat.now sources.now }
-    requires within { i < length sources.now }
-    requires len { length placed.old ≡ length sources.now }
-    requires part { IsPart (UsesBy flat.now sources.now) order.old.items placed.old }
-    requires apps { length seen.old ≡ length flat.now.apps }
-    requires seen { AreSeen flat.now placed.old seen.old }
-    ensures seen { IfOk result (λ more. AreSeen flat.now placed.new seen.new) }
-    ensures part { IfOk result (λ more. IsPart (UsesBy flat.now sources.now) order.new.items placed.new) }
-    ensures more { IfOk result (λ more. more ≡ true → length order.old.items < length order.new.items) }
-    ensures same { IfOk result (λ more. more ≡ false → (order.new.items ≡ order.old.items) × (placed.new ≡ placed.old)) }
-    ensures stuck { IfOk result (λ more. more ≡ false → slice_index_or placed.old i false ≡ false → IsStuck (UsesBy flat.now sources.now) placed.old i) }
+    requires sorted { IsSorted flat.now sources.now order.old.items placed.old opened.old seen.old (stack.old.items ++ top ∷ []) }
+    ensures sorted { IfOk result (λ on. on ≡ true → IsSorted flat.now sources.now order.new.items placed.new opened.new seen.new stack.new.items) }
+    ensures less { IfOk result (λ on. on ≡ true → left (length sources.now) opened.new order.new.items stack.new.items < left (length sources.now) opened.old order.old.items (stack.old.items ++ top ∷ [])) }
+    ensures kept { IfOk result (λ on. on ≡ true → (i : ℕ) → IsMarked opened.old i → IsMarked opened.new i) }
+    ensures back { IfOk result (λ on. on ≡ false → HasWayBack (UsesBy flat.now sources.now)) }
 {
-    if placed[i] {
-        return Ok(false);
+    if placed[top as usize] {
+        return Ok(true);
     }
-    if !is_ready(flat, &sources[i], placed, seen) {
-        return Ok(false);
+    match missing(flat, &sources[top as usize], placed, seen) {
+        Some(used) => {
+            if opened[used.0 as usize] {
+                return Ok(false);
+            }
+            opened[used.0 as usize] = true;
+            stack.push(top)?;
+            stack.push(used.0)?;
+        }
+        None => {
+            order.push(FlowNo(top))?;
+            placed[top as usize] = true;
+        }
     }
-    order.push(FlowNo(i as u32))?;
-    placed[i] = true;
     Ok(true)
 }
 
-/// Places each flow in turn where that can be; whether some was placed.
-fn pass(
+/// Places the flow and all that uses lead to from it. False where there is a cycle.
+fn visit(
+    alloc: Global,
     flat: &Flat,
     sources: &[Source],
+    from: u32,
     order: &mut Vec<FlowNo>,
     placed: &mut [bool],
+    opened: &mut [bool],
     seen: &mut [usize],
 ) -> Result<bool, AllocError>
     requires sources { AreSources flat.now sources.now }
-    requires len { length placed.old ≡ length sources.now }
-    requires part { IsPart (UsesBy flat.now sources.now) order.old.items placed.old }
-    requires apps { length seen.old ≡ length flat.now.apps }
-    requires seen { AreSeen flat.now placed.old seen.old }
-    ensures seen { IfOk result (λ more. AreSeen flat.now placed.new seen.new) }
-    ensures part { IfOk result (λ more. IsPart (UsesBy flat.now sources.now) order.new.items placed.new) }
-    ensures more { IfOk result (λ more. more ≡ true → length order.old.items < length order.new.items) }
-    ensures stuck { IfOk result (λ more. more ≡ false → (i : ℕ) → i < length placed.new → slice_index_or placed.new i false ≡ false → IsStuck (UsesBy flat.now sources.now) placed.new i) }
+    requires within { from < length sources.now }
+    requires sorted { IsSorted flat.now sources.now order.old.items placed.old opened.old seen.old [] }
+    ensures sorted { IfOk result (λ on. on ≡ true → IsSorted flat.now sources.now order.new.items placed.new opened.new seen.new []) }
+    ensures opened { IfOk result (λ on. on ≡ true → IsMarked opened.new from) }
+    ensures kept { IfOk result (λ on. on ≡ true → (i : ℕ) → IsMarked opened.old i → IsMarked opened.new i) }
+    ensures back { IfOk result (λ on. on ≡ false → HasWayBack (UsesBy flat.now sources.now)) }
 {
-    let mut more = false;
-    for i in 0..sources.len() {
-        if place(flat, sources, i, order, placed, seen)? {
-            more = true;
+    if opened[from as usize] {
+        return Ok(true);
+    }
+    opened[from as usize] = true;
+    let mut stack = vec![in alloc; from]?;
+    while let Some(top) = stack.pop() {
+        if !step(flat, sources, top, order, &mut stack, placed, opened, seen)? {
+            return Ok(false);
         }
     }
-    Ok(more)
-}
-
-/// The list if it has this many items.
-fn if_whole(order: Vec<FlowNo>, count: usize) -> Option<Vec<FlowNo>>
-    ensures { MatchOption result (length order.items ≢ count) (λ whole. (whole.items ≡ order.items) × (length order.items ≡ count)) }
-{
-    if order.len() == count {
-        Some(order)
-    } else {
-        None
-    }
+    Ok(true)
 }
 
 /// The flows, each after those that it uses, where there is such an order.
@@ -140,17 +154,25 @@ pub fn order(
     ensures { IfOk result (λ found. MatchOption found (HasWayBack (UsesBy flat.now sources.now)) (λ order. IsWhole (UsesBy flat.now sources.now) (length sources.now) order.items)) }
 {
     let mut order = Vec::new(alloc);
-    let mut placed = vec![in alloc; false; sources.len()]?;
-    let mut seen = vec![in alloc; 0; flat.apps().len()]?;
-    loop {
-        if !pass(
+    let mut placed_marks = vec![in alloc; false; sources.len()]?;
+    let mut opened_marks = vec![in alloc; false; sources.len()]?;
+    let mut seen_counts = vec![in alloc; 0; flat.apps().len()]?;
+    let placed = placed_marks.as_mut_slice();
+    let opened = opened_marks.as_mut_slice();
+    let seen = seen_counts.as_mut_slice();
+    for from in 0..sources.len() {
+        if !visit(
+            alloc,
             flat,
             sources,
+            from as u32,
             &mut order,
-            placed.as_mut_slice(),
-            seen.as_mut_slice(),
+            placed,
+            opened,
+            seen,
         )? {
-            return Ok(if_whole(order, sources.len()));
+            return Ok(None);
         }
     }
+    Ok(Some(order))
 }
