@@ -3,6 +3,7 @@
 //! `prl_base` alone.
 #![tactic(auto)]
 
+mod dates;
 mod deadlines;
 mod events;
 mod facts;
@@ -19,6 +20,7 @@ mod turns;
 mod walks;
 mod words;
 
+pub use dates::Dates;
 pub use deadlines::{
     Interval, count_of, deadline_after, following_jobs, rounds_reach_the_greatest_deadlines,
 };
