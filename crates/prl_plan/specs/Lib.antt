@@ -13,6 +13,7 @@ pub mod Words
 -- plans, and what their jobs do
 pub mod Plans
 pub mod DateLists
+pub mod CellLists
 pub mod JobTables
 -- states of an executive, events and their rules
 pub mod Runs
