@@ -31,7 +31,7 @@ module _ (graph : TaskGraph) (good : IsWellFormed graph) (edge : Edge) (is : IsE
   abbrev R : ℕ → Type 0
   R = IsAskedFrom edge.ops (first_instance edge.ops)
 
-  inside_from : i < length graph.tasks
+  pub inside_from : i < length graph.tasks
   inside_from = source_inside graph edge is edge.from refl i comes
 
   period_is : edge.period ≡ (task_at graph i).clock.period
@@ -85,7 +85,7 @@ module _ (graph : TaskGraph) (good : IsWellFormed graph) (edge : Edge) (is : IsE
       let y = often q n in
       ap (λ (z : ℤ). preceding edge.ops z) e ∙ (omega (arith, ints, b, x, y))
 
-  here : IsAskedFrom edge.ops (first_instance edge.ops) 0
+  pub here : IsAskedFrom edge.ops (first_instance edge.ops) 0
   here = (pos (first_reader edge.ops), (let e = first_precedes edge.ty edge.ops is.operators in omega (arith, ints, e)))
 
   pub again : (x : ℕ) → IsAskedFrom edge.ops (first_instance edge.ops) x ↔ IsAskedFrom edge.ops (first_instance edge.ops) (x + span_of graph edge)
@@ -125,7 +125,7 @@ module _ (graph : TaskGraph) (good : IsWellFormed graph) (edge : Edge) (is : IsE
           (at.0, (let a = used_offset at.0 in let o = at.1 in omega (arith, a, o, e))));
     }
 
-    used_shift : (k q : ℕ) → used_at used (k + q * length gaps) ≡ used_at used k + q * span_of graph edge
+    pub used_shift : (k q : ℕ) → used_at used (k + q * length gaps) ≡ used_at used k + q * span_of graph edge
     used_shift k q =
         let s = offset_shift (IsAskedFrom edge.ops (first_instance edge.ops)) (span_of graph edge) gaps some_span here again lists k q in
         let a = used_offset k in

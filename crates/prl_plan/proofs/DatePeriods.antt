@@ -15,10 +15,10 @@ use Rattle.prl_plan.proofs.RoundPeriods.{task_is, edge_precedes, release_shift}
 
 module _ (graph : TaskGraph) (good : IsWellFormed graph) where
   -- how many jobs a task has in a hyperperiod
-  abbrev jobs_of : ℕ → ℕ
+  abbrev pub jobs_of : ℕ → ℕ
   jobs_of i = graph.hyper / (task_at graph i).clock.period
 
-  jobs_are : (i : ℕ) → i < length graph.tasks → graph.hyper ≡ jobs_of i * (task_at graph i).clock.period
+  pub jobs_are : (i : ℕ) → i < length graph.tasks → graph.hyper ≡ jobs_of i * (task_at graph i).clock.period
   jobs_are i inside =
       let is = task_is graph good i inside in
       let times : graph.hyper / (task_at graph i).clock.period ≡ is.divides.0 =

@@ -6,6 +6,15 @@ pub mod ReadOrder
 pub mod ShortestRepeats
 pub mod StateLaws
 pub mod TwoTasks
+pub mod WalkLaws
+pub mod UsedLaws
+pub mod RoundPeriods
+pub mod ReaderLaws
+pub mod GapLaws
+pub mod CellPeriods
+pub mod DatePeriods
+pub mod RepeatLaws
+pub mod DatesRise
 -- For this crate alone.
 mod Halves
 mod Ports
@@ -23,17 +32,11 @@ mod Floors
 mod IntervalLaws
 mod DeadlineLaws
 mod DeadlineSteps
-mod WalkLaws
-mod UsedLaws
 mod ActionPlaces
 mod PlanFacts
 mod ReadPlaces
 mod Periods
-mod RoundPeriods
 mod JobTableLaws
-mod ReaderLaws
-mod GapLaws
-mod CellPeriods
 mod LastTags
 mod Progress
 mod Decided
@@ -44,12 +47,10 @@ mod WorkedGraphs
 mod WorkedPlan
 mod TableMade
 mod WalkNumbers
-mod DatePeriods
 mod NotLater
 mod Bests
 mod PlanNumbers
 mod DateOrder
-mod RepeatLaws
 mod OnePlan
 mod WordPeriods
 mod SmallHorizons

@@ -12,6 +12,8 @@ pub mod FirstReaders
 pub mod Words
 -- plans, and what their jobs do
 pub mod Plans
+pub mod DateLists
+pub mod CellLists
 pub mod JobTables
 -- states of an executive, events and their rules
 pub mod Runs

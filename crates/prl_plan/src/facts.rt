@@ -175,6 +175,14 @@ pub fn encoded_dates_repeat()
     ensures deadlines { (graph : TaskGraph) → IsWellFormed graph → (date : Family) → AreGreatestDeadlines graph date → RepeatsByHyper graph date }
 {}
 
+/// A later job of a task has no earlier encoded date, over all whole numbers.
+pub fn encoded_dates_rise()
+    ensures releases { (graph : TaskGraph) → IsWellFormed graph → (windows : List (List Window)) → AreEncodedDates graph windows →
+        (i : ℕ) (a b : ℤ) → i < length graph.tasks → a ≤ℤ b → encoded_release graph windows i a ≤ℤ encoded_release graph windows i b }
+    ensures deadlines { (graph : TaskGraph) → IsWellFormed graph → (windows : List (List Window)) → AreEncodedDates graph windows →
+        (i : ℕ) (a b : ℤ) → i < length graph.tasks → a ≤ℤ b → encoded_deadline graph windows i a ≤ℤ encoded_deadline graph windows i b }
+{}
+
 /// Over all whole numbers: each job has room for its WCET between its encoded dates; along a precedence both dates leave room
 /// for the WCETs; and the next job of a task is not released, by its encoded date, before the job is due by its own.
 pub fn encoded_dates_keep_order()

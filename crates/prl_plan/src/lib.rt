@@ -3,6 +3,8 @@
 //! `prl_base` alone.
 #![tactic(auto)]
 
+mod cell_lists;
+mod dates;
 mod deadlines;
 mod events;
 mod facts;
@@ -19,13 +21,15 @@ mod turns;
 mod walks;
 mod words;
 
+pub use cell_lists::Cells;
+pub use dates::Dates;
 pub use deadlines::{
     Interval, count_of, deadline_after, following_jobs, rounds_reach_the_greatest_deadlines,
 };
 pub use events::{Action, Event, Rule, SlotNo};
 pub use facts::{
     actions_are_as_defined, constants_are_of_their_type, encoded_dates_keep_order,
-    encoded_dates_repeat, horizon_jobs_are_counted, hyperperiod_shows_all_jobs,
+    encoded_dates_repeat, encoded_dates_rise, horizon_jobs_are_counted, hyperperiod_shows_all_jobs,
     operands_are_of_horizon_jobs, operands_precede, operands_stand_earlier, plan_facts,
     plan_has_one_job_table, plan_is_one, plan_is_unique, plan_links_devices, plans_keep_facts,
     precedence_is_not_later, precedence_repeats_and_rises, room_leaves_no_narrow_chain,

@@ -1,0 +1,6 @@
+mod TurnSteps
+mod Rises
+mod Cuts
+mod EdgeNumbers
+mod EdgeCells
+mod TableSteps

@@ -1,0 +1,2 @@
+pub mod CellFaults
+pub mod code
