@@ -90,13 +90,6 @@ all_led p k rows below len are =
     let start : 0 + k ≡ k = omega arith in
     led_rows p k 0 (row_of rows k) rows below (subst (λ i. IsRow p k i (row_of rows k)) start (row_at p k 0 k rows are within)) are
 
-pub or_step : (marks row others : List Bool) (k : ℕ) (a b : Bool) → k < length row → k < length others → a ≡ get_or row k a → b ≡ get_or others k b →
-    (marks ++ (a || b) ∷ []) ++ or_marks (drop (k + 1) row) (drop (k + 1) others) ≡ marks ++ or_marks (drop k row) (drop k others)
-or_step marks row others k a b below within here there =
-    let first : drop k row ≡ a ∷ drop (k + 1) row = rw (add-one, drop-cons row k a below, ← here) refl in
-    let second : drop k others ≡ b ∷ drop (k + 1) others = rw (add-one, drop-cons others k b within, ← there) refl in
-    rw (first, second) (append_assoc marks ((a || b) ∷ []) (or_marks (drop (k + 1) row) (drop (k + 1) others)))
-
 pub rows_square : (p : ProgramTree) (k by i : ℕ) (rows : List (List Bool)) (d : List Bool) → AreRows p k by rows → i < length rows → length (get_or rows i d) ≡ length p.nodes
 rows_square p k by i [] d are below = absurd (omega arith)
 rows_square p k by zero (r ∷ rows) d are below = are.0.all

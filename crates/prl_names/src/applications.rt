@@ -92,33 +92,28 @@ fn either(a: bool, b: bool) -> bool
     a || b
 }
 
-/// The marks of both rows.
-fn or_marks(alloc: Global, row: &[bool], others: &[bool]) -> Result<Vec<bool>, AllocError>
-    requires { length row.now ≡ length others.now }
-    ensures { IfOk result (λ marks. marks.items ≡ or_marks row.now others.now) }
+/// The marks of both rows. Takes no memory.
+fn or_marks(row: Seq<bool>, others: &[bool]) -> Seq<bool>
+    requires { length row ≡ length others.now }
+    ensures { result ≡ or_marks row others.now }
 {
-    let mut marks = Vec::new(alloc);
-    for (k, mark) in row.iter().enumerate() {
-        marks.push(either(*mark, others[k]))?;
+    let mut marks = row.into_vec();
+    for k in 0..marks.len() {
+        marks[k] = either(marks[k], others[k]);
     }
-    Ok(marks)
+    Seq::new(marks)
 }
 
-/// The row with the marks of the other if it has the mark `k`.
-fn led_through(
-    alloc: Global,
-    k: usize,
-    others: &[bool],
-    row: &[bool],
-) -> Result<Vec<bool>, AllocError>
-    requires same { length row.now ≡ length others.now }
-    requires within { k < length row.now }
-    ensures { IfOk result (λ marks. marks.items ≡ led_through k others.now row.now) }
+/// The row with the marks of the other if it has the mark `k`. Takes no memory.
+fn led_through(k: usize, others: &[bool], row: Seq<bool>) -> Seq<bool>
+    requires same { length row ≡ length others.now }
+    requires within { k < length row }
+    ensures { result ≡ led_through k others.now row }
 {
-    if row[k] {
-        or_marks(alloc, row, others)
+    if row.as_slice()[k] {
+        or_marks(row, others)
     } else {
-        Vec::from_slice(alloc, row)
+        row
     }
 }
 
@@ -126,17 +121,16 @@ fn led_through(
 fn all_led_through(
     alloc: Global,
     k: usize,
-    rows: &[Seq<bool>],
+    rows: Vec<Seq<bool>>,
 ) -> Result<Vec<Seq<bool>>, AllocError>
-    requires within { k < length rows.now }
-    requires square { All (λ row. length row ≡ length rows.now) rows.now }
-    ensures { IfOk result (λ led. led.items ≡ all_led_through k rows.now) }
+    requires within { k < length rows.items }
+    requires square { All (λ row. length row ≡ length rows.items) rows.items }
+    ensures { IfOk result (λ led. led.items ≡ all_led_through k rows.items) }
 {
-    let others = rows[k].as_slice();
-    let mut led = Vec::new(alloc);
+    let others = Vec::from_slice(alloc, rows[k].as_slice())?;
+    let mut led = Vec::with_capacity(alloc, rows.len())?;
     for row in rows {
-        let row = led_through(alloc, k, others, row.as_slice())?;
-        led.push(Seq::new(row))?;
+        led.push(led_through(k, &others, row))?;
     }
     Ok(led)
 }
@@ -148,7 +142,7 @@ pub fn closed_rows(alloc: Global, names: &Names<'_>) -> Result<Vec<Seq<bool>>, A
 {
     let mut rows = rows(alloc, names)?;
     for k in 0..names.program().nodes.len() {
-        rows = all_led_through(alloc, k, rows.as_slice())?;
+        rows = all_led_through(alloc, k, rows)?;
     }
     Ok(rows)
 }

@@ -9,7 +9,6 @@ pub all_led_through-requires-clause-square : goal.all_led_through-requires-claus
 all_led_through-requires-clause-square c =
     let p = program_tree c.args.names.now in
     let count = length-map c.args.names.now.nodes node_tree in
-    rw c.as_slice.ensures.value
     (λ i d below. rows_square p c.loop-k.k 0 i c.loop-k.rows.items d c.loop-k.invariant.rows below ∙ count ∙ sym c.loop-k.invariant.len)
 
 pub loop-k-preserved : goal.loop-k-preserved
@@ -19,7 +18,7 @@ loop-k-preserved c =
     let rows = c.loop-k.rows.items in
     let count = length-map c.args.names.now.nodes node_tree in
     let below : k < length p.nodes = rw count (rw (c.len-k-end.ensures, c.program.ensures) at c.loop-k-test.true) in
-    let led = rw c.as_slice.ensures.value at c.in_ok-rows-2.ensures in
+    let led = c.in_ok-rows-2.ensures in
     record {
       rows = rw (led, add-one) (all_led p k rows below (c.loop-k.invariant.len ∙ sym count) c.loop-k.invariant.rows);
       len = rw led (length-map rows (led_through k (row_of rows k)) ∙ c.loop-k.invariant.len);
