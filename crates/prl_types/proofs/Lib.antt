@@ -6,6 +6,7 @@ pub mod Ending
 pub mod Declared
 pub mod Counting
 pub mod RuleStates
+pub mod Signed
 pub mod Opening
 pub mod Outcomes
 pub mod Existence

@@ -10,3 +10,4 @@ pub mod Typing
 pub mod Typings
 pub mod MetViews
 pub mod States
+pub mod Signatures

@@ -136,7 +136,12 @@ impl Met {
         requires { FitRules self.count self.rules }
         ensures { MatchResult result (λ types. AreTypes self.rules self.count types.items) (Explains self.rules self.count) }
     {
-        let Met { alloc, marks, state, .. } = self;
+        let Met {
+            alloc,
+            marks,
+            state,
+            ..
+        } = self;
         match state {
             State::Open => marks.types(alloc),
             State::Refused { at, wanted, found } => Err(Unsolved::Mismatch { at, wanted, found }),

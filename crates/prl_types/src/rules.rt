@@ -10,6 +10,7 @@ ghost use Rattle.prl_types.specs.Rules.{declared_rules, constant_rule, constant_
 
 use crate::contexts::{Context, Parameter};
 use crate::progress::Met;
+use crate::signatures::Signatures;
 use crate::terms::{Flow, Rule, Term};
 use prl_ast::{Base, Equation, Expr, Placed, PlacedOp};
 use prl_base::{Op, Ty};
@@ -121,7 +122,7 @@ fn terms(alloc: Global, flows: &[Flow]) -> Result<Vec<Term>, AllocError>
 #[cycle(rules)]
 fn expression(
     alloc: Global,
-    context: &Context<'_, '_>,
+    context: &Signatures<'_, '_, '_>,
     node: usize,
     expr: &Expr,
     rules: &mut Met,
@@ -139,7 +140,7 @@ fn expression(
 #[cycle(rules)]
 fn base(
     alloc: Global,
-    context: &Context<'_, '_>,
+    context: &Signatures<'_, '_, '_>,
     node: usize,
     base: &Base,
     rules: &mut Met,
@@ -154,9 +155,8 @@ fn base(
         Base::Apply { name, args, .. } => {
             let flows = parts(alloc, context, node, args.as_slice(), rules)?;
             let callee = context.callee(name.bytes());
-            let inputs = context.inputs(alloc, callee)?;
-            let outputs = context.outputs(alloc, callee)?;
-            add_arguments(rules, inputs.as_slice(), flows.as_slice())?;
+            add_arguments(rules, context.inputs(callee), flows.as_slice())?;
+            let outputs = Vec::from_slice(alloc, context.outputs(callee))?;
             Ok(outputs)
         }
         Base::Group(exprs) => {
@@ -171,7 +171,7 @@ fn base(
 #[cycle(rules)]
 fn parts(
     alloc: Global,
-    context: &Context<'_, '_>,
+    context: &Signatures<'_, '_, '_>,
     node: usize,
     exprs: &[Expr],
     rules: &mut Met,
@@ -191,7 +191,7 @@ fn parts(
 /// Adds the rules of the left names.
 fn add_lefts(
     rules: &mut Met,
-    context: &Context<'_, '_>,
+    context: &Signatures<'_, '_, '_>,
     node: usize,
     lefts: &[Placed],
     flows: &[Term],
@@ -214,7 +214,7 @@ fn add_lefts(
 fn add_equations(
     alloc: Global,
     rules: &mut Met,
-    context: &Context<'_, '_>,
+    context: &Signatures<'_, '_, '_>,
     node: usize,
     equations: &[Equation],
 ) -> Result<(), AllocError>
@@ -237,7 +237,7 @@ fn add_equations(
 fn add_nodes(
     alloc: Global,
     rules: &mut Met,
-    context: &Context<'_, '_>,
+    context: &Signatures<'_, '_, '_>,
 ) -> Result<(), AllocError>
     ensures count { OnOk result (rules.new.count ≡ rules.old.count) }
     ensures rules { OnOk result (rules.new.rules ≡ rules.old.rules ++ nodes_rules (program_tree context.now) 0 (program_tree context.now).nodes) }
@@ -254,8 +254,9 @@ pub fn rules(alloc: Global, context: &Context<'_, '_>) -> Result<Met, AllocError
     ensures count { IfOk result (λ met. met.count ≡ count_of (program_tree context.now)) }
     ensures rules { IfOk result (λ met. met.rules ≡ rules_of (program_tree context.now)) }
 {
+    let signatures = Signatures::new(alloc, context)?;
     let mut list = Met::new(alloc, context.parameters().len())?;
     add_declared(&mut list, context.parameters())?;
-    add_nodes(alloc, &mut list, context)?;
+    add_nodes(alloc, &mut list, &signatures)?;
     Ok(list)
 }

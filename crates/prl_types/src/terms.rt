@@ -1,6 +1,6 @@
 //! Types that are known or sought, and the rules between them.
 
-use prl_base::Ty;
+use prl_base::{Seq, Ty};
 
 /// A type that is known, or that of a parameter. The parameters of all nodes are counted from 0 in the order of their
 /// declaration: the nodes in order, and of each its inputs, outputs and locals.
@@ -24,4 +24,11 @@ pub struct Rule {
 pub struct Flow {
     pub term: Term,
     pub at: u32,
+}
+
+/// The types of what an import or a node takes, and of what it gives.
+#[derive(Debug, Drop)]
+pub struct Signature {
+    pub ins: Seq<Term>,
+    pub outs: Seq<Term>,
 }

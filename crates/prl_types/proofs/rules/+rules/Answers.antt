@@ -9,19 +9,19 @@ use Rattle.prl_types.specs.Rules.{root_rules, all_rules}
 use Rattle.prl_types.proofs.Walking.{terms_placed_flows, application_rules}
 use Rattle.prl_types.proofs.rules.+rules.Goals as goal
 
-pub base-returns-in_ok-add_arguments-in-Apply-clause-rules : goal.base-returns-in_ok-add_arguments-in-Apply-clause-rules
-base-returns-in_ok-add_arguments-in-Apply-clause-rules t c =
+pub base-returns-in_ok-outputs-in-Apply-clause-rules : goal.base-returns-in_ok-outputs-in-Apply-clause-rules
+base-returns-in_ok-outputs-in-Apply-clause-rules t c =
     let p = program_tree c.args.context.now in
     let node = c.args.node in
     let args = all_trees c.in-Apply.args.items in
     let trees = ap all_trees c.as_slice.ensures.value in
     let whole = ap (root_rules p node) (root_of_Apply c.in-Apply.name c.in-Apply.at c.in-Apply.args) in
     let callee = c.callee-callee.ensures ∙ ap (callee_of p) c.bytes-in-Apply.ensures.bytes in
-    let inputs = c.as_slice-in-Apply.ensures.value ∙ c.in_ok-inputs-in-Apply.ensures ∙ ap (inputs_of p) callee in
-    let flows = c.as_slice-in-Apply-2.ensures.value ∙ c.in_ok-flows-in-Apply.ensures.flows ∙ ap (placed_flows p node) trees in
+    let inputs = c.inputs.ensures ∙ ap (inputs_of p) callee in
+    let flows = c.as_slice-in-Apply.ensures.value ∙ c.in_ok-flows-in-Apply.ensures.flows ∙ ap (placed_flows p node) trees in
     let middle = c.in_ok-flows-in-Apply.ensures.rules ∙ ap (λ ts. c.args.rules.now.rules ++ all_rules p node ts) trees in
     rw c.in-Apply.is (application_rules c.args.rules.now.rules c.parts.new.rules.rules c.add_arguments.new.rules.rules (all_rules p node args) _
-    (inputs_of p (callee_of p c.in-Apply.name)) c.as_slice-in-Apply.result.now (placed_flows p node args) c.as_slice-in-Apply-2.result.now
+    (inputs_of p (callee_of p c.in-Apply.name)) c.inputs.result.now (placed_flows p node args) c.as_slice-in-Apply.result.now
     middle c.in_ok-add_arguments-in-Apply.ensures.rules inputs flows whole)
 
 pub base-returns-in_ok-terms-in-Group-clause-flows : goal.base-returns-in_ok-terms-in-Group-clause-flows
