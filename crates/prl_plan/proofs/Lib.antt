@@ -6,6 +6,14 @@ pub mod ReadOrder
 pub mod ShortestRepeats
 pub mod StateLaws
 pub mod TwoTasks
+pub mod RoundLaws
+pub mod Periods
+pub mod RoundPeriods
+pub mod WalkNumbers
+pub mod DatePeriods
+pub mod NotLater
+pub mod ReaderLaws
+pub mod Floors
 -- For this crate alone.
 mod Halves
 mod Ports
@@ -18,8 +26,6 @@ mod TwoFacts
 mod TwoHorizon
 mod Actions
 mod RoundSteps
-mod RoundLaws
-mod Floors
 mod IntervalLaws
 mod DeadlineLaws
 mod DeadlineSteps
@@ -28,10 +34,7 @@ mod UsedLaws
 mod ActionPlaces
 mod PlanFacts
 mod ReadPlaces
-mod Periods
-mod RoundPeriods
 mod JobTableLaws
-mod ReaderLaws
 mod GapLaws
 mod CellPeriods
 mod LastTags
@@ -43,9 +46,6 @@ mod Examples
 mod WorkedGraphs
 mod WorkedPlan
 mod TableMade
-mod WalkNumbers
-mod DatePeriods
-mod NotLater
 mod Bests
 mod PlanNumbers
 mod DateOrder

@@ -1,0 +1,7 @@
+mod ChainEnds
+mod BestRounds
+mod Slots
+mod Links
+mod TableRounds
+mod Readings
+mod RoundSteps

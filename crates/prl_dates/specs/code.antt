@@ -1,0 +1,5 @@
+-- What private functions say to one another.
+pub mod Slots
+pub mod Families
+pub mod Lanes
+pub mod Tables
