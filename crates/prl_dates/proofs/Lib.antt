@@ -5,3 +5,7 @@ mod Links
 mod TableRounds
 mod Readings
 mod RoundSteps
+mod LaneSteps
+mod Spreads
+mod Settles
+mod Lowering

@@ -41,11 +41,18 @@ module _ (graph : TaskGraph) (lanes : List Lane) (l : ℕ) (lane : Lane) (stands
               elim (round.only q) [
                 | inl still ↦ inl (same ∙ still)
                 | inr by ↦
-                    inr (by.0, by.1, by.2, by.3, by.4, by.5,
-                    (let m : Meets by.1 (task_at graph by.1.to.0).wcet now next by.3 = by.6 in
-                    let e : slice_index later (by.1.first + by.3) ≡ slice_index next (by.1.first + by.3) =
-                    subst (λ (x : ℕ). slice_index later x ≡ slice_index next x) by.5 same in
-                    ap (λ (x : ℕ). x + (link_at by.1 by.3).gap) e ∙ m))
+                    inr (
+                      by.0,
+                      by.1,
+                      by.2,
+                      by.3,
+                      by.4,
+                      by.5,
+                      (let m : Meets by.1 (task_at graph by.1.to.0).wcet now next by.3 = by.6 in
+                          let e : slice_index later (by.1.first + by.3) ≡ slice_index next (by.1.first + by.3) =
+                          subst (λ (x : ℕ). slice_index later x ≡ slice_index next x) by.5 same in
+                          ap (λ (x : ℕ). x + (link_at by.1 by.3).gap) e ∙ m),
+                    )
               ]
           | inr by ↦ inr (l, lane, stands, by.0, by.1, by.2, by.3)
         ];

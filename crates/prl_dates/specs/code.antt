@@ -3,3 +3,4 @@ pub mod Slots
 pub mod Families
 pub mod Lanes
 pub mod Tables
+pub mod Windows

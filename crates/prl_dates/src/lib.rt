@@ -2,9 +2,14 @@
 //! lists that repeat, or the first job that has no room. It stands on `prl_plan`.
 #![tactic(auto)]
 
+mod bests;
+mod encoding;
 mod faults;
 mod lanes;
+mod latest;
 mod numbers;
 mod rounds;
+mod windows;
 
+pub use encoding::encode;
 pub use faults::DateFault;

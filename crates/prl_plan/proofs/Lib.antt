@@ -14,6 +14,7 @@ pub mod DatePeriods
 pub mod NotLater
 pub mod ReaderLaws
 pub mod Floors
+pub mod ChainLaws
 -- For this crate alone.
 mod Halves
 mod Ports
@@ -41,7 +42,6 @@ mod LastTags
 mod Progress
 mod Decided
 mod HorizonLaws
-mod ChainLaws
 mod Examples
 mod WorkedGraphs
 mod WorkedPlan
