@@ -1,6 +1,6 @@
 -- Lanes, one after the other, and the numbers of their links.
-use Rattle.std.proofs.Common.{◌≡◌, ◌+◌, ◌-◌, ◌*◌, ◌<◌, ◌≤◌, ◌^◌, ◌++◌, ◌⊎◌, w64, ℕ, zero, suc, Bool, true, false, List, [], ◌∷◌, length, get_or, Option, Some, None, inl, inr, refl, sym, ◌∙◌, ap, subst, arith, cond}
-use Rattle.std.specs.Prelude.{ℤ, pos, negsuc, ◌+ℤ◌, ◌-ℤ◌, ◌*ℤ◌, ◌≤ℤ◌, nat_abs, unsigned_abs, int_lt, slice_get, slice_index_or}
+use Rattle.std.proofs.Common.{◌≡◌, ◌+◌, ◌-◌, ◌*◌, ◌<◌, ◌≤◌, ◌^◌, ◌++◌, ◌⊎◌, ℕ, zero, suc, Bool, true, false, List, [], ◌∷◌, length, get_or, Some, None, inl, inr, refl, sym, ◌∙◌, ap, subst, arith, cond}
+use Rattle.std.specs.Prelude.{ℤ, pos, negsuc, ◌+ℤ◌, ◌-ℤ◌, ◌*ℤ◌, ◌≤ℤ◌, unsigned_abs, int_lt, slice_get, slice_index_or}
 use Rattle.std.specs.Int.{int_max}
 use Rattle.std.proofs.Math.IntN.{*ℤ_comm}
 use Rattle.std.proofs.Math.Nat.{mul-le-mul_left, mul-le-mul_right}
@@ -12,12 +12,10 @@ use Rattle.prl_base.specs.declared.operators.Op.TheVariants as operators
 use Rattle.prl_base.specs.declared.operators.Clock.{Clock}
 use Rattle.prl_base.specs.Operators.{preceding_number}
 use Rattle.prl_plan.specs.declared.graphs.Edge.{Edge}
-use Rattle.prl_plan.specs.declared.graphs.Task.{Task}
 use Rattle.prl_plan.specs.declared.graphs.TaskGraph.{TaskGraph}
-use Rattle.prl_plan.specs.declared.graphs.Producer.{Producer}
-use Rattle.prl_plan.specs.Jobs.{Job, task_at, release_of}
+use Rattle.prl_plan.specs.Jobs.{task_at, release_of}
 use Rattle.prl_plan.specs.Dates.{place_in}
-use Rattle.prl_plan.specs.Precedence.{preceding, ComesFrom, Precedes}
+use Rattle.prl_plan.specs.Precedence.{preceding, ComesFrom}
 use Rattle.prl_plan.specs.Plans.{no_edge}
 use Rattle.prl_plan.specs.Graphs.{IsWellFormed, IsEdge, TakeClock}
 use Rattle.prl_plan.specs.Ranges.{Fits64, PrecedingFits}
@@ -28,8 +26,8 @@ use Rattle.prl_plan.proofs.WalkNumbers.{preceding_fits, number_within}
 use Rattle.prl_dates.specs.declared.lanes.Lane.{Lane}
 use Rattle.prl_dates.specs.declared.lanes.Link.{Link}
 use Rattle.prl_dates.specs.Faults.{jobs_of}
-use Rattle.prl_dates.specs.code.Slots.{jobs_before, slot_of}
-use Rattle.prl_dates.specs.code.Lanes.{Joins, IsGreatestBefore, no_link, link_at, IsLink, IsLinkOf, IsLane, IsJoined, JoinsAt, AreGreatest, AreLanesOf, AreLanes}
+use Rattle.prl_dates.specs.code.Slots.{jobs_before}
+use Rattle.prl_dates.specs.code.Lanes.{Joins, IsGreatestBefore, no_link, link_at, IsLinkOf, IsLane, IsJoined, JoinsAt, AreGreatest, AreLanesOf, AreLanes}
 use Rattle.prl_dates.proofs.Slots.{jobs_are, place_self}
 use Rattle.prl_dates.proofs.Readings.{fits_rest, item_stands}
 

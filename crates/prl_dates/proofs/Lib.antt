@@ -9,3 +9,4 @@ mod LaneSteps
 mod Spreads
 mod Settles
 mod Lowering
+mod DateTables

@@ -1,20 +1,20 @@
 -- Links over all whole job numbers.
-use Rattle.std.proofs.Common.{◌≡◌, ◌+◌, ◌*◌, ◌/◌, ◌<◌, ◌≤◌, ◌⊎◌, ℕ, length, Some, refl, sym, ◌∙◌, ap, subst, arith}
-use Rattle.std.specs.Prelude.{ℤ, pos, ◌+ℤ◌, ◌-ℤ◌, ◌≤ℤ◌, slice_get}
+use Rattle.std.proofs.Common.{◌≡◌, ◌*◌, ◌<◌, ◌≤◌, ℕ, length, refl, sym, ◌∙◌, ap, subst, arith}
+use Rattle.std.specs.Prelude.{ℤ, pos, ◌+ℤ◌, ◌-ℤ◌}
 use Rattle.std.proofs.lemmas.Int.{ints}
 use Rattle.prl_plan.specs.declared.graphs.Edge.{Edge}
 use Rattle.prl_plan.specs.declared.graphs.TaskGraph.{TaskGraph}
 use Rattle.prl_plan.specs.Dates.{place_in}
-use Rattle.prl_plan.specs.Jobs.{Job, task_at, release_of}
-use Rattle.prl_plan.specs.Precedence.{preceding, ComesFrom, Precedes}
+use Rattle.prl_plan.specs.Jobs.{task_at}
+use Rattle.prl_plan.specs.Precedence.{preceding, Precedes}
 use Rattle.prl_plan.specs.Graphs.{IsWellFormed, IsEdge}
 use Rattle.prl_plan.proofs.Periods.{everywhere}
 use Rattle.prl_plan.proofs.RoundLaws.{source_inside}
 use Rattle.prl_plan.proofs.RoundPeriods.{edge_precedes}
 use Rattle.prl_dates.specs.declared.lanes.Lane.{Lane}
 use Rattle.prl_dates.specs.Faults.{jobs_of}
-use Rattle.prl_dates.specs.code.Slots.{jobs_before, slot_of}
-use Rattle.prl_dates.specs.code.Lanes.{Joins, IsGreatestBefore, link_at, IsLink, IsLane}
+use Rattle.prl_dates.specs.code.Slots.{slot_of}
+use Rattle.prl_dates.specs.code.Lanes.{Joins, link_at, IsLink, IsLane}
 use Rattle.prl_dates.proofs.Slots.{place_again, place_self, jobs_are, some_jobs, slot_again, release_again}
 
 module _ (graph : TaskGraph) (good : IsWellFormed graph) where

@@ -1,26 +1,25 @@
 -- Deadlines lowered along a link.
-use Rattle.std.proofs.Common.{◌≡◌, ◌≢◌, ◌+◌, ◌-◌, ◌*◌, ◌<◌, ◌≤◌, ◌^◌, ◌⊎◌, ℕ, Bool, true, false, List, length, get_or, get_or-set_other, get_or-set_same, Some, inl, inr, refl, sym, ◌∙◌, ap, subst, arith}
-use Rattle.std.specs.Prelude.{ℤ, pos, ◌+ℤ◌, ◌≤ℤ◌, sum, slice_get, slice_index, slice_set}
+use Rattle.std.proofs.Common.{◌≡◌, ◌≢◌, ◌+◌, ◌-◌, ◌<◌, ◌≤◌, ◌^◌, ◌⊎◌, ℕ, Bool, true, false, List, length, get_or, get_or-set_other, get_or-set_same, Some, inl, inr, refl, sym, ◌∙◌, ap, subst, arith}
+use Rattle.std.specs.Prelude.{ℤ, pos, ◌≤ℤ◌, sum, slice_get, slice_index}
 use Rattle.std.proofs.Math.ListN.{set}
 use Rattle.std.proofs.lemmas.Bool.{cases_lt}
 use Rattle.std.proofs.lemmas.Int.{ints}
 use Rattle.std.proofs.lemmas.List.{length-set}
 use Rattle.std.proofs.lemmas.List.Sums.{sum_by-set}
-use Rattle.std.proofs.lemmas.Option.{slice_get_within}
 use Rattle.prl_plan.specs.declared.graphs.TaskGraph.{TaskGraph}
 use Rattle.prl_plan.specs.Dates.{AreDeadlines, Family, place_in}
-use Rattle.prl_plan.specs.Graphs.{IsWellFormed, jobs_in_hyperperiod}
-use Rattle.prl_plan.specs.Jobs.{Job, task_at, release_of}
+use Rattle.prl_plan.specs.Graphs.{IsWellFormed}
+use Rattle.prl_plan.specs.Jobs.{task_at, release_of}
 use Rattle.prl_plan.proofs.RoundPeriods.{task_is}
 use Rattle.prl_dates.specs.declared.lanes.Lane.{Lane}
 use Rattle.prl_dates.specs.declared.lanes.Link.{Link}
 use Rattle.prl_dates.specs.Faults.{jobs_of}
-use Rattle.prl_dates.specs.code.Lanes.{no_link, link_at, IsLink, IsLane, AreLanes}
+use Rattle.prl_dates.specs.code.Lanes.{no_link, link_at, IsLink, IsLane}
 use Rattle.prl_dates.specs.code.Slots.{jobs_before, slot_of, dates_of}
-use Rattle.prl_dates.specs.code.Tables.{Leaves, LeaveAll, AreUpperDates, IsLowering, ArePassed}
+use Rattle.prl_dates.specs.code.Tables.{Leaves, AreUpperDates, IsLowering, ArePassed}
 use Rattle.prl_dates.proofs.Links.{link_from, link_precedes}
 use Rattle.prl_dates.proofs.RoundSteps.{links_from, links_to}
-use Rattle.prl_dates.proofs.Slots.{one_slot, place_below, some_jobs, slot_below}
+use Rattle.prl_dates.proofs.Slots.{one_slot, place_below, some_jobs}
 
 -- a slot that is written, or another
 set_slot : (table : List ℕ) (at q value : ℕ) → at < length table → ((q ≡ at) × (slice_index (set table at value) q ≡ value)) ⊎ ((q ≢ at) × (slice_index (set table at value) q ≡ slice_index table q))

@@ -1,6 +1,6 @@
 -- What is read from a graph, and that the numbers of its jobs fit.
-use Rattle.std.proofs.Common.{◌≡◌, ◌+◌, ◌*◌, ◌<◌, ◌≤◌, ◌^◌, ℕ, zero, suc, List, [], ◌∷◌, length, get_or, Some, inl, inr, refl, sym, ◌∙◌, ap, subst, arith}
-use Rattle.std.specs.Prelude.{ℤ, pos, ◌+ℤ◌, ◌-ℤ◌, slice_get}
+use Rattle.std.proofs.Common.{◌≡◌, ◌+◌, ◌<◌, ◌≤◌, ℕ, zero, suc, List, [], ◌∷◌, length, get_or, Some, inl, inr, refl, sym, ◌∙◌, ap, subst, arith}
+use Rattle.std.specs.Prelude.{ℤ, pos, ◌-ℤ◌, slice_get}
 use Rattle.std.proofs.lemmas.Int.{ints}
 use Rattle.std.proofs.Math.IntN.{pred_ℤ}
 use Rattle.std.proofs.lemmas.Option.{slice_get-get_or}
@@ -13,7 +13,7 @@ use Rattle.prl_plan.specs.declared.graphs.TaskGraph.{TaskGraph}
 use Rattle.prl_plan.specs.Graphs.{IsWellFormed, jobs_in_hyperperiod}
 use Rattle.prl_plan.specs.Jobs.{task_at, no_task}
 use Rattle.prl_plan.proofs.Floors.{suc_is, pred_is}
-use Rattle.prl_plan.specs.Ranges.{Fits64, PrecedingFits}
+use Rattle.prl_plan.specs.Ranges.{PrecedingFits}
 use Rattle.prl_dates.specs.Faults.{jobs_of}
 use Rattle.prl_dates.specs.code.Slots.{jobs_before}
 use Rattle.prl_dates.proofs.Slots.{before_rises, before_all}

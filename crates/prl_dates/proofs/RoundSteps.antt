@@ -1,6 +1,6 @@
 -- One lane more of a round, and what holds when all have asked.
-use Rattle.std.proofs.Common.{◌≡◌, ◌+◌, ◌*◌, ◌<◌, ◌≤◌, ◌^◌, ◌⊎◌, ℕ, Bool, true, false, List, length, Some, inl, inr, refl, sym, ◌∙◌, ap, subst, arith}
-use Rattle.std.specs.Prelude.{slice_get, slice_index, slice_index_or}
+use Rattle.std.proofs.Common.{◌≡◌, ◌+◌, ◌<◌, ◌≤◌, ◌^◌, ℕ, Bool, List, length, Some, inl, inr, refl, ◌∙◌, ap, subst, arith}
+use Rattle.std.specs.Prelude.{slice_get, slice_index}
 use Rattle.std.proofs.lemmas.Bool.{cases_lt}
 use Rattle.std.proofs.lemmas.Option.{slice_get_within}
 use Rattle.prl_plan.specs.declared.graphs.TaskGraph.{TaskGraph}
@@ -10,8 +10,8 @@ use Rattle.prl_plan.specs.Graphs.{IsWellFormed, jobs_in_hyperperiod}
 use Rattle.prl_plan.proofs.RoundPeriods.{task_is}
 use Rattle.prl_dates.specs.declared.lanes.Lane.{Lane}
 use Rattle.prl_dates.specs.Faults.{jobs_of}
-use Rattle.prl_dates.specs.code.Slots.{jobs_before, slot_of}
-use Rattle.prl_dates.specs.code.Lanes.{link_at, IsLink, IsLane, AreLanes}
+use Rattle.prl_dates.specs.code.Slots.{slot_of}
+use Rattle.prl_dates.specs.code.Lanes.{link_at, IsLane, AreLanes}
 use Rattle.prl_dates.specs.code.Tables.{Leaves, Meets, AreRaised, AreRound, AreSettled, AreMarked, AreWithin}
 use Rattle.prl_dates.proofs.Slots.{before_rises, before_all, slot_below, place_below, some_jobs}
 

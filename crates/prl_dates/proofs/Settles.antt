@@ -1,14 +1,13 @@
 -- The first bests, and what the last ones show.
-use Rattle.std.proofs.Common.{◌≡◌, ◌+◌, ◌-◌, ◌*◌, ◌<◌, ◌≤◌, ◌^◌, ◌⊎◌, ℕ, zero, suc, Bool, true, false, List, [], ◌∷◌, length, replicate, Some, inl, inr, refl, sym, ◌∙◌, ap, subst, arith}
-use Rattle.std.specs.Prelude.{ℤ, pos, ◌+ℤ◌, ◌*ℤ◌, ◌≤ℤ◌, ◌<ℤ◌, slice_get, slice_index, slice_index_or}
+use Rattle.std.proofs.Common.{◌≡◌, ◌+◌, ◌-◌, ◌*◌, ◌<◌, ◌≤◌, ◌^◌, ◌⊎◌, ℕ, true, false, List, [], ◌∷◌, length, replicate, inl, inr, refl, sym, ◌∙◌, ap, subst, arith}
+use Rattle.std.specs.Prelude.{ℤ, pos, ◌+ℤ◌, ◌*ℤ◌, ◌≤ℤ◌, ◌<ℤ◌, slice_index}
 use Rattle.std.proofs.Math.IntN.{*ℤ_comm}
 use Rattle.std.proofs.lemmas.Bool.{cases_lt}
 use Rattle.std.proofs.lemmas.Int.{ints}
-use Rattle.std.proofs.lemmas.Option.{slice_get_within}
 use Rattle.prl_base.specs.declared.numbers.TaskNo.{TaskNo}
 use Rattle.prl_plan.specs.declared.graphs.Task.{Task}
 use Rattle.prl_plan.specs.declared.graphs.TaskGraph.{TaskGraph}
-use Rattle.prl_plan.specs.Chains.{IsChain, last_of, needs_of, EndsIn, IsBest}
+use Rattle.prl_plan.specs.Chains.{needs_of, EndsIn, IsBest}
 use Rattle.prl_plan.specs.Dates.{place_in}
 use Rattle.prl_plan.specs.Graphs.{IsWellFormed, jobs_in_hyperperiod}
 use Rattle.prl_plan.specs.Jobs.{Job, task_at, release_of, deadline_of}
@@ -18,11 +17,11 @@ use Rattle.prl_plan.proofs.RoundPeriods.{task_is}
 use Rattle.prl_dates.specs.declared.bests.First.TheVariants as firsts
 use Rattle.prl_dates.specs.declared.faults.DateFault.TheVariants as faults
 use Rattle.prl_dates.specs.declared.lanes.Lane.{Lane}
-use Rattle.prl_dates.specs.Faults.{jobs_of, IsOfPeriod, IsLate, EndsLoop, IsLowest, NoneOfPeriod, IsSomehowLate, IsDateFault}
-use Rattle.prl_dates.specs.code.Families.{AreBests, IsRound}
-use Rattle.prl_dates.specs.code.Lanes.{IsLane, AreLanes}
-use Rattle.prl_dates.specs.code.Slots.{jobs_before, slot_of, dates_of}
-use Rattle.prl_dates.specs.code.Tables.{Leaves, AreRound, AreSettled, IsSpread, IsNowhereAbove, IsFirstAbove, AreFinal}
+use Rattle.prl_dates.specs.Faults.{jobs_of, IsOfPeriod, IsLate, EndsLoop, NoneOfPeriod, IsSomehowLate, IsDateFault}
+use Rattle.prl_dates.specs.code.Families.{AreBests}
+use Rattle.prl_dates.specs.code.Lanes.{AreLanes}
+use Rattle.prl_dates.specs.code.Slots.{jobs_before, dates_of}
+use Rattle.prl_dates.specs.code.Tables.{Leaves, AreRound, AreSettled, IsSpread, IsNowhereAbove, IsFirstAbove}
 use Rattle.prl_dates.proofs.BestRounds.{next_bests}
 use Rattle.prl_dates.proofs.Slots.{place_below, place_self, some_jobs, slot_below}
 use Rattle.prl_dates.proofs.LaneSteps.{date_small}

@@ -1,7 +1,7 @@
 -- Slots of a hyperperiod: each is that of one job of it, and jobs a hyperperiod apart have the same one.
-use Rattle.std.proofs.Common.{◌≡◌, ◌+◌, ◌-◌, ◌*◌, ◌/◌, ◌%◌, ◌<◌, ◌≤◌, ◌⊎◌, ℕ, zero, suc, List, [], ◌∷◌, length, map, inl, inr, refl, sym, ◌∙◌, ap, subst, arith}
-use Rattle.std.specs.Prelude.{ℤ, pos, negsuc, ◌+ℤ◌, ◌≤ℤ◌, sum, take, slice_index_or}
-use Rattle.std.proofs.Math.Nat.{mul-div_cancel, add-mul-mod_self_right, mod-eq_of_lt, mod-add-div'}
+use Rattle.std.proofs.Common.{◌≡◌, ◌+◌, ◌-◌, ◌*◌, ◌/◌, ◌%◌, ◌<◌, ◌≤◌, ℕ, zero, suc, List, [], ◌∷◌, length, map, inl, inr, refl, sym, ◌∙◌, ap, subst, arith}
+use Rattle.std.specs.Prelude.{ℤ, pos, negsuc, ◌+ℤ◌, sum, take, slice_index_or}
+use Rattle.std.proofs.Math.Nat.{mul-div_cancel, add-mul-mod_self_right, mod-eq_of_lt}
 use Rattle.std.proofs.lemmas.Bool.{cases_lt}
 use Rattle.std.proofs.lemmas.Nat.{mod_below}
 use Rattle.std.proofs.lemmas.Int.{ints}
@@ -11,9 +11,7 @@ use Rattle.prl_plan.specs.declared.graphs.TaskGraph.{TaskGraph}
 use Rattle.prl_plan.specs.Dates.{place_in}
 use Rattle.prl_plan.specs.Jobs.{task_at, release_of, no_task}
 use Rattle.prl_plan.specs.Graphs.{IsWellFormed, jobs_in_hyperperiod}
-use Rattle.prl_plan.proofs.Periods.{everywhere}
 use Rattle.prl_plan.proofs.RoundPeriods.{task_is, release_shift}
-use Rattle.prl_plan.proofs.WalkNumbers.{divisor_within}
 use Rattle.prl_dates.specs.Faults.{jobs_of}
 use Rattle.prl_dates.specs.code.Slots.{jobs_before, slot_of}
 

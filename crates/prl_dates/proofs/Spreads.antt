@@ -1,11 +1,9 @@
 -- Tables of first dates, and what each of their slots has.
-use Rattle.std.proofs.Common.{◌≡◌, ◌+◌, ◌-◌, ◌<◌, ◌≤◌, ◌^◌, ◌++◌, ℕ, zero, suc, Bool, true, false, List, [], ◌∷◌, length, replicate, get_or, inl, inr, refl, sym, ◌∙◌, ap, subst, arith}
-use Rattle.std.specs.Prelude.{slice_index, slice_index_or}
+use Rattle.std.proofs.Common.{◌≡◌, ◌+◌, ◌-◌, ◌<◌, ◌≤◌, ◌++◌, ℕ, zero, suc, List, [], ◌∷◌, length, replicate, get_or, inl, inr, refl, sym, ◌∙◌, ap, subst, arith}
+use Rattle.std.specs.Prelude.{slice_index}
 use Rattle.std.proofs.lemmas.List.{ext_get_or}
 use Rattle.std.proofs.lemmas.Bool.{cases_lt}
 use Rattle.prl_plan.specs.declared.graphs.TaskGraph.{TaskGraph}
-use Rattle.prl_plan.specs.Graphs.{IsWellFormed}
-use Rattle.prl_plan.specs.Jobs.{task_at}
 use Rattle.prl_dates.specs.declared.bests.First.{First}
 use Rattle.prl_dates.specs.Faults.{jobs_of}
 use Rattle.prl_dates.specs.code.Slots.{jobs_before}

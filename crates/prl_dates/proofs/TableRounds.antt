@@ -1,5 +1,5 @@
 -- A round over the tables is one over the families that they tell.
-use Rattle.std.proofs.Common.{◌≡◌, ◌+◌, ◌<◌, ◌≤◌, ◌⊎◌, ℕ, List, length, Some, inl, inr, refl, sym, ◌∙◌, ap, subst, arith}
+use Rattle.std.proofs.Common.{◌≡◌, ◌+◌, ◌<◌, ◌⊎◌, ℕ, List, length, Some, inl, inr, sym, ◌∙◌, ap, subst, arith}
 use Rattle.std.specs.Prelude.{ℤ, pos, ◌+ℤ◌, ◌≤ℤ◌, slice_get, slice_index}
 use Rattle.std.proofs.lemmas.Int.{ints}
 use Rattle.std.proofs.lemmas.Option.{slice_get_within}
@@ -11,11 +11,10 @@ use Rattle.prl_plan.specs.Precedence.{preceding, ComesFrom, Precedes, PrecedesAl
 use Rattle.prl_plan.specs.Graphs.{IsWellFormed}
 use Rattle.prl_dates.specs.declared.lanes.Lane.{Lane}
 use Rattle.prl_dates.specs.Faults.{jobs_of}
-use Rattle.prl_dates.specs.code.Families.{AreBests, IsRound}
+use Rattle.prl_dates.specs.code.Families.{IsRound}
 use Rattle.prl_dates.specs.code.Slots.{jobs_before, slot_of, dates_of}
 use Rattle.prl_dates.specs.code.Lanes.{Joins, link_at, IsLink, IsLane, AreLanes}
 use Rattle.prl_dates.specs.code.Tables.{Leaves, Meets, AreRound}
-use Rattle.prl_dates.proofs.ChainEnds.{both_inside}
 use Rattle.prl_dates.proofs.Links.{link_to, link_precedes}
 use Rattle.prl_dates.proofs.Slots.{one_slot, place_below, some_jobs}
 

@@ -1,5 +1,5 @@
 -- Where the jobs of a hyperperiod stand in a table: task after task, each in the order of its jobs.
-use Rattle.std.specs.Prelude.{◌+◌, ◌<◌, ℕ, zero, suc, ℤ, pos, ◌+ℤ◌, List, slice_index}
+use Rattle.std.specs.Prelude.{◌+◌, ℕ, zero, suc, ℤ, pos, ◌+ℤ◌, List, slice_index}
 use Rattle.prl_plan.specs.declared.graphs.TaskGraph.{TaskGraph}
 use Rattle.prl_plan.specs.Dates.{Family, place_in}
 use Rattle.prl_plan.specs.Jobs.{task_at, release_of}

@@ -1,4 +1,4 @@
-use Rattle.std.proofs.Common.{rules, ◌≡◌, Bool, true, List, ℕ, length, replicate, sym, ap, subst, ◌∙◌}
+use Rattle.std.proofs.Common.{rules, ◌≡◌, Bool, true, List, length, replicate, sym, subst, ◌∙◌}
 use Rattle.prl_dates.specs.declared.bests.First.TheVariants as firsts
 use Rattle.prl_dates.specs.code.Tables.{AreSettled}
 use Rattle.prl_dates.proofs.Settles.{first_settled}

@@ -1,13 +1,9 @@
-use Rattle.std.proofs.Common.{◌≡◌, ◌+◌, ◌*◌, ◌<◌, ◌≤◌, ◌^◌, w64, to_z, ℕ, List, length, get_or, sym, ap, subst, ◌∙◌, arith}
-use Rattle.std.specs.Prelude.{ℤ, pos, slice_index}
-use Rattle.std.proofs.lemmas.Int.{to_z_pos, ints}
-use Rattle.prl_plan.specs.declared.graphs.Task.{Task}
-use Rattle.prl_plan.specs.Jobs.{task_at, deadline_of}
-use Rattle.prl_dates.specs.declared.faults.DateFault.{DateFault}
-use Rattle.prl_dates.specs.declared.faults.DateFault.TheVariants as faults
-use Rattle.prl_dates.specs.code.Slots.{jobs_before, dates_of}
+use Rattle.std.proofs.Common.{◌≡◌, ◌+◌, ◌*◌, w64, to_z, ◌∙◌, arith}
+use Rattle.std.specs.Prelude.{slice_index}
+use Rattle.std.proofs.lemmas.Int.{to_z_pos}
+use Rattle.prl_plan.specs.Jobs.{task_at}
 use Rattle.prl_dates.proofs.Readings.{task_read}
-use Rattle.prl_dates.proofs.Settles.{date_here, job_small, narrow_is}
+use Rattle.prl_dates.proofs.Settles.{job_small, narrow_is}
 use Rattle.prl_dates.proofs.Slots.{slot_below}
 use Rattle.prl_dates.proofs.LaneSteps.{few_jobs}
 use Rattle.prl_dates.proofs.bests.narrow.Goals as goal

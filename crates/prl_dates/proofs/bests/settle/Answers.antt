@@ -1,19 +1,15 @@
-use Rattle.std.proofs.Common.{◌≡◌, ◌+◌, ◌-◌, ◌*◌, ◌<◌, ◌≤◌, ◌^◌, w64, to_z, ℕ, List, length, sym, ap, subst, ◌∙◌, arith}
-use Rattle.std.specs.Prelude.{ℤ, pos}
+use Rattle.std.proofs.Common.{◌+◌, ◌*◌, ◌≤◌, ◌^◌, w64, ℕ, List, sym, subst, ◌∙◌, arith}
+use Rattle.std.specs.Prelude.{ℤ}
 use Rattle.std.proofs.Math.Nat.{mul-le-mul_right}
 use Rattle.std.proofs.lemmas.Int.{to_z_pos}
-use Rattle.prl_plan.specs.Graphs.{jobs_in_hyperperiod}
-use Rattle.prl_plan.specs.Jobs.{task_at}
 use Rattle.prl_plan.proofs.RoundPeriods.{task_is}
 use Rattle.prl_dates.specs.declared.bests.First.TheVariants as firsts
 use Rattle.prl_dates.specs.declared.faults.DateFault.{DateFault}
 use Rattle.prl_dates.specs.declared.faults.DateFault.TheVariants as faults
 use Rattle.prl_dates.specs.Faults.{IsDateFault}
-use Rattle.prl_dates.specs.code.Families.{AreBests}
-use Rattle.prl_dates.specs.code.Slots.{dates_of}
-use Rattle.prl_dates.specs.code.Tables.{AreWithin, AreFinal}
+use Rattle.prl_dates.specs.code.Tables.{AreWithin}
 use Rattle.prl_dates.proofs.LaneSteps.{few_jobs}
-use Rattle.prl_dates.proofs.Settles.{first_bests, late_fault, none_late, within_dues, loop_fault, round_still}
+use Rattle.prl_dates.proofs.Settles.{first_bests, late_fault, within_dues, loop_fault, round_still}
 use Rattle.prl_dates.proofs.Slots.{before_all}
 use Rattle.prl_dates.proofs.Spreads.{spread_within}
 use Rattle.prl_dates.proofs.bests.settle.Goals as goal

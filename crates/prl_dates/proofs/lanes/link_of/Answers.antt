@@ -1,4 +1,4 @@
-use Rattle.std.proofs.Common.{◌≡◌, ◌+◌, ◌*◌, ◌<◌, ◌≤◌, ◌^◌, w64, to_z, of_z, ℕ, List, length, get_or, sym, ap, subst, ◌∙◌, arith}
+use Rattle.std.proofs.Common.{◌≡◌, ◌+◌, ◌<◌, ◌^◌, w64, to_z, of_z, ℕ, sym, ap, subst, ◌∙◌, arith}
 use Rattle.std.specs.Prelude.{ℤ, pos, ◌*ℤ◌, ◌-ℤ◌, unsigned_abs}
 use Rattle.std.proofs.lemmas.Int.{to_z-of_z, to_z_pos}
 use Rattle.prl_plan.specs.declared.graphs.Task.{Task}
@@ -7,7 +7,6 @@ use Rattle.prl_plan.specs.Ranges.{Fits64}
 use Rattle.prl_plan.specs.Dates.{place_in}
 use Rattle.prl_plan.proofs.RoundPeriods.{task_is}
 use Rattle.prl_dates.specs.Faults.{jobs_of}
-use Rattle.prl_dates.specs.code.Slots.{jobs_before}
 use Rattle.prl_dates.proofs.Readings.{task_read}
 use Rattle.prl_dates.proofs.LaneSteps.{AreNear, are_near, link_made, few_jobs}
 use Rattle.prl_dates.proofs.lanes.link_of.Goals as goal

@@ -1,4 +1,4 @@
-use Rattle.std.proofs.Common.{◌≡◌, ◌<◌, ℕ, Some, length, slice_index_or}
+use Rattle.std.proofs.Common.{◌≡◌, ℕ, Some, length, slice_index_or}
 use Rattle.std.specs.Prelude.{pos, slice_get}
 use Rattle.prl_dates.specs.declared.lanes.Link.{Link}
 use Rattle.prl_dates.specs.code.Lanes.{IsLinkOf}

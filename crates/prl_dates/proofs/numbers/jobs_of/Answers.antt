@@ -1,6 +1,5 @@
-use Rattle.std.proofs.Common.{◌≡◌, ◌<◌, ◌≤◌, ◌/◌, ℕ, get_or, sym, subst}
+use Rattle.std.proofs.Common.{◌<◌, ◌≤◌, ◌/◌, sym, subst}
 use Rattle.prl_plan.specs.declared.graphs.Task.{Task}
-use Rattle.prl_plan.specs.Jobs.{task_at}
 use Rattle.prl_plan.proofs.RoundPeriods.{task_is}
 use Rattle.prl_dates.proofs.Slots.{some_jobs}
 use Rattle.prl_dates.proofs.Readings.{task_read}

@@ -1,5 +1,4 @@
-use Rattle.std.proofs.Common.{◌≡◌, ◌+◌, ◌≤◌, length, arith}
-use Rattle.prl_plan.specs.Graphs.{jobs_in_hyperperiod}
+use Rattle.std.proofs.Common.{◌≡◌, arith}
 use Rattle.prl_dates.specs.Faults.{jobs_of}
 use Rattle.prl_dates.specs.code.Slots.{jobs_before}
 use Rattle.prl_dates.proofs.Readings.{slots_inside}

@@ -1,4 +1,4 @@
-use Rattle.std.proofs.Common.{rules, ◌≡◌, ◌+◌, ◌-◌, ◌*◌, ◌<◌, ◌≤◌, ◌^◌, ℕ, List, length, sym, ap, subst, ◌∙◌, arith}
+use Rattle.std.proofs.Common.{rules, ◌≡◌, ◌+◌, ◌-◌, ◌*◌, ◌^◌, ℕ, List, length, sym, subst, arith}
 use Rattle.prl_dates.specs.code.Families.{AreBests, IsRound}
 use Rattle.prl_dates.specs.code.Slots.{dates_of}
 use Rattle.prl_dates.specs.code.Tables.{AreRound, AreSettled, AreWithin}

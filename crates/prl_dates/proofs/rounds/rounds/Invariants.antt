@@ -1,4 +1,4 @@
-use Rattle.std.proofs.Common.{◌≡◌, ◌+◌, ◌*◌, ◌^◌, length}
+use Rattle.std.proofs.Common.{◌≡◌, ◌+◌, ◌*◌, ◌^◌}
 use Rattle.prl_dates.specs.code.Families.{AreBests}
 use Rattle.prl_dates.specs.code.Slots.{dates_of}
 use Rattle.prl_dates.specs.code.Tables.{AreSettled, AreWithin}
