@@ -15,6 +15,12 @@ pub mod CellPeriods
 pub mod DatePeriods
 pub mod RepeatLaws
 pub mod DatesRise
+pub mod RoundLaws
+pub mod Periods
+pub mod WalkNumbers
+pub mod NotLater
+pub mod Floors
+pub mod ChainLaws
 -- For this crate alone.
 mod Halves
 mod Ports
@@ -27,27 +33,21 @@ mod TwoFacts
 mod TwoHorizon
 mod Actions
 mod RoundSteps
-mod RoundLaws
-mod Floors
 mod IntervalLaws
 mod DeadlineLaws
 mod DeadlineSteps
 mod ActionPlaces
 mod PlanFacts
 mod ReadPlaces
-mod Periods
 mod JobTableLaws
 mod LastTags
 mod Progress
 mod Decided
 mod HorizonLaws
-mod ChainLaws
 mod Examples
 mod WorkedGraphs
 mod WorkedPlan
 mod TableMade
-mod WalkNumbers
-mod NotLater
 mod Bests
 mod PlanNumbers
 mod DateOrder

@@ -1,0 +1,12 @@
+mod ChainEnds
+mod BestRounds
+mod Slots
+mod Links
+mod TableRounds
+mod Readings
+mod RoundSteps
+mod LaneSteps
+mod Spreads
+mod Settles
+mod Lowering
+mod DateTables

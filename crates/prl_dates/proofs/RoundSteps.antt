@@ -1,0 +1,132 @@
+-- One lane more of a round, and what holds when all have asked.
+use Rattle.std.proofs.Common.{◌≡◌, ◌+◌, ◌<◌, ◌≤◌, ◌^◌, ℕ, Bool, List, length, Some, inl, inr, refl, ◌∙◌, ap, subst, arith}
+use Rattle.std.specs.Prelude.{slice_get, slice_index}
+use Rattle.std.proofs.lemmas.Bool.{cases_lt}
+use Rattle.std.proofs.lemmas.Option.{slice_get_within}
+use Rattle.prl_plan.specs.declared.graphs.TaskGraph.{TaskGraph}
+use Rattle.prl_plan.specs.Dates.{place_in}
+use Rattle.prl_plan.specs.Jobs.{task_at}
+use Rattle.prl_plan.specs.Graphs.{IsWellFormed, jobs_in_hyperperiod}
+use Rattle.prl_plan.proofs.RoundPeriods.{task_is}
+use Rattle.prl_dates.specs.declared.lanes.Lane.{Lane}
+use Rattle.prl_dates.specs.Faults.{jobs_of}
+use Rattle.prl_dates.specs.code.Slots.{slot_of}
+use Rattle.prl_dates.specs.code.Lanes.{link_at, IsLane, AreLanes}
+use Rattle.prl_dates.specs.code.Tables.{Leaves, Meets, AreRaised, AreRound, AreSettled, AreMarked, AreWithin}
+use Rattle.prl_dates.proofs.Slots.{before_rises, before_all, slot_below, place_below, some_jobs}
+
+same_lane : (lanes : List Lane) (l : ℕ) (a b : Lane) → slice_get lanes l ≡ Some a → slice_get lanes l ≡ Some b → a ≡ b
+same_lane lanes l a b x y = cc
+
+module _ (graph : TaskGraph) (lanes : List Lane) (l : ℕ) (lane : Lane) (stands : slice_get lanes l ≡ Some lane) (now next : List ℕ)
+    (round : AreRound graph lanes l now next) where
+  pub round_more : (later : List ℕ) → AreRaised lane (task_at graph lane.to.0).wcet (length lane.links) now next later → AreRound graph lanes (l + 1) now later
+  round_more later raised = record {
+    long = raised.long ∙ round.long;
+    up = λ q. (let a = round.up q in let b = raised.up q in omega (arith, a, b));
+    asks = λ j other below at k inside.
+        elim (cases_lt j l) [
+          | inl less ↦
+              (let a : Leaves other (task_at graph other.to.0).wcet now next k = round.asks j other less at k inside in
+              let b = raised.up (other.first + k) in
+              omega (arith, a, b))
+          | inr above ↦
+              (let e : j ≡ l = omega (arith, above, below) in
+              let s : lane ≡ other = same_lane lanes l lane other stands (subst (λ (x : ℕ). slice_get lanes x ≡ Some other) e at) in
+              subst (λ (x : Lane). (k : ℕ) → k < length x.links → Leaves x (task_at graph x.to.0).wcet now later k) s raised.asks k inside)
+        ];
+    only = λ q.
+        elim (raised.only q) [
+          | inl same ↦
+              elim (round.only q) [
+                | inl still ↦ inl (same ∙ still)
+                | inr by ↦
+                    inr (
+                      by.0,
+                      by.1,
+                      by.2,
+                      by.3,
+                      by.4,
+                      by.5,
+                      (let m : Meets by.1 (task_at graph by.1.to.0).wcet now next by.3 = by.6 in
+                          let e : slice_index later (by.1.first + by.3) ≡ slice_index next (by.1.first + by.3) =
+                          subst (λ (x : ℕ). slice_index later x ≡ slice_index next x) by.5 same in
+                          ap (λ (x : ℕ). x + (link_at by.1 by.3).gap) e ∙ m),
+                    )
+              ]
+          | inr by ↦ inr (l, lane, stands, by.0, by.1, by.2, by.3)
+        ];
+  }
+
+  -- a lane that asks for no later date
+  pub round_same : ((k : ℕ) → k < length lane.links → Leaves lane (task_at graph lane.to.0).wcet now now k) → AreRound graph lanes (l + 1) now next
+  round_same settled = record {
+    long = round.long;
+    up = round.up;
+    asks = λ j other below at k inside.
+        elim (cases_lt j l) [
+          | inl less ↦ round.asks j other less at k inside
+          | inr above ↦
+              (let e : j ≡ l = omega (arith, above, below) in
+              let s : lane ≡ other = same_lane lanes l lane other stands (subst (λ (x : ℕ). slice_get lanes x ≡ Some other) e at) in
+              let a : Leaves other (task_at graph other.to.0).wcet now now k =
+              subst (λ (x : Lane). (k : ℕ) → k < length x.links → Leaves x (task_at graph x.to.0).wcet now now k) s settled k inside in
+              let u = round.up (other.first + k) in
+              omega (arith, a, u))
+        ];
+    only = round.only;
+  }
+
+pub round_begins : (graph : TaskGraph) (lanes : List Lane) (now : List ℕ) → AreRound graph lanes 0 now now
+round_begins graph lanes now = record {
+  long = refl;
+  up = λ q. omega arith;
+  asks = λ l lane below. absurd (omega (arith, below));
+  only = λ q. inl refl;
+}
+
+module _ (graph : TaskGraph) (good : IsWellFormed graph) where
+  -- the slots of a lane's links are in the tables
+  pub links_from : (lane : Lane) → IsLane graph lane → (k : ℕ) → k < length lane.links → (link_at lane k).from < jobs_in_hyperperiod graph
+  links_from lane is k inside =
+      let link = is.links k (let l = is.long in omega (arith, l, inside)) in
+      let below = slot_below graph lane.from.0 (place_in link.0 (jobs_of graph lane.from.0)) is.from
+      (place_below (jobs_of graph lane.from.0) (some_jobs graph good lane.from.0 is.from) link.0) in
+      let s = link.1.slot in
+      omega (arith, below, s)
+
+  pub links_to : (lane : Lane) → IsLane graph lane → lane.first + length lane.links ≤ jobs_in_hyperperiod graph
+  links_to lane is =
+      let r = before_rises graph lane.to.0 (length graph.tasks) is.to in
+      let a = before_all graph in
+      let f = is.first in
+      let l = is.long in
+      omega (arith, r, a, f, l)
+
+  module _ (lanes : List Lane) (are : AreLanes graph lanes) (now next : List ℕ) (round : AreRound graph lanes (length lanes) now next) where
+    pub next_within : (bound : ℕ) → AreWithin now bound → AreWithin next (bound + 2 ^ 31)
+    next_within bound within q =
+        elim (round.only q) [
+          | inl same ↦ (let w = within q in omega (arith, same, w))
+          | inr by ↦
+              (let w = within (link_at by.1 by.3).from in
+              let is = are.each by.0 by.1 by.2 in
+              let c = (task_is graph good by.1.to.0 is.to).wcet.1 in
+              let m : Meets by.1 (task_at graph by.1.to.0).wcet now next by.3 = by.6 in
+              let e : slice_index next q ≡ slice_index next (by.1.first + by.3) = ap (λ (x : ℕ). slice_index next x) by.5 in
+              omega (arith, w, c, m, e))
+        ]
+
+    -- what a task that did not rise asks for is done
+    pub next_settled : (rose : List Bool) → AreMarked graph (length graph.tasks) rose now next → AreSettled graph lanes rose next
+    next_settled rose marked l lane stands unmarked k inside =
+        let is = are.each l lane stands in
+        let a : Leaves lane (task_at graph lane.to.0).wcet now next k = round.asks l lane (slice_get_within lanes l lane stands) stands k inside in
+        let link = is.links k (let l = is.long in omega (arith, l, inside)) in
+        let p = place_in link.0 (jobs_of graph lane.from.0) in
+        let below : place_in link.0 (jobs_of graph lane.from.0) < jobs_of graph lane.from.0 =
+        place_below (jobs_of graph lane.from.0) (some_jobs graph good lane.from.0 is.from) link.0 in
+        let same = marked lane.from.0 (place_in link.0 (jobs_of graph lane.from.0)) is.from unmarked below in
+        let x : slice_index next (slot_of graph lane.from.0 link.0) ≡ slice_index next (link_at lane k).from = ap (λ (q : ℕ). slice_index next q) link.1.slot in
+        let y : slice_index now (slot_of graph lane.from.0 link.0) ≡ slice_index now (link_at lane k).from = ap (λ (q : ℕ). slice_index now q) link.1.slot in
+        omega (arith, a, same, x, y)

@@ -1,0 +1,57 @@
+use Rattle.std.proofs.Common.{◌≡◌, ◌+◌, ◌<◌, ◌≤◌, ℕ, List, length, sym, subst, ◌∙◌, arith}
+use Rattle.std.specs.Prelude.{slice_index}
+use Rattle.std.proofs.lemmas.List.{with_items_is}
+use Rattle.prl_plan.specs.declared.tables.Window.{Window}
+use Rattle.prl_plan.specs.Dates.{AreEncodedDates}
+use Rattle.prl_plan.specs.Jobs.{task_at}
+use Rattle.prl_plan.specs.Plans.{HaveRoom, AreShortWindows}
+use Rattle.prl_dates.specs.declared.lanes.Lane.{Lane}
+use Rattle.prl_dates.specs.Faults.{jobs_of}
+use Rattle.prl_dates.specs.code.Slots.{jobs_before}
+use Rattle.prl_dates.specs.code.Tables.{AreFinal, AreUpperDates, LeaveAll}
+use Rattle.prl_dates.specs.code.Windows.{AreWindows}
+use Rattle.prl_dates.proofs.DateTables.{best_room, first_dates, dates_made, room_made, short_made}
+use Rattle.prl_dates.proofs.Slots.{before_all}
+use Rattle.prl_dates.proofs.encoding.encode.Goals as goal
+
+pub lower_to_end-requires-clause-dates : goal.lower_to_end-requires-clause-dates
+lower_to_end-requires-clause-dates c =
+    let graph = c.args.graph.now in
+    let lanes = c.in_ok-lanes.lanes.items in
+    let bests = c.in_ok-bests.bests.items in
+    let final : AreFinal graph lanes bests = subst (λ (xs : List Lane). AreFinal graph xs bests) c.as_slice.ensures.value c.in_ok-bests.ensures in
+    subst (λ (xs : List ℕ). AreUpperDates graph xs c.as_mut_slice.result.now) (sym c.as_slice-4.ensures.value)
+    (subst (λ (xs : List ℕ). AreUpperDates graph bests xs) (sym c.as_mut_slice.ensures.value)
+    (first_dates graph c.requires lanes c.in_ok-lanes.ensures bests final c.in_ok-tails.tails.items c.in_ok-tails.ensures (c.in_ok-tails.ensures.long ∙ before_all graph)))
+
+pub windows-requires-clause-room : goal.windows-requires-clause-room
+windows-requires-clause-room c =
+    let graph = c.args.graph.now in
+    let lanes = c.in_ok-lanes.lanes.items in
+    let bests = c.in_ok-bests.bests.items in
+    let final : AreFinal graph lanes bests = subst (λ (xs : List Lane). AreFinal graph xs bests) c.as_slice.ensures.value c.in_ok-bests.ensures in
+    subst (λ (xs : List ℕ). (i p : ℕ) → i < length graph.tasks → p < jobs_of graph i → (task_at graph i).wcet ≤ slice_index xs (jobs_before graph i + p)) (sym c.as_slice-5.ensures.value)
+    (best_room graph c.requires lanes c.in_ok-lanes.ensures bests final)
+
+pub returns : goal.returns
+returns c =
+    let graph = c.args.graph.now in
+    let lanes = c.in_ok-lanes.lanes.items in
+    let bests = c.in_ok-bests.bests.items in
+    let tails = c.lower_to_end.new.dates in
+    let final : AreFinal graph lanes bests = subst (λ (xs : List Lane). AreFinal graph xs bests) c.as_slice.ensures.value c.in_ok-bests.ensures in
+    let upper : AreUpperDates graph bests tails = subst (λ (xs : List ℕ). AreUpperDates graph xs tails) c.as_slice-4.ensures.value c.lower_to_end.ensures.dates in
+    let leave : LeaveAll graph lanes (length lanes) tails = subst (λ (xs : List Lane). LeaveAll graph xs (length xs) tails) c.as_slice-3.ensures.value c.lower_to_end.ensures.asks in
+    let long : length tails ≡ c.in_ok-tails.tails.len =
+    (let u = upper.long in let t = c.in_ok-tails.ensures.long in let b = before_all graph in let o = c.in_ok-tails.tails.ok.0 in omega (arith, u, t, b, o)) in
+    let same : c.as_slice-6.result.now ≡ tails = c.as_slice-6.ensures.value ∙ with_items_is c.in_ok-tails.tails tails long in
+    let lists : AreWindows graph bests tails (length graph.tasks) c.in_ok-windows.windows =
+    subst (λ (xs : List ℕ). AreWindows graph bests xs (length graph.tasks) c.in_ok-windows.windows) same
+    (subst (λ (xs : List ℕ). AreWindows graph xs c.as_slice-6.result.now (length graph.tasks) c.in_ok-windows.windows) c.as_slice-5.ensures.value c.in_ok-windows.ensures) in
+    record {
+      dates = subst (λ (ws : List (List Window)). AreEncodedDates graph ws × HaveRoom graph ws × AreShortWindows ws) (sym c.new.ensures) (
+        dates_made graph c.requires lanes c.in_ok-lanes.ensures bests final tails upper leave c.in_ok-windows.windows lists,
+        room_made graph c.requires lanes c.in_ok-lanes.ensures bests final tails upper leave c.in_ok-windows.windows lists,
+        short_made graph c.requires lanes c.in_ok-lanes.ensures bests final tails upper leave c.in_ok-windows.windows lists,
+      );
+    }

@@ -1,0 +1,79 @@
+use Rattle.std.proofs.Common.{◌≡◌, ◌+◌, ◌<◌, ◌^◌, w64, to_z, of_z, ℕ, sym, ap, subst, ◌∙◌, arith}
+use Rattle.std.specs.Prelude.{ℤ, pos, ◌*ℤ◌, ◌-ℤ◌, unsigned_abs}
+use Rattle.std.proofs.lemmas.Int.{to_z-of_z, to_z_pos}
+use Rattle.prl_plan.specs.declared.graphs.Task.{Task}
+use Rattle.prl_plan.specs.Jobs.{task_at, release_of}
+use Rattle.prl_plan.specs.Ranges.{Fits64}
+use Rattle.prl_plan.specs.Dates.{place_in}
+use Rattle.prl_plan.proofs.RoundPeriods.{task_is}
+use Rattle.prl_dates.specs.Faults.{jobs_of}
+use Rattle.prl_dates.proofs.Readings.{task_read}
+use Rattle.prl_dates.proofs.LaneSteps.{AreNear, are_near, link_made, few_jobs}
+use Rattle.prl_dates.proofs.lanes.link_of.Goals as goal
+
+pub release-earlier-requires-clause-start : goal.release-earlier-requires-clause-start
+release-earlier-requires-clause-start c =
+    let graph = c.args.graph.now in
+    let t = c.index-tasks-from.result in
+    let e : c.index-tasks-from.result ≡ task_at graph c.args.from.0 = c.index-tasks-from.is ∙ task_read graph c.as_slice-tasks.result.now c.args.from.0 c.index-tasks-from.result c.as_slice-tasks.ensures c.requires.from in
+    subst (λ (x : Task). x.clock.start < 2 ^ 31) (sym e) (task_is graph c.requires.well c.args.from.0 c.requires.from).start
+
+pub release-earlier-requires-clause-product : goal.release-earlier-requires-clause-product
+release-earlier-requires-clause-product c =
+    let graph = c.args.graph.now in
+    let t = c.index-tasks-from.result in
+    let e : c.index-tasks-from.result ≡ task_at graph c.args.from.0 = c.index-tasks-from.is ∙ task_read graph c.as_slice-tasks.result.now c.args.from.0 c.index-tasks-from.result c.as_slice-tasks.ensures c.requires.from in
+    let seam : to_z w64 (of_z w64 c.args.before) ≡ c.args.before = to_z-of_z w64 c.args.before c.ranges.before in
+    let near : AreNear graph c.requires.well c.args.from.0 c.args.to.0 c.args.n c.args.before = are_near graph c.requires.well c.args.from.0 c.args.to.0 c.args.n c.args.before c.requires.from c.requires.to c.requires.job c.requires.greatest in
+    subst (λ (z : ℤ). Fits64 (z *ℤ pos t.clock.period)) (sym seam) (subst (λ (x : Task). Fits64 (c.args.before *ℤ pos x.clock.period)) (sym e) near.product)
+
+pub release-earlier-requires-clause-fits : goal.release-earlier-requires-clause-fits
+release-earlier-requires-clause-fits c =
+    let graph = c.args.graph.now in
+    let t = c.index-tasks-from.result in
+    let e : c.index-tasks-from.result ≡ task_at graph c.args.from.0 = c.index-tasks-from.is ∙ task_read graph c.as_slice-tasks.result.now c.args.from.0 c.index-tasks-from.result c.as_slice-tasks.ensures c.requires.from in
+    let seam : to_z w64 (of_z w64 c.args.before) ≡ c.args.before = to_z-of_z w64 c.args.before c.ranges.before in
+    let near : AreNear graph c.requires.well c.args.from.0 c.args.to.0 c.args.n c.args.before = are_near graph c.requires.well c.args.from.0 c.args.to.0 c.args.n c.args.before c.requires.from c.requires.to c.requires.job c.requires.greatest in
+    subst (λ (z : ℤ). Fits64 (release_of t z)) (sym seam) (subst (λ (x : Task). Fits64 (release_of x c.args.before)) (sym e) near.earlier)
+
+pub release-later-requires-clause-start : goal.release-later-requires-clause-start
+release-later-requires-clause-start c =
+    let graph = c.args.graph.now in
+    let t = c.index-tasks-to.result in
+    let e : c.index-tasks-to.result ≡ task_at graph c.args.to.0 = c.index-tasks-to.is ∙ task_read graph c.as_slice-tasks.result.now c.args.to.0 c.index-tasks-to.result c.as_slice-tasks.ensures c.requires.to in
+    subst (λ (x : Task). x.clock.start < 2 ^ 31) (sym e) (task_is graph c.requires.well c.args.to.0 c.requires.to).start
+
+pub release-later-requires-clause-fits : goal.release-later-requires-clause-fits
+release-later-requires-clause-fits c =
+    let graph = c.args.graph.now in
+    let t = c.index-tasks-to.result in
+    let e : c.index-tasks-to.result ≡ task_at graph c.args.to.0 = c.index-tasks-to.is ∙ task_read graph c.as_slice-tasks.result.now c.args.to.0 c.index-tasks-to.result c.as_slice-tasks.ensures c.requires.to in
+    let small : to_z w64 c.args.n ≡ pos c.args.n = to_z_pos w64 c.args.n (let f = few_jobs graph c.requires.well c.args.to.0 c.args.n c.requires.to c.requires.job in omega (arith, f)) in
+    let near : AreNear graph c.requires.well c.args.from.0 c.args.to.0 c.args.n c.args.before = are_near graph c.requires.well c.args.from.0 c.args.to.0 c.args.n c.args.before c.requires.from c.requires.to c.requires.job c.requires.greatest in
+    subst (λ (z : ℤ). Fits64 (release_of t z)) (sym small) (subst (λ (x : Task). Fits64 (release_of x (pos c.args.n))) (sym e) near.later)
+
+pub returns : goal.returns
+returns c =
+    let graph = c.args.graph.now in
+    let s = c.index-tasks-from.result in
+    let f : c.index-tasks-from.result ≡ task_at graph c.args.from.0 = c.index-tasks-from.is ∙ task_read graph c.as_slice-tasks.result.now c.args.from.0 c.index-tasks-from.result c.as_slice-tasks.ensures c.requires.from in
+    let t = c.index-tasks-to.result in
+    let e : c.index-tasks-to.result ≡ task_at graph c.args.to.0 = c.index-tasks-to.is ∙ task_read graph c.as_slice-tasks.result.now c.args.to.0 c.index-tasks-to.result c.as_slice-tasks.ensures c.requires.to in
+    let seam : to_z w64 (of_z w64 c.args.before) ≡ c.args.before = to_z-of_z w64 c.args.before c.ranges.before in
+    let small : to_z w64 c.args.n ≡ pos c.args.n = to_z_pos w64 c.args.n (let f = few_jobs graph c.requires.well c.args.to.0 c.args.n c.requires.to c.requires.job in omega (arith, f)) in
+    let near : AreNear graph c.requires.well c.args.from.0 c.args.to.0 c.args.n c.args.before = are_near graph c.requires.well c.args.from.0 c.args.to.0 c.args.n c.args.before c.requires.from c.requires.to c.requires.job c.requires.greatest in
+    link_made graph c.requires.well c.args.from.0 c.args.to.0 c.args.n c.args.before near (record { from = c.jobs_before.result + c.place_in-place.result; gap = c.abs_diff.result })
+    (let x = c.jobs_before.ensures.jobs in
+    let y : c.place_in-place.result ≡ place_in c.args.before (jobs_of graph c.args.from.0) =
+    c.place_in-place.ensures.place ∙ ap (λ (z : ℤ). place_in z c.jobs_of.result) seam ∙ ap (λ (n : ℕ). place_in c.args.before n) c.jobs_of.ensures.jobs in
+    omega (arith, x, y))
+    (let earlier : c.release-earlier.result ≡ release_of (task_at graph c.args.from.0) c.args.before =
+    c.release-earlier.ensures ∙ ap (λ (z : ℤ). release_of s z) seam ∙ ap (λ (x : Task). release_of x c.args.before) f in
+    let later : c.release-later.result ≡ release_of (task_at graph c.args.to.0) (pos c.args.n) =
+    c.release-later.ensures ∙ ap (λ (z : ℤ). release_of t z) small ∙ ap (λ (x : Task). release_of x (pos c.args.n)) e in
+    let x : to_z w64 (of_z w64 c.release-later.result) ≡ release_of (task_at graph c.args.to.0) (pos c.args.n) =
+    ap (λ (z : ℤ). to_z w64 (of_z w64 z)) later ∙ to_z-of_z w64 (release_of (task_at graph c.args.to.0) (pos c.args.n)) near.later in
+    let y : to_z w64 (of_z w64 c.release-earlier.result) ≡ release_of (task_at graph c.args.from.0) c.args.before =
+    ap (λ (z : ℤ). to_z w64 (of_z w64 z)) earlier ∙ to_z-of_z w64 (release_of (task_at graph c.args.from.0) c.args.before) near.earlier in
+    c.abs_diff.ensures ∙ ap (λ (z : ℤ). unsigned_abs (z -ℤ to_z w64 (of_z w64 c.release-earlier.result))) x
+    ∙ ap (λ (z : ℤ). unsigned_abs (release_of (task_at graph c.args.to.0) (pos c.args.n) -ℤ z)) y)

@@ -1,0 +1,3 @@
+-- why a graph has no dates
+pub mod Faults
+pub mod code

@@ -1,0 +1,107 @@
+-- Tables of a hyperperiod: a round over links, and what keeps deadlines.
+use Rattle.std.specs.Prelude.{◌≡◌, ◌+◌, ◌<◌, ◌≤◌, ◌⊎◌, ℕ, List, length, Bool, true, false, Some, slice_get, sum, slice_index, slice_index_or}
+use Rattle.prl_plan.specs.declared.graphs.TaskGraph.{TaskGraph}
+use Rattle.prl_plan.specs.Jobs.{task_at}
+use Rattle.prl_dates.specs.declared.lanes.Lane.{Lane}
+use Rattle.prl_plan.specs.Graphs.{jobs_in_hyperperiod}
+use Rattle.prl_dates.specs.declared.bests.First.{First}
+use Rattle.prl_dates.specs.declared.bests.First.TheVariants as firsts
+use Rattle.prl_dates.specs.Faults.{jobs_of, IsOfPeriod}
+use Rattle.prl_dates.specs.code.Slots.{jobs_before, dates_of}
+use Rattle.prl_dates.specs.code.Families.{AreBests, IsAboveDeadlines}
+use Rattle.prl_dates.specs.code.Lanes.{link_at}
+
+-- from the date of the job before to that of the job after, link k leaves time for the WCET
+abbrev pub Leaves : Lane → ℕ → List ℕ → List ℕ → ℕ → Type 0
+Leaves lane wcet before after k = slice_index before (link_at lane k).from + wcet ≤ slice_index after (lane.first + k) + (link_at lane k).gap
+
+-- it leaves just that time
+abbrev pub Meets : Lane → ℕ → List ℕ → List ℕ → ℕ → Type 0
+Meets lane wcet before after k = slice_index after (lane.first + k) + (link_at lane k).gap ≡ slice_index before (link_at lane k).from + wcet
+
+-- the dates after the first `count` links of a lane asked for theirs
+pub record AreRaised (lane : Lane) (wcet count : ℕ) (now old new : List ℕ) : Type 0 where
+  pub long : length new ≡ length old
+  pub up : (q : ℕ) → slice_index old q ≤ slice_index new q
+  pub asks : (k : ℕ) → k < count → Leaves lane wcet now new k
+  pub only : (q : ℕ) → (slice_index new q ≡ slice_index old q) ⊎ ((k : ℕ) × (k < count) × (q ≡ lane.first + k) × Meets lane wcet now new k)
+
+-- the dates after the first `count` lanes asked for theirs
+pub record AreRound (graph : TaskGraph) (lanes : List Lane) (count : ℕ) (now new : List ℕ) : Type 0 where
+  pub long : length new ≡ length now
+  pub up : (q : ℕ) → slice_index now q ≤ slice_index new q
+  pub asks : (l : ℕ) (lane : Lane) → l < count → slice_get lanes l ≡ Some lane → (k : ℕ) → k < length lane.links →
+      Leaves lane (task_at graph lane.to.0).wcet now new k
+  pub only : (q : ℕ) → (slice_index new q ≡ slice_index now q)
+      ⊎ ((l : ℕ) × (lane : Lane) × (slice_get lanes l ≡ Some lane) × (k : ℕ) × (k < length lane.links) × (q ≡ lane.first + k)
+      × Meets lane (task_at graph lane.to.0).wcet now new k)
+
+-- lanes from a task that is not marked ask for no later date
+abbrev pub AreSettled : TaskGraph → List Lane → List Bool → List ℕ → Type 0
+AreSettled graph lanes rose now = (l : ℕ) (lane : Lane) → slice_get lanes l ≡ Some lane → slice_index_or rose lane.from.0 false ≡ false →
+    (k : ℕ) → k < length lane.links → Leaves lane (task_at graph lane.to.0).wcet now now k
+
+-- where a task is not marked, its dates are the same in both tables
+abbrev pub AreMarked : TaskGraph → ℕ → List Bool → List ℕ → List ℕ → Type 0
+AreMarked graph count rose now new = (i p : ℕ) → i < count → slice_index_or rose i false ≡ false → p < jobs_of graph i →
+    slice_index new (jobs_before graph i + p) ≡ slice_index now (jobs_before graph i + p)
+
+-- each date is within a bound
+abbrev pub AreWithin : List ℕ → ℕ → Type 0
+AreWithin table bound = (q : ℕ) → slice_index table q ≤ bound
+
+-- what the dates of task i are at first
+abbrev pub first_of : TaskGraph → First → ℕ → ℕ
+first_of graph firsts.Wcet i = (task_at graph i).wcet
+first_of graph firsts.Due i = (task_at graph i).due
+
+-- the table of the first dates of the first `count` tasks
+pub record IsSpread (graph : TaskGraph) (first : First) (count : ℕ) (table : List ℕ) : Type 0 where
+  pub long : length table ≡ jobs_before graph count
+  pub each : (i p : ℕ) → i < count → p < jobs_of graph i → slice_index table (jobs_before graph i + p) ≡ first_of graph first i
+
+-- over the first `count` tasks the one table is nowhere above the other
+abbrev pub IsNowhereAbove : TaskGraph → ℕ → List ℕ → List ℕ → Type 0
+IsNowhereAbove graph count high low = (i p : ℕ) → i < count → p < jobs_of graph i →
+    slice_index high (jobs_before graph i + p) ≤ slice_index low (jobs_before graph i + p)
+
+-- job n of task i is the lowest at which the one table is above the other
+pub record IsFirstAbove (graph : TaskGraph) (high low : List ℕ) (i n : ℕ) : Type 0 where
+  pub of_period : IsOfPeriod graph i n
+  pub above : slice_index low (jobs_before graph i + n) < slice_index high (jobs_before graph i + n)
+  pub none_lower : (j p : ℕ) → IsOfPeriod graph j p → slice_index low (jobs_before graph j + p) < slice_index high (jobs_before graph j + p) →
+      (i < j) ⊎ ((i ≡ j) × (n ≤ p))
+
+-- the bests over chains of any length: a further round changes none, and each is within its due
+pub record AreFinal (graph : TaskGraph) (lanes : List Lane) (table : List ℕ) : Type 0 where
+  pub rounds : ℕ
+  pub bests : AreBests graph rounds (dates_of graph table)
+  pub still : AreRound graph lanes (length lanes) table table
+  pub long : length table ≡ jobs_in_hyperperiod graph
+  pub due : (i p : ℕ) → i < length graph.tasks → p < jobs_of graph i → slice_index table (jobs_before graph i + p) ≤ (task_at graph i).due
+
+-- the dates leave time along all links of the first `count` lanes
+abbrev pub LeaveAll : TaskGraph → List Lane → ℕ → List ℕ → Type 0
+LeaveAll graph lanes count table = (l : ℕ) (lane : Lane) → l < count → slice_get lanes l ≡ Some lane → (k : ℕ) → k < length lane.links →
+    Leaves lane (task_at graph lane.to.0).wcet table table k
+
+-- dates between these and the deadlines, of which no family of deadlines is above any
+pub record AreUpperDates (graph : TaskGraph) (floor table : List ℕ) : Type 0 where
+  pub long : length table ≡ jobs_in_hyperperiod graph
+  pub floors : (i p : ℕ) → i < length graph.tasks → p < jobs_of graph i → slice_index floor (jobs_before graph i + p) ≤ slice_index table (jobs_before graph i + p)
+  pub due : (i p : ℕ) → i < length graph.tasks → p < jobs_of graph i → slice_index table (jobs_before graph i + p) ≤ (task_at graph i).due
+  pub above : IsAboveDeadlines graph (dates_of graph table)
+
+-- the dates after the first `count` links of a lane asked for theirs, and whether one was lowered
+pub record IsLowering (graph : TaskGraph) (floor : List ℕ) (lane : Lane) (count : ℕ) (old table : List ℕ) (lowered : Bool) : Type 0 where
+  pub dates : AreUpperDates graph floor table
+  pub less : lowered ≡ true → sum table < sum old
+  pub same : lowered ≡ false → table ≡ old
+  pub asks : lowered ≡ false → (k : ℕ) → k < count → Leaves lane (task_at graph lane.to.0).wcet table table k
+
+-- the same after the first `count` lanes
+pub record ArePassed (graph : TaskGraph) (floor : List ℕ) (lanes : List Lane) (count : ℕ) (old table : List ℕ) (lowered : Bool) : Type 0 where
+  pub dates : AreUpperDates graph floor table
+  pub less : lowered ≡ true → sum table < sum old
+  pub same : lowered ≡ false → table ≡ old
+  pub asks : lowered ≡ false → LeaveAll graph lanes count table

@@ -1,0 +1,34 @@
+-- Lists of windows, and the shortest that repeat as they do.
+use Rattle.std.specs.Prelude.{◌≡◌, ◌+◌, ◌-◌, ◌%◌, ◌<◌, ◌≤◌, ℕ, List, [], length, slice_index, slice_index_or}
+use Rattle.prl_plan.specs.declared.graphs.TaskGraph.{TaskGraph}
+use Rattle.prl_plan.specs.declared.tables.Window.{Window}
+use Rattle.prl_plan.specs.Dates.{no_window}
+use Rattle.prl_plan.specs.Jobs.{task_at}
+use Rattle.prl_plan.specs.Repeats.{IsShortestRepeat}
+use Rattle.prl_plan.proofs.ShortestRepeats.{ComesWithin}
+use Rattle.prl_dates.specs.Faults.{jobs_of}
+use Rattle.prl_dates.specs.code.Slots.{jobs_before}
+
+-- the window that the tables tell for a slot of task i
+abbrev pub window_of : TaskGraph → ℕ → List ℕ → List ℕ → ℕ → Window
+window_of graph i bests tails slot = record { lead = slice_index bests slot - (task_at graph i).wcet; tail = slice_index tails slot }
+
+-- of the divisors of the length after which the same comes, the least
+pub record IsCut (list : List Window) (step : ℕ) : Type 0 where
+  pub some : 1 ≤ step
+  pub fits : step ≤ length list
+  pub divides : length list % step ≡ 0
+  pub serves : ComesWithin list step
+  pub none_less : (other : ℕ) → 1 ≤ other → other < step → length list % other ≡ 0 → ComesWithin list other → ⊥
+
+-- the shortest list of windows of task i
+pub record AreWindowsOf (graph : TaskGraph) (bests tails : List ℕ) (i : ℕ) (list : List Window) : Type 0 where
+  pub some : 1 ≤ length list
+  pub divides : jobs_of graph i % length list ≡ 0
+  pub each : (p : ℕ) → p < jobs_of graph i → slice_index_or list (p % length list) no_window ≡ window_of graph i bests tails (jobs_before graph i + p)
+  pub short : IsShortestRepeat list
+
+-- a list for each of the first `count` tasks
+pub record AreWindows (graph : TaskGraph) (bests tails : List ℕ) (count : ℕ) (windows : List (List Window)) : Type 0 where
+  pub long : length windows ≡ count
+  pub each : (i : ℕ) → i < count → AreWindowsOf graph bests tails i (slice_index_or windows i [])

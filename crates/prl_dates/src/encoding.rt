@@ -1,0 +1,37 @@
+//! Encoded dates of a task graph.
+
+ghost use Rattle.std.specs.Prelude.{MatchResult};
+ghost use Rattle.prl_plan.specs.Dates.{AreEncodedDates};
+ghost use Rattle.prl_plan.specs.Graphs.{IsWellFormed};
+ghost use Rattle.prl_plan.specs.Plans.{HaveRoom, AreShortWindows};
+ghost use Rattle.prl_dates.specs.Faults.{IsDateFault};
+
+use crate::DateFault;
+use crate::bests::{First, bests, spread};
+use crate::lanes::lanes;
+use crate::latest::lower_to_end;
+use crate::windows::windows;
+use prl_plan::{Dates, TaskGraph};
+use std::alloc::Global;
+
+/// The encoded dates of all jobs: the least releases and the greatest deadlines that keep each job
+/// after those that precede it, as shortest lists that repeat. There are none where some job has no
+/// room: the fault tells the lowest job whose best is above its deadline, or where there is no such
+/// job, the lowest that ends a loop.
+pub fn encode(alloc: Global, graph: &TaskGraph) -> Result<Dates, DateFault>
+    requires { IsWellFormed graph.now }
+    ensures dates { MatchResult result (λ dates. AreEncodedDates graph.now dates × HaveRoom graph.now dates × AreShortWindows dates)
+        (IsDateFault graph.now) }
+{
+    let lanes = lanes(alloc, graph)?;
+    let mut tails = spread(alloc, graph, First::Due)?;
+    let bests = bests(alloc, graph, lanes.as_slice(), tails.as_slice())?;
+    lower_to_end(
+        graph,
+        lanes.as_slice(),
+        bests.as_slice(),
+        tails.as_mut_slice(),
+    );
+    let windows = windows(alloc, graph, bests.as_slice(), tails.as_slice())?;
+    Ok(Dates::new(windows))
+}

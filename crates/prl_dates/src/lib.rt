@@ -1,0 +1,15 @@
+//! Encoded dates of a task graph: least releases and greatest deadlines over all jobs, as shortest
+//! lists that repeat, or the first job that has no room. It stands on `prl_plan`.
+#![tactic(auto)]
+
+mod bests;
+mod encoding;
+mod faults;
+mod lanes;
+mod latest;
+mod numbers;
+mod rounds;
+mod windows;
+
+pub use encoding::encode;
+pub use faults::DateFault;

@@ -1,0 +1,116 @@
+//! Windows of the jobs of a hyperperiod, as shortest lists that repeat.
+
+ghost use Rattle.std.specs.Prelude.{◌≡◌, ◌+◌, ◌-◌, ◌%◌, ◌<◌, ◌≤◌, ◌↔◌, ℕ, length, IfOk, IsTrue, slice_index, slice_index_or};
+ghost use Rattle.prl_plan.specs.Dates.{no_window};
+ghost use Rattle.prl_plan.specs.Graphs.{IsWellFormed, jobs_in_hyperperiod};
+ghost use Rattle.prl_plan.specs.Jobs.{task_at};
+ghost use Rattle.prl_plan.proofs.ShortestRepeats.{ComesWithin};
+ghost use Rattle.prl_dates.specs.Faults.{jobs_of};
+ghost use Rattle.prl_dates.specs.code.Slots.{jobs_before};
+ghost use Rattle.prl_dates.specs.code.Windows.{window_of, IsCut, AreWindowsOf, AreWindows};
+
+use crate::numbers::{jobs_before, jobs_of, wcet_of};
+use prl_base::{Seq, TaskNo};
+use prl_plan::{TaskGraph, Window};
+use std::alloc::{AllocError, Global};
+
+/// Whether so many places later the same window stands, as far as the list goes.
+fn comes_within(list: &[Window], step: usize) -> bool
+    requires { step ≤ length list.now }
+    ensures { IsTrue result ↔ ComesWithin list.now step }
+{
+    for i in 0..list.len() - step {
+        let here = list[i];
+        let there = list[i + step];
+        if there.lead != here.lead || there.tail != here.tail {
+            return false;
+        }
+    }
+    true
+}
+
+/// The length of the shortest list that repeats as this one does.
+fn shortest(list: &[Window]) -> usize
+    requires { 1 ≤ length list.now }
+    ensures { IsCut list.now result }
+{
+    for step in 1..list.len() {
+        if list.len() % step == 0 && comes_within(list, step) {
+            return step;
+        }
+    }
+    list.len()
+}
+
+/// The windows of the task's jobs in a hyperperiod.
+fn all_windows(
+    alloc: Global,
+    graph: &TaskGraph,
+    i: TaskNo,
+    bests: &[u64],
+    tails: &[u64],
+) -> Result<Vec<Window>, AllocError>
+    requires well { IsWellFormed graph.now }
+    requires task { i.0 < length graph.now.tasks }
+    requires bests { length bests.now ≡ jobs_in_hyperperiod graph.now }
+    requires tails { length tails.now ≡ jobs_in_hyperperiod graph.now }
+    requires room { (p : ℕ) → p < jobs_of graph.now i.0 → (task_at graph.now i.0).wcet ≤ slice_index bests.now (jobs_before graph.now i.0 + p) }
+    ensures long { IfOk result (λ v. length v.items ≡ jobs_of graph.now i.0) }
+    ensures each { IfOk result (λ v. (p : ℕ) → p < jobs_of graph.now i.0 →
+        slice_index_or v.items p no_window ≡ window_of graph.now i.0 bests.now tails.now (jobs_before graph.now i.0 + p)) }
+{
+    let first = jobs_before(graph, i.0);
+    let jobs = jobs_of(graph, i);
+    let wcet = u64::from(wcet_of(graph, i));
+    let mut list = Vec::with_capacity(alloc, jobs as usize)?;
+    for p in 0..jobs {
+        let slot = (first + p) as usize;
+        list.push(Window {
+            lead: bests[slot] - wcet,
+            tail: tails[slot],
+        })?;
+    }
+    Ok(list)
+}
+
+/// The shortest list of windows of the task.
+fn windows_of(
+    alloc: Global,
+    graph: &TaskGraph,
+    i: TaskNo,
+    bests: &[u64],
+    tails: &[u64],
+) -> Result<Seq<Window>, AllocError>
+    requires well { IsWellFormed graph.now }
+    requires task { i.0 < length graph.now.tasks }
+    requires bests { length bests.now ≡ jobs_in_hyperperiod graph.now }
+    requires tails { length tails.now ≡ jobs_in_hyperperiod graph.now }
+    requires room { (p : ℕ) → p < jobs_of graph.now i.0 → (task_at graph.now i.0).wcet ≤ slice_index bests.now (jobs_before graph.now i.0 + p) }
+    ensures { IfOk result (AreWindowsOf graph.now bests.now tails.now i.0) }
+{
+    let mut list = all_windows(alloc, graph, i, bests, tails)?;
+    let step = shortest(list.as_slice());
+    list.truncate(step);
+    Ok(Seq::new(list))
+}
+
+/// The shortest list of windows of each task.
+pub(crate) fn windows(
+    alloc: Global,
+    graph: &TaskGraph,
+    bests: &[u64],
+    tails: &[u64],
+) -> Result<Seq<Seq<Window>>, AllocError>
+    requires well { IsWellFormed graph.now }
+    requires bests { length bests.now ≡ jobs_in_hyperperiod graph.now }
+    requires tails { length tails.now ≡ jobs_in_hyperperiod graph.now }
+    requires room { (i p : ℕ) → i < length graph.now.tasks → p < jobs_of graph.now i →
+        (task_at graph.now i).wcet ≤ slice_index bests.now (jobs_before graph.now i + p) }
+    ensures { IfOk result (AreWindows graph.now bests.now tails.now (length graph.now.tasks)) }
+{
+    let mut windows = Vec::with_capacity(alloc, graph.tasks.len())?;
+    for i in 0..graph.tasks.len() {
+        windows.push(windows_of(alloc, graph, TaskNo(i as u32), bests, tails)?)?;
+    }
+    Ok(Seq::new(windows))
+}
