@@ -54,4 +54,9 @@ mod DateOrder
 mod OnePlan
 mod WordPeriods
 mod SmallHorizons
+mod PlaceLaws
+mod PlanParts
+mod ActionLists
+mod SumLaws
+mod ActionCounts
 mod UsedPeriods

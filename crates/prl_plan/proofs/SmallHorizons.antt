@@ -7,7 +7,7 @@ use Rattle.prl_plan.specs.Horizons.{sum_below, IsHorizon, constants_of}
 use Rattle.prl_plan.specs.Jobs.{task_at, job_count}
 use Rattle.prl_plan.specs.Plans.{PlanView}
 
-part_of_sum : (f : ℕ → ℕ) (n i : ℕ) → i < n → f i ≤ sum_below f n
+pub part_of_sum : (f : ℕ → ℕ) (n i : ℕ) → i < n → f i ≤ sum_below f n
 part_of_sum f zero i below = absurd (omega (arith, below))
 part_of_sum f (suc n) i below =
     elim (cases_lt i n) [

@@ -66,7 +66,7 @@ module _ (edge : Edge) (used : Used) (all : EnumeratesUsed edge used) where
         | inr above ↦ subst (λ (x : ℕ). used_at used x < used_at used (suc j)) (let e : j ≡ k = omega arith in e) (next j)
       ]
 
-  at_least : (k : ℕ) → k ≤ used_at used k
+  pub at_least : (k : ℕ) → k ≤ used_at used k
   at_least zero = omega arith
   at_least (suc k) = (let a = at_least k in let b = next k in omega (arith, a, b))
 

@@ -9,6 +9,9 @@ mod deadlines;
 mod events;
 mod facts;
 mod fixed_points;
+mod graph_actions;
+mod graph_horizons;
+mod graph_plans;
 mod graphs;
 mod horizons;
 mod laws;
@@ -36,6 +39,7 @@ pub use facts::{
     words_begin_with_constants,
 };
 pub use fixed_points::{hyperperiod_decides, rounds_reach_dates};
+pub use graph_plans::GraphPlan;
 pub use graphs::{Edge, Kind, Producer, Task, TaskGraph};
 pub use horizons::Horizon;
 pub use laws::{

@@ -1,0 +1,86 @@
+use Rattle.std.proofs.Common.{◌≡◌, ◌+◌, ◌-◌, ◌*◌, ◌/◌, ◌%◌, ◌<◌, ◌≤◌, ℕ, length, sum, take, refl, sym, ap, subst, arith}
+use Rattle.std.specs.Prelude.{slice_index_or}
+use Rattle.prl_plan.specs.declared.tables.Used.{Used}
+use Rattle.prl_plan.specs.Cells.{no_used}
+use Rattle.prl_plan.specs.CellLists.{IsOrdered, CountsUsed}
+use Rattle.prl_plan.proofs.PlaceLaws.{Known, known, some_total, rest_below, number, counts_at}
+use Rattle.prl_plan.proofs.cell_lists.Cells.used_before.Goals as goal
+
+-- what the calls tell
+here : (used now : Used) (m gaps total : ℕ) → now ≡ used → IsOrdered used → gaps ≡ length now.gaps → (gaps ≡ 0 → ⊥) → now.first < m → total ≡ sum (take gaps used.gaps) → Known used (m - 1) gaps total
+here used now m gaps total same is long some first whole = known used now (m - 1) gaps total same is long some (omega (arith, first)) whole
+
+counted : (used now : Used) (m gaps total last : ℕ) → now ≡ used → (k : Known used (m - 1) gaps total) → now.first < m → last < length used.gaps → sum (take last used.gaps) ≤ (m - 1 - now.first) % total →
+    (m - 1 - now.first) % total < sum (take (last + 1) used.gaps) →
+    CountsUsed used m ((m - 1 - now.first) / total * gaps + last + 1) × ((m - 1 - now.first) / total * gaps + last < m)
+counted used now m gaps total last same k first below low high =
+    let f = ap (λ (u : Used). (m - 1 - u.first) % total) same in
+    let n = number used (m - 1) gaps total k ((m - 1 - used.first) % total) refl in
+    let c = counts_at k.edge used k.all (m - 1) ((m - 1 - used.first) / total) last below (omega (arith, n, f, low)) (omega (arith, n, f, high)) in
+    let e : m - 1 + 1 ≡ m = omega (arith, first) in
+    let g : (m - 1 - used.first) / total * length used.gaps + last + 1 ≡ (m - 1 - used.first) / total * gaps + last + 1 = ap (λ (x : ℕ). (m - 1 - used.first) / total * x + last + 1) (sym k.long) in
+    let small = c.1 in
+    rw same (subst (λ (x : ℕ). CountsUsed used x ((m - 1 - used.first) / total * gaps + last + 1)) e (subst (λ (x : ℕ). CountsUsed used (m - 1 + 1) x) g c.0), omega (arith, g, small, first))
+
+pub nonzero_div-result : goal.nonzero_div-result
+nonzero_div-result c =
+    let none = c.if-gaps-eq0.false in
+    let k = here (slice_index_or c.args.self.now.used c.args.e.0 no_used) c.used-used.result.now c.args.m c.len-gaps.result c.sum_of-total.result c.used-used.ensures c.requires.order c.len-gaps.ensures
+    (λ zero. omega (arith, zero, none)) c.if-m-used.false c.sum_of-total.ensures in
+    let s = some_total (slice_index_or c.args.self.now.used c.args.e.0 no_used) (c.args.m - 1) c.len-gaps.result c.sum_of-total.result k in
+    omega (arith, s)
+
+pub nonzero_rem-past : goal.nonzero_rem-past
+nonzero_rem-past c =
+    let none = c.if-gaps-eq0.false in
+    let k = here (slice_index_or c.args.self.now.used c.args.e.0 no_used) c.used-used.result.now c.args.m c.len-gaps.result c.sum_of-total.result c.used-used.ensures c.requires.order c.len-gaps.ensures
+    (λ zero. omega (arith, zero, none)) c.if-m-used.false c.sum_of-total.ensures in
+    let s = some_total (slice_index_or c.args.self.now.used c.args.e.0 no_used) (c.args.m - 1) c.len-gaps.result c.sum_of-total.result k in
+    omega (arith, s)
+
+pub gaps_to-last-requires-clause-rest : goal.gaps_to-last-requires-clause-rest
+gaps_to-last-requires-clause-rest c =
+    let none = c.if-gaps-eq0.false in
+    let k = here (slice_index_or c.args.self.now.used c.args.e.0 no_used) c.used-used.result.now c.args.m c.len-gaps.result c.sum_of-total.result c.used-used.ensures c.requires.order c.len-gaps.ensures
+    (λ zero. omega (arith, zero, none)) c.if-m-used.false c.sum_of-total.ensures in
+    let b = rest_below (slice_index_or c.args.self.now.used c.args.e.0 no_used) (c.args.m - 1) c.len-gaps.result c.sum_of-total.result k in
+    let f = ap (λ (u : Used). (c.args.m - 1 - u.first) % c.sum_of-total.result) c.used-used.ensures in
+    omega (arith, b, f)
+
+pub returns : goal.returns
+returns c =
+    let none = c.if-gaps-eq0.false in
+    let k = here (slice_index_or c.args.self.now.used c.args.e.0 no_used) c.used-used.result.now c.args.m c.len-gaps.result c.sum_of-total.result c.used-used.ensures c.requires.order c.len-gaps.ensures
+    (λ zero. omega (arith, zero, none)) c.if-m-used.false c.sum_of-total.ensures in
+    (counted (slice_index_or c.args.self.now.used c.args.e.0 no_used) c.used-used.result.now c.args.m c.len-gaps.result c.sum_of-total.result c.gaps_to-last.result c.used-used.ensures k c.if-m-used.false
+    c.gaps_to-last.ensures.inside c.gaps_to-last.ensures.reached c.gaps_to-last.ensures.not_passed).0
+
+pub overflow_add-result : goal.overflow_add-result
+overflow_add-result c =
+    let none = c.if-gaps-eq0.false in
+    let k = here (slice_index_or c.args.self.now.used c.args.e.0 no_used) c.used-used.result.now c.args.m c.len-gaps.result c.sum_of-total.result c.used-used.ensures c.requires.order c.len-gaps.ensures
+    (λ zero. omega (arith, zero, none)) c.if-m-used.false c.sum_of-total.ensures in
+    let s = (counted (slice_index_or c.args.self.now.used c.args.e.0 no_used) c.used-used.result.now c.args.m c.len-gaps.result c.sum_of-total.result c.gaps_to-last.result c.used-used.ensures k c.if-m-used.false
+    c.gaps_to-last.ensures.inside c.gaps_to-last.ensures.reached c.gaps_to-last.ensures.not_passed).1 in
+    let small = c.requires.small in
+    omega (arith, s, small)
+
+pub overflow_add-result-2 : goal.overflow_add-result-2
+overflow_add-result-2 c =
+    let none = c.if-gaps-eq0.false in
+    let k = here (slice_index_or c.args.self.now.used c.args.e.0 no_used) c.used-used.result.now c.args.m c.len-gaps.result c.sum_of-total.result c.used-used.ensures c.requires.order c.len-gaps.ensures
+    (λ zero. omega (arith, zero, none)) c.if-m-used.false c.sum_of-total.ensures in
+    let s = (counted (slice_index_or c.args.self.now.used c.args.e.0 no_used) c.used-used.result.now c.args.m c.len-gaps.result c.sum_of-total.result c.gaps_to-last.result c.used-used.ensures k c.if-m-used.false
+    c.gaps_to-last.ensures.inside c.gaps_to-last.ensures.reached c.gaps_to-last.ensures.not_passed).1 in
+    let small = c.requires.small in
+    omega (arith, s, small)
+
+pub overflow_mul-result : goal.overflow_mul-result
+overflow_mul-result c =
+    let none = c.if-gaps-eq0.false in
+    let k = here (slice_index_or c.args.self.now.used c.args.e.0 no_used) c.used-used.result.now c.args.m c.len-gaps.result c.sum_of-total.result c.used-used.ensures c.requires.order c.len-gaps.ensures
+    (λ zero. omega (arith, zero, none)) c.if-m-used.false c.sum_of-total.ensures in
+    let s = (counted (slice_index_or c.args.self.now.used c.args.e.0 no_used) c.used-used.result.now c.args.m c.len-gaps.result c.sum_of-total.result c.gaps_to-last.result c.used-used.ensures k c.if-m-used.false
+    c.gaps_to-last.ensures.inside c.gaps_to-last.ensures.reached c.gaps_to-last.ensures.not_passed).1 in
+    let small = c.requires.small in
+    omega (arith, s, small)
