@@ -1,5 +1,5 @@
 -- How a call of the command ends: its status, its line on err, what it leaves in out, and what that says of the command.
-use Rattle.std.specs.Prelude.{◌≡◌, ◌++◌, ◌⊎◌, ℕ, List, [], ◌∷◌, Option, Some, None, IsSome}
+use Rattle.std.specs.Prelude.{◌≡◌, ◌++◌, ◌⊎◌, ℕ, List, [], ◌∷◌, Option, Some, None}
 use Rattle.prl_io.specs.Views.{FolderView, SinkView, Appends, AppendsLess}
 use Rattle.prl_app.specs.declared.endings.Ending.{Ending}
 use Rattle.prl_app.specs.declared.endings.Ending.TheVariants as endings
@@ -86,9 +86,8 @@ Ends words old new (endings.Stopped (stops.Unread part)) =
 -- a stage refuses
 Ends words old new (endings.Stopped (stops.Refused stage fault)) =
     IsRefused words old.files.folder stage fault × (new.out ≡ old.out) × NoneFailed old new
--- memory ran out, which may come wherever the words are a command
-Ends words old new (endings.Stopped stops.Memory) =
-    IsSome (command_of words) × (new.out ≡ old.out) × NoneFailed old new
+-- memory ran out, which may come whatever the words are
+Ends words old new (endings.Stopped stops.Memory) = (new.out ≡ old.out) × NoneFailed old new
 
 -- err is as it was; or it grew by the line, or by a front of it where a fault was counted
 abbrev pub IsTold : SinkView → SinkView → Option (List ℕ) → Type 0

@@ -1,0 +1,4 @@
+pub mod Spelled
+pub mod Walked
+pub mod Agreement
+pub mod Taken

@@ -1,12 +1,12 @@
-//! The arguments of the command line.
+//! The arguments of the command line: the form of its words, and the command that they ask for.
 
-ghost use Rattle.std.specs.Prelude.{◌≡◌, ◌<◌, ◌≤◌, ◌^◌, map, IfOk, IfSome, IsSome, Some, Err, None};
-ghost use Rattle.std.specs.List.{list_all};
+ghost use Rattle.std.specs.Prelude.{◌≡◌, ◌<◌, ◌≤◌, ◌^◌, map, IfOk, IfSome, Some, Err, None};
 ghost use Rattle.std.specs.Option.{option_map};
 ghost use Rattle.std.specs.String.{string_bytes};
-ghost use Rattle.prl_arguments.specs.Arguments.{after_front, all_settings, command_of, command_of_mode, date_of, first_option, fits, is_value, may, mode_named, name_of, named_by, named_in, needs, nothing, number_up_to, own_value, value_from, value_of, with_option, with_options, with_value, with_words};
-ghost use Rattle.prl_arguments.specs.code.Settings.{bytes_of, given_by, named_as, wanted_command};
+ghost use Rattle.prl_arguments.specs.Arguments.{after_front, command_of, first_option, is_value, may, mode_named, name_of, named_by, named_in, needs, nothing, own_value, value_from, value_of, with_option, with_options, with_value};
+ghost use Rattle.prl_arguments.specs.code.Settings.{bytes_of, form_of, form_of_mode, given_by, named_as, number_of, wanted_command, wanted_form};
 
+use crate::options::are_options_of;
 use prl_base::{Label, decimal_of};
 use std::alloc::{AllocError, Global};
 
@@ -125,7 +125,7 @@ fn mode_named(name: &[u8]) -> Option<Mode>
 }
 
 /// Whether the mode needs the option.
-fn needs(mode: Mode, setting: Setting) -> bool
+pub(crate) fn needs(mode: Mode, setting: Setting) -> bool
     ensures { result ≡ needs mode setting }
 {
     match (mode, setting) {
@@ -140,7 +140,7 @@ fn needs(mode: Mode, setting: Setting) -> bool
 }
 
 /// Whether the mode may have the option, beside those that it needs.
-fn may(mode: Mode, setting: Setting) -> bool
+pub(crate) fn may(mode: Mode, setting: Setting) -> bool
     ensures { result ≡ may mode setting }
 {
     match (mode, setting) {
@@ -151,7 +151,7 @@ fn may(mode: Mode, setting: Setting) -> bool
 }
 
 /// The name of an option, which is written after `--`.
-fn name_of<'a>(setting: Setting) -> &'a str
+pub(crate) fn name_of<'a>(setting: Setting) -> &'a str
     ensures { result.now ≡ name_of setting }
 {
     match setting {
@@ -276,22 +276,6 @@ fn is_value(word: &[u8]) -> bool
     }
 }
 
-fn number_up_to(most: u32, word: &[u8]) -> Option<u32>
-    ensures exact { result ≡ number_up_to most word.now }
-    ensures within { IfSome result (λ number. number ≤ most) }
-{
-    match decimal_of(word) {
-        None => None,
-        Some(number) => {
-            if word.len() <= 20 && number <= u64::from(most) {
-                Some(number as u32)
-            } else {
-                None
-            }
-        }
-    }
-}
-
 /// The value of an option, from its own word or else the next one, and the words after it.
 fn value_from<'a>(own: Option<&'a [u8]>, later: &'a [String]) -> Option<Taken<'a>>
     ensures { option_map (λ t. (t.0.now, map string_bytes t.1.now)) result ≡ value_from (bytes_of own.entry) (map string_bytes later.now) }
@@ -332,67 +316,40 @@ fn with_options<'a>(most: usize, given: Given<'a>, words: &'a [String]) -> Optio
     }
 }
 
-/// The date of the command, 0 where none is given.
-fn date_of(text: Option<&[u8]>) -> Option<u32>
-    ensures exact { result ≡ date_of (bytes_of text.entry) }
-    ensures until { IfSome result (λ until. until < 2 ^ 31) }
+/// The number that 1 to 20 digits spell, 0 where there is no text.
+fn number_of(text: Option<&[u8]>) -> Option<u64>
+    ensures { result ≡ number_of (bytes_of text.entry) }
 {
     match text {
         None => Some(0),
-        Some(text) => number_up_to(MAX_UNTIL, text),
+        Some(text) => {
+            let number = decimal_of(text)?;
+            if text.len() <= 20 { Some(number) } else { None }
+        }
     }
 }
 
-/// Whether the mode has the option where it needs it, and only where it may have it.
-fn fits(mode: Mode, given: Given<'_>, setting: Setting) -> bool
-    ensures { result ≡ fits mode (given_by given.entry) setting }
-{
-    if given.value_of(setting).is_some() {
-        needs(mode, setting) || may(mode, setting)
-    } else {
-        !needs(mode, setting)
-    }
-}
-
-/// Whether the options are those of the mode.
-fn fit(mode: Mode, given: Given<'_>) -> bool
-    ensures { result ≡ list_all (fits mode (given_by given.entry)) all_settings }
-{
-    fits(mode, given, Setting::Program)
-        && fits(mode, given, Setting::Bodies)
-        && fits(mode, given, Setting::Sensors)
-        && fits(mode, given, Setting::Schedule)
-        && fits(mode, given, Setting::Node)
-        && fits(mode, given, Setting::Until)
-}
-
-/// A mode, the values of its options, and its date.
+/// A mode, the values of options, and a date: what words of the form of a command give.
 #[derive(Clone, Copy)]
 struct Wanted<'a> {
     mode: Mode,
     given: Given<'a>,
-    until: u32,
+    until: u64,
 }
 
-/// What is wanted of a mode with these options.
-#[tactic(auto, unfolding(crate::specs::Arguments::command_of_mode))]
+/// What the words after a mode give.
+#[tactic(auto, unfolding(crate::specs::code::Settings::form_of_mode))]
 fn wanted_of_mode<'a>(mode: Mode, words: &'a [String]) -> Option<Wanted<'a>>
-    ensures exact { option_map wanted_command result ≡ command_of_mode mode (map string_bytes words.now) }
-    ensures until { IfSome result (λ wanted. wanted.until < 2 ^ 31) }
+    ensures { option_map wanted_form result ≡ form_of_mode mode (map string_bytes words.now) }
 {
     let given = with_options(words.len(), nothing(), words)?;
-    let until = date_of(given.until)?;
-    if fit(mode, given) {
-        Some(Wanted { mode, given, until })
-    } else {
-        None
-    }
+    let until = number_of(given.until)?;
+    Some(Wanted { mode, given, until })
 }
 
-/// What the words want.
+/// What the words give, where they have the form of a command.
 fn read_wanted<'a>(words: &'a [String]) -> Option<Wanted<'a>>
-    ensures exact { option_map wanted_command result ≡ command_of (map string_bytes words.now) }
-    ensures until { IfSome result (λ wanted. wanted.until < 2 ^ 31) }
+    ensures { option_map wanted_form result ≡ form_of (map string_bytes words.now) }
 {
     match words {
         [_, mode, rest @ ..] => {
@@ -401,6 +358,21 @@ fn read_wanted<'a>(words: &'a [String]) -> Option<Wanted<'a>>
         }
         [_] => None,
         [] => None,
+    }
+}
+
+/// What the words give, where they are a command.
+fn read_command<'a>(alloc: Global, words: &'a [String]) -> Result<Option<Wanted<'a>>, AllocError>
+    ensures exact { IfOk result (λ w. option_map wanted_command w ≡ command_of (map string_bytes words.now)) }
+    ensures until { IfOk result (λ w. IfSome w (λ wanted. wanted.until ≤ MAX_UNTIL)) }
+{
+    let Some(wanted) = read_wanted(words) else {
+        return Ok(None);
+    };
+    if are_options_of(alloc, wanted.mode, words)? {
+        Ok(Some(wanted))
+    } else {
+        Ok(None)
     }
 }
 
@@ -421,9 +393,8 @@ pub fn read_arguments(alloc: Global, words: &[String]) -> Result<Command, Argume
     ensures found { IfOk result (λ command. command_of (map string_bytes words.now) ≡ Some command) }
     ensures until { IfOk result (λ command. command.until < 2 ^ 31) }
     ensures refused { result ≡ Err ArgumentsFault.Refused → command_of (map string_bytes words.now) ≡ None }
-    ensures memory { result ≡ Err ArgumentsFault.Memory → IsSome (command_of (map string_bytes words.now)) }
 {
-    let Some(wanted) = read_wanted(words) else {
+    let Some(wanted) = read_command(alloc, words)? else {
         return Err(ArgumentsFault::Refused);
     };
     Ok(Command {
@@ -433,6 +404,6 @@ pub fn read_arguments(alloc: Global, words: &[String]) -> Result<Command, Argume
         sensors: label_of(alloc, wanted.given.sensors)?,
         schedule: label_of(alloc, wanted.given.schedule)?,
         node: label_of(alloc, wanted.given.node)?,
-        until: wanted.until,
+        until: wanted.until as u32,
     })
 }

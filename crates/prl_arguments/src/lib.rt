@@ -3,5 +3,6 @@
 #![tactic(auto)]
 
 mod arguments;
+mod options;
 
 pub use arguments::{ArgumentsFault, Command, MAX_UNTIL, Mode, Setting, read_arguments};

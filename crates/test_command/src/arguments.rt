@@ -123,7 +123,16 @@ fn words_that_are_no_command(rt: HostRuntime) -> Result<(), Fail> {
             ("check --program p", "refused"),
             ("plan --program p", "refused"),
             ("run --program p --sensors i --until 60", "refused"),
+            (
+                "run --program p --workers 0 --sensors i --until 60",
+                "refused",
+            ),
+            (
+                "run --program p --workers=17 --sensors i --until 60",
+                "refused",
+            ),
             ("generate --seed 1 --size 1", "refused"),
+            ("generate --seed=1 --size=21", "refused"),
         ],
     )
 }
@@ -146,6 +155,22 @@ fn options_of_the_modes(rt: HostRuntime) -> Result<(), Fail> {
             ("print --program p --node n", "refused"),
             ("print --program p --bodies b", "refused"),
             ("print --program p --workers 2", "refused"),
+            (
+                "flows --program p --sensors i --until 60 --workers 2",
+                "refused",
+            ),
+            (
+                "flows --program p --sensors i --until 60 --clock gated",
+                "refused",
+            ),
+            (
+                "replay --program p --sensors i --schedule s --until 7 --seed 1",
+                "refused",
+            ),
+            (
+                "replay --program p --sensors i --schedule s --until 7 --size=1",
+                "refused",
+            ),
             ("print --programs p", "refused"),
             ("print --progra p", "refused"),
             ("print -program p", "refused"),
