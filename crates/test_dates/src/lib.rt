@@ -1,0 +1,6 @@
+//! Tests of encoded dates.
+#![tactic(auto)]
+
+#[cfg(test)]
+mod dates;
+mod graphs;
