@@ -8,8 +8,11 @@ use Rattle.prl_types.specs.declared.solving.Marks.{Marks}
 use Rattle.prl_types.specs.declared.solving.Unsolved.TheVariants as unsolved
 use Rattle.prl_types.specs.Choices.{FitsRule, FitRules}
 use Rattle.prl_types.specs.Solutions.{IsMismatch}
-use Rattle.prl_types.specs.Marks.{IsKept, Solves, Refuses}
-use Rattle.prl_types.specs.States.{IsOpen}
+use Rattle.prl_types.specs.Marks.{resolved, IsKept, Solves, Refuses}
+use Rattle.prl_types.specs.States.{IsOpen, HasState}
+use Rattle.prl_types.specs.declared.progress.State.{State}
+use Rattle.prl_types.specs.declared.progress.State.TheVariants as states
+use Rattle.prl_types.proofs.Meeting.{solves_equal}
 
 fits_last : (count : ℕ) (rules : List Rule) (rule : Rule) → FitRules count (rules ++ rule ∷ []) → FitsRule count rule
 fits_last count [] rule h = h.0
@@ -74,3 +77,16 @@ stays_refused count rules more before fits =
       found_is = h.found_is;
       differ = h.differ;
     }
+
+-- a rule of two equal sides says nothing
+pub says_nothing : (count : ℕ) (rules : List Rule) (rule : Rule) (marks : Marks) (state : State) → rule.wanted ≡ rule.found → HasState count rules marks state
+    → HasState count (rules ++ rule ∷ []) marks state
+says_nothing count rules rule marks states.Open same open_one = record {
+  kept = open_one.kept;
+  number = open_one.number;
+  solves = λ fits.
+      solves_equal record { wanted_is = refl; found_is = refl } (ap (resolved marks.marks.items) same)
+      (open_one.solves (fits_front count rules (rule ∷ []) fits));
+}
+says_nothing count rules rule marks (states.Refused at wanted found) same before = stays_refused count rules (rule ∷ []) before
+says_nothing count rules rule marks states.Lost same before = tt

@@ -1,6 +1,6 @@
 //! The rules met one by one, as they are made.
 
-ghost use Rattle.std.specs.Prelude.{◌≡◌, ◌↔◌, ◌++◌, ◌∷◌, [], IsTrue, IfOk, OnOk, MatchResult};
+ghost use Rattle.std.specs.Prelude.{◌≡◌, ◌↔◌, true, ◌++◌, ◌∷◌, [], IsTrue, IfOk, OnOk, MatchResult};
 ghost use Rattle.prl_types.specs.Choices.{FitsTerm, FitsRule, FitRules};
 ghost use Rattle.prl_types.specs.Solutions.{AreTypes};
 ghost use Rattle.prl_types.specs.Marks.{Explains};
@@ -62,6 +62,13 @@ fn fits_rule(rule: Rule, count: usize) -> bool
     fits(rule.wanted, count) && fits(rule.found, count)
 }
 
+/// Whether the two terms are the same.
+fn is_same(a: Term, b: Term) -> bool
+    ensures { result ≡ true → a ≡ b }
+{
+    a == b
+}
+
 /// What comes of one more rule, where the marks solve those before it.
 fn meet(alloc: Global, marks: &mut Marks, count: usize, rules: &MetRules, rule: Rule) -> State
     requires { IsOpen count rules.now.list marks.old }
@@ -92,6 +99,9 @@ impl State {
         requires { HasState count rules.now.list marks.old self }
         ensures { HasState count (rules.now.list ++ rule ∷ []) marks.new result }
     {
+        if is_same(rule.wanted, rule.found) {
+            return self;
+        }
         match self {
             State::Open => meet(alloc, marks, count, rules, rule),
             State::Refused { at, wanted, found } => State::Refused { at, wanted, found },
