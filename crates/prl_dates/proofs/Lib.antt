@@ -10,3 +10,4 @@ mod Spreads
 mod Settles
 mod Lowering
 mod DateTables
+mod Circles

@@ -22,7 +22,7 @@ module _ (graph : TaskGraph) (good : IsWellFormed graph) where
   joined_edge i j edge joins = good.edges joins.stands.0 edge joins.stands.1
 
   -- the number that precedes goes on with the hyperperiod
-  joins_shift : (i j : ℕ) (edge : Edge) → Joins graph i j edge → (n : ℤ) →
+  pub joins_shift : (i j : ℕ) (edge : Edge) → Joins graph i j edge → (n : ℤ) →
       preceding edge.ops (n +ℤ pos (jobs_of graph j)) ≡ preceding edge.ops n +ℤ pos (jobs_of graph i)
   joins_shift i j edge joins n =
       let is : IsEdge graph edge = joined_edge i j edge joins in

@@ -57,3 +57,12 @@ IsDateFault graph faults.Memory = Unit {0}
 -- some chain of jobs needs longer than its last job has
 abbrev pub HasNarrowChain : TaskGraph → Type 0
 HasNarrowChain graph = (first : Job) × (rest : List Job) × IsNarrow graph first rest
+
+abbrev pub HasNoNarrowChain : TaskGraph → Type 0
+HasNoNarrowChain graph = HasNarrowChain graph → ⊥
+
+-- a fault that tells of the graph, and not of memory
+abbrev pub IsOfGraph : DateFault → Type 0
+IsOfGraph (faults.Narrow task job needs has) = Unit {0}
+IsOfGraph (faults.Loop task job) = Unit {0}
+IsOfGraph faults.Memory = ⊥

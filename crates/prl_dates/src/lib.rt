@@ -7,9 +7,11 @@ mod encoding;
 mod faults;
 mod lanes;
 mod latest;
+mod laws;
 mod numbers;
 mod rounds;
 mod windows;
 
 pub use encoding::encode;
 pub use faults::DateFault;
+pub use laws::faults_tell_of_narrow_chains;

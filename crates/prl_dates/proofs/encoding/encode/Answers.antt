@@ -33,8 +33,8 @@ windows-requires-clause-room c =
     subst (λ (xs : List ℕ). (i p : ℕ) → i < length graph.tasks → p < jobs_of graph i → (task_at graph i).wcet ≤ slice_index xs (jobs_before graph i + p)) (sym c.as_slice-5.ensures.value)
     (best_room graph c.requires lanes c.in_ok-lanes.ensures bests final)
 
-pub returns : goal.returns
-returns c =
+pub returns-clause-dates : goal.returns-clause-dates
+returns-clause-dates c =
     let graph = c.args.graph.now in
     let lanes = c.in_ok-lanes.lanes.items in
     let bests = c.in_ok-bests.bests.items in
@@ -48,10 +48,13 @@ returns c =
     let lists : AreWindows graph bests tails (length graph.tasks) c.in_ok-windows.windows =
     subst (λ (xs : List ℕ). AreWindows graph bests xs (length graph.tasks) c.in_ok-windows.windows) same
     (subst (λ (xs : List ℕ). AreWindows graph xs c.as_slice-6.result.now (length graph.tasks) c.in_ok-windows.windows) c.as_slice-5.ensures.value c.in_ok-windows.ensures) in
-    record {
-      dates = subst (λ (ws : List (List Window)). AreEncodedDates graph ws × HaveRoom graph ws × AreShortWindows ws) (sym c.new.ensures) (
-        dates_made graph c.requires lanes c.in_ok-lanes.ensures bests final tails upper leave c.in_ok-windows.windows lists,
-        room_made graph c.requires lanes c.in_ok-lanes.ensures bests final tails upper leave c.in_ok-windows.windows lists,
-        short_made graph c.requires lanes c.in_ok-lanes.ensures bests final tails upper leave c.in_ok-windows.windows lists,
-      );
-    }
+    subst (λ (ws : List (List Window)). AreEncodedDates graph ws × HaveRoom graph ws × AreShortWindows ws) (sym c.new.ensures) (
+      dates_made graph c.requires lanes c.in_ok-lanes.ensures bests final tails upper leave c.in_ok-windows.windows lists,
+      room_made graph c.requires lanes c.in_ok-lanes.ensures bests final tails upper leave c.in_ok-windows.windows lists,
+      short_made graph c.requires lanes c.in_ok-lanes.ensures bests final tails upper leave c.in_ok-windows.windows lists,
+    )
+
+pub returns-clause-narrow : goal.returns-clause-narrow
+returns-clause-narrow c =
+    let made = returns-clause-dates c in
+    c.faults_tell_of_narrow_chains.ensures.room c.args.graph.now c.new.result made.0 made.1

@@ -1,0 +1,427 @@
+-- A chain of one job more than a hyperperiod has meets two jobs of one slot: round and round from the one to the other, chains
+-- become narrow.
+use Rattle.std.proofs.Common.{◌≡◌, ◌+◌, ◌-◌, ◌*◌, ◌/◌, ◌%◌, ◌<◌, ◌≤◌, ◌⊎◌, ◌++◌, ℕ, zero, suc, Bool, true, false, List, [], ◌∷◌, length, map, inl, inr, refl, sym, ◌∙◌, ap, subst, arith, eqb, ◌||◌}
+use Rattle.std.specs.Prelude.{ℤ, pos, negsuc, ◌+ℤ◌, ◌-ℤ◌, ◌*ℤ◌, ◌≤ℤ◌, ◌<ℤ◌}
+use Rattle.std.specs.List.{list_any, IsDistinct, AllByRecursion}
+use Rattle.std.proofs.Math.Nat.{mod-add-div', mod-eq_of_lt, mul-le-mul_left}
+use Rattle.std.proofs.lemmas.Bool.Decides.{nat_tests}
+use Rattle.std.proofs.lemmas.Int.{ints}
+use Rattle.std.proofs.lemmas.Map.Steps.{length-le_from_distinct_below}
+use Rattle.prl_plan.specs.declared.graphs.Edge.{Edge}
+use Rattle.prl_plan.specs.declared.graphs.TaskGraph.{TaskGraph}
+use Rattle.prl_plan.specs.Chains.{IsChain, last_of, wcets_of, needs_of, EndsIn}
+use Rattle.prl_plan.specs.Dates.{place_in}
+use Rattle.prl_plan.specs.Graphs.{IsWellFormed, jobs_in_hyperperiod}
+use Rattle.prl_plan.specs.Jobs.{Job, task_at, release_of, deadline_of}
+use Rattle.prl_plan.specs.Precedence.{preceding, Precedes, PrecedesAlong}
+use Rattle.prl_plan.proofs.NotLater.{released_first}
+use Rattle.prl_plan.proofs.Periods.{everywhere, plus_mul}
+use Rattle.prl_plan.proofs.RoundPeriods.{task_is}
+use Rattle.prl_dates.specs.declared.faults.DateFault.{DateFault}
+use Rattle.prl_dates.specs.declared.faults.DateFault.TheVariants as faults
+use Rattle.prl_dates.specs.Faults.{jobs_of, IsLate, EndsLoop, IsDateFault, IsOfGraph, HasNarrowChain}
+use Rattle.prl_dates.specs.code.Lanes.{Joins}
+use Rattle.prl_dates.specs.code.Slots.{slot_of}
+use Rattle.prl_dates.proofs.ChainEnds.{ends_inside, begins_inside}
+use Rattle.prl_dates.proofs.Links.{joins_shift}
+use Rattle.prl_dates.proofs.Settles.{release_rises}
+use Rattle.prl_dates.proofs.Slots.{place_again, place_below, one_slot, some_jobs, slot_below, jobs_are}
+
+-- numbers at one place of a list that repeats are apart by whole lists
+same_place : (len : ℕ) → 1 ≤ len → (x : ℤ) (k : ℕ) → place_in (x +ℤ pos k) len ≡ place_in x len → (h : ℕ) × (k ≡ h * len)
+same_place len some =
+    everywhere (λ (x : ℤ). (k : ℕ) → place_in (x +ℤ pos k) len ≡ place_in x len → (h : ℕ) × (k ≡ h * len)) len some
+    (λ n below k same.
+    (let whole = mod-add-div' (n + k) len in
+    let low : n % len ≡ n = mod-eq_of_lt below in
+    let s : (n + k) % len ≡ n % len = same in
+    ((n + k) / len, omega (arith, whole, low, s))))
+    (λ x h k same. h k (sym (shifted x k) ∙ same ∙ place_again len some x))
+    (λ x h k same. h k (shifted x k ∙ same ∙ sym (place_again len some x)))
+  where
+    shifted : (x : ℤ) (k : ℕ) → place_in ((x +ℤ pos len) +ℤ pos k) len ≡ place_in (x +ℤ pos k) len
+    shifted x k = ap (λ (z : ℤ). place_in z len) (let e : (x +ℤ pos len) +ℤ pos k ≡ (x +ℤ pos k) +ℤ pos len = omega (arith, ints) in e) ∙ place_again len some (x +ℤ pos k)
+
+module _ (graph : TaskGraph) (good : IsWellFormed graph) where
+  abbrev wcet : Job → ℕ
+  wcet job = (task_at graph job.task).wcet
+
+  abbrev release : Job → ℤ
+  release job = release_of (task_at graph job.task) job.number
+
+  abbrev slot : Job → ℕ
+  slot job = slot_of graph job.task job.number
+
+  abbrev slots : Job → List Job → List ℕ
+  slots first [] = slot first ∷ []
+  slots first (next ∷ rest) = slot first ∷ slots next rest
+
+  -- a chain taken apart at a job
+  record IsSplit (first : Job) (rest : List Job) (at : Job) : Type 0 where
+    front : List Job
+    back : List Job
+    before : IsChain graph first front
+    ends : last_of first front ≡ at
+    after : IsChain graph at back
+    same : last_of at back ≡ last_of first rest
+    long : length rest ≡ length front + length back
+    wcets : wcets_of graph first rest + wcet at ≡ wcets_of graph first front + wcets_of graph at back
+
+  further : (first next : Job) (rest : List Job) (at : Job) → IsChain graph first (next ∷ rest) → IsSplit next rest at → IsSplit first (next ∷ rest) at
+  further first next rest at chain s = record {
+    front = next ∷ s.front;
+    back = s.back;
+    before = (chain.0, chain.1, s.before);
+    ends = s.ends;
+    after = s.after;
+    same = s.same;
+    long = (let l = s.long in omega (arith, l));
+    wcets = (let w = s.wcets in omega (arith, w));
+  }
+
+  at_first : (first : Job) (rest : List Job) → IsChain graph first rest → IsSplit first rest first
+  at_first first rest chain = record {
+    front = [];
+    back = rest;
+    before = begins_inside graph first rest chain;
+    ends = refl;
+    after = chain;
+    same = refl;
+    long = omega arith;
+    wcets = omega arith;
+  }
+
+  -- the job of a slot that a chain has
+  found : (s : ℕ) (first : Job) (rest : List Job) → IsChain graph first rest → list_any (eqb s) (slots first rest) ≡ true → (at : Job) × (slot at ≡ s) × IsSplit first rest at
+  found s first [] chain any = (first, one s (slot first) any, at_first first [] chain)
+    where
+      one : (a b : ℕ) → (eqb a b || false) ≡ true → b ≡ a
+      one a b h = grind (arith, nat_tests)
+  found s first (next ∷ rest) chain any = go (eqb s (slot first)) refl (λ h. found s next rest chain.2 h) any
+    where
+      go : (t : Bool) → eqb s (slot first) ≡ t → (list_any (eqb s) (slots next rest) ≡ true → (at : Job) × (slot at ≡ s) × IsSplit next rest at) →
+          (t || list_any (eqb s) (slots next rest)) ≡ true → (at : Job) × (slot at ≡ s) × IsSplit first (next ∷ rest) at
+      go true is later_on h = (first, equal s (slot first) is, at_first first (next ∷ rest) chain)
+        where
+          equal : (a b : ℕ) → eqb a b ≡ true → b ≡ a
+          equal a b h = grind (arith, nat_tests)
+      go false is later_on h = (let r = later_on h in (r.0, r.1, further first next rest r.0 chain r.2))
+
+  -- a job of the chain is of a task of the graph, and so is its slot
+  split_inside : (first : Job) (rest : List Job) (at : Job) → IsSplit first rest at → at.task < length graph.tasks
+  split_inside first rest at s = subst (λ (j : Job). j.task < length graph.tasks) s.ends (ends_inside graph first s.front s.before)
+
+  slot_inside : (job : Job) → job.task < length graph.tasks → slot job < jobs_in_hyperperiod graph
+  slot_inside job inside =
+      slot_below graph job.task (place_in job.number (jobs_of graph job.task)) inside
+      (place_below (jobs_of graph job.task) (some_jobs graph good job.task inside) job.number)
+
+  -- two jobs of one slot, one after the other in a chain
+  record IsTwice (first : Job) (rest : List Job) : Type 0 where
+    early : Job
+    late : Job
+    front : List Job
+    around : List Job
+    back : List Job
+    slots_same : slot late ≡ slot early
+    before : IsChain graph first front
+    ends : last_of first front ≡ early
+    turn : IsChain graph early around
+    turned : last_of early around ≡ late
+    some : 1 ≤ length around
+    after : IsChain graph late back
+    same : last_of late back ≡ last_of first rest
+    long : length rest ≡ length front + length around + length back
+    wcets : wcets_of graph first rest + wcet early + wcet late ≡ wcets_of graph first front + wcets_of graph early around + wcets_of graph late back
+
+  none_of : (p : ℕ → Bool) (xs : List ℕ) → list_any p xs ≡ false → AllByRecursion (λ y. p y ≡ false) xs
+  none_of p [] none = tt
+  none_of p (x ∷ xs) none = go (p x) refl (λ h. none_of p xs h) none
+    where
+      go : (t : Bool) → p x ≡ t → (list_any p xs ≡ false → AllByRecursion (λ y. p y ≡ false) xs) → (t || list_any p xs) ≡ false →
+          AllByRecursion (λ y. p y ≡ false) (x ∷ xs)
+      go true is all h = absurd (let e : ◌≡◌ {A = Bool} true false = h in cc)
+      go false is all h = (is, all h)
+
+  twice : (first : Job) (rest : List Job) → IsChain graph first rest → IsDistinct eqb (slots first rest) ⊎ IsTwice first rest
+  unfolding IsDistinct
+  twice first [] chain = inl (tt, tt)
+  twice first (next ∷ rest) chain =
+      elim (twice next rest chain.2) [
+        | inl distinct ↦ go (list_any (eqb (slot first)) (slots next rest)) refl distinct
+        | inr t ↦ inr (record {
+          early = t.early;
+          late = t.late;
+          front = next ∷ t.front;
+          around = t.around;
+          back = t.back;
+          slots_same = t.slots_same;
+          before = (chain.0, chain.1, t.before);
+          ends = t.ends;
+          turn = t.turn;
+          turned = t.turned;
+          some = t.some;
+          after = t.after;
+          same = t.same;
+          long = (let l = t.long in omega (arith, l));
+          wcets = (let w = t.wcets in omega (arith, w));
+        })
+      ]
+    where
+      go : (b : Bool) → list_any (eqb (slot first)) (slots next rest) ≡ b → IsDistinct eqb (slots next rest) →
+          IsDistinct eqb (slots first (next ∷ rest)) ⊎ IsTwice first (next ∷ rest)
+      go false is distinct = inl (none_of (eqb (slot first)) (slots next rest) is, distinct)
+      go true is distinct =
+          (let f = found (slot first) next rest chain.2 is in
+          let s : IsSplit next rest f.0 = f.2 in
+          inr (record {
+            early = first;
+            late = f.0;
+            front = [];
+            around = next ∷ s.front;
+            back = s.back;
+            slots_same = f.1;
+            before = chain.0;
+            ends = refl;
+            turn = (chain.0, chain.1, s.before);
+            turned = s.ends;
+            some = omega arith;
+            after = s.after;
+            same = s.same;
+            long = (let l = s.long in omega (arith, l));
+            wcets = (let w = s.wcets in omega (arith, w));
+          }))
+
+  slots_long : (first : Job) (rest : List Job) → length (slots first rest) ≡ length rest + 1
+  slots_long first [] = refl
+  slots_long first (next ∷ rest) = (let r = slots_long next rest in omega (arith, r))
+
+  long_is_twice : (first : Job) (rest : List Job) → IsChain graph first rest → length rest ≡ jobs_in_hyperperiod graph → IsTwice first rest
+  long_is_twice first rest chain long =
+      elim (twice first rest chain) [
+        | inl distinct ↦ absurd
+            (let few = length-le_from_distinct_below (slots first rest) (jobs_in_hyperperiod graph) distinct
+            (λ q any. (let f = found q first rest chain any in
+            let b = slot_inside f.0 (split_inside first rest f.0 f.2) in
+            let e = f.1 in
+            omega (arith, b, e))) in
+            let l = slots_long first rest in
+            omega (arith, few, l, long))
+        | inr t ↦ t
+      ]
+
+  -- chains joined
+  join : (first : Job) (front : List Job) (middle : Job) (back : List Job) → IsChain graph first front → last_of first front ≡ middle → IsChain graph middle back →
+      IsChain graph first (front ++ back) × (last_of first (front ++ back) ≡ last_of middle back)
+      × (wcets_of graph first (front ++ back) + wcet middle ≡ wcets_of graph first front + wcets_of graph middle back)
+      × (length (front ++ back) ≡ length front + length back)
+  join first [] middle back before ends after = (
+    subst (λ (j : Job). IsChain graph j back) (sym ends) after,
+    ap (λ (j : Job). last_of j back) ends,
+    (let e : wcets_of graph first back ≡ wcets_of graph middle back = ap (λ (j : Job). wcets_of graph j back) ends in
+        let f : wcet first ≡ wcet middle = ap (λ (j : Job). wcet j) ends in
+        let g : wcets_of graph first back + wcet middle ≡ wcet first + wcets_of graph middle back = omega (arith, e, f) in g),
+    (let g : length back ≡ 0 + length back = omega arith in g),
+  )
+  join first (next ∷ front) middle back before ends after =
+      (let r = join next front middle back before.2 ends after in
+      let w = r.2 in let l = r.3 in (
+        (before.0, before.1, r.0),
+        r.1,
+        (let g : wcet first + wcets_of graph next (front ++ back) + wcet middle ≡ wcet first + wcets_of graph next front + wcets_of graph middle back = omega (arith, w) in g),
+        (let g : suc (length (front ++ back)) ≡ suc (length front) + length back = omega (arith, l) in g),
+      ))
+
+  -- a job so many hyperperiods later
+  abbrev later : ℕ → Job → Job
+  later h job = record { task = job.task; number = job.number +ℤ pos (h * jobs_of graph job.task) }
+
+  later_release : (h : ℕ) (job : Job) → job.task < length graph.tasks → release (later h job) ≡ release job +ℤ pos (h * graph.hyper)
+  later_release h job inside =
+      let e = plus_mul job.number (h * jobs_of graph job.task) (task_at graph job.task).clock.period in
+      let j = jobs_are graph good job.task inside in
+      let r : release (later h job) ≡ pos (task_at graph job.task).clock.start +ℤ ((job.number +ℤ pos (h * jobs_of graph job.task)) *ℤ pos (task_at graph job.task).clock.period) = refl in
+      let f : h * jobs_of graph job.task * (task_at graph job.task).clock.period ≡ h * graph.hyper =
+      (let g : h * jobs_of graph job.task * (task_at graph job.task).clock.period ≡ h * (jobs_of graph job.task * (task_at graph job.task).clock.period) = omega arith in
+      g ∙ ap (λ (n : ℕ). h * n) (sym j)) in
+      omega (arith, ints, e, f)
+
+  later_number : (h i j : ℕ) (edge : Edge) → Joins graph i j edge → (n : ℤ) →
+      preceding edge.ops (n +ℤ pos (h * jobs_of graph j)) ≡ preceding edge.ops n +ℤ pos (h * jobs_of graph i)
+  later_number zero i j edge joins n =
+      let a : 0 * jobs_of graph j ≡ 0 = omega arith in
+      let b : 0 * jobs_of graph i ≡ 0 = omega arith in
+      let c : n +ℤ pos (0 * jobs_of graph j) ≡ n = omega (arith, ints, a) in
+      ap (λ (z : ℤ). preceding edge.ops z) c ∙ (let d : preceding edge.ops n ≡ preceding edge.ops n +ℤ pos (0 * jobs_of graph i) = omega (arith, ints, b) in d)
+  later_number (suc h) i j edge joins n =
+      let a : suc h * jobs_of graph j ≡ h * jobs_of graph j + jobs_of graph j = omega arith in
+      let b : suc h * jobs_of graph i ≡ h * jobs_of graph i + jobs_of graph i = omega arith in
+      let c : n +ℤ pos (suc h * jobs_of graph j) ≡ (n +ℤ pos (h * jobs_of graph j)) +ℤ pos (jobs_of graph j) = omega (arith, ints, a) in
+      let s = joins_shift graph good i j edge joins (n +ℤ pos (h * jobs_of graph j)) in
+      let r = later_number h i j edge joins n in
+      ap (λ (z : ℤ). preceding edge.ops z) c ∙ (let d : preceding edge.ops ((n +ℤ pos (h * jobs_of graph j)) +ℤ pos (jobs_of graph j)) ≡ preceding edge.ops n +ℤ pos (suc h * jobs_of graph i) = omega (arith, ints, s, r, b) in d)
+
+  later_precedes : (h : ℕ) (a b : Job) → Precedes graph a b → Precedes graph (later h a) (later h b)
+  later_precedes h a b p =
+      let edge : Edge = p.1 in
+      let along : PrecedesAlong graph edge a b = p.3 in
+      let joins : Joins graph a.task b.task edge = record { stands = (p.0, p.2); from = along.from; to = along.to } in
+      let n = later_number h a.task b.task edge joins b.number in
+      (p.0, edge, p.2, record { from = along.from; to = along.to; number = ap (λ (z : ℤ). z +ℤ pos (h * jobs_of graph a.task)) along.number ∙ sym n })
+
+  later_chain : (h : ℕ) (first : Job) (rest : List Job) → IsChain graph first rest → IsChain graph (later h first) (map (later h) rest)
+  later_chain h first [] chain = chain
+  later_chain h first (next ∷ rest) chain = (chain.0, later_precedes h first next chain.1, later_chain h next rest chain.2)
+
+  later_last : (h : ℕ) (first : Job) (rest : List Job) → last_of (later h first) (map (later h) rest) ≡ later h (last_of first rest)
+  later_last h first [] = refl
+  later_last h first (next ∷ rest) = later_last h next rest
+
+  later_wcets : (h : ℕ) (first : Job) (rest : List Job) → wcets_of graph (later h first) (map (later h) rest) ≡ wcets_of graph first rest
+  later_wcets h first [] = refl
+  later_wcets h first (next ∷ rest) = (let r = later_wcets h next rest in omega (arith, r))
+
+  later_long : (h : ℕ) (rest : List Job) → length (map (later h) rest) ≡ length rest
+  later_long h [] = refl
+  later_long h (x ∷ rest) = (let r = later_long h rest in omega (arith, r))
+
+  -- the first job of a chain is not released after its last
+  first_early : (first : Job) (rest : List Job) → IsChain graph first rest → release first ≤ℤ release (last_of first rest)
+  first_early first [] chain = omega (arith, ints)
+  first_early first (next ∷ rest) chain =
+      (let a = released_first graph good first next chain.1 in let b = first_early next rest chain.2 in omega (arith, ints, a, b))
+
+  -- the later of two jobs of one slot is so many hyperperiods later
+  hyperperiods_between : (early late : Job) → early.task < length graph.tasks → late.task < length graph.tasks → slot late ≡ slot early → release early ≤ℤ release late →
+      (h : ℕ) × (late ≡ later h early)
+  hyperperiods_between early late inside inside' same order =
+      let one = one_slot graph late.task early.task (place_in late.number (jobs_of graph late.task)) (place_in early.number (jobs_of graph early.task))
+      (place_below (jobs_of graph late.task) (some_jobs graph good late.task inside') late.number)
+      (place_below (jobs_of graph early.task) (some_jobs graph good early.task inside) early.number) same in
+      let places : place_in late.number (jobs_of graph early.task) ≡ place_in early.number (jobs_of graph early.task) =
+      ap (λ (j : ℕ). place_in late.number (jobs_of graph j)) (sym one.0) ∙ one.1 in
+      let released : release early ≤ℤ release_of (task_at graph early.task) late.number =
+      subst (λ (j : ℕ). release early ≤ℤ release_of (task_at graph j) late.number) one.0 order in
+      go (late.number -ℤ early.number) refl one.0 places released
+    where
+      go : (d : ℤ) → late.number -ℤ early.number ≡ d → late.task ≡ early.task →
+          place_in late.number (jobs_of graph early.task) ≡ place_in early.number (jobs_of graph early.task) →
+          release early ≤ℤ release_of (task_at graph early.task) late.number → (h : ℕ) × (late ≡ later h early)
+      go (pos k) is task places released =
+          (let at : late.number ≡ early.number +ℤ pos k = omega (arith, ints, is) in
+          let s = same_place (jobs_of graph early.task) (some_jobs graph good early.task inside) early.number k
+          (ap (λ (z : ℤ). place_in z (jobs_of graph early.task)) (sym at) ∙ places) in (
+            s.0,
+            ap (λ (i : ℕ). (let j : Job = record { task = i; number = late.number } in j)) task
+                ∙ ap (λ (n : ℤ). (let j : Job = record { task = early.task; number = n } in j)) (at ∙ ap (λ (n : ℕ). early.number +ℤ pos n) s.1),
+          ))
+      go (negsuc k) is task places released =
+          absurd (let r = release_rises graph early.task (late.number +ℤ pos 1) early.number (omega (arith, ints, is)) in
+          let e = plus_mul late.number 1 (task_at graph early.task).clock.period in
+          let p = (task_is graph good early.task inside).period.0 in
+          omega (arith, ints, r, e, p, released))
+
+  -- round and round, so often
+  record IsRoundTrip (early : Job) (h gain turns : ℕ) : Type 0 where
+    rest : List Job
+    chain : IsChain graph early rest
+    task : (last_of early rest).task ≡ early.task
+    release_last : release (last_of early rest) ≡ release early +ℤ pos (turns * (h * graph.hyper))
+    wcets : wcets_of graph early rest ≡ wcet early + turns * gain
+
+  module _ (early : Job) (around : List Job) (turn : IsChain graph early around) (h : ℕ) (turned : last_of early around ≡ later h early) (gain : ℕ)
+      (gains : wcets_of graph early around ≡ wcet early + gain) where
+    early_inside : early.task < length graph.tasks
+    early_inside = begins_inside graph early around turn
+
+    round_trip : (turns : ℕ) → IsRoundTrip early h gain turns
+    round_trip zero = record {
+      rest = [];
+      chain = early_inside;
+      task = refl;
+      release_last = (let z : 0 * (h * graph.hyper) ≡ 0 = omega arith in omega (arith, ints, z));
+      wcets = (let z : 0 * gain ≡ 0 = omega arith in omega (arith, z));
+    }
+    round_trip (suc turns) =
+        (let r = round_trip turns in
+        let j = join early around (later h early) (map (later h) r.rest) turn turned (later_chain h early r.rest r.chain) in
+        let last : last_of early (around ++ map (later h) r.rest) ≡ later h (last_of early r.rest) = j.1 ∙ later_last h early r.rest in
+        let inside : (last_of early r.rest).task < length graph.tasks = ends_inside graph early r.rest r.chain in
+        let l = later_release h (last_of early r.rest) inside in
+        record {
+          rest = around ++ map (later h) r.rest;
+          chain = j.0;
+          task = ap (λ (x : Job). x.task) last ∙ r.task;
+          release_last =
+              (let e : release (last_of early (around ++ map (later h) r.rest)) ≡ release (later h (last_of early r.rest)) = ap (λ (x : Job). release x) last in
+              let s = r.release_last in
+              let t : suc turns * (h * graph.hyper) ≡ turns * (h * graph.hyper) + h * graph.hyper = omega arith in
+              omega (arith, ints, e, l, s, t));
+          wcets =
+              (let w = j.2 in let v = later_wcets h early r.rest in let u = r.wcets in
+              let t : suc turns * gain ≡ turns * gain + gain = omega arith in
+              omega (arith, w, v, u, t, gains));
+        })
+
+    -- a turn that gains more than the time that it takes
+    pub narrow_turns : h * graph.hyper < gain → HasNarrowChain graph
+    narrow_turns more =
+        let due : ℕ = (task_at graph early.task).due in
+        let r = round_trip (task_at graph early.task).due in
+        let up : (task_at graph early.task).due * (h * graph.hyper + 1) ≤ (task_at graph early.task).due * gain =
+        mul-le-mul_left (task_at graph early.task).due (let e : h * graph.hyper + 1 ≤ gain = omega (arith, more) in e) in
+        let spread : (task_at graph early.task).due * (h * graph.hyper + 1) ≡ (task_at graph early.task).due * (h * graph.hyper) + (task_at graph early.task).due = omega arith in
+        let some = (task_is graph good early.task early_inside).wcet.0 in
+        let w = r.wcets in let l = r.release_last in
+        let d : (task_at graph (last_of early r.rest).task).due ≡ (task_at graph early.task).due = ap (λ (i : ℕ). (task_at graph i).due) r.task in
+        (early, r.rest, record { chain = r.chain; late = omega (arith, ints, up, spread, some, w, l, d) })
+
+  pub loop_is_narrow : (job : Job) → EndsLoop graph job → HasNarrowChain graph
+  loop_is_narrow job loop =
+      let t : IsTwice loop.first loop.rest = long_is_twice loop.first loop.rest loop.chain loop.long in
+      let early_in : t.early.task < length graph.tasks = begins_inside graph t.early t.around t.turn in
+      let late_in : t.late.task < length graph.tasks = begins_inside graph t.late t.back t.after in
+      let order : release t.early ≤ℤ release t.late =
+      subst (λ (j : Job). release t.early ≤ℤ release j) t.turned (first_early t.early t.around t.turn) in
+      let between = hyperperiods_between t.early t.late early_in late_in t.slots_same order in
+      let h : ℕ = between.0 in
+      let first_in : loop.first.task < length graph.tasks = begins_inside graph loop.first t.front t.before in
+      let shorter = join (later between.0 loop.first) (map (later between.0) t.front) t.late t.back (later_chain between.0 loop.first t.front t.before)
+      (later_last between.0 loop.first t.front ∙ ap (λ (j : Job). later between.0 j) t.ends ∙ sym between.1) t.after in
+      let some = t.some in let long = t.long in let whole = loop.long in
+      let few : length (map (later between.0) t.front ++ t.back) + 1 ≤ jobs_in_hyperperiod graph =
+      (let l = shorter.3 in let m = later_long between.0 t.front in omega (arith, l, m, some, long, whole)) in
+      let bound = loop.is_best.none_above (later between.0 loop.first) (map (later between.0) t.front ++ t.back)
+      (record { chain = shorter.0; few = few; last = shorter.1 ∙ t.same ∙ loop.last }) in
+      let r = later_release between.0 loop.first first_in in
+      let v = later_wcets between.0 loop.first t.front in
+      let u = shorter.2 in
+      let w = t.wcets in
+      let x = loop.longer in
+      let least : wcet t.early ≤ wcets_of graph t.early t.around = at_least t.early t.around in
+      let gain : wcets_of graph t.early t.around ≡ wcet t.early + (wcets_of graph t.early t.around - wcet t.early) = omega (arith, least) in
+      narrow_turns t.early t.around t.turn between.0 (t.turned ∙ between.1) (wcets_of graph t.early t.around - wcet t.early) gain
+      (omega (arith, ints, bound, r, v, u, w, x, least))
+    where
+      at_least : (first : Job) (rest : List Job) → wcet first ≤ wcets_of graph first rest
+      at_least first [] = omega arith
+      at_least first (next ∷ rest) = omega arith
+
+  -- the best of a late job is that of a narrow chain
+  late_is_narrow : (job : Job) (needs has : ℤ) → IsLate graph job needs has → HasNarrowChain graph
+  late_is_narrow job needs has late =
+      let b = late.best.attained in
+      let e : EndsIn graph (jobs_in_hyperperiod graph) job b.0 b.1 = b.2 in
+      let n = b.3 in let d = late.due in let l = late.late in (
+        b.0,
+        b.1,
+        record {
+          chain = e.chain;
+          late = subst (λ (j : Job). deadline_of (task_at graph j.task) j.number <ℤ needs_of graph b.0 b.1) (sym e.last) (omega (arith, ints, n, d, l));
+        },
+      )
+
+  pub fault_is_narrow : (fault : DateFault) → IsDateFault graph fault → IsOfGraph fault → HasNarrowChain graph
+  fault_is_narrow (faults.Narrow task job needs has) is of = late_is_narrow (record { task = task.0; number = job }) needs has is.0
+  fault_is_narrow (faults.Loop task job) is of = loop_is_narrow (record { task = task.0; number = job }) is.1.has
+  fault_is_narrow faults.Memory is of = absurd of
