@@ -36,13 +36,13 @@ ranges a (suc x) y =
     let all : suc (x + y) ≡ suc x + y = omega arith in
     ap (λ xs. a ∷ xs) (ap (λ b. range_with_len (a + 1) x ++ range_with_len b y) e ∙ ranges (a + 1) x y) ∙ ap (range_with_len a) all
 
-both_from : (f : ℕ) (xs ys : List ℕ) → From f xs → From (f + length xs) ys → From f (xs ++ ys)
+pub both_from : (f : ℕ) (xs ys : List ℕ) → From f xs → From (f + length xs) ys → From f (xs ++ ys)
 both_from f xs ys a b =
     let x = length xs in
     let y = length ys in
     ap (λ us. us ++ ys) a ∙ ap (λ vs. range_with_len f x ++ vs) b ∙ ranges f x y ∙ ap (range_with_len f) (sym (length-append xs ys))
 
-range_from : (f n : ℕ) → From f (range_with_len f n)
+pub range_from : (f n : ℕ) → From f (range_with_len f n)
 range_from f n = ap (range_with_len f) (sym (length-range_with_len f n))
 
 -- with numbers from these on
@@ -70,7 +70,7 @@ or_true false b h = h
 pub same_node : (j : ℕ) (o : Option Callee) → o ≡ Some (callees.Node j) → is_node j o ≡ true
 same_node j o e = ap (is_node j) e ∙ eq-eqb j j refl
 
-import_found : (p : ProgramTree) (name : List ℕ) (j : ℕ) → callee_of p name ≡ Some (callees.Import j) → (i : Import) × (slice_get p.imports j ≡ Some i)
+pub import_found : (p : ProgramTree) (name : List ℕ) (j : ℕ) → callee_of p name ≡ Some (callees.Import j) → (i : Import) × (slice_get p.imports j ≡ Some i)
 import_found p name j e = element_at p.imports j (below (index_of (node_names p) name) (index_of (import_names p) name) refl e)
   where
     below : (a b : Option ℕ) → b ≡ index_of (import_names p) name → node_or a b ≡ Some (callees.Import j) → j < length p.imports
@@ -80,7 +80,7 @@ import_found p name j e = element_at p.imports j (below (index_of (node_names p)
         let same : i ≡ j = cc in
         index_below (λ (x : Import). x.name) p.imports name j (sym is ∙ ap Some same)
 
-no_callee : (o : Option Callee) → IsSome o → o ≡ None → ⊥
+pub no_callee : (o : Option Callee) → IsSome o → o ≡ None → ⊥
 no_callee None h e = cc
 no_callee (Some c) h e = cc
 

@@ -1,0 +1,7 @@
+mod Lists
+mod Adding
+mod Expressions
+mod Remaining
+mod Entering
+mod Expanded
+mod Whole

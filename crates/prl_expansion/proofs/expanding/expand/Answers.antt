@@ -1,0 +1,187 @@
+use Rattle.std.proofs.Common.{◌≡◌, ◌≤◌, ◌+◌, ◌++◌, [], ◌∙◌, Some, ap, arith, length, map, refl, slice_get, subst, sym}
+use Rattle.std.specs.List.{range_with_len}
+use Rattle.std.proofs.lemmas.List.{length-map}
+use Rattle.std.proofs.lemmas.Option.{slice_get_read}
+use Rattle.prl_ast.specs.declared.declarations.Program.{Program}
+use Rattle.prl_ast.specs.Trees.{node_tree, program_tree}
+use Rattle.prl_flow.specs.Programs.{IsFlat}
+use Rattle.prl_flow.specs.States.{IsSolution}
+use Rattle.prl_behaviours.specs.Annotations.{flows_in}
+use Rattle.prl_behaviours.specs.Asked.{outputs_of}
+use Rattle.prl_behaviours.specs.Behaviours.{Satisfies, state_in}
+use Rattle.prl_behaviours.specs.Texts.{node_at, node_or}
+use Rattle.prl_expand.specs.Correspondence.{IsOneToOne}
+use Rattle.prl_expand.specs.Flats.{devices_of, entered_apps, entered_flows, flow_no, sensors_from}
+use Rattle.prl_expansion.specs.declared.counts.Next.{Next}
+use Rattle.prl_expansion.specs.Expanding.{IsExpandFault}
+use Rattle.prl_expansion.specs.code.Limits.{IsPast}
+use Rattle.prl_expansion.specs.code.Made.{a_node}
+use Rattle.prl_expansion.specs.code.Terms.{flows_of, number_of}
+use Rattle.prl_expansion.specs.code.Variables.{def_of}
+use Rattle.prl_expansion.proofs.Adding.{numbers_are}
+use Rattle.prl_expansion.proofs.Expanded.{first}
+use Rattle.prl_expansion.proofs.Expressions.{err_and, get_map}
+use Rattle.prl_expansion.proofs.Whole.{expansion_is, fault_is, flat_is, inputs_fault, whole}
+use Rattle.prl_expansion.proofs.expanding.expand.Goals as goal
+
+pub returns-in_err-take_flows-clause-fault : goal.returns-in_err-take_flows-clause-fault
+returns-in_err-take_flows-clause-fault c =
+    let p = program_tree c.args.typed.now.program in
+    let tys = c.args.typed.now.types in
+    let main = c.args.typed.now.main in
+    let right = c.main-main.ensures.right in
+    let node = c.index-nodes-main.result in
+    let d = node_tree node in
+    let listed = c.as_slice-nodes.ensures ∙ ap (λ (x : Program). x.nodes) c.program-program.ensures in
+    let main_is = c.main-main.ensures.main in
+    let found : slice_get p.nodes main ≡ Some d = get_map node_tree c.args.typed.now.program.nodes main node
+    (ap (slice_get c.args.typed.now.program.nodes) (sym main_is) ∙ ap (λ xs. slice_get xs c.main-main.result) (sym listed)
+    ∙ slice_get_read c.as_slice-nodes.result.now (length c.as_slice-nodes.result.now) c.main-main.result node refl (omega (arith, c.if-main-nodes.false)) c.index-nodes-main.is) in
+    let is : node_at p main ≡ d = ap node_or found in
+    let program_is = c.in_ok-names.ensures ∙ c.program-program.ensures in
+    let levels_are : length c.as_slice-nodes.result.now ≡ length p.nodes = ap length listed ∙ sym (length-map c.args.typed.now.program.nodes node_tree) in
+    let lv = length c.as_slice-nodes.result.now in
+    let m = c.main-main.result in
+    let past = inputs_fault p main tys right c.in_err-take_flows.field-0.0 d c.len-inputs.result is c.len-inputs.ensures c.in_err-take_flows.ensures.limit in
+    err_and c.from_residual-in_err-take_flows.result _ _ (λ x same. subst (λ y. IsExpandFault p main y) (sym same) past) c.from_residual-in_err-take_flows.ensures.1
+
+pub returns-in_err-outs-clause-fault : goal.returns-in_err-outs-clause-fault
+returns-in_err-outs-clause-fault c =
+    let p = program_tree c.args.typed.now.program in
+    let tys = c.args.typed.now.types in
+    let main = c.args.typed.now.main in
+    let right = c.main-main.ensures.right in
+    let node = c.index-nodes-main.result in
+    let d = node_tree node in
+    let listed = c.as_slice-nodes.ensures ∙ ap (λ (x : Program). x.nodes) c.program-program.ensures in
+    let main_is = c.main-main.ensures.main in
+    let found : slice_get p.nodes main ≡ Some d = get_map node_tree c.args.typed.now.program.nodes main node
+    (ap (slice_get c.args.typed.now.program.nodes) (sym main_is) ∙ ap (λ xs. slice_get xs c.main-main.result) (sym listed)
+    ∙ slice_get_read c.as_slice-nodes.result.now (length c.as_slice-nodes.result.now) c.main-main.result node refl (omega (arith, c.if-main-nodes.false)) c.index-nodes-main.is) in
+    let is : node_at p main ≡ d = ap node_or found in
+    let program_is = c.in_ok-names.ensures ∙ c.program-program.ensures in
+    let levels_are : length c.as_slice-nodes.result.now ≡ length p.nodes = ap length listed ∙ sym (length-map c.args.typed.now.program.nodes node_tree) in
+    let lv = length c.as_slice-nodes.result.now in
+    let m = c.main-main.result in
+    let N = c.in_ok-names.names in
+    let whole_is = ap (λ pr. a_node (program_tree pr) lv m first) program_is ∙ ap (λ n. a_node p n m first) levels_are ∙ ap (λ k. a_node p (length p.nodes) k first) main_is in
+    let past = fault_is p main tys right c.in_err-outs.field-0.0 (subst (λ w. IsPast (0 + length (flows_in w)) c.in_err-outs.field-0.0) whole_is c.in_err-outs.ensures.limit) in
+    err_and c.from_residual-in_err-outs.result _ _ (λ x same. subst (λ y. IsExpandFault p main y) (sym same) past) c.from_residual-in_err-outs.ensures.1
+
+pub new-requires-9 : goal.new-requires-9
+new-requires-9 c =
+    let p = program_tree c.args.typed.now.program in
+    let tys = c.args.typed.now.types in
+    let main = c.args.typed.now.main in
+    let right = c.main-main.ensures.right in
+    let node = c.index-nodes-main.result in
+    let d = node_tree node in
+    let listed = c.as_slice-nodes.ensures ∙ ap (λ (x : Program). x.nodes) c.program-program.ensures in
+    let main_is = c.main-main.ensures.main in
+    let found : slice_get p.nodes main ≡ Some d = get_map node_tree c.args.typed.now.program.nodes main node
+    (ap (slice_get c.args.typed.now.program.nodes) (sym main_is) ∙ ap (λ xs. slice_get xs c.main-main.result) (sym listed)
+    ∙ slice_get_read c.as_slice-nodes.result.now (length c.as_slice-nodes.result.now) c.main-main.result node refl (omega (arith, c.if-main-nodes.false)) c.index-nodes-main.is) in
+    let is : node_at p main ≡ d = ap node_or found in
+    let program_is = c.in_ok-names.ensures ∙ c.program-program.ensures in
+    let levels_are : length c.as_slice-nodes.result.now ≡ length p.nodes = ap length listed ∙ sym (length-map c.args.typed.now.program.nodes node_tree) in
+    let lv = length c.as_slice-nodes.result.now in
+    let m = c.main-main.result in
+    let N = c.in_ok-names.names in
+    let whole_is = ap (λ pr. a_node (program_tree pr) lv m first) program_is ∙ ap (λ n. a_node p n m first) levels_are ∙ ap (λ k. a_node p (length p.nodes) k first) main_is in
+    let adds = c.in_ok-outs.ensures.made in
+    let sources = c.in_ok-sources.ensures ∙ ap (λ n. sensors_from 0 (range_with_len 0 n)) c.len-inputs.ensures in
+    let flows = c.new-5.ensures ∙ adds.flows_are ∙ ap (λ xs. xs ++ flows_of (entered_flows (program_tree N) tys c.in_ok-label.label m (map def_of c.in_ok-sources.sources.items) (a_node (program_tree N) lv m first))) c.new-2.ensures.items
+    ∙ ap (λ l. flows_of (entered_flows (program_tree N) tys l m (map def_of c.in_ok-sources.sources.items) (a_node (program_tree N) lv m first))) c.in_ok-label.ensures
+    ∙ ap (λ ds. flows_of (entered_flows (program_tree N) tys [] m ds (a_node (program_tree N) lv m first))) sources
+    ∙ ap (λ pr. flows_of (entered_flows (program_tree pr) tys [] m (sensors_from 0 (range_with_len 0 (length d.ins))) (a_node (program_tree N) lv m first))) program_is
+    ∙ ap (λ k. flows_of (entered_flows p tys [] k (sensors_from 0 (range_with_len 0 (length d.ins))) (a_node (program_tree N) lv m first))) main_is
+    ∙ ap (λ w. flows_of (entered_flows p tys [] main (sensors_from 0 (range_with_len 0 (length d.ins))) w)) whole_is in
+    let apps = c.new-6.ensures ∙ adds.apps_are ∙ ap (λ xs. xs ++ entered_apps (program_tree N) m (a_node (program_tree N) lv m first)) c.new-3.ensures.items
+    ∙ ap (λ pr. entered_apps (program_tree pr) m (a_node (program_tree N) lv m first)) program_is ∙ ap (λ k. entered_apps p k (a_node (program_tree N) lv m first)) main_is ∙ ap (entered_apps p main) whole_is in
+    let ins = c.new-7.ensures ∙ c.in_ok-ins.ensures ∙ ap (λ n. map flow_no (range_with_len 0 n)) c.len-inputs.ensures in
+    let outs = c.new-8.ensures ∙ c.in_ok-outs-2.ensures ∙ ap (map number_of) c.as_slice-5.ensures.value ∙ numbers_are c.in_ok-outs.outs.items ∙ ap (map flow_no) (c.in_ok-outs.ensures.given ∙ ap outputs_of whole_is) in
+    let in_devices = c.in_ok-in_devices.ensures ∙ ap (λ ds. devices_of ds c.as_slice-2.result.now) (c.as_slice.ensures ∙ ap (λ (x : Program). x.sensors) c.program-program.ensures) ∙ ap (devices_of p.sensors) c.as_slice-2.ensures in
+    let out_devices = c.in_ok-out_devices.ensures ∙ ap (λ ds. devices_of ds c.as_slice-4.result.now) (c.as_slice-3.ensures ∙ ap (λ (x : Program). x.actuators) c.program-program.ensures) ∙ ap (devices_of p.actuators) c.as_slice-4.ensures in
+    let flat = flat_is p main tys right c.new-5.result c.new-6.result c.new-7.result c.new-8.result c.in_ok-in_devices.in_devices.items c.in_ok-out_devices.out_devices.items d is flows apps ins outs in_devices out_devices in
+    let number : c.enter.new.made.next.flow ≡ 0 + length (flows_in (whole p main tys right)) = ap (λ (x : Next). x.flow) adds.next_is ∙ ap (λ w. 0 + length (flows_in w)) whole_is in
+    let few : length (flows_in (whole p main tys right)) ≤ 4096 = omega (arith, adds.few, number) in
+    subst IsFlat (sym flat) (c.flats_are_well_formed.ensures p right.main main tys (whole p main tys right) c.main-main.ensures.range right.typed (expansion_is p main tys right) few)
+
+pub returns-clause-exact : goal.returns-clause-exact
+returns-clause-exact c =
+    let p = program_tree c.args.typed.now.program in
+    let tys = c.args.typed.now.types in
+    let main = c.args.typed.now.main in
+    let right = c.main-main.ensures.right in
+    let node = c.index-nodes-main.result in
+    let d = node_tree node in
+    let listed = c.as_slice-nodes.ensures ∙ ap (λ (x : Program). x.nodes) c.program-program.ensures in
+    let main_is = c.main-main.ensures.main in
+    let found : slice_get p.nodes main ≡ Some d = get_map node_tree c.args.typed.now.program.nodes main node
+    (ap (slice_get c.args.typed.now.program.nodes) (sym main_is) ∙ ap (λ xs. slice_get xs c.main-main.result) (sym listed)
+    ∙ slice_get_read c.as_slice-nodes.result.now (length c.as_slice-nodes.result.now) c.main-main.result node refl (omega (arith, c.if-main-nodes.false)) c.index-nodes-main.is) in
+    let is : node_at p main ≡ d = ap node_or found in
+    let program_is = c.in_ok-names.ensures ∙ c.program-program.ensures in
+    let levels_are : length c.as_slice-nodes.result.now ≡ length p.nodes = ap length listed ∙ sym (length-map c.args.typed.now.program.nodes node_tree) in
+    let lv = length c.as_slice-nodes.result.now in
+    let m = c.main-main.result in
+    let N = c.in_ok-names.names in
+    let whole_is = ap (λ pr. a_node (program_tree pr) lv m first) program_is ∙ ap (λ n. a_node p n m first) levels_are ∙ ap (λ k. a_node p (length p.nodes) k first) main_is in
+    let adds = c.in_ok-outs.ensures.made in
+    let sources = c.in_ok-sources.ensures ∙ ap (λ n. sensors_from 0 (range_with_len 0 n)) c.len-inputs.ensures in
+    let flows = c.new-5.ensures ∙ adds.flows_are ∙ ap (λ xs. xs ++ flows_of (entered_flows (program_tree N) tys c.in_ok-label.label m (map def_of c.in_ok-sources.sources.items) (a_node (program_tree N) lv m first))) c.new-2.ensures.items
+    ∙ ap (λ l. flows_of (entered_flows (program_tree N) tys l m (map def_of c.in_ok-sources.sources.items) (a_node (program_tree N) lv m first))) c.in_ok-label.ensures
+    ∙ ap (λ ds. flows_of (entered_flows (program_tree N) tys [] m ds (a_node (program_tree N) lv m first))) sources
+    ∙ ap (λ pr. flows_of (entered_flows (program_tree pr) tys [] m (sensors_from 0 (range_with_len 0 (length d.ins))) (a_node (program_tree N) lv m first))) program_is
+    ∙ ap (λ k. flows_of (entered_flows p tys [] k (sensors_from 0 (range_with_len 0 (length d.ins))) (a_node (program_tree N) lv m first))) main_is
+    ∙ ap (λ w. flows_of (entered_flows p tys [] main (sensors_from 0 (range_with_len 0 (length d.ins))) w)) whole_is in
+    let apps = c.new-6.ensures ∙ adds.apps_are ∙ ap (λ xs. xs ++ entered_apps (program_tree N) m (a_node (program_tree N) lv m first)) c.new-3.ensures.items
+    ∙ ap (λ pr. entered_apps (program_tree pr) m (a_node (program_tree N) lv m first)) program_is ∙ ap (λ k. entered_apps p k (a_node (program_tree N) lv m first)) main_is ∙ ap (entered_apps p main) whole_is in
+    let ins = c.new-7.ensures ∙ c.in_ok-ins.ensures ∙ ap (λ n. map flow_no (range_with_len 0 n)) c.len-inputs.ensures in
+    let outs = c.new-8.ensures ∙ c.in_ok-outs-2.ensures ∙ ap (map number_of) c.as_slice-5.ensures.value ∙ numbers_are c.in_ok-outs.outs.items ∙ ap (map flow_no) (c.in_ok-outs.ensures.given ∙ ap outputs_of whole_is) in
+    let in_devices = c.in_ok-in_devices.ensures ∙ ap (λ ds. devices_of ds c.as_slice-2.result.now) (c.as_slice.ensures ∙ ap (λ (x : Program). x.sensors) c.program-program.ensures) ∙ ap (devices_of p.sensors) c.as_slice-2.ensures in
+    let out_devices = c.in_ok-out_devices.ensures ∙ ap (λ ds. devices_of ds c.as_slice-4.result.now) (c.as_slice-3.ensures ∙ ap (λ (x : Program). x.actuators) c.program-program.ensures) ∙ ap (devices_of p.actuators) c.as_slice-4.ensures in
+    let flat = flat_is p main tys right c.new-5.result c.new-6.result c.new-7.result c.new-8.result c.in_ok-in_devices.in_devices.items c.in_ok-out_devices.out_devices.items d is flows apps ins outs in_devices out_devices in
+    let number : c.enter.new.made.next.flow ≡ 0 + length (flows_in (whole p main tys right)) = ap (λ (x : Next). x.flow) adds.next_is ∙ ap (λ w. 0 + length (flows_in w)) whole_is in
+    let few : length (flows_in (whole p main tys right)) ≤ 4096 = omega (arith, adds.few, number) in
+    record { expansion = whole p main tys right; is = expansion_is p main tys right; few = few; flat_is = c.new-9.ensures ∙ flat }
+
+pub returns-clause-kept : goal.returns-clause-kept
+returns-clause-kept c = λ bodies rows until.
+    (let p = program_tree c.args.typed.now.program in
+    let tys = c.args.typed.now.types in
+    let main = c.args.typed.now.main in
+    let right = c.main-main.ensures.right in
+    let node = c.index-nodes-main.result in
+    let d = node_tree node in
+    let listed = c.as_slice-nodes.ensures ∙ ap (λ (x : Program). x.nodes) c.program-program.ensures in
+    let main_is = c.main-main.ensures.main in
+    let found : slice_get p.nodes main ≡ Some d = get_map node_tree c.args.typed.now.program.nodes main node
+    (ap (slice_get c.args.typed.now.program.nodes) (sym main_is) ∙ ap (λ xs. slice_get xs c.main-main.result) (sym listed)
+    ∙ slice_get_read c.as_slice-nodes.result.now (length c.as_slice-nodes.result.now) c.main-main.result node refl (omega (arith, c.if-main-nodes.false)) c.index-nodes-main.is) in
+    let is : node_at p main ≡ d = ap node_or found in
+    let program_is = c.in_ok-names.ensures ∙ c.program-program.ensures in
+    let levels_are : length c.as_slice-nodes.result.now ≡ length p.nodes = ap length listed ∙ sym (length-map c.args.typed.now.program.nodes node_tree) in
+    let lv = length c.as_slice-nodes.result.now in
+    let m = c.main-main.result in
+    let N = c.in_ok-names.names in
+    let whole_is = ap (λ pr. a_node (program_tree pr) lv m first) program_is ∙ ap (λ n. a_node p n m first) levels_are ∙ ap (λ k. a_node p (length p.nodes) k first) main_is in
+    let adds = c.in_ok-outs.ensures.made in
+    let sources = c.in_ok-sources.ensures ∙ ap (λ n. sensors_from 0 (range_with_len 0 n)) c.len-inputs.ensures in
+    let flows = c.new-5.ensures ∙ adds.flows_are ∙ ap (λ xs. xs ++ flows_of (entered_flows (program_tree N) tys c.in_ok-label.label m (map def_of c.in_ok-sources.sources.items) (a_node (program_tree N) lv m first))) c.new-2.ensures.items
+    ∙ ap (λ l. flows_of (entered_flows (program_tree N) tys l m (map def_of c.in_ok-sources.sources.items) (a_node (program_tree N) lv m first))) c.in_ok-label.ensures
+    ∙ ap (λ ds. flows_of (entered_flows (program_tree N) tys [] m ds (a_node (program_tree N) lv m first))) sources
+    ∙ ap (λ pr. flows_of (entered_flows (program_tree pr) tys [] m (sensors_from 0 (range_with_len 0 (length d.ins))) (a_node (program_tree N) lv m first))) program_is
+    ∙ ap (λ k. flows_of (entered_flows p tys [] k (sensors_from 0 (range_with_len 0 (length d.ins))) (a_node (program_tree N) lv m first))) main_is
+    ∙ ap (λ w. flows_of (entered_flows p tys [] main (sensors_from 0 (range_with_len 0 (length d.ins))) w)) whole_is in
+    let apps = c.new-6.ensures ∙ adds.apps_are ∙ ap (λ xs. xs ++ entered_apps (program_tree N) m (a_node (program_tree N) lv m first)) c.new-3.ensures.items
+    ∙ ap (λ pr. entered_apps (program_tree pr) m (a_node (program_tree N) lv m first)) program_is ∙ ap (λ k. entered_apps p k (a_node (program_tree N) lv m first)) main_is ∙ ap (entered_apps p main) whole_is in
+    let ins = c.new-7.ensures ∙ c.in_ok-ins.ensures ∙ ap (λ n. map flow_no (range_with_len 0 n)) c.len-inputs.ensures in
+    let outs = c.new-8.ensures ∙ c.in_ok-outs-2.ensures ∙ ap (map number_of) c.as_slice-5.ensures.value ∙ numbers_are c.in_ok-outs.outs.items ∙ ap (map flow_no) (c.in_ok-outs.ensures.given ∙ ap outputs_of whole_is) in
+    let in_devices = c.in_ok-in_devices.ensures ∙ ap (λ ds. devices_of ds c.as_slice-2.result.now) (c.as_slice.ensures ∙ ap (λ (x : Program). x.sensors) c.program-program.ensures) ∙ ap (devices_of p.sensors) c.as_slice-2.ensures in
+    let out_devices = c.in_ok-out_devices.ensures ∙ ap (λ ds. devices_of ds c.as_slice-4.result.now) (c.as_slice-3.ensures ∙ ap (λ (x : Program). x.actuators) c.program-program.ensures) ∙ ap (devices_of p.actuators) c.as_slice-4.ensures in
+    let flat = flat_is p main tys right c.new-5.result c.new-6.result c.new-7.result c.new-8.result c.in_ok-in_devices.in_devices.items c.in_ok-out_devices.out_devices.items d is flows apps ins outs in_devices out_devices in
+    let number : c.enter.new.made.next.flow ≡ 0 + length (flows_in (whole p main tys right)) = ap (λ (x : Next). x.flow) adds.next_is ∙ ap (λ w. 0 + length (flows_in w)) whole_is in
+    let few : length (flows_in (whole p main tys right)) ≤ 4096 = omega (arith, adds.few, number) in
+    subst (λ f. IsOneToOne (Satisfies p main bodies rows until) (IsSolution f bodies rows until) state_in) (sym (c.new-9.ensures ∙ flat))
+    (c.behaviours_are_solutions.ensures p right.main main tys (whole p main tys right) right.typed (expansion_is p main tys right) bodies rows until))

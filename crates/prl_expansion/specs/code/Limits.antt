@@ -1,0 +1,10 @@
+-- The limit on flows, where so many are needed.
+use Rattle.std.specs.Prelude.{◌≡◌, ◌<◌, ℕ}
+use Rattle.prl_base.specs.declared.limits.What.TheVariants as what
+use Rattle.prl_expansion.specs.declared.counts.ExpandFault.{ExpandFault}
+use Rattle.prl_expansion.specs.declared.counts.ExpandFault.TheVariants as faults
+
+-- of this many flows, more than 4,096, those up to the first past the limit are counted
+abbrev pub IsPast : ℕ → ExpandFault → Type 0
+IsPast count (faults.Limit limit) = (limit ≡ record { what = what.Flows; found = 4097 }) × (4096 < count)
+IsPast count faults.Memory = Unit {0}
