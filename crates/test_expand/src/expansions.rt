@@ -265,6 +265,16 @@ fn nodes(alloc: Global, count: usize, depth: usize, twice: bool) -> Result<Vec<u
 }
 
 #[test]
+fn deepest_program_that_is_accepted(rt: HostRuntime) -> Result<(), Fail> {
+    // Of 255 nodes and main each has two flows; 62 parentheses stand about each application.
+    let text = nodes(rt.alloc(), 255, 62, false)?;
+    let flat = flat_of(rt.alloc(), text.as_slice())?;
+    assert_eq!(rt; flat.flows().len(), 512);
+    assert_eq!(rt; flat.flows()[511].label.bytes(), b"n0#254.y".as_slice());
+    Ok(())
+}
+
+#[test]
 fn nodes_that_apply_the_one_before_twice(rt: HostRuntime) -> Result<(), Fail> {
     let text = nodes(rt.alloc(), 255, 0, true)?;
     let past = Limit {
