@@ -84,6 +84,7 @@ fn inner_operand(first: Option<u32>, count: usize, before: u32) -> Option<u32>
 }
 
 /// The flows after the operators, which stand on the flows of these terms.
+#[inline(never)]
 fn operated(
     alloc: Global,
     expr: &Expr,
@@ -115,6 +116,7 @@ fn operated(
 }
 
 /// The flow of a constant.
+#[inline(never)]
 fn constant(
     alloc: Global,
     value: Value,
@@ -167,6 +169,7 @@ fn import(
 
 /// The flows of an expression of node `k`. Its parts are made before itself.
 #[cycle(expansion)]
+#[inline(always)]
 fn expression(
     alloc: Global,
     typed: &Typed<'_>,
@@ -193,6 +196,7 @@ fn expression(
 
 /// The flows of what operators are applied to.
 #[cycle(expansion)]
+#[inline(always)]
 fn base(
     alloc: Global,
     typed: &Typed<'_>,
@@ -262,6 +266,7 @@ fn parts(
 
 /// The flows that an application gives, after its arguments.
 #[cycle(expansion)]
+#[inline(never)]
 fn apply(
     alloc: Global,
     typed: &Typed<'_>,
