@@ -1,4 +1,4 @@
--- A chain of one job more than a hyperperiod has meets two jobs of one slot: round and round from the one to the other, chains
+-- A chain of one job more than a hyperperiod has meets two jobs of one index: round and round from the one to the other, chains
 -- become narrow.
 use Rattle.std.proofs.Common.{◌≡◌, ◌+◌, ◌-◌, ◌*◌, ◌/◌, ◌%◌, ◌<◌, ◌≤◌, ◌⊎◌, ◌++◌, ℕ, zero, suc, Bool, true, false, List, [], ◌∷◌, length, map, inl, inr, refl, sym, ◌∙◌, ap, subst, arith, eqb, ◌||◌}
 use Rattle.std.specs.Prelude.{ℤ, pos, negsuc, ◌+ℤ◌, ◌-ℤ◌, ◌*ℤ◌, ◌≤ℤ◌, ◌<ℤ◌}
@@ -21,11 +21,11 @@ use Rattle.prl_dates.specs.declared.faults.DateFault.{DateFault}
 use Rattle.prl_dates.specs.declared.faults.DateFault.TheVariants as faults
 use Rattle.prl_dates.specs.Faults.{jobs_of, IsLate, EndsLoop, IsDateFault, IsOfGraph, HasNarrowChain}
 use Rattle.prl_dates.specs.code.Lanes.{Joins}
-use Rattle.prl_dates.specs.code.Slots.{slot_of}
+use Rattle.prl_dates.specs.code.Indices.{index_of}
 use Rattle.prl_dates.proofs.ChainEnds.{ends_inside, begins_inside}
 use Rattle.prl_dates.proofs.Links.{joins_shift}
 use Rattle.prl_dates.proofs.Settles.{release_rises}
-use Rattle.prl_dates.proofs.Slots.{place_again, place_below, one_slot, some_jobs, slot_below, jobs_are}
+use Rattle.prl_dates.proofs.Indices.{place_again, place_below, one_index, some_jobs, index_below, jobs_are}
 
 -- numbers at one place of a list that repeats are apart by whole lists
 same_place : (len : ℕ) → 1 ≤ len → (x : ℤ) (k : ℕ) → place_in (x +ℤ pos k) len ≡ place_in x len → (h : ℕ) × (k ≡ h * len)
@@ -49,12 +49,12 @@ module _ (graph : TaskGraph) (good : IsWellFormed graph) where
   abbrev release : Job → ℤ
   release job = release_of (task_at graph job.task) job.number
 
-  abbrev slot : Job → ℕ
-  slot job = slot_of graph job.task job.number
+  abbrev index : Job → ℕ
+  index job = index_of graph job.task job.number
 
-  abbrev slots : Job → List Job → List ℕ
-  slots first [] = slot first ∷ []
-  slots first (next ∷ rest) = slot first ∷ slots next rest
+  abbrev indices : Job → List Job → List ℕ
+  indices first [] = index first ∷ []
+  indices first (next ∷ rest) = index first ∷ indices next rest
 
   -- a chain taken apart at a job
   record IsSplit (first : Job) (rest : List Job) (at : Job) : Type 0 where
@@ -91,39 +91,39 @@ module _ (graph : TaskGraph) (good : IsWellFormed graph) where
     wcets = omega arith;
   }
 
-  -- the job of a slot that a chain has
-  found : (s : ℕ) (first : Job) (rest : List Job) → IsChain graph first rest → list_any (eqb s) (slots first rest) ≡ true → (at : Job) × (slot at ≡ s) × IsSplit first rest at
-  found s first [] chain any = (first, one s (slot first) any, at_first first [] chain)
+  -- the job of an index that a chain has
+  found : (s : ℕ) (first : Job) (rest : List Job) → IsChain graph first rest → list_any (eqb s) (indices first rest) ≡ true → (at : Job) × (index at ≡ s) × IsSplit first rest at
+  found s first [] chain any = (first, one s (index first) any, at_first first [] chain)
     where
       one : (a b : ℕ) → (eqb a b || false) ≡ true → b ≡ a
       one a b h = grind (arith, nat_tests)
-  found s first (next ∷ rest) chain any = go (eqb s (slot first)) refl (λ h. found s next rest chain.2 h) any
+  found s first (next ∷ rest) chain any = go (eqb s (index first)) refl (λ h. found s next rest chain.2 h) any
     where
-      go : (t : Bool) → eqb s (slot first) ≡ t → (list_any (eqb s) (slots next rest) ≡ true → (at : Job) × (slot at ≡ s) × IsSplit next rest at) →
-          (t || list_any (eqb s) (slots next rest)) ≡ true → (at : Job) × (slot at ≡ s) × IsSplit first (next ∷ rest) at
-      go true is later_on h = (first, equal s (slot first) is, at_first first (next ∷ rest) chain)
+      go : (t : Bool) → eqb s (index first) ≡ t → (list_any (eqb s) (indices next rest) ≡ true → (at : Job) × (index at ≡ s) × IsSplit next rest at) →
+          (t || list_any (eqb s) (indices next rest)) ≡ true → (at : Job) × (index at ≡ s) × IsSplit first (next ∷ rest) at
+      go true is later_on h = (first, equal s (index first) is, at_first first (next ∷ rest) chain)
         where
           equal : (a b : ℕ) → eqb a b ≡ true → b ≡ a
           equal a b h = grind (arith, nat_tests)
       go false is later_on h = (let r = later_on h in (r.0, r.1, further first next rest r.0 chain r.2))
 
-  -- a job of the chain is of a task of the graph, and so is its slot
+  -- a job of the chain is of a task of the graph, and so is its index
   split_inside : (first : Job) (rest : List Job) (at : Job) → IsSplit first rest at → at.task < length graph.tasks
   split_inside first rest at s = subst (λ (j : Job). j.task < length graph.tasks) s.ends (ends_inside graph first s.front s.before)
 
-  slot_inside : (job : Job) → job.task < length graph.tasks → slot job < jobs_in_hyperperiod graph
-  slot_inside job inside =
-      slot_below graph job.task (place_in job.number (jobs_of graph job.task)) inside
+  index_inside : (job : Job) → job.task < length graph.tasks → index job < jobs_in_hyperperiod graph
+  index_inside job inside =
+      index_below graph job.task (place_in job.number (jobs_of graph job.task)) inside
       (place_below (jobs_of graph job.task) (some_jobs graph good job.task inside) job.number)
 
-  -- two jobs of one slot, one after the other in a chain
+  -- two jobs of one index, one after the other in a chain
   record IsTwice (first : Job) (rest : List Job) : Type 0 where
     early : Job
     late : Job
     front : List Job
     around : List Job
     back : List Job
-    slots_same : slot late ≡ slot early
+    indices_same : index late ≡ index early
     before : IsChain graph first front
     ends : last_of first front ≡ early
     turn : IsChain graph early around
@@ -143,19 +143,19 @@ module _ (graph : TaskGraph) (good : IsWellFormed graph) where
       go true is all h = absurd (let e : ◌≡◌ {A = Bool} true false = h in cc)
       go false is all h = (is, all h)
 
-  twice : (first : Job) (rest : List Job) → IsChain graph first rest → IsDistinct eqb (slots first rest) ⊎ IsTwice first rest
+  twice : (first : Job) (rest : List Job) → IsChain graph first rest → IsDistinct eqb (indices first rest) ⊎ IsTwice first rest
   unfolding IsDistinct
   twice first [] chain = inl (tt, tt)
   twice first (next ∷ rest) chain =
       elim (twice next rest chain.2) [
-        | inl distinct ↦ go (list_any (eqb (slot first)) (slots next rest)) refl distinct
+        | inl distinct ↦ go (list_any (eqb (index first)) (indices next rest)) refl distinct
         | inr t ↦ inr (record {
           early = t.early;
           late = t.late;
           front = next ∷ t.front;
           around = t.around;
           back = t.back;
-          slots_same = t.slots_same;
+          indices_same = t.indices_same;
           before = (chain.0, chain.1, t.before);
           ends = t.ends;
           turn = t.turn;
@@ -168,11 +168,11 @@ module _ (graph : TaskGraph) (good : IsWellFormed graph) where
         })
       ]
     where
-      go : (b : Bool) → list_any (eqb (slot first)) (slots next rest) ≡ b → IsDistinct eqb (slots next rest) →
-          IsDistinct eqb (slots first (next ∷ rest)) ⊎ IsTwice first (next ∷ rest)
-      go false is distinct = inl (none_of (eqb (slot first)) (slots next rest) is, distinct)
+      go : (b : Bool) → list_any (eqb (index first)) (indices next rest) ≡ b → IsDistinct eqb (indices next rest) →
+          IsDistinct eqb (indices first (next ∷ rest)) ⊎ IsTwice first (next ∷ rest)
+      go false is distinct = inl (none_of (eqb (index first)) (indices next rest) is, distinct)
       go true is distinct =
-          (let f = found (slot first) next rest chain.2 is in
+          (let f = found (index first) next rest chain.2 is in
           let s : IsSplit next rest f.0 = f.2 in
           inr (record {
             early = first;
@@ -180,7 +180,7 @@ module _ (graph : TaskGraph) (good : IsWellFormed graph) where
             front = [];
             around = next ∷ s.front;
             back = s.back;
-            slots_same = f.1;
+            indices_same = f.1;
             before = chain.0;
             ends = refl;
             turn = (chain.0, chain.1, s.before);
@@ -192,20 +192,20 @@ module _ (graph : TaskGraph) (good : IsWellFormed graph) where
             wcets = (let w = s.wcets in omega (arith, w));
           }))
 
-  slots_long : (first : Job) (rest : List Job) → length (slots first rest) ≡ length rest + 1
-  slots_long first [] = refl
-  slots_long first (next ∷ rest) = (let r = slots_long next rest in omega (arith, r))
+  indices_long : (first : Job) (rest : List Job) → length (indices first rest) ≡ length rest + 1
+  indices_long first [] = refl
+  indices_long first (next ∷ rest) = (let r = indices_long next rest in omega (arith, r))
 
   long_is_twice : (first : Job) (rest : List Job) → IsChain graph first rest → length rest ≡ jobs_in_hyperperiod graph → IsTwice first rest
   long_is_twice first rest chain long =
       elim (twice first rest chain) [
         | inl distinct ↦ absurd
-            (let few = length-le_from_distinct_below (slots first rest) (jobs_in_hyperperiod graph) distinct
+            (let few = length-le_from_distinct_below (indices first rest) (jobs_in_hyperperiod graph) distinct
             (λ q any. (let f = found q first rest chain any in
-            let b = slot_inside f.0 (split_inside first rest f.0 f.2) in
+            let b = index_inside f.0 (split_inside first rest f.0 f.2) in
             let e = f.1 in
             omega (arith, b, e))) in
-            let l = slots_long first rest in
+            let l = indices_long first rest in
             omega (arith, few, l, long))
         | inr t ↦ t
       ]
@@ -291,11 +291,11 @@ module _ (graph : TaskGraph) (good : IsWellFormed graph) where
   first_early first (next ∷ rest) chain =
       (let a = released_first graph good first next chain.1 in let b = first_early next rest chain.2 in omega (arith, ints, a, b))
 
-  -- the later of two jobs of one slot is so many hyperperiods later
-  hyperperiods_between : (early late : Job) → early.task < length graph.tasks → late.task < length graph.tasks → slot late ≡ slot early → release early ≤ℤ release late →
+  -- the later of two jobs of one index is so many hyperperiods later
+  hyperperiods_between : (early late : Job) → early.task < length graph.tasks → late.task < length graph.tasks → index late ≡ index early → release early ≤ℤ release late →
       (h : ℕ) × (late ≡ later h early)
   hyperperiods_between early late inside inside' same order =
-      let one = one_slot graph late.task early.task (place_in late.number (jobs_of graph late.task)) (place_in early.number (jobs_of graph early.task))
+      let one = one_index graph late.task early.task (place_in late.number (jobs_of graph late.task)) (place_in early.number (jobs_of graph early.task))
       (place_below (jobs_of graph late.task) (some_jobs graph good late.task inside') late.number)
       (place_below (jobs_of graph early.task) (some_jobs graph good early.task inside) early.number) same in
       let places : place_in late.number (jobs_of graph early.task) ≡ place_in early.number (jobs_of graph early.task) =
@@ -383,7 +383,7 @@ module _ (graph : TaskGraph) (good : IsWellFormed graph) where
       let late_in : t.late.task < length graph.tasks = begins_inside graph t.late t.back t.after in
       let order : release t.early ≤ℤ release t.late =
       subst (λ (j : Job). release t.early ≤ℤ release j) t.turned (first_early t.early t.around t.turn) in
-      let between = hyperperiods_between t.early t.late early_in late_in t.slots_same order in
+      let between = hyperperiods_between t.early t.late early_in late_in t.indices_same order in
       let h : ℕ = between.0 in
       let first_in : loop.first.task < length graph.tasks = begins_inside graph loop.first t.front t.before in
       let shorter = join (later between.0 loop.first) (map (later between.0) t.front) t.late t.back (later_chain between.0 loop.first t.front t.before)

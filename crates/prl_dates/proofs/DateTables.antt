@@ -21,13 +21,13 @@ use Rattle.prl_dates.specs.declared.lanes.Lane.{Lane}
 use Rattle.prl_dates.specs.Faults.{jobs_of}
 use Rattle.prl_dates.specs.code.Families.{IsRound}
 use Rattle.prl_dates.specs.code.Lanes.{link_at, AreLanes}
-use Rattle.prl_dates.specs.code.Slots.{jobs_before, slot_of, dates_of}
+use Rattle.prl_dates.specs.code.Indices.{jobs_before, index_of, dates_of}
 use Rattle.prl_dates.specs.code.Tables.{Leaves, LeaveAll, IsSpread, AreFinal, AreUpperDates}
 use Rattle.prl_dates.specs.code.Windows.{window_of, IsCut, AreWindowsOf, AreWindows}
 use Rattle.prl_dates.proofs.BestRounds.{above_release, least_releases}
 use Rattle.prl_dates.proofs.ChainEnds.{both_inside}
 use Rattle.prl_dates.proofs.Settles.{date_here, release_rises}
-use Rattle.prl_dates.proofs.Slots.{place_again, place_below, place_self, some_jobs, slot_again}
+use Rattle.prl_dates.proofs.Indices.{place_again, place_below, place_self, some_jobs, index_again}
 use Rattle.prl_dates.proofs.TableRounds.{Linked, linked, round_of_tables}
 
 module _ (graph : TaskGraph) (good : IsWellFormed graph) (lanes : List Lane) (are : AreLanes graph lanes) (bests : List ℕ) (final : AreFinal graph lanes bests) where
@@ -63,7 +63,7 @@ module _ (graph : TaskGraph) (good : IsWellFormed graph) (lanes : List Lane) (ar
   floors_leave l lane less stands k inside = final.still.asks l lane less stands k inside
 
   module _ (tails : List ℕ) (upper : AreUpperDates graph bests tails) (leave : LeaveAll graph lanes (length lanes) tails) where
-    value : (i : ℕ) (m : ℤ) → i < length graph.tasks → (slice_index bests (slot_of graph i m) ≤ slice_index tails (slot_of graph i m)) × (slice_index tails (slot_of graph i m) ≤ (task_at graph i).due)
+    value : (i : ℕ) (m : ℤ) → i < length graph.tasks → (slice_index bests (index_of graph i m) ≤ slice_index tails (index_of graph i m)) × (slice_index tails (index_of graph i m) ≤ (task_at graph i).due)
     value i m inside =
         let p = place_below (jobs_of graph i) (some_jobs graph good i inside) m in
         (upper.floors i (place_in m (jobs_of graph i)) inside p, upper.due i (place_in m (jobs_of graph i)) inside p)
@@ -80,10 +80,10 @@ module _ (graph : TaskGraph) (good : IsWellFormed graph) (lanes : List Lane) (ar
         let at : Linked graph good lanes are first second = linked graph good lanes are first second h in
         let leaves : Leaves at.lane (task_at graph at.lane.to.0).wcet tails tails at.k =
         leave at.l at.lane (slice_get_within lanes at.l at.lane at.stands) at.stands at.k (let l = at.is.long in let b = at.below in omega (arith, b, l)) in
-        let s : slot_of graph at.lane.to.0 second.number ≡ at.lane.first + at.k =
+        let s : index_of graph at.lane.to.0 second.number ≡ at.lane.first + at.k =
         ap (λ (x : ℕ). jobs_before graph at.lane.to.0 + x) at.link.place ∙ ap (λ (x : ℕ). x + at.k) (sym at.is.first) in
-        let v : slice_index tails (slot_of graph at.lane.to.0 second.number) ≡ slice_index tails (at.lane.first + at.k) = ap (λ (q : ℕ). slice_index tails q) s in
-        let w : slice_index tails (slot_of graph at.lane.from.0 at.before) ≡ slice_index tails (link_at at.lane at.k).from = ap (λ (q : ℕ). slice_index tails q) at.link.slot in
+        let v : slice_index tails (index_of graph at.lane.to.0 second.number) ≡ slice_index tails (at.lane.first + at.k) = ap (λ (q : ℕ). slice_index tails q) s in
+        let w : slice_index tails (index_of graph at.lane.from.0 at.before) ≡ slice_index tails (link_at at.lane at.k).from = ap (λ (q : ℕ). slice_index tails q) at.link.index in
         let g = at.link.gap in
         let greatest : (dates_of graph tails at.lane.from.0 at.before +ℤ pos (task_at graph at.lane.to.0).wcet) ≤ℤ dates_of graph tails at.lane.to.0 second.number =
         omega (arith, ints, leaves, v, w, g) in
@@ -134,12 +134,12 @@ module _ (graph : TaskGraph) (good : IsWellFormed graph) (lanes : List Lane) (ar
           (let e : suc times * len ≡ times * len + len = omega arith in let f : m +ℤ pos (suc times * len) ≡ (m +ℤ pos (times * len)) +ℤ pos len = omega (arith, ints, e) in f)
           ∙ place_again len some (m +ℤ pos (times * len)) ∙ place_times len times some m
 
-      window_is : (i : ℕ) → i < length graph.tasks → (m : ℤ) → window_at windows i m ≡ window_of graph i bests tails (slot_of graph i m)
+      window_is : (i : ℕ) → i < length graph.tasks → (m : ℤ) → window_at windows i m ≡ window_of graph i bests tails (index_of graph i m)
       window_is i inside =
-          everywhere (λ (m : ℤ). window_at windows i m ≡ window_of graph i bests tails (slot_of graph i m)) (jobs_of graph i) (some_jobs graph good i inside)
+          everywhere (λ (m : ℤ). window_at windows i m ≡ window_of graph i bests tails (index_of graph i m)) (jobs_of graph i) (some_jobs graph good i inside)
           (λ n below. of.each n below ∙ ap (λ (p : ℕ). window_of graph i bests tails (jobs_before graph i + p)) (sym (place_self (jobs_of graph i) n below)))
-          (λ m h. list_again m ∙ h ∙ ap (λ (q : ℕ). window_of graph i bests tails q) (sym (slot_again graph good i inside m)))
-          (λ m h. sym (list_again m) ∙ h ∙ ap (λ (q : ℕ). window_of graph i bests tails q) (slot_again graph good i inside m))
+          (λ m h. list_again m ∙ h ∙ ap (λ (q : ℕ). window_of graph i bests tails q) (sym (index_again graph good i inside m)))
+          (λ m h. sym (list_again m) ∙ h ∙ ap (λ (q : ℕ). window_of graph i bests tails q) (index_again graph good i inside m))
         where
           of : AreWindowsOf graph bests tails i (slice_index_or windows i [])
           of = lists.each i inside
@@ -155,13 +155,13 @@ module _ (graph : TaskGraph) (good : IsWellFormed graph) (lanes : List Lane) (ar
 
       release_is : (i : ℕ) (m : ℤ) → i < length graph.tasks → encoded_release graph windows i m ≡ dates_of graph bests i m -ℤ pos (task_at graph i).wcet
       release_is i m inside =
-          let w : (window_at windows i m).lead ≡ slice_index bests (slot_of graph i m) - (task_at graph i).wcet = ap (λ (x : Window). x.lead) (window_is i inside m) in
+          let w : (window_at windows i m).lead ≡ slice_index bests (index_of graph i m) - (task_at graph i).wcet = ap (λ (x : Window). x.lead) (window_is i inside m) in
           let r = best_room i (place_in m (jobs_of graph i)) inside (place_below (jobs_of graph i) (some_jobs graph good i inside) m) in
           omega (arith, ints, w, r)
 
       deadline_is : (i : ℕ) (m : ℤ) → i < length graph.tasks → encoded_deadline graph windows i m ≡ dates_of graph tails i m
       deadline_is i m inside =
-          let w : (window_at windows i m).tail ≡ slice_index tails (slot_of graph i m) = ap (λ (x : Window). x.tail) (window_is i inside m) in
+          let w : (window_at windows i m).tail ≡ slice_index tails (index_of graph i m) = ap (λ (x : Window). x.tail) (window_is i inside m) in
           omega (arith, ints, w)
 
       releases : AreReleases graph (encoded_release graph windows)

@@ -26,9 +26,9 @@ use Rattle.prl_plan.proofs.WalkNumbers.{preceding_fits, number_within}
 use Rattle.prl_dates.specs.declared.lanes.Lane.{Lane}
 use Rattle.prl_dates.specs.declared.lanes.Link.{Link}
 use Rattle.prl_dates.specs.Faults.{jobs_of}
-use Rattle.prl_dates.specs.code.Slots.{jobs_before}
+use Rattle.prl_dates.specs.code.Indices.{jobs_before}
 use Rattle.prl_dates.specs.code.Lanes.{Joins, IsGreatestBefore, no_link, link_at, IsLinkOf, IsLane, IsJoined, JoinsAt, AreGreatest, AreLanesOf, AreLanes}
-use Rattle.prl_dates.proofs.Slots.{jobs_are, place_self}
+use Rattle.prl_dates.proofs.Indices.{jobs_are, place_self}
 use Rattle.prl_dates.proofs.Readings.{fits_rest, item_stands}
 
 -- items of a list that got one more
@@ -207,7 +207,7 @@ module _ (graph : TaskGraph) (good : IsWellFormed graph) where
   link_made i j n m near link from gap =
       let a = apart (release_of (task_at graph j) (pos n)) (release_of (task_at graph i) m) link.gap near.order gap in
       let c = near.close in
-      record { slot = sym from; gap = a; small = omega (arith, ints, a, c) }
+      record { index = sym from; gap = a; small = omega (arith, ints, a, c) }
 
   -- the first edge's numbers
   pub greatest_first : (i j e : ℕ) (edge : Edge) → slice_get graph.edges e ≡ Some edge → ComesFrom edge.from i → edge.to.0 ≡ j → (numbers : List ℤ) →
@@ -290,7 +290,7 @@ module _ (graph : TaskGraph) (good : IsWellFormed graph) where
           record {
             place = place_self (jobs_of graph lane.to.0) k below;
             greatest = greatest_all lane.from.0 lane.to.0 numbers are k below;
-            slot = l.slot;
+            index = l.index;
             gap = l.gap;
           },
         ));

@@ -1,6 +1,6 @@
 mod ChainEnds
 mod BestRounds
-mod Slots
+mod Indices
 mod Links
 mod TableRounds
 mod Readings

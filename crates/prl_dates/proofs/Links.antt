@@ -13,9 +13,9 @@ use Rattle.prl_plan.proofs.RoundLaws.{source_inside}
 use Rattle.prl_plan.proofs.RoundPeriods.{edge_precedes}
 use Rattle.prl_dates.specs.declared.lanes.Lane.{Lane}
 use Rattle.prl_dates.specs.Faults.{jobs_of}
-use Rattle.prl_dates.specs.code.Slots.{slot_of}
+use Rattle.prl_dates.specs.code.Indices.{index_of}
 use Rattle.prl_dates.specs.code.Lanes.{Joins, link_at, IsLink, IsLane}
-use Rattle.prl_dates.proofs.Slots.{place_again, place_self, jobs_are, some_jobs, slot_again, release_again}
+use Rattle.prl_dates.proofs.Indices.{place_again, place_self, jobs_are, some_jobs, index_again, release_again}
 
 module _ (graph : TaskGraph) (good : IsWellFormed graph) where
   pub joined_edge : (i j : ℕ) (edge : Edge) → Joins graph i j edge → IsEdge graph edge
@@ -52,7 +52,7 @@ module _ (graph : TaskGraph) (good : IsWellFormed graph) where
         above = λ edge joins.
             (let s = joins_shift lane.from.0 lane.to.0 edge joins n in let a = link.greatest.above edge joins in omega (arith, ints, s, a));
       };
-      slot = slot_again graph good lane.from.0 lanes.from m ∙ link.slot;
+      index = index_again graph good lane.from.0 lanes.from m ∙ link.index;
       gap =
           (let a = release_again graph good lane.to.0 lanes.to n in let b = release_again graph good lane.from.0 lanes.from m in
           let g = link.gap in
@@ -73,7 +73,7 @@ module _ (graph : TaskGraph) (good : IsWellFormed graph) where
         above = λ edge joins.
             (let s = joins_shift lane.from.0 lane.to.0 edge joins n in let a = link.greatest.above edge joins in omega (arith, ints, s, a));
       };
-      slot = sym (slot_again graph good lane.from.0 lanes.from m) ∙ link.slot;
+      index = sym (index_again graph good lane.from.0 lanes.from m) ∙ link.index;
       gap =
           (let a = release_again graph good lane.to.0 lanes.to n in let b = release_again graph good lane.from.0 lanes.from m in
           let g = link.gap in
@@ -122,11 +122,11 @@ module _ (graph : TaskGraph) (good : IsWellFormed graph) where
         (λ x h e. from_up x (h (sym (from_again x) ∙ e)))
         (λ x h e. from_down x (h (from_again x ∙ e)))
 
-    -- the link stands for each job of the slot that it comes from
-    pub link_from : k < jobs_of graph lane.to.0 → (m : ℤ) → slot_of graph lane.from.0 m ≡ (link_at lane k).from → (n : ℤ) × IsLink graph lane k n m
-    link_from below m slot =
+    -- the link stands for each job of the index that it comes from
+    pub link_from : k < jobs_of graph lane.to.0 → (m : ℤ) → index_of graph lane.from.0 m ≡ (link_at lane k).from → (n : ℤ) × IsLink graph lane k n m
+    link_from below m index =
         let first = lanes.links k below in
-        from_alike first.0 (pos k, first.1) m (let s = first.1.slot in omega (arith, s, slot))
+        from_alike first.0 (pos k, first.1) m (let s = first.1.index in omega (arith, s, index))
 
   -- each job of the lane's later task has a link
   pub link_to : (lane : Lane) → IsLane graph lane → (n : ℤ) → (m : ℤ) × IsLink graph lane (place_in n (jobs_of graph lane.to.0)) n m

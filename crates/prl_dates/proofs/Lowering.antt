@@ -15,15 +15,15 @@ use Rattle.prl_dates.specs.declared.lanes.Lane.{Lane}
 use Rattle.prl_dates.specs.declared.lanes.Link.{Link}
 use Rattle.prl_dates.specs.Faults.{jobs_of}
 use Rattle.prl_dates.specs.code.Lanes.{no_link, link_at, IsLink, IsLane}
-use Rattle.prl_dates.specs.code.Slots.{jobs_before, slot_of, dates_of}
+use Rattle.prl_dates.specs.code.Indices.{jobs_before, index_of, dates_of}
 use Rattle.prl_dates.specs.code.Tables.{Leaves, AreUpperDates, IsLowering, ArePassed}
 use Rattle.prl_dates.proofs.Links.{link_from, link_precedes}
 use Rattle.prl_dates.proofs.RoundSteps.{links_from, links_to}
-use Rattle.prl_dates.proofs.Slots.{one_slot, place_below, some_jobs}
+use Rattle.prl_dates.proofs.Indices.{one_index, place_below, some_jobs}
 
--- a slot that is written, or another
-set_slot : (table : List ℕ) (at q value : ℕ) → at < length table → ((q ≡ at) × (slice_index (set table at value) q ≡ value)) ⊎ ((q ≢ at) × (slice_index (set table at value) q ≡ slice_index table q))
-set_slot table at q value inside =
+-- an index that is written, or another
+set_index : (table : List ℕ) (at q value : ℕ) → at < length table → ((q ≡ at) × (slice_index (set table at value) q ≡ value)) ⊎ ((q ≢ at) × (slice_index (set table at value) q ≡ slice_index table q))
+set_index table at q value inside =
     elim (cases_lt q at) [
       | inl less ↦ (let ne : q ≢ at = omega (arith, less) in inr (ne, get_or-set_other table at q value 0 ne))
       | inr above ↦
@@ -52,7 +52,7 @@ module _ (graph : TaskGraph) (good : IsWellFormed graph) (floor table : List ℕ
   place_inside =
       place_below (jobs_of graph lane.from.0) (some_jobs graph good lane.from.0 is.from) (is.links k (let l = is.long in omega (arith, l, inside))).0
 
-  -- the link's slots, and the dates in them
+  -- the link's indices, and the dates in them
   pub from_inside : (link_at lane k).from < length table
   from_inside = (let f = links_from graph good lane is k inside in let l = are.long in omega (arith, f, l))
 
@@ -62,7 +62,7 @@ module _ (graph : TaskGraph) (good : IsWellFormed graph) (floor table : List ℕ
   from_floor : slice_index floor (link_at lane k).from ≤ slice_index table (link_at lane k).from
   from_floor =
       let f = are.floors lane.from.0 (place_in (is.links k (let l = is.long in omega (arith, l, inside))).0 (jobs_of graph lane.from.0)) is.from place_inside in
-      let s = first_link.slot in
+      let s = first_link.index in
       subst (λ (q : ℕ). slice_index floor q ≤ slice_index table q) s f
 
   pub to_floor : slice_index floor (lane.first + k) ≤ slice_index table (lane.first + k)
@@ -81,24 +81,24 @@ module _ (graph : TaskGraph) (good : IsWellFormed graph) (floor table : List ℕ
     lowered_above : (other : Family) → AreDeadlines graph other → (i : ℕ) (m : ℤ) → i < length graph.tasks →
         other i m ≤ℤ dates_of graph (set table (link_at lane k).from value) i m
     lowered_above other of i m task =
-        elim (set_slot table (link_at lane k).from (slot_of graph i m) value from_inside) [
+        elim (set_index table (link_at lane k).from (index_of graph i m) value from_inside) [
           | inl here ↦
-              (let s = first_link.slot in
-              let one = one_slot graph i lane.from.0 (place_in m (jobs_of graph i)) (place_in (is.links k (let l = is.long in omega (arith, l, inside))).0 (jobs_of graph lane.from.0))
+              (let s = first_link.index in
+              let one = one_index graph i lane.from.0 (place_in m (jobs_of graph i)) (place_in (is.links k (let l = is.long in omega (arith, l, inside))).0 (jobs_of graph lane.from.0))
               (place_below (jobs_of graph i) (some_jobs graph good i task) m) place_inside (here.0 ∙ sym s) in
-              let at : slot_of graph lane.from.0 m ≡ (link_at lane k).from =
-              subst (λ (x : ℕ). slot_of graph x m ≡ (link_at lane k).from) one.0 here.0 in
+              let at : index_of graph lane.from.0 m ≡ (link_at lane k).from =
+              subst (λ (x : ℕ). index_of graph x m ≡ (link_at lane k).from) one.0 here.0 in
               let found = link_from graph good lane is k below m at in
               let link : IsLink graph lane k found.0 m = found.1 in
               let p = link_precedes graph good lane k found.0 m link in
               let along = of.along (record { task = lane.from.0; number = m }) (record { task = lane.to.0; number = found.0 }) p in
               let up = are.above other of lane.to.0 found.0 is.to in
-              let q : slot_of graph lane.to.0 found.0 ≡ lane.first + k =
+              let q : index_of graph lane.to.0 found.0 ≡ lane.first + k =
               ap (λ (x : ℕ). jobs_before graph lane.to.0 + x) link.place ∙ ap (λ (x : ℕ). x + k) (sym is.first) in
-              let v : slice_index table (slot_of graph lane.to.0 found.0) ≡ slice_index table (lane.first + k) = ap (λ (x : ℕ). slice_index table x) q in
+              let v : slice_index table (index_of graph lane.to.0 found.0) ≡ slice_index table (lane.first + k) = ap (λ (x : ℕ). slice_index table x) q in
               let g = link.gap in
               let r = room in
-              let w : slice_index (set table (link_at lane k).from value) (slot_of graph i m) ≡ value = here.1 in
+              let w : slice_index (set table (link_at lane k).from value) (index_of graph i m) ≡ value = here.1 in
               let o : other i m ≡ other lane.from.0 m = ap (λ (x : ℕ). other x m) one.0 in
               let t : release_of (task_at graph i) m ≡ release_of (task_at graph lane.from.0) m = ap (λ (x : ℕ). release_of (task_at graph x) m) one.0 in
               omega (arith, ints, along, up, v, g, r, w, o, t, asked))
@@ -109,7 +109,7 @@ module _ (graph : TaskGraph) (good : IsWellFormed graph) (floor table : List ℕ
     lowered = record {
       long = length-set table (link_at lane k).from value ∙ are.long;
       floors = λ i p task job.
-          elim (set_slot table (link_at lane k).from (jobs_before graph i + p) value from_inside) [
+          elim (set_index table (link_at lane k).from (jobs_before graph i + p) value from_inside) [
             | inl here ↦
                 (let f : slice_index floor (jobs_before graph i + p) ≡ slice_index floor (link_at lane k).from = ap (λ (x : ℕ). slice_index floor x) here.0 in
                 let v = here.1 in let t = to_floor in let l = floors in
@@ -117,7 +117,7 @@ module _ (graph : TaskGraph) (good : IsWellFormed graph) (floor table : List ℕ
             | inr there ↦ (let f = are.floors i p task job in let v = there.1 in omega (arith, f, v))
           ];
       due = λ i p task job.
-          elim (set_slot table (link_at lane k).from (jobs_before graph i + p) value from_inside) [
+          elim (set_index table (link_at lane k).from (jobs_before graph i + p) value from_inside) [
             | inl here ↦
                 (let d = are.due i p task job in
                 let e : slice_index table (jobs_before graph i + p) ≡ slice_index table (link_at lane k).from = ap (λ (x : ℕ). slice_index table x) here.0 in
@@ -148,14 +148,14 @@ module _ (graph : TaskGraph) (good : IsWellFormed graph) (floor : List ℕ) (lan
   pub limit_is : get_or table (lane.first + k) 0 + (get_or links k no_link).gap - wcet ≡ slice_index table (lane.first + k) + (link_at lane k).gap - (task_at graph lane.to.0).wcet
   limit_is = ap (λ (x : Link). get_or table (lane.first + k) 0 + x.gap - wcet) link_is ∙ ap (λ (x : ℕ). get_or table (lane.first + k) 0 + (link_at lane k).gap - x) own
 
-  pub slot_to : lane.first + k < length table
-  slot_to = to_inside graph good floor table so_far.dates lane is k at (floors k at)
+  pub index_to : lane.first + k < length table
+  index_to = to_inside graph good floor table so_far.dates lane is k at (floors k at)
 
-  pub slot_from : (get_or links k no_link).from < length table
-  slot_from = subst (λ (x : Link). x.from < length table) (sym link_is) (from_inside graph good floor table so_far.dates lane is k at (floors k at))
+  pub index_from : (get_or links k no_link).from < length table
+  index_from = subst (λ (x : Link). x.from < length table) (sym link_is) (from_inside graph good floor table so_far.dates lane is k at (floors k at))
 
-  pub few_slots : length table ≤ 20000
-  few_slots = (let l = so_far.dates.long in let f = good.few_jobs in omega (arith, l, f))
+  pub few_indices : length table ≤ 20000
+  few_indices = (let l = so_far.dates.long in let f = good.few_jobs in omega (arith, l, f))
 
   pub sum_fits : get_or table (lane.first + k) 0 + (get_or links k no_link).gap < 2 ^ 64
   sum_fits =

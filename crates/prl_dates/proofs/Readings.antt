@@ -1,8 +1,9 @@
 -- What is read from a graph, and that the numbers of its jobs fit.
-use Rattle.std.proofs.Common.{◌≡◌, ◌+◌, ◌<◌, ◌≤◌, ℕ, zero, suc, List, [], ◌∷◌, length, get_or, Some, inl, inr, refl, sym, ◌∙◌, ap, subst, arith}
+use Rattle.std.proofs.Common.{◌≡◌, ◌+◌, ◌<◌, ◌≤◌, ℕ, suc, List, [], ◌∷◌, length, get_or, Some, inl, inr, sym, ◌∙◌, ap, subst, arith}
 use Rattle.std.specs.Prelude.{ℤ, pos, ◌-ℤ◌, slice_get}
 use Rattle.std.proofs.lemmas.Int.{ints}
 use Rattle.std.proofs.Math.IntN.{pred_ℤ}
+use Rattle.std.proofs.lemmas.List.{get_or_default}
 use Rattle.std.proofs.lemmas.Option.{slice_get-get_or}
 use Rattle.std.proofs.lemmas.Bool.{cases_lt}
 use Rattle.prl_base.specs.declared.operators.Op.{Op}
@@ -15,21 +16,15 @@ use Rattle.prl_plan.specs.Jobs.{task_at, no_task}
 use Rattle.prl_plan.proofs.Floors.{suc_is, pred_is}
 use Rattle.prl_plan.specs.Ranges.{PrecedingFits}
 use Rattle.prl_dates.specs.Faults.{jobs_of}
-use Rattle.prl_dates.specs.code.Slots.{jobs_before}
-use Rattle.prl_dates.proofs.Slots.{before_rises, before_all}
-
--- an element that is there is the same under any default
-pub any_default : {A : Type 0} (xs : List A) (i : ℕ) (d e : A) → i < length xs → get_or xs i d ≡ get_or xs i e
-any_default [] i d e below = absurd (omega arith)
-any_default (x ∷ xs) zero d e below = refl
-any_default (x ∷ xs) (suc i) d e below = any_default xs i d e (omega arith)
+use Rattle.prl_dates.specs.code.Indices.{jobs_before}
+use Rattle.prl_dates.proofs.Indices.{before_rises, before_all}
 
 -- an element of a list is the one that stands there
 pub item_stands : {A : Type 0} (xs : List A) (i : ℕ) (x : A) → i < length xs → x ≡ get_or xs i x → slice_get xs i ≡ Some x
 item_stands {A} xs i x below is = slice_get-get_or xs i x below ∙ ap (λ (y : A). Some y) (sym is)
 
 pub task_read : (graph : TaskGraph) (xs : List Task) (i : ℕ) (d : Task) → xs ≡ graph.tasks → i < length graph.tasks → get_or xs i d ≡ task_at graph i
-task_read graph xs i d same below = ap (λ (ts : List Task). get_or ts i d) same ∙ any_default graph.tasks i d no_task below
+task_read graph xs i d same below = ap (λ (ts : List Task). get_or ts i d) same ∙ get_or_default graph.tasks i d no_task below
 
 -- the jobs of some tasks are no more than a hyperperiod's
 pub before_few : (graph : TaskGraph) → IsWellFormed graph → (i : ℕ) → i ≤ length graph.tasks → jobs_before graph i ≤ 20000
@@ -47,9 +42,9 @@ before_few graph good i within =
 pub before_next : (graph : TaskGraph) (i : ℕ) → jobs_before graph (i + 1) ≡ jobs_before graph i + jobs_of graph i
 before_next graph i = ap (λ (n : ℕ). jobs_before graph n) (let e : i + 1 ≡ suc i = omega arith in e)
 
--- the slots of a task are in the tables
-pub slots_inside : (graph : TaskGraph) (i : ℕ) → i < length graph.tasks → jobs_before graph i + jobs_of graph i ≤ jobs_in_hyperperiod graph
-slots_inside graph i inside = (let r = before_rises graph i (length graph.tasks) inside in let a = before_all graph in omega (arith, r, a))
+-- the indices of a task are in the tables
+pub indices_inside : (graph : TaskGraph) (i : ℕ) → i < length graph.tasks → jobs_before graph i + jobs_of graph i ≤ jobs_in_hyperperiod graph
+indices_inside graph i inside = (let r = before_rises graph i (length graph.tasks) inside in let a = before_all graph in omega (arith, r, a))
 
 -- the numbers on the way to a job that precedes fit one operator after the other
 pub fits_first : (op : Op) (ops : List Op) (n : ℤ) → PrecedingFits (op ∷ ops) n → PrecedingFits (op ∷ []) n

@@ -10,10 +10,10 @@ use Rattle.prl_plan.specs.Graphs.{IsWellFormed, jobs_in_hyperperiod}
 use Rattle.prl_plan.proofs.RoundPeriods.{task_is}
 use Rattle.prl_dates.specs.declared.lanes.Lane.{Lane}
 use Rattle.prl_dates.specs.Faults.{jobs_of}
-use Rattle.prl_dates.specs.code.Slots.{slot_of}
+use Rattle.prl_dates.specs.code.Indices.{index_of}
 use Rattle.prl_dates.specs.code.Lanes.{link_at, IsLane, AreLanes}
 use Rattle.prl_dates.specs.code.Tables.{Leaves, Meets, AreRaised, AreRound, AreSettled, AreMarked, AreWithin}
-use Rattle.prl_dates.proofs.Slots.{before_rises, before_all, slot_below, place_below, some_jobs}
+use Rattle.prl_dates.proofs.Indices.{before_rises, before_all, index_below, place_below, some_jobs}
 
 same_lane : (lanes : List Lane) (l : ℕ) (a b : Lane) → slice_get lanes l ≡ Some a → slice_get lanes l ≡ Some b → a ≡ b
 same_lane lanes l a b x y = cc
@@ -86,13 +86,13 @@ round_begins graph lanes now = record {
 }
 
 module _ (graph : TaskGraph) (good : IsWellFormed graph) where
-  -- the slots of a lane's links are in the tables
+  -- the indices of a lane's links are in the tables
   pub links_from : (lane : Lane) → IsLane graph lane → (k : ℕ) → k < length lane.links → (link_at lane k).from < jobs_in_hyperperiod graph
   links_from lane is k inside =
       let link = is.links k (let l = is.long in omega (arith, l, inside)) in
-      let below = slot_below graph lane.from.0 (place_in link.0 (jobs_of graph lane.from.0)) is.from
+      let below = index_below graph lane.from.0 (place_in link.0 (jobs_of graph lane.from.0)) is.from
       (place_below (jobs_of graph lane.from.0) (some_jobs graph good lane.from.0 is.from) link.0) in
-      let s = link.1.slot in
+      let s = link.1.index in
       omega (arith, below, s)
 
   pub links_to : (lane : Lane) → IsLane graph lane → lane.first + length lane.links ≤ jobs_in_hyperperiod graph
@@ -127,6 +127,6 @@ module _ (graph : TaskGraph) (good : IsWellFormed graph) where
         let below : place_in link.0 (jobs_of graph lane.from.0) < jobs_of graph lane.from.0 =
         place_below (jobs_of graph lane.from.0) (some_jobs graph good lane.from.0 is.from) link.0 in
         let same = marked lane.from.0 (place_in link.0 (jobs_of graph lane.from.0)) is.from unmarked below in
-        let x : slice_index next (slot_of graph lane.from.0 link.0) ≡ slice_index next (link_at lane k).from = ap (λ (q : ℕ). slice_index next q) link.1.slot in
-        let y : slice_index now (slot_of graph lane.from.0 link.0) ≡ slice_index now (link_at lane k).from = ap (λ (q : ℕ). slice_index now q) link.1.slot in
+        let x : slice_index next (index_of graph lane.from.0 link.0) ≡ slice_index next (link_at lane k).from = ap (λ (q : ℕ). slice_index next q) link.1.index in
+        let y : slice_index now (index_of graph lane.from.0 link.0) ≡ slice_index now (link_at lane k).from = ap (λ (q : ℕ). slice_index now q) link.1.index in
         omega (arith, a, same, x, y)

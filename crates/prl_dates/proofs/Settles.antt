@@ -20,10 +20,10 @@ use Rattle.prl_dates.specs.declared.lanes.Lane.{Lane}
 use Rattle.prl_dates.specs.Faults.{jobs_of, IsOfPeriod, IsLate, EndsLoop, NoneOfPeriod, IsSomehowLate, IsDateFault}
 use Rattle.prl_dates.specs.code.Families.{AreBests}
 use Rattle.prl_dates.specs.code.Lanes.{AreLanes}
-use Rattle.prl_dates.specs.code.Slots.{jobs_before, dates_of}
+use Rattle.prl_dates.specs.code.Indices.{jobs_before, dates_of}
 use Rattle.prl_dates.specs.code.Tables.{Leaves, AreRound, AreSettled, IsSpread, IsNowhereAbove, IsFirstAbove}
 use Rattle.prl_dates.proofs.BestRounds.{next_bests}
-use Rattle.prl_dates.proofs.Slots.{place_below, place_self, some_jobs, slot_below}
+use Rattle.prl_dates.proofs.Indices.{place_below, place_self, some_jobs, index_below}
 use Rattle.prl_dates.proofs.LaneSteps.{date_small}
 use Rattle.prl_dates.proofs.Spreads.{get_same}
 use Rattle.prl_dates.proofs.TableRounds.{round_of_tables}
@@ -53,15 +53,15 @@ job_small graph good i n inside below t is =
 
 -- the fault, by its parts
 pub narrow_is : (graph : TaskGraph) (bests : List ℕ) (task : TaskNo) (n : ℕ) (t : Task) → t ≡ task_at graph task.0 → n < jobs_of graph task.0 →
-    (slot : ℕ) → slot ≡ jobs_before graph task.0 + n → (job : ℤ) → job ≡ pos n →
-    (needs : ℤ) → needs ≡ pos (t.clock.start + n * t.clock.period + slice_index bests slot) → (has : ℤ) → has ≡ pos (t.clock.start + n * t.clock.period + t.due) →
+    (index : ℕ) → index ≡ jobs_before graph task.0 + n → (job : ℤ) → job ≡ pos n →
+    (needs : ℤ) → needs ≡ pos (t.clock.start + n * t.clock.period + slice_index bests index) → (has : ℤ) → has ≡ pos (t.clock.start + n * t.clock.period + t.due) →
     faults.Narrow task job needs has ≡ faults.Narrow task (pos n) (dates_of graph bests task.0 (pos n)) (deadline_of (task_at graph task.0) (pos n))
-narrow_is graph bests task n t is below slot at job job_is needs needs_is has has_is =
+narrow_is graph bests task n t is below index at job job_is needs needs_is has has_is =
     let date : dates_of graph bests task.0 (pos n) ≡ needs =
     date_here graph bests task.0 n below
     ∙ ap (λ (x : ℕ). release_of (task_at graph task.0) (pos n) +ℤ pos (slice_index bests x)) (sym at)
-    ∙ ap (λ (x : Task). release_of x (pos n) +ℤ pos (slice_index bests slot)) (sym is)
-    ∙ (let e : release_of t (pos n) +ℤ pos (slice_index bests slot) ≡ needs = omega (arith, ints, needs_is) in e) in
+    ∙ ap (λ (x : Task). release_of x (pos n) +ℤ pos (slice_index bests index)) (sym is)
+    ∙ (let e : release_of t (pos n) +ℤ pos (slice_index bests index) ≡ needs = omega (arith, ints, needs_is) in e) in
     let due : deadline_of (task_at graph task.0) (pos n) ≡ has =
     ap (λ (x : Task). deadline_of x (pos n)) (sym is) ∙ (let e : deadline_of t (pos n) ≡ has = omega (arith, ints, has_is) in e) in
     ap (λ (z : ℤ). faults.Narrow task z needs has) job_is ∙ ap (λ (z : ℤ). faults.Narrow task (pos n) z has) (sym date)
@@ -104,7 +104,7 @@ module _ (graph : TaskGraph) (good : IsWellFormed graph) where
     best_here : (i p : ℕ) → IsOfPeriod graph i p → IsBest graph (jobs_in_hyperperiod graph) (record { task = i; number = pos p }) (dates_of graph now i (pos p))
     best_here i p of =
         subst (λ (n : ℕ). IsBest graph n (record { task = i; number = pos p }) (dates_of graph now i (pos p)))
-        (let b = slot_below graph i p of.0 of.1 in let e : most + 1 ≡ jobs_in_hyperperiod graph = omega (arith, b, is) in e)
+        (let b = index_below graph i p of.0 of.1 in let e : most + 1 ≡ jobs_in_hyperperiod graph = omega (arith, b, is) in e)
         (bests.bests (record { task = i; number = pos p }) of.0)
 
     module _ (dues : List ℕ) (spread : IsSpread graph firsts.Due (length graph.tasks) dues) where
@@ -164,7 +164,7 @@ module _ (graph : TaskGraph) (good : IsWellFormed graph) where
             slice_index now (jobs_before graph i + p) < slice_index next (jobs_before graph i + p)
         loop_is_above i p of loop =
             let same = one_best graph (jobs_in_hyperperiod graph) (record { task = i; number = pos p }) loop.best (dates_of graph now i (pos p)) loop.is_best (best_here i p of) in
-            let b = slot_below graph i p of.0 of.1 in
+            let b = index_below graph i p of.0 of.1 in
             let few : length loop.rest + 1 ≤ most + 1 + 1 = (let l = loop.long in omega (arith, l, b, is)) in
             let up = (next_here.bests (record { task = i; number = pos p }) of.0).none_above loop.first loop.rest (record { chain = loop.chain; few = few; last = loop.last }) in
             let x = loop.longer in
@@ -178,7 +178,7 @@ module _ (graph : TaskGraph) (good : IsWellFormed graph) where
             let of = at.of_period in
             let a = (next_here.bests (record { task = i; number = pos n }) of.0).attained in
             let e : EndsIn graph (most + 1 + 1) (record { task = i; number = pos n }) a.0 a.1 = a.2 in
-            let b = slot_below graph i n of.0 of.1 in
+            let b = index_below graph i n of.0 of.1 in
             let v = date_here graph now i n of.1 in
             let w = date_here graph next i n of.1 in
             let u = at.above in

@@ -1,4 +1,4 @@
--- Tables of first dates, and what each of their slots has.
+-- Tables of first dates, and what each of their indices has.
 use Rattle.std.proofs.Common.{◌≡◌, ◌+◌, ◌-◌, ◌<◌, ◌≤◌, ◌++◌, ℕ, zero, suc, List, [], ◌∷◌, length, replicate, get_or, inl, inr, refl, sym, ◌∙◌, ap, subst, arith}
 use Rattle.std.specs.Prelude.{slice_index}
 use Rattle.std.proofs.lemmas.List.{ext_get_or}
@@ -6,9 +6,9 @@ use Rattle.std.proofs.lemmas.Bool.{cases_lt}
 use Rattle.prl_plan.specs.declared.graphs.TaskGraph.{TaskGraph}
 use Rattle.prl_dates.specs.declared.bests.First.{First}
 use Rattle.prl_dates.specs.Faults.{jobs_of}
-use Rattle.prl_dates.specs.code.Slots.{jobs_before}
+use Rattle.prl_dates.specs.code.Indices.{jobs_before}
 use Rattle.prl_dates.specs.code.Tables.{first_of, IsSpread, AreWithin}
-use Rattle.prl_dates.proofs.Slots.{before_rises}
+use Rattle.prl_dates.proofs.Indices.{before_rises}
 use Rattle.prl_dates.proofs.Readings.{before_next}
 
 pub get_past : {A : Type 0} (xs : List A) (k : ℕ) (d : A) → length xs ≤ k → get_or xs k d ≡ d
@@ -63,12 +63,12 @@ module _ (graph : TaskGraph) where
   pub spread_none : (first : First) → IsSpread graph first 0 []
   spread_none first = record { long = refl; each = λ i p below. absurd (omega (arith, below)) }
 
-  -- each place of a table is a slot
-  pub slot_found : (count q : ℕ) → q < jobs_before graph count → (i : ℕ) × (p : ℕ) × (i < count) × (p < jobs_of graph i) × (q ≡ jobs_before graph i + p)
-  slot_found zero q below = absurd (omega arith)
-  slot_found (suc count) q below =
+  -- each place of a table is an index
+  pub index_found : (count q : ℕ) → q < jobs_before graph count → (i : ℕ) × (p : ℕ) × (i < count) × (p < jobs_of graph i) × (q ≡ jobs_before graph i + p)
+  index_found zero q below = absurd (omega arith)
+  index_found (suc count) q below =
       elim (cases_lt q (jobs_before graph count)) [
-        | inl less ↦ (let s = slot_found count q less in (s.0, s.1, (let b = s.2 in omega (arith, b)), s.3, s.4))
+        | inl less ↦ (let s = index_found count q less in (s.0, s.1, (let b = s.2 in omega (arith, b)), s.3, s.4))
         | inr above ↦ (count, q - jobs_before graph count, (omega arith), (omega (arith, above, below)), (omega (arith, above)))
       ]
 
@@ -77,7 +77,7 @@ module _ (graph : TaskGraph) where
   spread_within first table bound is each q =
       elim (cases_lt q (length table)) [
         | inl inside ↦
-            (let s = slot_found (length graph.tasks) q (let l = is.long in omega (arith, l, inside)) in
+            (let s = index_found (length graph.tasks) q (let l = is.long in omega (arith, l, inside)) in
             let v : slice_index table q ≡ first_of graph first s.0 = ap (λ (x : ℕ). slice_index table x) s.4 ∙ is.each s.0 s.1 s.2 s.3 in
             let b = each s.0 s.2 in
             omega (arith, v, b))
@@ -88,5 +88,5 @@ module _ (graph : TaskGraph) where
   spread_one first a b of_a of_b =
       ext_get_or 0 a b (of_a.long ∙ sym of_b.long)
       (λ q below.
-      (let s = slot_found (length graph.tasks) q (let l = of_a.long in omega (arith, l, below)) in
+      (let s = index_found (length graph.tasks) q (let l = of_a.long in omega (arith, l, below)) in
       ap (λ (x : ℕ). get_or a x 0) s.4 ∙ of_a.each s.0 s.1 s.2 s.3 ∙ sym (of_b.each s.0 s.1 s.2 s.3) ∙ sym (ap (λ (x : ℕ). get_or b x 0) s.4)))

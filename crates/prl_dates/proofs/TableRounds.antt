@@ -12,11 +12,11 @@ use Rattle.prl_plan.specs.Graphs.{IsWellFormed}
 use Rattle.prl_dates.specs.declared.lanes.Lane.{Lane}
 use Rattle.prl_dates.specs.Faults.{jobs_of}
 use Rattle.prl_dates.specs.code.Families.{IsRound}
-use Rattle.prl_dates.specs.code.Slots.{jobs_before, slot_of, dates_of}
+use Rattle.prl_dates.specs.code.Indices.{jobs_before, index_of, dates_of}
 use Rattle.prl_dates.specs.code.Lanes.{Joins, link_at, IsLink, IsLane, AreLanes}
 use Rattle.prl_dates.specs.code.Tables.{Leaves, Meets, AreRound}
 use Rattle.prl_dates.proofs.Links.{link_to, link_precedes}
-use Rattle.prl_dates.proofs.Slots.{one_slot, place_below, some_jobs}
+use Rattle.prl_dates.proofs.Indices.{one_index, place_below, some_jobs}
 
 module _ (graph : TaskGraph) (good : IsWellFormed graph) (lanes : List Lane) (are : AreLanes graph lanes) where
   -- what two jobs that precede one another have in common: the lane, its link, and the greatest job before
@@ -69,10 +69,10 @@ module _ (graph : TaskGraph) (good : IsWellFormed graph) (lanes : List Lane) (ar
         let inside : at.l < length lanes = slice_get_within lanes at.l at.lane at.stands in
         let asks : Leaves at.lane (task_at graph at.lane.to.0).wcet now new at.k = round.asks at.l at.lane inside at.stands at.k (omega (arith, at.below, at.is.long)) in
         let r = rises at.lane.from.0 first.number at.before at.is.from at.greatest in
-        let s : slot_of graph at.lane.to.0 second.number ≡ at.lane.first + at.k =
+        let s : index_of graph at.lane.to.0 second.number ≡ at.lane.first + at.k =
         ap (λ (x : ℕ). jobs_before graph at.lane.to.0 + x) at.link.place ∙ ap (λ (x : ℕ). x + at.k) (sym at.is.first) in
-        let v : slice_index new (slot_of graph at.lane.to.0 second.number) ≡ slice_index new (at.lane.first + at.k) = ap (λ (q : ℕ). slice_index new q) s in
-        let w : slice_index now (slot_of graph at.lane.from.0 at.before) ≡ slice_index now (link_at at.lane at.k).from = ap (λ (q : ℕ). slice_index now q) at.link.slot in
+        let v : slice_index new (index_of graph at.lane.to.0 second.number) ≡ slice_index new (at.lane.first + at.k) = ap (λ (q : ℕ). slice_index new q) s in
+        let w : slice_index now (index_of graph at.lane.from.0 at.before) ≡ slice_index now (link_at at.lane at.k).from = ap (λ (q : ℕ). slice_index now q) at.link.index in
         let g = at.link.gap in
         let here : (dates_of graph now at.lane.from.0 first.number +ℤ pos (task_at graph at.lane.to.0).wcet) ≤ℤ dates_of graph new at.lane.to.0 second.number =
         omega (arith, ints, asks, r, v, w, g) in
@@ -83,7 +83,7 @@ module _ (graph : TaskGraph) (good : IsWellFormed graph) (lanes : List Lane) (ar
         (dates_of graph new job.task job.number ≡ dates_of graph now job.task job.number)
         ⊎ ((first : Job) × Precedes graph first job × (dates_of graph new job.task job.number ≡ dates_of graph now first.task first.number +ℤ pos (task_at graph job.task).wcet))
     only job inside =
-        elim (round.only (slot_of graph job.task job.number)) [
+        elim (round.only (index_of graph job.task job.number)) [
           | inl same ↦ inl (ap (λ (x : ℕ). release_of (task_at graph job.task) job.number +ℤ pos x) same)
           | inr by ↦
               (let lane : Lane = by.1 in
@@ -92,7 +92,7 @@ module _ (graph : TaskGraph) (good : IsWellFormed graph) (lanes : List Lane) (ar
               let below : by.3 < jobs_of graph by.1.to.0 = (let b = by.4 in let l = is.long in omega (arith, b, l)) in
               let at : jobs_before graph job.task + place_in job.number (jobs_of graph job.task) ≡ jobs_before graph by.1.to.0 + by.3 =
               by.5 ∙ ap (λ (x : ℕ). x + by.3) is.first in
-              let one = one_slot graph job.task by.1.to.0 (place_in job.number (jobs_of graph job.task)) by.3
+              let one = one_index graph job.task by.1.to.0 (place_in job.number (jobs_of graph job.task)) by.3
               (place_below (jobs_of graph job.task) (some_jobs graph good job.task inside) job.number) below at in
               let link = link_to graph good by.1 is job.number in
               let place : place_in job.number (jobs_of graph by.1.to.0) ≡ by.3 =
@@ -101,8 +101,8 @@ module _ (graph : TaskGraph) (good : IsWellFormed graph) (lanes : List Lane) (ar
               let first : Job = record { task = by.1.from.0; number = link.0 } in
               let p : Precedes graph first (record { task = by.1.to.0; number = job.number }) = link_precedes graph good by.1 by.3 job.number link.0 here in
               let meets : Meets by.1 (task_at graph by.1.to.0).wcet now new by.3 = by.6 in
-              let w : slice_index now (slot_of graph by.1.from.0 link.0) ≡ slice_index now (link_at by.1 by.3).from = ap (λ (q : ℕ). slice_index now q) here.slot in
-              let v : slice_index new (slot_of graph job.task job.number) ≡ slice_index new (by.1.first + by.3) = ap (λ (q : ℕ). slice_index new q) by.5 in
+              let w : slice_index now (index_of graph by.1.from.0 link.0) ≡ slice_index now (link_at by.1 by.3).from = ap (λ (q : ℕ). slice_index now q) here.index in
+              let v : slice_index new (index_of graph job.task job.number) ≡ slice_index new (by.1.first + by.3) = ap (λ (q : ℕ). slice_index new q) by.5 in
               let g = here.gap in
               let t : release_of (task_at graph job.task) job.number ≡ release_of (task_at graph by.1.to.0) job.number = ap (λ (j : ℕ). release_of (task_at graph j) job.number) one.0 in
               let c : (task_at graph job.task).wcet ≡ (task_at graph by.1.to.0).wcet = ap (λ (j : ℕ). (task_at graph j).wcet) one.0 in
@@ -116,7 +116,7 @@ module _ (graph : TaskGraph) (good : IsWellFormed graph) (lanes : List Lane) (ar
 
     pub round_of_tables : IsRound graph (dates_of graph now) (dates_of graph new)
     round_of_tables = record {
-      up = λ i m inside. (let u = round.up (slot_of graph i m) in omega (arith, ints, u));
+      up = λ i m inside. (let u = round.up (index_of graph i m) in omega (arith, ints, u));
       order = order;
       only = only;
     }

@@ -1,5 +1,5 @@
 -- What private functions say to one another.
-pub mod Slots
+pub mod Indices
 pub mod Families
 pub mod Lanes
 pub mod Tables

@@ -8,7 +8,7 @@ ghost use Rattle.prl_dates.specs.declared.faults.DateFault.TheVariants as faults
 ghost use Rattle.prl_dates.specs.Faults.{jobs_of, IsDateFault};
 ghost use Rattle.prl_dates.specs.code.Families.{AreBests};
 ghost use Rattle.prl_dates.specs.code.Lanes.{AreLanes};
-ghost use Rattle.prl_dates.specs.code.Slots.{jobs_before, dates_of};
+ghost use Rattle.prl_dates.specs.code.Indices.{jobs_before, dates_of};
 ghost use Rattle.prl_dates.specs.code.Tables.{AreSettled, AreWithin, IsSpread, first_of, IsFirstAbove, IsNowhereAbove, AreFinal};
 
 use crate::DateFault;
@@ -65,7 +65,7 @@ pub(crate) fn spread(alloc: Global, graph: &TaskGraph, first: First) -> Result<V
     Ok(table)
 }
 
-/// The first of `count` places from a slot on at which one table is above the other.
+/// The first of `count` places from an index on at which one table is above the other.
 fn above_in(high: &[u64], low: &[u64], first: u64, count: u64) -> Option<u64>
     requires high { first + count ≤ length high.now }
     requires low { first + count ≤ length low.now }
@@ -74,8 +74,8 @@ fn above_in(high: &[u64], low: &[u64], first: u64, count: u64) -> Option<u64>
         × ((p : ℕ) → p < n → slice_index high.now (first + p) ≤ slice_index low.now (first + p))) }
 {
     for p in 0..count {
-        let slot = (first + p) as usize;
-        if high[slot] > low[slot] {
+        let index = (first + p) as usize;
+        if high[index] > low[index] {
             return Some(p);
         }
     }
@@ -111,11 +111,11 @@ fn narrow(graph: &TaskGraph, bests: &[u64], task: TaskNo, n: u64) -> DateFault
 {
     let row = &graph.tasks.as_slice()[task.0 as usize];
     let released = row.clock.start + n * row.clock.period;
-    let slot = (jobs_before(graph, task.0) + n) as usize;
+    let index = (jobs_before(graph, task.0) + n) as usize;
     DateFault::Narrow {
         task,
         job: n as i64,
-        needs: (released + bests[slot]) as i64,
+        needs: (released + bests[index]) as i64,
         has: (released + row.due) as i64,
     }
 }

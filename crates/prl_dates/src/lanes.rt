@@ -10,14 +10,14 @@ ghost use Rattle.prl_plan.specs.Precedence.{preceding, ComesFrom};
 ghost use Rattle.prl_plan.specs.Ranges.{PrecedingFits};
 ghost use Rattle.prl_dates.specs.Faults.{jobs_of};
 ghost use Rattle.prl_dates.specs.code.Lanes.{Joins, AreGreatest, IsGreatestBefore, JoinsAt, IsLinkOf, IsLane, AreLanes, IsJoined, AreLanesOf};
-ghost use Rattle.prl_dates.specs.code.Slots.{slot_of};
+ghost use Rattle.prl_dates.specs.code.Indices.{index_of};
 
 use crate::numbers::{jobs_before, jobs_of, place_in, preceding_job, release};
 use prl_base::{Op, Seq, TaskNo};
 use prl_plan::{Edge, Producer, TaskGraph};
 use std::alloc::{AllocError, Global};
 
-/// The job before a job: its slot, and how much earlier it is released.
+/// The job before a job: its index, and how much earlier it is released.
 #[derive(Clone, Copy, Debug, PartialEq, Eq)]
 pub(crate) struct Link {
     pub from: u64,
@@ -30,7 +30,7 @@ pub(crate) struct Link {
 pub(crate) struct Lane {
     pub from: TaskNo,
     pub to: TaskNo,
-    /// The slot of job 0 of the later task.
+    /// The index of job 0 of the later task.
     pub first: u64,
     /// By job of the later task.
     pub links: Seq<Link>,

@@ -10,7 +10,7 @@ ghost use Rattle.prl_plan.specs.Jobs.{task_at, release_of};
 ghost use Rattle.prl_plan.specs.Precedence.{preceding};
 ghost use Rattle.prl_plan.specs.Ranges.{Fits64, PrecedingFits};
 ghost use Rattle.prl_dates.specs.Faults.{jobs_of};
-ghost use Rattle.prl_dates.specs.code.Slots.{jobs_before};
+ghost use Rattle.prl_dates.specs.code.Indices.{jobs_before};
 
 use prl_base::{Op, TaskNo};
 use prl_plan::{Task, TaskGraph};

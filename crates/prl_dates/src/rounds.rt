@@ -4,7 +4,7 @@ ghost use Rattle.std.specs.Prelude.{◌≡◌, ◌+◌, ◌*◌, ◌<◌, ◌≤
 ghost use Rattle.prl_plan.specs.declared.limits.TheConstants.{MAX_PERIOD_JOBS};
 ghost use Rattle.prl_plan.specs.Graphs.{IsWellFormed, jobs_in_hyperperiod};
 ghost use Rattle.prl_dates.specs.code.Families.{AreBests};
-ghost use Rattle.prl_dates.specs.code.Slots.{dates_of};
+ghost use Rattle.prl_dates.specs.code.Indices.{dates_of};
 ghost use Rattle.prl_dates.specs.code.Lanes.{link_at, IsLane, AreLanes};
 ghost use Rattle.prl_dates.specs.code.Tables.{AreRaised, AreRound, AreSettled, AreMarked, AreWithin};
 
@@ -52,15 +52,15 @@ pub(crate) fn round(graph: &TaskGraph, lanes: &[Lane], rose: &[bool], now: &[u64
     }
 }
 
-/// Whether the tables differ in one of `count` slots from `first` on.
+/// Whether the tables differ in one of `count` indices from `first` on.
 fn differ(now: &[u64], next: &[u64], first: u64, count: u64) -> bool
     requires now { first + count ≤ length now.now }
     requires next { first + count ≤ length next.now }
     ensures { result ≡ false → (p : ℕ) → p < count → slice_index next.now (first + p) ≡ slice_index now.now (first + p) }
 {
     for p in 0..count {
-        let slot = (first + p) as usize;
-        if now[slot] != next[slot] {
+        let index = (first + p) as usize;
+        if now[index] != next[index] {
             return true;
         }
     }

@@ -6,7 +6,7 @@ ghost use Rattle.prl_plan.specs.Graphs.{IsWellFormed, jobs_in_hyperperiod};
 ghost use Rattle.prl_plan.specs.Jobs.{task_at};
 ghost use Rattle.prl_plan.proofs.ShortestRepeats.{ComesWithin};
 ghost use Rattle.prl_dates.specs.Faults.{jobs_of};
-ghost use Rattle.prl_dates.specs.code.Slots.{jobs_before};
+ghost use Rattle.prl_dates.specs.code.Indices.{jobs_before};
 ghost use Rattle.prl_dates.specs.code.Windows.{window_of, IsCut, AreWindowsOf, AreWindows};
 
 use crate::numbers::{jobs_before, jobs_of, wcet_of};
@@ -64,10 +64,10 @@ fn all_windows(
     let wcet = u64::from(wcet_of(graph, i));
     let mut list = Vec::with_capacity(alloc, jobs as usize)?;
     for p in 0..jobs {
-        let slot = (first + p) as usize;
+        let index = (first + p) as usize;
         list.push(Window {
-            lead: bests[slot] - wcet,
-            tail: tails[slot],
+            lead: bests[index] - wcet,
+            tail: tails[index],
         })?;
     }
     Ok(list)

@@ -31,6 +31,19 @@ fn has_list(alloc: Global, graph: &TaskGraph, i: u32, wanted: &[(u64, u64)]) -> 
     }
 }
 
+/// The lead and the tail of job `m` of task `i`.
+fn window(alloc: Global, graph: &TaskGraph, i: u32, m: u64) -> Option<(u64, u64)>
+    requires { IsWellFormed graph.now }
+{
+    match encode(alloc, graph) {
+        Ok(dates) if (i as usize) < graph.tasks.len() => {
+            let window = dates.window(TaskNo(i), m);
+            Some((window.lead, window.tail))
+        }
+        _ => None,
+    }
+}
+
 #[test]
 fn of_a_fast_and_a_slow_task(rt: HostRuntime) -> Result<(), Fail> {
     let graph = fast_and_slow_graph(rt.alloc(), 10)?;
@@ -49,6 +62,8 @@ fn of_a_slow_task_with_just_room(rt: HostRuntime) -> Result<(), Fail> {
     assert!(rt; has_list(rt.alloc(), &graph, 1, &[(1, 3), (1, 9), (1, 9)]));
     assert!(rt; has_list(rt.alloc(), &graph, 2, &[(3, 30)]));
     assert!(rt; has_list(rt.alloc(), &graph, 3, &[(3, 10)]));
+    assert_eq!(rt; window(rt.alloc(), &graph, 0, 6), Some((0, 1)));
+    assert_eq!(rt; window(rt.alloc(), &graph, 0, 7), Some((0, 7)));
     let narrow = DateFault::Narrow {
         task: TaskNo(2),
         job: 0,

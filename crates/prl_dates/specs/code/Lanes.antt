@@ -8,7 +8,7 @@ use Rattle.prl_plan.specs.Precedence.{preceding, ComesFrom}
 use Rattle.prl_dates.specs.declared.lanes.Link.{Link}
 use Rattle.prl_dates.specs.declared.lanes.Lane.{Lane}
 use Rattle.prl_dates.specs.Faults.{jobs_of}
-use Rattle.prl_dates.specs.code.Slots.{jobs_before, slot_of}
+use Rattle.prl_dates.specs.code.Indices.{jobs_before, index_of}
 
 -- the edge is one from task i to task j
 pub record Joins (graph : TaskGraph) (i j : ℕ) (edge : Edge) : Type 0 where
@@ -31,12 +31,12 @@ link_at lane k = slice_index_or lane.links k no_link
 pub record IsLink (graph : TaskGraph) (lane : Lane) (k : ℕ) (n m : ℤ) : Type 0 where
   pub place : place_in n (jobs_of graph lane.to.0) ≡ k
   pub greatest : IsGreatestBefore graph lane.from.0 lane.to.0 n m
-  pub slot : slot_of graph lane.from.0 m ≡ (link_at lane k).from
+  pub index : index_of graph lane.from.0 m ≡ (link_at lane k).from
   pub gap : release_of (task_at graph lane.to.0) n ≡ release_of (task_at graph lane.from.0) m +ℤ pos (link_at lane k).gap
 
 -- the link from job m of task i to job n of task j
 pub record IsLinkOf (graph : TaskGraph) (i j : ℕ) (n m : ℤ) (link : Link) : Type 0 where
-  pub slot : slot_of graph i m ≡ link.from
+  pub index : index_of graph i m ≡ link.from
   pub gap : release_of (task_at graph j) n ≡ release_of (task_at graph i) m +ℤ pos link.gap
   pub small : link.gap < 2 ^ 63 + 2 ^ 62
 

@@ -7,7 +7,7 @@ use Rattle.prl_plan.specs.Graphs.{jobs_in_hyperperiod}
 use Rattle.prl_dates.specs.declared.bests.First.{First}
 use Rattle.prl_dates.specs.declared.bests.First.TheVariants as firsts
 use Rattle.prl_dates.specs.Faults.{jobs_of, IsOfPeriod}
-use Rattle.prl_dates.specs.code.Slots.{jobs_before, dates_of}
+use Rattle.prl_dates.specs.code.Indices.{jobs_before, dates_of}
 use Rattle.prl_dates.specs.code.Families.{AreBests, IsAboveDeadlines}
 use Rattle.prl_dates.specs.code.Lanes.{link_at}
 

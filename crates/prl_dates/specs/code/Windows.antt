@@ -7,11 +7,11 @@ use Rattle.prl_plan.specs.Jobs.{task_at}
 use Rattle.prl_plan.specs.Repeats.{IsShortestRepeat}
 use Rattle.prl_plan.proofs.ShortestRepeats.{ComesWithin}
 use Rattle.prl_dates.specs.Faults.{jobs_of}
-use Rattle.prl_dates.specs.code.Slots.{jobs_before}
+use Rattle.prl_dates.specs.code.Indices.{jobs_before}
 
--- the window that the tables tell for a slot of task i
+-- the window that the tables tell for an index of task i
 abbrev pub window_of : TaskGraph → ℕ → List ℕ → List ℕ → ℕ → Window
-window_of graph i bests tails slot = record { lead = slice_index bests slot - (task_at graph i).wcet; tail = slice_index tails slot }
+window_of graph i bests tails index = record { lead = slice_index bests index - (task_at graph i).wcet; tail = slice_index tails index }
 
 -- of the divisors of the length after which the same comes, the least
 pub record IsCut (list : List Window) (step : ℕ) : Type 0 where

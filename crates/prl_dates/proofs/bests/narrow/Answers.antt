@@ -4,7 +4,7 @@ use Rattle.std.proofs.lemmas.Int.{to_z_pos}
 use Rattle.prl_plan.specs.Jobs.{task_at}
 use Rattle.prl_dates.proofs.Readings.{task_read}
 use Rattle.prl_dates.proofs.Settles.{job_small, narrow_is}
-use Rattle.prl_dates.proofs.Slots.{slot_below}
+use Rattle.prl_dates.proofs.Indices.{index_below}
 use Rattle.prl_dates.proofs.LaneSteps.{few_jobs}
 use Rattle.prl_dates.proofs.bests.narrow.Goals as goal
 
@@ -18,9 +18,9 @@ overflow_add-released c =
     let s = small.0 in
     record { fits = omega (arith, s) }
 
-pub bounds-bests-slot : goal.bounds-bests-slot
-bounds-bests-slot c =
-    let b = slot_below c.args.graph.now c.args.task.0 c.args.n c.requires.task c.requires.job in
+pub bounds-bests-index : goal.bounds-bests-index
+bounds-bests-index c =
+    let b = index_below c.args.graph.now c.args.task.0 c.args.n c.requires.task c.requires.job in
     let j = c.jobs_before.ensures.jobs in
     let l = c.requires.long in
     omega (arith, b, j, l)

@@ -10,7 +10,7 @@ use Rattle.prl_dates.specs.Faults.{IsDateFault}
 use Rattle.prl_dates.specs.code.Tables.{AreWithin}
 use Rattle.prl_dates.proofs.LaneSteps.{few_jobs}
 use Rattle.prl_dates.proofs.Settles.{first_bests, late_fault, within_dues, loop_fault, round_still}
-use Rattle.prl_dates.proofs.Slots.{before_all}
+use Rattle.prl_dates.proofs.Indices.{before_all}
 use Rattle.prl_dates.proofs.Spreads.{spread_within}
 use Rattle.prl_dates.proofs.bests.settle.Goals as goal
 

@@ -7,11 +7,11 @@ use Rattle.prl_plan.specs.Jobs.{task_at}
 use Rattle.prl_plan.specs.Plans.{HaveRoom, AreShortWindows}
 use Rattle.prl_dates.specs.declared.lanes.Lane.{Lane}
 use Rattle.prl_dates.specs.Faults.{jobs_of}
-use Rattle.prl_dates.specs.code.Slots.{jobs_before}
+use Rattle.prl_dates.specs.code.Indices.{jobs_before}
 use Rattle.prl_dates.specs.code.Tables.{AreFinal, AreUpperDates, LeaveAll}
 use Rattle.prl_dates.specs.code.Windows.{AreWindows}
 use Rattle.prl_dates.proofs.DateTables.{best_room, first_dates, dates_made, room_made, short_made}
-use Rattle.prl_dates.proofs.Slots.{before_all}
+use Rattle.prl_dates.proofs.Indices.{before_all}
 use Rattle.prl_dates.proofs.encoding.encode.Goals as goal
 
 pub lower_to_end-requires-clause-dates : goal.lower_to_end-requires-clause-dates

@@ -1,13 +1,13 @@
 use Rattle.std.proofs.Common.{◌≡◌, ◌+◌, ◌<◌, ℕ, List, length, get_or, Some, true, false, Vec, Global, sym, ap, subst, ◌∙◌, arith}
 use Rattle.std.specs.Prelude.{ℤ, pos, slice_get, slice_index_or}
 use Rattle.std.specs.Int.{int_max}
-use Rattle.std.proofs.lemmas.List.{with_items_is}
+use Rattle.std.proofs.lemmas.List.{get_or_default, with_items_is}
 use Rattle.prl_base.specs.declared.operators.Op.{Op}
 use Rattle.prl_plan.specs.declared.graphs.Edge.{Edge}
 use Rattle.prl_plan.specs.Precedence.{preceding}
 use Rattle.prl_plan.specs.Ranges.{PrecedingFits}
 use Rattle.prl_dates.specs.code.Lanes.{Joins, AreGreatest}
-use Rattle.prl_dates.proofs.Readings.{item_stands, any_default}
+use Rattle.prl_dates.proofs.Readings.{item_stands}
 use Rattle.prl_dates.proofs.LaneSteps.{joins_edge, joins_inside, joined_fits, greatest_first, greatest_more, greatest_same}
 use Rattle.prl_dates.proofs.lanes.greatest.Goals as goal
 use Rattle.prl_dates.proofs.lanes.greatest.Goals.{then-joins, else-joins}
@@ -20,7 +20,7 @@ numbers_over-requires-clause-fits c n below =
     let graph = c.args.graph.now in
     let edge : Edge = get_or c.as_slice-edges.result.now c.args.e c.index-edges-e.result in
     let is : edge ≡ get_or graph.edges c.args.e edge =
-    ap (λ (es : List Edge). get_or es c.args.e c.index-edges-e.result) c.as_slice-edges.ensures ∙ any_default graph.edges c.args.e c.index-edges-e.result edge c.requires.joins.inside in
+    ap (λ (es : List Edge). get_or es c.args.e c.index-edges-e.result) c.as_slice-edges.ensures ∙ get_or_default graph.edges c.args.e c.index-edges-e.result edge c.requires.joins.inside in
     let joins : Joins graph c.args.from.0 c.args.to.0 edge = joins_edge graph c.requires.well c.args.from.0 c.args.to.0 c.args.e c.requires.joins edge is in
     subst (λ (ops : List Op). PrecedingFits ops (pos n)) (sym c.as_slice.ensures)
     (joined_fits graph c.requires.well c.args.from.0 c.args.to.0 edge joins n (let j = c.jobs_of.ensures.jobs in omega (arith, j, below)))
@@ -30,7 +30,7 @@ loop-edge-init c =
     let graph = c.args.graph.now in
     let edge : Edge = get_or c.as_slice-edges.result.now c.args.e c.index-edges-e.result in
     let is : edge ≡ get_or graph.edges c.args.e edge =
-    ap (λ (es : List Edge). get_or es c.args.e c.index-edges-e.result) c.as_slice-edges.ensures ∙ any_default graph.edges c.args.e c.index-edges-e.result edge c.requires.joins.inside in
+    ap (λ (es : List Edge). get_or es c.args.e c.index-edges-e.result) c.as_slice-edges.ensures ∙ get_or_default graph.edges c.args.e c.index-edges-e.result edge c.requires.joins.inside in
     let joins : Joins graph c.args.from.0 c.args.to.0 edge = joins_edge graph c.requires.well c.args.from.0 c.args.to.0 c.args.e c.requires.joins edge is in
     greatest_first graph c.requires.well c.args.from.0 c.args.to.0 joins.stands.0 edge joins.stands.1 joins.from joins.to c.in_ok-numbers.numbers.items
     (c.in_ok-numbers.ensures.long ∙ c.jobs_of.ensures.jobs)

@@ -1,26 +1,26 @@
 use Rattle.std.proofs.Common.{◌∙◌, arith}
-use Rattle.prl_dates.proofs.Lowering.{slot_to, slot_from, few_slots, sum_fits, lowered_to, kept_to}
+use Rattle.prl_dates.proofs.Lowering.{index_to, index_from, few_indices, sum_fits, lowered_to, kept_to}
 use Rattle.prl_dates.proofs.latest.lower.Goals as goal
 use Rattle.prl_dates.proofs.latest.lower.Goals.{then-limit-dates, else-limit-dates}
 
 pub overflow_add-limit : goal.overflow_add-limit
 overflow_add-limit c =
-    let t = slot_to c.args.graph.now c.requires.well c.args.floor.now c.args.lane.now c.requires.lane c.requires.floor c.loop-k.k c.args.dates.now c.loop-k.dates c.loop-k.lowered c.loop-k.invariant
+    let t = index_to c.args.graph.now c.requires.well c.args.floor.now c.args.lane.now c.requires.lane c.requires.floor c.loop-k.k c.args.dates.now c.loop-k.dates c.loop-k.lowered c.loop-k.invariant
     c.as_slice-links.result.now c.as_slice-links.ensures c.loop-k-test.true c.from-wcet.result (c.from-wcet.ensures ∙ c.wcet_of.ensures) in
-    let f = few_slots c.args.graph.now c.requires.well c.args.floor.now c.args.lane.now c.requires.lane c.requires.floor c.loop-k.k c.args.dates.now c.loop-k.dates c.loop-k.lowered c.loop-k.invariant
+    let f = few_indices c.args.graph.now c.requires.well c.args.floor.now c.args.lane.now c.requires.lane c.requires.floor c.loop-k.k c.args.dates.now c.loop-k.dates c.loop-k.lowered c.loop-k.invariant
     c.as_slice-links.result.now c.as_slice-links.ensures c.loop-k-test.true c.from-wcet.result (c.from-wcet.ensures ∙ c.wcet_of.ensures) in
     record { fits = omega (arith, t, f) }
 
 pub offset_bounds-dates-first : goal.offset_bounds-dates-first
 offset_bounds-dates-first c =
-    let t = slot_to c.args.graph.now c.requires.well c.args.floor.now c.args.lane.now c.requires.lane c.requires.floor c.loop-k.k c.args.dates.now c.loop-k.dates c.loop-k.lowered c.loop-k.invariant
+    let t = index_to c.args.graph.now c.requires.well c.args.floor.now c.args.lane.now c.requires.lane c.requires.floor c.loop-k.k c.args.dates.now c.loop-k.dates c.loop-k.lowered c.loop-k.invariant
     c.as_slice-links.result.now c.as_slice-links.ensures c.loop-k-test.true c.from-wcet.result (c.from-wcet.ensures ∙ c.wcet_of.ensures) in
-    let f = few_slots c.args.graph.now c.requires.well c.args.floor.now c.args.lane.now c.requires.lane c.requires.floor c.loop-k.k c.args.dates.now c.loop-k.dates c.loop-k.lowered c.loop-k.invariant
+    let f = few_indices c.args.graph.now c.requires.well c.args.floor.now c.args.lane.now c.requires.lane c.requires.floor c.loop-k.k c.args.dates.now c.loop-k.dates c.loop-k.lowered c.loop-k.invariant
     c.as_slice-links.result.now c.as_slice-links.ensures c.loop-k-test.true c.from-wcet.result (c.from-wcet.ensures ∙ c.wcet_of.ensures) in
     record { fits = omega (arith, t, f) }
 
 pub bounds-dates-first : goal.bounds-dates-first
-bounds-dates-first c = slot_to c.args.graph.now c.requires.well c.args.floor.now c.args.lane.now c.requires.lane c.requires.floor c.loop-k.k c.args.dates.now c.loop-k.dates c.loop-k.lowered c.loop-k.invariant
+bounds-dates-first c = index_to c.args.graph.now c.requires.well c.args.floor.now c.args.lane.now c.requires.lane c.requires.floor c.loop-k.k c.args.dates.now c.loop-k.dates c.loop-k.lowered c.loop-k.invariant
     c.as_slice-links.result.now c.as_slice-links.ensures c.loop-k-test.true c.from-wcet.result (c.from-wcet.ensures ∙ c.wcet_of.ensures)
 
 pub overflow_add-limit-in-loop-k : goal.overflow_add-limit-in-loop-k
@@ -31,14 +31,14 @@ overflow_add-limit-in-loop-k c = record {
 
 pub offset_bounds-dates-from : goal.offset_bounds-dates-from
 offset_bounds-dates-from c =
-    let t = slot_from c.args.graph.now c.requires.well c.args.floor.now c.args.lane.now c.requires.lane c.requires.floor c.loop-k.k c.args.dates.now c.loop-k.dates c.loop-k.lowered c.loop-k.invariant
+    let t = index_from c.args.graph.now c.requires.well c.args.floor.now c.args.lane.now c.requires.lane c.requires.floor c.loop-k.k c.args.dates.now c.loop-k.dates c.loop-k.lowered c.loop-k.invariant
     c.as_slice-links.result.now c.as_slice-links.ensures c.loop-k-test.true c.from-wcet.result (c.from-wcet.ensures ∙ c.wcet_of.ensures) in
-    let f = few_slots c.args.graph.now c.requires.well c.args.floor.now c.args.lane.now c.requires.lane c.requires.floor c.loop-k.k c.args.dates.now c.loop-k.dates c.loop-k.lowered c.loop-k.invariant
+    let f = few_indices c.args.graph.now c.requires.well c.args.floor.now c.args.lane.now c.requires.lane c.requires.floor c.loop-k.k c.args.dates.now c.loop-k.dates c.loop-k.lowered c.loop-k.invariant
     c.as_slice-links.result.now c.as_slice-links.ensures c.loop-k-test.true c.from-wcet.result (c.from-wcet.ensures ∙ c.wcet_of.ensures) in
     record { fits = omega (arith, t, f) }
 
 pub bounds-dates-from : goal.bounds-dates-from
-bounds-dates-from c = slot_from c.args.graph.now c.requires.well c.args.floor.now c.args.lane.now c.requires.lane c.requires.floor c.loop-k.k c.args.dates.now c.loop-k.dates c.loop-k.lowered c.loop-k.invariant
+bounds-dates-from c = index_from c.args.graph.now c.requires.well c.args.floor.now c.args.lane.now c.requires.lane c.requires.floor c.loop-k.k c.args.dates.now c.loop-k.dates c.loop-k.lowered c.loop-k.invariant
     c.as_slice-links.result.now c.as_slice-links.ensures c.loop-k-test.true c.from-wcet.result (c.from-wcet.ensures ∙ c.wcet_of.ensures)
 
 pub loop-k-preserved : goal.loop-k-preserved

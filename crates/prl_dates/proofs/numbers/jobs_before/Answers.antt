@@ -1,6 +1,6 @@
 use Rattle.std.proofs.Common.{◌≡◌, ◌+◌, ◌≤◌, arith}
 use Rattle.prl_dates.specs.Faults.{jobs_of}
-use Rattle.prl_dates.specs.code.Slots.{jobs_before}
+use Rattle.prl_dates.specs.code.Indices.{jobs_before}
 use Rattle.prl_dates.proofs.Readings.{before_few, before_next}
 use Rattle.prl_dates.proofs.numbers.jobs_before.Goals as goal
 

@@ -1,5 +1,5 @@
 use Rattle.std.proofs.Common.{◌≡◌}
-use Rattle.prl_dates.specs.code.Slots.{jobs_before}
+use Rattle.prl_dates.specs.code.Indices.{jobs_before}
 use Rattle.prl_dates.proofs.numbers.jobs_before.Given as goal
 
 abbrev pub invariant-loop-i : goal.invariant-loop-i

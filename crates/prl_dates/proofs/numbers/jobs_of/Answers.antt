@@ -1,7 +1,7 @@
 use Rattle.std.proofs.Common.{◌<◌, ◌≤◌, ◌/◌, sym, subst}
 use Rattle.prl_plan.specs.declared.graphs.Task.{Task}
 use Rattle.prl_plan.proofs.RoundPeriods.{task_is}
-use Rattle.prl_dates.proofs.Slots.{some_jobs}
+use Rattle.prl_dates.proofs.Indices.{some_jobs}
 use Rattle.prl_dates.proofs.Readings.{task_read}
 use Rattle.prl_dates.proofs.numbers.jobs_of.Goals as goal
 

@@ -1,6 +1,6 @@
 use Rattle.std.proofs.Common.{◌≡◌, ◌+◌, ◌*◌, ◌^◌}
 use Rattle.prl_dates.specs.code.Families.{AreBests}
-use Rattle.prl_dates.specs.code.Slots.{dates_of}
+use Rattle.prl_dates.specs.code.Indices.{dates_of}
 use Rattle.prl_dates.specs.code.Tables.{AreSettled, AreWithin}
 use Rattle.prl_dates.proofs.rounds.rounds.Given as goal
 

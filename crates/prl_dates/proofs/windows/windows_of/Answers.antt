@@ -2,7 +2,7 @@ use Rattle.std.proofs.Common.{◌≡◌, List, length, take, sym, ap, subst, ◌
 use Rattle.prl_plan.specs.declared.tables.Window.{Window}
 use Rattle.prl_dates.specs.code.Windows.{IsCut, AreWindowsOf}
 use Rattle.prl_dates.proofs.DateTables.{cut_made}
-use Rattle.prl_dates.proofs.Slots.{some_jobs}
+use Rattle.prl_dates.proofs.Indices.{some_jobs}
 use Rattle.prl_dates.proofs.windows.windows_of.Goals as goal
 
 pub shortest-step-requires : goal.shortest-step-requires

@@ -1,4 +1,4 @@
--- Slots of a hyperperiod: each is that of one job of it, and jobs a hyperperiod apart have the same one.
+-- Indices of a hyperperiod: each is that of one job of it, and jobs a hyperperiod apart have the same one.
 use Rattle.std.proofs.Common.{◌≡◌, ◌+◌, ◌-◌, ◌*◌, ◌/◌, ◌%◌, ◌<◌, ◌≤◌, ℕ, zero, suc, List, [], ◌∷◌, length, map, inl, inr, refl, sym, ◌∙◌, ap, subst, arith}
 use Rattle.std.specs.Prelude.{ℤ, pos, negsuc, ◌+ℤ◌, sum, take, slice_index_or}
 use Rattle.std.proofs.Math.Nat.{mul-div_cancel, add-mul-mod_self_right, mod-eq_of_lt}
@@ -13,7 +13,7 @@ use Rattle.prl_plan.specs.Jobs.{task_at, release_of, no_task}
 use Rattle.prl_plan.specs.Graphs.{IsWellFormed, jobs_in_hyperperiod}
 use Rattle.prl_plan.proofs.RoundPeriods.{task_is, release_shift}
 use Rattle.prl_dates.specs.Faults.{jobs_of}
-use Rattle.prl_dates.specs.code.Slots.{jobs_before, slot_of}
+use Rattle.prl_dates.specs.code.Indices.{jobs_before, index_of}
 
 -- a number's place in a list that repeats in both directions comes again a list's length later
 pub place_again : (len : ℕ) → 1 ≤ len → (m : ℤ) → place_in (m +ℤ pos len) len ≡ place_in m len
@@ -50,9 +50,9 @@ module _ (graph : TaskGraph) where
         | inr same ↦ (let e : i ≡ j = omega arith in subst (λ (x : ℕ). jobs_before graph x + jobs_of graph x ≤ jobs_before graph j + jobs_of graph j) (sym e) (omega arith))
       ]
 
-  -- a slot is of one task, and of one place there
-  pub one_slot : (i j p q : ℕ) → p < jobs_of graph i → q < jobs_of graph j → jobs_before graph i + p ≡ jobs_before graph j + q → (i ≡ j) × (p ≡ q)
-  one_slot i j p q first second same =
+  -- an index is of one task, and of one place there
+  pub one_index : (i j p q : ℕ) → p < jobs_of graph i → q < jobs_of graph j → jobs_before graph i + p ≡ jobs_before graph j + q → (i ≡ j) × (p ≡ q)
+  one_index i j p q first second same =
       elim (cases_lt i j) [
         | inl less ↦ absurd (let r = before_rises i j less in omega (arith, r, same, first))
         | inr above ↦
@@ -92,8 +92,8 @@ module _ (graph : TaskGraph) where
       before_is (length graph.tasks) (omega arith)
       ∙ ap (λ (ts : List Task). sum (map (λ (t : Task). graph.hyper / t.clock.period) ts)) (take_whole graph.tasks)
 
-  pub slot_below : (i p : ℕ) → i < length graph.tasks → p < jobs_of graph i → jobs_before graph i + p < jobs_in_hyperperiod graph
-  slot_below i p inside below = (let r = before_rises i (length graph.tasks) inside in let a = before_all in omega (arith, r, a))
+  pub index_below : (i p : ℕ) → i < length graph.tasks → p < jobs_of graph i → jobs_before graph i + p < jobs_in_hyperperiod graph
+  index_below i p inside below = (let r = before_rises i (length graph.tasks) inside in let a = before_all in omega (arith, r, a))
 
   module _ (good : IsWellFormed graph) where
     pub jobs_are : (i : ℕ) → i < length graph.tasks → graph.hyper ≡ jobs_of graph i * (task_at graph i).clock.period
@@ -110,8 +110,8 @@ module _ (graph : TaskGraph) where
         go zero is = absurd (let z : 0 * (task_at graph i).clock.period ≡ 0 = omega arith in let h = good.hyper in omega (arith, z, is, h))
         go (suc jobs) is = omega arith
 
-    pub slot_again : (i : ℕ) → i < length graph.tasks → (m : ℤ) → slot_of graph i (m +ℤ pos (jobs_of graph i)) ≡ slot_of graph i m
-    slot_again i inside m = ap (λ (k : ℕ). jobs_before graph i + k) (place_again (jobs_of graph i) (some_jobs i inside) m)
+    pub index_again : (i : ℕ) → i < length graph.tasks → (m : ℤ) → index_of graph i (m +ℤ pos (jobs_of graph i)) ≡ index_of graph i m
+    index_again i inside m = ap (λ (k : ℕ). jobs_before graph i + k) (place_again (jobs_of graph i) (some_jobs i inside) m)
 
     pub release_again : (i : ℕ) → i < length graph.tasks → (m : ℤ) →
         release_of (task_at graph i) (m +ℤ pos (jobs_of graph i)) ≡ release_of (task_at graph i) m +ℤ pos graph.hyper

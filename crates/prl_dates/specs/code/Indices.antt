@@ -10,9 +10,9 @@ abbrev pub jobs_before : TaskGraph → ℕ → ℕ
 jobs_before graph zero = 0
 jobs_before graph (suc i) = jobs_before graph i + jobs_of graph i
 
-abbrev pub slot_of : TaskGraph → ℕ → ℤ → ℕ
-slot_of graph i m = jobs_before graph i + place_in m (jobs_of graph i)
+abbrev pub index_of : TaskGraph → ℕ → ℤ → ℕ
+index_of graph i m = jobs_before graph i + place_in m (jobs_of graph i)
 
 -- the dates that a table tells: so many ticks after the releases
 abbrev pub dates_of : TaskGraph → List ℕ → Family
-dates_of graph table i m = release_of (task_at graph i) m +ℤ pos (slice_index table (slot_of graph i m))
+dates_of graph table i m = release_of (task_at graph i) m +ℤ pos (slice_index table (index_of graph i m))
