@@ -20,7 +20,7 @@ use Rattle.prl_arguments.specs.declared.arguments.Setting.{Setting}
 use Rattle.prl_arguments.specs.declared.arguments.Setting.TheVariants as settings
 use Rattle.prl_arguments.specs.Arguments.{Values, all_settings, fits, may, name_of, needs, nothing, value_of, with_value, with_words}
 use Rattle.prl_arguments.specs.code.Options.{app_of_mode, faults_of}
-use Rattle.prl_arguments.proofs.Spelled.{Follows, Spelled, spelled, words_of}
+use Rattle.prl_arguments.proofs.Spelled.{Follows, Spelled, and_left, and_right, spelled, words_of}
 use Rattle.prl_arguments.proofs.Walked.{Had, Valued, after, assoc, cost, had, has, later_none, or_nil, rule, rule_if, shape, tail, total, total_is}
 
 -- the rules of the command of a mode when it is built
@@ -320,14 +320,6 @@ or_left false b e = refl
 or_right : (a b : Bool) → (a || b) ≡ false → b ≡ false
 or_right true b e = cc
 or_right false b e = e
-
-and_left : (a b : Bool) → (a && b) ≡ true → a ≡ true
-and_left true b e = refl
-and_left false b e = e
-
-and_right : (a b : Bool) → (a && b) ≡ true → b ≡ true
-and_right true b e = e
-and_right false b e = cc
 
 and_both : (a b : Bool) → a ≡ true → b ≡ true → (a && b) ≡ true
 and_both true b e f = f

@@ -27,14 +27,14 @@ abbrev pub Follows : Values → List Spelled → Values → Type 0
 Follows given [] final = given ≡ final
 Follows given (o ∷ os) final = (is_value o.2 ≡ true) × (value_of given o.1 ≡ None) × Follows (with_value given o.1 o.2) os final
 
-bound : {A B : Type 0} (o : Option A) (f : A → Option B) (y : B) → (o >>= f) ≡ Some y → (x : A) × (o ≡ Some x) × (f x ≡ Some y)
+pub bound : {A B : Type 0} (o : Option A) (f : A → Option B) (y : B) → (o >>= f) ≡ Some y → (x : A) × (o ≡ Some x) × (f x ≡ Some y)
 bound None f y e = cc
 bound (Some x) f y e = (x, refl, e)
 
-the : {A : Type 0} (a b : A) → Some a ≡ Some b → a ≡ b
+pub the : {A : Type 0} (a b : A) → Some a ≡ Some b → a ≡ b
 the a b e = cc
 
-no_some : {A : Type 0} (a : A) → None ≡ Some a → ⊥
+pub no_some : {A : Type 0} (a : A) → None ≡ Some a → ⊥
 no_some a e = cc
 
 after_is : (f text rest : List ℕ) → after_front f text ≡ Some rest → text ≡ f ++ rest
@@ -91,11 +91,11 @@ abbrev pub IsFirst : Values → List ℕ → List (List ℕ) → Values × List 
 IsFirst given word later read =
     (o : Spelled) × (word ∷ later ≡ word_of o.1 o.2 o.0 read.1) × (is_value o.2 ≡ true) × (value_of given o.1 ≡ None) × (read.0 ≡ with_value given o.1 o.2)
 
-and_left : (a b : Bool) → (a && b) ≡ true → a ≡ true
+pub and_left : (a b : Bool) → (a && b) ≡ true → a ≡ true
 and_left true b e = refl
 and_left false b e = e
 
-and_right : (a b : Bool) → (a && b) ≡ true → b ≡ true
+pub and_right : (a b : Bool) → (a && b) ≡ true → b ≡ true
 and_right true b e = e
 and_right false b e = cc
 

@@ -14,26 +14,9 @@ use Rattle.prl_arguments.specs.declared.arguments.TheConstants.{MAX_UNTIL}
 use Rattle.prl_arguments.specs.Arguments.{Values, all_settings, command_of, command_of_mode, command_with, date_of, fits, mode_named, nothing, with_words}
 use Rattle.prl_arguments.specs.code.Options.{faults_of}
 use Rattle.prl_arguments.specs.code.Settings.{Form, form_of, form_of_mode, number_of}
+use Rattle.prl_arguments.proofs.Spelled.{and_left, and_right, bound, no_some, the}
 use Rattle.prl_arguments.proofs.Walked.{or_nil}
 use Rattle.prl_arguments.proofs.Agreement.{agrees, until_kinds}
-
-bound : {A B : Type 0} (o : Option A) (f : A → Option B) (y : B) → (o >>= f) ≡ Some y → (x : A) × (o ≡ Some x) × (f x ≡ Some y)
-bound None f y e = cc
-bound (Some x) f y e = (x, refl, e)
-
-the : {A : Type 0} (a b : A) → Some a ≡ Some b → a ≡ b
-the a b e = cc
-
-no_some : {A : Type 0} (a : A) → None ≡ Some a → ⊥
-no_some a e = cc
-
-and_left : (a b : Bool) → (a && b) ≡ true → a ≡ true
-and_left true b e = refl
-and_left false b e = e
-
-and_right : (a b : Bool) → (a && b) ≡ true → b ≡ true
-and_right true b e = e
-and_right false b e = cc
 
 -- digits
 small : (d : ℕ) → is_ascii_digit d ≡ true → nat_lt (digit_value d) 10 ≡ true
