@@ -11,7 +11,7 @@ use prl_expansion::{ExpandFault, expand};
 use prl_flow::{Def, Flat};
 use prl_print::programs_are_in_range;
 use prl_syntax::parse;
-use prl_types::check_names_types;
+use prl_types::{TypeFault, check_names_types};
 use std::alloc::{AllocError, Global};
 use std::test::*;
 
@@ -282,5 +282,91 @@ fn nodes_that_apply_the_one_before_twice(rt: HostRuntime) -> Result<(), Fail> {
         found: 4097,
     };
     assert_eq!(rt; limit_of(rt.alloc(), text.as_slice())?, Some(past));
+    Ok(())
+}
+
+/// Main applies `F` of so many parameters to so many inputs.
+fn wide(alloc: Global, params: usize, count: usize) -> Result<Vec<u8>, AllocError> {
+    let mut text = Vec::from_slice(alloc, b"imported node F(a: int".as_slice())?;
+    for k in 1..params {
+        text.extend_from_slice(b", a".as_slice())?;
+        push_number(&mut text, k as u64)?;
+        text.extend_from_slice(b": int".as_slice())?;
+    }
+    text.extend_from_slice(
+        b") returns (z: int) wcet 3; sensor i wcet 1; actuator o wcet 1; ".as_slice(),
+    )?;
+    text.extend_from_slice(b"node main (i: int rate (10, 0)) returns (o) let o = F(i".as_slice())?;
+    push_times(&mut text, b",i".as_slice(), count)?;
+    text.extend_from_slice(b"); tel".as_slice())?;
+    Ok(text)
+}
+
+/// The byte at which the number of flows is wrong; none where another fault is told, or none.
+fn arity_of(alloc: Global, text: &[u8]) -> Result<Option<u32>, Fail> {
+    if text.len() > 10_000_000 {
+        return Err("too long".into());
+    }
+    let program = parse(alloc, text)?;
+    programs_are_in_range();
+    match check_names_types(alloc, &program, None) {
+        Err(TypeFault::Arity(at)) => Ok(Some(at)),
+        _ => Ok(None),
+    }
+}
+
+#[test]
+fn too_many_arguments_are_refused(rt: HostRuntime) -> Result<(), Fail> {
+    // `F` is applied at the byte after the names of main and of what it gives.
+    let text = wide(rt.alloc(), 1, 499_999)?;
+    let at = arity_of(rt.alloc(), text.as_slice())?;
+    assert_eq!(rt; at, Some(137));
+    Ok(())
+}
+
+#[test]
+fn application_of_many_arguments(rt: HostRuntime) -> Result<(), Fail> {
+    let text = wide(rt.alloc(), 500_000, 499_999)?;
+    let flat = flat_of(rt.alloc(), text.as_slice())?;
+    // i and o, and the output of the application
+    assert_eq!(rt; flat.flows().len(), 3);
+    assert_eq!(rt; flat.flows()[1].def, Def::Copy(FlowNo(2)));
+    assert_eq!(rt; flat.apps().len(), 1);
+    assert_eq!(rt; flat.apps()[0].args.as_slice().len(), 500_000);
+    Ok(())
+}
+
+/// Main has so many locals, each of which is given the one before it, and the first the last.
+fn ring(alloc: Global, count: usize) -> Result<Vec<u8>, AllocError>
+    requires { 2 ≤ count }
+{
+    let mut text = Vec::from_slice(
+        alloc,
+        b"sensor i wcet 1; actuator o wcet 1; node main (i: int rate (10, 0)) returns (o) var x0: int".as_slice(),
+    )?;
+    for k in 1..count {
+        text.extend_from_slice(b", x".as_slice())?;
+        push_number(&mut text, k as u64)?;
+    }
+    text.extend_from_slice(b"; let o = i; x0 = x".as_slice())?;
+    push_number(&mut text, (count - 1) as u64)?;
+    for k in 1..count {
+        text.extend_from_slice(b"; x".as_slice())?;
+        push_number(&mut text, k as u64)?;
+        text.extend_from_slice(b" = x".as_slice())?;
+        push_number(&mut text, (k - 1) as u64)?;
+    }
+    text.extend_from_slice(b"; tel".as_slice())?;
+    Ok(text)
+}
+
+#[test]
+fn all_flows_in_one_cycle(rt: HostRuntime) -> Result<(), Fail> {
+    // With i and o there are 4,096 flows, and 4,094 of them are on the cycle.
+    let text = ring(rt.alloc(), 4094)?;
+    match order_of(rt.alloc(), text.as_slice())? {
+        Err(CausalFault::Cycle(label)) => assert_eq!(rt; label.bytes(), b"x0".as_slice()),
+        _ => return Err("a cycle is let through".into()),
+    }
     Ok(())
 }
