@@ -1,4 +1,4 @@
-use Rattle.std.proofs.Common.{◌≡◌, ◌≤◌, ◌+◌, ◌++◌, [], ◌∙◌, Some, ap, arith, length, map, refl, slice_get, subst, sym}
+use Rattle.std.proofs.Common.{◌≡◌, ◌<◌, ◌≤◌, ◌+◌, ◌++◌, [], ◌∙◌, Some, ap, arith, length, map, refl, slice_get, subst, sym}
 use Rattle.std.specs.List.{range_with_len}
 use Rattle.std.proofs.lemmas.List.{length-map}
 use Rattle.std.proofs.lemmas.Option.{slice_get_read}
@@ -18,10 +18,12 @@ use Rattle.prl_expansion.specs.code.Limits.{IsPast}
 use Rattle.prl_expansion.specs.code.Made.{a_node}
 use Rattle.prl_expansion.specs.code.Terms.{flows_of, number_of}
 use Rattle.prl_expansion.specs.code.Variables.{def_of}
+use Rattle.prl_expansion.specs.code.Within.{IsSound, MayApply}
+use Rattle.prl_names.specs.Applications.{applies}
 use Rattle.prl_expansion.proofs.Adding.{numbers_are}
 use Rattle.prl_expansion.proofs.Expanded.{first}
 use Rattle.prl_expansion.proofs.Expressions.{err_and, get_map}
-use Rattle.prl_expansion.proofs.Whole.{expansion_is, fault_is, flat_is, inputs_fault, whole}
+use Rattle.prl_expansion.proofs.Whole.{expansion_is, fault_is, flat_is, inputs_fault, levels_do, main_there, sound_is, whole}
 use Rattle.prl_expansion.proofs.expanding.expand.Goals as goal
 
 pub returns-in_err-take_flows-clause-fault : goal.returns-in_err-take_flows-clause-fault
@@ -30,18 +32,10 @@ returns-in_err-take_flows-clause-fault c =
     let tys = c.args.typed.now.types in
     let main = c.args.typed.now.main in
     let right = c.main-main.ensures.right in
-    let node = c.index-nodes-main.result in
-    let d = node_tree node in
-    let listed = c.as_slice-nodes.ensures ∙ ap (λ (x : Program). x.nodes) c.program-program.ensures in
+    let d = node_tree c.node_at-node.result.now in
     let main_is = c.main-main.ensures.main in
-    let found : slice_get p.nodes main ≡ Some d = get_map node_tree c.args.typed.now.program.nodes main node
-    (ap (slice_get c.args.typed.now.program.nodes) (sym main_is) ∙ ap (λ xs. slice_get xs c.main-main.result) (sym listed)
-    ∙ slice_get_read c.as_slice-nodes.result.now (length c.as_slice-nodes.result.now) c.main-main.result node refl (omega (arith, c.if-main-nodes.false)) c.index-nodes-main.is) in
+    let found : slice_get p.nodes main ≡ Some d = ap (slice_get p.nodes) (sym main_is) ∙ ap (λ (x : Program). slice_get (program_tree x).nodes c.main-main.result) (sym c.program-program.ensures) ∙ c.node_at-node.ensures in
     let is : node_at p main ≡ d = ap node_or found in
-    let program_is = c.in_ok-names.ensures ∙ c.program-program.ensures in
-    let levels_are : length c.as_slice-nodes.result.now ≡ length p.nodes = ap length listed ∙ sym (length-map c.args.typed.now.program.nodes node_tree) in
-    let lv = length c.as_slice-nodes.result.now in
-    let m = c.main-main.result in
     let past = inputs_fault p main tys right c.in_err-take_flows.field-0.0 d c.len-inputs.result is c.len-inputs.ensures c.in_err-take_flows.ensures.limit in
     err_and c.from_residual-in_err-take_flows.result _ _ (λ x same. subst (λ y. IsExpandFault p main y) (sym same) past) c.from_residual-in_err-take_flows.ensures.1
 
@@ -51,17 +45,13 @@ returns-in_err-outs-clause-fault c =
     let tys = c.args.typed.now.types in
     let main = c.args.typed.now.main in
     let right = c.main-main.ensures.right in
-    let node = c.index-nodes-main.result in
-    let d = node_tree node in
-    let listed = c.as_slice-nodes.ensures ∙ ap (λ (x : Program). x.nodes) c.program-program.ensures in
+    let d = node_tree c.node_at-node.result.now in
     let main_is = c.main-main.ensures.main in
-    let found : slice_get p.nodes main ≡ Some d = get_map node_tree c.args.typed.now.program.nodes main node
-    (ap (slice_get c.args.typed.now.program.nodes) (sym main_is) ∙ ap (λ xs. slice_get xs c.main-main.result) (sym listed)
-    ∙ slice_get_read c.as_slice-nodes.result.now (length c.as_slice-nodes.result.now) c.main-main.result node refl (omega (arith, c.if-main-nodes.false)) c.index-nodes-main.is) in
+    let found : slice_get p.nodes main ≡ Some d = ap (slice_get p.nodes) (sym main_is) ∙ ap (λ (x : Program). slice_get (program_tree x).nodes c.main-main.result) (sym c.program-program.ensures) ∙ c.node_at-node.ensures in
     let is : node_at p main ≡ d = ap node_or found in
     let program_is = c.in_ok-names.ensures ∙ c.program-program.ensures in
-    let levels_are : length c.as_slice-nodes.result.now ≡ length p.nodes = ap length listed ∙ sym (length-map c.args.typed.now.program.nodes node_tree) in
-    let lv = length c.as_slice-nodes.result.now in
+    let levels_are : c.len-levels.result ≡ length p.nodes = c.len-levels.ensures ∙ ap (λ (x : Program). length x.nodes) c.program-program.ensures ∙ sym (length-map c.args.typed.now.program.nodes node_tree) in
+    let lv = c.len-levels.result in
     let m = c.main-main.result in
     let N = c.in_ok-names.names in
     let whole_is = ap (λ pr. a_node (program_tree pr) lv m first) program_is ∙ ap (λ n. a_node p n m first) levels_are ∙ ap (λ k. a_node p (length p.nodes) k first) main_is in
@@ -74,17 +64,13 @@ new-requires-9 c =
     let tys = c.args.typed.now.types in
     let main = c.args.typed.now.main in
     let right = c.main-main.ensures.right in
-    let node = c.index-nodes-main.result in
-    let d = node_tree node in
-    let listed = c.as_slice-nodes.ensures ∙ ap (λ (x : Program). x.nodes) c.program-program.ensures in
+    let d = node_tree c.node_at-node.result.now in
     let main_is = c.main-main.ensures.main in
-    let found : slice_get p.nodes main ≡ Some d = get_map node_tree c.args.typed.now.program.nodes main node
-    (ap (slice_get c.args.typed.now.program.nodes) (sym main_is) ∙ ap (λ xs. slice_get xs c.main-main.result) (sym listed)
-    ∙ slice_get_read c.as_slice-nodes.result.now (length c.as_slice-nodes.result.now) c.main-main.result node refl (omega (arith, c.if-main-nodes.false)) c.index-nodes-main.is) in
+    let found : slice_get p.nodes main ≡ Some d = ap (slice_get p.nodes) (sym main_is) ∙ ap (λ (x : Program). slice_get (program_tree x).nodes c.main-main.result) (sym c.program-program.ensures) ∙ c.node_at-node.ensures in
     let is : node_at p main ≡ d = ap node_or found in
     let program_is = c.in_ok-names.ensures ∙ c.program-program.ensures in
-    let levels_are : length c.as_slice-nodes.result.now ≡ length p.nodes = ap length listed ∙ sym (length-map c.args.typed.now.program.nodes node_tree) in
-    let lv = length c.as_slice-nodes.result.now in
+    let levels_are : c.len-levels.result ≡ length p.nodes = c.len-levels.ensures ∙ ap (λ (x : Program). length x.nodes) c.program-program.ensures ∙ sym (length-map c.args.typed.now.program.nodes node_tree) in
+    let lv = c.len-levels.result in
     let m = c.main-main.result in
     let N = c.in_ok-names.names in
     let whole_is = ap (λ pr. a_node (program_tree pr) lv m first) program_is ∙ ap (λ n. a_node p n m first) levels_are ∙ ap (λ k. a_node p (length p.nodes) k first) main_is in
@@ -113,17 +99,13 @@ returns-clause-exact c =
     let tys = c.args.typed.now.types in
     let main = c.args.typed.now.main in
     let right = c.main-main.ensures.right in
-    let node = c.index-nodes-main.result in
-    let d = node_tree node in
-    let listed = c.as_slice-nodes.ensures ∙ ap (λ (x : Program). x.nodes) c.program-program.ensures in
+    let d = node_tree c.node_at-node.result.now in
     let main_is = c.main-main.ensures.main in
-    let found : slice_get p.nodes main ≡ Some d = get_map node_tree c.args.typed.now.program.nodes main node
-    (ap (slice_get c.args.typed.now.program.nodes) (sym main_is) ∙ ap (λ xs. slice_get xs c.main-main.result) (sym listed)
-    ∙ slice_get_read c.as_slice-nodes.result.now (length c.as_slice-nodes.result.now) c.main-main.result node refl (omega (arith, c.if-main-nodes.false)) c.index-nodes-main.is) in
+    let found : slice_get p.nodes main ≡ Some d = ap (slice_get p.nodes) (sym main_is) ∙ ap (λ (x : Program). slice_get (program_tree x).nodes c.main-main.result) (sym c.program-program.ensures) ∙ c.node_at-node.ensures in
     let is : node_at p main ≡ d = ap node_or found in
     let program_is = c.in_ok-names.ensures ∙ c.program-program.ensures in
-    let levels_are : length c.as_slice-nodes.result.now ≡ length p.nodes = ap length listed ∙ sym (length-map c.args.typed.now.program.nodes node_tree) in
-    let lv = length c.as_slice-nodes.result.now in
+    let levels_are : c.len-levels.result ≡ length p.nodes = c.len-levels.ensures ∙ ap (λ (x : Program). length x.nodes) c.program-program.ensures ∙ sym (length-map c.args.typed.now.program.nodes node_tree) in
+    let lv = c.len-levels.result in
     let m = c.main-main.result in
     let N = c.in_ok-names.names in
     let whole_is = ap (λ pr. a_node (program_tree pr) lv m first) program_is ∙ ap (λ n. a_node p n m first) levels_are ∙ ap (λ k. a_node p (length p.nodes) k first) main_is in
@@ -152,17 +134,13 @@ returns-clause-kept c = λ bodies rows until.
     let tys = c.args.typed.now.types in
     let main = c.args.typed.now.main in
     let right = c.main-main.ensures.right in
-    let node = c.index-nodes-main.result in
-    let d = node_tree node in
-    let listed = c.as_slice-nodes.ensures ∙ ap (λ (x : Program). x.nodes) c.program-program.ensures in
+    let d = node_tree c.node_at-node.result.now in
     let main_is = c.main-main.ensures.main in
-    let found : slice_get p.nodes main ≡ Some d = get_map node_tree c.args.typed.now.program.nodes main node
-    (ap (slice_get c.args.typed.now.program.nodes) (sym main_is) ∙ ap (λ xs. slice_get xs c.main-main.result) (sym listed)
-    ∙ slice_get_read c.as_slice-nodes.result.now (length c.as_slice-nodes.result.now) c.main-main.result node refl (omega (arith, c.if-main-nodes.false)) c.index-nodes-main.is) in
+    let found : slice_get p.nodes main ≡ Some d = ap (slice_get p.nodes) (sym main_is) ∙ ap (λ (x : Program). slice_get (program_tree x).nodes c.main-main.result) (sym c.program-program.ensures) ∙ c.node_at-node.ensures in
     let is : node_at p main ≡ d = ap node_or found in
     let program_is = c.in_ok-names.ensures ∙ c.program-program.ensures in
-    let levels_are : length c.as_slice-nodes.result.now ≡ length p.nodes = ap length listed ∙ sym (length-map c.args.typed.now.program.nodes node_tree) in
-    let lv = length c.as_slice-nodes.result.now in
+    let levels_are : c.len-levels.result ≡ length p.nodes = c.len-levels.ensures ∙ ap (λ (x : Program). length x.nodes) c.program-program.ensures ∙ sym (length-map c.args.typed.now.program.nodes node_tree) in
+    let lv = c.len-levels.result in
     let m = c.main-main.result in
     let N = c.in_ok-names.names in
     let whole_is = ap (λ pr. a_node (program_tree pr) lv m first) program_is ∙ ap (λ n. a_node p n m first) levels_are ∙ ap (λ k. a_node p (length p.nodes) k first) main_is in
@@ -185,3 +163,47 @@ returns-clause-kept c = λ bodies rows until.
     let few : length (flows_in (whole p main tys right)) ≤ 4096 = omega (arith, adds.few, number) in
     subst (λ f. IsOneToOne (Satisfies p main bodies rows until) (IsSolution f bodies rows until) state_in) (sym (c.new-9.ensures ∙ flat))
     (c.behaviours_are_solutions.ensures p right.main main tys (whole p main tys right) right.typed (expansion_is p main tys right) bodies rows until))
+
+pub node_at-node-requires : goal.node_at-node-requires
+node_at-node-requires c =
+    let p = program_tree c.args.typed.now.program in
+    let tys = c.args.typed.now.types in
+    let main = c.args.typed.now.main in
+    let main_is = c.main-main.ensures.main in
+    let below : c.main-main.result < length p.nodes = subst (λ n. n < length p.nodes) (sym main_is) (main_there p main tys c.main-main.ensures.right) in
+    subst (λ (x : Program). c.main-main.result < length (program_tree x).nodes) (sym c.program-program.ensures) below
+
+pub enter-requires-clause-sound : goal.enter-requires-clause-sound
+enter-requires-clause-sound c =
+    let p = program_tree c.args.typed.now.program in
+    let program_is = c.in_ok-names.ensures ∙ c.program-program.ensures in
+    subst (λ x. IsSound (program_tree x)) (sym program_is) (sound_is p c.args.typed.now.main c.args.typed.now.types c.main-main.ensures.right c.main-main.ensures.range)
+
+pub enter-requires-clause-there : goal.enter-requires-clause-there
+enter-requires-clause-there c =
+    let p = program_tree c.args.typed.now.program in
+    let main = c.args.typed.now.main in
+    let main_is = c.main-main.ensures.main in
+    let program_is = c.in_ok-names.ensures ∙ c.program-program.ensures in
+    let below : c.main-main.result < length p.nodes = subst (λ n. n < length p.nodes) (sym main_is) (main_there p main c.args.typed.now.types c.main-main.ensures.right) in
+    subst (λ x. c.main-main.result < length (program_tree x).nodes) (sym program_is) below
+
+pub enter-requires-clause-small : goal.enter-requires-clause-small
+enter-requires-clause-small c =
+    let p = program_tree c.args.typed.now.program in
+    let main = c.args.typed.now.main in
+    let main_is = c.main-main.ensures.main in
+    let below = main_there p main c.args.typed.now.types c.main-main.ensures.right in
+    omega (arith, main_is, below, c.main-main.ensures.range.few)
+
+pub enter-requires-clause-levels : goal.enter-requires-clause-levels
+enter-requires-clause-levels c =
+    let p = program_tree c.args.typed.now.program in
+    let main = c.args.typed.now.main in
+    let main_is = c.main-main.ensures.main in
+    let program_is = c.in_ok-names.ensures ∙ c.program-program.ensures in
+    let levels_are : c.len-levels.result ≡ length p.nodes = c.len-levels.ensures ∙ ap (λ (x : Program). length x.nodes) c.program-program.ensures ∙ sym (length-map c.args.typed.now.program.nodes node_tree) in
+    let all = levels_do p main c.args.typed.now.types c.main-main.ensures.right in
+    let here = subst (λ k. MayApply p (length p.nodes) (λ j. applies p k j)) (sym main_is) all in
+    let many = subst (λ n. MayApply p n (λ j. applies p c.main-main.result j)) (sym levels_are) here in
+    subst (λ x. MayApply (program_tree x) c.len-levels.result (λ j. applies (program_tree x) c.main-main.result j)) (sym program_is) many
