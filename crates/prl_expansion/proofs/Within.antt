@@ -6,7 +6,7 @@ use Rattle.prl_ast.specs.declared.declarations.Equation.{Equation}
 use Rattle.prl_ast.specs.declared.declarations.Import.{Import}
 use Rattle.prl_ast.specs.declared.expressions.Expr.{Expr}
 use Rattle.prl_ast.specs.declared.expressions.PlacedOp.{PlacedOp}
-use Rattle.prl_ast.specs.InRange.{IsEquationInRange, IsNodeInRange, IsInRange}
+use Rattle.prl_ast.specs.InRange.{IsEquationInRange, IsImportInRange, IsNodeInRange, IsInRange}
 use Rattle.prl_ast.specs.Trees.{Tree, tree, tree_of, Root, const, var, apply, group, Trees, none, more, equation_tree, EquationTree, NodeTree, ProgramTree}
 use Rattle.std.proofs.lemmas.Option.{slice_get_within}
 use Rattle.prl_names.specs.Applications.{is_node, applied_in, applied_root, applied_trees, applied_equations, applied_by, applies, reaches}
@@ -20,6 +20,8 @@ use Rattle.prl_ast.specs.declared.declarations.Param.{Param}
 use Rattle.prl_behaviours.specs.Texts.{node_at, node_or}
 use Rattle.prl_expand.proofs.Existence.{true_or, or_true, same_node, import_found, no_callee}
 use Rattle.prl_expand.proofs.Ranks.{rank, rank_falls, passing, one_if}
+use Rattle.prl_expansion.specs.declared.counts.Next.{Next}
+use Rattle.prl_expansion.specs.code.Limits.{IsFew, IsFewBefore}
 use Rattle.prl_expansion.specs.code.Within.{CallFits, EquationsFit, Fits, IsSound, MayApply, MayEnter, RootFits, TreeFits, TreesFit}
 
 -- a node that reaches fewer nodes than there are levels
@@ -161,3 +163,36 @@ variable_at p k name d found known =
     let here : param_at p k name ≡ index_of (param_names d) name = cc in
     let at : node_at p k ≡ d = ap node_or found in
     (there.0, there.1, subst (λ (n : NodeTree). there.0 < length (params_of n)) (sym at) (index_below (λ (q : Param). q.name) (params_of d) name there.0 (sym here ∙ there.1)))
+
+pub outputs_some : (p : ProgramTree) (k : ℕ) (d : NodeTree) → IsSound p → slice_get p.nodes k ≡ Some d → 1 ≤ length d.outs
+outputs_some p k d sound found = (all_at IsNodeInRange p.nodes k d found sound.range.nodes).some
+
+pub ports_some : (p : ProgramTree) (k : ℕ) (i : Import) → IsSound p → slice_get p.imports k ≡ Some i → 1 ≤ length i.outs
+ports_some p k i sound found = (all_at IsImportInRange p.imports k i found sound.range.imports).some
+
+pub node_few : (s t : Next) → t ≡ record { flow = s.flow; app = s.app; node = s.node + 1 } → IsFew s → IsFewBefore t
+node_few s t e h =
+    let nodes = h.nodes in
+    subst IsFewBefore (sym e) (record { flows = h.flows; apps = h.apps; nodes = omega (arith, nodes) })
+
+-- a node has an output
+pub variables_few : (s t : Next) (d : NodeTree) → t ≡ record { flow = ((s.flow + length d.ins) + length d.outs) + length d.locals; app = s.app; node = s.node }
+    → ((s.flow + length d.ins) + length d.outs) + length d.locals ≤ 4096 → 1 ≤ length d.outs → IsFewBefore s → IsFew t
+variables_few s t d e below some h =
+    let apps = h.apps in
+    let nodes = h.nodes in
+    subst IsFew (sym e) (record { flows = below; apps = omega (arith, apps, some); nodes = omega (arith, nodes, some) })
+
+-- as many more flows and one more application, of which the flows are outputs
+pub import_few : (s : Next) (n : ℕ) → s.flow + n ≤ 4096 → 1 ≤ n → IsFew s → IsFew (record { flow = s.flow + n; app = s.app + 1; node = s.node })
+import_few s n below some h =
+    let apps = h.apps in
+    let nodes = h.nodes in
+    record { flows = below; apps = omega (arith, apps, some); nodes = omega (arith, nodes) }
+
+-- more flows
+pub more_few : (s : Next) (n m : ℕ) → (s.flow + n) + m ≤ 4096 → IsFew s → IsFew (record { flow = (s.flow + n) + m; app = s.app; node = s.node })
+more_few s n m below h =
+    let apps = h.apps in
+    let nodes = h.nodes in
+    record { flows = below; apps = omega (arith, apps); nodes = omega (arith, nodes) }

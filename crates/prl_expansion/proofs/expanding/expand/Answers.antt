@@ -90,7 +90,7 @@ new-requires-9 c =
     let out_devices = c.in_ok-out_devices.ensures ∙ ap (λ ds. devices_of ds c.as_slice-4.result.now) (c.as_slice-3.ensures ∙ ap (λ (x : Program). x.actuators) c.program-program.ensures) ∙ ap (devices_of p.actuators) c.as_slice-4.ensures in
     let flat = flat_is p main tys right c.new-5.result c.new-6.result c.new-7.result c.new-8.result c.in_ok-in_devices.in_devices.items c.in_ok-out_devices.out_devices.items d is flows apps ins outs in_devices out_devices in
     let number : c.enter.new.made.next.flow ≡ 0 + length (flows_in (whole p main tys right)) = ap (λ (x : Next). x.flow) adds.next_is ∙ ap (λ w. 0 + length (flows_in w)) whole_is in
-    let few : length (flows_in (whole p main tys right)) ≤ 4096 = omega (arith, adds.few, number) in
+    let few : length (flows_in (whole p main tys right)) ≤ 4096 = omega (arith, adds.few.flows, number) in
     subst IsFlat (sym flat) (c.flats_are_well_formed.ensures p right.main main tys (whole p main tys right) c.main-main.ensures.range right.typed (expansion_is p main tys right) few)
 
 pub returns-clause-exact : goal.returns-clause-exact
@@ -125,7 +125,7 @@ returns-clause-exact c =
     let out_devices = c.in_ok-out_devices.ensures ∙ ap (λ ds. devices_of ds c.as_slice-4.result.now) (c.as_slice-3.ensures ∙ ap (λ (x : Program). x.actuators) c.program-program.ensures) ∙ ap (devices_of p.actuators) c.as_slice-4.ensures in
     let flat = flat_is p main tys right c.new-5.result c.new-6.result c.new-7.result c.new-8.result c.in_ok-in_devices.in_devices.items c.in_ok-out_devices.out_devices.items d is flows apps ins outs in_devices out_devices in
     let number : c.enter.new.made.next.flow ≡ 0 + length (flows_in (whole p main tys right)) = ap (λ (x : Next). x.flow) adds.next_is ∙ ap (λ w. 0 + length (flows_in w)) whole_is in
-    let few : length (flows_in (whole p main tys right)) ≤ 4096 = omega (arith, adds.few, number) in
+    let few : length (flows_in (whole p main tys right)) ≤ 4096 = omega (arith, adds.few.flows, number) in
     record { expansion = whole p main tys right; is = expansion_is p main tys right; few = few; flat_is = c.new-9.ensures ∙ flat }
 
 pub returns-clause-kept : goal.returns-clause-kept
@@ -160,7 +160,7 @@ returns-clause-kept c = λ bodies rows until.
     let out_devices = c.in_ok-out_devices.ensures ∙ ap (λ ds. devices_of ds c.as_slice-4.result.now) (c.as_slice-3.ensures ∙ ap (λ (x : Program). x.actuators) c.program-program.ensures) ∙ ap (devices_of p.actuators) c.as_slice-4.ensures in
     let flat = flat_is p main tys right c.new-5.result c.new-6.result c.new-7.result c.new-8.result c.in_ok-in_devices.in_devices.items c.in_ok-out_devices.out_devices.items d is flows apps ins outs in_devices out_devices in
     let number : c.enter.new.made.next.flow ≡ 0 + length (flows_in (whole p main tys right)) = ap (λ (x : Next). x.flow) adds.next_is ∙ ap (λ w. 0 + length (flows_in w)) whole_is in
-    let few : length (flows_in (whole p main tys right)) ≤ 4096 = omega (arith, adds.few, number) in
+    let few : length (flows_in (whole p main tys right)) ≤ 4096 = omega (arith, adds.few.flows, number) in
     subst (λ f. IsOneToOne (Satisfies p main bodies rows until) (IsSolution f bodies rows until) state_in) (sym (c.new-9.ensures ∙ flat))
     (c.behaviours_are_solutions.ensures p right.main main tys (whole p main tys right) right.typed (expansion_is p main tys right) bodies rows until))
 

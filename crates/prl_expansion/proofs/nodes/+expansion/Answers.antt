@@ -28,7 +28,7 @@ use Rattle.prl_expansion.specs.code.Variables.{copied, def_of, pairs_of}
 use Rattle.prl_expansion.proofs.Adding.{adds_as, below_few}
 use Rattle.prl_expansion.proofs.Entering.{entered_apps, entered_given, entered_made, entered_next, entered_types, equations_past, params_length, variables_past}
 use Rattle.prl_expansion.proofs.Expressions.{apply_given, apply_made, apply_past, args_past, copied_are, drop_equations, err_and, expression_made, get_map, given_numbers, if_err, if_ok, import_apps, import_flows, import_next, import_past, import_types, node_apps, node_flows, node_given, node_next, node_past, on_ok, operators_past, var_given, var_types}
-use Rattle.prl_expansion.proofs.Within.{args_fit, call_fits, deep as some_depth, equations_fit, few_nodes, import_below, levels_left, may_apply, parts_fit, right_fits, root_fits, tree_fits, variable_at}
+use Rattle.prl_expansion.proofs.Within.{args_fit, call_fits, node_few, outputs_some, ports_some, variables_few, deep as some_depth, equations_fit, few_nodes, import_below, levels_left, may_apply, parts_fit, right_fits, root_fits, tree_fits, variable_at}
 use Rattle.prl_expansion.proofs.Remaining.{parts_past, parts_step, rights_step}
 use Rattle.prl_expansion.proofs.nodes.+expansion.Goals as goal
 
@@ -75,7 +75,7 @@ apply-returns-in_ok-sources-in-Some-Node-clause-given t c =
     let is = sym (c.callee.ensures ∙ ap (callee_of p) c.bytes.ensures.bytes) ∙ c.in-Some-Node.is ∙ ap Some c.in-Some-Node.field-0-is in
     let deep : 0 < c.args.levels = levels_left p c.args.levels c.in-Some-Node.k (c.requires.fits.reach c.in-Some-Node.k is) in
     if_ok c.enter.result _ _
-    (λ terms e. e ∙ ap (λ s. outputs_of (a_node p (c.args.levels - 1) c.in-Some-Node.k s)) c.in_ok-number-in-Some-Node.ensures.next
+    (λ terms e. e ∙ ap (λ s. outputs_of (a_node p (c.args.levels - 1) c.in-Some-Node.k s)) c.take_node-number.ensures.next
     ∙ node_given p c.args.typed.now.types c.args.levels c.in-Some-Node.k o c.args.name.now c.args.at [] [] c.args.made.now.next is deep)
     c.enter.ensures.given
 
@@ -90,11 +90,11 @@ apply-returns-in_ok-sources-in-Some-Node-clause-made t c =
     let us = map arg_of c.args.args.items in
     let is = sym (c.callee.ensures ∙ ap (callee_of p) c.bytes.ensures.bytes) ∙ c.in-Some-Node.is ∙ ap Some c.in-Some-Node.field-0-is in
     let deep : 0 < c.args.levels = levels_left p c.args.levels c.in-Some-Node.k (c.requires.fits.reach c.in-Some-Node.k is) in
-    let taken = c.in_ok-number-in-Some-Node.ensures.next in
-    let label = c.in_ok-label-in-Some-Node.ensures ∙ ap (flats.label_of_node c.args.name.now) c.in_ok-number-in-Some-Node.ensures.node in
+    let taken = c.take_node-number.ensures.next in
+    let label = c.in_ok-label-in-Some-Node.ensures ∙ ap (flats.label_of_node c.args.name.now) c.take_node-number.ensures.node in
     let sources = ap (map def_of) (c.in_ok-sources-in-Some-Node.ensures ∙ ap (map copied) c.as_slice.ensures.value) ∙ copied_are c.args.args.items in
-    let flows = ap (λ l. flats.entered_flows p tys l j (map def_of c.in_ok-sources-in-Some-Node.sources.items) (a_node p (c.args.levels - 1) j c.take_node.new.next)) label
-    ∙ ap (λ ds. flats.entered_flows p tys (flats.label_of_node c.args.name.now s.node) j ds (a_node p (c.args.levels - 1) j c.take_node.new.next)) sources
+    let flows = ap (λ l. flats.entered_flows p tys l j (map def_of c.in_ok-sources-in-Some-Node.sources.items) (a_node p (c.args.levels - 1) j c.take_node-number.new.next)) label
+    ∙ ap (λ ds. flats.entered_flows p tys (flats.label_of_node c.args.name.now s.node) j ds (a_node p (c.args.levels - 1) j c.take_node-number.new.next)) sources
     ∙ ap (λ x. flats.entered_flows p tys (flats.label_of_node c.args.name.now s.node) j (map copy_of of) (a_node p (c.args.levels - 1) j x)) taken
     ∙ node_flows p tys c.args.levels j o c.args.name.now c.args.at of us s is deep in
     let apps = ap (λ x. flats.entered_apps p j (a_node p (c.args.levels - 1) j x)) taken ∙ node_apps p tys c.args.levels j o c.args.name.now c.args.at of us s is deep in
@@ -113,7 +113,7 @@ apply-returns-in_ok-sources-in-Some-Node-clause-limit t c =
     let j = c.in-Some-Node.k in
     let is = sym (c.callee.ensures ∙ ap (callee_of p) c.bytes.ensures.bytes) ∙ c.in-Some-Node.is ∙ ap Some c.in-Some-Node.field-0-is in
     let deep : 0 < c.args.levels = levels_left p c.args.levels c.in-Some-Node.k (c.requires.fits.reach c.in-Some-Node.k is) in
-    let number = ap (λ (x : Next). x.flow + length (notes.flows_in (a_node p (c.args.levels - 1) j x))) c.in_ok-number-in-Some-Node.ensures.next
+    let number = ap (λ (x : Next). x.flow + length (notes.flows_in (a_node p (c.args.levels - 1) j x))) c.take_node-number.ensures.next
     ∙ node_past p c.args.typed.now.types c.args.levels j o c.args.name.now c.args.at [] [] c.args.made.now.next is deep in
     if_err c.enter.result _ _ (λ x past. subst (λ n. IsPast n x) number past) c.enter.ensures.limit
 
@@ -316,7 +316,7 @@ enter-equations-requires t c =
     ∙ ap (λ pr. have_types (program_tree pr) tys k (length (params_of d))) (sym c.requires.names) ∙ ap (have_types p tys k) count in
     let many : length c.as_slice-terms.result.now ≡ (length d.ins + length d.outs) + length d.locals =
     sym (length-map c.as_slice-terms.result.now flow_of) ∙ ap length numbers ∙ length-range_with_len s.flow ((length d.ins + length d.outs) + length d.locals) in
-    let few = below_few c.take_variables.new.next _ 4096 c.in_ok-take_variables.ensures.next c.in_ok-take_variables.ensures.few in (
+    let few = variables_few s c.take_variables.new.next d c.in_ok-take_variables.ensures.next c.in_ok-take_variables.ensures.few (outputs_some p k d c.requires.sound found) c.requires.few in (
       omega (arith, c.decreases),
       (
         record {
@@ -446,7 +446,7 @@ enter-returns-clause-made t c =
           });
       apps_are = c.in_ok-finish.ensures.apps ∙ ap (λ us. c.args.made.now.apps.items ++ us) (entered_apps p tys levels k s c.equations.new.made.apps.items terms d is numbers apps);
       next_is = c.in_ok-finish.ensures.next ∙ numbers_after;
-      few = below_few c.finish.new.made.next c.equations.new.made.next 4096 c.in_ok-finish.ensures.next adds.few;
+      few = below_few c.finish.new.made.next c.equations.new.made.next c.in_ok-finish.ensures.next adds.few;
     }
 
 pub equations-loop-equation-preserved : goal.equations-loop-equation-preserved
@@ -527,7 +527,7 @@ apply-enter-requires t c =
               few_nodes p k c.requires.sound below,
               (
                 may_apply p levels (levels - 1) k (omega (arith, deep)) (c.requires.fits.reach k is),
-                below_few c.take_node.new.next _ 4096 c.in_ok-number-in-Some-Node.ensures.next c.requires.few,
+                node_few c.args.made.now.next c.take_node-number.new.next c.take_node-number.ensures.next c.requires.few,
               ),
             ),
           ),
@@ -638,3 +638,10 @@ equations-expression-requires t c =
         ),
       ),
     )
+
+pub apply-import-requires-clause-some : goal.apply-import-requires-clause-some
+apply-import-requires-clause-some t c =
+    let p = program_tree c.args.names.now in
+    let is = sym (c.callee.ensures ∙ ap (callee_of p) c.bytes.ensures.bytes) ∙ c.in-Some-Import.is ∙ ap Some c.in-Some-Import.field-0-is in
+    let found = ap (λ (x : Program). slice_get (program_tree x).imports c.in-Some-Import.k) (sym c.program.ensures) ∙ c.import_at.ensures in
+    ports_some p c.in-Some-Import.k c.import_at.result.now c.requires.sound found
