@@ -1,16 +1,15 @@
 -- Parts of what fits, and nodes for which the levels suffice.
-use Rattle.std.proofs.Common.{◌≡◌, ◌+◌, ◌-◌, ◌<◌, ◌≤◌, ◌||◌, ℕ, zero, suc, Bool, true, false, List, [], ◌∷◌, length, map, slice_get, Option, Some, None, IsSome, refl, sym, ap, ◌∙◌, subst, arith}
+use Rattle.std.proofs.Common.{◌≡◌, ◌+◌, ◌-◌, ◌<◌, ◌≤◌, ℕ, zero, suc, Bool, true, false, List, [], ◌∷◌, length, map, slice_get, Option, Some, None, IsSome, refl, sym, ap, ◌∙◌, subst, arith}
 use Rattle.std.specs.List.{AllByRecursion}
 use Rattle.prl_base.specs.declared.places.Span.{Span}
 use Rattle.prl_ast.specs.declared.declarations.Equation.{Equation}
 use Rattle.prl_ast.specs.declared.declarations.Import.{Import}
 use Rattle.prl_ast.specs.declared.expressions.Expr.{Expr}
 use Rattle.prl_ast.specs.declared.expressions.PlacedOp.{PlacedOp}
-use Rattle.prl_ast.specs.InRange.{IsEquationInRange, IsImportInRange, IsNodeInRange, IsInRange}
-use Rattle.prl_ast.specs.Trees.{Tree, tree, tree_of, Root, const, var, apply, group, Trees, none, more, equation_tree, EquationTree, NodeTree, ProgramTree}
+use Rattle.prl_ast.specs.InRange.{IsImportInRange, IsNodeInRange}
+use Rattle.prl_ast.specs.Trees.{Tree, tree, tree_of, Root, apply, group, Trees, none, more, equation_tree, NodeTree, ProgramTree}
 use Rattle.std.proofs.lemmas.Option.{slice_get_within}
-use Rattle.prl_names.specs.Applications.{is_node, applied_in, applied_root, applied_trees, applied_equations, applied_by, applies, reaches}
-use Rattle.prl_names.specs.declared.lookups.Callee.{Callee}
+use Rattle.prl_names.specs.Applications.{is_node, applied_in, applied_trees, applied_equations, applied_by, applies, reaches}
 use Rattle.prl_names.specs.declared.lookups.Callee.TheVariants as callees
 use Rattle.prl_names.specs.ExprLists.{all_trees}
 use Rattle.prl_names.specs.Lookups.{callee_of, index_of, param_at, param_names, params_of}
@@ -18,11 +17,11 @@ use Rattle.prl_names.specs.Named.{IsNamed}
 use Rattle.prl_names.proofs.Marking.{callee_below, index_below}
 use Rattle.prl_ast.specs.declared.declarations.Param.{Param}
 use Rattle.prl_behaviours.specs.Texts.{node_at, node_or}
-use Rattle.prl_expand.proofs.Existence.{true_or, or_true, same_node, import_found, no_callee}
+use Rattle.prl_expand.proofs.Existence.{true_or, or_true, same_node, import_found}
 use Rattle.prl_expand.proofs.Ranks.{rank, rank_falls, passing, one_if}
 use Rattle.prl_expansion.specs.declared.counts.Next.{Next}
 use Rattle.prl_expansion.specs.code.Limits.{IsFew, IsFewBefore}
-use Rattle.prl_expansion.specs.code.Within.{CallFits, EquationsFit, Fits, IsSound, MayApply, MayEnter, RootFits, TreeFits, TreesFit}
+use Rattle.prl_expansion.specs.code.Within.{CallFits, EquationsFit, IsSound, MayApply, MayEnter, RootFits, TreeFits, TreesFit}
 
 -- a node that reaches fewer nodes than there are levels
 ranked : (p : ProgramTree) (main : ℕ) → IsNamed p main → (levels k : ℕ) → rank p k < levels → MayEnter p levels k

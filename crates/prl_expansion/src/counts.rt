@@ -27,7 +27,7 @@ impl From<AllocError> for ExpandFault {
 }
 
 /// The most flows of an expansion.
-const MAX_FLOWS: u32 = 4096;
+pub const MAX_FLOWS: u32 = 4096;
 
 /// The numbers of the next flow, the next application and the next node that is entered.
 #[derive(Clone, Copy)]
@@ -36,6 +36,13 @@ pub(crate) struct Next {
     pub app: u32,
     pub node: u32,
 }
+
+/// The first numbers.
+pub(crate) const FIRST: Next = Next {
+    flow: 0,
+    app: 0,
+    node: 0,
+};
 
 /// Takes numbers for so many flows; the first of them.
 pub(crate) fn take_flows(next: &mut Next, count: usize) -> Result<u32, ExpandFault>

@@ -13,7 +13,7 @@ ghost use Rattle.prl_expand.specs.Flats.{devices_of, flow_no, sensors_from, wcet
 ghost use Rattle.prl_expansion.specs.Expanding.{IsExpanded, IsExpandFault};
 ghost use Rattle.prl_expansion.specs.code.Variables.{def_of};
 
-use crate::counts::{ExpandFault, Next, take_flows};
+use crate::counts::{ExpandFault, FIRST, take_flows};
 use crate::nodes::{Made, enter, node_at};
 use crate::terms::numbers;
 use crate::variables::Source;
@@ -94,17 +94,12 @@ pub fn expand(alloc: Global, typed: &Typed<'_>) -> Result<Flat, ExpandFault>
     let names = Names::new(alloc, program)?;
     let node = node_at(program, main);
     let inputs = node.ins.len();
-    let next = Next {
-        flow: 0,
-        app: 0,
-        node: 0,
-    };
-    let mut counted = next;
+    let mut counted = FIRST;
     take_flows(&mut counted, inputs)?;
     let mut made = Made {
         flows: Vec::new(alloc),
         apps: Vec::new(alloc),
-        next,
+        next: FIRST,
     };
     let label = Label::new(alloc, b"")?;
     let sources = sensors(alloc, inputs)?;

@@ -1,7 +1,6 @@
-use Rattle.std.proofs.Common.{◌≡◌, ◌<◌, ◌≤◌, ◌+◌, ◌++◌, [], ◌∙◌, Some, ap, arith, length, map, refl, slice_get, subst, sym}
+use Rattle.std.proofs.Common.{◌≡◌, ◌<◌, ◌≤◌, ◌+◌, ◌++◌, [], ◌∙◌, Some, ap, arith, length, map, slice_get, subst, sym}
 use Rattle.std.specs.List.{range_with_len}
 use Rattle.std.proofs.lemmas.List.{length-map}
-use Rattle.std.proofs.lemmas.Option.{slice_get_read}
 use Rattle.prl_ast.specs.declared.declarations.Program.{Program}
 use Rattle.prl_ast.specs.Trees.{node_tree, program_tree}
 use Rattle.prl_flow.specs.Programs.{IsFlat}
@@ -22,7 +21,7 @@ use Rattle.prl_expansion.specs.code.Within.{IsSound, MayApply}
 use Rattle.prl_names.specs.Applications.{applies}
 use Rattle.prl_expansion.proofs.Adding.{numbers_are}
 use Rattle.prl_expansion.proofs.Expanded.{first}
-use Rattle.prl_expansion.proofs.Expressions.{err_and, get_map}
+use Rattle.prl_expansion.proofs.Expressions.{err_and}
 use Rattle.prl_expansion.proofs.Whole.{expansion_is, fault_is, flat_is, inputs_fault, levels_do, main_there, sound_is, whole}
 use Rattle.prl_expansion.proofs.expanding.expand.Goals as goal
 

@@ -27,8 +27,8 @@ use Rattle.prl_expansion.specs.code.Within.{EquationsFit, RootFits, TreesFit}
 use Rattle.prl_expansion.specs.code.Variables.{copied, def_of, pairs_of}
 use Rattle.prl_expansion.proofs.Adding.{adds_as, below_few}
 use Rattle.prl_expansion.proofs.Entering.{entered_apps, entered_given, entered_made, entered_next, entered_types, equations_past, params_length, variables_past}
-use Rattle.prl_expansion.proofs.Expressions.{apply_given, apply_made, apply_past, args_past, copied_are, drop_equations, err_and, expression_made, get_map, given_numbers, if_err, if_ok, import_apps, import_flows, import_next, import_past, import_types, node_apps, node_flows, node_given, node_next, node_past, on_ok, operators_past, var_given, var_types}
-use Rattle.prl_expansion.proofs.Within.{args_fit, call_fits, node_few, outputs_some, ports_some, variables_few, deep as some_depth, equations_fit, few_nodes, import_below, levels_left, may_apply, parts_fit, right_fits, root_fits, tree_fits, variable_at}
+use Rattle.prl_expansion.proofs.Expressions.{apply_given, apply_made, apply_past, args_past, copied_are, drop_equations, err_and, expression_made, given_numbers, if_err, if_ok, import_apps, import_flows, import_next, import_past, import_types, node_apps, node_flows, node_given, node_next, node_past, on_ok, operators_past, var_given, var_types}
+use Rattle.prl_expansion.proofs.Within.{args_fit, call_fits, node_few, outputs_some, ports_some, variables_few, deep as some_depth, equations_fit, few_nodes, import_below, levels_left, may_apply, parts_fit, right_fits, tree_fits, variable_at}
 use Rattle.prl_expansion.proofs.Remaining.{parts_past, parts_step, rights_step}
 use Rattle.prl_expansion.proofs.nodes.+expansion.Goals as goal
 
