@@ -285,19 +285,18 @@ fn nodes_that_apply_the_one_before_twice(rt: HostRuntime) -> Result<(), Fail> {
     Ok(())
 }
 
-/// Main applies `F` of so many parameters to so many inputs.
-fn wide(alloc: Global, params: usize, count: usize) -> Result<Vec<u8>, AllocError> {
-    let mut text = Vec::from_slice(alloc, b"imported node F(a: int".as_slice())?;
+/// Main applies `F` of so many parameters to so many arguments.
+fn wide(alloc: Global, params: usize, arg: &[u8], count: usize) -> Result<Vec<u8>, AllocError> {
+    let mut text = Vec::from_slice(alloc, b"imported node F(a".as_slice())?;
     for k in 1..params {
-        text.extend_from_slice(b", a".as_slice())?;
+        text.extend_from_slice(b",a".as_slice())?;
         push_number(&mut text, k as u64)?;
-        text.extend_from_slice(b": int".as_slice())?;
     }
     text.extend_from_slice(
-        b") returns (z: int) wcet 3; sensor i wcet 1; actuator o wcet 1; ".as_slice(),
+        b": int) returns (z: int) wcet 3; sensor i wcet 1; actuator o wcet 1; ".as_slice(),
     )?;
     text.extend_from_slice(b"node main (i: int rate (10, 0)) returns (o) let o = F(i".as_slice())?;
-    push_times(&mut text, b",i".as_slice(), count)?;
+    push_times(&mut text, arg, count)?;
     text.extend_from_slice(b"); tel".as_slice())?;
     Ok(text)
 }
@@ -315,10 +314,14 @@ fn arity_of(alloc: Global, text: &[u8]) -> Result<Option<u32>, Fail> {
     }
 }
 
+/// The most bytes of a program's file.
+const MAX_PROGRAM: usize = 1_048_576;
+
 #[test]
 fn too_many_arguments_are_refused(rt: HostRuntime) -> Result<(), Fail> {
     // `F` is applied at the byte after the names of main and of what it gives.
-    let text = wide(rt.alloc(), 1, 499_999)?;
+    let text = wide(rt.alloc(), 1, b",i".as_slice(), 499_999)?;
+    assert!(rt; text.len() <= MAX_PROGRAM);
     let at = arity_of(rt.alloc(), text.as_slice())?;
     assert_eq!(rt; at, Some(137));
     Ok(())
@@ -326,13 +329,26 @@ fn too_many_arguments_are_refused(rt: HostRuntime) -> Result<(), Fail> {
 
 #[test]
 fn application_of_many_arguments(rt: HostRuntime) -> Result<(), Fail> {
-    let text = wide(rt.alloc(), 500_000, 499_999)?;
+    let text = wide(rt.alloc(), 110_000, b",i".as_slice(), 109_999)?;
+    assert!(rt; text.len() <= MAX_PROGRAM);
     let flat = flat_of(rt.alloc(), text.as_slice())?;
     // i and o, and the output of the application
     assert_eq!(rt; flat.flows().len(), 3);
     assert_eq!(rt; flat.flows()[1].def, Def::Copy(FlowNo(2)));
     assert_eq!(rt; flat.apps().len(), 1);
-    assert_eq!(rt; flat.apps()[0].args.as_slice().len(), 500_000);
+    assert_eq!(rt; flat.apps()[0].args.as_slice().len(), 110_000);
+    Ok(())
+}
+
+#[test]
+fn application_of_many_constants(rt: HostRuntime) -> Result<(), Fail> {
+    let text = wide(rt.alloc(), 110_000, b",7".as_slice(), 109_999)?;
+    assert!(rt; text.len() <= MAX_PROGRAM);
+    let past = Limit {
+        what: What::Flows,
+        found: 4097,
+    };
+    assert_eq!(rt; limit_of(rt.alloc(), text.as_slice())?, Some(past));
     Ok(())
 }
 
