@@ -386,3 +386,78 @@ fn all_flows_in_one_cycle(rt: HostRuntime) -> Result<(), Fail> {
     }
     Ok(())
 }
+
+/// Main has so many locals that are given `x`, which stands on a cycle through an application of so many arguments.
+fn led_to_a_cycle(alloc: Global, locals: usize, args: usize) -> Result<Vec<u8>, AllocError>
+    requires { 1 ≤ args }
+{
+    let mut text = Vec::from_slice(alloc, b"imported node F(a".as_slice())?;
+    for k in 1..args {
+        text.extend_from_slice(b",a".as_slice())?;
+        push_number(&mut text, k as u64)?;
+    }
+    text.extend_from_slice(
+        b": int) returns (z: int) wcet 3; sensor i wcet 1; actuator o wcet 1; ".as_slice(),
+    )?;
+    text.extend_from_slice(b"node main (i: int rate (10, 0)) returns (o) var b0".as_slice())?;
+    for k in 1..locals {
+        text.extend_from_slice(b",b".as_slice())?;
+        push_number(&mut text, k as u64)?;
+    }
+    text.extend_from_slice(b",x; let o=i;x=F(x".as_slice())?;
+    push_times(&mut text, b",x".as_slice(), args - 1)?;
+    text.extend_from_slice(b");".as_slice())?;
+    for k in 0..locals {
+        text.push(b'b')?;
+        push_number(&mut text, k as u64)?;
+        text.extend_from_slice(b"=x;".as_slice())?;
+    }
+    text.extend_from_slice(b" tel".as_slice())?;
+    Ok(text)
+}
+
+#[test]
+fn flows_that_lead_to_a_cycle(rt: HostRuntime) -> Result<(), Fail> {
+    // i, o, x and the output of the application: 4,096 flows
+    let text = led_to_a_cycle(rt.alloc(), 4092, 100_000)?;
+    assert!(rt; text.len() <= MAX_PROGRAM);
+    match order_of(rt.alloc(), text.as_slice())? {
+        Err(CausalFault::Cycle(label)) => assert_eq!(rt; label.bytes(), b"x".as_slice()),
+        _ => return Err("a cycle is let through".into()),
+    }
+    Ok(())
+}
+
+/// Main has so many inputs, of which the sensors stand after so many others.
+fn many_sensors(alloc: Global, others: usize, inputs: usize) -> Result<Vec<u8>, AllocError>
+    requires { 1 ≤ inputs }
+{
+    let mut text = Vec::from_slice(alloc, b"actuator o wcet 1;".as_slice())?;
+    for k in 0..others {
+        text.extend_from_slice(b"sensor s".as_slice())?;
+        push_number(&mut text, k as u64)?;
+        text.extend_from_slice(b" wcet 1;".as_slice())?;
+    }
+    for k in 0..inputs {
+        text.extend_from_slice(b"sensor i".as_slice())?;
+        push_number(&mut text, k as u64)?;
+        text.extend_from_slice(b" wcet 2;".as_slice())?;
+    }
+    text.extend_from_slice(b"node main (i0".as_slice())?;
+    for k in 1..inputs {
+        text.extend_from_slice(b",i".as_slice())?;
+        push_number(&mut text, k as u64)?;
+    }
+    text.extend_from_slice(b": int rate (10, 0)) returns (o) let o = i0; tel".as_slice())?;
+    Ok(text)
+}
+
+#[test]
+fn sensors_of_many_inputs(rt: HostRuntime) -> Result<(), Fail> {
+    let text = many_sensors(rt.alloc(), 39_000, 4095)?;
+    assert!(rt; text.len() <= MAX_PROGRAM);
+    let flat = flat_of(rt.alloc(), text.as_slice())?;
+    assert_eq!(rt; flat.flows().len(), 4096);
+    assert_eq!(rt; flat.ins().len(), 4095);
+    Ok(())
+}
