@@ -19,7 +19,7 @@ use Rattle.prl_expansion.specs.declared.counts.Next.{Next}
 use Rattle.prl_expansion.specs.declared.nodes.Made.{Made}
 use Rattle.prl_expansion.specs.declared.terms.Term as given
 use Rattle.prl_expansion.specs.code.Adding.{Adds}
-use Rattle.prl_expansion.specs.code.Limits.{IsPast}
+use Rattle.prl_expansion.specs.code.Limits.{IsFew, IsPast}
 use Rattle.prl_expansion.specs.code.Made.{first_type, head_of, operated_flows, operated_given, operated_types, types_of}
 use Rattle.prl_expansion.proofs.Lists.{range_suc}
 use Rattle.prl_expansion.specs.code.Terms.{arg_of, flow_of, flows_of, number_of, operators_made, operators_over, output_terms, outputs_made, placed_at}
@@ -143,8 +143,8 @@ pub placed_types : (at : Span) (ts : List given.Term) → types_of (map (placed_
 placed_types at [] = refl
 placed_types at (t ∷ ts) = ap (λ (xs : List Ty). t.ty ∷ xs) (placed_types at ts)
 
-pub below_few : (s t : Next) (n : ℕ) → s ≡ t → t.flow ≤ n → s.flow ≤ n
-below_few s t n e h = subst (λ (x : Next). x.flow ≤ n) (sym e) h
+pub below_few : (s t : Next) → s ≡ t → IsFew t → IsFew s
+below_few s t e h = subst IsFew (sym e) h
 
 module _ (name : List ℕ) (wcet : ℕ) (at : Span) where
   abbrev an_app : List Arg → List ℕ → App
@@ -154,7 +154,7 @@ module _ (name : List ℕ) (wcet : ℕ) (at : Span) where
       → b.flows.items ≡ a.flows.items ++ flows_of (outputs_made app 0 at ports first)
       → outs ≡ output_terms ports first at → outs' ≡ outs → args' ≡ args
       → b.apps.items ≡ a.apps.items ++ record { name = name; wcet = wcet; args = args'; outs = map number_of outs'; at = at } ∷ []
-      → b.next ≡ s → s.flow ≤ 4096
+      → b.next ≡ s → IsFew s
       → Adds a b (output_flows a.next.app 0 at qs (range_with_len a.next.flow (length qs)))
       (record { name = name; wcet = wcet; args = args; outs = map flow_no (range_with_len a.next.flow (length qs)); at = at } ∷ []) s
   import_adds a b args args' qs ports first app outs outs' s p f n flows o o' g apps next_is few = record {
@@ -169,13 +169,13 @@ module _ (name : List ℕ) (wcet : ℕ) (at : Span) where
         ∙ ap (λ x. a.apps.items ++ an_app args x ∷ [])
         (ap (map flow_of) o ∙ output_flows_of ports first at ∙ ap (λ x. range_with_len first (length x)) p ∙ ap (λ x. range_with_len x (length qs)) f);
     next_is = next_is;
-    few = below_few b.next s 4096 next_is few;
+    few = below_few b.next s next_is few;
   }
 
 pub operators_add : (a b : Made) (pre post ops : List PlacedOp) (ty ty' : Ty) (of : List ℕ) (after before : ℕ) (first middle : Option ℕ) (flows : List Flow) (s : Next)
     → ops ≡ reverse pre → ty ≡ ty' → after ≡ a.next.flow → before ≡ a.next.flow + length post → first ≡ head_of of → middle ≡ head_of (last_of of (range_with_len a.next.flow (length post)))
     → flows ≡ a.flows.items ++ flows_of (operators_over ty post after first) → b.flows.items ≡ flows ++ flows_of (operators_over ty ops before middle)
-    → b.apps.items ≡ a.apps.items → b.next ≡ s → s.flow ≤ 4096
+    → b.apps.items ≡ a.apps.items → b.next ≡ s → IsFew s
     → Adds a b (operated_flows a.next.flow pre post ty' of) [] s
 operators_add a b pre post ops ty ty' of after before first middle flows s o t f g h m one two apps next_is few =
     let n : ℕ = a.next.flow in
@@ -192,5 +192,5 @@ operators_add a b pre post ops ty ty' of after before first middle flows s o t f
           (operator_flows ty' (reverse pre) (range_with_len (n + length post) (length pre)) (last_of of (range_with_len n (length post))))));
       apps_are = apps ∙ sym (append-nil a.apps.items);
       next_is = next_is;
-      few = below_few b.next s 4096 next_is few;
+      few = below_few b.next s next_is few;
     }

@@ -5,3 +5,4 @@ mod Remaining
 mod Entering
 mod Expanded
 mod Whole
+mod Within

@@ -1,5 +1,5 @@
 -- Lists of expressions and of equations of which some are made.
-use Rattle.std.proofs.Common.{◌≡◌, ◌≤◌, ◌+◌, ℕ, List, [], ◌∷◌, ◌++◌, map, length, refl, sym, ap, ◌∙◌, subst, arith, append_assoc}
+use Rattle.std.proofs.Common.{◌≡◌, ◌+◌, ℕ, List, [], ◌∷◌, ◌++◌, map, length, refl, sym, ap, ◌∙◌, subst, arith, append_assoc}
 use Rattle.std.proofs.lemmas.List.{append-nil, map-append, length-append}
 use Rattle.prl_base.specs.declared.values.Ty.{Ty}
 use Rattle.prl_ast.specs.Trees.{Tree, tree, Trees, none, more, EquationTree, NodeTree, ProgramTree}
@@ -18,7 +18,7 @@ use Rattle.prl_expansion.specs.declared.counts.Next.{Next}
 use Rattle.prl_expansion.specs.declared.nodes.Made.{Made}
 use Rattle.prl_expansion.specs.declared.terms.Term as given_term
 use Rattle.prl_expansion.specs.code.Adding.{Adds}
-use Rattle.prl_expansion.specs.code.Limits.{IsPast}
+use Rattle.prl_expansion.specs.code.Limits.{IsFew, IsPast}
 use Rattle.prl_expansion.specs.code.Made.{a_part, all_parts, all_resolved, the_rights, types_given, types_of}
 use Rattle.prl_expansion.specs.code.Numbering.{past, past_part, past_parts, past_rights}
 use Rattle.prl_expansion.specs.code.Terms.{arg_of, flow_of, flows_of}
@@ -74,9 +74,9 @@ module _ (p : ProgramTree) (tys : Types) (levels k : ℕ) (env : List ℕ) where
     pub flows : m.flows.items ++ flows_of (flows_left ts m.next) ≡ m₀.flows.items ++ flows_of (flows_left all m₀.next)
     pub apps : m.apps.items ++ apps_left ts m.next ≡ m₀.apps.items ++ apps_left all m₀.next
     pub numbers : past_parts m.next (all_parts p levels ts m.next) ≡ past_parts m₀.next (all_parts p levels all m₀.next)
-    pub few : m.next.flow ≤ 4096
+    pub few : IsFew m.next
 
-  pub parts_begun : (list : List given_term.Term) (m : Made) (ts : Trees) → list ≡ [] → m.next.flow ≤ 4096 → PartsLeft list m m ts ts
+  pub parts_begun : (list : List given_term.Term) (m : Made) (ts : Trees) → list ≡ [] → IsFew m.next → PartsLeft list m m ts ts
   parts_begun list m ts e few = record {
     args = ap (λ xs. map arg_of xs ++ arguments node env ts (all_parts p levels ts m.next)) e;
     types_are = ap (λ xs. types_of xs ++ all_resolved tys (types.all_flows p k ts)) e;
@@ -155,9 +155,9 @@ module _ (p : ProgramTree) (tys : Types) (levels k : ℕ) (env : List ℕ) where
     pub flows : m.flows.items ++ flows_of (right_flows_left es m.next) ≡ m₀.flows.items ++ flows_of (right_flows_left all m₀.next)
     pub apps : m.apps.items ++ right_apps_left es m.next ≡ m₀.apps.items ++ right_apps_left all m₀.next
     pub numbers : past_rights m.next (the_rights p levels es m.next) ≡ past_rights m₀.next (the_rights p levels all m₀.next)
-    pub few : m.next.flow ≤ 4096
+    pub few : IsFew m.next
 
-  pub rights_begun : (pairs : List Pair) (m : Made) (es : List EquationTree) → pairs ≡ [] → m.next.flow ≤ 4096 → RightsLeft pairs m m es es
+  pub rights_begun : (pairs : List Pair) (m : Made) (es : List EquationTree) → pairs ≡ [] → IsFew m.next → RightsLeft pairs m m es es
   rights_begun pairs m es e few = record {
     names = ap (λ xs. pairs_of xs ++ equated node env es (the_rights p levels es m.next)) e;
     flows = refl;

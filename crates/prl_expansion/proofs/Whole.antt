@@ -1,5 +1,5 @@
 -- The flat program of the whole.
-use Rattle.std.proofs.Common.{◌≡◌, ◌+◌, ◌++◌, ◌∷◌, [], ℕ, zero, suc, List, map, length, sym, ap, ◌∙◌, arith}
+use Rattle.std.proofs.Common.{◌≡◌, ◌<◌, ◌+◌, ◌++◌, ◌∷◌, [], ℕ, zero, suc, List, map, length, sym, ap, ◌∙◌, arith}
 use Rattle.std.specs.List.{range_with_len}
 use Rattle.prl_base.specs.declared.numbers.FlowNo.{FlowNo}
 use Rattle.prl_base.specs.declared.values.Ty.{Ty}
@@ -23,6 +23,10 @@ use Rattle.prl_expansion.specs.Expanding.{IsExpandFault}
 use Rattle.prl_expansion.specs.code.Limits.{IsPast}
 use Rattle.prl_expansion.specs.code.Made.{a_node}
 use Rattle.prl_expansion.specs.code.Terms.{flows_of}
+use Rattle.prl_expansion.specs.code.Within.{IsSound, MayApply}
+use Rattle.prl_expansion.proofs.Within.{all_levels}
+use Rattle.prl_ast.specs.InRange.{IsInRange}
+use Rattle.prl_names.specs.Applications.{applies}
 use Rattle.prl_expansion.proofs.Adding.{past_more}
 use Rattle.prl_expansion.proofs.Entering.{variables_past}
 use Rattle.prl_expansion.proofs.Expanded.{first, is_expansion, past_is}
@@ -48,6 +52,15 @@ module _ (p : ProgramTree) (main : ℕ) (tys : List Ty) (right : IsRight p main 
 
   is_named : IsNamed p main
   is_named = named p right.main main right.typed.names
+
+  pub main_there : main < length p.nodes
+  main_there = is_named.main_below
+
+  pub sound_is : IsInRange p → IsSound p
+  sound_is range = record { main = main; named = is_named; range = range }
+
+  pub levels_do : MayApply p (length p.nodes) (λ j. applies p main j)
+  levels_do = all_levels p main main is_named
 
   pub expansion_is : IsExpansion p main whole
   expansion_is = is_expansion p main is_named

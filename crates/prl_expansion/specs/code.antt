@@ -4,3 +4,4 @@ pub mod Numbering
 pub mod Made
 pub mod Adding
 pub mod Variables
+pub mod Within

@@ -27,7 +27,7 @@ impl From<AllocError> for ExpandFault {
 }
 
 /// The most flows of an expansion.
-const MAX_FLOWS: u32 = 4096;
+pub const MAX_FLOWS: u32 = 4096;
 
 /// The numbers of the next flow, the next application and the next node that is entered.
 #[derive(Clone, Copy)]
@@ -36,6 +36,13 @@ pub(crate) struct Next {
     pub app: u32,
     pub node: u32,
 }
+
+/// The first numbers.
+pub(crate) const FIRST: Next = Next {
+    flow: 0,
+    app: 0,
+    node: 0,
+};
 
 /// Takes numbers for so many flows; the first of them.
 pub(crate) fn take_flows(next: &mut Next, count: usize) -> Result<u32, ExpandFault>
@@ -57,33 +64,23 @@ pub(crate) fn take_flows(next: &mut Next, count: usize) -> Result<u32, ExpandFau
 }
 
 /// Takes a number for an application.
-pub(crate) fn take_app(next: &mut Next) -> Result<u32, ExpandFault>
-    ensures app { IfOk result (λ app. app ≡ next.old.app) }
-    ensures next { OnOk result (next.new ≡ record { flow = next.old.flow; app = next.old.app + 1; node = next.old.node }) }
-    ensures limit { IfErr result (IsPast next.old.flow) }
+pub(crate) fn take_app(next: &mut Next) -> u32
+    requires { next.old.app ≤ 4096 }
+    ensures app { result ≡ next.old.app }
+    ensures next { next.new ≡ record { flow = next.old.flow; app = next.old.app + 1; node = next.old.node } }
 {
     let app = next.app;
-    match app.checked_add(1) {
-        Some(more) => {
-            next.app = more;
-            Ok(app)
-        }
-        None => Err(ExpandFault::Memory),
-    }
+    next.app = app + 1;
+    app
 }
 
 /// Takes a number for a node that is entered.
-pub(crate) fn take_node(next: &mut Next) -> Result<u32, ExpandFault>
-    ensures node { IfOk result (λ node. node ≡ next.old.node) }
-    ensures next { OnOk result (next.new ≡ record { flow = next.old.flow; app = next.old.app; node = next.old.node + 1 }) }
-    ensures limit { IfErr result (IsPast next.old.flow) }
+pub(crate) fn take_node(next: &mut Next) -> u32
+    requires { next.old.node ≤ 4096 }
+    ensures node { result ≡ next.old.node }
+    ensures next { next.new ≡ record { flow = next.old.flow; app = next.old.app; node = next.old.node + 1 } }
 {
     let node = next.node;
-    match node.checked_add(1) {
-        Some(more) => {
-            next.node = more;
-            Ok(node)
-        }
-        None => Err(ExpandFault::Memory),
-    }
+    next.node = node + 1;
+    node
 }

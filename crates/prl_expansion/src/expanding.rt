@@ -13,8 +13,8 @@ ghost use Rattle.prl_expand.specs.Flats.{devices_of, flow_no, sensors_from, wcet
 ghost use Rattle.prl_expansion.specs.Expanding.{IsExpanded, IsExpandFault};
 ghost use Rattle.prl_expansion.specs.code.Variables.{def_of};
 
-use crate::counts::{ExpandFault, Next, take_flows};
-use crate::nodes::{Made, enter};
+use crate::counts::{ExpandFault, FIRST, take_flows};
+use crate::nodes::{Made, enter, node_at};
 use crate::terms::numbers;
 use crate::variables::Source;
 use prl_ast::{Device, Param};
@@ -92,27 +92,18 @@ pub fn expand(alloc: Global, typed: &Typed<'_>) -> Result<Flat, ExpandFault>
     let program = typed.program();
     let main = typed.main() as usize;
     let names = Names::new(alloc, program)?;
-    let nodes = program.nodes.as_slice();
-    if main >= nodes.len() || nodes.len() > 65536 {
-        return Err(ExpandFault::Memory);
-    }
-    let node = &nodes[main];
+    let node = node_at(program, main);
     let inputs = node.ins.len();
-    let next = Next {
-        flow: 0,
-        app: 0,
-        node: 0,
-    };
-    let mut counted = next;
+    let mut counted = FIRST;
     take_flows(&mut counted, inputs)?;
     let mut made = Made {
         flows: Vec::new(alloc),
         apps: Vec::new(alloc),
-        next,
+        next: FIRST,
     };
     let label = Label::new(alloc, b"")?;
     let sources = sensors(alloc, inputs)?;
-    let levels = nodes.len() as u32;
+    let levels = program.nodes.len() as u32;
     let outs = enter(
         alloc, typed, &names, levels, main, &label, sources, &mut made,
     )?;

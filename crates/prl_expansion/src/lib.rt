@@ -9,5 +9,5 @@ mod nodes;
 mod terms;
 mod variables;
 
-pub use counts::ExpandFault;
+pub use counts::{ExpandFault, MAX_FLOWS};
 pub use expanding::expand;

@@ -1,11 +1,12 @@
 //! Nodes that are entered, and their expressions.
 
-ghost use Rattle.std.specs.Prelude.{◌≡◌, ◌≤◌, ◌<◌, ◌+◌, ◌++◌, ◌∷◌, [], ℕ, List, false, true, length, map, slice_get, IfOk, IfErr, OnOk};
+ghost use Rattle.std.specs.Prelude.{◌≡◌, ◌≤◌, ◌<◌, ◌+◌, ◌++◌, ◌∷◌, [], ℕ, List, Some, false, true, length, map, slice_get, IfOk, IfErr, OnOk};
 ghost use Rattle.std.specs.List.{range_with_len};
 ghost use Rattle.prl_base.specs.Values.{type_of};
-ghost use Rattle.prl_ast.specs.Trees.{const, equation_tree, program_tree, root_of, tree_of};
+ghost use Rattle.prl_ast.specs.Trees.{const, equation_tree, node_tree, program_tree, root_of, tree_of};
 ghost use Rattle.prl_ast.specs.declared.declarations.Port.{Port};
 ghost use Rattle.prl_names.specs.ExprLists.{all_trees};
+ghost use Rattle.prl_names.specs.Applications.{applies};
 ghost use Rattle.prl_names.specs.Lookups.{callee_of};
 ghost use Rattle.prl_types.specs.Flows as types;
 ghost use Rattle.prl_types.specs.Flows.{all_flows, root_flows};
@@ -16,11 +17,12 @@ ghost use Rattle.prl_behaviours.specs.Texts.{node_at};
 ghost use Rattle.prl_expand.specs.Flats as flats;
 ghost use Rattle.prl_expand.specs.Flats.{arguments, constant_flows, entered_flows, equated, flow_no, output_flows, placed};
 ghost use Rattle.prl_expansion.specs.code.Adding.{Adds};
-ghost use Rattle.prl_expansion.specs.code.Limits.{IsPast};
+ghost use Rattle.prl_expansion.specs.code.Limits.{IsFew, IsFewBefore, IsPast};
 ghost use Rattle.prl_expansion.specs.code.Made.{IsInside, a_call, a_core, a_node, a_part, all_parts, all_resolved, called_apps, called_flows, called_given, first_type, head_of, operated_flows, operated_given, operated_types, the_rights, types_given, types_of};
 ghost use Rattle.prl_expansion.specs.code.Numbering.{past_core, past_entered, past_part, past_parts, past_rights};
 ghost use Rattle.prl_expansion.specs.code.Terms.{arg_of, flow_of, flows_of};
 ghost use Rattle.prl_expansion.specs.code.Variables.{def_of, pairs_of};
+ghost use Rattle.prl_expansion.specs.code.Within.{CallFits, EquationsFit, IsSound, MayApply, RootFits, TreeFits, TreesFit};
 
 use crate::counts::{ExpandFault, Next, take_app, take_flows, take_node};
 use crate::flows::{push_app, push_constant, push_operators, push_outputs};
@@ -29,7 +31,7 @@ use crate::variables::{
     Pair, Source, copies_of, label_of_node, outs_of, push_pairs, push_variables, sources_of,
     variables,
 };
-use prl_ast::{Base, Equation, Expr, Import, Node};
+use prl_ast::{Base, Equation, Expr, Import, Node, Program};
 use prl_base::{Label, Name, Span, Ty, Value};
 use prl_flow::{App, Flow};
 use prl_names::{Callee, Names};
@@ -91,7 +93,7 @@ fn operated(
     of: Vec<Term>,
     made: &mut Made,
 ) -> Result<Vec<Term>, ExpandFault>
-    requires { made.old.next.flow ≤ 4096 }
+    requires { IsFew made.old.next }
     ensures args { IfOk result (λ terms. map arg_of terms.items ≡ map (λ i. record { flow = flow_no i; at = expr.now.at }) (operated_given made.old.next.flow expr.now.pre expr.now.post (map flow_of of.items))) }
     ensures types { IfOk result (λ terms. types_of terms.items ≡ operated_types expr.now.pre expr.now.post (types_of of.items)) }
     ensures made { OnOk result (Adds made.old made.new (operated_flows made.old.next.flow expr.now.pre expr.now.post (first_type (types_of of.items)) (map flow_of of.items)) [] (record { flow = (made.old.next.flow + length expr.now.post) + length expr.now.pre; app = made.old.next.app; node = made.old.next.node })) }
@@ -123,7 +125,7 @@ fn constant(
     at: Span,
     made: &mut Made,
 ) -> Result<Vec<Term>, ExpandFault>
-    requires { made.old.next.flow ≤ 4096 }
+    requires { IsFew made.old.next }
     ensures given { IfOk result (λ terms. map flow_of terms.items ≡ made.old.next.flow ∷ []) }
     ensures types { IfOk result (λ terms. types_of terms.items ≡ type_of value ∷ []) }
     ensures made { OnOk result (Adds made.old made.new (constant_flows (const value) made.old.next.flow at) [] (record { flow = made.old.next.flow + 1; app = made.old.next.app; node = made.old.next.node })) }
@@ -135,6 +137,22 @@ fn constant(
     Ok(one_term(alloc, Term { flow, ty, at })?)
 }
 
+/// The node of this index.
+pub(crate) fn node_at(program: &Program, k: usize) -> &Node
+    requires { k < length (program_tree program.now).nodes }
+    ensures { slice_get (program_tree program.now).nodes k ≡ Some (node_tree result.now) }
+{
+    &program.nodes.as_slice()[k]
+}
+
+/// The import of this index.
+fn import_at(program: &Program, k: usize) -> &Import
+    requires { k < length program.now.imports }
+    ensures { slice_get (program_tree program.now).imports k ≡ Some result.now }
+{
+    &program.imports.as_slice()[k]
+}
+
 /// The outputs of an application of an import, after its arguments.
 fn import(
     alloc: Global,
@@ -144,7 +162,8 @@ fn import(
     at: Span,
     made: &mut Made,
 ) -> Result<Vec<Term>, ExpandFault>
-    requires { made.old.next.flow ≤ 4096 }
+    requires few { IsFew made.old.next }
+    requires some { 1 ≤ length import.now.outs }
     ensures given { IfOk result (λ terms. map flow_of terms.items ≡ range_with_len made.old.next.flow (length import.now.outs)) }
     ensures types { IfOk result (λ terms. types_of terms.items ≡ map (λ (q : Port). q.ty) import.now.outs) }
     ensures made { OnOk result (Adds made.old made.new (output_flows made.old.next.app 0 at import.now.outs (range_with_len made.old.next.flow (length import.now.outs))) (record { name = name.now; wcet = import.now.wcet; args = map arg_of args.items; outs = map flow_no (range_with_len made.old.next.flow (length import.now.outs)); at = at } ∷ []) (record { flow = made.old.next.flow + length import.now.outs; app = made.old.next.app + 1; node = made.old.next.node })) }
@@ -152,7 +171,7 @@ fn import(
 {
     let ports = import.outs.as_slice();
     let first = take_flows(&mut made.next, ports.len())?;
-    let app = take_app(&mut made.next)?;
+    let app = take_app(&mut made.next);
     push_outputs(alloc, &mut made.flows, ports, app, first, at)?;
     let outs = outputs(alloc, ports, first, at)?;
     push_app(
@@ -182,7 +201,8 @@ fn expression(
     made: &mut Made,
 ) -> Result<Vec<Term>, ExpandFault>
     requires inside { IsInside names.now typed.now.program typed.now.types k env.now }
-    requires few { made.old.next.flow ≤ 4096 }
+    requires fits { TreeFits (program_tree names.now) levels k depth (tree_of expr.now) }
+    requires few { IsFew made.old.next }
     ensures args { IfOk result (λ terms. map arg_of terms.items ≡ placed (tree_of expr.now) (given (node_at (program_tree names.now) k) (map flow_of env.now) (tree_of expr.now) (a_part (program_tree names.now) levels (tree_of expr.now) made.old.next))) }
     ensures types { IfOk result (λ terms. types_of terms.items ≡ all_resolved typed.now.types (types_given (program_tree names.now) k (tree_of expr.now))) }
     ensures made { OnOk result (Adds made.old made.new (flats.part_flows (program_tree names.now) typed.now.types k (node_at (program_tree names.now) k) (map flow_of env.now) (tree_of expr.now) (a_part (program_tree names.now) levels (tree_of expr.now) made.old.next)) (flats.part_apps (program_tree names.now) (node_at (program_tree names.now) k) (map flow_of env.now) (tree_of expr.now) (a_part (program_tree names.now) levels (tree_of expr.now) made.old.next)) (past_part made.old.next (a_part (program_tree names.now) levels (tree_of expr.now) made.old.next))) }
@@ -210,7 +230,8 @@ fn base(
     made: &mut Made,
 ) -> Result<Vec<Term>, ExpandFault>
     requires inside { IsInside names.now typed.now.program typed.now.types k env.now }
-    requires few { made.old.next.flow ≤ 4096 }
+    requires fits { RootFits (program_tree names.now) levels k depth (root_of base.now) }
+    requires few { IsFew made.old.next }
     ensures given { IfOk result (λ terms. map flow_of terms.items ≡ root_given (node_at (program_tree names.now) k) (map flow_of env.now) (root_of base.now) (a_core (program_tree names.now) levels (root_of base.now) made.old.next)) }
     ensures types { IfOk result (λ terms. types_of terms.items ≡ all_resolved typed.now.types (root_flows (program_tree names.now) k (root_of base.now))) }
     ensures made { OnOk result (Adds made.old made.new (flats.root_flows_of (program_tree names.now) typed.now.types k (node_at (program_tree names.now) k) (map flow_of env.now) (root_of base.now) place (a_core (program_tree names.now) levels (root_of base.now) made.old.next)) (flats.root_apps (program_tree names.now) (node_at (program_tree names.now) k) (map flow_of env.now) (root_of base.now) place (a_core (program_tree names.now) levels (root_of base.now) made.old.next)) (past_core made.old.next (a_core (program_tree names.now) levels (root_of base.now) made.old.next))) }
@@ -220,10 +241,7 @@ fn base(
         Base::Const(value) => constant(alloc, *value, place, made),
         Base::Var(name) => {
             let index = names.param(k as usize, name.bytes());
-            match variable(env, index) {
-                Some(term) => Ok(one_term(alloc, term)?),
-                None => Err(ExpandFault::Memory),
-            }
+            Ok(one_term(alloc, variable(env, index))?)
         }
         Base::Apply { name, at, args } => {
             let args = parts(alloc, typed, names, levels, k, env, depth, args, made)?;
@@ -247,15 +265,13 @@ fn parts(
     made: &mut Made,
 ) -> Result<Vec<Term>, ExpandFault>
     requires inside { IsInside names.now typed.now.program typed.now.types k env.now }
-    requires few { made.old.next.flow ≤ 4096 }
+    requires fits { TreesFit (program_tree names.now) levels k depth (all_trees exprs.now) }
+    requires few { IsFew made.old.next }
     ensures args { IfOk result (λ terms. map arg_of terms.items ≡ arguments (node_at (program_tree names.now) k) (map flow_of env.now) (all_trees exprs.now) (all_parts (program_tree names.now) levels (all_trees exprs.now) made.old.next)) }
     ensures types { IfOk result (λ terms. types_of terms.items ≡ all_resolved typed.now.types (all_flows (program_tree names.now) k (all_trees exprs.now))) }
     ensures made { OnOk result (Adds made.old made.new (flats.all_flows (program_tree names.now) typed.now.types k (node_at (program_tree names.now) k) (map flow_of env.now) (all_trees exprs.now) (all_parts (program_tree names.now) levels (all_trees exprs.now) made.old.next)) (flats.all_apps (program_tree names.now) (node_at (program_tree names.now) k) (map flow_of env.now) (all_trees exprs.now) (all_parts (program_tree names.now) levels (all_trees exprs.now) made.old.next)) (past_parts made.old.next (all_parts (program_tree names.now) levels (all_trees exprs.now) made.old.next))) }
     ensures limit { IfErr result (IsPast (made.old.next.flow + length (parts_flows (all_parts (program_tree names.now) levels (all_trees exprs.now) made.old.next)))) }
 {
-    if depth == 0 {
-        return Err(ExpandFault::Memory);
-    }
     let mut list = Vec::new(alloc);
     for expr in exprs {
         let mut terms = expression(alloc, typed, names, levels, k, env, depth - 1, expr, made)?;
@@ -278,7 +294,9 @@ fn apply(
     made: &mut Made,
 ) -> Result<Vec<Term>, ExpandFault>
     requires names { names.now ≡ typed.now.program }
-    requires few { made.old.next.flow ≤ 4096 }
+    requires sound { IsSound (program_tree names.now) }
+    requires fits { CallFits (program_tree names.now) levels name.now }
+    requires few { IsFew made.old.next }
     ensures given { IfOk result (λ terms. map flow_of terms.items ≡ called_given (callee_of (program_tree names.now) name.now) (a_call (program_tree names.now) levels (callee_of (program_tree names.now) name.now) made.old.next)) }
     ensures types { IfOk result (λ terms. types_of terms.items ≡ all_resolved typed.now.types (types.outputs_of (program_tree names.now) (callee_of (program_tree names.now) name.now))) }
     ensures made { OnOk result (Adds made.old made.new (called_flows (program_tree names.now) typed.now.types (callee_of (program_tree names.now) name.now) name.now at (map flow_of args.items) (a_call (program_tree names.now) levels (callee_of (program_tree names.now) name.now) made.old.next)) (called_apps (program_tree names.now) (callee_of (program_tree names.now) name.now) name.now at (map arg_of args.items) (a_call (program_tree names.now) levels (callee_of (program_tree names.now) name.now) made.old.next)) (past_core made.old.next (a_call (program_tree names.now) levels (callee_of (program_tree names.now) name.now) made.old.next))) }
@@ -286,22 +304,15 @@ fn apply(
 {
     match names.callee(name.bytes()) {
         Some(Callee::Import(k)) => {
-            let imports = names.program().imports.as_slice();
-            if k >= imports.len() {
-                return Err(ExpandFault::Memory);
-            }
-            import(alloc, name, &imports[k], args, at, made)
+            import(alloc, name, import_at(names.program(), k), args, at, made)
         }
         Some(Callee::Node(k)) => {
-            if levels == 0 {
-                return Err(ExpandFault::Memory);
-            }
-            let number = take_node(&mut made.next)?;
+            let number = take_node(&mut made.next);
             let label = label_of_node(alloc, name, number)?;
             let sources = copies_of(alloc, args.as_slice())?;
             enter(alloc, typed, names, levels - 1, k, &label, sources, made)
         }
-        None => Err(ExpandFault::Memory),
+        None => unreachable!(),
     }
 }
 
@@ -318,7 +329,8 @@ fn equations<'a>(
     made: &mut Made,
 ) -> Result<Vec<Pair<'a>>, ExpandFault>
     requires inside { IsInside names.now typed.now.program typed.now.types k env.now }
-    requires few { made.old.next.flow ≤ 4096 }
+    requires fits { EquationsFit (program_tree names.now) levels k (map equation_tree eqs.now) }
+    requires few { IsFew made.old.next }
     ensures pairs { IfOk result (λ pairs. pairs_of pairs.items ≡ equated (node_at (program_tree names.now) k) (map flow_of env.now) (map equation_tree eqs.now) (the_rights (program_tree names.now) levels (map equation_tree eqs.now) made.old.next)) }
     ensures made { OnOk result (Adds made.old made.new (flats.right_flows (program_tree names.now) typed.now.types k (node_at (program_tree names.now) k) (map flow_of env.now) (map equation_tree eqs.now) (the_rights (program_tree names.now) levels (map equation_tree eqs.now) made.old.next)) (flats.right_apps (program_tree names.now) (node_at (program_tree names.now) k) (map flow_of env.now) (map equation_tree eqs.now) (the_rights (program_tree names.now) levels (map equation_tree eqs.now) made.old.next)) (past_rights made.old.next (the_rights (program_tree names.now) levels (map equation_tree eqs.now) made.old.next))) }
     ensures limit { IfErr result (IsPast (made.old.next.flow + length (right_flows (the_rights (program_tree names.now) levels (map equation_tree eqs.now) made.old.next)))) }
@@ -354,17 +366,17 @@ pub(crate) fn enter(
     made: &mut Made,
 ) -> Result<Vec<Term>, ExpandFault>
     requires names { names.now ≡ typed.now.program }
-    requires few { made.old.next.flow ≤ 4096 }
+    requires sound { IsSound (program_tree names.now) }
+    requires there { k < length (program_tree names.now).nodes }
+    requires small { k < 256 }
+    requires levels { MayApply (program_tree names.now) levels (λ j. applies (program_tree names.now) k j) }
+    requires few { IsFewBefore made.old.next }
     ensures given { IfOk result (λ terms. map flow_of terms.items ≡ outputs_of (a_node (program_tree names.now) levels k made.old.next)) }
     ensures types { IfOk result (λ terms. types_of terms.items ≡ all_resolved typed.now.types (types.node_outputs (first_of (program_tree names.now) k) (slice_get (program_tree names.now).nodes k))) }
     ensures made { OnOk result (Adds made.old made.new (entered_flows (program_tree names.now) typed.now.types label.now k (map def_of sources.items) (a_node (program_tree names.now) levels k made.old.next)) (flats.entered_apps (program_tree names.now) k (a_node (program_tree names.now) levels k made.old.next)) (past_entered made.old.next (a_node (program_tree names.now) levels k made.old.next))) }
     ensures limit { IfErr result (IsPast (made.old.next.flow + length (flows_in (a_node (program_tree names.now) levels k made.old.next)))) }
 {
-    let nodes = names.program().nodes.as_slice();
-    if k >= nodes.len() || k >= 65536 {
-        return Err(ExpandFault::Memory);
-    }
-    let node = &nodes[k];
+    let node = node_at(names.program(), k);
     let number = k as u32;
     let first = made.next.flow;
     take_variables(&mut made.next, node)?;

@@ -1,6 +1,6 @@
 //! The flows that an expression gives.
 
-ghost use Rattle.std.specs.Prelude.{◌≡◌, ◌≤◌, ◌+◌, ◌∷◌, [], ℕ, Some, length, map, reverse, slice_get, IfOk, IfSome};
+ghost use Rattle.std.specs.Prelude.{◌≡◌, ◌<◌, ◌≤◌, ◌+◌, ◌∷◌, [], ℕ, Some, length, map, reverse, slice_get, IfOk, IfSome};
 ghost use Rattle.prl_expansion.specs.code.Terms.{arg_of, number_of, output_terms, placed_at};
 
 use prl_ast::{PlacedOp, Port};
@@ -80,13 +80,14 @@ pub(crate) fn outputs(
     Ok(terms)
 }
 
-/// The flow of a variable of this index; none where there is no such variable.
-pub(crate) fn variable(variables: &[Term], index: Option<usize>) -> Option<Term>
-    ensures { IfSome result (λ term. (k : ℕ) × (index ≡ Some k) × (slice_get variables.now k ≡ Some term)) }
+/// The flow of the variable of this index.
+pub(crate) fn variable(variables: &[Term], index: Option<usize>) -> Term
+    requires { (k : ℕ) × (index ≡ Some k) × (k < length variables.now) }
+    ensures { (k : ℕ) × (index ≡ Some k) × (slice_get variables.now k ≡ Some result) }
 {
     match index {
-        Some(k) => variables.get(k).copied(),
-        None => None,
+        Some(k) => variables[k],
+        None => unreachable!(),
     }
 }
 

@@ -1,9 +1,10 @@
 -- What a step adds to what is made.
-use Rattle.std.specs.Prelude.{◌≡◌, ◌≤◌, ◌++◌, List}
+use Rattle.std.specs.Prelude.{◌≡◌, ◌++◌, List}
 use Rattle.prl_flow.specs.declared.programs.App.{App}
 use Rattle.prl_expand.specs.Flats.{Numbered}
 use Rattle.prl_expansion.specs.declared.counts.Next.{Next}
 use Rattle.prl_expansion.specs.declared.nodes.Made.{Made}
+use Rattle.prl_expansion.specs.code.Limits.{IsFew}
 use Rattle.prl_expansion.specs.code.Terms.{flows_of}
 
 -- these flows and applications are added, and then these numbers are next
@@ -11,4 +12,4 @@ pub record Adds (old new : Made) (flows : List Numbered) (apps : List App) (next
   pub flows_are : new.flows.items ≡ old.flows.items ++ flows_of flows
   pub apps_are : new.apps.items ≡ old.apps.items ++ apps
   pub next_is : new.next ≡ next
-  pub few : new.next.flow ≤ 4096
+  pub few : IsFew new.next

@@ -22,6 +22,7 @@ use Rattle.prl_behaviours.specs.Texts.{node_at, node_of}
 use Rattle.prl_expand.specs.Flats.{Numbered, Types, copy_of, entered_apps, entered_flows, flow_no, import_at, label_of_node, operator_flows, output_flows, ports_of, resolved, wcet_of}
 use Rattle.prl_expansion.specs.declared.counts.Next.{Next}
 use Rattle.prl_expansion.specs.declared.terms.Term as given
+use Rattle.prl_expansion.specs.code.Within.{IsSound}
 use Rattle.prl_expansion.specs.code.Numbering.{all_from, called, entered_from, node_from, part_from, rights_from, root_from}
 
 abbrev pub all_resolved : Types → List Term → List Ty
@@ -40,6 +41,7 @@ have_types p tys k count = all_resolved tys (parameters_from (first_of p k) coun
 -- the names are those of the program, and these are the variables of its node
 pub record IsInside (named typed : Program) (tys : Types) (k : ℕ) (env : List given.Term) : Type 0 where
   pub same : named ≡ typed
+  pub sound : IsSound (program_tree named)
   pub there : (n : NodeTree) × (slice_get (program_tree named).nodes k ≡ Some n)
   pub count : length env ≡ length (params_of (node_at (program_tree named) k))
   pub types : types_of env ≡ have_types (program_tree named) tys k (length env)

@@ -1,7 +1,6 @@
-use Rattle.std.proofs.Common.{◌≡◌, ◌≤◌, ◌+◌, ◌++◌, [], ◌∙◌, Some, ap, arith, length, map, refl, slice_get, subst, sym}
+use Rattle.std.proofs.Common.{◌≡◌, ◌<◌, ◌≤◌, ◌+◌, ◌++◌, [], ◌∙◌, Some, ap, arith, length, map, slice_get, subst, sym}
 use Rattle.std.specs.List.{range_with_len}
 use Rattle.std.proofs.lemmas.List.{length-map}
-use Rattle.std.proofs.lemmas.Option.{slice_get_read}
 use Rattle.prl_ast.specs.declared.declarations.Program.{Program}
 use Rattle.prl_ast.specs.Trees.{node_tree, program_tree}
 use Rattle.prl_flow.specs.Programs.{IsFlat}
@@ -18,10 +17,12 @@ use Rattle.prl_expansion.specs.code.Limits.{IsPast}
 use Rattle.prl_expansion.specs.code.Made.{a_node}
 use Rattle.prl_expansion.specs.code.Terms.{flows_of, number_of}
 use Rattle.prl_expansion.specs.code.Variables.{def_of}
+use Rattle.prl_expansion.specs.code.Within.{IsSound, MayApply}
+use Rattle.prl_names.specs.Applications.{applies}
 use Rattle.prl_expansion.proofs.Adding.{numbers_are}
 use Rattle.prl_expansion.proofs.Expanded.{first}
-use Rattle.prl_expansion.proofs.Expressions.{err_and, get_map}
-use Rattle.prl_expansion.proofs.Whole.{expansion_is, fault_is, flat_is, inputs_fault, whole}
+use Rattle.prl_expansion.proofs.Expressions.{err_and}
+use Rattle.prl_expansion.proofs.Whole.{expansion_is, fault_is, flat_is, inputs_fault, levels_do, main_there, sound_is, whole}
 use Rattle.prl_expansion.proofs.expanding.expand.Goals as goal
 
 pub returns-in_err-take_flows-clause-fault : goal.returns-in_err-take_flows-clause-fault
@@ -30,18 +31,10 @@ returns-in_err-take_flows-clause-fault c =
     let tys = c.args.typed.now.types in
     let main = c.args.typed.now.main in
     let right = c.main-main.ensures.right in
-    let node = c.index-nodes-main.result in
-    let d = node_tree node in
-    let listed = c.as_slice-nodes.ensures ∙ ap (λ (x : Program). x.nodes) c.program-program.ensures in
+    let d = node_tree c.node_at-node.result.now in
     let main_is = c.main-main.ensures.main in
-    let found : slice_get p.nodes main ≡ Some d = get_map node_tree c.args.typed.now.program.nodes main node
-    (ap (slice_get c.args.typed.now.program.nodes) (sym main_is) ∙ ap (λ xs. slice_get xs c.main-main.result) (sym listed)
-    ∙ slice_get_read c.as_slice-nodes.result.now (length c.as_slice-nodes.result.now) c.main-main.result node refl (omega (arith, c.if-main-nodes.false)) c.index-nodes-main.is) in
+    let found : slice_get p.nodes main ≡ Some d = ap (slice_get p.nodes) (sym main_is) ∙ ap (λ (x : Program). slice_get (program_tree x).nodes c.main-main.result) (sym c.program-program.ensures) ∙ c.node_at-node.ensures in
     let is : node_at p main ≡ d = ap node_or found in
-    let program_is = c.in_ok-names.ensures ∙ c.program-program.ensures in
-    let levels_are : length c.as_slice-nodes.result.now ≡ length p.nodes = ap length listed ∙ sym (length-map c.args.typed.now.program.nodes node_tree) in
-    let lv = length c.as_slice-nodes.result.now in
-    let m = c.main-main.result in
     let past = inputs_fault p main tys right c.in_err-take_flows.field-0.0 d c.len-inputs.result is c.len-inputs.ensures c.in_err-take_flows.ensures.limit in
     err_and c.from_residual-in_err-take_flows.result _ _ (λ x same. subst (λ y. IsExpandFault p main y) (sym same) past) c.from_residual-in_err-take_flows.ensures.1
 
@@ -51,17 +44,13 @@ returns-in_err-outs-clause-fault c =
     let tys = c.args.typed.now.types in
     let main = c.args.typed.now.main in
     let right = c.main-main.ensures.right in
-    let node = c.index-nodes-main.result in
-    let d = node_tree node in
-    let listed = c.as_slice-nodes.ensures ∙ ap (λ (x : Program). x.nodes) c.program-program.ensures in
+    let d = node_tree c.node_at-node.result.now in
     let main_is = c.main-main.ensures.main in
-    let found : slice_get p.nodes main ≡ Some d = get_map node_tree c.args.typed.now.program.nodes main node
-    (ap (slice_get c.args.typed.now.program.nodes) (sym main_is) ∙ ap (λ xs. slice_get xs c.main-main.result) (sym listed)
-    ∙ slice_get_read c.as_slice-nodes.result.now (length c.as_slice-nodes.result.now) c.main-main.result node refl (omega (arith, c.if-main-nodes.false)) c.index-nodes-main.is) in
+    let found : slice_get p.nodes main ≡ Some d = ap (slice_get p.nodes) (sym main_is) ∙ ap (λ (x : Program). slice_get (program_tree x).nodes c.main-main.result) (sym c.program-program.ensures) ∙ c.node_at-node.ensures in
     let is : node_at p main ≡ d = ap node_or found in
     let program_is = c.in_ok-names.ensures ∙ c.program-program.ensures in
-    let levels_are : length c.as_slice-nodes.result.now ≡ length p.nodes = ap length listed ∙ sym (length-map c.args.typed.now.program.nodes node_tree) in
-    let lv = length c.as_slice-nodes.result.now in
+    let levels_are : c.len-levels.result ≡ length p.nodes = c.len-levels.ensures ∙ ap (λ (x : Program). length x.nodes) c.program-program.ensures ∙ sym (length-map c.args.typed.now.program.nodes node_tree) in
+    let lv = c.len-levels.result in
     let m = c.main-main.result in
     let N = c.in_ok-names.names in
     let whole_is = ap (λ pr. a_node (program_tree pr) lv m first) program_is ∙ ap (λ n. a_node p n m first) levels_are ∙ ap (λ k. a_node p (length p.nodes) k first) main_is in
@@ -74,17 +63,13 @@ new-requires-9 c =
     let tys = c.args.typed.now.types in
     let main = c.args.typed.now.main in
     let right = c.main-main.ensures.right in
-    let node = c.index-nodes-main.result in
-    let d = node_tree node in
-    let listed = c.as_slice-nodes.ensures ∙ ap (λ (x : Program). x.nodes) c.program-program.ensures in
+    let d = node_tree c.node_at-node.result.now in
     let main_is = c.main-main.ensures.main in
-    let found : slice_get p.nodes main ≡ Some d = get_map node_tree c.args.typed.now.program.nodes main node
-    (ap (slice_get c.args.typed.now.program.nodes) (sym main_is) ∙ ap (λ xs. slice_get xs c.main-main.result) (sym listed)
-    ∙ slice_get_read c.as_slice-nodes.result.now (length c.as_slice-nodes.result.now) c.main-main.result node refl (omega (arith, c.if-main-nodes.false)) c.index-nodes-main.is) in
+    let found : slice_get p.nodes main ≡ Some d = ap (slice_get p.nodes) (sym main_is) ∙ ap (λ (x : Program). slice_get (program_tree x).nodes c.main-main.result) (sym c.program-program.ensures) ∙ c.node_at-node.ensures in
     let is : node_at p main ≡ d = ap node_or found in
     let program_is = c.in_ok-names.ensures ∙ c.program-program.ensures in
-    let levels_are : length c.as_slice-nodes.result.now ≡ length p.nodes = ap length listed ∙ sym (length-map c.args.typed.now.program.nodes node_tree) in
-    let lv = length c.as_slice-nodes.result.now in
+    let levels_are : c.len-levels.result ≡ length p.nodes = c.len-levels.ensures ∙ ap (λ (x : Program). length x.nodes) c.program-program.ensures ∙ sym (length-map c.args.typed.now.program.nodes node_tree) in
+    let lv = c.len-levels.result in
     let m = c.main-main.result in
     let N = c.in_ok-names.names in
     let whole_is = ap (λ pr. a_node (program_tree pr) lv m first) program_is ∙ ap (λ n. a_node p n m first) levels_are ∙ ap (λ k. a_node p (length p.nodes) k first) main_is in
@@ -104,7 +89,7 @@ new-requires-9 c =
     let out_devices = c.in_ok-out_devices.ensures ∙ ap (λ ds. devices_of ds c.as_slice-4.result.now) (c.as_slice-3.ensures ∙ ap (λ (x : Program). x.actuators) c.program-program.ensures) ∙ ap (devices_of p.actuators) c.as_slice-4.ensures in
     let flat = flat_is p main tys right c.new-5.result c.new-6.result c.new-7.result c.new-8.result c.in_ok-in_devices.in_devices.items c.in_ok-out_devices.out_devices.items d is flows apps ins outs in_devices out_devices in
     let number : c.enter.new.made.next.flow ≡ 0 + length (flows_in (whole p main tys right)) = ap (λ (x : Next). x.flow) adds.next_is ∙ ap (λ w. 0 + length (flows_in w)) whole_is in
-    let few : length (flows_in (whole p main tys right)) ≤ 4096 = omega (arith, adds.few, number) in
+    let few : length (flows_in (whole p main tys right)) ≤ 4096 = omega (arith, adds.few.flows, number) in
     subst IsFlat (sym flat) (c.flats_are_well_formed.ensures p right.main main tys (whole p main tys right) c.main-main.ensures.range right.typed (expansion_is p main tys right) few)
 
 pub returns-clause-exact : goal.returns-clause-exact
@@ -113,17 +98,13 @@ returns-clause-exact c =
     let tys = c.args.typed.now.types in
     let main = c.args.typed.now.main in
     let right = c.main-main.ensures.right in
-    let node = c.index-nodes-main.result in
-    let d = node_tree node in
-    let listed = c.as_slice-nodes.ensures ∙ ap (λ (x : Program). x.nodes) c.program-program.ensures in
+    let d = node_tree c.node_at-node.result.now in
     let main_is = c.main-main.ensures.main in
-    let found : slice_get p.nodes main ≡ Some d = get_map node_tree c.args.typed.now.program.nodes main node
-    (ap (slice_get c.args.typed.now.program.nodes) (sym main_is) ∙ ap (λ xs. slice_get xs c.main-main.result) (sym listed)
-    ∙ slice_get_read c.as_slice-nodes.result.now (length c.as_slice-nodes.result.now) c.main-main.result node refl (omega (arith, c.if-main-nodes.false)) c.index-nodes-main.is) in
+    let found : slice_get p.nodes main ≡ Some d = ap (slice_get p.nodes) (sym main_is) ∙ ap (λ (x : Program). slice_get (program_tree x).nodes c.main-main.result) (sym c.program-program.ensures) ∙ c.node_at-node.ensures in
     let is : node_at p main ≡ d = ap node_or found in
     let program_is = c.in_ok-names.ensures ∙ c.program-program.ensures in
-    let levels_are : length c.as_slice-nodes.result.now ≡ length p.nodes = ap length listed ∙ sym (length-map c.args.typed.now.program.nodes node_tree) in
-    let lv = length c.as_slice-nodes.result.now in
+    let levels_are : c.len-levels.result ≡ length p.nodes = c.len-levels.ensures ∙ ap (λ (x : Program). length x.nodes) c.program-program.ensures ∙ sym (length-map c.args.typed.now.program.nodes node_tree) in
+    let lv = c.len-levels.result in
     let m = c.main-main.result in
     let N = c.in_ok-names.names in
     let whole_is = ap (λ pr. a_node (program_tree pr) lv m first) program_is ∙ ap (λ n. a_node p n m first) levels_are ∙ ap (λ k. a_node p (length p.nodes) k first) main_is in
@@ -143,7 +124,7 @@ returns-clause-exact c =
     let out_devices = c.in_ok-out_devices.ensures ∙ ap (λ ds. devices_of ds c.as_slice-4.result.now) (c.as_slice-3.ensures ∙ ap (λ (x : Program). x.actuators) c.program-program.ensures) ∙ ap (devices_of p.actuators) c.as_slice-4.ensures in
     let flat = flat_is p main tys right c.new-5.result c.new-6.result c.new-7.result c.new-8.result c.in_ok-in_devices.in_devices.items c.in_ok-out_devices.out_devices.items d is flows apps ins outs in_devices out_devices in
     let number : c.enter.new.made.next.flow ≡ 0 + length (flows_in (whole p main tys right)) = ap (λ (x : Next). x.flow) adds.next_is ∙ ap (λ w. 0 + length (flows_in w)) whole_is in
-    let few : length (flows_in (whole p main tys right)) ≤ 4096 = omega (arith, adds.few, number) in
+    let few : length (flows_in (whole p main tys right)) ≤ 4096 = omega (arith, adds.few.flows, number) in
     record { expansion = whole p main tys right; is = expansion_is p main tys right; few = few; flat_is = c.new-9.ensures ∙ flat }
 
 pub returns-clause-kept : goal.returns-clause-kept
@@ -152,17 +133,13 @@ returns-clause-kept c = λ bodies rows until.
     let tys = c.args.typed.now.types in
     let main = c.args.typed.now.main in
     let right = c.main-main.ensures.right in
-    let node = c.index-nodes-main.result in
-    let d = node_tree node in
-    let listed = c.as_slice-nodes.ensures ∙ ap (λ (x : Program). x.nodes) c.program-program.ensures in
+    let d = node_tree c.node_at-node.result.now in
     let main_is = c.main-main.ensures.main in
-    let found : slice_get p.nodes main ≡ Some d = get_map node_tree c.args.typed.now.program.nodes main node
-    (ap (slice_get c.args.typed.now.program.nodes) (sym main_is) ∙ ap (λ xs. slice_get xs c.main-main.result) (sym listed)
-    ∙ slice_get_read c.as_slice-nodes.result.now (length c.as_slice-nodes.result.now) c.main-main.result node refl (omega (arith, c.if-main-nodes.false)) c.index-nodes-main.is) in
+    let found : slice_get p.nodes main ≡ Some d = ap (slice_get p.nodes) (sym main_is) ∙ ap (λ (x : Program). slice_get (program_tree x).nodes c.main-main.result) (sym c.program-program.ensures) ∙ c.node_at-node.ensures in
     let is : node_at p main ≡ d = ap node_or found in
     let program_is = c.in_ok-names.ensures ∙ c.program-program.ensures in
-    let levels_are : length c.as_slice-nodes.result.now ≡ length p.nodes = ap length listed ∙ sym (length-map c.args.typed.now.program.nodes node_tree) in
-    let lv = length c.as_slice-nodes.result.now in
+    let levels_are : c.len-levels.result ≡ length p.nodes = c.len-levels.ensures ∙ ap (λ (x : Program). length x.nodes) c.program-program.ensures ∙ sym (length-map c.args.typed.now.program.nodes node_tree) in
+    let lv = c.len-levels.result in
     let m = c.main-main.result in
     let N = c.in_ok-names.names in
     let whole_is = ap (λ pr. a_node (program_tree pr) lv m first) program_is ∙ ap (λ n. a_node p n m first) levels_are ∙ ap (λ k. a_node p (length p.nodes) k first) main_is in
@@ -182,6 +159,50 @@ returns-clause-kept c = λ bodies rows until.
     let out_devices = c.in_ok-out_devices.ensures ∙ ap (λ ds. devices_of ds c.as_slice-4.result.now) (c.as_slice-3.ensures ∙ ap (λ (x : Program). x.actuators) c.program-program.ensures) ∙ ap (devices_of p.actuators) c.as_slice-4.ensures in
     let flat = flat_is p main tys right c.new-5.result c.new-6.result c.new-7.result c.new-8.result c.in_ok-in_devices.in_devices.items c.in_ok-out_devices.out_devices.items d is flows apps ins outs in_devices out_devices in
     let number : c.enter.new.made.next.flow ≡ 0 + length (flows_in (whole p main tys right)) = ap (λ (x : Next). x.flow) adds.next_is ∙ ap (λ w. 0 + length (flows_in w)) whole_is in
-    let few : length (flows_in (whole p main tys right)) ≤ 4096 = omega (arith, adds.few, number) in
+    let few : length (flows_in (whole p main tys right)) ≤ 4096 = omega (arith, adds.few.flows, number) in
     subst (λ f. IsOneToOne (Satisfies p main bodies rows until) (IsSolution f bodies rows until) state_in) (sym (c.new-9.ensures ∙ flat))
     (c.behaviours_are_solutions.ensures p right.main main tys (whole p main tys right) right.typed (expansion_is p main tys right) bodies rows until))
+
+pub node_at-node-requires : goal.node_at-node-requires
+node_at-node-requires c =
+    let p = program_tree c.args.typed.now.program in
+    let tys = c.args.typed.now.types in
+    let main = c.args.typed.now.main in
+    let main_is = c.main-main.ensures.main in
+    let below : c.main-main.result < length p.nodes = subst (λ n. n < length p.nodes) (sym main_is) (main_there p main tys c.main-main.ensures.right) in
+    subst (λ (x : Program). c.main-main.result < length (program_tree x).nodes) (sym c.program-program.ensures) below
+
+pub enter-requires-clause-sound : goal.enter-requires-clause-sound
+enter-requires-clause-sound c =
+    let p = program_tree c.args.typed.now.program in
+    let program_is = c.in_ok-names.ensures ∙ c.program-program.ensures in
+    subst (λ x. IsSound (program_tree x)) (sym program_is) (sound_is p c.args.typed.now.main c.args.typed.now.types c.main-main.ensures.right c.main-main.ensures.range)
+
+pub enter-requires-clause-there : goal.enter-requires-clause-there
+enter-requires-clause-there c =
+    let p = program_tree c.args.typed.now.program in
+    let main = c.args.typed.now.main in
+    let main_is = c.main-main.ensures.main in
+    let program_is = c.in_ok-names.ensures ∙ c.program-program.ensures in
+    let below : c.main-main.result < length p.nodes = subst (λ n. n < length p.nodes) (sym main_is) (main_there p main c.args.typed.now.types c.main-main.ensures.right) in
+    subst (λ x. c.main-main.result < length (program_tree x).nodes) (sym program_is) below
+
+pub enter-requires-clause-small : goal.enter-requires-clause-small
+enter-requires-clause-small c =
+    let p = program_tree c.args.typed.now.program in
+    let main = c.args.typed.now.main in
+    let main_is = c.main-main.ensures.main in
+    let below = main_there p main c.args.typed.now.types c.main-main.ensures.right in
+    omega (arith, main_is, below, c.main-main.ensures.range.few)
+
+pub enter-requires-clause-levels : goal.enter-requires-clause-levels
+enter-requires-clause-levels c =
+    let p = program_tree c.args.typed.now.program in
+    let main = c.args.typed.now.main in
+    let main_is = c.main-main.ensures.main in
+    let program_is = c.in_ok-names.ensures ∙ c.program-program.ensures in
+    let levels_are : c.len-levels.result ≡ length p.nodes = c.len-levels.ensures ∙ ap (λ (x : Program). length x.nodes) c.program-program.ensures ∙ sym (length-map c.args.typed.now.program.nodes node_tree) in
+    let all = levels_do p main c.args.typed.now.types c.main-main.ensures.right in
+    let here = subst (λ k. MayApply p (length p.nodes) (λ j. applies p k j)) (sym main_is) all in
+    let many = subst (λ n. MayApply p n (λ j. applies p c.main-main.result j)) (sym levels_are) here in
+    subst (λ x. MayApply (program_tree x) c.len-levels.result (λ j. applies (program_tree x) c.main-main.result j)) (sym program_is) many

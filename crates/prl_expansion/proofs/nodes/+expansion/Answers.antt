@@ -7,6 +7,8 @@ use Rattle.prl_ast.specs.declared.declarations.Program.{Program}
 use Rattle.prl_ast.specs.Trees.{equation_tree, node_tree, program_tree, root_of, tree_of}
 use Rattle.prl_names.specs.ExprLists.{all_trees}
 use Rattle.prl_names.specs.Lookups.{callee_of, param_at, params_of}
+use Rattle.prl_names.specs.Named.{IsKnownRoot}
+use Rattle.prl_names.proofs.Marking.{callee_below}
 use Rattle.prl_names.proofs.Rows.{root_of_Apply, root_of_Group}
 use Rattle.prl_types.proofs.Counting.{drop_trees}
 use Rattle.prl_behaviours.specs.Annotations as notes
@@ -21,25 +23,26 @@ use Rattle.prl_expansion.specs.code.Made.{a_core, a_node, all_parts, all_resolve
 use Rattle.prl_expansion.specs.code.Adding.{Adds}
 use Rattle.prl_expansion.specs.code.Numbering.{past_core, past_entered, past_parts, past_rights}
 use Rattle.prl_expansion.specs.code.Terms.{arg_of, flow_of, flows_of}
+use Rattle.prl_expansion.specs.code.Within.{EquationsFit, RootFits, TreesFit}
 use Rattle.prl_expansion.specs.code.Variables.{copied, def_of, pairs_of}
 use Rattle.prl_expansion.proofs.Adding.{adds_as, below_few}
 use Rattle.prl_expansion.proofs.Entering.{entered_apps, entered_given, entered_made, entered_next, entered_types, equations_past, params_length, variables_past}
-use Rattle.prl_expansion.proofs.Expressions.{apply_given, apply_made, apply_past, args_past, copied_are, drop_equations, err_and, expression_made, get_map, given_numbers, if_err, if_ok, import_apps, import_flows, import_next, import_past, import_types, node_apps, node_flows, node_given, node_next, node_past, on_ok, operators_past, var_given, var_types}
+use Rattle.prl_expansion.proofs.Expressions.{apply_given, apply_made, apply_past, args_past, copied_are, drop_equations, err_and, expression_made, given_numbers, if_err, if_ok, import_apps, import_flows, import_next, import_past, import_types, node_apps, node_flows, node_given, node_next, node_past, on_ok, operators_past, var_given, var_types}
+use Rattle.prl_expansion.proofs.Within.{args_fit, call_fits, node_few, outputs_some, ports_some, variables_few, deep as some_depth, equations_fit, few_nodes, import_below, levels_left, may_apply, parts_fit, right_fits, tree_fits, variable_at}
 use Rattle.prl_expansion.proofs.Remaining.{parts_past, parts_step, rights_step}
 use Rattle.prl_expansion.proofs.nodes.+expansion.Goals as goal
 
-pub apply-returns-else-k-imports-clause-types : goal.apply-returns-else-k-imports-clause-types
-apply-returns-else-k-imports-clause-types t c =
+pub apply-returns-in-Some-Import-clause-types : goal.apply-returns-in-Some-Import-clause-types
+apply-returns-in-Some-Import-clause-types t c =
     let p = program_tree c.args.names.now in
     let o = callee_of p c.args.name.now in
     let is = sym (c.callee.ensures ∙ ap (callee_of p) c.bytes.ensures.bytes) ∙ c.in-Some-Import.is ∙ ap Some c.in-Some-Import.field-0-is in
-    let found = ap (λ xs. slice_get xs c.in-Some-Import.k) (sym (c.as_slice-imports.ensures ∙ ap (λ (x : Program). x.imports) c.program.ensures))
-    ∙ slice_get_read c.as_slice-imports.result.now (length c.as_slice-imports.result.now) c.in-Some-Import.k c.index-imports-k.result refl (omega (arith, c.if-k-imports.false)) c.index-imports-k.is in
-    if_ok c.import.result _ _ (λ terms e. e ∙ import_types p c.args.typed.now.types c.args.levels c.in-Some-Import.k c.index-imports-k.result o c.args.name.now c.args.at [] [] c.args.made.now.next is found)
+    let found = ap (λ (x : Program). slice_get (program_tree x).imports c.in-Some-Import.k) (sym c.program.ensures) ∙ c.import_at.ensures in
+    if_ok c.import.result _ _ (λ terms e. e ∙ import_types p c.args.typed.now.types c.args.levels c.in-Some-Import.k c.import_at.result.now o c.args.name.now c.args.at [] [] c.args.made.now.next is found)
     c.import.ensures.types
 
-pub apply-returns-else-k-imports-clause-made : goal.apply-returns-else-k-imports-clause-made
-apply-returns-else-k-imports-clause-made t c =
+pub apply-returns-in-Some-Import-clause-made : goal.apply-returns-in-Some-Import-clause-made
+apply-returns-in-Some-Import-clause-made t c =
     let p = program_tree c.args.names.now in
     let tys = c.args.typed.now.types in
     let o = callee_of p c.args.name.now in
@@ -47,24 +50,22 @@ apply-returns-else-k-imports-clause-made t c =
     let of = map flow_of c.args.args.items in
     let us = map arg_of c.args.args.items in
     let is = sym (c.callee.ensures ∙ ap (callee_of p) c.bytes.ensures.bytes) ∙ c.in-Some-Import.is ∙ ap Some c.in-Some-Import.field-0-is in
-    let found = ap (λ xs. slice_get xs c.in-Some-Import.k) (sym (c.as_slice-imports.ensures ∙ ap (λ (x : Program). x.imports) c.program.ensures))
-    ∙ slice_get_read c.as_slice-imports.result.now (length c.as_slice-imports.result.now) c.in-Some-Import.k c.index-imports-k.result refl (omega (arith, c.if-k-imports.false)) c.index-imports-k.is in
+    let found = ap (λ (x : Program). slice_get (program_tree x).imports c.in-Some-Import.k) (sym c.program.ensures) ∙ c.import_at.ensures in
     on_ok c.import.result _ _
     (λ adds. adds_as c.args.made.now c.import.new.made _ _ _ _ _ _ adds
-    (import_flows p tys c.args.levels c.in-Some-Import.k c.index-imports-k.result o c.args.name.now c.args.at of us s is found)
-    (import_apps p tys c.args.levels c.in-Some-Import.k c.index-imports-k.result o c.args.name.now c.args.at of us s is found)
-    (import_next p tys c.args.levels c.in-Some-Import.k c.index-imports-k.result o c.args.name.now c.args.at of us s is found))
+    (import_flows p tys c.args.levels c.in-Some-Import.k c.import_at.result.now o c.args.name.now c.args.at of us s is found)
+    (import_apps p tys c.args.levels c.in-Some-Import.k c.import_at.result.now o c.args.name.now c.args.at of us s is found)
+    (import_next p tys c.args.levels c.in-Some-Import.k c.import_at.result.now o c.args.name.now c.args.at of us s is found))
     c.import.ensures.made
 
-pub apply-returns-else-k-imports-clause-limit : goal.apply-returns-else-k-imports-clause-limit
-apply-returns-else-k-imports-clause-limit t c =
+pub apply-returns-in-Some-Import-clause-limit : goal.apply-returns-in-Some-Import-clause-limit
+apply-returns-in-Some-Import-clause-limit t c =
     let p = program_tree c.args.names.now in
     let o = callee_of p c.args.name.now in
     let is = sym (c.callee.ensures ∙ ap (callee_of p) c.bytes.ensures.bytes) ∙ c.in-Some-Import.is ∙ ap Some c.in-Some-Import.field-0-is in
-    let found = ap (λ xs. slice_get xs c.in-Some-Import.k) (sym (c.as_slice-imports.ensures ∙ ap (λ (x : Program). x.imports) c.program.ensures))
-    ∙ slice_get_read c.as_slice-imports.result.now (length c.as_slice-imports.result.now) c.in-Some-Import.k c.index-imports-k.result refl (omega (arith, c.if-k-imports.false)) c.index-imports-k.is in
+    let found = ap (λ (x : Program). slice_get (program_tree x).imports c.in-Some-Import.k) (sym c.program.ensures) ∙ c.import_at.ensures in
     if_err c.import.result _ _
-    (λ x past. subst (λ n. IsPast n x) (import_past p c.args.typed.now.types c.args.levels c.in-Some-Import.k c.index-imports-k.result o c.args.name.now c.args.at [] [] c.args.made.now.next is found) past)
+    (λ x past. subst (λ n. IsPast n x) (import_past p c.args.typed.now.types c.args.levels c.in-Some-Import.k c.import_at.result.now o c.args.name.now c.args.at [] [] c.args.made.now.next is found) past)
     c.import.ensures.limit
 
 pub apply-returns-in_ok-sources-in-Some-Node-clause-given : goal.apply-returns-in_ok-sources-in-Some-Node-clause-given
@@ -72,9 +73,9 @@ apply-returns-in_ok-sources-in-Some-Node-clause-given t c =
     let p = program_tree c.args.names.now in
     let o = callee_of p c.args.name.now in
     let is = sym (c.callee.ensures ∙ ap (callee_of p) c.bytes.ensures.bytes) ∙ c.in-Some-Node.is ∙ ap Some c.in-Some-Node.field-0-is in
-    let deep : 0 < c.args.levels = omega (arith, c.if-levels-eq0.false) in
+    let deep : 0 < c.args.levels = levels_left p c.args.levels c.in-Some-Node.k (c.requires.fits.reach c.in-Some-Node.k is) in
     if_ok c.enter.result _ _
-    (λ terms e. e ∙ ap (λ s. outputs_of (a_node p (c.args.levels - 1) c.in-Some-Node.k s)) c.in_ok-number-in-Some-Node.ensures.next
+    (λ terms e. e ∙ ap (λ s. outputs_of (a_node p (c.args.levels - 1) c.in-Some-Node.k s)) c.take_node-number.ensures.next
     ∙ node_given p c.args.typed.now.types c.args.levels c.in-Some-Node.k o c.args.name.now c.args.at [] [] c.args.made.now.next is deep)
     c.enter.ensures.given
 
@@ -88,12 +89,12 @@ apply-returns-in_ok-sources-in-Some-Node-clause-made t c =
     let of = map flow_of c.args.args.items in
     let us = map arg_of c.args.args.items in
     let is = sym (c.callee.ensures ∙ ap (callee_of p) c.bytes.ensures.bytes) ∙ c.in-Some-Node.is ∙ ap Some c.in-Some-Node.field-0-is in
-    let deep : 0 < c.args.levels = omega (arith, c.if-levels-eq0.false) in
-    let taken = c.in_ok-number-in-Some-Node.ensures.next in
-    let label = c.in_ok-label-in-Some-Node.ensures ∙ ap (flats.label_of_node c.args.name.now) c.in_ok-number-in-Some-Node.ensures.node in
+    let deep : 0 < c.args.levels = levels_left p c.args.levels c.in-Some-Node.k (c.requires.fits.reach c.in-Some-Node.k is) in
+    let taken = c.take_node-number.ensures.next in
+    let label = c.in_ok-label-in-Some-Node.ensures ∙ ap (flats.label_of_node c.args.name.now) c.take_node-number.ensures.node in
     let sources = ap (map def_of) (c.in_ok-sources-in-Some-Node.ensures ∙ ap (map copied) c.as_slice.ensures.value) ∙ copied_are c.args.args.items in
-    let flows = ap (λ l. flats.entered_flows p tys l j (map def_of c.in_ok-sources-in-Some-Node.sources.items) (a_node p (c.args.levels - 1) j c.take_node.new.next)) label
-    ∙ ap (λ ds. flats.entered_flows p tys (flats.label_of_node c.args.name.now s.node) j ds (a_node p (c.args.levels - 1) j c.take_node.new.next)) sources
+    let flows = ap (λ l. flats.entered_flows p tys l j (map def_of c.in_ok-sources-in-Some-Node.sources.items) (a_node p (c.args.levels - 1) j c.take_node-number.new.next)) label
+    ∙ ap (λ ds. flats.entered_flows p tys (flats.label_of_node c.args.name.now s.node) j ds (a_node p (c.args.levels - 1) j c.take_node-number.new.next)) sources
     ∙ ap (λ x. flats.entered_flows p tys (flats.label_of_node c.args.name.now s.node) j (map copy_of of) (a_node p (c.args.levels - 1) j x)) taken
     ∙ node_flows p tys c.args.levels j o c.args.name.now c.args.at of us s is deep in
     let apps = ap (λ x. flats.entered_apps p j (a_node p (c.args.levels - 1) j x)) taken ∙ node_apps p tys c.args.levels j o c.args.name.now c.args.at of us s is deep in
@@ -111,8 +112,8 @@ apply-returns-in_ok-sources-in-Some-Node-clause-limit t c =
     let o = callee_of p c.args.name.now in
     let j = c.in-Some-Node.k in
     let is = sym (c.callee.ensures ∙ ap (callee_of p) c.bytes.ensures.bytes) ∙ c.in-Some-Node.is ∙ ap Some c.in-Some-Node.field-0-is in
-    let deep : 0 < c.args.levels = omega (arith, c.if-levels-eq0.false) in
-    let number = ap (λ (x : Next). x.flow + length (notes.flows_in (a_node p (c.args.levels - 1) j x))) c.in_ok-number-in-Some-Node.ensures.next
+    let deep : 0 < c.args.levels = levels_left p c.args.levels c.in-Some-Node.k (c.requires.fits.reach c.in-Some-Node.k is) in
+    let number = ap (λ (x : Next). x.flow + length (notes.flows_in (a_node p (c.args.levels - 1) j x))) c.take_node-number.ensures.next
     ∙ node_past p c.args.typed.now.types c.args.levels j o c.args.name.now c.args.at [] [] c.args.made.now.next is deep in
     if_err c.enter.result _ _ (λ x past. subst (λ n. IsPast n x) number past) c.enter.ensures.limit
 
@@ -132,30 +133,30 @@ base-returns-in_err-args-in-Apply-clause-limit t c =
     (args_past p tys levels c.args.k env name c.in-Apply.at c.args.place args s c.in_err-args-in-Apply.field-0.0 here) in
     err_and c.from_residual-in_err-args-in-Apply.result _ _ (λ x same. subst (λ y. IsPast (s.flow + length (notes.core_flows (a_core p levels (root_of c.args.base.now) s))) y) (sym same) past) c.from_residual-in_err-args-in-Apply.ensures.1
 
-pub base-returns-in_ok-one_term-in-Some-clause-given : goal.base-returns-in_ok-one_term-in-Some-clause-given
-base-returns-in_ok-one_term-in-Some-clause-given t c =
+pub base-returns-in_ok-one_term-in-Var-clause-given : goal.base-returns-in_ok-one_term-in-Var-clause-given
+base-returns-in_ok-one_term-in-Var-clause-given t c =
     let p = program_tree c.args.names.now in
     let tys = c.args.typed.now.types in
     let env = map flow_of c.args.env.now in
     let levels = c.args.levels in
     let s = c.args.made.now.next in
-    let found = c.in-Some.ensures in
+    let found = c.variable.ensures in
     let is = sym (c.param-index.ensures ∙ ap (param_at p c.args.k) c.bytes.ensures.bytes) ∙ found.1 in
     let root = ap root_of c.in-Var.is in
-    ap (map flow_of) c.in_ok-one_term-in-Some.ensures ∙ var_given p tys c.args.k c.args.env.now c.in-Var.name found.0 c.in-Some.term is found.2 c.requires.inside.there
+    ap (map flow_of) c.in_ok-one_term-in-Var.ensures ∙ var_given p tys c.args.k c.args.env.now c.in-Var.name found.0 c.variable.result is found.2 c.requires.inside.there
     ∙ ap (λ r. root_given (node_at p c.args.k) env r (a_core p levels r s)) (sym root)
 
-pub base-returns-in_ok-one_term-in-Some-clause-types : goal.base-returns-in_ok-one_term-in-Some-clause-types
-base-returns-in_ok-one_term-in-Some-clause-types t c =
+pub base-returns-in_ok-one_term-in-Var-clause-types : goal.base-returns-in_ok-one_term-in-Var-clause-types
+base-returns-in_ok-one_term-in-Var-clause-types t c =
     let p = program_tree c.args.names.now in
     let tys = c.args.typed.now.types in
     let env = map flow_of c.args.env.now in
     let levels = c.args.levels in
     let s = c.args.made.now.next in
-    let found = c.in-Some.ensures in
+    let found = c.variable.ensures in
     let is = sym (c.param-index.ensures ∙ ap (param_at p c.args.k) c.bytes.ensures.bytes) ∙ found.1 in
     let root = ap root_of c.in-Var.is in
-    ap types_of c.in_ok-one_term-in-Some.ensures ∙ var_types p tys c.args.k c.args.env.now c.in-Var.name found.0 c.in-Some.term is found.2 c.requires.inside.types
+    ap types_of c.in_ok-one_term-in-Var.ensures ∙ var_types p tys c.args.k c.args.env.now c.in-Var.name found.0 c.variable.result is found.2 c.requires.inside.types
     ∙ ap (λ r. all_resolved tys (root_flows p c.args.k r)) (sym root)
 
 pub base-returns-in_ok-args-in-Apply-clause-given : goal.base-returns-in_ok-args-in-Apply-clause-given
@@ -281,11 +282,8 @@ enter-returns-in_err-take_variables-clause-limit t c =
     let levels = c.args.levels in
     let k = c.args.k in
     let s = c.args.made.now.next in
-    let node = c.index-nodes-k.result in
-    let d = node_tree node in
-    let found : slice_get p.nodes k ≡ Some d = get_map node_tree c.args.names.now.nodes k node
-    (ap (λ xs. slice_get xs k) (sym (c.as_slice-nodes.ensures ∙ ap (λ (x : Program). x.nodes) c.program.ensures))
-    ∙ slice_get_read c.as_slice-nodes.result.now (length c.as_slice-nodes.result.now) k node refl (omega (arith, c.if-k-nodes.false)) c.index-nodes-k.is) in
+    let d = node_tree c.node_at-node.result.now in
+    let found : slice_get p.nodes k ≡ Some d = ap (λ (x : Program). slice_get (program_tree x).nodes k) (sym c.program.ensures) ∙ c.node_at-node.ensures in
     let is : node_at p k ≡ d = ap node_or found in
     let past = variables_past p tys levels k s d c.in_err-take_variables.field-0.0 is c.in_err-take_variables.ensures.limit in
     err_and c.from_residual.result _ _ (λ x same. subst (λ y. IsPast (s.flow + length (notes.flows_in (a_node p levels k s))) y) (sym same) past) c.from_residual.ensures.1
@@ -297,11 +295,8 @@ enter-variables-requires-clause-node t c =
     let levels = c.args.levels in
     let k = c.args.k in
     let s = c.args.made.now.next in
-    let node = c.index-nodes-k.result in
-    let d = node_tree node in
-    let found : slice_get p.nodes k ≡ Some d = get_map node_tree c.args.names.now.nodes k node
-    (ap (λ xs. slice_get xs k) (sym (c.as_slice-nodes.ensures ∙ ap (λ (x : Program). x.nodes) c.program.ensures))
-    ∙ slice_get_read c.as_slice-nodes.result.now (length c.as_slice-nodes.result.now) k node refl (omega (arith, c.if-k-nodes.false)) c.index-nodes-k.is) in
+    let d = node_tree c.node_at-node.result.now in
+    let found : slice_get p.nodes k ≡ Some d = ap (λ (x : Program). slice_get (program_tree x).nodes k) (sym c.program.ensures) ∙ c.node_at-node.ensures in
     let is : node_at p k ≡ d = ap node_or found in
     subst (λ pr. slice_get (program_tree pr).nodes k ≡ Some d) c.requires.names found
 
@@ -312,11 +307,8 @@ enter-equations-requires t c =
     let levels = c.args.levels in
     let k = c.args.k in
     let s = c.args.made.now.next in
-    let node = c.index-nodes-k.result in
-    let d = node_tree node in
-    let found : slice_get p.nodes k ≡ Some d = get_map node_tree c.args.names.now.nodes k node
-    (ap (λ xs. slice_get xs k) (sym (c.as_slice-nodes.ensures ∙ ap (λ (x : Program). x.nodes) c.program.ensures))
-    ∙ slice_get_read c.as_slice-nodes.result.now (length c.as_slice-nodes.result.now) k node refl (omega (arith, c.if-k-nodes.false)) c.index-nodes-k.is) in
+    let d = node_tree c.node_at-node.result.now in
+    let found : slice_get p.nodes k ≡ Some d = ap (λ (x : Program). slice_get (program_tree x).nodes k) (sym c.program.ensures) ∙ c.node_at-node.ensures in
     let is : node_at p k ≡ d = ap node_or found in
     let count = params_length d in
     let numbers = ap (map flow_of) c.as_slice-terms.ensures.value ∙ c.in_ok-env.ensures.flows ∙ ap (range_with_len s.flow) count in
@@ -324,16 +316,20 @@ enter-equations-requires t c =
     ∙ ap (λ pr. have_types (program_tree pr) tys k (length (params_of d))) (sym c.requires.names) ∙ ap (have_types p tys k) count in
     let many : length c.as_slice-terms.result.now ≡ (length d.ins + length d.outs) + length d.locals =
     sym (length-map c.as_slice-terms.result.now flow_of) ∙ ap length numbers ∙ length-range_with_len s.flow ((length d.ins + length d.outs) + length d.locals) in
-    let few = below_few c.take_variables.new.next _ 4096 c.in_ok-take_variables.ensures.next c.in_ok-take_variables.ensures.few in (
+    let few = variables_few s c.take_variables.new.next d c.in_ok-take_variables.ensures.next c.in_ok-take_variables.ensures.few (outputs_some p k d c.requires.sound found) c.requires.few in (
       omega (arith, c.decreases),
       (
         record {
           same = c.requires.names;
+          sound = c.requires.sound;
           there = (d, found);
           count = many ∙ sym count ∙ ap (λ x. length (params_of x)) (sym is);
           types = types_are ∙ ap (have_types p tys k) (sym many);
         },
-        few,
+        (
+          subst (EquationsFit p levels k) (sym (ap (map equation_tree) c.as_slice-eqs.ensures)) (equations_fit p levels k d c.requires.sound found c.requires.levels),
+          few,
+        ),
       ),
     )
 
@@ -344,11 +340,8 @@ enter-returns-in_err-pairs-clause-limit t c =
     let levels = c.args.levels in
     let k = c.args.k in
     let s = c.args.made.now.next in
-    let node = c.index-nodes-k.result in
-    let d = node_tree node in
-    let found : slice_get p.nodes k ≡ Some d = get_map node_tree c.args.names.now.nodes k node
-    (ap (λ xs. slice_get xs k) (sym (c.as_slice-nodes.ensures ∙ ap (λ (x : Program). x.nodes) c.program.ensures))
-    ∙ slice_get_read c.as_slice-nodes.result.now (length c.as_slice-nodes.result.now) k node refl (omega (arith, c.if-k-nodes.false)) c.index-nodes-k.is) in
+    let d = node_tree c.node_at-node.result.now in
+    let found : slice_get p.nodes k ≡ Some d = ap (λ (x : Program). slice_get (program_tree x).nodes k) (sym c.program.ensures) ∙ c.node_at-node.ensures in
     let is : node_at p k ≡ d = ap node_or found in
     let eqs = ap (map equation_tree) c.as_slice-eqs.ensures in
     let here = subst (λ es. IsPast (c.take_variables.new.next.flow + length (notes.right_flows (the_rights p levels es c.take_variables.new.next))) c.in_err-pairs.field-0.0) eqs c.in_err-pairs.ensures.limit in
@@ -362,11 +355,8 @@ enter-outs_of-requires t c =
     let levels = c.args.levels in
     let k = c.args.k in
     let s = c.args.made.now.next in
-    let node = c.index-nodes-k.result in
-    let d = node_tree node in
-    let found : slice_get p.nodes k ≡ Some d = get_map node_tree c.args.names.now.nodes k node
-    (ap (λ xs. slice_get xs k) (sym (c.as_slice-nodes.ensures ∙ ap (λ (x : Program). x.nodes) c.program.ensures))
-    ∙ slice_get_read c.as_slice-nodes.result.now (length c.as_slice-nodes.result.now) k node refl (omega (arith, c.if-k-nodes.false)) c.index-nodes-k.is) in
+    let d = node_tree c.node_at-node.result.now in
+    let found : slice_get p.nodes k ≡ Some d = ap (λ (x : Program). slice_get (program_tree x).nodes k) (sym c.program.ensures) ∙ c.node_at-node.ensures in
     let is : node_at p k ≡ d = ap node_or found in
     let count = params_length d in
     let numbers = ap (map flow_of) c.as_slice-terms.ensures.value ∙ c.in_ok-env.ensures.flows ∙ ap (range_with_len s.flow) count in
@@ -383,11 +373,8 @@ enter-returns-clause-given t c =
     let levels = c.args.levels in
     let k = c.args.k in
     let s = c.args.made.now.next in
-    let node = c.index-nodes-k.result in
-    let d = node_tree node in
-    let found : slice_get p.nodes k ≡ Some d = get_map node_tree c.args.names.now.nodes k node
-    (ap (λ xs. slice_get xs k) (sym (c.as_slice-nodes.ensures ∙ ap (λ (x : Program). x.nodes) c.program.ensures))
-    ∙ slice_get_read c.as_slice-nodes.result.now (length c.as_slice-nodes.result.now) k node refl (omega (arith, c.if-k-nodes.false)) c.index-nodes-k.is) in
+    let d = node_tree c.node_at-node.result.now in
+    let found : slice_get p.nodes k ≡ Some d = ap (λ (x : Program). slice_get (program_tree x).nodes k) (sym c.program.ensures) ∙ c.node_at-node.ensures in
     let is : node_at p k ≡ d = ap node_or found in
     let count = params_length d in
     let numbers = ap (map flow_of) c.as_slice-terms.ensures.value ∙ c.in_ok-env.ensures.flows ∙ ap (range_with_len s.flow) count in
@@ -404,11 +391,8 @@ enter-returns-clause-types t c =
     let levels = c.args.levels in
     let k = c.args.k in
     let s = c.args.made.now.next in
-    let node = c.index-nodes-k.result in
-    let d = node_tree node in
-    let found : slice_get p.nodes k ≡ Some d = get_map node_tree c.args.names.now.nodes k node
-    (ap (λ xs. slice_get xs k) (sym (c.as_slice-nodes.ensures ∙ ap (λ (x : Program). x.nodes) c.program.ensures))
-    ∙ slice_get_read c.as_slice-nodes.result.now (length c.as_slice-nodes.result.now) k node refl (omega (arith, c.if-k-nodes.false)) c.index-nodes-k.is) in
+    let d = node_tree c.node_at-node.result.now in
+    let found : slice_get p.nodes k ≡ Some d = ap (λ (x : Program). slice_get (program_tree x).nodes k) (sym c.program.ensures) ∙ c.node_at-node.ensures in
     let is : node_at p k ≡ d = ap node_or found in
     let count = params_length d in
     let numbers = ap (map flow_of) c.as_slice-terms.ensures.value ∙ c.in_ok-env.ensures.flows ∙ ap (range_with_len s.flow) count in
@@ -425,11 +409,8 @@ enter-returns-clause-made t c =
     let levels = c.args.levels in
     let k = c.args.k in
     let s = c.args.made.now.next in
-    let node = c.index-nodes-k.result in
-    let d = node_tree node in
-    let found : slice_get p.nodes k ≡ Some d = get_map node_tree c.args.names.now.nodes k node
-    (ap (λ xs. slice_get xs k) (sym (c.as_slice-nodes.ensures ∙ ap (λ (x : Program). x.nodes) c.program.ensures))
-    ∙ slice_get_read c.as_slice-nodes.result.now (length c.as_slice-nodes.result.now) k node refl (omega (arith, c.if-k-nodes.false)) c.index-nodes-k.is) in
+    let d = node_tree c.node_at-node.result.now in
+    let found : slice_get p.nodes k ≡ Some d = ap (λ (x : Program). slice_get (program_tree x).nodes k) (sym c.program.ensures) ∙ c.node_at-node.ensures in
     let is : node_at p k ≡ d = ap node_or found in
     let count = params_length d in
     let numbers = ap (map flow_of) c.as_slice-terms.ensures.value ∙ c.in_ok-env.ensures.flows ∙ ap (range_with_len s.flow) count in
@@ -465,7 +446,7 @@ enter-returns-clause-made t c =
           });
       apps_are = c.in_ok-finish.ensures.apps ∙ ap (λ us. c.args.made.now.apps.items ++ us) (entered_apps p tys levels k s c.equations.new.made.apps.items terms d is numbers apps);
       next_is = c.in_ok-finish.ensures.next ∙ numbers_after;
-      few = below_few c.finish.new.made.next c.equations.new.made.next 4096 c.in_ok-finish.ensures.next adds.few;
+      few = below_few c.finish.new.made.next c.equations.new.made.next c.in_ok-finish.ensures.next adds.few;
     }
 
 pub equations-loop-equation-preserved : goal.equations-loop-equation-preserved
@@ -513,3 +494,154 @@ parts-returns-in_err-terms-clause-limit t c =
     let past = parts_past p c.args.typed.now.types c.args.levels c.args.k (map flow_of c.args.env.now) c.loop-expr.list.items c.loop-expr.made c.args.made.now (tree_of c.expr-item.result) _ _ (all_trees c.args.exprs.now)
     c.in_err-terms.field-0.0 c.loop-expr.invariant rest c.in_err-terms.ensures.limit in
     err_and c.from_residual.result _ _ (λ x same. subst (λ y. IsPast (c.args.made.now.next.flow + length (notes.parts_flows (all_parts p c.args.levels (all_trees c.args.exprs.now) c.args.made.now.next))) y) (sym same) past) c.from_residual.ensures.1
+
+pub apply-import_at-requires : goal.apply-import_at-requires
+apply-import_at-requires t c =
+    let p = program_tree c.args.names.now in
+    let is = sym (c.callee.ensures ∙ ap (callee_of p) c.bytes.ensures.bytes) ∙ c.in-Some-Import.is ∙ ap Some c.in-Some-Import.field-0-is in
+    subst (λ (x : Program). c.in-Some-Import.k < length x.imports) (sym c.program.ensures) (import_below p c.args.name.now c.in-Some-Import.k is)
+
+pub apply-overflow_sub-levels : goal.apply-overflow_sub-levels
+apply-overflow_sub-levels t c =
+    let p = program_tree c.args.names.now in
+    let is = sym (c.callee.ensures ∙ ap (callee_of p) c.bytes.ensures.bytes) ∙ c.in-Some-Node.is ∙ ap Some c.in-Some-Node.field-0-is in
+    let deep : 0 < c.args.levels = levels_left p c.args.levels c.in-Some-Node.k (c.requires.fits.reach c.in-Some-Node.k is) in
+    omega (arith, deep)
+
+pub apply-enter-requires : goal.apply-enter-requires
+apply-enter-requires t c =
+    let p = program_tree c.args.names.now in
+    let levels = c.args.levels in
+    let k = c.in-Some-Node.k in
+    let is = sym (c.callee.ensures ∙ ap (callee_of p) c.bytes.ensures.bytes) ∙ c.in-Some-Node.is ∙ ap Some c.in-Some-Node.field-0-is in
+    let deep : 0 < levels = levels_left p levels k (c.requires.fits.reach k is) in
+    let below = callee_below p c.args.name.now k is in (
+      omega (arith, c.decreases, deep),
+      (
+        c.requires.names,
+        (
+          c.requires.sound,
+          (
+            below,
+            (
+              few_nodes p k c.requires.sound below,
+              (
+                may_apply p levels (levels - 1) k (omega (arith, deep)) (c.requires.fits.reach k is),
+                node_few c.args.made.now.next c.take_node-number.new.next c.take_node-number.ensures.next c.requires.few,
+              ),
+            ),
+          ),
+        ),
+      ),
+    )
+
+pub base-variable-requires : goal.base-variable-requires
+base-variable-requires t c =
+    let p = program_tree c.args.names.now in
+    let k = c.args.k in
+    let name = c.in-Var.name in
+    let known = subst (IsKnownRoot p k) (ap root_of c.in-Var.is) c.requires.fits.known in
+    let there = c.requires.inside.there in
+    let at = variable_at p k name there.0 there.1 known in
+    let few = c.requires.inside.count in
+    let below = at.2 in
+    (at.0, c.param-index.ensures ∙ ap (param_at p k) c.bytes.ensures.bytes ∙ at.1, omega (arith, below, few))
+
+pub base-parts-requires : goal.base-parts-requires
+base-parts-requires t c =
+    let p = program_tree c.args.names.now in
+    let levels = c.args.levels in
+    let name = c.in-Apply.name in
+    let args = all_trees c.in-Apply.args.items in
+    let trees = ap all_trees c.deref.ensures.value in
+    let root = ap root_of c.in-Apply.is ∙ root_of_Apply name c.in-Apply.at c.in-Apply.args in
+    let fits = subst (RootFits p levels c.args.k c.args.depth) root c.requires.fits in (
+      omega (arith, c.decreases),
+      (
+        c.requires.inside,
+        (
+          subst (TreesFit p levels c.args.k c.args.depth) (sym trees) (args_fit p levels c.args.k c.args.depth name c.in-Apply.at args fits),
+          c.requires.few,
+        ),
+      ),
+    )
+
+pub base-apply-requires : goal.base-apply-requires
+base-apply-requires t c =
+    let p = program_tree c.args.names.now in
+    let levels = c.args.levels in
+    let name = c.in-Apply.name in
+    let args = all_trees c.in-Apply.args.items in
+    let root = ap root_of c.in-Apply.is ∙ root_of_Apply name c.in-Apply.at c.in-Apply.args in
+    let fits = subst (RootFits p levels c.args.k c.args.depth) root c.requires.fits in (
+      omega (arith, c.decreases),
+      (
+        c.requires.inside.same,
+        (
+          c.requires.inside.sound,
+          (
+            call_fits p levels c.args.k c.args.depth name c.in-Apply.at args fits,
+            c.in_ok-args-in-Apply.ensures.made.few,
+          ),
+        ),
+      ),
+    )
+
+pub base-parts-requires-in-Group : goal.base-parts-requires-in-Group
+base-parts-requires-in-Group t c =
+    let p = program_tree c.args.names.now in
+    let levels = c.args.levels in
+    let parts = all_trees c.in-Group.exprs.items in
+    let trees = ap all_trees c.deref-in-Group.ensures.value in
+    let root = ap root_of c.in-Group.is ∙ root_of_Group c.in-Group.exprs in
+    let fits = subst (RootFits p levels c.args.k c.args.depth) root c.requires.fits in (
+      omega (arith, c.decreases),
+      (
+        c.requires.inside,
+        (
+          subst (TreesFit p levels c.args.k c.args.depth) (sym trees) (parts_fit p levels c.args.k c.args.depth parts fits),
+          c.requires.few,
+        ),
+      ),
+    )
+
+pub parts-expression-requires : goal.parts-expression-requires
+parts-expression-requires t c =
+    let p = program_tree c.args.names.now in
+    let levels = c.args.levels in
+    let es = c.args.exprs.now in
+    let i = c.loop-expr.expr-index in
+    let found = slice_get_read es (length es) i c.expr-item.result refl c.loop-expr-test.true c.expr-item.is in
+    let deep = some_depth p levels c.args.k c.args.depth (all_trees es) c.requires.fits in (
+      omega (arith, c.decreases, deep),
+      (
+        c.requires.inside,
+        (
+          tree_fits p levels c.args.k c.args.depth es i c.expr-item.result found c.requires.fits,
+          c.loop-expr.invariant.few,
+        ),
+      ),
+    )
+
+pub equations-expression-requires : goal.equations-expression-requires
+equations-expression-requires t c =
+    let p = program_tree c.args.names.now in
+    let es = c.args.eqs.now in
+    let i = c.loop-equation.equation-index in
+    let found = slice_get_read es (length es) i c.equation-item.result refl c.loop-equation-test.true c.equation-item.is in (
+      omega (arith, c.decreases),
+      (
+        c.requires.inside,
+        (
+          right_fits p c.args.levels c.args.k es i c.equation-item.result found c.requires.fits,
+          c.loop-equation.invariant.few,
+        ),
+      ),
+    )
+
+pub apply-import-requires-clause-some : goal.apply-import-requires-clause-some
+apply-import-requires-clause-some t c =
+    let p = program_tree c.args.names.now in
+    let is = sym (c.callee.ensures ∙ ap (callee_of p) c.bytes.ensures.bytes) ∙ c.in-Some-Import.is ∙ ap Some c.in-Some-Import.field-0-is in
+    let found = ap (λ (x : Program). slice_get (program_tree x).imports c.in-Some-Import.k) (sym c.program.ensures) ∙ c.import_at.ensures in
+    ports_some p c.in-Some-Import.k c.import_at.result.now c.requires.sound found

@@ -8,6 +8,7 @@ use Rattle.prl_expansion.specs.code.Made.{first_type, head_of, types_of}
 use Rattle.prl_expansion.specs.code.Terms.{arg_of, flow_of, flows_of, operators_over, placed_at}
 use Rattle.prl_expansion.proofs.Adding.{given_last, no_given, no_types, operators_add, placed_given, placed_types}
 use Rattle.prl_expansion.proofs.Expressions.{next_of}
+use Rattle.prl_expansion.proofs.Within.{more_few}
 use Rattle.prl_expansion.proofs.nodes.operated.Goals as goal
 
 pub returns-then-not-has_operators-clause-args : goal.returns-then-not-has_operators-clause-args
@@ -49,6 +50,7 @@ returns-clause-made c =
     let one = c.in_ok-push_operators.ensures ∙ ap (λ ps. c.args.made.now.flows.items ++ flows_of (operators_over c.first_type-ty.result ps c.in_ok-after.after c.first_flow-first.result)) post in
     let many = ap (λ (x : Next). x.flow) first_taken in
     let wide = ap length pre in
-    let few : (s.flow + length c.args.expr.now.post) + length c.args.expr.now.pre ≤ 4096 = omega (arith, c.in_ok-before.ensures.few, many, wide) in
+    let below : (s.flow + length c.args.expr.now.post) + length c.args.expr.now.pre ≤ 4096 = omega (arith, c.in_ok-before.ensures.few, many, wide) in
+    let few = more_few s (length c.args.expr.now.post) (length c.args.expr.now.pre) below c.requires in
     operators_add c.args.made.now _ c.args.expr.now.pre c.args.expr.now.post c.as_slice-4.result.now _ _ (map flow_of c.args.of.items) c.in_ok-after.after c.in_ok-before.before _ _ _ _
     inner ty c.in_ok-after.ensures.first before first middle one c.in_ok-push_operators-2.ensures refl both_taken few
