@@ -3,3 +3,8 @@ pub mod Negation
 pub mod Reducing
 pub mod Terms
 pub mod Loops
+pub mod Graphs
+pub mod Adjusting
+pub mod Passing
+pub mod Merging
+pub mod Joining

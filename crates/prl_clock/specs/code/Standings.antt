@@ -1,9 +1,9 @@
 -- Where each flow stands after some constraints: the lowest flow that is connected with it, what it is over that, and its clock where it has one.
-use Rattle.std.specs.Prelude.{◌≡◌, ◌≢◌, ◌≤◌, ◌<◌, ◌⊎◌, ℕ, List, [], ◌∷◌, length, Option, Some, None, slice_index_or}
+use Rattle.std.specs.Prelude.{◌≡◌, ◌≢◌, ◌≤◌, ◌<◌, ◌⊎◌, ℕ, pos, List, [], ◌∷◌, length, Option, Some, None, slice_index_or}
 use Rattle.prl_clock.specs.Assignments.{Assignment, tick, MeetsAll, IsConsistent, Joins, Connected}
 use Rattle.prl_clock.specs.Constraints.{Constraint, rated, related, Placed, same_clock}
 use Rattle.prl_clock.specs.Timings.{IsOver}
-use Rattle.prl_clock.specs.code.Composition.{IsComposed, IsComposedPast, IsSmallTiming}
+use Rattle.prl_clock.specs.code.Composition.{HasParts, IsComposed, IsComposedPast, IsSmallTiming}
 use Rattle.prl_clock.specs.declared.standings.Standing.{Standing}
 use Rattle.prl_clock.specs.declared.timings.Timing.{Timing}
 
@@ -16,6 +16,13 @@ standing_at st x = slice_index_or st x (alone x)
 
 abbrev pub root_at : List Standing → ℕ → ℕ
 root_at st x = (standing_at st x).root
+
+-- a timing that some flow has over another
+pub record IsLink (q : Timing) : Type 0 where
+  pub num : ℕ
+  pub is : q.period.num ≡ pos num
+  pub some : 1 ≤ num
+  pub parts : HasParts q
 
 -- a rate of the flow is among the constraints
 abbrev pub IsRated : Constraint → ℕ → Type 0
@@ -75,3 +82,22 @@ pub record IsOnePast (root : ℕ) (q : Timing) (st : List Standing) : Type 0 whe
   pub within : flow < length st
   pub is : root_at st flow ≡ root
   pub past : IsComposedPast (standing_at st flow).over q
+
+-- The constraints, of which the last joins two flows that stood over different ones. `high` and `low` are where these two flows stand, and `w` is
+-- the first over what the second stands over.
+pub record IsMerging (cs : List Placed) (st : List Standing) (high low : Standing) (w : Timing) : Type 0 where
+  pub standings : AreStandings cs st
+  pub first : ℕ
+  pub second : ℕ
+  pub first_is : standing_at st first ≡ high
+  pub second_is : standing_at st second ≡ low
+  pub within : first < length st
+  pub lower : low.root < high.root
+  pub small : IsSmallTiming w
+  pub over : (s : Assignment) → MeetsAll s cs → IsOver w (s.flow first) (s.flow low.root)
+  pub link : Connected cs first second
+  pub fixed : (x : ℕ) → root_at st (root_at st x) ≡ root_at st x
+  pub joined : (x y : ℕ) → Joins cs x y
+      → (root_at st x ≡ root_at st y) ⊎ (((root_at st x ≡ high.root) × (root_at st y ≡ low.root)) ⊎ ((root_at st x ≡ low.root) × (root_at st y ≡ high.root)))
+  pub rated : (x : ℕ) → HasRate cs x → HasClock st x
+  pub shared : (x y : ℕ) → root_at st x ≡ root_at st y → HasClock st x → HasClock st y
