@@ -8,3 +8,4 @@ pub mod Adjusting
 pub mod Passing
 pub mod Merging
 pub mod Joining
+pub mod Joined

@@ -3,7 +3,7 @@ use Rattle.std.proofs.Common.{◌≡◌, ◌≢◌, ◌≤◌, ◌<◌, ◌+◌,
 use borrow.Author.Differences.{up, down, same_in, product_is, sum_is_lem, neg_is}
 use Rattle.std.proofs.Math.Nat.{mul_comm}
 use Rattle.std.proofs.Math.IntN.{*ℤ_comm}
-use Rattle.std.specs.Prelude.{OnErr}
+use Rattle.std.specs.Prelude.{OnErr, OnOk}
 use Rattle.prl_base.specs.Ratios.{Fraction, IsSmallFraction}
 use Rattle.prl_base.specs.Reductions.{IsReducedForm, IsPast}
 use Rattle.prl_base.proofs.Lowest.{lowest_only}
@@ -93,3 +93,11 @@ module _ (p q a b : Timing) (dp : HasParts p) (dq : HasParts q) where
       let d2 : 1 ≤ q.start.den * p.start.den * q.period.den =
       positive (q.start.den * p.start.den) q.period.den (positive q.start.den p.start.den dq.start dp.start) dq.period in
       past_small f b.start (only _ _ f b.start d2 (past_form _ _ f past e) (small_form _ _ b.start sb.start cb.start)) past.past sb.start
+
+pub on_ok : {T E : Type 0} (r : Result T E) (P Q : Type 0) → OnOk r P → (P → Q) → OnOk r Q
+on_ok (Ok x) P Q p f = f p
+on_ok (Err e) P Q p f = tt
+
+pub on_err_by : {T E : Type 0} (r : Result T E) (P Q : Type 0) → OnErr r P → (P → Q) → OnErr r Q
+on_err_by (Ok x) P Q p f = tt
+on_err_by (Err e) P Q p f = f p

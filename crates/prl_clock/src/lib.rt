@@ -4,6 +4,7 @@
 
 mod fractions;
 mod standings;
+mod steps;
 mod timings;
 
 pub use timings::Timing;

@@ -1,7 +1,9 @@
 //! Timings of flows over one another.
 
-ghost use Rattle.std.specs.Prelude.{◌≡◌, ◌≢◌, ◌↔◌, IsTrue, IfOk, OnErr, neg_ℤ, pos, true, false};
-ghost use Rattle.prl_clock.specs.code.Composition.{IsComposed, IsComposedPast, IsOverPast, IsSmallTiming};
+ghost use Rattle.std.specs.Prelude.{◌≡◌, ◌≢◌, ◌↔◌, IsTrue, IfOk, OnErr, Some, neg_ℤ, pos, true, false};
+ghost use Rattle.prl_ast.specs.InRange.{IfThere};
+ghost use Rattle.prl_clock.specs.declared.timings.Timing.{Timing};
+ghost use Rattle.prl_clock.specs.code.Composition.{HasParts, IsComposed, IsComposedPast, IsOverPast, IsSmallTiming};
 
 use crate::fractions::sum_of;
 use prl_base::{Past, Ratio};
@@ -46,4 +48,35 @@ pub fn over(whole: Timing, first: Timing) -> Result<Timing, Past>
     let period = whole.period.div(first.period)?;
     let start = sum_of(whole.start, negated(first.start), period)?;
     Ok(Timing { period, start })
+}
+
+/// Whether a flow that is `link` over a second one, which is `second` over a third, is `whole` over the third.
+pub fn fits(link: Timing, second: Timing, whole: Timing) -> bool
+    requires link { HasParts link }
+    requires second { HasParts second }
+    requires whole { IsSmallTiming whole }
+    ensures yes { result ≡ true → IsComposed link second whole }
+    ensures no { result ≡ false → IsComposed link second whole → ⊥ }
+{
+    match composed(link, second) {
+        Ok(timing) => timing == whole,
+        Err(Past) => false,
+    }
+}
+
+/// Whether the clocks of two flows, the first of which is `link` over the second, agree where both are there.
+pub fn agree(link: Timing, second: Option<Timing>, first: Option<Timing>) -> bool
+    requires link { HasParts link }
+    requires second { IfThere HasParts second }
+    requires first { IfThere IsSmallTiming first }
+    ensures yes { result ≡ true → (s t : Timing) → second ≡ Some s → first ≡ Some t → IsComposed link s t }
+    ensures no { result ≡ false → (s : Timing) × (t : Timing) × (second ≡ Some s) × (first ≡ Some t) × (IsComposed link s t → ⊥) }
+{
+    match second {
+        Some(known) => match first {
+            Some(clock) => fits(link, known, clock),
+            None => true,
+        },
+        None => true,
+    }
 }

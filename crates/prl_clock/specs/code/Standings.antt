@@ -1,10 +1,12 @@
 -- Where each flow stands after some constraints: the lowest flow that is connected with it, what it is over that, and its clock where it has one.
 use Rattle.std.specs.Prelude.{◌≡◌, ◌≢◌, ◌≤◌, ◌<◌, ◌⊎◌, ℕ, pos, List, [], ◌∷◌, length, Option, Some, None, slice_index_or}
-use Rattle.prl_clock.specs.Assignments.{Assignment, tick, MeetsAll, IsConsistent, Joins, Connected}
+use Rattle.prl_clock.specs.Assignments.{Assignment, tick, MeetsAll, IsConsistent, Joins, Connected, Passes}
 use Rattle.prl_clock.specs.Constraints.{Constraint, rated, related, Placed, same_clock}
 use Rattle.prl_clock.specs.Timings.{IsOver}
-use Rattle.prl_clock.specs.code.Composition.{HasParts, IsComposed, IsComposedPast, IsSmallTiming}
+use Rattle.prl_clock.specs.code.Composition.{HasParts, IsComposed, IsComposedPast, IsOverPast, IsSmallTiming}
 use Rattle.prl_clock.specs.declared.standings.Standing.{Standing}
+use Rattle.prl_clock.specs.declared.steps.Refusal.{Refusal}
+use Rattle.prl_clock.specs.declared.steps.Refusal.TheVariants as refusals
 use Rattle.prl_clock.specs.declared.timings.Timing.{Timing}
 
 -- a flow that no constraint names
@@ -83,9 +85,8 @@ pub record IsOnePast (root : ℕ) (q : Timing) (st : List Standing) : Type 0 whe
   pub is : root_at st flow ≡ root
   pub past : IsComposedPast (standing_at st flow).over q
 
--- The constraints, of which the last joins two flows that stood over different ones. `high` and `low` are where these two flows stand, and `w` is
--- the first over what the second stands over.
-pub record IsMerging (cs : List Placed) (st : List Standing) (high low : Standing) (w : Timing) : Type 0 where
+-- The constraints, of which the last joins two flows that stood over different ones: `high` and `low` are where these two flows stand.
+pub record IsJoint (cs : List Placed) (st : List Standing) (high low : Standing) : Type 0 where
   pub standings : AreStandings cs st
   pub first : ℕ
   pub second : ℕ
@@ -93,11 +94,34 @@ pub record IsMerging (cs : List Placed) (st : List Standing) (high low : Standin
   pub second_is : standing_at st second ≡ low
   pub within : first < length st
   pub lower : low.root < high.root
-  pub small : IsSmallTiming w
-  pub over : (s : Assignment) → MeetsAll s cs → IsOver w (s.flow first) (s.flow low.root)
   pub link : Connected cs first second
   pub fixed : (x : ℕ) → root_at st (root_at st x) ≡ root_at st x
   pub joined : (x y : ℕ) → Joins cs x y
       → (root_at st x ≡ root_at st y) ⊎ (((root_at st x ≡ high.root) × (root_at st y ≡ low.root)) ⊎ ((root_at st x ≡ low.root) × (root_at st y ≡ high.root)))
   pub rated : (x : ℕ) → HasRate cs x → HasClock st x
   pub shared : (x y : ℕ) → root_at st x ≡ root_at st y → HasClock st x → HasClock st y
+
+-- `w` is the first of the two flows over what the second stands over
+pub record IsMerging (cs : List Placed) (st : List Standing) (high low : Standing) (w : Timing) : Type 0 where
+  pub joint : IsJoint cs st high low
+  pub small : IsSmallTiming w
+  pub over : (s : Assignment) → MeetsAll s cs → IsOver w (s.flow joint.first) (s.flow low.root)
+
+-- what the lower root is in ticks, by the clock of one of the two flows
+pub data IsLowClock (high low : Standing) (w c : Timing) : Type 0 where
+  of_low : (t : Timing) → low.clock ≡ Some t → IsComposed low.over c t → IsLowClock high low w c
+  of_high : (t : Timing) → high.clock ≡ Some t → IsComposed w c t → IsLowClock high low w c
+
+abbrev pub LowClock : Standing → Standing → Timing → Option Timing → Type 0
+LowClock high low w None = (high.clock ≡ None) × (low.clock ≡ None)
+LowClock high low w (Some c) = IsSmallTiming c × IsLowClock high low w c
+
+-- that is past the limit
+pub data IsLowClockPast (high low : Standing) (w : Timing) : Type 0 where
+  of_low_past : (t : Timing) → low.clock ≡ Some t → IsOverPast low.over t → IsLowClockPast high low w
+  of_high_past : (t : Timing) → high.clock ≡ Some t → IsOverPast w t → IsLowClockPast high low w
+
+-- why a constraint is refused after others
+abbrev pub IsRefused : List Placed → Refusal → Type 0
+IsRefused cs refusals.Mismatch = IsConsistent cs → ⊥
+IsRefused cs refusals.Limit = IsConsistent cs × Passes cs
