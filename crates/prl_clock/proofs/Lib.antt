@@ -9,3 +9,5 @@ pub mod Passing
 pub mod Merging
 pub mod Joining
 pub mod Joined
+pub mod Relating
+pub mod Related

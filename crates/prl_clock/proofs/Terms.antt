@@ -3,12 +3,17 @@ use Rattle.std.proofs.Common.{◌≡◌, ◌≢◌, ◌≤◌, ◌<◌, ◌+◌,
 use borrow.Author.Differences.{up, down, same_in, product_is, sum_is_lem, neg_is}
 use Rattle.std.proofs.Math.Nat.{mul_comm}
 use Rattle.std.proofs.Math.IntN.{*ℤ_comm}
-use Rattle.std.specs.Prelude.{OnErr, OnOk}
+use Rattle.std.specs.Prelude.{IfErr, List, OnErr, OnOk}
 use Rattle.prl_base.specs.Ratios.{Fraction, IsSmallFraction}
 use Rattle.prl_base.specs.Reductions.{IsReducedForm, IsPast}
 use Rattle.prl_base.proofs.Lowest.{lowest_only}
 use Rattle.prl_base.proofs.Signs.{neg_mul}
+use Rattle.prl_clock.specs.declared.steps.Refusal.{Refusal}
+use Rattle.prl_clock.specs.declared.steps.Refusal.TheVariants as refusals
 use Rattle.prl_clock.specs.declared.timings.Timing.{Timing}
+use Rattle.prl_clock.specs.Assignments.{IsConsistent, Passes}
+use Rattle.prl_clock.specs.Constraints.{Placed}
+use Rattle.prl_clock.specs.code.Standings.{IsRefused}
 use Rattle.prl_clock.specs.code.Composition.{HasParts, IsProduct, IsSum, IsComposed, IsComposedPast, composed_period, composed_start, IsSmallTiming, IsPastTerms}
 use Rattle.prl_clock.proofs.Algebra.{twice, times, positive}
 
@@ -101,3 +106,9 @@ on_ok (Err e) P Q p f = tt
 pub on_err_by : {T E : Type 0} (r : Result T E) (P Q : Type 0) → OnErr r P → (P → Q) → OnErr r Q
 on_err_by (Ok x) P Q p f = tt
 on_err_by (Err e) P Q p f = f p
+
+-- a refusal that is the limit
+pub if_limit : {T : Type 0} (r : Result T Refusal) (cs : List Placed) → IsConsistent cs → Passes cs → ((e : Refusal) → r ≡ Err e → e ≡ refusals.Limit)
+    → IfErr r (IsRefused cs)
+if_limit (Ok x) cs c p l = tt
+if_limit (Err e) cs c p l = let P : Refusal → Type 0 = λ f. IsRefused cs f in subst P (sym (l e refl)) (c, p)
