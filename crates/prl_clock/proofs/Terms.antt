@@ -3,7 +3,7 @@ use Rattle.std.proofs.Common.{◌≡◌, ◌≢◌, ◌≤◌, ◌<◌, ◌+◌,
 use borrow.Author.Differences.{up, down, same_in, product_is, sum_is_lem, neg_is}
 use Rattle.std.proofs.Math.Nat.{mul_comm}
 use Rattle.std.proofs.Math.IntN.{*ℤ_comm}
-use Rattle.std.specs.Prelude.{IfErr, List, OnErr, OnOk}
+use Rattle.std.specs.Prelude.{IfErr, IsErrAnd, List, OnErr, OnOk}
 use Rattle.prl_base.specs.Ratios.{Fraction, IsSmallFraction}
 use Rattle.prl_base.specs.Reductions.{IsReducedForm, IsPast}
 use Rattle.prl_base.proofs.Lowest.{lowest_only}
@@ -108,7 +108,6 @@ on_err_by (Ok x) P Q p f = tt
 on_err_by (Err e) P Q p f = f p
 
 -- a refusal that is the limit
-pub if_limit : {T : Type 0} (r : Result T Refusal) (cs : List Placed) → IsConsistent cs → Passes cs → ((e : Refusal) → r ≡ Err e → e ≡ refusals.Limit)
-    → IfErr r (IsRefused cs)
-if_limit (Ok x) cs c p l = tt
-if_limit (Err e) cs c p l = let P : Refusal → Type 0 = λ f. IsRefused cs f in subst P (sym (l e refl)) (c, p)
+pub if_limit : {T : Type 0} (r : Result T Refusal) (cs : List Placed) → IsErrAnd r (λ e. e ≡ refusals.Limit) → IsConsistent cs → Passes cs → IfErr r (IsRefused cs)
+if_limit (Ok x) cs l c p = tt
+if_limit (Err e) cs l c p = let P : Refusal → Type 0 = λ f. IsRefused cs f in subst P (sym l) (c, p)

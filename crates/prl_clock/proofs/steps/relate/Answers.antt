@@ -10,7 +10,7 @@ use Rattle.prl_clock.specs.code.Composition.{IsComposed}
 use Rattle.prl_clock.specs.code.Standings.{IsRefused, standing_at}
 use Rattle.prl_clock.proofs.Loops.{item_is}
 use Rattle.prl_clock.proofs.Terms.{small_parts, if_limit}
-use Rattle.prl_clock.proofs.Related.{small_read, clock_read, parts_there, same_solved, same_refused, agree_refused, consistent, down_past, down_merging, up_past, up_merging}
+use Rattle.prl_clock.proofs.Related.{small_read, clock_read, parts_there, same_solved, same_refused, agree_refused, consistent, down_past, down_merging, up_past, up_merging, with_link}
 use Rattle.prl_clock.proofs.steps.relate.Goals as goal
 use Rattle.prl_clock.proofs.steps.relate.Goals.{After-index-standings-y}
 
@@ -66,8 +66,63 @@ returns-in_err-over_low-clause-refused c =
     λ cs at solved.
     let d = (goal.at.returns-in_err-over_low-clause-refused c).After-index-standings-y in
     let g = c.if-not-agree.ensures.yes refl in
-    if_limit c.from_residual.result _
+    if_limit c.from_residual.result _ c.from_residual.ensures.1
     (consistent cs _ solved c.args.x c.args.y c.args.link.now c.requires.link at c.index-standings-x.result c.index-standings-y.result (at_x d) (at_y d) c.if-of_x-of_y.false g)
-    (down_past cs _ solved c.args.x c.args.y c.args.link.now c.requires.link at c.index-standings-x.result c.index-standings-y.result (at_x d) (at_y d) c.if-of_x-of_y.false g
-      c.if-of_y-of_x.true c.requires.x c.in_err-over_low.ensures.past)
-    ?
+    (down_past cs _ solved c.args.x c.args.y c.args.link.now c.requires.link at c.index-standings-x.result c.index-standings-y.result (at_x d) (at_y d) c.if-of_x-of_y.false g c.if-of_y-of_x.true c.requires.x c.in_err-over_low.ensures.past)
+
+pub returns-in_err-over_low-2-clause-refused : goal.returns-in_err-over_low-2-clause-refused
+returns-in_err-over_low-2-clause-refused c =
+    λ cs at solved.
+    let d = (goal.at.returns-in_err-over_low-2-clause-refused c).After-index-standings-y in
+    let g = c.if-not-agree.ensures.yes refl in
+    if_limit c.from_residual-in_err-over_low-2.result _ c.from_residual-in_err-over_low-2.ensures.1
+    (consistent cs _ solved c.args.x c.args.y c.args.link.now c.requires.link at c.index-standings-x.result c.index-standings-y.result (at_x d) (at_y d) c.if-of_x-of_y.false g)
+    (up_past cs _ solved c.args.x c.args.y c.args.link.now c.requires.link at c.index-standings-x.result c.index-standings-y.result (at_x d) (at_y d) c.if-of_x-of_y.false g (omega (arith, c.if-of_y-of_x.false, c.if-of_x-of_y.false)) c.requires.y c.in_err-over_low-2.ensures.past)
+
+pub join-requires : goal.join-requires
+join-requires c =
+    let d = (goal.at.join-requires c).After-index-standings-y in
+    let g = c.if-not-agree.ensures.yes refl in
+    (with_link c.requires.solved.0 c.args.x c.args.y c.args.link.now 0,
+      down_merging c.requires.solved.0 _ c.requires.solved.1 c.args.x c.args.y c.args.link.now c.requires.link 0 c.index-standings-x.result c.index-standings-y.result (at_x d) (at_y d) c.if-of_x-of_y.false g
+      c.if-of_y-of_x.true c.requires.x c.in_ok-over_low.over_low c.in_ok-over_low.ensures.small c.in_ok-over_low.ensures.composed)
+
+pub join-requires-else-of_y-of_x : goal.join-requires-else-of_y-of_x
+join-requires-else-of_y-of_x c =
+    let d = (goal.at.join-requires-else-of_y-of_x c).After-index-standings-y in
+    let g = c.if-not-agree.ensures.yes refl in
+    (with_link c.requires.solved.0 c.args.x c.args.y c.args.link.now 0,
+      up_merging c.requires.solved.0 _ c.requires.solved.1 c.args.x c.args.y c.args.link.now c.requires.link 0 c.index-standings-x.result c.index-standings-y.result (at_x d) (at_y d) c.if-of_x-of_y.false g
+      (omega (arith, c.if-of_y-of_x.false, c.if-of_x-of_y.false)) c.requires.y c.in_ok-over_low-2.over_low c.in_ok-over_low-2.ensures.small c.in_ok-over_low-2.ensures.composed)
+
+pub returns-in_err-join-clause-refused : goal.returns-in_err-join-clause-refused
+returns-in_err-join-clause-refused c =
+    λ cs at solved.
+    let d = (goal.at.returns-in_err-join-clause-refused c).After-index-standings-y in
+    let g = c.if-not-agree.ensures.yes refl in
+    if_limit c.from_residual-in_err-join.result _ c.from_residual-in_err-join.ensures.1
+    (consistent cs _ solved c.args.x c.args.y c.args.link.now c.requires.link at c.index-standings-x.result c.index-standings-y.result (at_x d) (at_y d) c.if-of_x-of_y.false g)
+    (c.in_err-join.ensures.past _ (down_merging cs _ solved c.args.x c.args.y c.args.link.now c.requires.link at c.index-standings-x.result c.index-standings-y.result (at_x d) (at_y d) c.if-of_x-of_y.false g c.if-of_y-of_x.true c.requires.x c.in_ok-over_low.over_low c.in_ok-over_low.ensures.small c.in_ok-over_low.ensures.composed))
+
+pub returns-in_err-join-2-clause-refused : goal.returns-in_err-join-2-clause-refused
+returns-in_err-join-2-clause-refused c =
+    λ cs at solved.
+    let d = (goal.at.returns-in_err-join-2-clause-refused c).After-index-standings-y in
+    let g = c.if-not-agree.ensures.yes refl in
+    if_limit c.from_residual-in_err-join-2.result _ c.from_residual-in_err-join-2.ensures.1
+    (consistent cs _ solved c.args.x c.args.y c.args.link.now c.requires.link at c.index-standings-x.result c.index-standings-y.result (at_x d) (at_y d) c.if-of_x-of_y.false g)
+    (c.in_err-join-2.ensures.past _ (up_merging cs _ solved c.args.x c.args.y c.args.link.now c.requires.link at c.index-standings-x.result c.index-standings-y.result (at_x d) (at_y d) c.if-of_x-of_y.false g (omega (arith, c.if-of_y-of_x.false, c.if-of_x-of_y.false)) c.requires.y c.in_ok-over_low-2.over_low c.in_ok-over_low-2.ensures.small c.in_ok-over_low-2.ensures.composed))
+
+pub returns-in_ok-join-clause-solved : goal.returns-in_ok-join-clause-solved
+returns-in_ok-join-clause-solved c =
+    λ cs at solved.
+    let d = (goal.at.returns-in_ok-join-clause-solved c).After-index-standings-y in
+    let g = c.if-not-agree.ensures.yes refl in
+    c.in_ok-join.ensures.solved _ (down_merging cs _ solved c.args.x c.args.y c.args.link.now c.requires.link at c.index-standings-x.result c.index-standings-y.result (at_x d) (at_y d) c.if-of_x-of_y.false g c.if-of_y-of_x.true c.requires.x c.in_ok-over_low.over_low c.in_ok-over_low.ensures.small c.in_ok-over_low.ensures.composed)
+
+pub returns-in_ok-join-2-clause-solved : goal.returns-in_ok-join-2-clause-solved
+returns-in_ok-join-2-clause-solved c =
+    λ cs at solved.
+    let d = (goal.at.returns-in_ok-join-2-clause-solved c).After-index-standings-y in
+    let g = c.if-not-agree.ensures.yes refl in
+    c.in_ok-join-2.ensures.solved _ (up_merging cs _ solved c.args.x c.args.y c.args.link.now c.requires.link at c.index-standings-x.result c.index-standings-y.result (at_x d) (at_y d) c.if-of_x-of_y.false g (omega (arith, c.if-of_y-of_x.false, c.if-of_x-of_y.false)) c.requires.y c.in_ok-over_low-2.over_low c.in_ok-over_low-2.ensures.small c.in_ok-over_low-2.ensures.composed)
