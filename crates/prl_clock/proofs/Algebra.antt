@@ -8,7 +8,7 @@ use Rattle.prl_clock.specs.declared.timings.Timing.{Timing}
 use Rattle.prl_clock.specs.Timings.{Point, IsRatio, IsOver}
 use Rattle.prl_clock.specs.code.Composition.{HasParts, IsProduct, IsSum, IsComposed}
 
-cancel_nat : (k a b : ℕ) → 1 ≤ k → a * k ≡ b * k → a ≡ b
+pub cancel_nat : (k a b : ℕ) → 1 ≤ k → a * k ≡ b * k → a ≡ b
 cancel_nat k a b some e = eq_of_mul-eq-mul_right k (omega arith) a b e
 
 pub positive : (a b : ℕ) → 1 ≤ a → 1 ≤ b → 1 ≤ a * b

@@ -11,3 +11,7 @@ pub mod Joining
 pub mod Joined
 pub mod Relating
 pub mod Related
+pub mod Rating
+pub mod Rated
+pub mod Starting
+pub mod Fine

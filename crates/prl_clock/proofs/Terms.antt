@@ -1,6 +1,7 @@
 -- What calls on ratios give, as products and sums; lowest terms are unique.
-use Rattle.std.proofs.Common.{◌≡◌, ◌≢◌, ◌≤◌, ◌<◌, ◌+◌, ◌*◌, ℕ, ℤ, pos, negsuc, neg_ℤ, nat_abs, ◌*ℤ◌, ◌+ℤ◌, refl, zero, suc, sym, ◌∙◌, ap, subst, arith, inl, inr, Result, Ok, Err}
+use Rattle.std.proofs.Common.{Bool, true, false, int_eq, eqb, eq-eqb, ◌&&◌, ◌≡◌, ◌≢◌, ◌≤◌, ◌<◌, ◌+◌, ◌*◌, ℕ, ℤ, pos, negsuc, neg_ℤ, nat_abs, ◌*ℤ◌, ◌+ℤ◌, refl, zero, suc, sym, ◌∙◌, ap, subst, arith, inl, inr, Result, Ok, Err}
 use borrow.Author.Differences.{up, down, same_in, product_is, sum_is_lem, neg_is}
+use Rattle.std.proofs.lemmas.Cmp.{int_eq_equiv}
 use Rattle.std.proofs.Math.Nat.{mul_comm}
 use Rattle.std.proofs.Math.IntN.{*ℤ_comm}
 use Rattle.std.specs.Prelude.{IfErr, IsErrAnd, List, OnErr, OnOk}
@@ -111,3 +112,16 @@ on_err_by (Err e) P Q p f = f p
 pub if_limit : {T : Type 0} (r : Result T Refusal) (cs : List Placed) → IsErrAnd r (λ e. e ≡ refusals.Limit) → IsConsistent cs → Passes cs → IfErr r (IsRefused cs)
 if_limit (Ok x) cs l c p = tt
 if_limit (Err e) cs l c p = let P : Refusal → Type 0 = λ f. IsRefused cs f in subst P (sym l) (c, p)
+
+-- what two equal timings answer to `==`
+pub clash : {a b : Bool} → a ≡ b → a ≡ false → b ≡ true → ⊥
+clash e f g = cc
+
+pub same_test : (t w : Timing) → t ≡ w → (int_eq t.period.num w.period.num && eqb t.period.den w.period.den) && (int_eq t.start.num w.start.num && eqb t.start.den w.start.den) ≡ true
+same_test t w e =
+    let P : Timing → Type 0 = λ v. (int_eq t.period.num v.period.num && eqb t.period.den v.period.den) && (int_eq t.start.num v.start.num && eqb t.start.den v.start.den) ≡ true in
+    subst P e
+    (all (int_eq_equiv.refl t.period.num) (eq-eqb t.period.den t.period.den refl) (int_eq_equiv.refl t.start.num) (eq-eqb t.start.den t.start.den refl))
+  where
+    all : {a b c d : Bool} → a ≡ true → b ≡ true → c ≡ true → d ≡ true → (a && b) && (c && d) ≡ true
+    all p q r s = rw (p, q, r, s)

@@ -4,5 +4,7 @@ pub mod Timings
 pub mod Constraints
 -- clocks of all flows over rational numbers, which of them meet constraints, and when a ratio is past the limit
 pub mod Assignments
+-- what the clocks of a program are, and why it has none
+pub mod Outcomes
 -- what private functions say to one another
 pub mod code

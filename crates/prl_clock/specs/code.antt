@@ -1,2 +1,4 @@
 pub mod Composition
+pub mod Progress
+pub mod Rates
 pub mod Standings

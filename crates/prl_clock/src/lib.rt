@@ -2,9 +2,13 @@
 //! that leaves none. It stands on the flat programs of `prl_flow`.
 #![tactic(auto)]
 
+mod calculus;
+mod constraints;
 mod fractions;
+mod rates;
 mod standings;
 mod steps;
 mod timings;
 
+pub use calculus::ClockFault;
 pub use timings::Timing;

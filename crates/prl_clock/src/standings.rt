@@ -1,12 +1,14 @@
 //! Where each flow stands after the constraints that were taken so far.
 
-ghost use Rattle.std.specs.Prelude.{◌≡◌, ◌<◌, IfOk, OnErr, OnOk, length, []};
+ghost use Rattle.std.specs.Prelude.{◌≡◌, ◌<◌, ◌^◌, IfOk, OnErr, OnOk, length, []};
 ghost use Rattle.prl_clock.specs.Constraints.{same_clock};
-ghost use Rattle.prl_clock.specs.code.Standings.{AreMoved, AreTimed, IsMoved, IsOnePast, IsTimed, alone};
+ghost use Rattle.prl_clock.specs.code.Standings.{AreMoved, AreTimed, IsMoved, IsOnePast, IsSolved, IsTimed, alone, standing_at};
 ghost use Rattle.prl_clock.specs.code.Composition.{IsComposedPast};
 
+use crate::rates::same_clock;
 use crate::timings::{Timing, composed};
 use prl_base::Past;
+use std::alloc::{AllocError, Global};
 
 /// Where a flow stands among those that constraints connect with it.
 #[derive(Clone, Copy, Debug)]
@@ -69,4 +71,21 @@ pub fn time_all(standings: &mut [Standing], root: u32, clock: &Timing) -> Result
         *standing = timed(*standing, root, clock)?;
     }
     Ok(())
+}
+
+/// Each flow by itself.
+pub fn alone(alloc: Global, count: usize) -> Result<Vec<Standing>, AllocError>
+    requires { count < 2 ^ 32 }
+    ensures len { IfOk result (λ standings. length standings.items ≡ count) }
+    ensures solved { IfOk result (λ standings. IsSolved [] standings.items) }
+{
+    let mut standings = Vec::new(alloc);
+    for root in 0..count {
+        standings.push(Standing {
+            root: root as u32,
+            over: same_clock(),
+            clock: None,
+        })?;
+    }
+    Ok(standings)
 }
