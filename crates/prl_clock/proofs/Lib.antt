@@ -15,3 +15,4 @@ pub mod Rating
 pub mod Rated
 pub mod Starting
 pub mod Fine
+pub mod Taking
