@@ -16,3 +16,4 @@ pub mod Rated
 pub mod Starting
 pub mod Fine
 pub mod Taking
+pub mod Meeting
