@@ -17,3 +17,4 @@ pub mod Starting
 pub mod Fine
 pub mod Taking
 pub mod Meeting
+pub mod Reading
