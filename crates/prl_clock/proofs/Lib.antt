@@ -18,3 +18,4 @@ pub mod Fine
 pub mod Taking
 pub mod Meeting
 pub mod Reading
+pub mod Finishing

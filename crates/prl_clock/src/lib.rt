@@ -10,5 +10,5 @@ mod standings;
 mod steps;
 mod timings;
 
-pub use calculus::ClockFault;
+pub use calculus::{ClockFault, clocks};
 pub use timings::Timing;
