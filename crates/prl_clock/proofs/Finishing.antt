@@ -1,6 +1,7 @@
 -- After all constraints.
-use Rattle.std.proofs.Common.{◌≡◌, ◌≢◌, ◌≤◌, ◌<◌, ◌+◌, ◌*◌, ◌++◌, ◌∷◌, ◌⊎◌, inl, inr, ℕ, zero, suc, ℤ, pos, negsuc, nat_abs, ◌*ℤ◌, ◌-ℤ◌, ◌≤ℤ◌, List, [], length, take, Option, Some, None, refl, sym, ap, ◌∙◌, subst, arith, append_assoc, length-append, add-one}
+use Rattle.std.proofs.Common.{Bool, true, false, cond, not, is_some, ◌≡◌, ◌≢◌, ◌≤◌, ◌<◌, ◌+◌, ◌*◌, ◌++◌, ◌∷◌, ◌⊎◌, inl, inr, ℕ, zero, suc, ℤ, pos, negsuc, nat_abs, ◌*ℤ◌, ◌-ℤ◌, ◌≤ℤ◌, List, [], length, take, Option, Some, None, refl, sym, ap, ◌∙◌, subst, arith, append_assoc, length-append, add-one, below_more}
 use Rattle.std.specs.Prelude.{slice_get}
+use Rattle.std.proofs.lemmas.List.{get_or_append_left}
 use Rattle.std.proofs.Math.Seq.{take-append_seam}
 use borrow.Author.Differences.{up, down, same_in, product_is, ints}
 use Rattle.prl_base.specs.Ratios.{Fraction}
@@ -19,6 +20,7 @@ use Rattle.prl_clock.specs.Assignments.{Assignment, tick, MeetsAll, IsConsistent
 use Rattle.prl_clock.specs.Constraints.{Placed, constraints_of}
 use Rattle.prl_clock.specs.Outcomes.{IsFine, IsMismatch, IsPastLimit, Agree, IsDetermined, HasChoice, IsFree, HasTiming, IsWhole, IsNotWhole, GivesClock, AreOnlyClocks, IsClockFault, clock_limit}
 use Rattle.prl_clock.specs.Timings.{Point, IsRatio, IsOver}
+use Rattle.prl_clock.specs.code.Finishing.{IsFirstFree, IsLabelOf, IsWholeClock}
 use Rattle.prl_clock.specs.code.Progress.{IsReached, IsStopped, IsStop, told}
 use Rattle.prl_clock.specs.code.Standings.{IsSolved, IsRefused, HasClock, standing_at, root_at}
 use Rattle.prl_clock.proofs.Adjusting.{scaled}
@@ -200,3 +202,75 @@ only_clocks p flat st clocks r count gives =
       are = are_clocks p flat clocks count s.0 (λ i h. gives i h s.0 s.1) s.1;
       only = λ t m i h. gives i h t m;
     }
+
+-- the lowest flow without a clock
+pub free_is : (p : FlatProgram) (st : List Standing) → IsReached p (constraints_of p) st → (i : ℕ) (label : List ℕ) → IsFirstFree st i → IsLabelOf p i label → IsFree p label
+free_is p st r i label f l = record {
+  fine = r.fine;
+  index = i;
+  flow = l.flow;
+  found = l.found;
+  is = l.is;
+  choice = undetermined (constraints_of p) st r.solved i f.free;
+  lowest = λ x h. determined (constraints_of p) st r.solved x (f.earlier x h);
+}
+
+-- the first whose clock is not whole
+pub not_whole_is : (p : FlatProgram) (st : List Standing) → IsReached p (constraints_of p) st → ((x : ℕ) → x < length st → HasClock st x) → (i : ℕ) (label : List ℕ) (t : Timing)
+    → (standing_at st i).clock ≡ Some t → (IsWhole t.period t.start → ⊥) → ((x : ℕ) → x < i → (u : Timing) × ((standing_at st x).clock ≡ Some u) × IsWhole u.period u.start)
+    → IsLabelOf p i label → IsNotWhole p label t.period t.start
+not_whole_is p st r timed i label t is never earlier l = record {
+  fine = r.fine;
+  determined = λ x h. let e = r.len in determined (constraints_of p) st r.solved x (timed x (omega (arith, h, e)));
+  index = i;
+  flow = l.flow;
+  found = l.found;
+  is = l.is;
+  timing = timing_of (constraints_of p) st r.solved i t is;
+  parts = never;
+  lowest = λ x f g h k.
+      let u = earlier x h in
+      let e = timing_only (constraints_of p) st r.solved x u.0 u.1 f g k in
+      let P : Fraction → Type 0 = λ a. IsWhole a g in
+      let Q : Fraction → Type 0 = λ b. IsWhole u.0.period b in subst P (sym e.0) (subst Q (sym e.1) u.2);
+}
+
+pub whole_are : (p : FlatProgram) (flat : IsFlat p) (st : List Standing) (clocks : List Clock) → IsReached p (constraints_of p) st → length clocks ≡ length st
+    → ((x : ℕ) → x < length st → (t : Timing) × ((standing_at st x).clock ≡ Some t) × IsWholeClock t (clock_of clocks x)) → AreOnlyClocks p clocks
+whole_are p flat st clocks r len whole =
+    only_clocks p flat st clocks r (len ∙ r.len)
+    (λ i h s m.
+        let w = whole i (omega (arith, h, len)) in
+        whole_gives (constraints_of p) st r.solved i w.0 (clock_of clocks i) w.1 w.2.whole w.2.period w.2.start s m)
+
+pub clock_pushed : (clocks : List Clock) (c : Clock) (st : List Standing) (i : ℕ) (t : Timing) → length clocks ≡ i → (standing_at st i).clock ≡ Some t → IsWholeClock t c
+    → ((x : ℕ) → x < i → (u : Timing) × ((standing_at st x).clock ≡ Some u) × IsWholeClock u (clock_of clocks x))
+    → ((x : ℕ) → x < i + 1 → (u : Timing) × ((standing_at st x).clock ≡ Some u) × IsWholeClock u (clock_of (clocks ++ c ∷ []) x))
+clock_pushed clocks c st i t len is w before =
+    below_more (λ x. (u : Timing) × ((standing_at st x).clock ≡ Some u) × IsWholeClock u (clock_of (clocks ++ c ∷ []) x)) i
+    (λ x h.
+        let b = before x h in
+        let e : clock_of (clocks ++ c ∷ []) x ≡ clock_of clocks x = get_or_append_left clocks (c ∷ []) (record { period = 1; start = 0 }) x (omega (arith, h, len)) in
+        let P : Clock → Type 0 = λ k. IsWholeClock b.0 k in (b.0, b.1, subst P (sym e) b.2))
+    (let e : clock_of (clocks ++ c ∷ []) i ≡ c = let P : ℕ → Type 0 = λ n. clock_of (clocks ++ c ∷ []) n ≡ c in subst P len (last clocks) in
+      let P : Clock → Type 0 = λ k. IsWholeClock t k in (t, is, subst P (sym e) w))
+  where
+    last : (xs : List Clock) → clock_of (xs ++ c ∷ []) (length xs) ≡ c
+    last [] = refl
+    last (x ∷ xs) = last xs
+
+pub some_clock : (st : List Standing) (i : ℕ) → ((standing_at st i).clock ≡ None → ⊥) → HasClock st i
+some_clock st i never = of (standing_at st i).clock refl
+  where
+    of : (o : Option Timing) → (standing_at st i).clock ≡ o → HasClock st i
+    of None e = absurd (never e)
+    of (Some t) e = (t, e)
+
+pub still_some : (o : Option Timing) (b : Bool) → is_some o ≡ not b → b ≡ false → o ≡ None → ⊥
+still_some None true e f g = cc
+still_some None false e f g = cc
+still_some (Some t) b e f g = cc
+
+pub if_true : {A : Type 0} (b : Bool) (x y z : A) → b ≡ true → x ≡ cond b y z → x ≡ y
+if_true true x y z e h = h
+if_true false x y z e h = absurd (cc e)

@@ -86,6 +86,7 @@ fn whole_clocks(alloc: Global, flat: &Flat, standings: &[Standing]) -> Result<Ve
     ensures clocks { IfOk result (λ clocks. AreOnlyClocks flat.now clocks.items) }
     ensures fault { IfErr result (IsClockFault flat.now) }
 {
+    let _flows = flat.flows();
     let mut clocks = Vec::new(alloc);
     for (i, standing) in standings.iter().enumerate() {
         let Some(timing) = standing.clock else {
