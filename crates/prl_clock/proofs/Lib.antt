@@ -19,3 +19,4 @@ pub mod Taking
 pub mod Meeting
 pub mod Reading
 pub mod Finishing
+pub mod Wholes

@@ -51,7 +51,7 @@ mapped s x (a ∷ args) zero arg h m = let e : a ≡ arg = same h in let P : Arg
     same e = cc
 mapped s x (a ∷ args) (suc j) arg h m = mapped s x args j arg h m.1
 
-mapped_in : (s : Assignment) (x : ℕ) (args : List Arg) → ((j : ℕ) (arg : Arg) → slice_get args j ≡ Some arg → IsOver same_clock (s.flow x) (s.flow arg.flow.0)) → MeetsAll s (map (argument_constraint x) args)
+pub mapped_in : (s : Assignment) (x : ℕ) (args : List Arg) → ((j : ℕ) (arg : Arg) → slice_get args j ≡ Some arg → IsOver same_clock (s.flow x) (s.flow arg.flow.0)) → MeetsAll s (map (argument_constraint x) args)
 mapped_in s x [] f = tt
 mapped_in s x (a ∷ args) f = (f 0 a refl, mapped_in s x args (λ j arg h. f (suc j) arg h))
 
@@ -151,8 +151,3 @@ module _ (p : FlatProgram) (flat : IsFlat p) (clocks : List Clock) (count : leng
       agree = λ i flow found. of_definition i flow.at.at flow.ty flow.def (slice_get_within p.flows i flow found) (flat.flows i flow found) (parts i flow found).1;
       apps = of_application;
     }
-
--- each flow at its clock, where a tick is one part
-module _ (clocks : List Clock) (each : (i : ℕ) → 1 ≤ (clock_of clocks i).period) where
-  abbrev pub assignment : Assignment
-  assignment = record { unit = 1; flow = λ i. plain (clock_of clocks i); some = omega arith; positive = each }

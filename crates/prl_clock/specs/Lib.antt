@@ -6,5 +6,7 @@ pub mod Constraints
 pub mod Assignments
 -- what the clocks of a program are, and why it has none
 pub mod Outcomes
+-- whole clocks as an assignment
+pub mod Whole
 -- what private functions say to one another
 pub mod code

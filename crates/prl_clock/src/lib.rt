@@ -5,10 +5,12 @@
 mod calculus;
 mod constraints;
 mod fractions;
+mod laws;
 mod rates;
 mod standings;
 mod steps;
 mod timings;
 
 pub use calculus::{ClockFault, clocks};
+pub use laws::{clocks_are_unique, clocks_meet_constraints, solutions_have_clocks};
 pub use timings::Timing;
