@@ -20,3 +20,4 @@ pub mod Meeting
 pub mod Reading
 pub mod Finishing
 pub mod Wholes
+pub mod Single

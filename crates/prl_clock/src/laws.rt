@@ -9,7 +9,8 @@ ghost use Rattle.prl_flow.specs.Solutions.{AreClocks};
 ghost use Rattle.prl_flow.specs.States.{IsSolution, State, Timed};
 ghost use Rattle.prl_clock.specs.Assignments.{MeetsAll};
 ghost use Rattle.prl_clock.specs.Constraints.{constraints_of};
-ghost use Rattle.prl_clock.specs.Outcomes.{AreOnlyClocks};
+ghost use Rattle.prl_clock.specs.Outcomes.{AreOnlyClocks, IsOutcome};
+ghost use Rattle.prl_clock.specs.declared.calculus.ClockFault.{ClockFault};
 ghost use Rattle.prl_clock.specs.Whole.{ArePeriods, whole_assignment};
 
 /// Whole clocks meet the constraints of a flat program exactly where they are clocks of its flows.
@@ -30,4 +31,9 @@ pub fn clocks_are_unique()
     ensures solutions { (p : FlatProgram) → IsFlat p → (clocks : List Clock) → AreOnlyClocks p clocks
         → (bodies : List CheckedBody) (rows : Rows) (until : ℕ) (s : State) → IsSolution p bodies rows until s
         → map (λ (f : Timed). f.clock) s.flows ≡ clocks }
+{}
+
+/// A flat program has its clocks or one fault, and no more than one of these.
+pub fn outcomes_are_unique()
+    ensures { (p : FlatProgram) → IsFlat p → (one other : Result (List Clock) ClockFault) → IsOutcome p one → IsOutcome p other → one ≡ other }
 {}
