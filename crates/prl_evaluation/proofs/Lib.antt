@@ -1,0 +1,4 @@
+mod Grown
+mod Filled
+mod There
+mod NextValue

@@ -1,0 +1,4 @@
+-- runs of applications: steps of their bodies
+pub mod Runs
+-- lists that are the first values of flows, and one value more
+pub mod Fronts
