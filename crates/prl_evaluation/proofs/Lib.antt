@@ -2,3 +2,4 @@ mod Grown
 mod Filled
 mod There
 mod NextValue
+mod ByDate

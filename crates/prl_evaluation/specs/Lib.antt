@@ -2,3 +2,5 @@
 pub mod Runs
 -- lists that are the first values of flows, and one value more
 pub mod Fronts
+-- flows that are evaluated date by date
+pub mod Dates

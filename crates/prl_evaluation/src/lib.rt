@@ -3,6 +3,7 @@
 //! solution is the law of `prl_solutions`.
 #![tactic(auto)]
 
+mod by_date;
 mod fronts;
 mod operators;
 mod runs;
