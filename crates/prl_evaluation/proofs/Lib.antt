@@ -3,3 +3,6 @@ mod Filled
 mod There
 mod NextValue
 mod ByDate
+mod Orders
+mod Solutions
+mod Begun

@@ -4,3 +4,5 @@ pub mod Runs
 pub mod Fronts
 -- flows that are evaluated date by date
 pub mod Dates
+-- what evaluation gives, and when it does not
+pub mod Evaluations

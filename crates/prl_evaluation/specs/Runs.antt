@@ -44,3 +44,11 @@ pub record IsRun (bodies : List CheckedBody) (v : Table) (app : App) (r : Run) :
   pub held : r.machine.registers ≡ registers_before body (inputs_of v app.args) r.steps
   pub counted : r.machine.steps ≡ r.steps
   pub given : (n : ℕ) → r.steps ≡ suc n → r.outputs.items ≡ (nth_step body (inputs_of v app.args) n).outputs
+
+-- there is a body of the application's name
+abbrev pub HasBodyNamed : List CheckedBody → App → Type 0
+HasBodyNamed bodies app = (body : CheckedBody) × (body_named bodies app.name ≡ Some body)
+
+-- the run of the application before its first step
+abbrev pub IsNew : List CheckedBody → App → Run → Type 0
+IsNew bodies app r = ((v : Table) → IsRun bodies v app r) × (r.steps ≡ 0)

@@ -4,10 +4,12 @@
 #![tactic(auto)]
 
 mod by_date;
+mod evaluation;
 mod fronts;
 mod operators;
 mod runs;
 mod settings;
 mod tables;
 
+pub use evaluation::{FlowFault, evaluate};
 pub use tables::FlowTable;

@@ -1,10 +1,8 @@
 //! Runs of applications: the steps of their bodies, one after another.
 
-ghost use Rattle.std.specs.Prelude.{◌≡◌, ◌<◌, ◌^◌, length, slice_index_or, Some, IfOk};
-ghost use Rattle.prl_body.specs.declared.bodies.CheckedBody.{CheckedBody};
-ghost use Rattle.prl_body.specs.Bodies.{body_named};
-ghost use Rattle.prl_solutions.specs.Tables.{Table, inputs_of, nothing, table_of};
-ghost use Rattle.prl_evaluation.specs.Runs.{HasStepped, HaveArguments, IsRun, MayStep};
+ghost use Rattle.std.specs.Prelude.{◌≡◌, ◌<◌, ◌^◌, length, slice_index_or, IfOk};
+ghost use Rattle.prl_solutions.specs.Tables.{inputs_of, nothing, table_of};
+ghost use Rattle.prl_evaluation.specs.Runs.{HasBodyNamed, HasStepped, HaveArguments, IsNew, MayStep};
 
 use crate::operators::value_in;
 use crate::tables::Values;
@@ -83,10 +81,9 @@ pub(crate) fn output_value(
 }
 
 /// The run of an application before its first step.
-fn new_run<'a>(alloc: Global, app: &App, bodies: &'a Bodies) -> Result<Run<'a>, AllocError>
-    requires { (body : CheckedBody) × (body_named bodies.now app.now.name ≡ Some body) }
-    ensures run { IfOk result (λ r. (v : Table) → IsRun bodies.now v app.now r) }
-    ensures none { IfOk result (λ r. r.steps ≡ 0) }
+pub(crate) fn new_run<'a>(alloc: Global, app: &App, bodies: &'a Bodies) -> Result<Run<'a>, AllocError>
+    requires { HasBodyNamed bodies.now app.now }
+    ensures { IfOk result (IsNew bodies.now app.now) }
 {
     let Some(body) = bodies.of(&app.name) else {
         unreachable!()
