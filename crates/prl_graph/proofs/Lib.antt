@@ -1,0 +1,10 @@
+mod Lists
+mod Walks
+mod Ports
+mod Multiples
+mod EdgeValues
+mod TaskFacts
+mod Names
+mod Order
+mod Ways
+mod WellFormed

@@ -1,0 +1,4 @@
+pub mod Marks
+pub mod Made
+pub mod Multiples
+pub mod Steps

@@ -1,0 +1,143 @@
+//! The tasks: main's inputs, the applications, main's outputs.
+
+ghost use Rattle.std.specs.Prelude.{◌≡◌, ◌+◌, ◌<◌, ◌≤◌, ◌^◌, ◌++◌, ◌∷◌, ℕ, IfOk, decimal, length};
+ghost use Rattle.prl_flow.specs.Solutions.{AreClocks, clock_of};
+ghost use Rattle.prl_plan.specs.declared.limits.TheConstants.{MAX_TASKS};
+ghost use Rattle.prl_graph.specs.Ports.{actuator_no, node_no, task_count};
+ghost use Rattle.prl_graph.specs.Tasks.{device_due};
+ghost use Rattle.prl_graph.specs.code.Made.{AreFirstTasks};
+ghost use Rattle.prl_graph.specs.code.Marks.{AreLeastDues};
+
+use crate::leasts::application_clock;
+use prl_base::{Clock, FlowNo, Label, Name, push_number};
+use prl_flow::{Clocks, Flat};
+use prl_plan::{Kind, Task};
+use std::alloc::{AllocError, Global};
+
+/// The clock of a flow.
+pub(crate) fn clock_of(clocks: &Clocks, flow: FlowNo) -> Clock
+    requires { flow.0 < length clocks.now.of }
+    ensures { result ≡ clock_of clocks.now.of flow.0 }
+{
+    clocks.of.as_slice()[flow.0 as usize]
+}
+
+/// The due that the flow notes, and otherwise its period.
+fn device_due(flat: &Flat, clocks: &Clocks, flow: FlowNo) -> u64
+    requires flow { flow.0 < length flat.now.flows }
+    requires clock { flow.0 < length clocks.now.of }
+    ensures { result ≡ device_due flat.now clocks.now.of flow.0 }
+{
+    match flat.flows()[flow.0 as usize].due {
+        Some(due) => u64::from(due),
+        None => clock_of(clocks, flow).period,
+    }
+}
+
+/// The name of application `k`'s task: the node's name, `@` and the number.
+fn node_name(alloc: Global, node: &Name, k: u32) -> Result<Label, AllocError>
+    ensures { IfOk result (λ label. label ≡ node.now ++ 64 ∷ decimal k) }
+{
+    let mut bytes = Vec::from_slice(alloc, node.bytes())?;
+    bytes.push(b'@')?;
+    push_number(&mut bytes, u64::from(k))?;
+    Label::new(alloc, bytes.as_slice())
+}
+
+/// Adds the tasks of the sensors.
+fn push_sensors(
+    alloc: Global,
+    flat: &Flat,
+    clocks: &Clocks,
+    tasks: &mut Vec<Task>,
+) -> Result<(), AllocError>
+    requires clocks { AreClocks flat.now clocks.now.of }
+    requires few { task_count flat.now ≤ MAX_TASKS }
+    requires before { AreFirstTasks flat.now clocks.now.of 0 tasks.old.items }
+    ensures { IfOk result (λ done. AreFirstTasks flat.now clocks.now.of (node_no flat.now 0) tasks.new.items) }
+{
+    let _flows = flat.flows();
+    for (k, flow) in flat.ins().iter().enumerate() {
+        let k = k as u32;
+        tasks.push(Task {
+            name: Label::new(alloc, flat.in_name(k).bytes())?,
+            kind: Kind::Sensor(k),
+            clock: clock_of(clocks, *flow),
+            wcet: flat.in_wcet(k),
+            due: device_due(flat, clocks, *flow),
+        })?;
+    }
+    Ok(())
+}
+
+/// Adds the tasks of the applications.
+fn push_nodes(
+    alloc: Global,
+    flat: &Flat,
+    clocks: &Clocks,
+    dues: &[u64],
+    tasks: &mut Vec<Task>,
+) -> Result<(), AllocError>
+    requires clocks { AreClocks flat.now clocks.now.of }
+    requires dues { AreLeastDues flat.now clocks.now.of (length flat.now.flows) dues.now }
+    requires few { task_count flat.now ≤ MAX_TASKS }
+    requires before { AreFirstTasks flat.now clocks.now.of (node_no flat.now 0) tasks.old.items }
+    ensures { IfOk result (λ done. AreFirstTasks flat.now clocks.now.of (actuator_no flat.now 0) tasks.new.items) }
+{
+    for (k, app) in flat.apps().iter().enumerate() {
+        let due = dues[k];
+        let k = k as u32;
+        tasks.push(Task {
+            name: node_name(alloc, &app.name, k)?,
+            kind: Kind::Node(k),
+            clock: application_clock(clocks, app),
+            wcet: app.wcet,
+            due,
+        })?;
+    }
+    Ok(())
+}
+
+/// Adds the tasks of the actuators.
+fn push_actuators(
+    alloc: Global,
+    flat: &Flat,
+    clocks: &Clocks,
+    tasks: &mut Vec<Task>,
+) -> Result<(), AllocError>
+    requires clocks { AreClocks flat.now clocks.now.of }
+    requires few { task_count flat.now ≤ MAX_TASKS }
+    requires before { AreFirstTasks flat.now clocks.now.of (actuator_no flat.now 0) tasks.old.items }
+    ensures { IfOk result (λ done. AreFirstTasks flat.now clocks.now.of (task_count flat.now) tasks.new.items) }
+{
+    for (k, flow) in flat.outs().iter().enumerate() {
+        let k = k as u32;
+        tasks.push(Task {
+            name: Label::new(alloc, flat.out_name(k).bytes())?,
+            kind: Kind::Actuator(k),
+            clock: clock_of(clocks, *flow),
+            wcet: flat.out_wcet(k),
+            due: device_due(flat, clocks, *flow),
+        })?;
+    }
+    Ok(())
+}
+
+/// All tasks, where `dues` has the due of each application.
+pub(crate) fn all_tasks(
+    alloc: Global,
+    flat: &Flat,
+    clocks: &Clocks,
+    dues: &[u64],
+) -> Result<Vec<Task>, AllocError>
+    requires clocks { AreClocks flat.now clocks.now.of }
+    requires dues { AreLeastDues flat.now clocks.now.of (length flat.now.flows) dues.now }
+    requires few { task_count flat.now ≤ MAX_TASKS }
+    ensures { IfOk result (λ tasks. AreFirstTasks flat.now clocks.now.of (task_count flat.now) tasks.items) }
+{
+    let mut tasks = Vec::new(alloc);
+    push_sensors(alloc, flat, clocks, &mut tasks)?;
+    push_nodes(alloc, flat, clocks, dues, &mut tasks)?;
+    push_actuators(alloc, flat, clocks, &mut tasks)?;
+    Ok(tasks)
+}
