@@ -4,6 +4,9 @@ mod Ports
 mod Multiples
 mod EdgeValues
 mod TaskFacts
+mod DueFacts
+mod LeastDues
+mod Tasking
 mod Names
 mod Order
 mod Ways

@@ -2,7 +2,7 @@
 use Rattle.std.proofs.Common.{◌≡◌, ◌<◌, ◌≢◌, ◌+◌, ◌⊎◌, ℕ, zero, suc, zero-add, Bool, true, false, cond, List, [], ◌∷◌, ◌++◌, length, set, get_or, replicate, slice_get, Some, refl, sym, ◌∙◌, ap, subst, arith, inl, inr, ⊎_elim, get_or-set_same, get_or-set_other, length-append, add-one}
 use Rattle.std.specs.Prelude.{count_by}
 use Rattle.std.proofs.lemmas.Bool.{cases_lt, false≢true}
-use Rattle.std.proofs.lemmas.Option.{slice_get_within}
+use Rattle.std.proofs.lemmas.Option.{slice_get_within, slice_get-get_or}
 use Rattle.std.proofs.lemmas.List.Sums.{sum_by-set, sum_by-cons}
 use Rattle.prl_flow.proofs.Lists.{slice_get_append_left}
 use Rattle.prl_graph.specs.code.Marks.{IsMarked}
@@ -83,3 +83,16 @@ clear_at (suc n) (suc i) = clear_at n i
 pub clear_length : (n : ℕ) → length (replicate n false) ≡ n
 clear_length zero = refl
 clear_length (suc n) = ap suc (clear_length n)
+
+-- an element by its number, where the list is written otherwise
+pub element_of : {A : Type 0} (xs ys : List A) (k : ℕ) (d : A) → xs ≡ ys → k < length xs → slice_get ys k ≡ Some (get_or xs k d)
+element_of xs ys k d same below = ap (λ l. slice_get l k) (sym same) ∙ slice_get-get_or xs k d below
+
+pub same_length : {A : Type 0} (xs ys : List A) → xs ≡ ys → length xs ≡ length ys
+same_length xs ys same = ap length same
+
+-- an element that was read, where the list is written otherwise
+pub item_of : {A : Type 0} (xs ys : List A) (k : ℕ) (x : A) → xs ≡ ys → k < length ys → x ≡ get_or xs k x → slice_get ys k ≡ Some x
+item_of xs ys k x same below read =
+    let there : k < length xs = (let e : length xs ≡ length ys = ap length same in omega arith) in
+    ap (λ l. slice_get l k) (sym same) ∙ slice_get-get_or xs k x there ∙ ap Some (sym read)

@@ -1,13 +1,14 @@
 //! The dues that flows note: where they may stand, their range, and the least for each application.
 
-ghost use Rattle.std.specs.Prelude.{◌≡◌, ◌<◌, ◌↔◌, ℕ, Some, IfErr, IfOk, IsTrue, MatchOption, length, slice_get, slice_index_or};
-ghost use Rattle.prl_flow.specs.declared.programs.Flow.{Flow};
+ghost use Rattle.std.specs.Prelude.{◌≡◌, ◌<◌, ℕ, IfErr, IfOk, List, MatchOption, false, length, true};
+ghost use Rattle.prl_base.specs.declared.operators.Clock.{Clock};
 ghost use Rattle.prl_flow.specs.Solutions.{AreClocks};
-ghost use Rattle.prl_graph.specs.Dues.{AllowsDue, AreDuesAllowed, AreDuesInRange, BindsApplication, CopiesOutput};
+ghost use Rattle.prl_graph.specs.Dues.{AllowsDue, AreDuesAllowed, AreDuesInRange, CopiesOutput, IsMainInput};
 ghost use Rattle.prl_graph.specs.TaskGraphs.{IsGraphFault};
-ghost use Rattle.prl_graph.specs.code.Marks.{AreLeastDues, AreOutputMarks, IsBinding};
+ghost use Rattle.prl_graph.specs.code.Marks.{AreOutputMarks, IsLabelOf, IsMisplaced, IsPlaced, IsRanged, IsUnranged};
 
 use crate::GraphFault;
+use crate::tasks::clock_at;
 use prl_base::{FlowNo, Label};
 use prl_flow::{Clocks, Def, Flat};
 use std::alloc::{AllocError, Global};
@@ -39,35 +40,91 @@ pub(crate) fn copied_application(flat: &Flat, i: usize) -> Option<u32>
     }
 }
 
-/// Whether a due may stand on the flow.
-fn allows_due(flat: &Flat, outputs: &[bool], i: usize) -> bool
-    requires outputs { AreOutputMarks flat.now outputs.now }
-    requires within { i < length flat.now.flows }
-    ensures { IsTrue result ↔ AllowsDue flat.now i }
+/// Whether the flow is main's input.
+fn is_input(flat: &Flat, i: usize) -> bool
+    requires { i < length flat.now.flows }
+    ensures yes { result ≡ true → IsMainInput flat.now i }
+    ensures no { result ≡ false → IsMainInput flat.now i → ⊥ }
 {
-    if outputs[i] || copied_application(flat, i).is_some() {
-        return true;
-    }
     match flat.flows()[i].def {
         Def::Sensor(_) => true,
         _ => false,
     }
 }
 
+/// Whether a due may stand on the flow.
+fn allows_due(flat: &Flat, outputs: &[bool], i: usize) -> bool
+    requires outputs { AreOutputMarks flat.now outputs.now }
+    requires within { i < length flat.now.flows }
+    ensures yes { result ≡ true → AllowsDue flat.now i }
+    ensures no { result ≡ false → AllowsDue flat.now i → ⊥ }
+{
+    if outputs[i] {
+        return true;
+    }
+    if is_input(flat, i) {
+        return true;
+    }
+    match copied_application(flat, i) {
+        Some(_) => true,
+        None => false,
+    }
+}
+
+/// Whether a due stands on the flow that may not.
+fn is_misplaced(flat: &Flat, outputs: &[bool], i: usize) -> bool
+    requires outputs { AreOutputMarks flat.now outputs.now }
+    requires within { i < length flat.now.flows }
+    ensures yes { result ≡ true → IsMisplaced flat.now i }
+    ensures no { result ≡ false → IsPlaced flat.now i }
+{
+    let flows = flat.flows();
+    let flow = &flows[i];
+    match flow.due {
+        Some(_) => !allows_due(flat, outputs, i),
+        None => false,
+    }
+}
+
+/// The due on the flow, where it is not between 1 and the flow's period.
+fn due_out_of_range(flat: &Flat, clocks: &Clocks, i: usize) -> Option<u32>
+    requires clocks { i < length clocks.now.of }
+    requires within { i < length flat.now.flows }
+    ensures { MatchOption result (IsRanged flat.now clocks.now.of i) (IsUnranged flat.now clocks.now.of i) }
+{
+    let flows = flat.flows();
+    let due = flows[i].due?;
+    if due == 0 {
+        return Some(due);
+    }
+    if u64::from(due) > clock_at(clocks, i).period {
+        return Some(due);
+    }
+    None
+}
+
+/// A copy of the label of the flow.
+fn label_of(alloc: Global, flat: &Flat, i: usize) -> Result<Label, AllocError>
+    requires { i < length flat.now.flows }
+    ensures { IfOk result (IsLabelOf flat.now i) }
+{
+    Label::new(alloc, flat.flows()[i].label.bytes())
+}
+
 /// Whether each due stands where it may.
 pub(crate) fn check_places(
     alloc: Global,
     flat: &Flat,
-    clocks: &Clocks,
     outputs: &[bool],
 ) -> Result<(), GraphFault>
     requires { AreOutputMarks flat.now outputs.now }
     ensures allowed { IfOk result (λ done. AreDuesAllowed flat.now) }
-    ensures fault { IfErr result (IsGraphFault flat.now clocks.now.of) }
+    ensures fault { IfErr result (λ fault. (clocks : List Clock) → IsGraphFault flat.now clocks fault) }
 {
-    for (i, flow) in flat.flows().iter().enumerate() {
-        if flow.due.is_some() && !allows_due(flat, outputs, i) {
-            let label = Label::new(alloc, flow.label.bytes())?;
+    let flows = flat.flows();
+    for i in 0..flows.len() {
+        if is_misplaced(flat, outputs, i) {
+            let label = label_of(alloc, flat, i)?;
             return Err(GraphFault::DueOnNonTask(label));
         }
     }
@@ -81,14 +138,15 @@ pub(crate) fn check_ranges(alloc: Global, flat: &Flat, clocks: &Clocks) -> Resul
     ensures within { IfOk result (λ done. AreDuesInRange flat.now clocks.now.of) }
     ensures fault { IfErr result (IsGraphFault flat.now clocks.now.of) }
 {
-    let of = clocks.of.as_slice();
-    for (i, flow) in flat.flows().iter().enumerate() {
-        if let Some(due) = flow.due {
-            let period = of[i].period;
-            if due == 0 || u64::from(due) > period {
-                let flow = Label::new(alloc, flow.label.bytes())?;
+    let flows = flat.flows();
+    for i in 0..flows.len() {
+        match due_out_of_range(flat, clocks, i) {
+            Some(due) => {
+                let flow = label_of(alloc, flat, i)?;
+                let period = clock_at(clocks, i).period;
                 return Err(GraphFault::DueRange { flow, due, period });
             }
+            None => {}
         }
     }
     Ok(())

@@ -88,7 +88,7 @@ pub fn graph(alloc: Global, flat: &Flat, clocks: &Clocks) -> Result<TaskGraph, G
     ensures well_formed { IfOk result IsWellFormed }
 {
     let outputs = output_marks(alloc, flat)?;
-    check_places(alloc, flat, clocks, outputs.as_slice())?;
+    check_places(alloc, flat, outputs.as_slice())?;
     check_ranges(alloc, flat, clocks)?;
     if let Err(limit) = check_counts(flat) {
         return Err(GraphFault::Limit(limit));

@@ -1,13 +1,9 @@
 //! The hyperperiod.
 
-ghost use Rattle.std.specs.Prelude.{◌≡◌, ◌+◌, ◌<◌, ◌≤◌, ◌^◌, ℕ, MatchResult, length};
-ghost use Rattle.prl_base.specs.declared.limits.What.TheVariants as limits;
-ghost use Rattle.prl_flow.specs.Solutions.{AreClocks};
-ghost use Rattle.prl_flow.specs.Programs.{FlatProgram};
+ghost use Rattle.std.specs.Prelude.{◌<◌, ◌≤◌, ◌^◌, MatchResult};
 ghost use Rattle.prl_plan.specs.declared.limits.TheConstants.{MAX_HYPER};
 ghost use Rattle.prl_graph.specs.Hyperperiods.{IsHyperperiod, IsPastHyperperiod};
-ghost use Rattle.prl_graph.specs.TaskGraphs.{AreSmallClocks};
-ghost use Rattle.prl_graph.specs.code.Multiples.{IsLeastMultiple};
+ghost use Rattle.prl_graph.specs.code.Multiples.{HaveSmallPeriods, IsLeastMultiple};
 
 use prl_base::{Clock, gcd};
 use prl_plan::MAX_HYPER;
@@ -26,8 +22,7 @@ fn least_multiple(hyper: u64, period: u64) -> u64
 /// The least common multiple of all periods; where it passes the limit, the first running one that
 /// does.
 pub(crate) fn hyperperiod(clocks: &[Clock]) -> Result<u64, u64>
-    requires clocks { (p : FlatProgram) × AreClocks p clocks.now }
-    requires small { AreSmallClocks clocks.now }
+    requires { HaveSmallPeriods clocks.now }
     ensures { MatchResult result (λ hyper. IsHyperperiod clocks.now hyper × (hyper ≤ MAX_HYPER)) (IsPastHyperperiod clocks.now) }
 {
     let mut hyper: u64 = 1;

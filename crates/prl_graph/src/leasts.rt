@@ -1,13 +1,13 @@
 //! The least due of each application.
 
-ghost use Rattle.std.specs.Prelude.{◌≡◌, ◌<◌, ℕ, IfOk, MatchOption, length};
-ghost use Rattle.prl_flow.specs.declared.programs.App.{App};
+ghost use Rattle.std.specs.Prelude.{◌≡◌, ◌<◌, ◌≤◌, ℕ, IfOk, MatchOption, length, set, slice_index};
 ghost use Rattle.prl_flow.specs.Solutions.{AreClocks};
 ghost use Rattle.prl_graph.specs.Dues.{AreDuesInRange, BindsApplication};
 ghost use Rattle.prl_graph.specs.Tasks.{application_clock};
 ghost use Rattle.prl_graph.specs.code.Marks.{AreLeastDues, HasClock, AreOutputMarks, IsBinding};
 
 use crate::dues::copied_application;
+use crate::tasks::clock_of;
 use prl_base::Clock;
 use prl_flow::{App, Clocks, Flat};
 use std::alloc::{AllocError, Global};
@@ -28,9 +28,15 @@ fn binding_due(flat: &Flat, outputs: &[bool], i: usize) -> Option<Binding>
     if outputs[i] {
         return None;
     }
-    let due = flat.flows()[i].due?;
-    let app = copied_application(flat, i)?;
-    Some(Binding { app, due })
+    let flows = flat.flows();
+    let flow = &flows[i];
+    match flow.due {
+        Some(due) => match copied_application(flat, i) {
+            Some(app) => Some(Binding { app, due }),
+            None => None,
+        },
+        None => None,
+    }
 }
 
 /// The clock of an application.
@@ -38,7 +44,7 @@ pub(crate) fn application_clock(clocks: &Clocks, app: &App) -> Clock
     requires { HasClock clocks.now.of app.now }
     ensures { result ≡ application_clock clocks.now.of app.now }
 {
-    clocks.of.as_slice()[app.outs.as_slice()[0].0 as usize]
+    clock_of(clocks, app.outs.as_slice()[0])
 }
 
 /// The period of each application.
@@ -48,9 +54,21 @@ fn periods(alloc: Global, flat: &Flat, clocks: &Clocks) -> Result<Vec<u64>, Allo
 {
     let mut periods = Vec::new(alloc);
     for app in flat.apps() {
-        periods.push(application_clock(clocks, app).period)?;
+        let clock = application_clock(clocks, app);
+        periods.push(clock.period)?;
     }
     Ok(periods)
+}
+
+/// Lowers the due of the application to this one, where it is less.
+fn lower(dues: &mut Vec<u64>, app: usize, due: u64)
+    requires { app < length dues.old.items }
+    ensures less { due < slice_index dues.old.items app → dues.new.items ≡ set dues.old.items app due }
+    ensures more { slice_index dues.old.items app ≤ due → dues.new.items ≡ dues.old.items }
+{
+    if due < dues[app] {
+        dues[app] = due;
+    }
 }
 
 /// The least of the dues that bind an application, or its period, for each application.
@@ -66,13 +84,11 @@ pub(crate) fn least_dues(
     ensures { IfOk result (λ dues. AreLeastDues flat.now clocks.now.of (length flat.now.flows) dues.items) }
 {
     let mut dues = periods(alloc, flat, clocks)?;
-    for i in 0..flat.flows().len() {
-        if let Some(bound) = binding_due(flat, outputs, i) {
-            let due = u64::from(bound.due);
-            let app = bound.app as usize;
-            if due < dues[app] {
-                dues[app] = due;
-            }
+    let flows = flat.flows();
+    for i in 0..flows.len() {
+        match binding_due(flat, outputs, i) {
+            Some(bound) => lower(&mut dues, bound.app as usize, u64::from(bound.due)),
+            None => {}
         }
     }
     Ok(dues)

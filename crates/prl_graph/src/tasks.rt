@@ -5,7 +5,7 @@ ghost use Rattle.prl_flow.specs.Solutions.{AreClocks, clock_of};
 ghost use Rattle.prl_plan.specs.declared.limits.TheConstants.{MAX_TASKS};
 ghost use Rattle.prl_graph.specs.Ports.{actuator_no, node_no, task_count};
 ghost use Rattle.prl_graph.specs.Tasks.{device_due};
-ghost use Rattle.prl_graph.specs.code.Made.{AreFirstTasks};
+ghost use Rattle.prl_graph.specs.code.Made.{AreFirstTasks, MakesActuator, MakesNode, MakesSensor};
 ghost use Rattle.prl_graph.specs.code.Marks.{AreLeastDues};
 
 use crate::leasts::application_clock;
@@ -14,12 +14,20 @@ use prl_flow::{Clocks, Flat};
 use prl_plan::{Kind, Task};
 use std::alloc::{AllocError, Global};
 
+/// The clock of the flow of this number.
+pub(crate) fn clock_at(clocks: &Clocks, i: usize) -> Clock
+    requires { i < length clocks.now.of }
+    ensures { result ≡ clock_of clocks.now.of i }
+{
+    clocks.of.as_slice()[i]
+}
+
 /// The clock of a flow.
 pub(crate) fn clock_of(clocks: &Clocks, flow: FlowNo) -> Clock
     requires { flow.0 < length clocks.now.of }
     ensures { result ≡ clock_of clocks.now.of flow.0 }
 {
-    clocks.of.as_slice()[flow.0 as usize]
+    clock_at(clocks, flow.0 as usize)
 }
 
 /// The due that the flow notes, and otherwise its period.
@@ -44,6 +52,62 @@ fn node_name(alloc: Global, node: &Name, k: u32) -> Result<Label, AllocError>
     Label::new(alloc, bytes.as_slice())
 }
 
+/// The task of the sensor of main's input `k`.
+fn sensor_task(alloc: Global, flat: &Flat, clocks: &Clocks, k: u32) -> Result<Task, AllocError>
+    requires clocks { AreClocks flat.now clocks.now.of }
+    requires within { k < length flat.now.ins }
+    ensures { IfOk result (MakesSensor flat.now clocks.now.of k) }
+{
+    let _flows = flat.flows();
+    let flow = flat.ins()[k as usize];
+    Ok(Task {
+        name: Label::new(alloc, flat.in_name(k).bytes())?,
+        kind: Kind::Sensor(k),
+        clock: clock_of(clocks, flow),
+        wcet: flat.in_wcet(k),
+        due: device_due(flat, clocks, flow),
+    })
+}
+
+/// The task of application `k`, with this due.
+fn node_task(
+    alloc: Global,
+    flat: &Flat,
+    clocks: &Clocks,
+    k: u32,
+    due: u64,
+) -> Result<Task, AllocError>
+    requires clocks { AreClocks flat.now clocks.now.of }
+    requires within { k < length flat.now.apps }
+    ensures { IfOk result (MakesNode flat.now clocks.now.of k due) }
+{
+    let apps = flat.apps();
+    let app = &apps[k as usize];
+    Ok(Task {
+        name: node_name(alloc, &app.name, k)?,
+        kind: Kind::Node(k),
+        clock: application_clock(clocks, app),
+        wcet: app.wcet,
+        due,
+    })
+}
+
+/// The task of the actuator of main's output `k`.
+fn actuator_task(alloc: Global, flat: &Flat, clocks: &Clocks, k: u32) -> Result<Task, AllocError>
+    requires clocks { AreClocks flat.now clocks.now.of }
+    requires within { k < length flat.now.outs }
+    ensures { IfOk result (MakesActuator flat.now clocks.now.of k) }
+{
+    let flow = flat.outs()[k as usize];
+    Ok(Task {
+        name: Label::new(alloc, flat.out_name(k).bytes())?,
+        kind: Kind::Actuator(k),
+        clock: clock_of(clocks, flow),
+        wcet: flat.out_wcet(k),
+        due: device_due(flat, clocks, flow),
+    })
+}
+
 /// Adds the tasks of the sensors.
 fn push_sensors(
     alloc: Global,
@@ -56,16 +120,10 @@ fn push_sensors(
     requires before { AreFirstTasks flat.now clocks.now.of 0 tasks.old.items }
     ensures { IfOk result (λ done. AreFirstTasks flat.now clocks.now.of (node_no flat.now 0) tasks.new.items) }
 {
-    let _flows = flat.flows();
-    for (k, flow) in flat.ins().iter().enumerate() {
-        let k = k as u32;
-        tasks.push(Task {
-            name: Label::new(alloc, flat.in_name(k).bytes())?,
-            kind: Kind::Sensor(k),
-            clock: clock_of(clocks, *flow),
-            wcet: flat.in_wcet(k),
-            due: device_due(flat, clocks, *flow),
-        })?;
+    let ins = flat.ins();
+    for k in 0..ins.len() {
+        let task = sensor_task(alloc, flat, clocks, k as u32)?;
+        tasks.push(task)?;
     }
     Ok(())
 }
@@ -84,16 +142,10 @@ fn push_nodes(
     requires before { AreFirstTasks flat.now clocks.now.of (node_no flat.now 0) tasks.old.items }
     ensures { IfOk result (λ done. AreFirstTasks flat.now clocks.now.of (actuator_no flat.now 0) tasks.new.items) }
 {
-    for (k, app) in flat.apps().iter().enumerate() {
-        let due = dues[k];
-        let k = k as u32;
-        tasks.push(Task {
-            name: node_name(alloc, &app.name, k)?,
-            kind: Kind::Node(k),
-            clock: application_clock(clocks, app),
-            wcet: app.wcet,
-            due,
-        })?;
+    let apps = flat.apps();
+    for k in 0..apps.len() {
+        let task = node_task(alloc, flat, clocks, k as u32, dues[k])?;
+        tasks.push(task)?;
     }
     Ok(())
 }
@@ -110,15 +162,10 @@ fn push_actuators(
     requires before { AreFirstTasks flat.now clocks.now.of (actuator_no flat.now 0) tasks.old.items }
     ensures { IfOk result (λ done. AreFirstTasks flat.now clocks.now.of (task_count flat.now) tasks.new.items) }
 {
-    for (k, flow) in flat.outs().iter().enumerate() {
-        let k = k as u32;
-        tasks.push(Task {
-            name: Label::new(alloc, flat.out_name(k).bytes())?,
-            kind: Kind::Actuator(k),
-            clock: clock_of(clocks, *flow),
-            wcet: flat.out_wcet(k),
-            due: device_due(flat, clocks, *flow),
-        })?;
+    let outs = flat.outs();
+    for k in 0..outs.len() {
+        let task = actuator_task(alloc, flat, clocks, k as u32)?;
+        tasks.push(task)?;
     }
     Ok(())
 }

@@ -3,8 +3,9 @@ use Rattle.std.specs.Prelude.{◌≡◌, ◌≤◌, ◌<◌, ◌⊎◌, ℕ, Boo
 use Rattle.prl_base.specs.declared.numbers.FlowNo.{FlowNo}
 use Rattle.prl_base.specs.declared.operators.Clock.{Clock}
 use Rattle.prl_flow.specs.declared.programs.App.{App}
+use Rattle.prl_flow.specs.declared.programs.Flow.{Flow}
 use Rattle.prl_flow.specs.Programs.{FlatProgram}
-use Rattle.prl_graph.specs.Dues.{BindsApplication, IsMainOutput}
+use Rattle.prl_graph.specs.Dues.{AllowsDue, BindsApplication, IsMainOutput, IsWithinPeriod, NotesDue}
 use Rattle.prl_graph.specs.Tasks.{application_clock}
 
 abbrev pub IsMarked : List Bool → ℕ → Type 0
@@ -45,3 +46,26 @@ pub record AreLeastDues (p : FlatProgram) (clocks : List Clock) (n : ℕ) (dues 
 pub record HasClock (clocks : List Clock) (app : App) : Type 0 where
   pub some : 1 ≤ length app.outs
   pub within : (slice_index_or app.outs 0 (record { 0 = 0 })).0 < length clocks
+
+-- a due on flow `i` may stand there; one does that may not
+abbrev pub IsPlaced : FlatProgram → ℕ → Type 0
+IsPlaced p i = (due : ℕ) → NotesDue p i due → AllowsDue p i
+
+pub record IsMisplaced (p : FlatProgram) (i : ℕ) : Type 0 where
+  pub due : ℕ
+  pub notes : NotesDue p i due
+  pub refused : AllowsDue p i → ⊥
+
+-- a due on flow `i` is in its range; this one is not
+abbrev pub IsRanged : FlatProgram → List Clock → ℕ → Type 0
+IsRanged p clocks i = (due : ℕ) → NotesDue p i due → IsWithinPeriod clocks i due
+
+pub record IsUnranged (p : FlatProgram) (clocks : List Clock) (i due : ℕ) : Type 0 where
+  pub notes : NotesDue p i due
+  pub refused : IsWithinPeriod clocks i due → ⊥
+
+-- the label of flow `i`
+pub record IsLabelOf (p : FlatProgram) (i : ℕ) (label : List ℕ) : Type 0 where
+  pub flow : Flow
+  pub found : slice_get p.flows i ≡ Some flow
+  pub is : flow.label ≡ label
