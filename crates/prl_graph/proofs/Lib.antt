@@ -7,6 +7,7 @@ mod TaskFacts
 mod DueFacts
 mod LeastDues
 mod Tasking
+mod Edging
 mod Names
 mod Order
 mod Ways

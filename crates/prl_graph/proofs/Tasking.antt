@@ -5,6 +5,8 @@ use Rattle.prl_base.specs.Names.{IsName}
 use Rattle.prl_base.specs.declared.operators.Clock.{Clock}
 use Rattle.prl_flow.specs.declared.programs.App.{App}
 use Rattle.prl_flow.specs.Programs.{FlatProgram}
+use Rattle.std.specs.Prelude.{decimal}
+use Rattle.prl_plan.specs.declared.graphs.Kind.TheVariants as kinds
 use Rattle.prl_plan.specs.declared.graphs.Task.{Task}
 use Rattle.prl_plan.specs.Graphs.{IsTaskName}
 use Rattle.prl_graph.specs.Ports.{actuator_no, node_no}
@@ -65,3 +67,13 @@ one_actuator p clocks k tasks after task are makes is =
 
 pub renumbered : (p : FlatProgram) (clocks : List Clock) (n m : ℕ) (tasks : List Task) → n ≡ m → AreFirstTasks p clocks n tasks → AreFirstTasks p clocks m tasks
 renumbered p clocks n m tasks same are = subst (λ k. AreFirstTasks p clocks k tasks) same are
+
+pub node_made : (p : FlatProgram) (clocks : List Clock) (k due : ℕ) (app : App) (name : List ℕ) (clock : Clock) → slice_get p.apps k ≡ Some app → name ≡ app.name ++ 64 ∷ decimal k
+    → clock ≡ application_clock clocks app → IsName app.name → MakesNode p clocks k due (record { name = name; kind = kinds.Node k; clock = clock; wcet = app.wcet; due = due })
+node_made p clocks k due app name clock found name_is clock_is word = record {
+  app = app;
+  found = found;
+  is = ap (λ n. record { name = n; kind = kinds.Node k; clock = clock; wcet = app.wcet; due = due }) name_is
+      ∙ ap (λ t. record { name = app.name ++ 64 ∷ decimal k; kind = kinds.Node k; clock = t; wcet = app.wcet; due = due }) clock_is;
+  named = (app.name, word, name_is);
+}

@@ -10,11 +10,14 @@ use Rattle.prl_flow.specs.declared.programs.Flow.{Flow}
 use Rattle.prl_flow.specs.Programs.{FlatProgram, IsFlat, IsWellDefined}
 use Rattle.prl_flow.specs.Uses.{HasNoCycle, Leads, NamesInside, UsesInside, once, then}
 use Rattle.prl_graph.specs.code.Marks.{IsMarked}
-use Rattle.prl_graph.specs.code.Steps.{StepsBack}
+use Rattle.prl_plan.specs.declared.graphs.Producer.{Producer}
+use Rattle.prl_graph.specs.Edges.{IsProducer}
+use Rattle.prl_graph.specs.code.Made.{FitOperators, FitsOperator}
+use Rattle.prl_graph.specs.code.Steps.{HasProducer, StepsBack}
 use Rattle.prl_graph.specs.code.Steps as steps
 use Rattle.prl_graph.specs.Edges.{LeadsBack}
 use Rattle.prl_graph.specs.Edges as ways
-use Rattle.prl_graph.proofs.Lists.{clear_at, clear_count, clear_length, count_most, mark_cases, mark_counted, mark_set, marked_count, marked_within}
+use Rattle.prl_graph.proofs.Lists.{clear_at, clear_count, clear_length, count_most, mark_cases, mark_counted, marked_count, push_cases}
 
 -- one step more
 pub one_copy : (p : FlatProgram) (n i j : ℕ) (ops : List Op) (flow : Flow) (of : FlowNo) → StepsBack p n i ops j
@@ -122,3 +125,22 @@ few_steps p causal n i j ops way below =
     let len = all.1.len in
     let count = all.1.count in
     omega arith
+
+-- the flow that a definition is of is there
+pub copied_within : (p : FlatProgram) → IsFlat p → (i : ℕ) (flow : Flow) (of : FlowNo) → slice_get p.flows i ≡ Some flow → flow.def ≡ definitions.Copy of → of.0 < length p.flows
+copied_within p flat i flow of found is =
+    let defined = subst (λ d. IsWellDefined p i flow.ty d) is (flat.flows i flow found) in slice_get_within p.flows of.0 defined.0 defined.1
+
+pub operand_within : (p : FlatProgram) → IsFlat p → (i : ℕ) (flow : Flow) (op : Op) (of : FlowNo) → slice_get p.flows i ≡ Some flow → flow.def ≡ definitions.Op op of → of.0 < length p.flows
+operand_within p flat i flow op of found is =
+    let defined = subst (λ d. IsWellDefined p i flow.ty d) is (flat.flows i flow found) in slice_get_within p.flows of.0 defined.0.0 defined.0.1
+
+-- a flow that is made of no other has what gives its values
+pub produced_by : (p : FlatProgram) (i : ℕ) (flow : Flow) (d : Def) (from : Producer) → slice_get p.flows i ≡ Some flow → flow.def ≡ d → IsProducer p d from → HasProducer p i
+produced_by p i flow d from found is produces = (from, record { flow = flow; found = found; produces = subst (λ x. IsProducer p x from) (sym is) produces })
+
+pub step_operators : (ops : List Op) (op : Op) → FitOperators ops → FitsOperator op → FitOperators (ops ++ op ∷ [])
+step_operators ops op fit one = λ k x h. ⊎_elim (λ old. fit k x old) (λ last. subst FitsOperator last.1 one) (push_cases ops op k x h)
+
+pub no_operators : FitOperators []
+no_operators = λ k op h. cc

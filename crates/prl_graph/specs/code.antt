@@ -2,3 +2,4 @@ pub mod Marks
 pub mod Made
 pub mod Multiples
 pub mod Steps
+pub mod Back

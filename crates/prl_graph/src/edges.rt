@@ -1,24 +1,88 @@
 //! The edges: from each input port back to what gives its values.
 
 ghost use Rattle.std.specs.Prelude.{◌≡◌, ◌+◌, ◌<◌, ◌≤◌, ◌∷◌, [], IfOk, length};
+ghost use Rattle.std.specs.Prelude.{FitsSigned};
+ghost use Rattle.std.specs.Int.{w64};
+ghost use Rattle.prl_base.specs.Values.{FitsValue};
 ghost use Rattle.prl_flow.specs.Solutions.{AreClocks};
 ghost use Rattle.prl_flow.specs.Uses.{HasNoCycle};
 ghost use Rattle.prl_plan.specs.declared.limits.TheConstants.{MAX_EDGES, MAX_TASKS};
 ghost use Rattle.prl_graph.specs.Ports.{InputPort, actuator_no, actuator_ports, application_ports, argument_ports, node_no, ports_of, task_count};
-ghost use Rattle.prl_graph.specs.code.Made.{AreMadeEdges, FitOperators};
+ghost use Rattle.prl_graph.specs.code.Made.{AreMadeEdges, FitOperators, FitsOperator};
+ghost use Rattle.prl_graph.specs.code.Back.{IsStepBack};
 ghost use Rattle.prl_graph.specs.code.Steps.{AddsEdges, AreWithin, EndsAt, GivesValues, HasProducer};
 
 use crate::tasks::clock_of;
-use prl_base::{FlowNo, Op, Seq, TaskNo};
+use prl_base::{FlowNo, Op, Seq, TaskNo, Value};
 use prl_flow::{Arg, Clocks, Def, Flat};
 use prl_plan::{Edge, Producer};
 use std::alloc::{AllocError, Global};
+
+/// A step of a way back.
+enum Back {
+    /// To the flow that this one copies.
+    Copy(FlowNo),
+    /// Over an operator, to the flow that it stands on.
+    Operator(Op, FlowNo),
+    /// There is none: the flow is made of no other.
+    End,
+}
 
 /// The way back from a flow: the operators that it passes, and the flow that it ends at.
 #[derive(Drop)]
 struct WayBack {
     ops: Seq<Op>,
     source: FlowNo,
+}
+
+/// A number of a constant is one of 64 bits.
+fn number_fits(number: i64)
+    ensures { FitsSigned w64 number }
+{
+    let _number = number;
+}
+
+/// A constant is a value of 64 bits.
+fn value_fits(value: Value)
+    ensures { FitsValue value }
+{
+    match value {
+        Value::Int(number) => number_fits(number),
+        Value::Bool(_) => {}
+    }
+}
+
+/// The constant of an operator is a value of 64 bits.
+fn operator_fits(op: &Op)
+    ensures { FitsOperator op.now }
+{
+    match op {
+        Op::Fby(value) => value_fits(*value),
+        Op::Cons(value) => value_fits(*value),
+        Op::Tail => {}
+        Op::Up(_) => {}
+        Op::Down(_) => {}
+        Op::Shift(_) => {}
+    }
+}
+
+/// The step back from the flow.
+fn step_back(flat: &Flat, at: FlowNo) -> Back
+    requires { at.0 < length flat.now.flows }
+    ensures { IsStepBack flat.now at.0 result }
+{
+    let flows = flat.flows();
+    let flow = &flows[at.0 as usize];
+    match flow.def {
+        Def::Copy(of) => Back::Copy(of),
+        Def::Op { op, of } => {
+            operator_fits(&op);
+            Back::Operator(op, of)
+        }
+        Def::Sensor(_) => Back::End,
+        Def::Const(_) => Back::End,
+        Def::Apply { .. } => Back::End,
+    }
 }
 
 /// The way back from the flow through copies and operators to a flow that is made of no other.
@@ -32,13 +96,13 @@ fn way_back(alloc: Global, flat: &Flat, from: FlowNo) -> Result<WayBack, AllocEr
     let mut ops = Vec::new(alloc);
     let mut at = from;
     for _ in 0..flows.len() {
-        match flows[at.0 as usize].def {
-            Def::Copy(of) => at = of,
-            Def::Op { op, of } => {
+        match step_back(flat, at) {
+            Back::Copy(of) => at = of,
+            Back::Operator(op, of) => {
                 ops.push(op)?;
                 at = of;
             }
-            Def::Sensor(_) | Def::Const(_) | Def::Apply { .. } => {
+            Back::End => {
                 return Ok(WayBack {
                     ops: Seq::new(ops),
                     source: at,

@@ -1,6 +1,7 @@
 //! The tasks: main's inputs, the applications, main's outputs.
 
 ghost use Rattle.std.specs.Prelude.{◌≡◌, ◌+◌, ◌<◌, ◌≤◌, ◌^◌, ◌++◌, ◌∷◌, ℕ, IfOk, decimal, length};
+ghost use Rattle.prl_base.specs.Names.{IsName};
 ghost use Rattle.prl_flow.specs.Solutions.{AreClocks, clock_of};
 ghost use Rattle.prl_plan.specs.declared.limits.TheConstants.{MAX_TASKS};
 ghost use Rattle.prl_graph.specs.Ports.{actuator_no, node_no, task_count};
@@ -44,7 +45,8 @@ fn device_due(flat: &Flat, clocks: &Clocks, flow: FlowNo) -> u64
 
 /// The name of application `k`'s task: the node's name, `@` and the number.
 fn node_name(alloc: Global, node: &Name, k: u32) -> Result<Label, AllocError>
-    ensures { IfOk result (λ label. label ≡ node.now ++ 64 ∷ decimal k) }
+    ensures name { IfOk result (λ label. label ≡ node.now ++ 64 ∷ decimal k) }
+    ensures word { IsName node.now }
 {
     let mut bytes = Vec::from_slice(alloc, node.bytes())?;
     bytes.push(b'@')?;
