@@ -1,5 +1,5 @@
 -- Edges, one after another.
-use Rattle.std.proofs.Common.{◌≡◌, ◌<◌, ◌≤◌, ◌+◌, ℕ, zero, suc, List, [], ◌∷◌, ◌++◌, length, take, get_or, slice_get, Some, refl, sym, ◌∙◌, ap, subst, arith, inl, inr, ⊎_elim, append_assoc, add-one}
+use Rattle.std.proofs.Common.{◌≡◌, ◌<◌, ◌≤◌, ◌+◌, ℕ, zero, suc, List, [], ◌∷◌, ◌++◌, length, take, get_or, slice_get, Some, refl, sym, ◌∙◌, ap, subst, arith, inl, inr, ⊎_elim, append_assoc, add-one, length-append}
 use Rattle.std.proofs.lemmas.List.{length_push, take_all}
 use Rattle.std.proofs.Math.Seq.{take-suc}
 use Rattle.std.proofs.lemmas.Option.{slice_get_within}
@@ -15,7 +15,7 @@ use Rattle.prl_flow.specs.Solutions.{clock_of}
 use Rattle.prl_plan.specs.declared.graphs.Edge.{Edge}
 use Rattle.prl_plan.specs.declared.graphs.Producer.{Producer}
 use Rattle.prl_graph.specs.Edges.{AreEdgesOf, IsEdgeOf, LeadsBack}
-use Rattle.prl_graph.specs.Ports.{InputPort, actuator_ports, application_ports, argument_ports}
+use Rattle.prl_graph.specs.Ports.{InputPort, actuator_no, actuator_ports, node_no, ports_of, application_ports, argument_ports}
 use Rattle.prl_graph.specs.code.Made.{AreMadeEdges, FitOperators, FitsOperator}
 use Rattle.prl_graph.specs.code.Steps.{AddsEdges, EndsAt, GivesValues}
 use Rattle.prl_graph.proofs.Lists.{push_cases}
@@ -103,7 +103,7 @@ actuators_push i (x ∷ flows) flow =
 pub take_one : {A : Type 0} (xs : List A) (n : ℕ) (x : A) → slice_get xs n ≡ Some x → (take (n + 1) xs ≡ take n xs ++ x ∷ []) × (length (take n xs) ≡ n)
 take_one [] n x h = cc
 take_one (y ∷ xs) zero x h = (let same : y ≡ x = cc in (ap (λ z. z ∷ []) same, refl))
-take_one (y ∷ xs) (suc n) x h = (let rest = take_one xs n x h in (rw add-one (ap (λ l. y ∷ l) (subst (λ m. take m xs ≡ take n xs ++ x ∷ []) add-one rest.0)), ap suc rest.1))
+take_one (y ∷ xs) (suc n) x h = (let rest = take_one xs n x h in (rw add-one (ap (λ l. y ∷ l) (rw add-one at rest.0)), ap suc rest.1))
 
 pub one_argument : (task : ℕ) (args : List Arg) (j : ℕ) (arg : Arg) → slice_get args j ≡ Some arg
     → argument_ports task 0 (take (j + 1) args) ≡ argument_ports task 0 (take j args) ++ record { task = task; port = j; flow = arg.flow.0 } ∷ []
@@ -123,3 +123,40 @@ pub one_output : (task : ℕ) (flows : List FlowNo) (k : ℕ) (flow : FlowNo) �
 one_output task flows k flow found =
     let at = take_one flows k flow found in
     ap (actuator_ports task) at.0 ∙ actuators_push task (take k flows) flow ∙ ap (λ n. actuator_ports task (take k flows) ++ record { task = task + n; port = 0; flow = flow.0 } ∷ []) at.1
+
+-- all elements are taken
+pub arguments_taken : (task n : ℕ) (args : List Arg) → length args ≤ n → argument_ports task 0 (take n args) ≡ argument_ports task 0 args
+arguments_taken task n args most = ap (argument_ports task 0) (take_all n args most)
+
+pub applications_taken : (task n : ℕ) (apps : List App) → length apps ≤ n → application_ports task (take n apps) ≡ application_ports task apps
+applications_taken task n apps most = ap (application_ports task) (take_all n apps most)
+
+pub outputs_taken : (task n : ℕ) (flows : List FlowNo) → length flows ≤ n → actuator_ports task (take n flows) ≡ actuator_ports task flows
+outputs_taken task n flows most = ap (actuator_ports task) (take_all n flows most)
+
+pub same_ports : (p : FlatProgram) (clocks : List Clock) (ports others : List InputPort) (old new : List Edge) → ports ≡ others → AddsEdges p clocks ports old new → AddsEdges p clocks others old new
+same_ports p clocks ports others old new same adds = subst (λ l. AddsEdges p clocks l old new) same adds
+
+-- ports are made of ports of one application
+arguments_length : (i j : ℕ) (args : List Arg) → length (argument_ports i j args) ≡ length args
+arguments_length i j [] = refl
+arguments_length i j (arg ∷ args) = ap suc (arguments_length i (j + 1) args)
+
+application_few : (i : ℕ) (apps : List App) (k : ℕ) (app : App) → slice_get apps k ≡ Some app → length app.args ≤ length (application_ports i apps)
+application_few i [] k app h = cc
+application_few i (x ∷ apps) zero app h =
+    let same : x ≡ app = cc in
+    let len = arguments_length i 0 x.args in
+    let both = length-append (argument_ports i 0 x.args) (application_ports (i + 1) apps) in
+    let e : length x.args ≤ length (application_ports i (x ∷ apps)) = omega arith in
+    subst (λ (a : App). length a.args ≤ length (application_ports i (x ∷ apps))) same e
+application_few i (x ∷ apps) (suc k) app h =
+    let rest = application_few (i + 1) apps k app h in
+    let both = length-append (argument_ports i 0 x.args) (application_ports (i + 1) apps) in
+    omega arith
+
+pub few_arguments : (p : FlatProgram) (k most : ℕ) (app : App) → slice_get p.apps k ≡ Some app → length (ports_of p) ≤ most → length app.args ≤ most
+few_arguments p k most app found few =
+    let part = application_few (node_no p 0) p.apps k app found in
+    let both = length-append (application_ports (node_no p 0) p.apps) (actuator_ports (actuator_no p 0) p.outs) in
+    omega arith

@@ -7,10 +7,11 @@ ghost use Rattle.prl_base.specs.Values.{FitsValue};
 ghost use Rattle.prl_flow.specs.Solutions.{AreClocks};
 ghost use Rattle.prl_flow.specs.Uses.{HasNoCycle};
 ghost use Rattle.prl_plan.specs.declared.limits.TheConstants.{MAX_EDGES, MAX_TASKS};
+ghost use Rattle.prl_graph.specs.Edges.{IsEdgeOf};
 ghost use Rattle.prl_graph.specs.Ports.{InputPort, actuator_no, actuator_ports, application_ports, argument_ports, node_no, ports_of, task_count};
 ghost use Rattle.prl_graph.specs.code.Made.{AreMadeEdges, FitOperators, FitsOperator};
 ghost use Rattle.prl_graph.specs.code.Back.{IsStepBack};
-ghost use Rattle.prl_graph.specs.code.Steps.{AddsEdges, AreWithin, EndsAt, GivesValues, HasProducer};
+ghost use Rattle.prl_graph.specs.code.Steps.{AddsEdges, AreArgumentsOf, AreWithin, EndsAt, GivesValues, HasProducer};
 
 use crate::tasks::clock_of;
 use prl_base::{FlowNo, Op, Seq, TaskNo, Value};
@@ -133,6 +134,37 @@ fn producer(flat: &Flat, source: FlowNo) -> Producer
     }
 }
 
+/// The edge into this port of this task, which reads the flow.
+fn edge_into(
+    alloc: Global,
+    flat: &Flat,
+    clocks: &Clocks,
+    to: u32,
+    port: u32,
+    flow: FlowNo,
+) -> Result<Edge, AllocError>
+    requires clocks { AreClocks flat.now clocks.now.of }
+    requires causal { HasNoCycle flat.now }
+    requires few { task_count flat.now ≤ MAX_TASKS }
+    requires within { flow.0 < length flat.now.flows }
+    ensures is { IfOk result (IsEdgeOf flat.now clocks.now.of (record { task = to; port = port; flow = flow.0 })) }
+    ensures fit { IfOk result (λ edge. FitOperators edge.ops) }
+{
+    let way = way_back(alloc, flat, flow)?;
+    let source = way.source;
+    let from = producer(flat, source);
+    let flows = flat.flows();
+    let made = &flows[source.0 as usize];
+    Ok(Edge {
+        from,
+        to: TaskNo(to),
+        port,
+        ops: way.ops,
+        period: clock_of(clocks, source).period,
+        ty: made.ty,
+    })
+}
+
 /// Adds the edge into this port of this task, which reads the flow.
 fn push_edge(
     alloc: Global,
@@ -149,17 +181,7 @@ fn push_edge(
     requires within { flow.0 < length flat.now.flows }
     ensures { IfOk result (λ done. AddsEdges flat.now clocks.now.of (record { task = to; port = port; flow = flow.0 } ∷ []) edges.old.items edges.new.items) }
 {
-    let way = way_back(alloc, flat, flow)?;
-    let source = way.source;
-    let from = producer(flat, source);
-    let edge = Edge {
-        from,
-        to: TaskNo(to),
-        port,
-        ops: way.ops,
-        period: clock_of(clocks, source).period,
-        ty: flat.flows()[source.0 as usize].ty,
-    };
+    let edge = edge_into(alloc, flat, clocks, to, port, flow)?;
     edges.push(edge)?;
     Ok(())
 }
@@ -180,10 +202,23 @@ fn push_arguments(
     requires within { AreWithin args.now (length flat.now.flows) }
     ensures { IfOk result (λ done. AddsEdges flat.now clocks.now.of (argument_ports to 0 args.now) edges.old.items edges.new.items) }
 {
-    for (j, arg) in args.iter().enumerate() {
-        push_edge(alloc, flat, clocks, to, j as u32, arg.flow, edges)?;
+    for j in 0..args.len() {
+        push_edge(alloc, flat, clocks, to, j as u32, args[j].flow, edges)?;
     }
     Ok(())
+}
+
+/// The arguments of an application.
+fn arguments(flat: &Flat, k: usize) -> &[Arg]
+    requires within { k < length flat.now.apps }
+    requires few_edges { length (ports_of flat.now) ≤ MAX_EDGES }
+    ensures are { AreArgumentsOf flat.now k result.now }
+    ensures few { length result.now ≤ MAX_EDGES }
+    ensures within { AreWithin result.now (length flat.now.flows) }
+{
+    let apps = flat.apps();
+    let app = &apps[k];
+    app.args.as_slice()
 }
 
 /// Adds the edges into the ports of all applications.
@@ -199,9 +234,11 @@ fn push_applications(
     requires few_edges { length (ports_of flat.now) ≤ MAX_EDGES }
     ensures { IfOk result (λ done. AddsEdges flat.now clocks.now.of (application_ports (node_no flat.now 0) flat.now.apps) edges.old.items edges.new.items) }
 {
-    let first = flat.ins().len() as u32;
-    for (k, app) in flat.apps().iter().enumerate() {
-        push_arguments(alloc, flat, clocks, first + k as u32, app.args.as_slice(), edges)?;
+    let ins = flat.ins();
+    let apps = flat.apps();
+    for k in 0..apps.len() {
+        let to = (ins.len() + k) as u32;
+        push_arguments(alloc, flat, clocks, to, arguments(flat, k), edges)?;
     }
     Ok(())
 }
@@ -218,9 +255,12 @@ fn push_actuators(
     requires few { task_count flat.now ≤ MAX_TASKS }
     ensures { IfOk result (λ done. AddsEdges flat.now clocks.now.of (actuator_ports (actuator_no flat.now 0) flat.now.outs) edges.old.items edges.new.items) }
 {
-    let first = (flat.ins().len() + flat.apps().len()) as u32;
-    for (k, flow) in flat.outs().iter().enumerate() {
-        push_edge(alloc, flat, clocks, first + k as u32, 0, *flow, edges)?;
+    let ins = flat.ins();
+    let apps = flat.apps();
+    let outs = flat.outs();
+    for k in 0..outs.len() {
+        let to = (ins.len() + apps.len() + k) as u32;
+        push_edge(alloc, flat, clocks, to, 0, outs[k], edges)?;
     }
     Ok(())
 }

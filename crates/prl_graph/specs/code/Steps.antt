@@ -3,6 +3,7 @@ use Rattle.std.specs.Prelude.{◌≡◌, ◌+◌, ◌<◌, ◌++◌, ℕ, List, 
 use Rattle.prl_base.specs.declared.numbers.FlowNo.{FlowNo}
 use Rattle.prl_base.specs.declared.operators.Clock.{Clock}
 use Rattle.prl_base.specs.declared.operators.Op.{Op}
+use Rattle.prl_flow.specs.declared.programs.App.{App}
 use Rattle.prl_flow.specs.declared.programs.Arg.{Arg}
 use Rattle.prl_flow.specs.declared.programs.Def.{Def}
 use Rattle.prl_flow.specs.declared.programs.Def.TheVariants as definitions
@@ -44,3 +45,9 @@ AreWithin args n = (j : ℕ) (arg : Arg) → slice_get args j ≡ Some arg → a
 -- the edges into these ports come to what edges there are
 abbrev pub AddsEdges : FlatProgram → List Clock → List InputPort → List Edge → List Edge → Type 0
 AddsEdges p clocks ports old new = (before : List InputPort) → AreMadeEdges p clocks before old → AreMadeEdges p clocks (before ++ ports) new
+
+-- these are the arguments of application `k`
+pub record AreArgumentsOf (p : FlatProgram) (k : ℕ) (args : List Arg) : Type 0 where
+  pub app : App
+  pub found : slice_get p.apps k ≡ Some app
+  pub are : app.args ≡ args
