@@ -17,7 +17,7 @@ use Rattle.prl_plan.specs.declared.graphs.Producer.{Producer}
 use Rattle.prl_graph.specs.Edges.{AreEdgesOf, IsEdgeOf, LeadsBack}
 use Rattle.prl_graph.specs.Ports.{InputPort, actuator_no, actuator_ports, node_no, ports_of, application_ports, argument_ports}
 use Rattle.prl_graph.specs.code.Made.{AreMadeEdges, FitOperators, FitsOperator}
-use Rattle.prl_graph.specs.code.Steps.{AddsEdges, EndsAt, GivesValues}
+use Rattle.prl_graph.specs.code.Steps.{AddsEdges, AreArgumentsOf, EndsAt, GivesValues}
 use Rattle.prl_graph.proofs.Lists.{push_cases}
 
 one_edge : (p : FlatProgram) (clocks : List Clock) (ports : List InputPort) (edges : List Edge) (port : InputPort) (edge : Edge) → AreMadeEdges p clocks ports edges → IsEdgeOf p clocks port edge → FitOperators edge.ops
@@ -160,3 +160,34 @@ few_arguments p k most app found few =
     let part = application_few (node_no p 0) p.apps k app found in
     let both = length-append (application_ports (node_no p 0) p.apps) (actuator_ports (actuator_no p 0) p.outs) in
     omega arith
+
+-- the ports of one application more
+pub adds_application : (p : FlatProgram) (clocks : List Clock) (k task : ℕ) (args : List Arg) (old middle new : List Edge) → task ≡ length p.ins + k → AreArgumentsOf p k args
+    → AddsEdges p clocks (application_ports (node_no p 0) (take k p.apps)) old middle → AddsEdges p clocks (argument_ports task 0 args) middle new
+    → AddsEdges p clocks (application_ports (node_no p 0) (take (k + 1) p.apps)) old new
+adds_application p clocks k task args old middle new number are one two =
+    let e : node_no p 0 + k ≡ task = omega arith in
+    let same : argument_ports (node_no p 0 + k) 0 are.app.args ≡ argument_ports task 0 args = ap (λ n. argument_ports n 0 are.app.args) e ∙ ap (argument_ports task 0) are.are in
+    adds_both p clocks (application_ports (node_no p 0) (take k p.apps)) (argument_ports task 0 args) (application_ports (node_no p 0) (take (k + 1) p.apps)) old middle new
+    (one_application (node_no p 0) p.apps k are.app are.found ∙ ap (λ l. application_ports (node_no p 0) (take k p.apps) ++ l) same) one two
+
+-- the port of one actuator more
+pub adds_output : (p : FlatProgram) (clocks : List Clock) (k task : ℕ) (flow : FlowNo) (old middle new : List Edge) → task ≡ length p.ins + length p.apps + k → slice_get p.outs k ≡ Some flow
+    → AddsEdges p clocks (actuator_ports (actuator_no p 0) (take k p.outs)) old middle → AddsEdges p clocks (record { task = task; port = 0; flow = flow.0 } ∷ []) middle new
+    → AddsEdges p clocks (actuator_ports (actuator_no p 0) (take (k + 1) p.outs)) old new
+adds_output p clocks k task flow old middle new number found one two =
+    let e : actuator_no p 0 + k ≡ task = omega arith in
+    adds_both p clocks (actuator_ports (actuator_no p 0) (take k p.outs)) (record { task = task; port = 0; flow = flow.0 } ∷ []) (actuator_ports (actuator_no p 0) (take (k + 1) p.outs)) old middle new
+    (one_output (actuator_no p 0) p.outs k flow found ∙ ap (λ n. actuator_ports (actuator_no p 0) (take k p.outs) ++ record { task = n; port = 0; flow = flow.0 } ∷ []) e) one two
+
+-- all edges, from none
+no_edges : (p : FlatProgram) (clocks : List Clock) → AreMadeEdges p clocks [] []
+no_edges p clocks = record {
+  are = record { count = refl; each = λ e port edge at found. cc };
+  fit = λ e edge found. cc;
+}
+
+pub all_made : (p : FlatProgram) (clocks : List Clock) (none middle edges : List Edge) → none ≡ [] → AddsEdges p clocks (application_ports (node_no p 0) p.apps) none middle
+    → AddsEdges p clocks (actuator_ports (actuator_no p 0) p.outs) middle edges → AreMadeEdges p clocks (ports_of p) edges
+all_made p clocks none middle edges empty one two =
+    two (application_ports (node_no p 0) p.apps) (one [] (subst (λ l. AreMadeEdges p clocks [] l) (sym empty) (no_edges p clocks)))
