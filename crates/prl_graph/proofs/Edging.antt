@@ -138,7 +138,7 @@ pub same_ports : (p : FlatProgram) (clocks : List Clock) (ports others : List In
 same_ports p clocks ports others old new same adds = subst (λ l. AddsEdges p clocks l old new) same adds
 
 -- ports are made of ports of one application
-arguments_length : (i j : ℕ) (args : List Arg) → length (argument_ports i j args) ≡ length args
+pub arguments_length : (i j : ℕ) (args : List Arg) → length (argument_ports i j args) ≡ length args
 arguments_length i j [] = refl
 arguments_length i j (arg ∷ args) = ap suc (arguments_length i (j + 1) args)
 

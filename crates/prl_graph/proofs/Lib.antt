@@ -8,6 +8,7 @@ mod DueFacts
 mod LeastDues
 mod Tasking
 mod Edging
+mod Counts
 mod Names
 mod Order
 mod Ways

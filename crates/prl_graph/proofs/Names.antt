@@ -8,15 +8,16 @@ use Rattle.std.proofs.lemmas.Fmt.{decimal_is_IsNumeral}
 use Rattle.std.proofs.lemmas.Option.{slice_get_within, get_or_from_slice_get}
 use Rattle.prl_base.specs.Names.{IsName, is_word, is_word_byte, is_word_start}
 use Rattle.prl_base.specs.declared.operators.Clock.{Clock}
-use Rattle.prl_flow.specs.Programs.{FlatProgram, IsFlat}
+use Rattle.prl_flow.specs.Programs.{FlatProgram, IsFlat, name_of}
 use Rattle.prl_flow.proofs.Lists.{element_at}
+use Rattle.prl_plan.specs.declared.graphs.Kind.{Kind}
 use Rattle.prl_plan.specs.declared.graphs.Kind.TheVariants as kinds
 use Rattle.prl_plan.specs.declared.graphs.Task.{Task}
 use Rattle.prl_plan.specs.declared.graphs.TaskGraph.{TaskGraph}
 use Rattle.prl_plan.specs.Graphs.{IsTaskName}
 use Rattle.prl_plan.specs.Jobs.{no_task, task_at}
 use Rattle.prl_values.specs.JobValues.{word_of}
-use Rattle.prl_graph.specs.Ports.{node_no}
+use Rattle.prl_graph.specs.Ports.{task_count}
 use Rattle.prl_graph.specs.Tasks.{AreTasks, IsActuatorTask, IsNodeTask, IsSensorTask, IsTaskOf, sensor, node, actuator}
 use Rattle.prl_graph.proofs.TaskFacts.{actuator_device, sensor_device}
 
@@ -85,3 +86,71 @@ no_node : (v w : List ℕ) (a : ℕ) → IsName v → IsName w → v ≡ w ++ 64
 no_node v w a is_v is_w same =
     let words : v ≡ w = sym (word_of_name v is_v) ∙ ap word_of same ∙ word_of_node w (decimal a) is_w in
     longer w (decimal a) (sym words ∙ same)
+
+-- the name of a task by its kind
+name_by : (t : Task) (k : Kind) → t.kind ≡ k → IsTaskName t.kind t.name → IsTaskName k t.name
+name_by t k same is = subst (λ x. IsTaskName x t.name) same is
+
+module _ (p : FlatProgram) (clocks : List Clock) (flat : IsFlat p) where
+  sensor_name : (i : ℕ) (t : Task) → IsSensorTask p clocks i t → t.name ≡ name_of p.in_devices i
+  sensor_name i t is = ap (λ (x : Task). x.name) is.is
+
+  actuator_name : (i : ℕ) (t : Task) → (is : IsActuatorTask p clocks i t) → t.name ≡ name_of p.out_devices is.number
+  actuator_name i t is = ap (λ (x : Task). x.name) is.is
+
+  differ : (i j : ℕ) (s t : Task) → task_count p ≤ 64 → i < j → IsTaskOf p clocks i s → IsTaskOf p clocks j t → IsTaskName s.kind s.name → IsTaskName t.kind t.name → s.name ≡ t.name → ⊥
+  differ i j s t few before (sensor a) (sensor b) s_named t_named same =
+      let number = flat.devices.1 i j (slice_index_or p.in_devices i ([], 0)) (slice_index_or p.in_devices j ([], 0)) (sensor_device p flat i a.flow a.found) (sensor_device p flat j b.flow b.found)
+      (sym (sensor_name i s a) ∙ same ∙ sensor_name j t b) in
+      omega arith
+  differ i j s t few before (sensor a) (node b) s_named t_named same =
+      let name = name_by s (kinds.Sensor i) (ap (λ (x : Task). x.kind) a.is) s_named in
+      let word = name_by t (kinds.Node b.number) (ap (λ (x : Task). x.kind) b.is) t_named in
+      no_node s.name word.0 b.number name word.1 (same ∙ word.2)
+  differ i j s t few before (sensor a) (actuator b) s_named t_named same =
+      let number = flat.devices.1 i (length p.ins + b.number) (slice_index_or p.in_devices i ([], 0)) (slice_index_or p.out_devices b.number ([], 0)) (sensor_device p flat i a.flow a.found)
+      (actuator_device p flat b.number b.flow b.found) (sym (sensor_name i s a) ∙ same ∙ actuator_name j t b) in
+      let low = slice_get_within p.ins i a.flow a.found in
+      omega arith
+  differ i j s t few before (node a) (sensor b) s_named t_named same =
+      let low = slice_get_within p.ins j b.flow b.found in
+      let at = a.at in
+      omega arith
+  differ i j s t few before (node a) (node b) s_named t_named same =
+      let v = name_by s (kinds.Node a.number) (ap (λ (x : Task). x.kind) a.is) s_named in
+      let w = name_by t (kinds.Node b.number) (ap (λ (x : Task). x.kind) b.is) t_named in
+      let low_a = slice_get_within p.apps a.number a.app a.found in
+      let low_b = slice_get_within p.apps b.number b.app b.found in
+      let number = one_number v.0 w.0 a.number b.number v.1 w.1 (omega arith) (omega arith) (sym v.2 ∙ same ∙ w.2) in
+      let at_a = a.at in
+      let at_b = b.at in
+      omega arith
+  differ i j s t few before (node a) (actuator b) s_named t_named same =
+      let word = name_by s (kinds.Node a.number) (ap (λ (x : Task). x.kind) a.is) s_named in
+      let name = name_by t (kinds.Actuator b.number) (ap (λ (x : Task). x.kind) b.is) t_named in
+      no_node t.name word.0 a.number name word.1 (sym same ∙ word.2)
+  differ i j s t few before (actuator a) (sensor b) s_named t_named same =
+      let low = slice_get_within p.ins j b.flow b.found in
+      let at = a.at in
+      omega arith
+  differ i j s t few before (actuator a) (node b) s_named t_named same =
+      let low = slice_get_within p.apps b.number b.app b.found in
+      let at_a = a.at in
+      let at_b = b.at in
+      omega arith
+  differ i j s t few before (actuator a) (actuator b) s_named t_named same =
+      let number = flat.devices.1 (length p.ins + a.number) (length p.ins + b.number) (slice_index_or p.out_devices a.number ([], 0)) (slice_index_or p.out_devices b.number ([], 0))
+      (actuator_device p flat a.number a.flow a.found) (actuator_device p flat b.number b.flow b.found) (sym (actuator_name i s a) ∙ same ∙ actuator_name j t b) in
+      let at_a = a.at in
+      let at_b = b.at in
+      omega arith
+
+  pub names_differ : (g : TaskGraph) → task_count p ≤ 64 → AreTasks p clocks g.tasks → ((i : ℕ) (task : Task) → slice_get g.tasks i ≡ Some task → IsTaskName task.kind task.name)
+      → (i j : ℕ) → i < j → j < length g.tasks → (task_at g i).name ≢ (task_at g j).name
+  names_differ g few are named i j before below same =
+      let s = element_at g.tasks i (omega arith) in
+      let t = element_at g.tasks j below in
+      let s_is = get_or_from_slice_get g.tasks i s.0 no_task s.1 in
+      let t_is = get_or_from_slice_get g.tasks j t.0 no_task t.1 in
+      differ i j s.0 t.0 few before (are.each i s.0 s.1) (are.each j t.0 t.1) (named i s.0 s.1) (named j t.0 t.1)
+      (sym (ap (λ (x : Task). x.name) s_is) ∙ same ∙ ap (λ (x : Task). x.name) t_is)

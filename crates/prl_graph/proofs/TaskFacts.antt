@@ -2,6 +2,7 @@
 use Rattle.std.proofs.Common.{◌≡◌, ◌≢◌, ◌<◌, ◌≤◌, ◌+◌, ◌^◌, ◌⊎◌, ℕ, zero, suc, Bool, true, false, List, [], ◌∷◌, ◌++◌, length, map, get_or, slice_get, Option, Some, None, refl, sym, ◌∙◌, ap, subst, arith, inl, inr, ⊎_elim}
 use Rattle.std.specs.Prelude.{unwrap_or, slice_index_or}
 use Rattle.std.specs.Option.{option_map}
+use Rattle.std.proofs.lemmas.Bool.{cases_lt}
 use Rattle.std.proofs.lemmas.Option.{slice_get_within, get_or_from_slice_get, slice_get-map}
 use Rattle.prl_base.specs.declared.numbers.FlowNo.{FlowNo}
 use Rattle.prl_base.specs.declared.operators.Clock.{Clock}
@@ -21,6 +22,8 @@ use Rattle.prl_graph.specs.Hyperperiods.{IsCommonMultiple, IsHyperperiod}
 use Rattle.prl_graph.specs.Ports.{actuator_no, node_no, task_count}
 use Rattle.prl_graph.specs.TaskGraphs.{AreSmallClocks}
 use Rattle.prl_graph.specs.Tasks.{AreTasks, IsActuatorTask, IsNodeTask, IsSensorTask, IsTaskOf, actuator_task, application_clock, device_due, due_or, node_task, sensor, node, actuator, sensor_task}
+use Rattle.prl_graph.specs.code.Made.{AreFirstTasks, HavePeriods}
+use Rattle.prl_graph.specs.code.Multiples.{HaveSmallPeriods}
 use Rattle.prl_graph.proofs.Lists.{append_right}
 
 -- the kind of task `i`, by numbers of sensors and of applications
@@ -41,6 +44,9 @@ record ArePhases (ins apps s n a : ℕ) : Type 0 where
   before_nodes : s < ins → n ≡ 0
   before_actuators : s < ins → a ≡ 0
   after_nodes : n < apps → a ≡ 0
+
+not_below : (m n : ℕ) → m ≤ n → (m < n → ⊥) → m ≡ n
+not_below m n most low = ⊎_elim (λ less. absurd (low less)) (λ more. (let e : m ≡ n = omega arith in e)) (cases_lt m n)
 
 numbered_by : (ins apps : ℕ) (k : Kind) (ks : List Kind)
     (go : (s n a : ℕ) → ArePhases ins apps s n a → ((m : ℕ) (x : Kind) → slice_get ks m ≡ Some x → KindAt ins apps (s + n + a + m) x) → AreNumbered s n a ks)
@@ -64,7 +70,7 @@ numbered_by ins apps k ks go s n a phases (of_node j at below is) rest =
     let p1 = phases.before_nodes in
     let p2 = phases.before_actuators in
     let p3 = phases.after_nodes in
-    let full : s ≡ ins = omega arith in
+    let full : s ≡ ins = not_below s ins p0 (λ h. (let x = p1 h in let y = p2 h in absurd (omega arith))) in
     let nothing : a ≡ 0 = p3 (omega arith) in
     let number : j ≡ n = omega arith in
     subst (λ x. AreNumbered s n a (x ∷ ks)) (sym is) (
@@ -82,8 +88,8 @@ numbered_by ins apps k ks go s n a phases (of_actuator j at is) rest =
     let p2 = phases.before_actuators in
     let p3 = phases.after_nodes in
     let p4 = phases.nodes in
-    let full : s ≡ ins = omega arith in
-    let all : n ≡ apps = omega arith in
+    let full : s ≡ ins = not_below s ins p0 (λ h. (let x = p1 h in let y = p2 h in absurd (omega arith))) in
+    let all : n ≡ apps = not_below n apps p4 (λ h. (let x = p3 h in absurd (omega arith))) in
     let number : j ≡ a = omega arith in
     subst (λ x. AreNumbered s n a (x ∷ ks)) (sym is) (
       number,
@@ -179,3 +185,35 @@ actuator_device p flat k flow found =
     let count = flat.out_count in
     let there : k < length p.out_devices = omega arith in
     ap (λ n. slice_get (p.in_devices ++ p.out_devices) (n + k)) (sym flat.in_count) ∙ append_right p.in_devices p.out_devices k ∙ device_found p.out_devices k there
+
+-- each task has a period
+pub task_period : (p : FlatProgram) (clocks : List Clock) → IsFlat p → AreClocks p clocks → (i : ℕ) (task : Task) → IsTaskOf p clocks i task → 1 ≤ task.clock.period
+task_period p clocks flat are i task (sensor is) =
+    let count = are.count in
+    let input = flat.ins i is.flow is.found in
+    let below = slice_get_within p.flows is.flow.0 input.0 input.1 in
+    subst (λ (t : Task). 1 ≤ t.clock.period) (sym is.is) (are.clock is.flow.0 (omega arith))
+task_period p clocks flat are i task (node is) =
+    let count = are.count in
+    let app = flat.apps is.number is.app is.found in
+    let first = element_at is.app.outs 0 app.has_output in
+    let output = app.outs 0 first.0 first.1 in
+    let below = slice_get_within p.flows first.0.0 output.0 output.1 in
+    subst (λ (t : Task). 1 ≤ t.clock.period) (sym is.is)
+    (subst (λ (f : FlowNo). 1 ≤ (clock_of clocks f.0).period) (sym (get_or_from_slice_get is.app.outs 0 first.0 (record { 0 = 0 }) first.1)) (are.clock first.0.0 (omega arith)))
+task_period p clocks flat are i task (actuator is) =
+    let count = are.count in
+    let below = flat.outs is.number is.flow is.found in
+    subst (λ (t : Task). 1 ≤ t.clock.period) (sym is.is) (are.clock is.flow.0 (omega arith))
+
+-- clocks of a flat program have periods in their range
+pub small_periods : (p : FlatProgram) (clocks list : List Clock) → AreClocks p clocks → AreSmallClocks clocks → list ≡ clocks → HaveSmallPeriods list
+small_periods p clocks list are small same = subst HaveSmallPeriods (sym same) (λ i clock found.
+    (let below = slice_get_within clocks i clock found in
+    let is = get_or_from_slice_get clocks i clock (record { period = 1; start = 0 }) found in (
+      subst (λ (k : Clock). 1 ≤ k.period) is (are.clock i below),
+      subst (λ (k : Clock). k.period < 2 ^ 31) is (small.period i below),
+    )))
+
+pub have_periods : (p : FlatProgram) (clocks : List Clock) (n : ℕ) (tasks list : List Task) → IsFlat p → AreClocks p clocks → AreFirstTasks p clocks n tasks → list ≡ tasks → HavePeriods list
+have_periods p clocks n tasks list flat are made same = subst HavePeriods (sym same) (λ i task found. task_period p clocks flat are i task (made.each i task found))

@@ -303,7 +303,7 @@ module _ (p : FlatProgram) (clocks : List Clock) (flat : IsFlat p) (are : AreClo
       record {
         kinds = tasks_numbered p clocks g.tasks of.tasks;
         tasks = λ i task found. task_is i task found (named i task found);
-        names = names_differ p clocks flat g of.tasks named;
+        names = names_differ p clocks flat g of.few_tasks of.tasks named;
         edges = λ e edge found. edge_is causal e edge found (fit e edge found);
         order = edges_in_order p g.edges edges_match;
         actuators = one_port;

@@ -1,13 +1,14 @@
 //! The task graph whole, and the limits on it.
 
-ghost use Rattle.std.specs.Prelude.{◌≡◌, ◌<◌, ◌≤◌, ℕ, List, IfOk, MatchResult, length};
+ghost use Rattle.std.specs.Prelude.{◌≡◌, ◌≤◌, List, IfErr, IfOk, MatchResult, length};
 ghost use Rattle.prl_base.specs.declared.operators.Clock.{Clock};
 ghost use Rattle.prl_flow.specs.Solutions.{AreClocks};
 ghost use Rattle.prl_flow.specs.Uses.{HasNoCycle};
 ghost use Rattle.prl_plan.specs.declared.limits.TheConstants.{MAX_EDGES, MAX_HYPER, MAX_TASKS};
 ghost use Rattle.prl_plan.specs.Graphs.{IsWellFormed};
+ghost use Rattle.prl_graph.specs.declared.faults.GraphFault.TheVariants as faults;
 ghost use Rattle.prl_graph.specs.Ports.{ports_of, task_count};
-ghost use Rattle.prl_graph.specs.TaskGraphs.{AreSmallClocks, IsGraphFault, IsGraphOf, IsPassedLimit, jobs_within, told};
+ghost use Rattle.prl_graph.specs.TaskGraphs.{AreSmallClocks, HasDues, IsGraphFault, IsGraphOf, jobs_within, told};
 ghost use Rattle.prl_graph.specs.code.Made.{HavePeriods};
 
 use crate::GraphFault;
@@ -40,25 +41,26 @@ fn count_ports(flat: &Flat) -> u64
     count
 }
 
+/// A limit that is passed.
+fn limit(what: What, found: u64) -> GraphFault
+    ensures { result ≡ faults.Limit (record { what = what; found = found }) }
+{
+    GraphFault::Limit(Limit { what, found })
+}
+
 /// Whether tasks and edges are within their limits.
-fn check_counts(flat: &Flat) -> Result<(), Limit>
-    ensures { MatchResult result
-        (λ done. (task_count flat.now ≤ MAX_TASKS) × (length (ports_of flat.now) ≤ MAX_EDGES))
-        (λ limit. (clocks : List Clock) → IsPassedLimit flat.now clocks limit.what limit.found) }
+fn check_counts(flat: &Flat) -> Result<(), GraphFault>
+    ensures few_tasks { IfOk result (λ done. task_count flat.now ≤ MAX_TASKS) }
+    ensures few_edges { IfOk result (λ done. length (ports_of flat.now) ≤ MAX_EDGES) }
+    ensures fault { IfErr result (λ fault. (clocks : List Clock) → HasDues flat.now clocks → IsGraphFault flat.now clocks fault) }
 {
     let tasks = count_tasks(flat);
     if tasks > MAX_TASKS as u64 {
-        return Err(Limit {
-            what: What::Tasks,
-            found: tasks,
-        });
+        return Err(limit(What::Tasks, tasks));
     }
     let edges = count_ports(flat);
     if edges > MAX_EDGES as u64 {
-        return Err(Limit {
-            what: What::Edges,
-            found: edges,
-        });
+        return Err(limit(What::Edges, edges));
     }
     Ok(())
 }
@@ -90,26 +92,16 @@ pub fn graph(alloc: Global, flat: &Flat, clocks: &Clocks) -> Result<TaskGraph, G
     let outputs = output_marks(alloc, flat)?;
     check_places(alloc, flat, outputs.as_slice())?;
     check_ranges(alloc, flat, clocks)?;
-    if let Err(limit) = check_counts(flat) {
-        return Err(GraphFault::Limit(limit));
-    }
+    check_counts(flat)?;
     let hyper = match hyperperiod(clocks.of.as_slice()) {
         Ok(hyper) => hyper,
-        Err(found) => {
-            return Err(GraphFault::Limit(Limit {
-                what: What::Hyperperiod,
-                found,
-            }));
-        }
+        Err(found) => return Err(limit(What::Hyperperiod, found)),
     };
     let dues = least_dues(alloc, flat, clocks, outputs.as_slice())?;
     let tasks = all_tasks(alloc, flat, clocks, dues.as_slice())?;
     let jobs = period_jobs(tasks.as_slice(), hyper);
     if jobs > MAX_PERIOD_JOBS {
-        return Err(GraphFault::Limit(Limit {
-            what: What::PeriodJobs,
-            found: jobs,
-        }));
+        return Err(limit(What::PeriodJobs, jobs));
     }
     let edges = all_edges(alloc, flat, clocks)?;
     Ok(TaskGraph {

@@ -9,8 +9,8 @@ use Rattle.prl_graph.proofs.dues.check_ranges.Goals as goal
 pub returns-in-Some-clause-fault : goal.returns-in-Some-clause-fault
 returns-in-Some-clause-fault c = (
   c.requires.allowed,
-  subst (λ (k : Clock). IsDueOutOfRange c.args.flat.now c.args.clocks.now.of c.in_ok-flow.flow c.in-Some.due k.period) (sym c.clock_at-period.ensures)
-      (out_of_range c.args.flat.now c.args.clocks.now.of c.loop-i.i c.in-Some.due c.in_ok-flow.flow c.in-Some.ensures c.loop-i.invariant c.in_ok-flow.ensures),
+  subst (λ (k : Clock). IsDueOutOfRange c.args.flat.now c.args.clocks.now.of c.in_ok-flow-in-Some.flow c.in-Some.due k.period) (sym c.clock_at-period.ensures)
+      (out_of_range c.args.flat.now c.args.clocks.now.of c.loop-i.i c.in-Some.due c.in_ok-flow-in-Some.flow c.in-Some.ensures c.loop-i.invariant c.in_ok-flow-in-Some.ensures),
 )
 
 pub loop-i-preserved : goal.loop-i-preserved
