@@ -13,3 +13,4 @@ mod Names
 mod Order
 mod Ways
 mod WellFormed
+mod Whole

@@ -89,6 +89,7 @@ pub fn graph(alloc: Global, flat: &Flat, clocks: &Clocks) -> Result<TaskGraph, G
     ensures graph { MatchResult result (IsGraphOf flat.now clocks.now.of) (IsGraphFault flat.now clocks.now.of) }
     ensures well_formed { IfOk result IsWellFormed }
 {
+    let _flows = flat.flows();
     let outputs = output_marks(alloc, flat)?;
     check_places(alloc, flat, outputs.as_slice())?;
     check_ranges(alloc, flat, clocks)?;

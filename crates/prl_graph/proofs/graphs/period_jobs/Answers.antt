@@ -8,7 +8,9 @@ overflow_add-jobs c =
     let tasks = c.args.tasks.now in
     let k = c.loop-task.task-index in
     let found = item_of tasks tasks k c.task-item.result refl c.loop-task-test.true c.task-item.is in
-    jobs_fit c.loop-task.jobs k c.args.hyper c.task-item.result.clock.period c.loop-task.invariant.few (omega arith) c.requires.hyper (c.requires.periods k c.task-item.result found)
+    let few = c.requires.few in
+    let fits = jobs_fit c.loop-task.jobs k c.args.hyper c.task-item.result.clock.period c.loop-task.invariant.few (omega arith) c.requires.hyper (c.requires.periods k c.task-item.result found) in
+    omega arith
 
 pub nonzero_div-jobs : goal.nonzero_div-jobs
 nonzero_div-jobs c =
