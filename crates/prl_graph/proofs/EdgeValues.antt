@@ -48,11 +48,11 @@ denominated ty (operators.Shift q) fits = fits.0
 module _ (p : FlatProgram) (clocks : List Clock) (bodies : List CheckedBody) (rows : Rows) (until : ℕ) (flows : List (List Value))
     (flat : IsFlat p) (are : AreClocks p clocks) (solves : Solves p clocks bodies rows until flows) where
   -- a flow has the values that its definition gives
-  met : (i : ℕ) (flow : Flow) (def : Def) → slice_get p.flows i ≡ Some flow → flow.def ≡ def
+  pub met : (i : ℕ) (flow : Flow) (def : Def) → slice_get p.flows i ≡ Some flow → flow.def ≡ def
       → MeetsDefinition p clocks bodies rows until flows (clock_of clocks i) (values_of flows i) def
   met i flow def found is = subst (λ d. MeetsDefinition p clocks bodies rows until flows (clock_of clocks i) (values_of flows i) d) is (solves.meets i flow found)
 
-  clock_there : (i : ℕ) → i < length p.flows → i < length clocks
+  pub clock_there : (i : ℕ) → i < length p.flows → i < length clocks
   clock_there i below = let count = are.count in omega arith
 
   -- the value of an operator's instance, from the values of the flow that it stands on
@@ -77,7 +77,7 @@ module _ (p : FlatProgram) (clocks : List Clock) (bodies : List CheckedBody) (ro
       let count = solves.count in
       (solves.up_to i (omega arith) n).0 (slice_get_within (values_of flows i) n v there)
 
-  value_there : (i n : ℕ) → i < length p.flows → date_at (clock_of clocks i) n < until → (v : Value) × (slice_get (values_of flows i) n ≡ Some v)
+  pub value_there : (i n : ℕ) → i < length p.flows → date_at (clock_of clocks i) n < until → (v : Value) × (slice_get (values_of flows i) n ≡ Some v)
   value_there i n below before =
       let count = solves.count in
       element_at (values_of flows i) n ((solves.up_to i (omega arith) n).1 before)

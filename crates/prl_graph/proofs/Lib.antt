@@ -12,5 +12,7 @@ mod Counts
 mod Names
 mod Order
 mod Ways
+mod PortReads
+mod JobValues
 mod WellFormed
 mod Whole

@@ -167,14 +167,14 @@ module _ (p : FlatProgram) (clocks : List Clock) (flat : IsFlat p) (are : AreClo
     receives : is_sensor (task_at g i).kind ≡ false
     clock : (task_at g i).clock ≡ clock_of clocks port.flow
 
-  application_clock_is : (k : ℕ) (app : App) → slice_get p.apps k ≡ Some app → (j : ℕ) (arg : Arg) → slice_get app.args j ≡ Some arg → application_clock clocks app ≡ clock_of clocks arg.flow.0
+  pub application_clock_is : (k : ℕ) (app : App) → slice_get p.apps k ≡ Some app → (j : ℕ) (arg : Arg) → slice_get app.args j ≡ Some arg → application_clock clocks app ≡ clock_of clocks arg.flow.0
   application_clock_is k app found j arg at =
       let one = are.apps k app found in
       let first = element_at app.outs 0 (flat.apps k app found).has_output in
       let is = get_or_from_slice_get app.outs 0 first.0 (record { 0 = 0 }) first.1 in
       ap (λ (f : FlowNo). clock_of clocks f.0) is ∙ one.outs 0 first.0 first.1 ∙ sym (one.args j arg at)
 
-  output_clock_is : (k : ℕ) (app : App) → slice_get p.apps k ≡ Some app → (j : ℕ) (flow : FlowNo) → slice_get app.outs j ≡ Some flow → clock_of clocks flow.0 ≡ application_clock clocks app
+  pub output_clock_is : (k : ℕ) (app : App) → slice_get p.apps k ≡ Some app → (j : ℕ) (flow : FlowNo) → slice_get app.outs j ≡ Some flow → clock_of clocks flow.0 ≡ application_clock clocks app
   output_clock_is k app found j flow at =
       let one = are.apps k app found in
       let first = element_at app.outs 0 (flat.apps k app found).has_output in
@@ -199,6 +199,17 @@ module _ (p : FlatProgram) (clocks : List Clock) (flat : IsFlat p) (are : AreClo
         clock = ap (λ (t : Task). t.clock) is.1 ∙ ap (clock_of clocks) (sym b.flow);
       })))
       (port_is p e port at)
+
+  -- the clock of the task that reads at a port
+  pub port_clock : (e : ℕ) (port : InputPort) → slice_get (ports_of p) e ≡ Some port → (task_at g port.task).clock ≡ clock_of clocks port.flow
+  port_clock e port at = (consumer_is e port at).clock
+
+  -- a task by its number
+  pub task_known : (i : ℕ) → i < length g.tasks → IsTaskOf p clocks i (task_at g i)
+  task_known i below = task_of i (let count = of.tasks.count in omega arith)
+
+  pub match_edges : Match (ports_of p) g.edges
+  match_edges = (of.edges.count, λ e port edge at found. (let is = of.edges.each e port edge at found in (is.to, is.port_is)))
 
   -- the source of an edge
   source_is : (edge : Edge) (source : ℕ) (flow : Flow) (d : Def) → slice_get p.flows source ≡ Some flow → edge.ty ≡ flow.ty → IsWellDefined p source flow.ty d → IsProducer p d edge.from
@@ -254,9 +265,6 @@ module _ (p : FlatProgram) (clocks : List Clock) (flat : IsFlat p) (are : AreClo
         few = omega arith;
       }
 
-  edges_match : Match (ports_of p) g.edges
-  edges_match = (of.edges.count, λ e port edge at found. (let is = of.edges.each e port edge at found in (is.to, is.port_is)))
-
   -- an actuator has its port, and no other
   one_port : (i : ℕ) → i < length g.tasks → is_actuator (task_at g i).kind ≡ true → HasOnePort g i
   one_port i below is = one_port_by i (task_of i (let count = of.tasks.count in omega arith)) is
@@ -305,7 +313,7 @@ module _ (p : FlatProgram) (clocks : List Clock) (flat : IsFlat p) (are : AreClo
         tasks = λ i task found. task_is i task found (named i task found);
         names = names_differ p clocks flat g of.few_tasks of.tasks named;
         edges = λ e edge found. edge_is causal e edge found (fit e edge found);
-        order = edges_in_order p g.edges edges_match;
+        order = edges_in_order p g.edges match_edges;
         actuators = one_port;
         hyper = of.hyper.positive;
         few_tasks = omega arith;

@@ -5,6 +5,7 @@ pub mod Tasks
 -- edges, and the values on them
 pub mod Edges
 pub mod EdgeValues
+pub mod JobDates
 -- the hyperperiod, the graph, and why there is none
 pub mod Hyperperiods
 pub mod TaskGraphs

@@ -1,12 +1,20 @@
 //! The task graph whole, and the limits on it.
 
-ghost use Rattle.std.specs.Prelude.{◌≡◌, ◌≤◌, List, IfErr, IfOk, MatchResult, length};
+ghost use Rattle.std.specs.Prelude.{◌≡◌, ◌≤◌, ℕ, List, IfErr, IfOk, MatchResult, length};
+ghost use Rattle.std.specs.List.{AllByRecursion};
 ghost use Rattle.prl_base.specs.declared.operators.Clock.{Clock};
-ghost use Rattle.prl_flow.specs.Solutions.{AreClocks};
+ghost use Rattle.prl_base.specs.declared.values.Value.{Value};
+ghost use Rattle.prl_body.specs.declared.bodies.CheckedBody.{CheckedBody};
+ghost use Rattle.prl_body.specs.Bodies.{IsWellTyped};
+ghost use Rattle.prl_flow.specs.Applications.{HaveBodies};
+ghost use Rattle.prl_flow.specs.Rows.{Rows};
+ghost use Rattle.prl_flow.specs.Solutions.{AreClocks, Solves};
 ghost use Rattle.prl_flow.specs.Uses.{HasNoCycle};
 ghost use Rattle.prl_plan.specs.declared.limits.TheConstants.{MAX_EDGES, MAX_HYPER, MAX_TASKS};
 ghost use Rattle.prl_plan.specs.Graphs.{IsWellFormed};
 ghost use Rattle.prl_graph.specs.declared.faults.GraphFault.TheVariants as faults;
+ghost use Rattle.prl_values.specs.JobValues.{AreJobValues};
+ghost use Rattle.prl_graph.specs.JobDates.{values_on_dates};
 ghost use Rattle.prl_graph.specs.Ports.{ports_of, task_count};
 ghost use Rattle.prl_graph.specs.TaskGraphs.{AreSmallClocks, HasDues, IsGraphFault, IsGraphOf, jobs_within, told};
 ghost use Rattle.prl_graph.specs.code.Made.{HavePeriods};
@@ -88,6 +96,10 @@ pub fn graph(alloc: Global, flat: &Flat, clocks: &Clocks) -> Result<TaskGraph, G
     requires causal { HasNoCycle flat.now }
     ensures graph { MatchResult result (IsGraphOf flat.now clocks.now.of) (IsGraphFault flat.now clocks.now.of) }
     ensures well_formed { IfOk result IsWellFormed }
+    // The values by instance are those of each solution of the flat program, at the jobs' dates.
+    ensures values { IfOk result (λ g. (bodies : List CheckedBody) (rows : Rows) (until : ℕ) (flows : List (List Value)) →
+        HaveBodies flat.now bodies → AllByRecursion IsWellTyped bodies → Solves flat.now clocks.now.of bodies rows until flows →
+        AreJobValues g bodies rows until (values_on_dates flat.now clocks.now.of flows g)) }
 {
     let _flows = flat.flows();
     let outputs = output_marks(alloc, flat)?;

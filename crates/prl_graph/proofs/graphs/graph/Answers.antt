@@ -4,6 +4,7 @@ use Rattle.prl_base.specs.declared.operators.Clock.{Clock}
 use Rattle.prl_graph.specs.Ports.{task_count}
 use Rattle.prl_graph.specs.Hyperperiods.{IsHyperperiod}
 use Rattle.prl_graph.specs.TaskGraphs.{jobs_within}
+use Rattle.prl_graph.proofs.JobValues.{job_values_are}
 use Rattle.prl_graph.proofs.TaskFacts.{have_periods, small_periods}
 use Rattle.prl_graph.proofs.Whole.{made_whole, past_jobs}
 use Rattle.prl_graph.proofs.graphs.graph.Goals as goal
@@ -51,4 +52,9 @@ returns c =
     c.in_ok-check_counts.ensures.few_tasks c.in_ok-check_counts.ensures.few_edges
     (record { tasks = c.new.result; edges = c.new-2.result; hyper = hyper }) c.in_ok-tasks.tasks.items c.in_ok-edges.edges.items c.new.ensures c.new-2.ensures
     c.in_ok-tasks.ensures c.in_ok-edges.ensures hyper_is c.in-Ok.ensures.1 few in
-    record { graph = both.0; well_formed = both.1 }
+    record {
+      graph = both.0;
+      well_formed = both.1;
+      values = λ bodies rows until flows have typed solves.
+          job_values_are p clocks bodies rows until flows c.flows-flows.ensures.well_formed c.requires.clocks c.requires.small solves (record { tasks = c.new.result; edges = c.new-2.result; hyper = hyper }) both.0 both.1 have typed;
+    }
