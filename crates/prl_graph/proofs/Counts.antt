@@ -1,18 +1,15 @@
 -- Numbers of ports and of jobs.
-use Rattle.std.proofs.Common.{◌≡◌, ◌<◌, ◌≤◌, ◌+◌, ◌*◌, ◌/◌, ◌^◌, ◌-◌, ℕ, zero, suc, List, [], ◌∷◌, ◌++◌, length, map, sum, take, min, slice_get, Some, refl, sym, ◌∙◌, ap, subst, arith, length-append}
+use Rattle.std.proofs.Common.{◌≡◌, ◌<◌, ◌≤◌, ◌+◌, ◌*◌, ◌/◌, ◌^◌, ℕ, suc, List, [], ◌∷◌, ◌++◌, length, map, sum, take, slice_get, Some, refl, sym, ◌∙◌, ap, arith, length-append}
 use Rattle.std.specs.List.{sum_by}
 use Rattle.std.proofs.Math.Nat.{mul-le-mul_right}
 use Rattle.std.proofs.lemmas.List.{take_all}
 use Rattle.std.proofs.lemmas.List.Sums.{sum-map, sum_by-append, sum_by-cons}
 use Rattle.prl_base.specs.declared.numbers.FlowNo.{FlowNo}
-use Rattle.prl_base.specs.declared.operators.Clock.{Clock}
 use Rattle.prl_flow.specs.declared.programs.App.{App}
-use Rattle.prl_flow.specs.declared.programs.Arg.{Arg}
-use Rattle.prl_flow.specs.Programs.{FlatProgram, IsFlat}
-use Rattle.prl_flow.specs.Solutions.{AreClocks, clock_of}
+use Rattle.prl_flow.specs.Programs.{FlatProgram}
 use Rattle.prl_plan.specs.declared.graphs.Task.{Task}
 use Rattle.prl_graph.specs.Ports.{actuator_no, actuator_ports, application_ports, argument_ports, node_no, ports_of}
-use Rattle.prl_graph.specs.TaskGraphs.{jobs_within, told}
+use Rattle.prl_graph.specs.TaskGraphs.{jobs_within}
 use Rattle.prl_graph.proofs.Edging.{arguments_length, one_application, take_one}
 
 outputs_length : (i : ℕ) (flows : List FlowNo) → length (actuator_ports i flows) ≡ length flows

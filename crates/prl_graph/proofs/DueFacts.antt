@@ -1,16 +1,14 @@
 -- Where dues may stand, and what they bind.
-use Rattle.std.proofs.Common.{◌≡◌, ◌<◌, ◌≤◌, ◌+◌, ◌⊎◌, ℕ, zero, suc, Bool, true, false, List, [], ◌∷◌, length, set, get_or, replicate, slice_get, Option, Some, None, refl, sym, ◌∙◌, ap, subst, arith, inl, inr, ⊎_elim, length-set}
+use Rattle.std.proofs.Common.{◌≡◌, ◌<◌, ◌≤◌, ◌+◌, ℕ, Bool, true, false, List, length, set, replicate, slice_get, Some, None, refl, sym, ◌∙◌, ap, subst, arith, ⊎_elim, length-set}
 use Rattle.std.proofs.lemmas.Bool.{cases_lt, false≢true}
-use Rattle.std.proofs.lemmas.Option.{slice_get_within, get_or_from_slice_get}
+use Rattle.std.proofs.lemmas.Option.{slice_get_within}
 use Rattle.prl_base.specs.declared.numbers.FlowNo.{FlowNo}
 use Rattle.prl_base.specs.declared.operators.Clock.{Clock}
-use Rattle.prl_flow.specs.declared.programs.App.{App}
-use Rattle.prl_flow.specs.declared.programs.Def.{Def}
 use Rattle.prl_flow.specs.declared.programs.Def.TheVariants as definitions
 use Rattle.prl_flow.specs.declared.programs.Flow.{Flow}
 use Rattle.prl_flow.specs.Programs.{FlatProgram, IsFlat, IsWellDefined}
-use Rattle.prl_graph.specs.Dues.{AllowsDue, AreDuesAllowed, AreDuesInRange, BindsApplication, CopiesOutput, IsDueOnNonTask, IsDueOutOfRange, IsMainInput, IsMainOutput, IsWithinPeriod, NotesDue, input, output, copy}
-use Rattle.prl_graph.specs.code.Marks.{AreMarked, AreOutputMarks, IsBinding, IsEarlyOutput, IsLabelOf, IsMarked, IsMisplaced, IsPlaced, IsRanged, IsUnranged}
+use Rattle.prl_graph.specs.Dues.{AllowsDue, AreDuesAllowed, AreDuesInRange, CopiesOutput, IsDueOnNonTask, IsDueOutOfRange, IsMainInput, IsMainOutput, IsWithinPeriod, NotesDue, input, output, copy}
+use Rattle.prl_graph.specs.code.Marks.{AreMarked, AreOutputMarks, IsBinding, IsLabelOf, IsMarked, IsMisplaced, IsPlaced, IsRanged, IsUnranged}
 use Rattle.prl_flow.specs.Solutions.{clock_of}
 use Rattle.prl_graph.proofs.Lists.{clear_at, clear_length, mark_cases, mark_kept, mark_set}
 
@@ -80,8 +78,8 @@ binding_is p i k due flow found noted copies local = record {
   only = λ l other b. (
     one_copied p i k l copies b.copies,
     (let same : b.notes.flow ≡ flow = (let e : Some b.notes.flow ≡ Some flow = sym b.notes.found ∙ found in cc) in
-    let e : Some other ≡ Some due = sym b.notes.noted ∙ ap (λ (f : Flow). f.due) same ∙ noted in
-    cc),
+        let e : Some other ≡ Some due = sym b.notes.noted ∙ ap (λ (f : Flow). f.due) same ∙ noted in
+        cc),
   );
 }
 

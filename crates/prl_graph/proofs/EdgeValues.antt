@@ -1,8 +1,8 @@
 -- The value on an edge.
-use Rattle.std.proofs.Common.{◌≡◌, ◌<◌, ℕ, List, [], ◌∷◌, length, slice_get, Option, Some, None, refl, sym, ◌∙◌, ap, subst, arith}
+use Rattle.std.proofs.Common.{◌≡◌, ◌<◌, ℕ, List, length, slice_get, Option, Some, refl, sym, ◌∙◌, ap, subst, arith}
 use Rattle.std.proofs.lemmas.Option.{slice_get_within}
 use Rattle.prl_base.specs.Clocks.{date_at}
-use Rattle.prl_base.specs.Operators.{Origin, instance, constant, origin_of}
+use Rattle.prl_base.specs.Operators.{instance, constant, origin_of}
 use Rattle.prl_base.specs.declared.numbers.FlowNo.{FlowNo}
 use Rattle.prl_base.specs.declared.operators.Clock.{Clock}
 use Rattle.prl_base.specs.declared.operators.Op.{Op}
@@ -13,7 +13,7 @@ use Rattle.prl_body.specs.declared.bodies.CheckedBody.{CheckedBody}
 use Rattle.prl_flow.specs.declared.programs.Def.{Def}
 use Rattle.prl_flow.specs.declared.programs.Def.TheVariants as definitions
 use Rattle.prl_flow.specs.declared.programs.Flow.{Flow}
-use Rattle.prl_flow.specs.Flows.{OperatorByDate, value_of_operator}
+use Rattle.prl_flow.specs.Flows.{OperatorByDate}
 use Rattle.prl_flow.specs.Instances.{IsDenominated, value_from}
 use Rattle.prl_flow.specs.Programs.{FitsType, FlatProgram, IsFlat, IsWellDefined}
 use Rattle.prl_flow.specs.Rows.{Rows}
@@ -30,7 +30,6 @@ use Rattle.prl_graph.specs.Edges.{IsEdgeOf, IsProducer, LeadsBack}
 use Rattle.prl_graph.specs.Edges as ways
 use Rattle.prl_graph.specs.EdgeValues.{value_of_operand, value_on_date}
 use Rattle.prl_graph.specs.Ports.{InputPort}
-use Rattle.prl_graph.proofs.Walks.{end_within}
 
 -- a value of a list, or the constant
 abbrev pub value_by : List Value → Operand → Option Value

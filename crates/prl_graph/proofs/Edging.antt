@@ -1,22 +1,19 @@
 -- Edges, one after another.
-use Rattle.std.proofs.Common.{◌≡◌, ◌<◌, ◌≤◌, ◌+◌, ℕ, zero, suc, List, [], ◌∷◌, ◌++◌, length, take, get_or, slice_get, Some, refl, sym, ◌∙◌, ap, subst, arith, inl, inr, ⊎_elim, append_assoc, add-one, length-append}
+use Rattle.std.proofs.Common.{◌≡◌, ◌≤◌, ◌+◌, ℕ, zero, suc, List, [], ◌∷◌, ◌++◌, length, take, slice_get, Some, refl, sym, ◌∙◌, ap, subst, arith, ⊎_elim, append_assoc, add-one, length-append}
 use Rattle.std.proofs.lemmas.List.{length_push, take_all}
-use Rattle.std.proofs.Math.Seq.{take-suc}
 use Rattle.std.proofs.lemmas.Option.{slice_get_within}
 use Rattle.prl_base.specs.declared.numbers.FlowNo.{FlowNo}
 use Rattle.prl_base.specs.declared.operators.Clock.{Clock}
 use Rattle.prl_base.specs.declared.operators.Op.{Op}
-use Rattle.prl_base.specs.declared.values.Ty.{Ty}
 use Rattle.prl_flow.specs.declared.programs.App.{App}
 use Rattle.prl_flow.specs.declared.programs.Arg.{Arg}
 use Rattle.prl_flow.specs.declared.programs.Flow.{Flow}
 use Rattle.prl_flow.specs.Programs.{FlatProgram}
 use Rattle.prl_flow.specs.Solutions.{clock_of}
 use Rattle.prl_plan.specs.declared.graphs.Edge.{Edge}
-use Rattle.prl_plan.specs.declared.graphs.Producer.{Producer}
-use Rattle.prl_graph.specs.Edges.{AreEdgesOf, IsEdgeOf, LeadsBack}
+use Rattle.prl_graph.specs.Edges.{IsEdgeOf, LeadsBack}
 use Rattle.prl_graph.specs.Ports.{InputPort, actuator_no, actuator_ports, node_no, ports_of, application_ports, argument_ports}
-use Rattle.prl_graph.specs.code.Made.{AreMadeEdges, FitOperators, FitsOperator}
+use Rattle.prl_graph.specs.code.Made.{AreMadeEdges, FitOperators}
 use Rattle.prl_graph.specs.code.Steps.{AddsEdges, AreArgumentsOf, EndsAt, GivesValues}
 use Rattle.prl_graph.proofs.Lists.{push_cases}
 

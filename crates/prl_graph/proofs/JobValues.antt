@@ -1,6 +1,6 @@
 -- The values of a solution at the dates of jobs are values by instance.
-use Rattle.std.proofs.Common.{◌≡◌, ◌<◌, ◌≤◌, ◌+◌, ◌*◌, ◌⊎◌, ℕ, zero, suc, Bool, true, false, cond, List, [], ◌∷◌, ◌++◌, length, map, take, slice_get, Option, Some, None, refl, sym, ◌∙◌, ap, subst, arith, inl, inr, ⊎_elim, length-append}
-use Rattle.std.specs.Prelude.{◌+ℤ◌, ◌*ℤ◌, ◌<ℤ◌, decimal, pos, slice_index_or, unwrap_or}
+use Rattle.std.proofs.Common.{◌≡◌, ◌<◌, ◌≤◌, ◌+◌, ◌*◌, ℕ, zero, suc, true, false, cond, List, [], ◌∷◌, ◌++◌, length, map, take, slice_get, Option, Some, refl, sym, ◌∙◌, ap, subst, arith, length-append}
+use Rattle.std.specs.Prelude.{◌+ℤ◌, ◌*ℤ◌, ◌<ℤ◌, decimal, pos, unwrap_or}
 use Rattle.std.proofs.lemmas.Int.{ints}
 use Rattle.std.specs.List.{AllByRecursion}
 use Rattle.std.specs.Option.{option_map}
@@ -25,14 +25,13 @@ use Rattle.prl_flow.specs.Applications.{HaveBodies, HaveTypes, nth_step, registe
 use Rattle.prl_flow.specs.Flows.{value_at}
 use Rattle.prl_flow.specs.Programs.{FlatProgram, IsFlat, IsWellDefined}
 use Rattle.prl_flow.specs.Rows.{Rows, rows_of}
-use Rattle.prl_flow.specs.Solutions.{AreClocks, IsOutputFlow, MeetsDefinition, Solves, argument_flows, clock_of, values_of}
+use Rattle.prl_flow.specs.Solutions.{AreClocks, IsOutputFlow, Solves, argument_flows, clock_of, values_of}
 use Rattle.prl_flow.proofs.Applied as applied
 use Rattle.prl_flow.proofs.ClockDates.{value_at_date}
 use Rattle.prl_flow.proofs.Lists.{element_at, same_from_elements, slice_get_take}
 use Rattle.prl_plan.specs.declared.graphs.Edge.{Edge}
 use Rattle.prl_plan.specs.declared.graphs.Kind.{Kind}
 use Rattle.prl_plan.specs.declared.graphs.Kind.TheVariants as kinds
-use Rattle.prl_plan.specs.declared.graphs.Producer.{Producer}
 use Rattle.prl_plan.specs.declared.graphs.Producer.TheVariants as producers
 use Rattle.prl_plan.specs.declared.graphs.Task.{Task}
 use Rattle.prl_plan.specs.declared.graphs.TaskGraph.{TaskGraph}
@@ -41,18 +40,18 @@ use Rattle.prl_plan.specs.declared.walks.Operand.TheVariants as operands
 use Rattle.prl_plan.specs.Graphs.{IsTaskName, IsWellFormed}
 use Rattle.prl_plan.specs.Jobs.{IsHorizonJob, no_task, task_at}
 use Rattle.prl_plan.specs.Operands.{operand_from, operand_of, walk}
-use Rattle.prl_values.specs.JobValues.{AreJobValues, JobValues, at_most_one, body_of_task, given, gives, read_on, reads_of_job, step_outputs, value_from, value_on, word_of}
-use Rattle.prl_graph.specs.Edges.{IsEdgeOf, IsProducer}
+use Rattle.prl_values.specs.JobValues.{AreJobValues, at_most_one, body_of_task, given, gives, read_on, reads_of_job, step_outputs, value_from, value_on, word_of}
+use Rattle.prl_graph.specs.Edges.{IsProducer}
 use Rattle.prl_graph.specs.EdgeValues.{value_of_operand, value_on_date}
 use Rattle.prl_graph.specs.JobDates.{given_flows, no_flow, outputs_of, value_or_none, values_on_dates}
 use Rattle.prl_graph.specs.Ports.{InputPort, actuator_no, node_no, ports_of}
 use Rattle.prl_graph.specs.TaskGraphs.{AreSmallClocks, IsGraphOf}
-use Rattle.prl_graph.specs.Tasks.{IsTaskOf, actuator_task, application_clock, node_task, sensor, node, actuator, sensor_task}
+use Rattle.prl_graph.specs.Tasks.{IsTaskOf, application_clock, sensor, node, actuator}
 use Rattle.prl_graph.proofs.EdgeValues.{clock_there, met, on_edge, value_there}
 use Rattle.prl_graph.proofs.Names.{word_of_node}
 use Rattle.prl_graph.proofs.Ports.{port_within}
 use Rattle.prl_graph.proofs.PortReads.{actuator_reads, flows_read, node_reads, reads_are}
-use Rattle.prl_graph.proofs.WellFormed.{actuator_at, application_clock_is, match_edges, node_at, output_clock_is, port_clock, sensor_at, task_known}
+use Rattle.prl_graph.proofs.WellFormed.{application_clock_is, match_edges, node_at, output_clock_is, port_clock, sensor_at, task_known}
 
 -- the same names where the same is behind them
 cancel_right : (xs ys zs : List ℕ) → xs ++ zs ≡ ys ++ zs → xs ≡ ys

@@ -1,16 +1,15 @@
 -- The least due of each application, flow after flow.
-use Rattle.std.proofs.Common.{◌≡◌, ◌<◌, ◌≤◌, ◌+◌, ◌⊎◌, ◌≢◌, ℕ, zero, suc, List, [], ◌∷◌, ◌++◌, length, set, get_or, slice_get, Option, Some, None, refl, sym, ◌∙◌, ap, subst, arith, inl, inr, ⊎_elim, length-set, get_or-set_same, get_or-set_other}
+use Rattle.std.proofs.Common.{◌≡◌, ◌<◌, ◌≤◌, ◌+◌, ◌≢◌, ℕ, List, [], ◌∷◌, ◌++◌, length, set, get_or, slice_get, Some, sym, ◌∙◌, ap, subst, arith, inl, inr, ⊎_elim, length-set, get_or-set_same, get_or-set_other}
 use Rattle.std.proofs.lemmas.Bool.{cases_lt}
-use Rattle.std.proofs.lemmas.List.{get_or_append_left, get_or_push, length_push}
+use Rattle.std.proofs.lemmas.List.{get_or_append_left, get_or_push}
 use Rattle.std.proofs.lemmas.Option.{slice_get_within, get_or_from_slice_get}
 use Rattle.prl_base.specs.declared.numbers.FlowNo.{FlowNo}
 use Rattle.prl_base.specs.declared.operators.Clock.{Clock}
 use Rattle.prl_flow.specs.declared.programs.App.{App}
-use Rattle.prl_flow.specs.declared.programs.Def.TheVariants as definitions
 use Rattle.prl_flow.specs.Programs.{FlatProgram, IsFlat, IsWellDefined}
 use Rattle.prl_flow.specs.Solutions.{AreClocks}
 use Rattle.prl_flow.proofs.Lists.{element_at}
-use Rattle.prl_graph.specs.Dues.{AreDuesInRange, BindsApplication, IsLeastDue}
+use Rattle.prl_graph.specs.Dues.{BindsApplication, IsLeastDue}
 use Rattle.prl_graph.specs.Tasks.{application_clock}
 use Rattle.prl_graph.specs.code.Marks.{AreLeastDues, HasClock, IsBinding, IsLeastOfFirst}
 use Rattle.prl_graph.proofs.Lists.{equal_or_not}

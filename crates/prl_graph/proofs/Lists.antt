@@ -1,5 +1,5 @@
 -- Lists with one more element, and marks.
-use Rattle.std.proofs.Common.{◌≡◌, ◌<◌, ◌≢◌, ◌+◌, ◌⊎◌, ℕ, zero, suc, zero-add, Bool, true, false, cond, List, [], ◌∷◌, ◌++◌, length, set, get_or, replicate, slice_get, Some, refl, sym, ◌∙◌, ap, subst, arith, inl, inr, ⊎_elim, get_or-set_same, get_or-set_other, length-append, add-one}
+use Rattle.std.proofs.Common.{◌≡◌, ◌<◌, ◌≢◌, ◌+◌, ◌⊎◌, ℕ, zero, suc, zero-add, Bool, true, false, cond, List, [], ◌∷◌, ◌++◌, length, set, get_or, replicate, slice_get, Some, refl, sym, ◌∙◌, ap, subst, arith, inl, inr, ⊎_elim, get_or-set_same, get_or-set_other}
 use Rattle.std.specs.Prelude.{count_by}
 use Rattle.std.proofs.lemmas.Bool.{cases_lt, false≢true}
 use Rattle.std.proofs.lemmas.Option.{slice_get_within, slice_get-get_or}

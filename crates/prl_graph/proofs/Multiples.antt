@@ -1,14 +1,14 @@
 -- Common multiples.
 use Prim.Native.Nat.{◌∣◌}
-use Rattle.std.proofs.Common.{◌≡◌, ◌<◌, ◌≤◌, ◌+◌, ◌*◌, ◌/◌, ◌%◌, ℕ, zero, suc, List, [], ◌∷◌, ◌++◌, length, take, slice_get, Some, refl, sym, ◌∙◌, ap, subst, arith, inl, inr, ⊎_elim}
+use Rattle.std.proofs.Common.{◌≡◌, ◌<◌, ◌≤◌, ◌+◌, ◌*◌, ◌/◌, ℕ, zero, suc, List, [], ◌∷◌, length, take, slice_get, Some, refl, sym, ◌∙◌, ap, subst, arith, ⊎_elim}
 use Rattle.std.proofs.Math.Nat.{mul_comm, mul_assoc, dvd-mul_left, mul-div_cancel, div-mul_cancel}
 use Rattle.std.proofs.lemmas.Bool.{cases_lt}
-use Rattle.std.proofs.lemmas.Nat.Gcd.{le_of_dvd, mod-eq-zero_of_dvd, dvd_antisymm}
+use Rattle.std.proofs.lemmas.Nat.Gcd.{dvd_antisymm}
 use Rattle.std.specs.Int.{IsGcd}
 use Rattle.prl_base.proofs.Coprime.{divides_other, quotients_coprime}
 use Rattle.prl_plan.specs.Graphs.{Divides}
-use Rattle.prl_graph.specs.code.Multiples.{HaveSmallPeriods, IsLeastMultiple}
-use Rattle.prl_graph.specs.Hyperperiods.{IsCommonMultiple, IsHyperperiod, IsPastHyperperiod}
+use Rattle.prl_graph.specs.code.Multiples.{IsLeastMultiple}
+use Rattle.prl_graph.specs.Hyperperiods.{IsHyperperiod, IsPastHyperperiod}
 use Rattle.prl_plan.specs.declared.limits.TheConstants.{MAX_HYPER}
 use Rattle.prl_base.specs.declared.operators.Clock.{Clock}
 use Rattle.prl_flow.proofs.Lists.{slice_get_take}

@@ -1,12 +1,12 @@
 -- Names of tasks differ.
-use Rattle.std.proofs.Common.{◌≡◌, ◌≢◌, ◌<◌, ◌≤◌, ◌+◌, ◌^◌, ◌⊎◌, ℕ, zero, suc, Bool, true, false, List, [], ◌∷◌, ◌++◌, length, Some, slice_get, refl, sym, ◌∙◌, ap, subst, arith, inl, inr, ⊎_elim, cond, eqb}
-use Rattle.std.specs.Prelude.{◌&&◌, ◌==◌, decimal, slice_index_or}
+use Rattle.std.proofs.Common.{◌≡◌, ◌≢◌, ◌<◌, ◌≤◌, ◌+◌, ◌^◌, ℕ, Bool, true, false, List, [], ◌∷◌, ◌++◌, length, Some, slice_get, refl, sym, ◌∙◌, ap, subst, arith, cond, eqb}
+use Rattle.std.specs.Prelude.{decimal, slice_index_or}
 use Rattle.std.specs.List.{list_all}
 use Rattle.std.specs.Str.Parse.{digits_value}
 use Rattle.std.proofs.lemmas.Bool.{and_parts, false≢true, eqb-true}
 use Rattle.std.proofs.lemmas.Fmt.{decimal_is_IsNumeral}
 use Rattle.std.proofs.lemmas.Option.{slice_get_within, get_or_from_slice_get}
-use Rattle.prl_base.specs.Names.{IsName, is_word, is_word_byte, is_word_start}
+use Rattle.prl_base.specs.Names.{IsName, is_word_byte, is_word_start}
 use Rattle.prl_base.specs.declared.operators.Clock.{Clock}
 use Rattle.prl_flow.specs.Programs.{FlatProgram, IsFlat, name_of}
 use Rattle.prl_flow.proofs.Lists.{element_at}
@@ -18,7 +18,7 @@ use Rattle.prl_plan.specs.Graphs.{IsTaskName}
 use Rattle.prl_plan.specs.Jobs.{no_task, task_at}
 use Rattle.prl_values.specs.JobValues.{word_of}
 use Rattle.prl_graph.specs.Ports.{task_count}
-use Rattle.prl_graph.specs.Tasks.{AreTasks, IsActuatorTask, IsNodeTask, IsSensorTask, IsTaskOf, sensor, node, actuator}
+use Rattle.prl_graph.specs.Tasks.{AreTasks, IsActuatorTask, IsSensorTask, IsTaskOf, sensor, node, actuator}
 use Rattle.prl_graph.proofs.TaskFacts.{actuator_device, sensor_device}
 
 -- `@` is no byte of a word

@@ -1,7 +1,6 @@
 -- What a task reads over its edges: the values of its ports' flows.
-use Rattle.std.proofs.Common.{◌≡◌, ◌≢◌, ◌<◌, ◌≤◌, ◌+◌, ◌⊎◌, ℕ, zero, suc, Bool, true, false, cond, eqb, List, [], ◌∷◌, ◌++◌, length, map, slice_get, Option, Some, None, refl, sym, ◌∙◌, ap, subst, arith, inl, inr, ⊎_elim}
-use Rattle.std.specs.Prelude.{pos, unwrap_or}
-use Rattle.std.proofs.lemmas.Bool.{eqb-true, eq-eqb, ne_eqb, false≢true}
+use Rattle.std.proofs.Common.{◌≡◌, ◌≢◌, ◌<◌, ◌≤◌, ◌+◌, ◌⊎◌, ℕ, zero, suc, Bool, true, false, cond, eqb, List, [], ◌∷◌, ◌++◌, length, map, slice_get, Some, refl, sym, ◌∙◌, ap, arith, inl, inr, ⊎_elim}
+use Rattle.std.proofs.lemmas.Bool.{eqb-true, eq-eqb, ne_eqb}
 use Rattle.prl_base.specs.declared.numbers.FlowNo.{FlowNo}
 use Rattle.prl_base.specs.declared.operators.Clock.{Clock}
 use Rattle.prl_base.specs.declared.values.Value.{Value}
@@ -11,9 +10,7 @@ use Rattle.prl_flow.specs.Programs.{FlatProgram}
 use Rattle.prl_plan.specs.declared.graphs.Edge.{Edge}
 use Rattle.prl_values.specs.JobValues.{JobValues, read_on, reads_over}
 use Rattle.prl_graph.specs.Ports.{InputPort, actuator_no, actuator_ports, application_ports, argument_ports, node_no, ports_of}
-use Rattle.prl_graph.specs.EdgeValues.{value_on_date}
 use Rattle.prl_graph.specs.JobDates.{value_or_none}
-use Rattle.prl_graph.proofs.Lists.{equal_or_not}
 use Rattle.prl_graph.proofs.Order.{Match}
 
 -- the flows that task `i` reads, in the order of its ports
@@ -34,6 +31,7 @@ reads_are clocks flows v i n (port ∷ ports) (edge ∷ edges) match each =
   where
     to : edge.to.0 ≡ port.task
     to = (match.1 zero port edge refl refl).0
+
     go : (t : Bool) → eqb port.task i ≡ t → reads_over v edges i n ≡ map (value_or_none clocks flows n) (flows_read ports i)
         → cond (eqb edge.to.0 i) (read_on v edge n ∷ reads_over v edges i n) (reads_over v edges i n)
         ≡ map (value_or_none clocks flows n) (cond (eqb port.task i) (record { 0 = port.flow } ∷ flows_read ports i) (flows_read ports i))

@@ -1,27 +1,22 @@
 -- The tasks of a flat program, one by one.
-use Rattle.std.proofs.Common.{◌≡◌, ◌≢◌, ◌<◌, ◌≤◌, ◌+◌, ◌^◌, ◌⊎◌, ℕ, zero, suc, Bool, true, false, List, [], ◌∷◌, ◌++◌, length, map, get_or, slice_get, Option, Some, None, refl, sym, ◌∙◌, ap, subst, arith, inl, inr, ⊎_elim}
-use Rattle.std.specs.Prelude.{unwrap_or, slice_index_or}
-use Rattle.std.specs.Option.{option_map}
+use Rattle.std.proofs.Common.{◌≡◌, ◌<◌, ◌≤◌, ◌+◌, ◌^◌, ℕ, zero, suc, List, [], ◌∷◌, ◌++◌, length, map, slice_get, Some, refl, sym, ◌∙◌, ap, subst, arith, ⊎_elim}
+use Rattle.std.specs.Prelude.{slice_index_or}
 use Rattle.std.proofs.lemmas.Bool.{cases_lt}
-use Rattle.std.proofs.lemmas.Option.{slice_get_within, get_or_from_slice_get, slice_get-map}
+use Rattle.std.proofs.lemmas.Option.{slice_get_within, get_or_from_slice_get}
 use Rattle.prl_base.specs.declared.numbers.FlowNo.{FlowNo}
 use Rattle.prl_base.specs.declared.operators.Clock.{Clock}
 use Rattle.prl_flow.specs.declared.programs.App.{App}
-use Rattle.prl_flow.specs.declared.programs.Arg.{Arg}
-use Rattle.prl_flow.specs.declared.programs.Def.TheVariants as definitions
-use Rattle.prl_flow.specs.declared.programs.Flow.{Flow}
-use Rattle.prl_flow.specs.Programs.{Device, FlatProgram, IsFlat, IsFactor, name_of, wcet_of}
+use Rattle.prl_flow.specs.Programs.{Device, FlatProgram, IsFlat}
 use Rattle.prl_flow.specs.Solutions.{AreClocks, clock_of}
 use Rattle.prl_flow.proofs.Lists.{element_at, slice_get_append_left}
 use Rattle.prl_plan.specs.declared.graphs.Kind.{Kind}
 use Rattle.prl_plan.specs.declared.graphs.Kind.TheVariants as kinds
 use Rattle.prl_plan.specs.declared.graphs.Task.{Task}
-use Rattle.prl_plan.specs.Graphs.{AreNumbered, Divides, IsTask, IsTaskName}
-use Rattle.prl_graph.specs.Dues.{AreDuesInRange, BindsApplication, IsLeastDue, IsWithinPeriod, NotesDue}
-use Rattle.prl_graph.specs.Hyperperiods.{IsCommonMultiple, IsHyperperiod}
-use Rattle.prl_graph.specs.Ports.{actuator_no, node_no, task_count}
+use Rattle.prl_plan.specs.Graphs.{AreNumbered}
+use Rattle.prl_graph.specs.Dues.{IsLeastDue}
+use Rattle.prl_graph.specs.Ports.{actuator_no, node_no}
 use Rattle.prl_graph.specs.TaskGraphs.{AreSmallClocks}
-use Rattle.prl_graph.specs.Tasks.{AreTasks, IsActuatorTask, IsNodeTask, IsSensorTask, IsTaskOf, actuator_task, application_clock, device_due, due_or, node_task, sensor, node, actuator, sensor_task}
+use Rattle.prl_graph.specs.Tasks.{AreTasks, IsTaskOf, actuator_task, application_clock, node_task, sensor, node, actuator, sensor_task}
 use Rattle.prl_graph.specs.code.Made.{AreFirstTasks, HavePeriods}
 use Rattle.prl_graph.specs.code.Multiples.{HaveSmallPeriods}
 use Rattle.prl_graph.proofs.Lists.{append_right}
@@ -57,14 +52,17 @@ numbered_by ins apps k ks go s n a phases (of_sensor below is) rest =
     let nothing = phases.before_actuators (omega arith) in
     let number : s + n + a ≡ s = omega arith in
     subst (λ x. AreNumbered s n a (x ∷ ks)) (sym is) (
-      number, none, nothing,
+      number,
+      none,
+      nothing,
       go (s + 1) n a (record {
         sensors = omega arith;
         nodes = phases.nodes;
         before_nodes = λ h. none;
         before_actuators = λ h. nothing;
         after_nodes = λ h. nothing;
-      }) (λ m x h. let e : s + n + a + 1 + m ≡ s + 1 + n + a + m = omega arith in subst (λ i. KindAt ins apps i x) e (rest m x h)))
+      }) (λ m x h. let e : s + n + a + 1 + m ≡ s + 1 + n + a + m = omega arith in subst (λ i. KindAt ins apps i x) e (rest m x h)),
+    )
 numbered_by ins apps k ks go s n a phases (of_node j at below is) rest =
     let p0 = phases.sensors in
     let p1 = phases.before_nodes in
@@ -74,14 +72,16 @@ numbered_by ins apps k ks go s n a phases (of_node j at below is) rest =
     let nothing : a ≡ 0 = p3 (omega arith) in
     let number : j ≡ n = omega arith in
     subst (λ x. AreNumbered s n a (x ∷ ks)) (sym is) (
-      number, nothing,
+      number,
+      nothing,
       go s (n + 1) a (record {
         sensors = phases.sensors;
         nodes = omega arith;
         before_nodes = λ h. absurd (omega arith);
         before_actuators = λ h. nothing;
         after_nodes = λ h. nothing;
-      }) (λ m x h. let e : s + n + a + 1 + m ≡ s + (n + 1) + a + m = omega arith in subst (λ i. KindAt ins apps i x) e (rest m x h)))
+      }) (λ m x h. let e : s + n + a + 1 + m ≡ s + (n + 1) + a + m = omega arith in subst (λ i. KindAt ins apps i x) e (rest m x h)),
+    )
 numbered_by ins apps k ks go s n a phases (of_actuator j at is) rest =
     let p0 = phases.sensors in
     let p1 = phases.before_nodes in
@@ -99,7 +99,8 @@ numbered_by ins apps k ks go s n a phases (of_actuator j at is) rest =
         before_nodes = λ h. absurd (omega arith);
         before_actuators = λ h. absurd (omega arith);
         after_nodes = λ h. absurd (omega arith);
-      }) (λ m x h. let e : s + n + a + 1 + m ≡ s + n + (a + 1) + m = omega arith in subst (λ i. KindAt ins apps i x) e (rest m x h)))
+      }) (λ m x h. let e : s + n + a + 1 + m ≡ s + n + (a + 1) + m = omega arith in subst (λ i. KindAt ins apps i x) e (rest m x h)),
+    )
 
 numbered : (ins apps : ℕ) (ks : List Kind) (s n a : ℕ) → ArePhases ins apps s n a
     → ((m : ℕ) (k : Kind) → slice_get ks m ≡ Some k → KindAt ins apps (s + n + a + m) k) → AreNumbered s n a ks
@@ -130,10 +131,11 @@ node_found p clocks k app task found (sensor is) =
     let below = slice_get_within p.ins (node_no p k) is.flow is.found in absurd (omega arith)
 node_found p clocks k app task found (node is) =
     let number : is.number ≡ k = (let at = is.at in omega arith) in
-    let same : is.app ≡ app = (let e : Some is.app ≡ Some app = sym is.found ∙ ap (slice_get p.apps) number ∙ found in cc) in
-    (is.due,
-    subst (λ (a : App). IsLeastDue p k (application_clock clocks a).period is.due) same (subst (λ n. IsLeastDue p n (application_clock clocks is.app).period is.due) number is.least),
-    is.is ∙ ap (λ n. node_task clocks n is.app is.due) number ∙ ap (λ (a : App). node_task clocks k a is.due) same)
+    let same : is.app ≡ app = (let e : Some is.app ≡ Some app = sym is.found ∙ ap (slice_get p.apps) number ∙ found in cc) in (
+      is.due,
+      subst (λ (a : App). IsLeastDue p k (application_clock clocks a).period is.due) same (subst (λ n. IsLeastDue p n (application_clock clocks is.app).period is.due) number is.least),
+      is.is ∙ ap (λ n. node_task clocks n is.app is.due) number ∙ ap (λ (a : App). node_task clocks k a is.due) same,
+    )
 node_found p clocks k app task found (actuator is) =
     let below = slice_get_within p.apps k app found in
     let at = is.at in

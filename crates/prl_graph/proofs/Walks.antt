@@ -1,5 +1,5 @@
 -- Ways back in a program without a cycle: their steps are fewer than its flows.
-use Rattle.std.proofs.Common.{◌≡◌, ◌<◌, ◌≤◌, ◌+◌, ◌⊎◌, ℕ, zero, suc, Bool, true, false, List, [], ◌∷◌, ◌++◌, length, set, get_or, replicate, slice_get, Some, refl, sym, ◌∙◌, ap, subst, arith, inl, inr, ⊎_elim, length-set}
+use Rattle.std.proofs.Common.{◌≡◌, ◌<◌, ◌≤◌, ◌+◌, ◌⊎◌, ℕ, Bool, true, false, List, [], ◌∷◌, ◌++◌, length, set, get_or, replicate, slice_get, Some, refl, sym, ◌∙◌, ap, subst, arith, inl, inr, ⊎_elim, length-set}
 use Rattle.std.proofs.lemmas.Bool.{false≢true}
 use Rattle.std.proofs.lemmas.Option.{slice_get_within}
 use Rattle.prl_base.specs.declared.numbers.FlowNo.{FlowNo}
@@ -84,12 +84,14 @@ begun p i below =
     let clear : List Bool = replicate n false in
     let len : length clear ≡ n = clear_length n in
     let there : i < length clear = omega (arith, len) in
-    let none : (m : ℕ) → IsMarked clear m → ⊥ = λ m h. false≢true (sym (clear_at n m) ∙ h) in
-    (set clear i true, record {
-      len = length-set clear i true ∙ len;
-      count = mark_counted clear i there (clear_at n i) ∙ ap (λ k. k + 1) (clear_count n);
-      reached = λ m h. ⊎_elim (λ same. inl (sym same)) (λ old. absurd (none m old)) (mark_cases clear i m h);
-    })
+    let none : (m : ℕ) → IsMarked clear m → ⊥ = λ m h. false≢true (sym (clear_at n m) ∙ h) in (
+      set clear i true,
+      record {
+        len = length-set clear i true ∙ len;
+        count = mark_counted clear i there (clear_at n i) ∙ ap (λ k. k + 1) (clear_count n);
+        reached = λ m h. ⊎_elim (λ same. inl (sym same)) (λ old. absurd (none m old)) (mark_cases clear i m h);
+      },
+    )
 
 visited_one : (p : FlatProgram) → HasNoCycle p → (n i j : ℕ) → i < length p.flows → UsesInside p i j → (marks : List Bool) → AreVisited p n j marks
     → (more : List Bool) × AreVisited p (n + 1) i more
@@ -101,12 +103,14 @@ visited_one p causal n i j below uses marks are =
     elim (get_or marks i false) as (λ b. get_or marks i false ≡ b → b ≡ false) [
       | true ↦ λ e. absurd (not_yet e)
       | false ↦ λ e. refl
-    ] refl in
-    (set marks i true, record {
-      len = length-set marks i true ∙ len;
-      count = mark_counted marks i there clear ∙ ap (λ k. k + 1) are.count;
-      reached = λ m h. ⊎_elim (λ same. inl (sym same)) (λ old. inr (led p i j m uses (are.reached m old))) (mark_cases marks i m h);
-    })
+    ] refl in (
+      set marks i true,
+      record {
+        len = length-set marks i true ∙ len;
+        count = mark_counted marks i there clear ∙ ap (λ k. k + 1) are.count;
+        reached = λ m h. ⊎_elim (λ same. inl (sym same)) (λ old. inr (led p i j m uses (are.reached m old))) (mark_cases marks i m h);
+      },
+    )
 
 visited : (p : FlatProgram) → HasNoCycle p → (n i j : ℕ) (ops : List Op) → StepsBack p n i ops j → j < length p.flows → (marks : List Bool) × AreVisited p n i marks
 visited p causal n i j ops (steps.none k) below = begun p k below

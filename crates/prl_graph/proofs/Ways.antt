@@ -1,18 +1,15 @@
 -- Along a way back clocks and types agree.
-use Rattle.std.proofs.Common.{◌≡◌, ◌<◌, ◌≤◌, ◌+◌, ◌^◌, ℕ, zero, suc, List, [], ◌∷◌, length, slice_get, Some, refl, sym, ◌∙◌, ap, subst, arith}
-use Rattle.std.proofs.lemmas.Option.{slice_get_within, get_or_from_slice_get, slice_get-get_or}
-use Rattle.prl_base.specs.Operators.{IsOperatorFor, IsResultClock}
-use Rattle.prl_base.specs.Values.{FitsValue, IsOfType, type_of}
-use Rattle.prl_base.specs.declared.numbers.FlowNo.{FlowNo}
+use Rattle.std.proofs.Common.{◌≡◌, ◌<◌, ◌≤◌, ℕ, zero, suc, List, length, slice_get, Some, refl, sym, ◌∙◌, ap, subst, arith}
+use Rattle.std.proofs.lemmas.Option.{slice_get_within, slice_get-get_or}
+use Rattle.prl_base.specs.Operators.{IsOperatorFor}
 use Rattle.prl_base.specs.declared.operators.Clock.{Clock}
 use Rattle.prl_base.specs.declared.operators.Op.{Op}
 use Rattle.prl_base.specs.declared.operators.Op.TheVariants as operators
 use Rattle.prl_base.specs.declared.values.Ty.{Ty}
-use Rattle.prl_flow.specs.declared.programs.Def.TheVariants as definitions
 use Rattle.prl_flow.specs.declared.programs.Flow.{Flow}
-use Rattle.prl_flow.specs.Programs.{FitsType, FlatProgram, HasType, IsFlat, IsWellDefined}
+use Rattle.prl_flow.specs.Programs.{FitsType, FlatProgram, IsFlat, IsWellDefined}
 use Rattle.prl_flow.specs.Solutions.{AgreesClock, AreClocks, clock_of}
-use Rattle.prl_plan.specs.Graphs.{Divides, TakeClock}
+use Rattle.prl_plan.specs.Graphs.{TakeClock}
 use Rattle.prl_graph.specs.Edges.{LeadsBack}
 use Rattle.prl_graph.specs.Edges as ways
 use Rattle.prl_graph.specs.Hyperperiods.{IsCommonMultiple}

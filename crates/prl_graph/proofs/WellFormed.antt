@@ -1,36 +1,30 @@
 -- The task graph of a flat program is well formed.
-use Rattle.std.proofs.Common.{◌≡◌, ◌≢◌, ◌<◌, ◌≤◌, ◌+◌, ◌/◌, ◌^◌, ◌⊎◌, ℕ, zero, suc, Bool, true, false, List, [], ◌∷◌, ◌++◌, length, map, sum, slice_get, Option, Some, None, refl, sym, ◌∙◌, ap, subst, arith, inl, inr, ⊎_elim}
+use Rattle.std.proofs.Common.{◌≡◌, ◌<◌, ◌≤◌, ◌+◌, ◌^◌, ℕ, true, false, List, [], length, slice_get, Some, None, refl, sym, ◌∙◌, ap, subst, arith, ⊎_elim}
 use Rattle.std.specs.Prelude.{slice_index_or, unwrap_or}
 use Rattle.std.proofs.lemmas.Bool.{false≢true}
 use Rattle.std.proofs.lemmas.Option.{slice_get_within, get_or_from_slice_get}
 use Rattle.prl_base.specs.Values.{IsOfType}
 use Rattle.prl_base.specs.declared.numbers.FlowNo.{FlowNo}
 use Rattle.prl_base.specs.declared.operators.Clock.{Clock}
-use Rattle.prl_base.specs.declared.values.Ty.{Ty}
 use Rattle.prl_flow.specs.declared.programs.App.{App}
 use Rattle.prl_flow.specs.declared.programs.Arg.{Arg}
 use Rattle.prl_flow.specs.declared.programs.Def.{Def}
 use Rattle.prl_flow.specs.declared.programs.Def.TheVariants as definitions
 use Rattle.prl_flow.specs.declared.programs.Flow.{Flow}
-use Rattle.prl_flow.specs.Programs.{FlatProgram, HasType, IsFlat, IsWellDefined}
+use Rattle.prl_flow.specs.Programs.{FlatProgram, IsFlat, IsWellDefined}
 use Rattle.prl_flow.specs.Solutions.{AreClocks, clock_of}
 use Rattle.prl_flow.specs.Uses.{HasNoCycle}
 use Rattle.prl_flow.proofs.Lists.{element_at}
 use Rattle.prl_plan.specs.declared.graphs.Edge.{Edge}
-use Rattle.prl_plan.specs.declared.graphs.Kind.{Kind}
-use Rattle.prl_plan.specs.declared.graphs.Kind.TheVariants as kinds
-use Rattle.prl_plan.specs.declared.graphs.Producer.{Producer}
-use Rattle.prl_plan.specs.declared.graphs.Producer.TheVariants as producers
 use Rattle.prl_plan.specs.declared.graphs.Task.{Task}
 use Rattle.prl_plan.specs.declared.graphs.TaskGraph.{TaskGraph}
-use Rattle.prl_plan.specs.Graphs.{Divides, HasOnePort, IsEdge, IsSource, IsTask, IsTaskName, IsWellFormed, TakeClock, is_actuator, is_sensor, jobs_in_hyperperiod}
+use Rattle.prl_plan.specs.Graphs.{Divides, HasOnePort, IsEdge, IsSource, IsTask, IsTaskName, IsWellFormed, TakeClock, is_actuator, is_sensor}
 use Rattle.prl_plan.specs.Jobs.{no_task, task_at}
-use Rattle.prl_graph.specs.Dues.{AreDuesInRange, IsLeastDue, IsWithinPeriod}
-use Rattle.prl_graph.specs.Edges.{IsEdgeOf, IsProducer}
-use Rattle.prl_graph.specs.Hyperperiods.{IsCommonMultiple}
+use Rattle.prl_graph.specs.Dues.{IsLeastDue, IsWithinPeriod}
+use Rattle.prl_graph.specs.Edges.{IsProducer}
 use Rattle.prl_graph.specs.Ports.{InputPort, actuator_no, actuator_ports, application_ports, node_no, ports_of, task_count}
-use Rattle.prl_graph.specs.TaskGraphs.{AreSmallClocks, IsGraphOf, jobs_within}
-use Rattle.prl_graph.specs.Tasks.{AreTasks, IsTaskOf, actuator_task, application_clock, device_due, due_or, node_task, sensor, node, actuator, sensor_task}
+use Rattle.prl_graph.specs.TaskGraphs.{AreSmallClocks, IsGraphOf}
+use Rattle.prl_graph.specs.Tasks.{IsTaskOf, actuator_task, application_clock, device_due, node_task, sensor, node, actuator, sensor_task}
 use Rattle.prl_graph.specs.code.Made.{FitOperators}
 use Rattle.prl_graph.proofs.Lists.{append_right}
 use Rattle.prl_graph.proofs.Names.{names_differ}

@@ -1,6 +1,5 @@
 -- The graph from its parts.
-use Rattle.std.proofs.Common.{◌≡◌, ◌<◌, ◌≤◌, ◌^◌, ℕ, List, length, slice_get, Some, sym, ◌∙◌, ap, subst}
-use Rattle.prl_base.specs.declared.limits.Limit.{Limit}
+use Rattle.std.proofs.Common.{◌≡◌, ◌<◌, ◌≤◌, ℕ, List, length, sym, subst}
 use Rattle.prl_base.specs.declared.limits.What.TheVariants as limits
 use Rattle.prl_base.specs.declared.operators.Clock.{Clock}
 use Rattle.prl_flow.specs.Programs.{FlatProgram, IsFlat}
@@ -50,13 +49,17 @@ module _ (p : FlatProgram) (clocks : List Clock) (flat : IsFlat p) (are : AreClo
       → AreFirstTasks p clocks (task_count p) tasks → found ≡ jobs_within hyper tasks → MAX_PERIOD_JOBS < found → IsGraphFault p clocks fault
   past_jobs found hyper tasks fault same hyper_is few_ticks made is past = subst (IsGraphFault p clocks) (sym same) (
     dues,
-    (few_tasks, few_edges, record {
-      hyper = hyper;
-      hyper_is = hyper_is;
-      few_ticks = few_ticks;
-      tasks = tasks;
-      tasks_are = record { count = made.count; each = made.each };
-      found_is = is;
-      past = past;
-    }),
+    (
+      few_tasks,
+      few_edges,
+      record {
+        hyper = hyper;
+        hyper_is = hyper_is;
+        few_ticks = few_ticks;
+        tasks = tasks;
+        tasks_are = record { count = made.count; each = made.each };
+        found_is = is;
+        past = past;
+      },
+    ),
   )

@@ -1,5 +1,5 @@
 -- The task graph of a flat program with its clocks, and why there is none.
-use Rattle.std.specs.Prelude.{◌≡◌, ◌+◌, ◌/◌, ◌<◌, ◌≤◌, ◌^◌, ◌-◌, ℕ, List, length, map, min, sum}
+use Rattle.std.specs.Prelude.{◌≡◌, ◌/◌, ◌<◌, ◌≤◌, ◌^◌, ◌-◌, ℕ, List, length, map, min, sum}
 use Rattle.prl_base.specs.declared.limits.What.{What}
 use Rattle.prl_base.specs.declared.limits.What.TheVariants as limits
 use Rattle.prl_base.specs.declared.operators.Clock.{Clock}

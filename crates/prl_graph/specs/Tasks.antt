@@ -1,5 +1,5 @@
 -- The tasks of a flat program: sensors, applications, actuators.
-use Rattle.std.specs.Prelude.{◌≡◌, ◌++◌, ℕ, List, [], ◌∷◌, length, decimal, Option, Some, None, slice_get, slice_index_or, unwrap_or}
+use Rattle.std.specs.Prelude.{◌≡◌, ◌++◌, ℕ, List, ◌∷◌, length, decimal, Option, Some, None, slice_get, slice_index_or, unwrap_or}
 use Rattle.prl_base.specs.declared.numbers.FlowNo.{FlowNo}
 use Rattle.prl_base.specs.declared.operators.Clock.{Clock}
 use Rattle.prl_flow.specs.declared.programs.App.{App}

@@ -112,11 +112,7 @@ fn label_of(alloc: Global, flat: &Flat, i: usize) -> Result<Label, AllocError>
 }
 
 /// Whether each due stands where it may.
-pub(crate) fn check_places(
-    alloc: Global,
-    flat: &Flat,
-    outputs: &[bool],
-) -> Result<(), GraphFault>
+pub(crate) fn check_places(alloc: Global, flat: &Flat, outputs: &[bool]) -> Result<(), GraphFault>
     requires { AreOutputMarks flat.now outputs.now }
     ensures allowed { IfOk result (λ done. AreDuesAllowed flat.now) }
     ensures fault { IfErr result (λ fault. (clocks : List Clock) → IsGraphFault flat.now clocks fault) }

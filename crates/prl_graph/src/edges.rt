@@ -266,7 +266,11 @@ fn push_actuators(
 }
 
 /// All edges, by consumer and then by port.
-pub(crate) fn all_edges(alloc: Global, flat: &Flat, clocks: &Clocks) -> Result<Vec<Edge>, AllocError>
+pub(crate) fn all_edges(
+    alloc: Global,
+    flat: &Flat,
+    clocks: &Clocks,
+) -> Result<Vec<Edge>, AllocError>
     requires clocks { AreClocks flat.now clocks.now.of }
     requires causal { HasNoCycle flat.now }
     requires few { task_count flat.now ≤ MAX_TASKS }

@@ -1,11 +1,10 @@
 -- Flows that are marked: main's outputs; and dues that the first flows bind applications by.
 use Rattle.std.specs.Prelude.{◌≡◌, ◌≤◌, ◌<◌, ◌⊎◌, ℕ, Bool, true, false, List, length, slice_index_or, Some, slice_get}
-use Rattle.prl_base.specs.declared.numbers.FlowNo.{FlowNo}
 use Rattle.prl_base.specs.declared.operators.Clock.{Clock}
 use Rattle.prl_flow.specs.declared.programs.App.{App}
 use Rattle.prl_flow.specs.declared.programs.Flow.{Flow}
 use Rattle.prl_flow.specs.Programs.{FlatProgram}
-use Rattle.prl_graph.specs.Dues.{AllowsDue, BindsApplication, IsMainOutput, IsWithinPeriod, NotesDue}
+use Rattle.prl_graph.specs.Dues.{AllowsDue, BindsApplication, IsWithinPeriod, NotesDue}
 use Rattle.prl_graph.specs.Tasks.{application_clock}
 
 abbrev pub IsMarked : List Bool → ℕ → Type 0

@@ -1,4 +1,4 @@
-use Rattle.std.proofs.Common.{◌≡◌, arith, ap, below_more, subst, sym, ℕ}
+use Rattle.std.proofs.Common.{arith, below_more, subst, sym}
 use Rattle.prl_base.specs.declared.operators.Clock.{Clock}
 use Rattle.prl_graph.specs.Dues.{IsDueOutOfRange}
 use Rattle.prl_graph.specs.code.Marks.{IsRanged}

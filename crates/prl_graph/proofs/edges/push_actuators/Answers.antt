@@ -1,4 +1,4 @@
-use Rattle.std.proofs.Common.{◌≡◌, ◌+◌, [], ◌∷◌, ◌++◌, length, ap, arith, refl, sym, ◌∙◌, take, get_or}
+use Rattle.std.proofs.Common.{◌+◌, length, arith, take, get_or}
 use Rattle.prl_base.specs.declared.numbers.FlowNo.{FlowNo}
 use Rattle.prl_graph.specs.Ports.{actuator_no, actuator_ports}
 use Rattle.prl_graph.proofs.Edging.{adds_none, adds_output, outputs_taken, same_ports}

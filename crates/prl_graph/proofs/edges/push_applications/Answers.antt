@@ -1,6 +1,5 @@
-use Rattle.std.proofs.Common.{◌≡◌, ◌+◌, [], ◌∷◌, ◌++◌, length, ap, arith, refl, sym, ◌∙◌, take}
-use Rattle.prl_flow.specs.declared.programs.Arg.{Arg}
-use Rattle.prl_graph.specs.Ports.{application_ports, argument_ports, node_no}
+use Rattle.std.proofs.Common.{◌+◌, length, arith, take}
+use Rattle.prl_graph.specs.Ports.{application_ports, node_no}
 use Rattle.prl_graph.proofs.Edging.{adds_application, adds_none, applications_taken, same_ports}
 use Rattle.prl_graph.proofs.Lists.{same_length}
 use Rattle.prl_graph.proofs.edges.push_applications.Goals as goal

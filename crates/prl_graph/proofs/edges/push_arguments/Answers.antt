@@ -1,5 +1,4 @@
-use Rattle.std.proofs.Common.{[], ◌∷◌, get_or, arith, refl, take}
-use Rattle.prl_base.specs.declared.places.Span.{Span}
+use Rattle.std.proofs.Common.{[], ◌∷◌, get_or, refl, take}
 use Rattle.prl_flow.specs.declared.programs.Arg.{Arg}
 use Rattle.prl_graph.specs.Ports.{argument_ports}
 use Rattle.prl_graph.proofs.Edging.{adds_both, adds_none, arguments_taken, one_argument, same_ports}

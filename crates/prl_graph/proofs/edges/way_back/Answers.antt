@@ -1,7 +1,5 @@
-use Rattle.std.proofs.Common.{◌≡◌, [], ◌∷◌, ◌++◌, arith, refl, subst, sym, List, ℕ}
-use Rattle.prl_base.specs.declared.operators.Op.{Op}
-use Rattle.prl_graph.specs.code.Made.{FitOperators}
-use Rattle.prl_graph.specs.code.Steps.{StepsBack, none}
+use Rattle.std.proofs.Common.{arith}
+use Rattle.prl_graph.specs.code.Steps.{none}
 use Rattle.prl_graph.proofs.Lists.{same_length}
 use Rattle.prl_graph.proofs.Walks.{few_steps, no_operators, one_copy, one_operator, step_operators, way_of}
 use Rattle.prl_graph.proofs.edges.way_back.Goals as goal

@@ -1,5 +1,4 @@
-use Rattle.std.proofs.Common.{◌≡◌, arith, ap, length}
-use Rattle.prl_flow.specs.declared.programs.App.{App}
+use Rattle.std.proofs.Common.{arith}
 use Rattle.prl_graph.proofs.Counts.{all_ports, ports_more}
 use Rattle.prl_graph.proofs.Lists.{item_of, same_length}
 use Rattle.prl_graph.proofs.graphs.count_ports.Goals as goal

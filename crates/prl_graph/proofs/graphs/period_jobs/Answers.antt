@@ -1,4 +1,4 @@
-use Rattle.std.proofs.Common.{◌≡◌, arith, ap, refl, sym, ◌∙◌, ◌+◌, ◌/◌, ℕ}
+use Rattle.std.proofs.Common.{arith, ap, refl, sym, ◌∙◌, ◌+◌, ◌/◌}
 use Rattle.prl_graph.proofs.Counts.{few_more, jobs_all, jobs_fit, jobs_more}
 use Rattle.prl_graph.proofs.Lists.{item_of}
 use Rattle.prl_graph.proofs.graphs.period_jobs.Goals as goal

@@ -1,4 +1,3 @@
-use Rattle.std.proofs.Common.{refl}
 use Rattle.prl_graph.proofs.Lists.{item_of}
 use Rattle.prl_graph.proofs.Tasking.{node_made}
 use Rattle.prl_graph.proofs.tasks.node_task.Goals as goal

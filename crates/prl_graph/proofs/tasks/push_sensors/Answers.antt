@@ -1,4 +1,4 @@
-use Rattle.std.proofs.Common.{◌≡◌, ◌+◌, arith, length}
+use Rattle.std.proofs.Common.{◌≡◌, arith}
 use Rattle.prl_graph.specs.Ports.{node_no}
 use Rattle.prl_graph.proofs.Lists.{same_length}
 use Rattle.prl_graph.proofs.Tasking.{one_sensor, renumbered}

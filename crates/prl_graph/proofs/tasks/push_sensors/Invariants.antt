@@ -1,4 +1,3 @@
-
 use Rattle.prl_graph.specs.code.Made.{AreFirstTasks}
 use Rattle.prl_graph.proofs.tasks.push_sensors.Given as goal
 
