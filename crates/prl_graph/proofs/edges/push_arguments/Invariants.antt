@@ -1,0 +1,7 @@
+use Rattle.std.proofs.Common.{take}
+use Rattle.prl_graph.specs.Ports.{argument_ports}
+use Rattle.prl_graph.specs.code.Steps.{AddsEdges}
+use Rattle.prl_graph.proofs.edges.push_arguments.Given as goal
+
+abbrev pub invariant-loop-j : goal.invariant-loop-j
+invariant-loop-j l = AddsEdges l.flat l.clocks.of (argument_ports l.to 0 (take l.j l.args)) l.initial.edges.items l.edges.items

@@ -1,0 +1,6 @@
+use Rattle.prl_graph.specs.Ports.{node_no}
+use Rattle.prl_graph.specs.code.Made.{AreFirstTasks}
+use Rattle.prl_graph.proofs.tasks.push_nodes.Given as goal
+
+abbrev pub invariant-loop-k : goal.invariant-loop-k
+invariant-loop-k l = AreFirstTasks l.flat l.clocks.of (node_no l.flat l.k) l.tasks.items

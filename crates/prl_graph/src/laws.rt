@@ -1,0 +1,57 @@
+//! Laws of task graphs, as functions that do nothing: the contract of each is the law.
+
+ghost use Rattle.std.specs.Prelude.{◌≡◌, ◌<◌, ℕ, List, Some, slice_get};
+ghost use Rattle.std.specs.List.{AllByRecursion};
+ghost use Rattle.prl_base.specs.Clocks.{date_at};
+ghost use Rattle.prl_base.specs.declared.operators.Clock.{Clock};
+ghost use Rattle.prl_base.specs.declared.values.Value.{Value};
+ghost use Rattle.prl_body.specs.declared.bodies.CheckedBody.{CheckedBody};
+ghost use Rattle.prl_body.specs.Bodies.{IsWellTyped};
+ghost use Rattle.prl_flow.specs.declared.programs.App.{App};
+ghost use Rattle.prl_flow.specs.Applications.{HaveBodies, registers_before, values_at};
+ghost use Rattle.prl_flow.specs.Programs.{FlatProgram, IsFlat};
+ghost use Rattle.prl_flow.specs.Rows.{Rows};
+ghost use Rattle.prl_flow.specs.Solutions.{AreClocks, Solves, argument_flows, clock_of};
+ghost use Rattle.prl_plan.specs.declared.graphs.Edge.{Edge};
+ghost use Rattle.prl_plan.specs.declared.graphs.TaskGraph.{TaskGraph};
+ghost use Rattle.prl_plan.specs.Graphs.{IsWellFormed};
+ghost use Rattle.prl_plan.specs.Operands.{operand_of};
+ghost use Rattle.prl_values.specs.JobValues.{AreJobValues, reads_of_job, value_on};
+ghost use Rattle.prl_graph.specs.Edges.{IsEdgeOf};
+ghost use Rattle.prl_graph.specs.EdgeValues.{value_of_operand, value_on_date};
+ghost use Rattle.prl_graph.specs.JobDates.{values_on_dates};
+ghost use Rattle.prl_graph.specs.Ports.{InputPort, node_no, ports_of};
+ghost use Rattle.prl_graph.specs.TaskGraphs.{AreSmallClocks, IsGraphOf};
+ghost use Rattle.prl_graph.specs.Tasks.{application_clock};
+
+/// The law of one edge: in each solution of the flat program, what a port's flow has at the date of
+/// job `n` is the operand's constant, or what the producer's flow has at the date of the operand's
+/// instance.
+pub fn edge_gives_operand()
+    ensures { (p : FlatProgram) (clocks : List Clock) (bodies : List CheckedBody) (rows : Rows) (until : ℕ) (flows : List (List Value)) →
+        IsFlat p → AreClocks p clocks → Solves p clocks bodies rows until flows →
+        (e : ℕ) (port : InputPort) (edge : Edge) → slice_get (ports_of p) e ≡ Some port → (of : IsEdgeOf p clocks port edge) →
+        (n : ℕ) → date_at (clock_of clocks port.flow) n < until →
+        value_on_date clocks flows port.flow n ≡ value_of_operand clocks flows of.source (operand_of edge n) }
+{}
+
+/// The values by instance of the graph's jobs are the values that a solution of the flat program has
+/// at the jobs' dates: what they give, what they read on each edge, and the registers before them.
+pub fn solutions_give_job_values()
+    ensures given { (p : FlatProgram) (clocks : List Clock) (bodies : List CheckedBody) (rows : Rows) (until : ℕ) (flows : List (List Value)) →
+        IsFlat p → AreClocks p clocks → AreSmallClocks clocks → HaveBodies p bodies → AllByRecursion IsWellTyped bodies →
+        Solves p clocks bodies rows until flows → (graph : TaskGraph) → IsGraphOf p clocks graph → IsWellFormed graph →
+        AreJobValues graph bodies rows until (values_on_dates p clocks flows graph) }
+    ensures operands { (p : FlatProgram) (clocks : List Clock) (bodies : List CheckedBody) (rows : Rows) (until : ℕ) (flows : List (List Value)) →
+        IsFlat p → AreClocks p clocks → AreSmallClocks clocks →
+        Solves p clocks bodies rows until flows → (graph : TaskGraph) → IsGraphOf p clocks graph →
+        (e : ℕ) (port : InputPort) (edge : Edge) → slice_get (ports_of p) e ≡ Some port → slice_get graph.edges e ≡ Some edge →
+        (n : ℕ) → date_at (clock_of clocks port.flow) n < until →
+        value_on (values_on_dates p clocks flows graph) edge n ≡ value_on_date clocks flows port.flow n }
+    ensures registers { (p : FlatProgram) (clocks : List Clock) (bodies : List CheckedBody) (rows : Rows) (until : ℕ) (flows : List (List Value)) →
+        IsFlat p → AreClocks p clocks → AreSmallClocks clocks →
+        Solves p clocks bodies rows until flows → (graph : TaskGraph) → IsGraphOf p clocks graph →
+        (k n : ℕ) (app : App) (body : CheckedBody) → slice_get p.apps k ≡ Some app → date_at (application_clock clocks app) n < until →
+        registers_before body (reads_of_job graph (values_on_dates p clocks flows graph) (node_no p k)) n
+        ≡ registers_before body (values_at (application_clock clocks app) (argument_flows flows app)) n }
+{}

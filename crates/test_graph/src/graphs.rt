@@ -1,0 +1,315 @@
+//! Tasks, dues, edges and refusals, worked out by hand from the programs.
+
+ghost use Rattle.std.specs.Prelude.{◌≤◌};
+ghost use Rattle.prl_ast.specs.InRange.{IsInRange};
+ghost use Rattle.prl_ast.specs.Trees.{program_tree};
+
+use crate::clocks::are_clocks;
+use prl_ast::Program;
+use prl_base::{Clock, Limit, Op, Seq, TaskNo, Value, What};
+use prl_causal::causal;
+use prl_expansion::{ExpandFault, expand};
+use prl_flow::{Clocks, Flat};
+use prl_graph::{GraphFault, graph};
+use prl_plan::{Kind, Producer, TaskGraph};
+use prl_print::programs_are_in_range;
+use prl_syntax::parse;
+use prl_types::check_names_types;
+use samples::SAMPLING;
+use std::alloc::Global;
+use std::test::*;
+
+/// The expansion of the program's last node; none where its names or types are wrong.
+fn expanded(alloc: Global, program: &Program) -> Option<Result<Flat, ExpandFault>>
+    requires { IsInRange (program_tree program.now) }
+{
+    match check_names_types(alloc, program, None) {
+        Ok(typed) => Some(expand(alloc, &typed)),
+        Err(_) => None,
+    }
+}
+
+/// The flat program of the text.
+fn flat_of(alloc: Global, text: &[u8]) -> Result<Flat, Fail> {
+    if text.len() > 10_000_000 {
+        return Err("too long".into());
+    }
+    let program = parse(alloc, text)?;
+    programs_are_in_range();
+    match expanded(alloc, &program) {
+        Some(Ok(flat)) => Ok(flat),
+        _ => Err("not expanded".into()),
+    }
+}
+
+/// The clocks of these periods and starts.
+fn clocks_of(alloc: Global, pairs: &[(u64, u64)]) -> Result<Clocks, Fail> {
+    let mut of = Vec::new(alloc);
+    for (period, start) in pairs {
+        of.push(Clock {
+            period: *period,
+            start: *start,
+        })?;
+    }
+    Ok(Clocks { of: Seq::new(of) })
+}
+
+/// What the call says of the text, whose flows have these periods and starts.
+fn graph_of(
+    alloc: Global,
+    text: &[u8],
+    pairs: &[(u64, u64)],
+) -> Result<Result<TaskGraph, GraphFault>, Fail> {
+    let flat = flat_of(alloc, text)?;
+    let clocks = clocks_of(alloc, pairs)?;
+    if !are_clocks(&flat, &clocks) {
+        return Err("other clocks".into());
+    }
+    match causal(alloc, &flat) {
+        Ok(_) => Ok(graph(alloc, &flat, &clocks)),
+        Err(_) => Err("a cycle".into()),
+    }
+}
+
+/// The graph of the text.
+fn made(alloc: Global, text: &[u8], pairs: &[(u64, u64)]) -> Result<TaskGraph, Fail> {
+    match graph_of(alloc, text, pairs)? {
+        Ok(graph) => Ok(graph),
+        Err(_) => Err("no graph".into()),
+    }
+}
+
+/// The limit that the graph of the text passes.
+fn limit_of(alloc: Global, text: &[u8], pairs: &[(u64, u64)]) -> Result<Limit, Fail> {
+    match graph_of(alloc, text, pairs)? {
+        Err(GraphFault::Limit(limit)) => Ok(limit),
+        _ => Err("no limit".into()),
+    }
+}
+
+#[test]
+fn sampling_has_four_tasks_and_four_edges(rt: HostRuntime) -> Result<(), Fail> {
+    let fast = (10, 0);
+    let slow = (30, 0);
+    let pairs = [fast, fast, fast, slow, slow, fast, fast, fast, slow, slow];
+    let graph = made(rt.alloc(), SAMPLING, pairs.as_slice())?;
+    assert_eq!(rt; graph.hyper, 30);
+    let tasks = graph.tasks.as_slice();
+    assert_eq!(rt; tasks.len(), 4);
+    assert_eq!(rt; tasks[0].name.bytes(), b"i".as_slice());
+    assert_eq!(rt; tasks[0].kind, Kind::Sensor(0));
+    assert_eq!(rt; tasks[0].wcet, 1);
+    assert_eq!(rt; tasks[1].name.bytes(), b"F@0".as_slice());
+    assert_eq!(rt; tasks[1].kind, Kind::Node(0));
+    assert_eq!(rt; tasks[1].wcet, 2);
+    assert_eq!(rt; tasks[1].due, 10);
+    assert_eq!(rt; tasks[2].name.bytes(), b"S@1".as_slice());
+    assert_eq!(rt; tasks[2].kind, Kind::Node(1));
+    assert_eq!(rt; tasks[2].clock.period, 30);
+    assert_eq!(rt; tasks[2].due, 30);
+    assert_eq!(rt; tasks[3].name.bytes(), b"o".as_slice());
+    assert_eq!(rt; tasks[3].kind, Kind::Actuator(0));
+    let edges = graph.edges.as_slice();
+    assert_eq!(rt; edges.len(), 4);
+    assert_eq!(rt;
+        edges[0].from,
+        Producer::Port {
+            task: TaskNo(0),
+            out: 0
+        }
+    );
+    assert_eq!(rt; edges[0].ops.len(), 0);
+    assert_eq!(rt;
+        edges[1].from,
+        Producer::Port {
+            task: TaskNo(2),
+            out: 0
+        }
+    );
+    assert_eq!(rt; edges[1].to, TaskNo(1));
+    assert_eq!(rt; edges[1].port, 1);
+    assert_eq!(rt; edges[1].period, 30);
+    assert_eq!(rt;
+        edges[1].ops.as_slice(),
+        [Op::Up(3), Op::Fby(Value::Int(0))].as_slice()
+    );
+    assert_eq!(rt;
+        edges[2].from,
+        Producer::Port {
+            task: TaskNo(1),
+            out: 1
+        }
+    );
+    assert_eq!(rt; edges[2].to, TaskNo(2));
+    assert_eq!(rt; edges[2].ops.as_slice(), [Op::Down(3)].as_slice());
+    assert_eq!(rt;
+        edges[3].from,
+        Producer::Port {
+            task: TaskNo(1),
+            out: 0
+        }
+    );
+    assert_eq!(rt; edges[3].to, TaskNo(3));
+    Ok(())
+}
+
+const UNUSED: &[u8] = b"sensor i wcet 1;
+sensor j wcet 2;
+actuator o wcet 1;
+node main (i: int rate (10, 0); j: int rate (20, 0)) returns (o) let o = i; tel
+";
+
+#[test]
+fn an_unused_input_is_a_task(rt: HostRuntime) -> Result<(), Fail> {
+    let graph = made(rt.alloc(), UNUSED, [(10, 0), (20, 0), (10, 0)].as_slice())?;
+    assert_eq!(rt; graph.hyper, 20);
+    let tasks = graph.tasks.as_slice();
+    assert_eq!(rt; tasks.len(), 3);
+    assert_eq!(rt; tasks[1].name.bytes(), b"j".as_slice());
+    assert_eq!(rt; tasks[1].kind, Kind::Sensor(1));
+    assert_eq!(rt; tasks[1].wcet, 2);
+    assert_eq!(rt; graph.edges.len(), 1);
+    Ok(())
+}
+
+const ZERO_DUE: &[u8] = b"sensor i wcet 1;
+actuator o wcet 1;
+node main (i: int rate (10, 0)) returns (o: due 0) let o = i; tel
+";
+
+#[test]
+fn a_due_of_zero_is_out_of_range(rt: HostRuntime) -> Result<(), Fail> {
+    match graph_of(rt.alloc(), ZERO_DUE, [(10, 0), (10, 0)].as_slice())? {
+        Err(GraphFault::DueRange { flow, due, period }) => {
+            assert_eq!(rt; flow.bytes(), b"o".as_slice());
+            assert_eq!(rt; due, 0);
+            assert_eq!(rt; period, 10);
+            Ok(())
+        }
+        _ => Err("another answer".into()),
+    }
+}
+
+const NO_TASK: &[u8] = b"sensor i wcet 1;
+actuator o wcet 1;
+node main (i: int rate (10, 0)) returns (o) var x: due 3; let x = 0 fby i; o = x; tel
+";
+
+#[test]
+fn a_due_on_a_flow_of_no_task_is_refused(rt: HostRuntime) -> Result<(), Fail> {
+    let pairs = [(10, 0), (10, 0), (10, 0), (10, 0)];
+    match graph_of(rt.alloc(), NO_TASK, pairs.as_slice())? {
+        Err(GraphFault::DueOnNonTask(label)) => {
+            assert_eq!(rt; label.bytes(), b"x".as_slice());
+            Ok(())
+        }
+        _ => Err("another answer".into()),
+    }
+}
+
+const INLINED: &[u8] = b"imported node F(a: int) returns (z: int) wcet 3;
+sensor i wcet 1;
+actuator o wcet 1;
+node g (x: due 7) returns (y) let y = x; tel
+node main (i: int rate (10, 0)) returns (o: due 8) let o = g(F(i)); tel
+";
+
+#[test]
+fn a_due_on_an_inlined_input_binds_the_application(rt: HostRuntime) -> Result<(), Fail> {
+    let pairs = [(10, 0), (10, 0), (10, 0), (10, 0), (10, 0)];
+    let graph = made(rt.alloc(), INLINED, pairs.as_slice())?;
+    let tasks = graph.tasks.as_slice();
+    assert_eq!(rt; tasks.len(), 3);
+    assert_eq!(rt; tasks[0].due, 10);
+    assert_eq!(rt; tasks[1].due, 7);
+    assert_eq!(rt; tasks[2].due, 8);
+    Ok(())
+}
+
+const COPY_OF_COPY: &[u8] = b"imported node F(a: int) returns (z: int) wcet 3;
+sensor i wcet 1;
+actuator o wcet 1;
+node g (x) returns (y: due 7) let y = x; tel
+node main (i: int rate (10, 0)) returns (o) let o = g(F(i)); tel
+";
+
+#[test]
+fn a_due_on_a_copy_of_a_copy_is_refused(rt: HostRuntime) -> Result<(), Fail> {
+    let pairs = [(10, 0), (10, 0), (10, 0), (10, 0), (10, 0)];
+    match graph_of(rt.alloc(), COPY_OF_COPY, pairs.as_slice())? {
+        Err(GraphFault::DueOnNonTask(label)) => {
+            assert_eq!(rt; label.bytes(), b"g#0.y".as_slice());
+            Ok(())
+        }
+        _ => Err("another answer".into()),
+    }
+}
+
+const TWO_DUES: &[u8] = b"imported node F(a: int) returns (z, w: int) wcet 3;
+sensor i wcet 1;
+actuator o wcet 1;
+node main (i: int rate (10, 0)) returns (o: due 2) var x: due 4; y: due 6;
+let (x, y) = F(i); o = x; tel
+";
+
+#[test]
+fn the_least_due_of_an_application_counts(rt: HostRuntime) -> Result<(), Fail> {
+    let pairs = [(10, 0), (10, 0), (10, 0), (10, 0), (10, 0), (10, 0)];
+    let graph = made(rt.alloc(), TWO_DUES, pairs.as_slice())?;
+    let tasks = graph.tasks.as_slice();
+    assert_eq!(rt; tasks.len(), 3);
+    assert_eq!(rt; tasks[1].due, 4);
+    assert_eq!(rt; tasks[2].due, 2);
+    Ok(())
+}
+
+const THINNED: &[u8] = b"sensor i wcet 1;
+actuator o wcet 1;
+node main (i: int rate (10, 0)) returns (o) let o = i /^ 3 *^ 3; tel
+";
+
+#[test]
+fn the_hyperperiod_is_over_all_flows(rt: HostRuntime) -> Result<(), Fail> {
+    let pairs = [(10, 0), (10, 0), (30, 0), (10, 0)];
+    let graph = made(rt.alloc(), THINNED, pairs.as_slice())?;
+    assert_eq!(rt; graph.hyper, 30);
+    let edges = graph.edges.as_slice();
+    assert_eq!(rt; edges.len(), 1);
+    assert_eq!(rt;
+        edges[0].ops.as_slice(),
+        [Op::Up(3), Op::Down(3)].as_slice()
+    );
+    Ok(())
+}
+
+const TWO_LANES: &[u8] = b"sensor i wcet 1;
+sensor j wcet 1;
+actuator o wcet 1;
+actuator p wcet 1;
+node main (i: int rate (65536, 0); j: int rate (3, 0)) returns (o, p) let o = i; p = j; tel
+";
+
+#[test]
+fn too_many_jobs_of_a_hyperperiod_are_told(rt: HostRuntime) -> Result<(), Fail> {
+    let pairs = [(65_536, 0), (3, 0), (65_536, 0), (3, 0)];
+    let limit = limit_of(rt.alloc(), TWO_LANES, pairs.as_slice())?;
+    assert_eq!(rt; limit.what, What::PeriodJobs);
+    assert_eq!(rt; limit.found, 131_078);
+    Ok(())
+}
+
+const LONG_LANES: &[u8] = b"sensor i wcet 1;
+sensor j wcet 1;
+actuator o wcet 1;
+actuator p wcet 1;
+node main (i: int rate (65536, 0); j: int rate (153, 0)) returns (o, p) let o = i; p = j; tel
+";
+
+#[test]
+fn too_long_a_hyperperiod_is_told(rt: HostRuntime) -> Result<(), Fail> {
+    let pairs = [(65_536, 0), (153, 0), (65_536, 0), (153, 0)];
+    let limit = limit_of(rt.alloc(), LONG_LANES, pairs.as_slice())?;
+    assert_eq!(rt; limit.what, What::Hyperperiod);
+    assert_eq!(rt; limit.found, 10_027_008);
+    Ok(())
+}

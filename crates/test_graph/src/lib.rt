@@ -1,0 +1,7 @@
+//! Tests of the task graphs of flat programs.
+#![tactic(auto)]
+
+#[cfg(test)]
+mod clocks;
+#[cfg(test)]
+mod graphs;
