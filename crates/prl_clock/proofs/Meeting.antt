@@ -2,7 +2,7 @@
 use Rattle.std.proofs.Common.{◌≡◌, ◌≤◌, ◌<◌, ◌+◌, ◌*◌, ◌++◌, ◌∷◌, ℕ, zero, suc, ℤ, pos, negsuc, nat_abs, ◌*ℤ◌, ◌-ℤ◌, ◌≤ℤ◌, List, [], length, map, get_or, slice_get, Option, Some, None, refl, sym, ap, ◌∙◌, subst, arith}
 use borrow.Author.Differences.{up, down, same_in, product_is, ints}
 use Rattle.prl_base.specs.Clocks.{IsClock}
-use Rattle.prl_base.specs.Operators.{IsResultClock}
+use Rattle.prl_base.specs.Operators.{IsOperatorFor, IsResultClock}
 use Rattle.prl_base.specs.Ratios.{Fraction}
 use Rattle.prl_base.specs.declared.operators.Clock.{Clock}
 use Rattle.prl_base.specs.declared.operators.Op.{Op}
@@ -11,7 +11,6 @@ use Rattle.prl_base.specs.declared.values.Ty.{Ty}
 use Rattle.prl_ast.specs.declared.declarations.Rate.{Rate}
 use Rattle.prl_ast.specs.InRange.{IsRate}
 use Rattle.prl_flow.specs.Flows.{IsClockOf}
-use Rattle.prl_flow.specs.Programs.{FitsType}
 use Rattle.prl_clock.specs.declared.timings.Timing.{Timing}
 use Rattle.prl_clock.specs.Constraints.{same_clock, timing_of_operator, timing_of_rate}
 use Rattle.prl_clock.specs.Timings.{Point, IsRatio, IsOver}
@@ -77,7 +76,7 @@ same_clocks y x o =
     let s = starts (same_clock).start y.start x.start x.period o.start in
     equal_clocks y x (omega (arith, p)) (omega (arith, s))
 
-pub result_clock : (op : Op) (x y : Clock) (ty : Ty) → FitsType ty op → IsOver (timing_of_operator op) (plain y) (plain x) → IsResultClock op x y
+pub result_clock : (op : Op) (x y : Clock) (ty : Ty) → IsOperatorFor ty op → IsOver (timing_of_operator op) (plain y) (plain x) → IsResultClock op x y
 result_clock (operators.Fby c) x y ty fits o =
     let p = periods (timing_of_operator (operators.Fby c)).period y.period x.period o.period in
     let s = starts (timing_of_operator (operators.Fby c)).start y.start x.start x.period o.start in (omega (arith, p), omega (arith, s))
@@ -105,7 +104,7 @@ over_same y x e = record {
   start = starts_in (same_clock).start y.start x.start x.period (let f = ap (λ (c : Clock). c.start) e in omega (arith, f));
 }
 
-pub over_result : (op : Op) (x y : Clock) (ty : Ty) → FitsType ty op → IsResultClock op x y → IsOver (timing_of_operator op) (plain y) (plain x)
+pub over_result : (op : Op) (x y : Clock) (ty : Ty) → IsOperatorFor ty op → IsResultClock op x y → IsOver (timing_of_operator op) (plain y) (plain x)
 over_result (operators.Fby c) x y ty fits r = record {
   period = periods_in (timing_of_operator (operators.Fby c)).period y.period x.period (omega (arith, r.0));
   start = starts_in (timing_of_operator (operators.Fby c)).start y.start x.start x.period (omega (arith, r.1));

@@ -1,10 +1,10 @@
 //! What rates and operators say of clocks.
 
 ghost use Rattle.std.specs.Prelude.{◌≡◌, ◌≤◌, ◌<◌, ◌++◌, ℕ, List, [], ◌∷◌, length, pos, IfErr, IfOk, OnErr, OnOk, true, false};
+ghost use Rattle.prl_base.specs.Operators.{IsOperatorFor};
 ghost use Rattle.prl_base.specs.declared.ratios.TheConstants.{MAX_PART};
 ghost use Rattle.prl_base.specs.declared.values.Ty.{Ty};
 ghost use Rattle.prl_ast.specs.InRange.{IsRate};
-ghost use Rattle.prl_flow.specs.Programs.{FitsType};
 ghost use Rattle.prl_clock.specs.Constraints.{Placed, over_one, rated, same_clock, timing_of_operator, timing_of_rate};
 ghost use Rattle.prl_clock.specs.code.Rates.{IsReducedTiming, IsTimingPast};
 ghost use Rattle.prl_clock.specs.code.Standings.{IsLink, IsRefused, IsSolved};
@@ -102,7 +102,7 @@ pub fn same_clock() -> Timing
 
 /// The operator's result over the flow that it stands on.
 pub fn timing_of_operator(op: &Op) -> Timing
-    requires { (ty : Ty) × FitsType ty op.now }
+    requires { (ty : Ty) × IsOperatorFor ty op.now }
     ensures timing { result ≡ timing_of_operator op.now }
     ensures link { IsLink result }
 {

@@ -18,7 +18,7 @@ use Rattle.prl_body.specs.Bodies.{IsWellTyped, body_named, body_step, input_type
 use Rattle.prl_body.specs.Machines.{MachineState}
 use Rattle.prl_flow.specs.Applications.{HaveBodies, nth_step, registers_before}
 use Rattle.prl_flow.specs.Counts.{dates_before}
-use Rattle.prl_flow.specs.Programs.{FitsType, FlatProgram, IsFlat, IsWellDefined}
+use Rattle.prl_flow.specs.Programs.{FlatProgram, IsFlat, IsWellDefined}
 use Rattle.prl_flow.specs.Rows.{Rows, rows_of}
 use Rattle.prl_flow.specs.Solutions.{AreClocks, HasRows, clock_of, values_of}
 use Rattle.prl_flow.specs.Uses.{IsArgument}

@@ -2,12 +2,12 @@
 use Rattle.std.proofs.Common.{◌≡◌, ◌+◌, ◌-◌, ◌*◌, ◌/◌, ◌<◌, ◌≤◌, ℕ, zero, suc, List, [], ◌∷◌, length, Some, slice_get, refl, sym, ap, subst, arith, ◌∙◌}
 use Rattle.std.proofs.lemmas.Option.{slice_get_within}
 use Rattle.prl_base.specs.Clocks.{date_at}
-use Rattle.prl_base.specs.Operators.{after_constant, instance, origin_of}
+use Rattle.prl_base.specs.Operators.{IsOperatorFor, after_constant, instance, origin_of}
 use Rattle.prl_base.specs.declared.operators.Op.{Op}
 use Rattle.prl_base.specs.declared.operators.Op.TheVariants as operators
 use Rattle.prl_base.specs.declared.values.Ty.{Ty}
 use Rattle.prl_base.specs.declared.values.Value.{Value}
-use Rattle.prl_flow.specs.Programs.{FitsType, FlatProgram, IsWellDefined}
+use Rattle.prl_flow.specs.Programs.{FlatProgram, IsWellDefined}
 use Rattle.prl_flow.specs.Rows.{Rows, rows_of}
 use Rattle.prl_flow.specs.Solutions.{HasRows, clock_of}
 use Rattle.prl_flow.specs.declared.programs.Def.{Def}
@@ -16,7 +16,7 @@ use Rattle.prl_flow.specs.declared.programs.Flow.{Flow}
 use Rattle.prl_evaluation.specs.Fronts.{HasInstance, IsPlain, IsReady, IsThere, len}
 
 -- an operator's result has an instance where what it reads is there
-has_instance : (ty : Ty) (op : Op) (count n : ℕ) → FitsType ty op → ((m : ℕ) → origin_of op n ≡ instance m → m < count) → HasInstance op count n
+has_instance : (ty : Ty) (op : Op) (count n : ℕ) → IsOperatorFor ty op → ((m : ℕ) → origin_of op n ≡ instance m → m < count) → HasInstance op count n
 has_instance ty (operators.Fby c) count zero fits there = omega arith
 has_instance ty (operators.Fby c) count (suc n) fits there = let h = there n refl in omega (arith, h)
 has_instance ty (operators.Cons c) count zero fits there = omega arith

@@ -5,7 +5,7 @@ use Rattle.std.proofs.lemmas.Option.{slice_get_within}
 use Rattle.std.proofs.lemmas.Bool.{cases_lt}
 use Rattle.std.proofs.Math.Nat.{mul-le-mul_left, mul-le-mul_right, mul_assoc, mul_comm, div-mul-le_self, le_of_mul-le-mul_left}
 use Rattle.prl_base.specs.Clocks.{IsClock, date_at}
-use Rattle.prl_base.specs.Operators.{IsResultClock, Origin, instance, constant, origin_of, delays}
+use Rattle.prl_base.specs.Operators.{IsOperatorFor, IsResultClock, Origin, constant, delays, instance, origin_of}
 use Rattle.prl_base.specs.declared.numbers.FlowNo.{FlowNo}
 use Rattle.prl_base.specs.declared.operators.Clock.{Clock}
 use Rattle.prl_base.specs.declared.operators.Op.{Op}
@@ -15,7 +15,7 @@ use Rattle.prl_base.specs.declared.values.Value.{Value}
 use Rattle.prl_body.specs.declared.bodies.CheckedBody.{CheckedBody}
 use Rattle.prl_body.specs.Bodies.{body_named, body_step}
 use Rattle.prl_flow.specs.Applications.{nth_step, registers_before}
-use Rattle.prl_flow.specs.Programs.{FlatProgram, FitsType, HasType, IsFlat, IsWellDefined}
+use Rattle.prl_flow.specs.Programs.{FlatProgram, HasType, IsFlat, IsWellDefined}
 use Rattle.prl_flow.specs.Rows.{Rows}
 use Rattle.prl_flow.specs.Solutions.{AgreesClock, AreClocks, clock_of}
 use Rattle.prl_flow.specs.Uses.{IsArgument, NamesNow, UsesNow}
@@ -96,7 +96,7 @@ shift_date q p x y n (pos (suc k)) positive period same true e =
 shift_date q p x y n (negsuc k) positive period same true e = absurd (cc)
 
 -- an operator's instance reads an instance of an earlier date, or of the same where it does not delay
-pub operator_earlier : (op : Op) (x y : Clock) (ty : Ty) (n m : ℕ) → IsClock x → IsClock y → IsResultClock op x y → FitsType ty op → origin_of op n ≡ instance m
+pub operator_earlier : (op : Op) (x y : Clock) (ty : Ty) (n m : ℕ) → IsClock x → IsClock y → IsResultClock op x y → IsOperatorFor ty op → origin_of op n ≡ instance m
     → IsOf op (date_at x m) (date_at y n)
 operator_earlier (operators.Fby c) x y ty zero m xs ys (period, start) fits is = absurd (cc)
 operator_earlier (operators.Fby c) x y ty (suc n) m xs ys (period, start) fits is =

@@ -3,7 +3,7 @@ use Rattle.std.proofs.Common.{◌≡◌, ◌+◌, ◌<◌, ◌≤◌, inl, inr, 
 use Rattle.std.proofs.lemmas.List.{length-take-le, length-map}
 use Rattle.std.proofs.lemmas.Option.{get_or_from_slice_get, slice_get-get_or, slice_get_within}
 use Rattle.prl_base.specs.Clocks.{IsClock, IsDate, date_at}
-use Rattle.prl_base.specs.Operators.{Origin, instance, constant, origin_of}
+use Rattle.prl_base.specs.Operators.{IsOperatorFor, Origin, constant, instance, origin_of}
 use Rattle.prl_base.specs.declared.numbers.FlowNo.{FlowNo}
 use Rattle.prl_base.specs.declared.operators.Clock.{Clock}
 use Rattle.prl_base.specs.declared.operators.Op.{Op}
@@ -18,7 +18,7 @@ use Rattle.prl_flow.specs.Applications.{HaveBodies, nth_step, registers_before, 
 use Rattle.prl_flow.specs.Counts.{dates_before}
 use Rattle.prl_flow.specs.Flows.{IsUpTo, value_at, OperatorByDate}
 use Rattle.prl_flow.specs.Instances.{IsDenominated, instance_values, value_from}
-use Rattle.prl_flow.specs.Programs.{FlatProgram, FitsType, IsFlat, IsWellDefined}
+use Rattle.prl_flow.specs.Programs.{FlatProgram, IsFlat, IsWellDefined}
 use Rattle.prl_flow.specs.Rows.{Rows, rows_of}
 use Rattle.prl_flow.specs.Solutions.{AgreesClock, AreClocks, HasRows, MeetsDefinition, Solves, argument_flows, clock_of, values_of}
 use Rattle.prl_flow.specs.declared.programs.App.{App}
@@ -44,7 +44,7 @@ from_taken : (xs : List Value) (o : Origin) → ((m : ℕ) → o ≡ instance m 
 from_taken xs (instance m) within = slice_get-get_or xs m nothing (within m refl)
 from_taken xs (constant c) within = refl
 
-pub denominated : (ty : Ty) (op : Op) → FitsType ty op → IsDenominated op
+pub denominated : (ty : Ty) (op : Op) → IsOperatorFor ty op → IsDenominated op
 denominated ty (operators.Fby c) fits = tt
 denominated ty (operators.Cons c) fits = tt
 denominated ty operators.Tail fits = tt

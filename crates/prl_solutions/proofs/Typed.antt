@@ -2,7 +2,7 @@
 use Rattle.std.proofs.Common.{◌≡◌, ◌+◌, ◌<◌, ◌≤◌, ℕ, zero, suc, List, [], ◌∷◌, map, length, Option, Some, slice_get, slice_index_or, refl, sym, ◌∙◌, ap, subst, arith}
 use Rattle.std.proofs.lemmas.Option.{slice_get-get_or, slice_get_within}
 use Rattle.prl_base.specs.Clocks.{date_at}
-use Rattle.prl_base.specs.Operators.{Origin, instance, constant, origin_of}
+use Rattle.prl_base.specs.Operators.{IsOperatorFor, Origin, constant, instance, origin_of}
 use Rattle.prl_base.specs.Values.{type_of}
 use Rattle.prl_base.specs.declared.numbers.FlowNo.{FlowNo}
 use Rattle.prl_base.specs.declared.operators.Clock.{Clock}
@@ -14,7 +14,7 @@ use Rattle.prl_body.specs.declared.bodies.CheckedBody.{CheckedBody}
 use Rattle.prl_body.specs.Bodies.{IsWellTyped, input_types, output_types, register_types}
 use Rattle.prl_body.proofs.Sound.{types_step}
 use Rattle.prl_flow.specs.Applications.{HaveBodies, HaveTypes, nth_step, registers_before}
-use Rattle.prl_flow.specs.Programs.{FlatProgram, FitsType, HasType, IsFlat, IsWellDefined}
+use Rattle.prl_flow.specs.Programs.{FlatProgram, HasType, IsFlat, IsWellDefined}
 use Rattle.prl_flow.specs.Rows.{Rows, rows_of}
 use Rattle.prl_flow.specs.Solutions.{AreClocks, HasRows, clock_of}
 use Rattle.prl_flow.specs.Uses.{IsArgument, IsOrder}
@@ -57,10 +57,10 @@ types_outputs : (body : CheckedBody) (inputs : ℕ → List Value) → IsWellTyp
 types_outputs body inputs well n each =
     (types_step body (inputs n) (registers_before body inputs n) well (each n (omega arith)) (types_registers body inputs well n (λ m less. each m (omega arith)))).0
 
-constant_typed : (ty : Ty) (op : Op) (n : ℕ) (c : Value) → FitsType ty op → origin_of op n ≡ constant c → type_of c ≡ ty
-constant_typed ty (operators.Fby d) zero c fits is = let same : d ≡ c = cc in ap type_of (sym same) ∙ fits
+constant_typed : (ty : Ty) (op : Op) (n : ℕ) (c : Value) → IsOperatorFor ty op → origin_of op n ≡ constant c → type_of c ≡ ty
+constant_typed ty (operators.Fby d) zero c fits is = let same : d ≡ c = cc in ap type_of (sym same) ∙ fits.0
 constant_typed ty (operators.Fby d) (suc n) c fits is = absurd (cc)
-constant_typed ty (operators.Cons d) zero c fits is = let same : d ≡ c = cc in ap type_of (sym same) ∙ fits
+constant_typed ty (operators.Cons d) zero c fits is = let same : d ≡ c = cc in ap type_of (sym same) ∙ fits.0
 constant_typed ty (operators.Cons d) (suc n) c fits is = absurd (cc)
 constant_typed ty operators.Tail n c fits is = absurd (cc)
 constant_typed ty (operators.Up k) n c fits is = absurd (cc)
