@@ -16,3 +16,5 @@ mod PortReads
 mod JobValues
 mod WellFormed
 mod Whole
+mod OneGraph
+mod SomeGraph

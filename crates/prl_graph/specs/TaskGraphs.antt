@@ -71,3 +71,10 @@ IsGraphFault p clocks (faults.DueOnNonTask label) = IsDueOnNonTask p label
 IsGraphFault p clocks (faults.DueRange flow due period) = AreDuesAllowed p × IsDueOutOfRange p clocks flow due period
 IsGraphFault p clocks (faults.Limit limit) = HasDues p clocks × IsPassedLimit p clocks limit.what limit.found
 IsGraphFault p clocks faults.Memory = Unit {0}
+
+-- a fault that the program has; want of memory is none
+abbrev pub IsOfProgram : GraphFault → Type 0
+IsOfProgram (faults.DueOnNonTask label) = Unit {0}
+IsOfProgram (faults.DueRange flow due period) = Unit {0}
+IsOfProgram (faults.Limit limit) = Unit {0}
+IsOfProgram faults.Memory = ⊥

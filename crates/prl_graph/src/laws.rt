@@ -1,6 +1,6 @@
 //! Laws of task graphs, as functions that do nothing: the contract of each is the law.
 
-ghost use Rattle.std.specs.Prelude.{◌≡◌, ◌<◌, ℕ, List, Some, slice_get};
+ghost use Rattle.std.specs.Prelude.{◌≡◌, ◌<◌, ◌⊎◌, ℕ, List, Some, slice_get};
 ghost use Rattle.std.specs.List.{AllByRecursion};
 ghost use Rattle.prl_base.specs.Clocks.{date_at};
 ghost use Rattle.prl_base.specs.declared.operators.Clock.{Clock};
@@ -12,16 +12,18 @@ ghost use Rattle.prl_flow.specs.Applications.{HaveBodies, registers_before, valu
 ghost use Rattle.prl_flow.specs.Programs.{FlatProgram, IsFlat};
 ghost use Rattle.prl_flow.specs.Rows.{Rows};
 ghost use Rattle.prl_flow.specs.Solutions.{AreClocks, Solves, argument_flows, clock_of};
+ghost use Rattle.prl_flow.specs.Uses.{HasNoCycle};
 ghost use Rattle.prl_plan.specs.declared.graphs.Edge.{Edge};
 ghost use Rattle.prl_plan.specs.declared.graphs.TaskGraph.{TaskGraph};
 ghost use Rattle.prl_plan.specs.Graphs.{IsWellFormed};
 ghost use Rattle.prl_plan.specs.Operands.{operand_of};
 ghost use Rattle.prl_values.specs.JobValues.{AreJobValues, reads_of_job, value_on};
+ghost use Rattle.prl_graph.specs.declared.faults.GraphFault.{GraphFault};
 ghost use Rattle.prl_graph.specs.Edges.{IsEdgeOf};
 ghost use Rattle.prl_graph.specs.EdgeValues.{value_of_operand, value_on_date};
 ghost use Rattle.prl_graph.specs.JobDates.{values_on_dates};
 ghost use Rattle.prl_graph.specs.Ports.{InputPort, node_no, ports_of};
-ghost use Rattle.prl_graph.specs.TaskGraphs.{AreSmallClocks, IsGraphOf};
+ghost use Rattle.prl_graph.specs.TaskGraphs.{AreSmallClocks, IsGraphFault, IsGraphOf, IsOfProgram};
 ghost use Rattle.prl_graph.specs.Tasks.{application_clock};
 
 /// The law of one edge: in each solution of the flat program, what a port's flow has at the date of
@@ -54,4 +56,16 @@ pub fn solutions_give_job_values()
         (k n : ℕ) (app : App) (body : CheckedBody) → slice_get p.apps k ≡ Some app → date_at (application_clock clocks app) n < until →
         registers_before body (reads_of_job graph (values_on_dates p clocks flows graph) (node_no p k)) n
         ≡ registers_before body (values_at (application_clock clocks app) (argument_flows flows app)) n }
+{}
+
+/// Each flat program with clocks and without a cycle has one task graph, or one fault, and not both.
+pub fn graphs_end_one_way()
+    ensures end { (p : FlatProgram) (clocks : List Clock) → IsFlat p → AreClocks p clocks → HasNoCycle p →
+        ((graph : TaskGraph) × IsGraphOf p clocks graph) ⊎ ((fault : GraphFault) × IsOfProgram fault × IsGraphFault p clocks fault) }
+    ensures one_graph { (p : FlatProgram) (clocks : List Clock) (a b : TaskGraph) →
+        IsGraphOf p clocks a → IsGraphOf p clocks b → a ≡ b }
+    ensures one_fault { (p : FlatProgram) (clocks : List Clock) (a b : GraphFault) → IsOfProgram a → IsOfProgram b →
+        IsGraphFault p clocks a → IsGraphFault p clocks b → a ≡ b }
+    ensures not_both { (p : FlatProgram) (clocks : List Clock) (graph : TaskGraph) (fault : GraphFault) → IsOfProgram fault →
+        IsGraphOf p clocks graph → IsGraphFault p clocks fault → ⊥ }
 {}

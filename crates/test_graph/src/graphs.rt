@@ -87,69 +87,66 @@ fn limit_of(alloc: Global, text: &[u8], pairs: &[(u64, u64)]) -> Result<Limit, F
     }
 }
 
-#[test]
-fn sampling_has_four_tasks_and_four_edges(rt: HostRuntime) -> Result<(), Fail> {
+/// The graph of the sampling program.
+fn sampling(alloc: Global) -> Result<TaskGraph, Fail> {
     let fast = (10, 0);
     let slow = (30, 0);
-    let pairs = [fast, fast, fast, slow, slow, fast, fast, fast, slow, slow];
-    let graph = made(rt.alloc(), SAMPLING, pairs.as_slice())?;
+    let pairs = [
+        fast, fast, fast, slow, slow, fast, fast, fast, slow, slow,
+    ];
+    made(alloc, SAMPLING, pairs.as_slice())
+}
+
+#[test]
+fn sampling_has_four_tasks(rt: HostRuntime) -> Result<(), Fail> {
+    let graph = sampling(rt.alloc())?;
     assert_eq!(rt; graph.hyper, 30);
     let tasks = graph.tasks.as_slice();
     assert_eq!(rt; tasks.len(), 4);
     assert_eq!(rt; tasks[0].name.bytes(), b"i".as_slice());
-    assert_eq!(rt; tasks[0].kind, Kind::Sensor(0));
-    assert_eq!(rt; tasks[0].wcet, 1);
     assert_eq!(rt; tasks[1].name.bytes(), b"F@0".as_slice());
-    assert_eq!(rt; tasks[1].kind, Kind::Node(0));
-    assert_eq!(rt; tasks[1].wcet, 2);
-    assert_eq!(rt; tasks[1].due, 10);
     assert_eq!(rt; tasks[2].name.bytes(), b"S@1".as_slice());
-    assert_eq!(rt; tasks[2].kind, Kind::Node(1));
-    assert_eq!(rt; tasks[2].clock.period, 30);
-    assert_eq!(rt; tasks[2].due, 30);
     assert_eq!(rt; tasks[3].name.bytes(), b"o".as_slice());
-    assert_eq!(rt; tasks[3].kind, Kind::Actuator(0));
+    Ok(())
+}
+
+#[test]
+fn sampling_has_a_slow_node(rt: HostRuntime) -> Result<(), Fail> {
+    let graph = sampling(rt.alloc())?;
+    let tasks = graph.tasks.as_slice();
+    assert_eq!(rt; tasks.len(), 4);
+    let slow = &tasks[2];
+    assert_eq!(rt; slow.kind, Kind::Node(1));
+    assert_eq!(rt; slow.clock.period, 30);
+    assert_eq!(rt; slow.due, 30);
+    assert_eq!(rt; slow.wcet, 10);
+    Ok(())
+}
+
+#[test]
+fn sampling_has_four_edges(rt: HostRuntime) -> Result<(), Fail> {
+    let graph = sampling(rt.alloc())?;
     let edges = graph.edges.as_slice();
     assert_eq!(rt; edges.len(), 4);
-    assert_eq!(rt;
-        edges[0].from,
-        Producer::Port {
-            task: TaskNo(0),
-            out: 0
-        }
-    );
-    assert_eq!(rt; edges[0].ops.len(), 0);
-    assert_eq!(rt;
-        edges[1].from,
-        Producer::Port {
-            task: TaskNo(2),
-            out: 0
-        }
-    );
-    assert_eq!(rt; edges[1].to, TaskNo(1));
-    assert_eq!(rt; edges[1].port, 1);
-    assert_eq!(rt; edges[1].period, 30);
-    assert_eq!(rt;
-        edges[1].ops.as_slice(),
-        [Op::Up(3), Op::Fby(Value::Int(0))].as_slice()
-    );
-    assert_eq!(rt;
-        edges[2].from,
-        Producer::Port {
-            task: TaskNo(1),
-            out: 1
-        }
-    );
-    assert_eq!(rt; edges[2].to, TaskNo(2));
+    assert_eq!(rt; edges[0].from, Producer::Port { task: TaskNo(0), out: 0 });
+    assert_eq!(rt; edges[2].from, Producer::Port { task: TaskNo(1), out: 1 });
     assert_eq!(rt; edges[2].ops.as_slice(), [Op::Down(3)].as_slice());
-    assert_eq!(rt;
-        edges[3].from,
-        Producer::Port {
-            task: TaskNo(1),
-            out: 0
-        }
-    );
+    assert_eq!(rt; edges[3].from, Producer::Port { task: TaskNo(1), out: 0 });
     assert_eq!(rt; edges[3].to, TaskNo(3));
+    Ok(())
+}
+
+#[test]
+fn operators_of_an_edge_stand_from_the_consumer_on(rt: HostRuntime) -> Result<(), Fail> {
+    let graph = sampling(rt.alloc())?;
+    let edges = graph.edges.as_slice();
+    assert_eq!(rt; edges.len(), 4);
+    let edge = &edges[1];
+    assert_eq!(rt; edge.from, Producer::Port { task: TaskNo(2), out: 0 });
+    assert_eq!(rt; edge.to, TaskNo(1));
+    assert_eq!(rt; edge.port, 1);
+    assert_eq!(rt; edge.period, 30);
+    assert_eq!(rt; edge.ops.as_slice(), [Op::Up(3), Op::Fby(Value::Int(0))].as_slice());
     Ok(())
 }
 
