@@ -1,11 +1,10 @@
 -- Assignments in which some flows are changed together: all of a component, which stays as it is but for a factor and an offset.
-use Rattle.std.proofs.Common.{◌≡◌, ◌≤◌, ◌<◌, ◌+◌, ◌*◌, ◌++◌, ◌⊎◌, inl, inr, ℕ, ℤ, pos, ◌*ℤ◌, ◌+ℤ◌, ◌-ℤ◌, Bool, true, false, cond, List, [], ◌∷◌, zero, suc, refl, sym, ap, ◌∙◌, subst, arith, mul-zero}
-use borrow.Author.Differences.{up, down, same_in, product_is, sum_is_lem, neg_is, ints}
+use Rattle.std.proofs.Common.{◌≡◌, ◌≤◌, ◌+◌, ◌*◌, inl, inr, ℕ, ℤ, pos, ◌*ℤ◌, ◌+ℤ◌, ◌-ℤ◌, Bool, true, false, cond, List, [], ◌∷◌, refl, ap, ◌∙◌, subst, arith}
+use borrow.Author.Differences.{up, down, product_is, ints}
 use Rattle.prl_clock.specs.declared.timings.Timing.{Timing}
 use Rattle.prl_clock.specs.Assignments.{Assignment, tick, Meets, MeetsAll, IsJoin, Joins}
 use Rattle.prl_clock.specs.Constraints.{Constraint, rated, related, Placed}
-use Rattle.prl_clock.specs.Timings.{Point, IsRatio, IsOver}
-use Rattle.prl_clock.specs.code.Composition.{HasParts}
+use Rattle.prl_clock.specs.Timings.{Point, IsOver}
 use Rattle.prl_clock.specs.code.Standings.{IsRated, HasRate, IsLink}
 use Rattle.prl_clock.proofs.Algebra.{times, positive, ratio_in, ratio_out}
 

@@ -1,5 +1,5 @@
 -- The arithmetic of timings over one another.
-use Rattle.std.proofs.Common.{◌≡◌, ◌≤◌, ◌<◌, ◌+◌, ◌*◌, ℕ, ℤ, pos, negsuc, ◌*ℤ◌, ◌+ℤ◌, ◌-ℤ◌, refl, zero, suc, sym, ◌∙◌, ap, arith}
+use Rattle.std.proofs.Common.{◌≡◌, ◌≤◌, ◌+◌, ◌*◌, ℕ, ℤ, pos, negsuc, ◌*ℤ◌, ◌+ℤ◌, ◌-ℤ◌, refl, zero, suc, sym, ◌∙◌, ap, arith}
 use borrow.Author.Differences.{up, down, same_in, product_is, sum_is_lem, ints}
 use Rattle.std.proofs.Math.Nat.{eq_of_mul-eq-mul_right, mul-pos, mul_comm}
 use Rattle.std.proofs.Math.IntN.{*ℤ_comm}
@@ -189,18 +189,18 @@ module _ (p q : Timing) (h : Fraction) (dp : HasParts p) (dq : HasParts q) (dh :
       let k = product_positive p.period q.period h dp.period dq.period dh c f g in
       natural_in h x.period z.period k.0
       (nat_product_of (up p.period.num) p.period.den (up q.period.num) q.period.den (up h.num) h.den x.period y.period z.period dp.period dq.period
-        (natural p.period x.period y.period f.0 a.period) (natural q.period y.period z.period g.0 b.period)
-        (product_out _ _ _ (up p.period.num) (up q.period.num) (up h.num) p.period.den q.period.den h.den f.0 g.0 k.0 c))
+      (natural p.period x.period y.period f.0 a.period) (natural q.period y.period z.period g.0 b.period)
+      (product_out _ _ _ (up p.period.num) (up q.period.num) (up h.num) p.period.den q.period.den h.den f.0 g.0 k.0 c))
 
   pub start_composed : IsOver p x y → IsOver q y z → IsSum q.start p.start q.period h → IsRatio h (x.start -ℤ z.start) z.period
   start_composed a b c =
       let g = numerator q.period y.period z.period dq.period sy b.period in
       whole_in h x.start y.start z.start z.period
       (nat_sum_of (up q.start.num) (down q.start.num) q.start.den (up p.start.num) (down p.start.num) p.start.den (up q.period.num) q.period.den (up h.num) (down h.num) h.den
-        (up (y.start -ℤ z.start)) (down (y.start -ℤ z.start)) (up (x.start -ℤ y.start)) (down (x.start -ℤ y.start)) y.period z.period dq.start dp.start dq.period
-        (ratio_out q.start (y.start -ℤ z.start) z.period b.start) (ratio_out p.start (x.start -ℤ y.start) y.period a.start)
-        (natural q.period y.period z.period g.0 b.period)
-        (linear_out q.start p.start q.period h g.0 c))
+      (up (y.start -ℤ z.start)) (down (y.start -ℤ z.start)) (up (x.start -ℤ y.start)) (down (x.start -ℤ y.start)) y.period z.period dq.start dp.start dq.period
+      (ratio_out q.start (y.start -ℤ z.start) z.period b.start) (ratio_out p.start (x.start -ℤ y.start) y.period a.start)
+      (natural q.period y.period z.period g.0 b.period)
+      (linear_out q.start p.start q.period h g.0 c))
 
 module _ (p r : Timing) (g : Fraction) (dp : HasParts p) (dr : HasParts r) (dg : 1 ≤ g.den) (x y z : Point) (sx : 1 ≤ x.period) (sy : 1 ≤ y.period) where
   pub period_over : IsOver p x y → IsOver r x z → IsProduct p.period g r.period → IsRatio g (pos y.period) z.period
@@ -210,8 +210,8 @@ module _ (p r : Timing) (g : Fraction) (dp : HasParts p) (dr : HasParts r) (dg :
       let k = other_positive p.period g r.period dp.period dg dr.period c f h in
       natural_in g y.period z.period k.0
       (nat_product_right (up p.period.num) p.period.den (up g.num) g.den (up r.period.num) r.period.den x.period y.period z.period f.1 dr.period
-        (natural p.period x.period y.period f.0 a.period) (natural r.period x.period z.period h.0 d.period)
-        (product_out _ _ _ (up p.period.num) (up g.num) (up r.period.num) p.period.den g.den r.period.den f.0 k.0 h.0 c))
+      (natural p.period x.period y.period f.0 a.period) (natural r.period x.period z.period h.0 d.period)
+      (product_out _ _ _ (up p.period.num) (up g.num) (up r.period.num) p.period.den g.den r.period.den f.0 k.0 h.0 c))
 
   pub start_over : (e : Fraction) → 1 ≤ e.den → IsOver p x y → IsOver r x z → IsProduct p.period g r.period → IsSum e p.start g r.start
       → IsRatio e (y.start -ℤ z.start) z.period
@@ -220,10 +220,10 @@ module _ (p r : Timing) (g : Fraction) (dp : HasParts p) (dr : HasParts r) (dg :
       let k = numerator g y.period z.period dg sy ratio in
       ratio_in e (y.start -ℤ z.start) z.period
       (nat_sum_base (up e.num) (down e.num) e.den (up p.start.num) (down p.start.num) p.start.den (up g.num) g.den (up r.start.num) (down r.start.num) r.start.den
-        (up (y.start -ℤ z.start)) (down (y.start -ℤ z.start)) (up (x.start -ℤ y.start)) (down (x.start -ℤ y.start)) y.period z.period dp.start dg dr.start
-        (whole_out r.start x.start y.start z.start z.period d.start) (ratio_out p.start (x.start -ℤ y.start) y.period a.start)
-        (natural g y.period z.period k.0 ratio)
-        (linear_out e p.start g r.start k.0 s))
+      (up (y.start -ℤ z.start)) (down (y.start -ℤ z.start)) (up (x.start -ℤ y.start)) (down (x.start -ℤ y.start)) y.period z.period dp.start dg dr.start
+      (whole_out r.start x.start y.start z.start z.period d.start) (ratio_out p.start (x.start -ℤ y.start) y.period a.start)
+      (natural g y.period z.period k.0 ratio)
+      (linear_out e p.start g r.start k.0 s))
 
 -- Of three points `x`, `y` and `z`: `p` is `x` over `y`, `q` is `y` over `z`, `r` is `x` over `z`.
 module _ (p q r : Timing) (dp : HasParts p) (dq : HasParts q) (dr : HasParts r) (x y z : Point) (sx : 1 ≤ x.period) (sy : 1 ≤ y.period) (sz : 1 ≤ z.period) where
@@ -244,15 +244,15 @@ module _ (p q r : Timing) (dp : HasParts p) (dq : HasParts q) (dr : HasParts r) 
         period =
             natural_in p.period x.period y.period f.0
             (nat_product_left (up p.period.num) p.period.den (up q.period.num) q.period.den (up r.period.num) r.period.den x.period y.period z.period dq.period dr.period
-              (natural q.period y.period z.period g.0 b.period) (natural r.period x.period z.period h.0 d.period)
-              (product_out _ _ _ (up p.period.num) (up q.period.num) (up r.period.num) p.period.den q.period.den r.period.den f.0 g.0 h.0 c.period));
+            (natural q.period y.period z.period g.0 b.period) (natural r.period x.period z.period h.0 d.period)
+            (product_out _ _ _ (up p.period.num) (up q.period.num) (up r.period.num) p.period.den q.period.den r.period.den f.0 g.0 h.0 c.period));
         start =
             ratio_in p.start (x.start -ℤ y.start) y.period
             (nat_sum_slope (up q.start.num) (down q.start.num) q.start.den (up p.start.num) (down p.start.num) p.start.den (up q.period.num) q.period.den (up r.start.num) (down r.start.num) r.start.den
-              (up (y.start -ℤ z.start)) (down (y.start -ℤ z.start)) (up (x.start -ℤ y.start)) (down (x.start -ℤ y.start)) y.period z.period dq.start dq.period dr.start
-              (whole_out r.start x.start y.start z.start z.period d.start) (ratio_out q.start (y.start -ℤ z.start) z.period b.start)
-              (natural q.period y.period z.period g.0 b.period)
-              (linear_out q.start p.start q.period r.start g.0 c.start));
+            (up (y.start -ℤ z.start)) (down (y.start -ℤ z.start)) (up (x.start -ℤ y.start)) (down (x.start -ℤ y.start)) y.period z.period dq.start dq.period dr.start
+            (whole_out r.start x.start y.start z.start z.period d.start) (ratio_out q.start (y.start -ℤ z.start) z.period b.start)
+            (natural q.period y.period z.period g.0 b.period)
+            (linear_out q.start p.start q.period r.start g.0 c.start));
       }
 
   -- y over z
@@ -271,12 +271,12 @@ module _ (p q r : Timing) (dp : HasParts p) (dq : HasParts q) (dr : HasParts r) 
         period =
             product_in _ _ _ (up p.period.num) (up q.period.num) (up r.period.num) p.period.den q.period.den r.period.den f.0 g.0 h.0
             (nat_product_is (up p.period.num) p.period.den (up q.period.num) q.period.den (up r.period.num) r.period.den x.period y.period z.period sz
-              (natural p.period x.period y.period f.0 a.period) (natural q.period y.period z.period g.0 b.period) (natural r.period x.period z.period h.0 d.period));
+            (natural p.period x.period y.period f.0 a.period) (natural q.period y.period z.period g.0 b.period) (natural r.period x.period z.period h.0 d.period));
         start =
             linear_in q.start p.start q.period r.start g.0
             (nat_sum_is (up q.start.num) (down q.start.num) q.start.den (up p.start.num) (down p.start.num) p.start.den (up q.period.num) q.period.den (up r.start.num) (down r.start.num) r.start.den
-              (up (y.start -ℤ z.start)) (down (y.start -ℤ z.start)) (up (x.start -ℤ y.start)) (down (x.start -ℤ y.start)) y.period z.period sz
-              (whole_out r.start x.start y.start z.start z.period d.start)
-              (ratio_out q.start (y.start -ℤ z.start) z.period b.start) (ratio_out p.start (x.start -ℤ y.start) y.period a.start)
-              (natural q.period y.period z.period g.0 b.period));
+            (up (y.start -ℤ z.start)) (down (y.start -ℤ z.start)) (up (x.start -ℤ y.start)) (down (x.start -ℤ y.start)) y.period z.period sz
+            (whole_out r.start x.start y.start z.start z.period d.start)
+            (ratio_out q.start (y.start -ℤ z.start) z.period b.start) (ratio_out p.start (x.start -ℤ y.start) y.period a.start)
+            (natural q.period y.period z.period g.0 b.period));
       }

@@ -1,24 +1,20 @@
 -- No number past the limit where the flows stand; constraints taken one by one.
-use Rattle.std.proofs.Common.{◌≡◌, ◌≢◌, ◌≤◌, ◌<◌, ◌+◌, ◌*◌, ◌++◌, ◌∷◌, ◌⊎◌, inl, inr, ◌==◌, cond, eq-eqb, Bool, true, false, ℕ, ℤ, pos, ◌*ℤ◌, ◌+ℤ◌, ◌-ℤ◌, List, [], length, take, Option, Some, None, Result, Ok, Err, refl, sym, ap, ◌∙◌, subst, arith, append_assoc, length-append}
-use Rattle.std.specs.Prelude.{IfErr}
+use Rattle.std.proofs.Common.{◌≡◌, ◌≤◌, ◌+◌, ◌*◌, ◌++◌, ◌∷◌, inl, inr, ◌==◌, cond, eq-eqb, Bool, true, false, ℕ, ℤ, pos, ◌*ℤ◌, ◌+ℤ◌, ◌-ℤ◌, List, [], length, Option, Some, None, refl, sym, ap, ◌∙◌, subst, arith, append_assoc, length-append}
 use borrow.Author.Differences.{up, down, ints}
 use Rattle.std.proofs.lemmas.Bool.{cases_lt, ne_eqb}
 use Rattle.std.proofs.lemmas.List.{take-append-le, append-nil, take_all}
-use Rattle.std.proofs.Math.Seq.{take-append_seam}
-use Rattle.prl_base.specs.Ratios.{Fraction, IsSmallFraction}
-use Rattle.prl_base.specs.Reductions.{IsPast, IsReducedForm}
+use Rattle.prl_base.specs.Ratios.{Fraction}
 use Rattle.prl_flow.specs.Programs.{FlatProgram}
 use Rattle.prl_clock.specs.declared.calculus.ClockFault.{ClockFault}
 use Rattle.prl_clock.specs.declared.timings.Timing.{Timing}
 use Rattle.prl_clock.specs.declared.standings.Standing.{Standing}
 use Rattle.prl_clock.specs.declared.steps.Refusal.{Refusal}
-use Rattle.prl_clock.specs.Assignments.{Assignment, tick, MeetsAll, IsConsistent, IsLowest, Passes, period_over, start_over, period, start}
+use Rattle.prl_clock.specs.Assignments.{Assignment, tick, MeetsAll, IsLowest, Passes, period_over, start_over, period, start}
 use Rattle.prl_clock.specs.Constraints.{Placed}
 use Rattle.prl_clock.specs.Outcomes.{IsFine}
 use Rattle.prl_clock.specs.Timings.{Point, IsRatio, IsOver, IsPeriodOver, IsStartOver}
-use Rattle.prl_clock.specs.code.Composition.{IsSmallTiming}
 use Rattle.prl_clock.specs.code.Progress.{IsReached, IsStopped, told}
-use Rattle.prl_clock.specs.code.Standings.{AreStandings, IsSolved, IsRefused, HasRate, HasClock, standing_at, root_at}
+use Rattle.prl_clock.specs.code.Standings.{IsSolved, IsRefused, HasClock, standing_at, root_at}
 use Rattle.prl_clock.proofs.Adjusting.{adjusted, adjusted_meets, scaled}
 use Rattle.prl_clock.proofs.Algebra.{positive, ratio_out, times}
 use Rattle.prl_clock.proofs.Graphs.{lowest_root}
@@ -49,10 +45,10 @@ module _ (cs : List Placed) (st : List Standing) (solved : IsSolved cs st) where
         adjusted_meets one inside p 1 d some (omega arith) cs one_meets
         (λ a b j. ap (λ t. t == root_at st x) (solved.joined a b j))
         (λ a h.
-            elim (decide (root_at st a) (root_at st x)) [
-              | inl e ↦ absurd (none_some none (solved.shared a x e (solved.rated a h)).1)
-              | inr n ↦ ne_eqb (root_at st a) (root_at st x) n
-            ])
+        elim (decide (root_at st a) (root_at st x)) [
+          | inl e ↦ absurd (none_some none (solved.shared a x e (solved.rated a h)).1)
+          | inr n ↦ ne_eqb (root_at st a) (root_at st x) n
+        ])
 
     pub changed_flow : changed.flow x ≡ scaled p d (one.flow x)
     changed_flow = chosen (inside x) (one.flow x) (eq-eqb (root_at st x) (root_at st x) refl)
@@ -107,12 +103,12 @@ module _ (cs : List Placed) (st : List Standing) (solved : IsSolved cs st) where
       let small = solved.standings.small x in
       past_small f (standing_at st x).over.period
       (only (pos (one.flow x).period) (one.flow y).period f (standing_at st x).over.period (one.positive y) (h one one_meets)
-        (small_form (pos (one.flow x).period) (one.flow y).period (standing_at st x).over.period small.period (over_root x y lowest).period)) past small.period
+      (small_form (pos (one.flow x).period) (one.flow y).period (standing_at st x).over.period small.period (over_root x y lowest).period)) past small.period
   not_past (start_over x y f lowest h past) =
       let small = solved.standings.small x in
       past_small f (standing_at st x).over.start
       (only ((one.flow x).start -ℤ (one.flow y).start) (one.flow y).period f (standing_at st x).over.start (one.positive y) (h one one_meets)
-        (small_form ((one.flow x).start -ℤ (one.flow y).start) (one.flow y).period (standing_at st x).over.start small.start (over_root x y lowest).start)) past small.start
+      (small_form ((one.flow x).start -ℤ (one.flow y).start) (one.flow y).period (standing_at st x).over.start small.start (over_root x y lowest).start)) past small.start
   not_past (period x f h past) =
       let c = period_clock x f h in
       let small = solved.standings.small_clock x c.0 c.1 in

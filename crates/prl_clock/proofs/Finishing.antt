@@ -1,5 +1,5 @@
 -- After all constraints.
-use Rattle.std.proofs.Common.{Bool, true, false, cond, not, is_some, ◌≡◌, ◌≢◌, ◌≤◌, ◌<◌, ◌+◌, ◌*◌, ◌++◌, ◌∷◌, ◌⊎◌, inl, inr, ℕ, zero, suc, ℤ, pos, negsuc, nat_abs, ◌*ℤ◌, ◌-ℤ◌, ◌≤ℤ◌, List, [], length, take, Option, Some, None, refl, sym, ap, ◌∙◌, subst, arith, append_assoc, length-append, add-one, below_more}
+use Rattle.std.proofs.Common.{Bool, true, false, cond, not, is_some, ◌≡◌, ◌≤◌, ◌<◌, ◌+◌, ◌*◌, ◌++◌, ◌∷◌, ℕ, ℤ, pos, negsuc, nat_abs, ◌*ℤ◌, ◌-ℤ◌, ◌≤ℤ◌, List, [], length, take, Option, Some, None, refl, sym, ap, ◌∙◌, subst, arith, append_assoc, length-append, below_more}
 use Rattle.std.specs.Prelude.{slice_get}
 use Rattle.std.proofs.lemmas.List.{get_or_append_left}
 use Rattle.std.proofs.Math.Seq.{take-append_seam}
@@ -7,7 +7,6 @@ use borrow.Author.Differences.{up, down, same_in, product_is, ints}
 use Rattle.prl_base.specs.Ratios.{Fraction}
 use Rattle.prl_base.specs.declared.limits.Limit.{Limit}
 use Rattle.prl_base.specs.declared.operators.Clock.{Clock}
-use Rattle.prl_flow.specs.declared.programs.Flow.{Flow}
 use Rattle.prl_flow.specs.Programs.{FlatProgram, IsFlat}
 use Rattle.prl_flow.specs.Solutions.{clock_of}
 use Rattle.prl_clock.specs.declared.calculus.ClockFault.{ClockFault}
@@ -16,15 +15,14 @@ use Rattle.prl_clock.specs.declared.standings.Standing.{Standing}
 use Rattle.prl_clock.specs.declared.steps.Refusal.{Refusal}
 use Rattle.prl_clock.specs.declared.steps.Refusal.TheVariants as refusals
 use Rattle.prl_clock.specs.declared.timings.Timing.{Timing}
-use Rattle.prl_clock.specs.Assignments.{Assignment, tick, MeetsAll, IsConsistent, Passes}
+use Rattle.prl_clock.specs.Assignments.{Assignment, MeetsAll, IsConsistent, Passes}
 use Rattle.prl_clock.specs.Constraints.{Placed, constraints_of}
-use Rattle.prl_clock.specs.Outcomes.{IsFine, IsMismatch, IsPastLimit, Agree, IsDetermined, HasChoice, IsFree, HasTiming, IsWhole, IsNotWhole, GivesClock, AreOnlyClocks, IsClockFault, clock_limit}
-use Rattle.prl_clock.specs.Timings.{Point, IsRatio, IsOver}
+use Rattle.prl_clock.specs.Outcomes.{IsFine, IsMismatch, IsPastLimit, IsDetermined, HasChoice, IsFree, HasTiming, IsWhole, IsNotWhole, GivesClock, AreOnlyClocks, IsClockFault, clock_limit}
+use Rattle.prl_clock.specs.Timings.{Point, IsRatio}
 use Rattle.prl_clock.specs.code.Finishing.{IsFirstFree, IsLabelOf, IsWholeClock}
 use Rattle.prl_clock.specs.code.Progress.{IsReached, IsStopped, IsStop, told}
-use Rattle.prl_clock.specs.code.Standings.{IsSolved, IsRefused, HasClock, standing_at, root_at}
-use Rattle.prl_clock.proofs.Adjusting.{scaled}
-use Rattle.prl_clock.proofs.Algebra.{Ratio, cancel_nat, times, positive, ratio_in, ratio_out}
+use Rattle.prl_clock.specs.code.Standings.{IsSolved, IsRefused, HasClock, standing_at}
+use Rattle.prl_clock.proofs.Algebra.{Ratio, cancel_nat, times, positive, ratio_out}
 use Rattle.prl_clock.proofs.Fine.{one, one_meets, changed, changed_meets, changed_flow}
 use Rattle.prl_clock.proofs.Reading.{are_clocks}
 use Rattle.prl_clock.proofs.Terms.{small_form, only}
@@ -71,14 +69,16 @@ module _ (ds : List Placed) (e : ClockFault) (s : IsStopped [] ds e) where
 
   pub stopped_limit : (limit : Limit) → e ≡ faults.Limit limit → (limit ≡ clock_limit) × IsPastLimit ds
   stopped_limit limit is =
-      let r = refused s.refusal (sym s.is ∙ is) s.refused in
-      (r.0, record {
+      let r = refused s.refusal (sym s.is ∙ is) s.refused in (
+        r.0,
+        record {
           index = length s.done;
           here = let a = ap length s.split in let b = length-append s.done (s.placed ∷ s.rest) in omega (arith, a, b);
           before = fine_before;
           consistent = let P : List Placed → Type 0 = λ t. IsConsistent t in subst P (sym then_is) r.1.0;
           passes = let P : List Placed → Type 0 = λ t. Passes t in subst P (sym then_is) r.1.1;
-        })
+        },
+      )
     where
       refused : (r : Refusal) → told r s.placed.at ≡ faults.Limit limit → IsRefused (s.done ++ s.placed ∷ []) r
           → (limit ≡ clock_limit) × (IsConsistent (s.done ++ s.placed ∷ []) × Passes (s.done ++ s.placed ∷ []))
@@ -240,8 +240,8 @@ pub whole_are : (p : FlatProgram) (flat : IsFlat p) (st : List Standing) (clocks
 whole_are p flat st clocks r len whole =
     only_clocks p flat st clocks r (len ∙ r.len)
     (λ i h s m.
-        let w = whole i (omega (arith, h, len)) in
-        whole_gives (constraints_of p) st r.solved i w.0 (clock_of clocks i) w.1 w.2.whole w.2.period w.2.start s m)
+    let w = whole i (omega (arith, h, len)) in
+    whole_gives (constraints_of p) st r.solved i w.0 (clock_of clocks i) w.1 w.2.whole w.2.period w.2.start s m)
 
 pub clock_pushed : (clocks : List Clock) (c : Clock) (st : List Standing) (i : ℕ) (t : Timing) → length clocks ≡ i → (standing_at st i).clock ≡ Some t → IsWholeClock t c
     → ((x : ℕ) → x < i → (u : Timing) × ((standing_at st x).clock ≡ Some u) × IsWholeClock u (clock_of clocks x))
@@ -249,11 +249,11 @@ pub clock_pushed : (clocks : List Clock) (c : Clock) (st : List Standing) (i : �
 clock_pushed clocks c st i t len is w before =
     below_more (λ x. (u : Timing) × ((standing_at st x).clock ≡ Some u) × IsWholeClock u (clock_of (clocks ++ c ∷ []) x)) i
     (λ x h.
-        let b = before x h in
-        let e : clock_of (clocks ++ c ∷ []) x ≡ clock_of clocks x = get_or_append_left clocks (c ∷ []) (record { period = 1; start = 0 }) x (omega (arith, h, len)) in
-        let P : Clock → Type 0 = λ k. IsWholeClock b.0 k in (b.0, b.1, subst P (sym e) b.2))
+    let b = before x h in
+    let e : clock_of (clocks ++ c ∷ []) x ≡ clock_of clocks x = get_or_append_left clocks (c ∷ []) (record { period = 1; start = 0 }) x (omega (arith, h, len)) in
+    let P : Clock → Type 0 = λ k. IsWholeClock b.0 k in (b.0, b.1, subst P (sym e) b.2))
     (let e : clock_of (clocks ++ c ∷ []) i ≡ c = let P : ℕ → Type 0 = λ n. clock_of (clocks ++ c ∷ []) n ≡ c in subst P len (last clocks) in
-      let P : Clock → Type 0 = λ k. IsWholeClock t k in (t, is, subst P (sym e) w))
+    let P : Clock → Type 0 = λ k. IsWholeClock t k in (t, is, subst P (sym e) w))
   where
     last : (xs : List Clock) → clock_of (xs ++ c ∷ []) (length xs) ≡ c
     last [] = refl

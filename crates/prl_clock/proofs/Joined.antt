@@ -1,15 +1,15 @@
 -- What the call that joins two components needs and gives.
-use Rattle.std.proofs.Common.{◌≡◌, ◌≢◌, ◌≤◌, ◌<◌, ◌⊎◌, inl, inr, ℕ, pos, List, length, Option, Some, None, refl, sym, ap, ◌∙◌, subst, arith}
+use Rattle.std.proofs.Common.{◌≡◌, ◌≢◌, ◌≤◌, ◌<◌, ℕ, pos, List, length, Option, Some, None, sym, ap, ◌∙◌, subst, arith}
 use borrow.Author.Differences.{up}
 use Rattle.prl_clock.specs.declared.timings.Timing.{Timing}
 use Rattle.prl_clock.specs.declared.standings.Standing.{Standing}
-use Rattle.prl_clock.specs.Assignments.{Assignment, tick, MeetsAll, IsConsistent, Passes, period, start}
+use Rattle.prl_clock.specs.Assignments.{Assignment, tick, MeetsAll, Passes, period, start}
 use Rattle.prl_clock.specs.Constraints.{Placed}
 use Rattle.prl_clock.specs.Timings.{Point, IsOver}
 use Rattle.prl_clock.specs.code.Composition.{HasParts, IsComposed, IsSmallTiming}
-use Rattle.prl_clock.specs.code.Standings.{AreStandings, IsSolved, IsOpen, IsMerging, IsMoved, IsTimed, AreMoved, AreTimed, IsOnePast, LowClock, IsLowClock, of_low, of_high, IsLowClockPast, of_low_past, of_high_past, standing_at, root_at}
+use Rattle.prl_clock.specs.code.Standings.{IsSolved, IsMerging, IsMoved, AreMoved, AreTimed, IsOnePast, LowClock, IsLowClock, of_low, of_high, IsLowClockPast, of_low_past, of_high_past, standing_at, root_at}
 use Rattle.prl_clock.proofs.Algebra.{composed_right, numerator}
-use Rattle.prl_clock.proofs.Joining.{shift_over, moved_are, moved_open, moved_solved, second_over, low_small, high_small, shift_passes, one_passes, first_over}
+use Rattle.prl_clock.proofs.Joining.{moved_are, moved_open, moved_solved, second_over, low_small, high_small, first_over}
 use Rattle.prl_clock.proofs.Merging.{moved_everywhere, timed_everywhere, timed_solved}
 use Rattle.prl_clock.proofs.Passing.{over_passes, timed_passes}
 use Rattle.prl_clock.proofs.Terms.{small_parts}

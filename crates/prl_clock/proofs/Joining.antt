@@ -1,12 +1,12 @@
 -- Two components become one: all flows of the higher go over the lower.
-use Rattle.std.proofs.Common.{◌≡◌, ◌≢◌, ◌≤◌, ◌<◌, ◌⊎◌, inl, inr, ℕ, pos, List, [], ◌∷◌, length, Option, Some, None, refl, sym, ap, ◌∙◌, subst, arith}
+use Rattle.std.proofs.Common.{◌≡◌, ◌≢◌, ◌≤◌, ◌⊎◌, inl, inr, ℕ, List, Option, Some, None, refl, sym, ap, ◌∙◌, subst, arith}
 use Rattle.prl_clock.specs.declared.timings.Timing.{Timing}
 use Rattle.prl_clock.specs.declared.standings.Standing.{Standing}
-use Rattle.prl_clock.specs.Assignments.{Assignment, tick, MeetsAll, IsConsistent, Joins, Connected, IsLowest, Passes, period_over, start_over, period, start}
+use Rattle.prl_clock.specs.Assignments.{Assignment, MeetsAll, Joins, Connected, IsLowest, Passes, period_over, start_over}
 use Rattle.prl_clock.specs.Constraints.{Placed}
-use Rattle.prl_clock.specs.Timings.{Point, IsOver}
-use Rattle.prl_clock.specs.code.Composition.{HasParts, IsComposed, IsComposedPast, IsOverPast, IsSmallTiming}
-use Rattle.prl_clock.specs.code.Standings.{AreStandings, IsSolved, IsOpen, IsJoint, IsMerging, IsMoved, AreMoved, HasRate, HasClock, standing_at, root_at, IsOnePast}
+use Rattle.prl_clock.specs.Timings.{IsOver}
+use Rattle.prl_clock.specs.code.Composition.{IsComposed, IsOverPast, IsSmallTiming}
+use Rattle.prl_clock.specs.code.Standings.{AreStandings, IsSolved, IsOpen, IsJoint, IsMerging, IsMoved, HasClock, standing_at, root_at, IsOnePast}
 use Rattle.prl_clock.proofs.Algebra.{composed_of, composed_right}
 use Rattle.prl_clock.proofs.Graphs.{connected_through, connected_back, same_root}
 use Rattle.prl_clock.proofs.Merging.{decide}
@@ -43,13 +43,13 @@ module _ (cs : List Placed) (st : List Standing) (high low : Standing) (m : IsJo
   agree x y u v a b j =
       elim (m.joined x y j) [
         | inl e ↦ elim (decide (root_at st x) high.root) [
-            | inl h ↦ a.up h ∙ sym (b.up (sym e ∙ h))
-            | inr n ↦ a.stay n ∙ e ∙ sym (b.stay (λ k. n (e ∙ k)))
-          ]
+          | inl h ↦ a.up h ∙ sym (b.up (sym e ∙ h))
+          | inr n ↦ a.stay n ∙ e ∙ sym (b.stay (λ k. n (e ∙ k)))
+        ]
         | inr either ↦ elim either [
-            | inl e ↦ a.up e.0 ∙ sym e.1 ∙ sym (b.stay (λ k. high_low (sym k ∙ e.1)))
-            | inr e ↦ a.stay (λ k. high_low (sym k ∙ e.0)) ∙ e.0 ∙ sym (b.up e.1)
-          ]
+          | inl e ↦ a.up e.0 ∙ sym e.1 ∙ sym (b.stay (λ k. high_low (sym k ∙ e.1)))
+          | inr e ↦ a.stay (λ k. high_low (sym k ∙ e.0)) ∙ e.0 ∙ sym (b.up e.1)
+        ]
       ]
 
   end : ℕ → ℕ
@@ -143,8 +143,8 @@ module _ (cs : List Placed) (st : List Standing) (high low : Standing) (w : Timi
                   let Q : ℕ → Type 0 = λ y. IsOver (standing_at st x).over (s.flow x) (s.flow y) in
                   subst P (sym mv.0)
                   (composed_of (standing_at st x).over shift (standing_at new x).over (small_parts _ (k.joint.standings.small x)) (small_parts _ shift_small) (small_parts _ mv.2)
-                    (s.flow x) (s.flow high.root) (s.flow low.root) (s.positive x) (s.positive high.root) (s.positive low.root)
-                    (subst Q e (k.joint.standings.over s meets x)) (shift_over s meets) mv.1)
+                  (s.flow x) (s.flow high.root) (s.flow low.root) (s.positive x) (s.positive high.root) (s.positive low.root)
+                  (subst Q e (k.joint.standings.over s meets x)) (shift_over s meets) mv.1)
               | inr n ↦ let P : Standing → Type 0 = λ t. IsOver t.over (s.flow x) (s.flow t.root) in subst P (sym ((moved x).kept n)) (k.joint.standings.over s meets x)
             ];
         clock = λ s meets x t is. k.joint.standings.clock s meets x t (sym (clock_new x) ∙ is);
@@ -180,13 +180,13 @@ module _ (cs : List Placed) (st : List Standing) (high low : Standing) (w : Timi
       split x y e =
           elim (decide (root_at st x) high.root) [
             | inl a ↦ elim (decide (root_at st y) high.root) [
-                | inl b ↦ inl (a ∙ sym b)
-                | inr n ↦ inr (inl a, inr (sym ((root_new y).stay n) ∙ sym e ∙ (root_new x).up a))
-              ]
+              | inl b ↦ inl (a ∙ sym b)
+              | inr n ↦ inr (inl a, inr (sym ((root_new y).stay n) ∙ sym e ∙ (root_new x).up a))
+            ]
             | inr n' ↦ elim (decide (root_at st y) high.root) [
-                | inl b ↦ inr (inr (sym ((root_new x).stay n') ∙ e ∙ (root_new y).up b), inl b)
-                | inr n ↦ inl (sym ((root_new x).stay n') ∙ e ∙ (root_new y).stay n)
-              ]
+              | inl b ↦ inr (inr (sym ((root_new x).stay n') ∙ e ∙ (root_new y).up b), inl b)
+              | inr n ↦ inl (sym ((root_new x).stay n') ∙ e ∙ (root_new y).stay n)
+            ]
           ]
 
       joined_new : (x y : ℕ) → Joins cs x y → root_at new x ≡ root_at new y

@@ -1,5 +1,5 @@
 -- Standings changed one by one.
-use Rattle.std.proofs.Common.{◌≡◌, ◌≢◌, ◌<◌, ◌≤◌, ◌+◌, ℕ, zero, suc, List, [], ◌∷◌, length, get_or, set, refl, sym, ap, ◌∙◌, subst, arith, get_or-set_other, get_or-set_same, below_more}
+use Rattle.std.proofs.Common.{◌≡◌, ◌≢◌, ◌<◌, ◌≤◌, ◌+◌, ℕ, zero, suc, List, [], ◌∷◌, length, get_or, set, refl, sym, ◌∙◌, subst, arith, get_or-set_other, get_or-set_same, below_more}
 use Rattle.prl_clock.specs.code.Standings.{standing_at, alone}
 use Rattle.prl_clock.specs.declared.standings.Standing.{Standing}
 
@@ -25,8 +25,8 @@ one_more P old now i d new here done left next =
     below_more (λ k. P (standing_at old k) (standing_at (set now i new) k)) i
     (λ k h. let Q : Standing → Type 0 = λ s. P (standing_at old k) s in subst Q (sym (set_other now i k new (omega arith))) (done k h))
     (let Q : Standing → Type 0 = λ s. P (standing_at old i) s in
-      let R : Standing → Type 0 = λ s. P s new in
-      subst Q (sym (set_here now i new here)) (subst R (sym (item_is now i d here) ∙ left i (omega arith)) next))
+    let R : Standing → Type 0 = λ s. P s new in
+    subst Q (sym (set_here now i new here)) (subst R (sym (item_is now i d here) ∙ left i (omega arith)) next))
 
 pub one_less : (old now : List Standing) (i : ℕ) (new : Standing) → ((k : ℕ) → i ≤ k → standing_at now k ≡ standing_at old k)
     → ((k : ℕ) → i + 1 ≤ k → standing_at (set now i new) k ≡ standing_at old k)

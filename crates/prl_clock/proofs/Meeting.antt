@@ -1,8 +1,14 @@
 -- Whole clocks that meet constraints, and the clocks of a flat program's solutions.
+<<<<<<< HEAD
 use Rattle.std.proofs.Common.{◌≡◌, ◌≤◌, ◌<◌, ◌+◌, ◌*◌, ◌++◌, ◌∷◌, ℕ, zero, suc, ℤ, pos, negsuc, nat_abs, ◌*ℤ◌, ◌-ℤ◌, ◌≤ℤ◌, List, [], length, map, get_or, slice_get, Option, Some, None, refl, sym, ap, ◌∙◌, subst, arith}
 use borrow.Author.Differences.{up, down, same_in, product_is, ints}
 use Rattle.prl_base.specs.Clocks.{IsClock}
 use Rattle.prl_base.specs.Operators.{IsOperatorFor, IsResultClock}
+=======
+use Rattle.std.proofs.Common.{◌≡◌, ◌≤◌, ◌+◌, ◌*◌, ℕ, ℤ, pos, negsuc, nat_abs, ◌-ℤ◌, ◌≤ℤ◌, refl, ap, arith}
+use borrow.Author.Differences.{up, down, product_is, ints}
+use Rattle.prl_base.specs.Operators.{IsResultClock}
+>>>>>>> 4b317d8091d3ba70929013cf18ca17f05d015736
 use Rattle.prl_base.specs.Ratios.{Fraction}
 use Rattle.prl_base.specs.declared.operators.Clock.{Clock}
 use Rattle.prl_base.specs.declared.operators.Op.{Op}
@@ -14,7 +20,7 @@ use Rattle.prl_flow.specs.Flows.{IsClockOf}
 use Rattle.prl_clock.specs.declared.timings.Timing.{Timing}
 use Rattle.prl_clock.specs.Constraints.{same_clock, timing_of_operator, timing_of_rate}
 use Rattle.prl_clock.specs.Timings.{Point, IsRatio, IsOver}
-use Rattle.prl_clock.proofs.Algebra.{Ratio, cancel_nat, times, ratio_in, ratio_out}
+use Rattle.prl_clock.proofs.Algebra.{cancel_nat, times, ratio_in, ratio_out}
 
 -- a clock in parts of a tick
 abbrev pub point : Clock → ℕ → Point
@@ -44,7 +50,7 @@ descaled q y x u some o = record {
       let e = ratio_out q.start (pos (y.start * u) -ℤ pos (x.start * u)) (x.period * u) o.start in
       ratio_in q.start (pos y.start -ℤ pos x.start) x.period
       (cancel_nat u (up q.start.num * x.period + down (pos y.start -ℤ pos x.start) * q.start.den) (down q.start.num * x.period + up (pos y.start -ℤ pos x.start) * q.start.den) some
-        (omega (arith, e, times q.start.den _ _ (difference y.start x.start u))));
+      (omega (arith, e, times q.start.den _ _ (difference y.start x.start u))));
 }
 
 natural : (z : ℤ) → pos 0 ≤ℤ z → (up z ≡ nat_abs z) × (down z ≡ 0)

@@ -1,16 +1,15 @@
 -- Constraints one more: who stands where then.
-use Rattle.std.proofs.Common.{◌≡◌, ◌≢◌, ◌≤◌, ◌<◌, ◌++◌, ◌⊎◌, inl, inr, ◌==◌, ℕ, ℤ, pos, Bool, true, false, List, [], ◌∷◌, length, Option, Some, None, refl, sym, ap, ◌∙◌, subst, arith}
+use Rattle.std.proofs.Common.{◌≡◌, ◌≢◌, ◌≤◌, ◌<◌, ◌⊎◌, inl, inr, ℕ, List, length, Some, sym, ap, ◌∙◌, subst, arith}
 use Rattle.std.proofs.Math.ListN.{get_or-eq_default}
 use Rattle.std.proofs.lemmas.Bool.{cases_lt}
 use Rattle.prl_clock.specs.declared.timings.Timing.{Timing}
 use Rattle.prl_clock.specs.declared.standings.Standing.{Standing}
-use Rattle.prl_clock.specs.Assignments.{Assignment, tick, MeetsAll, IsConsistent, Joins, Connected, IsLowest, Passes}
+use Rattle.prl_clock.specs.Assignments.{Assignment, tick, MeetsAll, Connected}
 use Rattle.prl_clock.specs.Constraints.{Placed}
-use Rattle.prl_clock.specs.Timings.{Point, IsOver}
-use Rattle.prl_clock.specs.code.Composition.{HasParts, IsComposed, IsSmallTiming}
-use Rattle.prl_clock.specs.code.Standings.{AreStandings, IsSolved, IsOpen, IsMerging, IsMoved, IsTimed, AreMoved, AreTimed, HasRate, HasClock, standing_at, root_at, alone}
-use Rattle.prl_clock.proofs.Algebra.{composed_of, composed_right}
-use Rattle.prl_clock.proofs.Graphs.{connected_through, connected_back, root_lowest}
+use Rattle.prl_clock.specs.Timings.{IsOver}
+use Rattle.prl_clock.specs.code.Composition.{IsSmallTiming}
+use Rattle.prl_clock.specs.code.Standings.{IsSolved, IsOpen, IsMoved, IsTimed, AreMoved, AreTimed, HasClock, standing_at, root_at, alone}
+use Rattle.prl_clock.proofs.Algebra.{composed_of}
 use Rattle.prl_clock.proofs.Terms.{small_parts}
 
 -- past the end there are lone flows
@@ -66,12 +65,14 @@ module _ (cs : List Placed) (old new : List Standing) (r : ℕ) (clock : Timing)
             let u = (timed x).timed e in
             let same : t ≡ u.0 = some_same (sym is ∙ ap (λ (s : Standing). s.clock) u.1.0) in
             let P : Timing → Type 0 = λ v. IsSmallTiming v × ((s : Assignment) → MeetsAll s cs → IsOver v (s.flow x) (tick s)) in
-            subst P (sym same)
-            (u.1.2, λ s m.
-                let root : IsOver (standing_at old x).over (s.flow x) (s.flow r) =
-                let Q : ℕ → Type 0 = λ y. IsOver (standing_at old x).over (s.flow x) (s.flow y) in subst Q e (open_.standings.over s m x) in
-                composed_of (standing_at old x).over clock u.0 (small_parts _ (open_.standings.small x)) (small_parts _ small) (small_parts _ u.1.2)
-                (s.flow x) (s.flow r) (tick s) (s.positive x) (s.positive r) s.some root (over s m) u.1.1)
+            subst P (sym same) (
+              u.1.2,
+              λ s m.
+                  let root : IsOver (standing_at old x).over (s.flow x) (s.flow r) =
+                  let Q : ℕ → Type 0 = λ y. IsOver (standing_at old x).over (s.flow x) (s.flow y) in subst Q e (open_.standings.over s m x) in
+                  composed_of (standing_at old x).over clock u.0 (small_parts _ (open_.standings.small x)) (small_parts _ small) (small_parts _ u.1.2)
+                  (s.flow x) (s.flow r) (tick s) (s.positive x) (s.positive r) s.some root (over s m) u.1.1,
+            )
         | inr n ↦
             let k : (standing_at old x).clock ≡ Some t = sym (ap (λ (s : Standing). s.clock) ((timed x).kept n)) ∙ is in
             (open_.standings.small_clock x t k, λ s m. open_.standings.clock s m x t k)
@@ -85,9 +86,9 @@ module _ (cs : List Placed) (old new : List Standing) (r : ℕ) (clock : Timing)
       elim (decide (root_at old x) r) [
         | inl e ↦ let u = (timed x).timed e in (u.0, ap (λ (s : Standing). s.clock) u.1.0)
         | inr n ↦ elim h [
-            | inl e ↦ absurd (n e)
-            | inr c ↦ (c.0, ap (λ (s : Standing). s.clock) ((timed x).kept n) ∙ c.1)
-          ]
+          | inl e ↦ absurd (n e)
+          | inr c ↦ (c.0, ap (λ (s : Standing). s.clock) ((timed x).kept n) ∙ c.1)
+        ]
       ]
 
   had_clock : (x : ℕ) → root_at old x ≢ r → HasClock new x → HasClock old x

@@ -1,5 +1,5 @@
 -- Fractions with the other sign.
-use Rattle.std.proofs.Common.{◌≡◌, ◌<◌, ◌≤◌, ◌^◌, ℕ, ℤ, pos, negsuc, neg_ℤ, nat_abs, ◌-ℤ◌, zero, suc, refl, rules, w64, ap, ◌∙◌, subst, sym, arith}
+use Rattle.std.proofs.Common.{◌≡◌, ◌<◌, ◌^◌, ℕ, ℤ, pos, negsuc, neg_ℤ, nat_abs, ◌-ℤ◌, zero, suc, refl, w64, ap, ◌∙◌, subst, sym, arith}
 use mir.Val.{to_z, of_z, SFits}
 use Rattle.std.specs.Int.{IsGcd}
 use Rattle.std.proofs.lemmas.Int.{to_z-of_z}

@@ -1,5 +1,5 @@
 -- A timing past the limit, as a number past the limit of what the constraints leave.
-use Rattle.std.proofs.Common.{◌≡◌, ◌≤◌, ℕ, ℤ, pos, ◌*ℤ◌, ◌-ℤ◌, List, Option, Some, refl, sym, ◌∙◌, subst, arith}
+use Rattle.std.proofs.Common.{◌≤◌, ℕ, List}
 use Rattle.prl_base.specs.Ratios.{Fraction}
 use Rattle.prl_base.specs.Reductions.{IsPast}
 use Rattle.prl_clock.specs.declared.timings.Timing.{Timing}
@@ -8,8 +8,8 @@ use Rattle.prl_clock.specs.Assignments.{Assignment, tick, MeetsAll, IsLowest, Pa
 use Rattle.prl_clock.specs.Constraints.{Placed}
 use Rattle.prl_clock.specs.Timings.{Point, IsOver, IsPeriodOver, IsStartOver}
 use Rattle.prl_clock.specs.code.Composition.{HasParts, IsComposedPast, composed_period, composed_start, IsOverPast, over_period, over_start}
-use Rattle.prl_clock.specs.code.Standings.{AreStandings, standing_at, root_at, IsOnePast}
-use Rattle.prl_clock.proofs.Algebra.{period_composed, start_composed} 
+use Rattle.prl_clock.specs.code.Standings.{AreStandings, standing_at, root_at}
+use Rattle.prl_clock.proofs.Algebra.{period_composed, start_composed}
 use Rattle.prl_clock.proofs.Algebra.{period_over as period_divided, start_over as start_divided}
 use Rattle.prl_clock.proofs.Terms.{past_form, small_parts}
 

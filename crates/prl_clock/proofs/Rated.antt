@@ -1,8 +1,7 @@
 -- The constraint that a flow has a rate, by the standing that was read.
-use Rattle.std.proofs.Common.{◌≡◌, ◌≢◌, ◌≤◌, ◌<◌, ◌++◌, ℕ, pos, List, [], ◌∷◌, length, Option, Some, None, refl, sym, ap, ◌∙◌, subst, arith}
-use Rattle.std.specs.Int.{IsGcd}
+use Rattle.std.proofs.Common.{◌≡◌, ◌≢◌, ◌≤◌, ◌<◌, ◌++◌, ℕ, pos, List, [], ◌∷◌, length, Some, None, refl, sym, ap, ◌∙◌, subst, arith}
 use Rattle.std.proofs.Math.Nat.{one-dvd}
-use Rattle.prl_base.specs.Ratios.{Fraction, IsSmallFraction}
+use Rattle.prl_base.specs.Ratios.{IsSmallFraction}
 use Rattle.prl_base.specs.declared.ratios.TheConstants.{MAX_PART}
 use Rattle.prl_ast.specs.declared.declarations.Rate.{Rate}
 use Rattle.prl_ast.specs.InRange.{IsRate}
@@ -12,7 +11,7 @@ use Rattle.prl_clock.specs.Assignments.{IsConsistent, Passes}
 use Rattle.prl_clock.specs.Constraints.{Placed, rated, timing_of_rate, over_one}
 use Rattle.prl_clock.specs.code.Composition.{IsComposed, IsOverPast, IsSmallTiming}
 use Rattle.prl_clock.specs.code.Rates.{IsReducedTiming, IsTimingPast}
-use Rattle.prl_clock.specs.code.Standings.{IsSolved, AreTimed, IsLink, IsOnePast, standing_at, root_at}
+use Rattle.prl_clock.specs.code.Standings.{IsSolved, AreTimed, IsLink, IsOnePast, standing_at}
 use Rattle.prl_clock.proofs.Rating.{known_solved, known_refused, new_consistent, new_past, over_nonzero, root_past, new_one_past, new_solved}
 use Rattle.prl_clock.proofs.Terms.{only, past_form, past_small}
 

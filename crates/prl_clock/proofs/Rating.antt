@@ -1,17 +1,17 @@
 -- The constraint that a flow has a rate.
-use Rattle.std.proofs.Common.{cond, ◌≡◌, ◌≢◌, ◌≤◌, ◌<◌, ◌+◌, ◌*◌, ◌++◌, ◌⊎◌, inl, inr, ◌==◌, eq-eqb, ℕ, ℤ, pos, ◌*ℤ◌, ◌-ℤ◌, Bool, true, false, List, [], ◌∷◌, length, Option, Some, None, refl, sym, ap, ◌∙◌, subst, arith}
+use Rattle.std.proofs.Common.{cond, ◌≡◌, ◌≢◌, ◌≤◌, ◌<◌, ◌+◌, ◌*◌, ◌++◌, ◌⊎◌, inl, inr, ◌==◌, eq-eqb, ℕ, ℤ, pos, ◌*ℤ◌, ◌-ℤ◌, Bool, true, false, List, [], ◌∷◌, length, Option, Some, None, refl, sym, ap, subst, arith}
 use Rattle.std.proofs.lemmas.Bool.{ne_eqb}
-use borrow.Author.Differences.{up, down, same_in, product_is}
+use borrow.Author.Differences.{up, down}
 use Rattle.prl_base.specs.Ratios.{Fraction, IsSmallFraction}
 use Rattle.prl_clock.specs.declared.timings.Timing.{Timing}
 use Rattle.prl_clock.specs.declared.standings.Standing.{Standing}
-use Rattle.prl_clock.specs.Assignments.{Assignment, tick, MeetsAll, IsConsistent, IsJoin, Joins, IsLowest, Passes, period, start}
+use Rattle.prl_clock.specs.Assignments.{Assignment, tick, MeetsAll, IsConsistent, Joins, Passes, period, start}
 use Rattle.prl_clock.specs.Constraints.{Placed, rated}
 use Rattle.prl_clock.specs.Timings.{Point, IsRatio, IsOver}
 use Rattle.prl_clock.specs.code.Composition.{HasParts, IsComposed, IsOverPast, IsSmallTiming}
 use Rattle.prl_clock.specs.code.Rates.{IsReducedTiming, IsTimingPast}
-use Rattle.prl_clock.specs.code.Standings.{AreStandings, IsSolved, IsOpen, IsTimed, AreTimed, IsLink, IsOnePast, HasRate, HasClock, standing_at, root_at}
-use Rattle.prl_clock.proofs.Adjusting.{adjusted, adjusted_meets, bridge, IsBridge, scaled, tick_scaled}
+use Rattle.prl_clock.specs.code.Standings.{AreStandings, IsSolved, IsOpen, AreTimed, IsLink, IsOnePast, HasRate, HasClock, standing_at, root_at}
+use Rattle.prl_clock.proofs.Adjusting.{adjusted, adjusted_meets, bridge, scaled, tick_scaled}
 use Rattle.prl_clock.proofs.Algebra.{Ratio, cancel_nat, times, ratio_in, ratio_out, composed_right}
 use Rattle.prl_clock.proofs.Graphs.{meets_before, meets_after, meets_both, joins_either, rates_either}
 use Rattle.prl_clock.proofs.Joined.{nonzero}
@@ -114,17 +114,19 @@ module _ (cs : List Placed) (st : List Standing) (solved : IsSolved cs st) (x : 
         let k = bridge q is_link (s₀.flow x) (tick s₀) (s₀.positive x) s₀.some in
         let z : Assignment = adjusted s₀ inside k.first k.second k.offset k.some_first k.some_second in
         let P : Point → Type 0 = λ y. IsOver q (scaled k.first k.offset (s₀.flow x)) y in
-        let o : IsOver q (scaled k.first k.offset (s₀.flow x)) (record { period = k.second * s₀.unit; start = pos 0 }) = subst P (tick_scaled k.second s₀) k.over in
-        (z, both z
-            (adjusted_meets s₀ inside k.first k.second k.offset k.some_first k.some_second cs m₀
+        let o : IsOver q (scaled k.first k.offset (s₀.flow x)) (record { period = k.second * s₀.unit; start = pos 0 }) = subst P (tick_scaled k.second s₀) k.over in (
+          z,
+          both z
+              (adjusted_meets s₀ inside k.first k.second k.offset k.some_first k.some_second cs m₀
               (λ a b j. ap (λ t. t == root_at st x) (solved.joined a b j))
               (λ a h.
-                  elim (decide (root_at st a) (root_at st x)) [
-                    | inl e ↦ absurd (none_some none (solved.shared a x e (solved.rated a h)).1)
-                    | inr n ↦ ne_eqb (root_at st a) (root_at st x) n
-                  ]))
-            (chosen (inside x) (scaled k.first k.offset (s₀.flow x)) (scaled k.second (pos 0) (s₀.flow x)) (record { period = k.second * s₀.unit; start = pos 0 })
-              (eq-eqb (root_at st x) (root_at st x) refl) o))
+              elim (decide (root_at st a) (root_at st x)) [
+                | inl e ↦ absurd (none_some none (solved.shared a x e (solved.rated a h)).1)
+                | inr n ↦ ne_eqb (root_at st a) (root_at st x) n
+              ]))
+              (chosen (inside x) (scaled k.first k.offset (s₀.flow x)) (scaled k.second (pos 0) (s₀.flow x)) (record { period = k.second * s₀.unit; start = pos 0 })
+              (eq-eqb (root_at st x) (root_at st x) refl) o),
+        )
       where
         chosen : (b : Bool) (u v y : Point) → b ≡ true → IsOver q u y → IsOver q (cond b u v) y
         chosen true u v y e o = o

@@ -1,13 +1,11 @@
 -- From assignments that meet the constraints of a flat program to its clocks, and back.
-use Rattle.std.proofs.Common.{◌≡◌, ◌≤◌, ◌<◌, ◌+◌, ◌*◌, ◌++◌, ◌∷◌, ◌⊎◌, inl, inr, ℕ, zero, suc, ℤ, pos, List, [], length, map, get_or, Option, Some, None, refl, sym, ap, ◌∙◌, subst, arith}
-use Rattle.std.specs.Prelude.{slice_get, slice_index_or}
+use Rattle.std.proofs.Common.{◌≡◌, ◌≤◌, ◌<◌, ◌*◌, ◌∷◌, inl, inr, ℕ, zero, suc, pos, List, [], length, map, get_or, Option, Some, None, refl, sym, ap, ◌∙◌, subst, arith}
+use Rattle.std.specs.Prelude.{slice_get}
 use Rattle.std.proofs.lemmas.Bool.{cases_lt}
-use Rattle.std.proofs.lemmas.Option.{slice_get-get_or, slice_get_within, get_or_from_slice_get}
-use Rattle.std.proofs.Math.ListN.{get_or-eq_default}
+use Rattle.std.proofs.lemmas.Option.{slice_get-get_or, slice_get_within}
 use Rattle.prl_base.specs.Clocks.{IsClock}
 use Rattle.prl_base.specs.declared.numbers.FlowNo.{FlowNo}
 use Rattle.prl_base.specs.declared.operators.Clock.{Clock}
-use Rattle.prl_base.specs.declared.operators.Op.{Op}
 use Rattle.prl_base.specs.declared.values.Ty.{Ty}
 use Rattle.prl_ast.specs.InRange.{IfThere, IsRate}
 use Rattle.prl_ast.specs.declared.declarations.Rate.{Rate}
@@ -19,12 +17,12 @@ use Rattle.prl_flow.specs.declared.programs.Flow.{Flow}
 use Rattle.prl_flow.specs.Programs.{FlatProgram, IsFlat, IsWellDefined, IsApplication}
 use Rattle.prl_flow.specs.Solutions.{AreClocks, AgreesClock, HasOneClock, HasRate, clock_of}
 use Rattle.prl_clock.specs.declared.timings.Timing.{Timing}
-use Rattle.prl_clock.specs.Assignments.{Assignment, tick, Meets, MeetsAll}
-use Rattle.prl_clock.specs.Constraints.{Constraint, rated, related, Placed, same_clock, timing_of_operator, timing_of_rate, rate_constraints, argument_constraint, first_output, output_constraints, definition_constraints, flow_constraints, constraints_below, constraints_of}
+use Rattle.prl_clock.specs.Assignments.{Assignment, tick, MeetsAll}
+use Rattle.prl_clock.specs.Constraints.{same_clock, timing_of_operator, timing_of_rate, rate_constraints, argument_constraint, first_output, output_constraints, definition_constraints, flow_constraints, constraints_below, constraints_of}
 use Rattle.prl_clock.specs.Outcomes.{GivesClock}
 use Rattle.prl_clock.specs.Timings.{Point, IsOver}
 use Rattle.prl_clock.proofs.Graphs.{meets_before, meets_after, meets_both}
-use Rattle.prl_clock.proofs.Meeting.{point, plain, ticks, descaled, same_clocks, result_clock, over_same, over_result, clock_of_rate, over_rate}
+use Rattle.prl_clock.proofs.Meeting.{point, plain, ticks, descaled, same_clocks, result_clock, clock_of_rate}
 
 -- those of each flow are among all
 pub of_flow : (p : FlatProgram) (s : Assignment) (n i : ℕ) → i < n → MeetsAll s (constraints_below p n) → MeetsAll s (flow_constraints p i (slice_get p.flows i))
@@ -80,9 +78,10 @@ module _ (p : FlatProgram) (flat : IsFlat p) (clocks : List Clock) (count : leng
         → MeetsAll s (rate_constraints i flow.at.at flow.rate) × MeetsAll s (definition_constraints p i flow.at.at flow.def)
     parts i flow found =
         let P : Option Flow → Type 0 = λ o. MeetsAll s (flow_constraints p i o) in
-        let m = subst P found (of_flow p s (length p.flows) i (slice_get_within p.flows i flow found) meets) in
-        (meets_before s (rate_constraints i flow.at.at flow.rate) (definition_constraints p i flow.at.at flow.def) m,
-          meets_after s (rate_constraints i flow.at.at flow.rate) (definition_constraints p i flow.at.at flow.def) m)
+        let m = subst P found (of_flow p s (length p.flows) i (slice_get_within p.flows i flow found) meets) in (
+          meets_before s (rate_constraints i flow.at.at flow.rate) (definition_constraints p i flow.at.at flow.def) m,
+          meets_after s (rate_constraints i flow.at.at flow.rate) (definition_constraints p i flow.at.at flow.def) m,
+        )
 
     of_rate : (i : ℕ) (at : ℕ) → i < length p.flows → (o : Option Rate) → IfThere IsRate o → MeetsAll s (rate_constraints i at o) → HasRate (clock_of clocks i) o
     of_rate i at h None is m = tt
@@ -130,8 +129,8 @@ module _ (p : FlatProgram) (flat : IsFlat p) (clocks : List Clock) (count : leng
         clock = clock_of clocks (first_output app);
         args = λ j arg h.
             sym (same_clocks (clock_of clocks (first_output app)) (clock_of clocks arg.flow.0)
-                (down_to same_clock (first_output app) arg.flow.0 (out_below 0 (get_or app.outs 0 (record { 0 = 0 })) first) (its.args j arg h)
-                  (mapped s (first_output app) app.args j arg h (out_meets 0 (get_or app.outs 0 (record { 0 = 0 })) first).1)));
+            (down_to same_clock (first_output app) arg.flow.0 (out_below 0 (get_or app.outs 0 (record { 0 = 0 })) first) (its.args j arg h)
+            (mapped s (first_output app) app.args j arg h (out_meets 0 (get_or app.outs 0 (record { 0 = 0 })) first).1)));
         outs = of_output;
       }
 

@@ -1,5 +1,5 @@
 -- Fractions of a sign and a size in lowest terms, and the sum whose sign is found by parts.
-use Rattle.std.proofs.Common.{◌≡◌, ◌⊎◌, inl, inr, ◌+◌, ◌-◌, ◌*◌, ◌/◌, ◌<◌, ◌≤◌, ℕ, ℤ, pos, negsuc, neg_ℤ, nat_abs, ◌+ℤ◌, ◌*ℤ◌, Bool, true, false, zero, suc, refl, sym, ap, ◌∙◌, subst, arith}
+use Rattle.std.proofs.Common.{◌≡◌, ◌⊎◌, inl, inr, ◌+◌, ◌-◌, ◌*◌, ◌/◌, ◌<◌, ◌≤◌, ℕ, ℤ, pos, neg_ℤ, nat_abs, ◌+ℤ◌, ◌*ℤ◌, Bool, true, false, refl, sym, ap, ◌∙◌, subst, arith}
 use Rattle.std.specs.Int.{IsGcd}
 use borrow.Author.Differences.{up, down, same_in, product_is, sum_is_lem, ints}
 use Rattle.std.proofs.Math.Nat.{mul-pos}
@@ -11,12 +11,14 @@ use Rattle.prl_base.proofs.Signs.{nat_abs_signed}
 
 pub reduced_past : (negative : Bool) (size den g : ℕ) → 1 ≤ den → IsGcd size den g → (MAX_PART < size / g) ⊎ (MAX_PART < den / g)
     → (f : Fraction) × (IsReducedForm (signed negative size) (pos den) f × IsPast f)
-reduced_past negative size den g positive gcd (inl top) =
-    (record { num = signed negative (size / g); den = den / g },
-      (lowest_form (signed negative size) negative size den g refl positive gcd, inl (rw (nat_abs_signed negative (size / g)) top)))
-reduced_past negative size den g positive gcd (inr bottom) =
-    (record { num = signed negative (size / g); den = den / g },
-      (lowest_form (signed negative size) negative size den g refl positive gcd, inr bottom))
+reduced_past negative size den g positive gcd (inl top) = (
+  record { num = signed negative (size / g); den = den / g },
+  (lowest_form (signed negative size) negative size den g refl positive gcd, inl (rw (nat_abs_signed negative (size / g)) top)),
+)
+reduced_past negative size den g positive gcd (inr bottom) = (
+  record { num = signed negative (size / g); den = den / g },
+  (lowest_form (signed negative size) negative size den g refl positive gcd, inr bottom),
+)
 
 pub reduced_form : (negative : Bool) (size den g : ℕ) (num : ℤ) → 1 ≤ den → IsGcd size den g → num ≡ signed negative (size / g)
     → IsReducedForm (signed negative size) (pos den) (record { num = num; den = den / g })
@@ -44,8 +46,14 @@ pub total : (e s t : ℤ) (E G : ℕ)
     → up (e *ℤ pos G +ℤ s *ℤ t *ℤ pos E) + (down e * G + up s * down t * E + down s * up t * E)
     ≡ down (e *ℤ pos G +ℤ s *ℤ t *ℤ pos E) + (up e * G + up s * up t * E + down s * down t * E)
 total e s t E G =
-    omega (arith, sum_is_lem (e *ℤ pos G) (s *ℤ t *ℤ pos E), product_is e (pos G), product_is (s *ℤ t) (pos E),
-      times E _ _ (product_is s t).0, times E _ _ (product_is s t).1)
+    omega (
+      arith,
+      sum_is_lem (e *ℤ pos G) (s *ℤ t *ℤ pos E),
+      product_is e (pos G),
+      product_is (s *ℤ t) (pos E),
+      times E _ _ (product_is s t).0,
+      times E _ _ (product_is s t).1,
+    )
 
 pub below_is : (z : ℤ) (plus minus : ℕ) → up z + minus ≡ down z + plus → plus < minus → z ≡ signed true (minus - plus)
 below_is z plus minus e less = same_in z (neg_ℤ (pos (minus - plus))) (omega (arith, ints, e))

@@ -1,6 +1,5 @@
 -- The constraint that a flow is so over another, by the two standings that were read.
-use Rattle.std.proofs.Common.{◌≡◌, ◌≢◌, ◌<◌, ◌≤◌, ◌++◌, ◌∷◌, [], List, ℕ, Option, Some, None, Result, Ok, Err, length, refl, sym, ap, subst, arith, ◌∙◌}
-use Rattle.std.specs.Prelude.{IfErr, OnErr, OnOk}
+use Rattle.std.proofs.Common.{◌≡◌, ◌≢◌, ◌<◌, ◌++◌, ◌∷◌, [], List, ℕ, Option, Some, None, length, refl, sym, ap, subst, arith, ◌∙◌}
 use Rattle.prl_ast.specs.InRange.{IfThere}
 use Rattle.prl_clock.specs.declared.standings.Standing.{Standing}
 use Rattle.prl_clock.specs.declared.timings.Timing.{Timing}

@@ -1,16 +1,16 @@
 -- The constraint that a flow is so over another.
-use Rattle.std.proofs.Common.{cond, ◌≡◌, ◌≢◌, ◌≤◌, ◌<◌, ◌++◌, ◌⊎◌, inl, inr, ◌==◌, eq-eqb, ℕ, pos, Bool, true, false, List, [], ◌∷◌, length, Option, Some, None, refl, sym, ap, ◌∙◌, subst, arith}
+use Rattle.std.proofs.Common.{cond, ◌≡◌, ◌≢◌, ◌<◌, ◌++◌, ◌⊎◌, inl, inr, ◌==◌, eq-eqb, ℕ, pos, Bool, true, false, List, [], ◌∷◌, length, Option, Some, None, refl, sym, ap, ◌∙◌, subst}
 use Rattle.std.proofs.lemmas.Bool.{ne_eqb}
 use Rattle.prl_clock.specs.declared.timings.Timing.{Timing}
 use Rattle.prl_clock.specs.declared.standings.Standing.{Standing}
-use Rattle.prl_clock.specs.Assignments.{Assignment, tick, MeetsAll, IsConsistent, IsJoin, Joins, Connected, here, on, IsLowest, Passes, period_over, start_over}
+use Rattle.prl_clock.specs.Assignments.{Assignment, tick, MeetsAll, IsConsistent, Joins, Connected, here, on, Passes, period_over, start_over}
 use Rattle.prl_clock.specs.Constraints.{Placed, related}
 use Rattle.prl_clock.specs.Timings.{Point, IsOver}
-use Rattle.prl_clock.specs.code.Composition.{HasParts, IsComposed, IsComposedPast, IsOverPast, IsSmallTiming}
+use Rattle.prl_clock.specs.code.Composition.{IsComposed, IsComposedPast, IsOverPast, IsSmallTiming}
 use Rattle.prl_clock.specs.code.Standings.{AreStandings, IsSolved, IsJoint, IsMerging, IsLink, HasRate, HasClock, standing_at, root_at}
 use Rattle.prl_clock.proofs.Adjusting.{adjusted, adjusted_meets, bridge, bridge_back, IsBridge, IsBridgeBack, scaled}
 use Rattle.prl_clock.proofs.Algebra.{composed_of, composed_left, composed_right, composed_is}
-use Rattle.prl_clock.proofs.Graphs.{meets_before, meets_after, meets_both, joins_before, joins_after, joins_either, rates_either, connected_before, same_root}
+use Rattle.prl_clock.proofs.Graphs.{meets_before, meets_after, meets_both, joins_after, joins_either, rates_either, connected_before, same_root}
 use Rattle.prl_clock.proofs.Joining.{lowest_low}
 use Rattle.prl_clock.proofs.Merging.{decide}
 use Rattle.prl_clock.proofs.Passing.{composed_passes, over_passes}
@@ -94,7 +94,7 @@ module _ (cs : List Placed) (st : List Standing) (solved : IsSolved cs st) (x y 
         let k = meets_before s cs last m in
         never
         (composed_is link (standing_at st y).over (standing_at st x).over is_link.parts (small_parts _ small_y) (small_parts _ small_x)
-          (s.flow x) (s.flow y) (s.flow (root_at st y)) (s.positive x) (s.positive y) (s.positive (root_at st y)) (its s m) (y_over s k) (x_over_y's s k))
+        (s.flow x) (s.flow y) (s.flow (root_at st y)) (s.positive x) (s.positive y) (s.positive (root_at st y)) (its s m) (y_over s k) (x_over_y's s k))
 
   -- clocks that do not agree
   pub clocks_refused : (t u : Timing) → (standing_at st y).clock ≡ Some t → (standing_at st x).clock ≡ Some u → (IsComposed link t u → ⊥) → IsConsistent (cs ++ last) → ⊥
@@ -102,7 +102,7 @@ module _ (cs : List Placed) (st : List Standing) (solved : IsSolved cs st) (x y 
       let k = meets_before s cs last m in
       never
       (composed_is link t u is_link.parts (small_parts _ (solved.standings.small_clock y t of_y)) (small_parts _ (solved.standings.small_clock x u of_x))
-        (s.flow x) (s.flow y) (tick s) (s.positive x) (s.positive y) s.some (its s m) (solved.standings.clock s k y t of_y) (solved.standings.clock s k x u of_x))
+      (s.flow x) (s.flow y) (tick s) (s.positive x) (s.positive y) s.some (its s m) (solved.standings.clock s k y t of_y) (solved.standings.clock s k x u of_x))
 
   -- of two components, one of which may be changed, or whose clocks agree
   module _ (two : root_at st x ≢ root_at st y)
@@ -166,10 +166,12 @@ module _ (cs : List Placed) (st : List Standing) (solved : IsSolved cs st) (x y 
             choose q u v k false true ea eb = k.over
             choose q u v k false false ea eb = absurd (cc eb)
             choose q u v k true b ea eb = absurd (cc ea)
-        by (Some u) (Some t) of_x of_y =
-            (s₀, both s₀ m₀
-                (composed_left link t u is_link.parts (small_parts _ (solved.standings.small_clock y t of_y)) (small_parts _ (solved.standings.small_clock x u of_x))
-                  (s₀.flow x) (s₀.flow y) (tick s₀) (s₀.positive x) (s₀.positive y) s₀.some (solved.standings.clock s₀ m₀ y t of_y) (solved.standings.clock s₀ m₀ x u of_x) (agree t u of_y of_x)))
+        by (Some u) (Some t) of_x of_y = (
+          s₀,
+          both s₀ m₀
+              (composed_left link t u is_link.parts (small_parts _ (solved.standings.small_clock y t of_y)) (small_parts _ (solved.standings.small_clock x u of_x))
+              (s₀.flow x) (s₀.flow y) (tick s₀) (s₀.positive x) (s₀.positive y) s₀.some (solved.standings.clock s₀ m₀ y t of_y) (solved.standings.clock s₀ m₀ x u of_x) (agree t u of_y of_x)),
+        )
 
     are' : AreStandings (cs ++ last) st
     are' = more_standings cs last st solved.standings across_consistent

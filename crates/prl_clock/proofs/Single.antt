@@ -1,24 +1,22 @@
 -- A flat program has one outcome at most.
-use Rattle.std.proofs.Common.{◌≡◌, ◌≢◌, ◌≤◌, ◌<◌, ◌+◌, ◌*◌, ◌++◌, ◌∷◌, ◌⊎◌, inl, inr, ℕ, zero, suc, ℤ, pos, ◌*ℤ◌, ◌-ℤ◌, ◌≤ℤ◌, List, [], length, take, Option, Some, None, Result, Ok, Err, refl, sym, ap, ◌∙◌, subst, arith, min}
+use Rattle.std.proofs.Common.{◌≡◌, ◌≤◌, ◌<◌, ◌+◌, ◌*◌, ◌∷◌, inl, inr, ℕ, zero, suc, ℤ, pos, ◌*ℤ◌, ◌-ℤ◌, ◌≤ℤ◌, List, [], length, take, Some, Result, Ok, Err, refl, sym, ap, ◌∙◌, subst, arith}
 use Rattle.std.specs.Prelude.{slice_get}
-use borrow.Author.Differences.{up, down, ints, product_is}
-use Rattle.std.specs.Int.{IsGcd}
+use borrow.Author.Differences.{ints}
 use Rattle.std.proofs.Math.Nat.{one-dvd}
 use Rattle.std.proofs.lemmas.Bool.{cases_lt}
 use Rattle.std.proofs.lemmas.List.{length-take-le, take_all}
 use Rattle.std.proofs.lemmas.Option.{slice_get_within}
 use Rattle.prl_base.specs.Ratios.{Fraction}
 use Rattle.prl_base.specs.Reductions.{IsReducedForm}
-use Rattle.prl_base.specs.declared.limits.Limit.{Limit}
 use Rattle.prl_base.specs.declared.operators.Clock.{Clock}
 use Rattle.prl_flow.specs.declared.programs.Flow.{Flow}
 use Rattle.prl_flow.specs.Programs.{FlatProgram, IsFlat}
 use Rattle.prl_flow.specs.Solutions.{clock_of}
 use Rattle.prl_clock.specs.declared.calculus.ClockFault.{ClockFault}
 use Rattle.prl_clock.specs.declared.calculus.ClockFault.TheVariants as faults
-use Rattle.prl_clock.specs.Assignments.{Assignment, tick, MeetsAll, IsConsistent, Passes}
+use Rattle.prl_clock.specs.Assignments.{Assignment, MeetsAll, IsConsistent, Passes}
 use Rattle.prl_clock.specs.Constraints.{Placed, constraints_of, over_one}
-use Rattle.prl_clock.specs.Outcomes.{IsFine, IsMismatch, IsPastLimit, Agree, IsDetermined, HasChoice, IsFree, HasTiming, IsWhole, IsNotWhole, GivesClock, AreOnlyClocks, IsOutcome, clock_limit}
+use Rattle.prl_clock.specs.Outcomes.{IsFine, IsMismatch, IsPastLimit, IsDetermined, HasChoice, IsFree, HasTiming, IsWhole, IsNotWhole, AreOnlyClocks, IsOutcome}
 use Rattle.prl_clock.proofs.Terms.{only}
 use Rattle.prl_clock.proofs.Wholes.{only_these}
 
@@ -61,12 +59,12 @@ module _ (cs : List Placed) where
       elim (cases_lt m.index n.index) [
         | inl less ↦ absurd (m.none (consistent_first cs (m.index + 1) n.index (omega (arith, less)) n.before.consistent))
         | inr above ↦ elim (cases_lt n.index m.index) [
-            | inl less ↦ absurd (n.none (consistent_first cs (n.index + 1) m.index (omega (arith, less)) m.before.consistent))
-            | inr other ↦
-                let e : m.index ≡ n.index = omega (arith, above, other) in
-                let P : ℕ → Type 0 = λ i. slice_get cs i ≡ Some m.placed in
-                sym m.is ∙ ap (λ (c : Placed). c.at) (same (sym (subst P e m.found) ∙ n.found)) ∙ n.is
-          ]
+          | inl less ↦ absurd (n.none (consistent_first cs (n.index + 1) m.index (omega (arith, less)) m.before.consistent))
+          | inr other ↦
+              let e : m.index ≡ n.index = omega (arith, above, other) in
+              let P : ℕ → Type 0 = λ i. slice_get cs i ≡ Some m.placed in
+              sym m.is ∙ ap (λ (c : Placed). c.at) (same (sym (subst P e m.found) ∙ n.found)) ∙ n.is
+        ]
       ]
     where
       same : {x y : Placed} → Some x ≡ Some y → x ≡ y
@@ -137,12 +135,12 @@ frees p a b x y =
     elim (cases_lt x.index y.index) [
       | inl less ↦ absurd (choice_determined (constraints_of p) x.index x.choice (y.lowest x.index less))
       | inr above ↦ elim (cases_lt y.index x.index) [
-          | inl less ↦ absurd (choice_determined (constraints_of p) y.index y.choice (x.lowest y.index less))
-          | inr other ↦
-              let e : x.index ≡ y.index = omega (arith, above, other) in
-              let P : ℕ → Type 0 = λ i. slice_get p.flows i ≡ Some x.flow in
-              x.is ∙ ap (λ (f : Flow). f.label) (same (sym (subst P e x.found) ∙ y.found)) ∙ sym y.is
-        ]
+        | inl less ↦ absurd (choice_determined (constraints_of p) y.index y.choice (x.lowest y.index less))
+        | inr other ↦
+            let e : x.index ≡ y.index = omega (arith, above, other) in
+            let P : ℕ → Type 0 = λ i. slice_get p.flows i ≡ Some x.flow in
+            x.is ∙ ap (λ (f : Flow). f.label) (same (sym (subst P e x.found) ∙ y.found)) ∙ sym y.is
+      ]
     ]
   where
     same : {u v : Flow} → Some u ≡ Some v → u ≡ v
@@ -160,14 +158,14 @@ not_wholes p a b t u v w x y =
     elim (cases_lt x.index y.index) [
       | inl less ↦ absurd (x.parts (y.lowest x.index t u less x.timing))
       | inr above ↦ elim (cases_lt y.index x.index) [
-          | inl less ↦ absurd (y.parts (x.lowest y.index v w less y.timing))
-          | inr other ↦
-              let e : x.index ≡ y.index = omega (arith, above, other) in
-              let P : ℕ → Type 0 = λ i. slice_get p.flows i ≡ Some x.flow in
-              let Q : ℕ → Type 0 = λ i. HasTiming (constraints_of p) i t u in
-              let k = one_timing (constraints_of p) x.fine.consistent y.index t u v w (subst Q e x.timing) y.timing in
-              (x.is ∙ ap (λ (f : Flow). f.label) (same (sym (subst P e x.found) ∙ y.found)) ∙ sym y.is, k.0, k.1)
-        ]
+        | inl less ↦ absurd (y.parts (x.lowest y.index v w less y.timing))
+        | inr other ↦
+            let e : x.index ≡ y.index = omega (arith, above, other) in
+            let P : ℕ → Type 0 = λ i. slice_get p.flows i ≡ Some x.flow in
+            let Q : ℕ → Type 0 = λ i. HasTiming (constraints_of p) i t u in
+            let k = one_timing (constraints_of p) x.fine.consistent y.index t u v w (subst Q e x.timing) y.timing in
+            (x.is ∙ ap (λ (f : Flow). f.label) (same (sym (subst P e x.found) ∙ y.found)) ∙ sym y.is, k.0, k.1)
+      ]
     ]
   where
     same : {u v : Flow} → Some u ≡ Some v → u ≡ v

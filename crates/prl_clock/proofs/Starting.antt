@@ -1,13 +1,13 @@
 -- Before the first constraint.
-use Rattle.std.proofs.Common.{◌≡◌, ◌≤◌, ◌*◌, ℕ, ℤ, pos, ◌*ℤ◌, ◌-ℤ◌, List, [], Option, Some, None, refl, sym, ap, ◌∙◌, subst, arith}
-use borrow.Author.Differences.{ints, same_in, up, down, product_is}
+use Rattle.std.proofs.Common.{◌≡◌, ℕ, ℤ, pos, ◌-ℤ◌, List, [], Option, Some, None, sym, ap, subst, arith}
+use borrow.Author.Differences.{ints, up, down}
 use Rattle.prl_clock.specs.declared.timings.Timing.{Timing}
 use Rattle.prl_clock.specs.declared.standings.Standing.{Standing}
-use Rattle.prl_clock.specs.Assignments.{Assignment, tick, MeetsAll, Connected, here}
-use Rattle.prl_clock.specs.Constraints.{Placed, same_clock}
+use Rattle.prl_clock.specs.Assignments.{Assignment, Connected, here}
+use Rattle.prl_clock.specs.Constraints.{same_clock}
 use Rattle.prl_clock.specs.Timings.{Point, IsOver}
 use Rattle.prl_clock.specs.code.Composition.{IsSmallTiming}
-use Rattle.prl_clock.specs.code.Standings.{IsSolved, HasClock, alone, standing_at, root_at}
+use Rattle.prl_clock.specs.code.Standings.{IsSolved, alone, standing_at, root_at}
 use Rattle.prl_clock.proofs.Algebra.{ratio_in}
 use Rattle.prl_clock.proofs.Rated.{whole_small}
 

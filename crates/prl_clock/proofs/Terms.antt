@@ -1,8 +1,7 @@
 -- What calls on ratios give, as products and sums; lowest terms are unique.
-use Rattle.std.proofs.Common.{Bool, true, false, int_eq, eqb, eq-eqb, ◌&&◌, ◌≡◌, ◌≢◌, ◌≤◌, ◌<◌, ◌+◌, ◌*◌, ℕ, ℤ, pos, negsuc, neg_ℤ, nat_abs, ◌*ℤ◌, ◌+ℤ◌, refl, zero, suc, sym, ◌∙◌, ap, subst, arith, inl, inr, Result, Ok, Err}
+use Rattle.std.proofs.Common.{Bool, true, false, int_eq, eqb, eq-eqb, ◌&&◌, ◌≡◌, ◌≤◌, ◌+◌, ◌*◌, ℕ, ℤ, pos, neg_ℤ, ◌*ℤ◌, ◌+ℤ◌, refl, zero, suc, sym, ◌∙◌, ap, subst, arith, inl, inr, Result, Ok, Err}
 use borrow.Author.Differences.{up, down, same_in, product_is, sum_is_lem, neg_is}
 use Rattle.std.proofs.lemmas.Cmp.{int_eq_equiv}
-use Rattle.std.proofs.Math.Nat.{mul_comm}
 use Rattle.std.proofs.Math.IntN.{*ℤ_comm}
 use Rattle.std.specs.Prelude.{IfErr, IsErrAnd, List, OnErr, OnOk}
 use Rattle.prl_base.specs.Ratios.{Fraction, IsSmallFraction}
@@ -28,10 +27,17 @@ past_terms top bottom f form past = record { positive = form.positive; reduced =
 assoc : (a b : ℤ) (k : ℕ) → a *ℤ (b *ℤ pos k) ≡ a *ℤ b *ℤ pos k
 assoc a b k =
     same_in (a *ℤ (b *ℤ pos k)) (a *ℤ b *ℤ pos k)
-    (omega (arith, product_is a (b *ℤ pos k), product_is (a *ℤ b) (pos k),
-        times k _ _ (product_is a b).0, times k _ _ (product_is a b).1,
-        times (up a) _ _ (product_is b (pos k)).0, times (down a) _ _ (product_is b (pos k)).0,
-        times (up a) _ _ (product_is b (pos k)).1, times (down a) _ _ (product_is b (pos k)).1))
+    (omega (
+      arith,
+      product_is a (b *ℤ pos k),
+      product_is (a *ℤ b) (pos k),
+      times k _ _ (product_is a b).0,
+      times k _ _ (product_is a b).1,
+      times (up a) _ _ (product_is b (pos k)).0,
+      times (down a) _ _ (product_is b (pos k)).0,
+      times (up a) _ _ (product_is b (pos k)).1,
+      times (down a) _ _ (product_is b (pos k)).1,
+    ))
 
 -- a quotient times its divisor
 pub quotient_product : (first f whole : Fraction) → IsReducedForm (whole.num *ℤ pos first.den) (first.num *ℤ pos whole.den) f → IsProduct first f whole
@@ -49,17 +55,26 @@ back b w m W P A D e =
     let t : up (b *ℤ pos (P * A) +ℤ m *ℤ pos D) + (down b * (P * A) + down m * D) ≡ down (b *ℤ pos (P * A) +ℤ m *ℤ pos D) + (up b * (P * A) + up m * D) =
     omega (arith, sum_is_lem (b *ℤ pos (P * A)) (m *ℤ pos D), product_is b (pos (P * A)), product_is m (pos D)) in
     same_in (w *ℤ pos (D * P * A)) ((b *ℤ pos (P * A) +ℤ m *ℤ pos D) *ℤ pos W)
-    (omega (arith, times D _ _ s, times W _ _ t, ap up e, ap down e, product_is b (pos (W * P * A)), product_is w (pos (D * P * A)),
-        product_is (w *ℤ pos (P * A) +ℤ neg_ℤ m *ℤ pos W) (pos D), product_is (b *ℤ pos (P * A) +ℤ m *ℤ pos D) (pos W)))
+    (omega (
+      arith,
+      times D _ _ s,
+      times W _ _ t,
+      ap up e,
+      ap down e,
+      product_is b (pos (W * P * A)),
+      product_is w (pos (D * P * A)),
+      product_is (w *ℤ pos (P * A) +ℤ neg_ℤ m *ℤ pos W) (pos D),
+      product_is (b *ℤ pos (P * A) +ℤ m *ℤ pos D) (pos W),
+    ))
 
 pub sum_back : (whole slope by : Fraction) (s : Fraction) (f : Fraction) → s.num ≡ neg_ℤ slope.num → s.den ≡ slope.den → IsSum whole s by f
     → IsSum f slope by whole
 sum_back whole slope by s f num den e =
     back f.num whole.num (slope.num *ℤ by.num) whole.den slope.den by.den f.den
     (ap (λ d. f.num *ℤ pos (whole.den * d * by.den)) (sym den) ∙ e
-      ∙ ap (λ d. (whole.num *ℤ pos (d * by.den) +ℤ s.num *ℤ by.num *ℤ pos whole.den) *ℤ pos f.den) den
-      ∙ ap (λ n. (whole.num *ℤ pos (slope.den * by.den) +ℤ n *ℤ by.num *ℤ pos whole.den) *ℤ pos f.den) num
-      ∙ ap (λ n. (whole.num *ℤ pos (slope.den * by.den) +ℤ n *ℤ pos whole.den) *ℤ pos f.den) (neg_mul slope.num by.num))
+    ∙ ap (λ d. (whole.num *ℤ pos (d * by.den) +ℤ s.num *ℤ by.num *ℤ pos whole.den) *ℤ pos f.den) den
+    ∙ ap (λ n. (whole.num *ℤ pos (slope.den * by.den) +ℤ n *ℤ by.num *ℤ pos whole.den) *ℤ pos f.den) num
+    ∙ ap (λ n. (whole.num *ℤ pos (slope.den * by.den) +ℤ n *ℤ pos whole.den) *ℤ pos f.den) (neg_mul slope.num by.num))
 
 -- lowest terms are unique
 pub only : (top : ℤ) (bottom : ℕ) (f g : Fraction) → 1 ≤ bottom → IsReducedForm top (pos bottom) f → IsReducedForm top (pos bottom) g → f ≡ g

@@ -1,10 +1,10 @@
 -- Clocks of a flat program meet its constraints, and so do those of its solutions.
-use Rattle.std.proofs.Common.{◌≡◌, ◌≤◌, ◌<◌, ◌+◌, ◌++◌, ◌∷◌, ◌*◌, ℕ, zero, suc, pos, inl, inr, List, [], length, map, get_or, Option, Some, None, refl, sym, ap, ◌∙◌, subst, arith, add-zero, add-suc}
-use Rattle.std.specs.Prelude.{slice_get, slice_index_or}
+use Rattle.std.proofs.Common.{◌≡◌, ◌≤◌, ◌<◌, ◌+◌, ◌++◌, ◌∷◌, ◌*◌, ℕ, zero, suc, pos, inl, inr, List, [], length, map, get_or, Option, Some, None, refl, sym, ap, ◌∙◌, subst, arith, add-zero}
+use Rattle.std.specs.Prelude.{slice_get}
 use Rattle.std.specs.List.{AllByRecursion}
 use Rattle.std.proofs.lemmas.Bool.{cases_lt}
 use Rattle.std.proofs.Math.ListN.{get_or-map, length-map, get_or-eq_default}
-use Rattle.std.proofs.lemmas.Option.{slice_get-get_or, slice_get_within}
+use Rattle.std.proofs.lemmas.Option.{slice_get-get_or}
 use Rattle.prl_base.specs.Clocks.{IsClock}
 use Rattle.prl_base.specs.Operators.{IsResultClock}
 use Rattle.prl_base.specs.declared.numbers.FlowNo.{FlowNo}
@@ -21,12 +21,12 @@ use Rattle.prl_flow.specs.declared.programs.Flow.{Flow}
 use Rattle.prl_flow.specs.Flows.{IsClockOf}
 use Rattle.prl_flow.specs.Programs.{FlatProgram, IsFlat, IsWellDefined}
 use Rattle.prl_flow.specs.Rows.{Rows}
-use Rattle.prl_flow.specs.Rules.{Rule, rated, mark_rule, rate_rules, definition_rules, flow_rules, flows_rules, app_rule, apps_rules, flat_rules}
+use Rattle.prl_flow.specs.Rules.{Rule, mark_rule, rate_rules, definition_rules, flow_rules, flows_rules, app_rule, apps_rules, flat_rules}
 use Rattle.prl_flow.specs.States.{State, Timed, IsTimed, HaveClock, Holds, IsSolution, flow_at, registers_at}
 use Rattle.prl_flow.specs.Solutions.{AreClocks, AgreesClock, HasOneClock, HasRate, clock_of}
 use Rattle.prl_clock.specs.Assignments.{MeetsAll}
-use Rattle.prl_clock.specs.Constraints.{Placed, rate_constraints, argument_constraint, output_constraints, definition_constraints, flow_constraints, constraints_of, timing_of_operator, timing_of_rate, first_output}
-use Rattle.prl_clock.specs.Outcomes.{AreOnlyClocks, GivesClock}
+use Rattle.prl_clock.specs.Constraints.{rate_constraints, output_constraints, definition_constraints, flow_constraints, constraints_of, first_output}
+use Rattle.prl_clock.specs.Outcomes.{AreOnlyClocks}
 use Rattle.prl_clock.specs.Whole.{ArePeriods, whole_assignment}
 use Rattle.prl_clock.proofs.Graphs.{meets_both}
 use Rattle.prl_clock.proofs.Meeting.{over_same, over_result, over_rate, equal_clocks}
@@ -42,10 +42,12 @@ module _ (p : FlatProgram) (flat : IsFlat p) (clocks : List Clock) (periods : Ar
   met_output i at zero app one found some =
       mapped_in (whole_assignment clocks periods) i app.args
       (λ j arg h. over_same (clock_of clocks i) (clock_of clocks arg.flow.0) (one.outs 0 (record { 0 = i }) found ∙ sym (one.args j arg h)))
-  met_output i at (suc out) app one found some =
-      (over_same (clock_of clocks i) (clock_of clocks (first_output app))
+  met_output i at (suc out) app one found some = (
+    over_same (clock_of clocks i) (clock_of clocks (first_output app))
         (one.outs (suc out) (record { 0 = i }) found
-          ∙ sym (one.outs 0 (get_or app.outs 0 (record { 0 = 0 })) (slice_get-get_or app.outs 0 (record { 0 = 0 }) (omega (arith, some))))), tt)
+        ∙ sym (one.outs 0 (get_or app.outs 0 (record { 0 = 0 })) (slice_get-get_or app.outs 0 (record { 0 = 0 }) (omega (arith, some))))),
+    tt,
+  )
 
   met_definition : (i at : ℕ) (ty : Ty) (def : Def) → IsWellDefined p i ty def → AgreesClock clocks (clock_of clocks i) def
       → MeetsAll (whole_assignment clocks periods) (definition_constraints p i at def)
@@ -210,10 +212,10 @@ only_these p flat clocks others only are =
     let count : length others ≡ length clocks = are.count ∙ sym only.are.count in
     same_clocks_all others clocks count
     (λ i h.
-        let g = only.only (whole_assignment others periods) m i (omega (arith, h, count)) in
-        let q = g.period in
-        let t = start_is (clock_of others i).start (clock_of clocks i).start g.start in
-        equal_clocks (clock_of others i) (clock_of clocks i) (omega (arith, q)) t)
+    let g = only.only (whole_assignment others periods) m i (omega (arith, h, count)) in
+    let q = g.period in
+    let t = start_is (clock_of others i).start (clock_of clocks i).start g.start in
+    equal_clocks (clock_of others i) (clock_of clocks i) (omega (arith, q)) t)
   where
     start_is : (a b : ℕ) → pos a ≡ pos (b * 1) → a ≡ b
     start_is a b e = let h : a ≡ b * 1 = cc in omega (arith, h)

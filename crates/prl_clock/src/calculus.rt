@@ -80,7 +80,11 @@ fn label_of(alloc: Global, flat: &Flat, flow: usize) -> Result<Label, AllocError
 }
 
 /// The clocks of flows that all have one, or the lowest whose clock is not whole or starts below 0.
-fn whole_clocks(alloc: Global, flat: &Flat, standings: &[Standing]) -> Result<Vec<Clock>, ClockFault>
+fn whole_clocks(
+    alloc: Global,
+    flat: &Flat,
+    standings: &[Standing],
+) -> Result<Vec<Clock>, ClockFault>
     requires reached { IsReached flat.now (constraints_of flat.now) standings.now }
     requires timed { (x : ℕ) → x < length standings.now → HasClock standings.now x }
     ensures clocks { IfOk result (λ clocks. AreOnlyClocks flat.now clocks.items) }

@@ -95,14 +95,7 @@ fn relate_arguments(
 {
     let same = same_clock();
     for arg in args {
-        relate_at(
-            flat,
-            standings,
-            x,
-            arg.flow.0 as usize,
-            &same,
-            arg.at.at,
-        )?;
+        relate_at(flat, standings, x, arg.flow.0 as usize, &same, arg.at.at)?;
     }
     Ok(())
 }
@@ -177,7 +170,14 @@ fn constrain_definition(
         Def::Copy(of) => relate_at(flat, standings, x, of.0 as usize, &same_clock(), at),
         Def::Apply { app, out } => constrain_output(flat, standings, x, at, *app, *out),
         Def::Op { op, of } => {
-            relate_at(flat, standings, x, of.0 as usize, &timing_of_operator(op), at)
+            relate_at(
+                flat,
+                standings,
+                x,
+                of.0 as usize,
+                &timing_of_operator(op),
+                at,
+            )
         }
     }
 }

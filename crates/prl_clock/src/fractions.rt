@@ -92,9 +92,7 @@ fn sum_of_parts(a: i64, b: i64, c: i64, d: u128, e: u128, f: u128) -> Result<Rat
     let (b_above, b_below) = parts(b);
     let (c_above, c_below) = parts(c);
     let den = product(d, e, f);
-    let plus = product(a_above, e, f)
-        + product(b_above, c_above, d)
-        + product(b_below, c_below, d);
+    let plus = product(a_above, e, f) + product(b_above, c_above, d) + product(b_below, c_below, d);
     let minus = product(a_below, e, f)
         + product(b_above, c_below, d)
         + product(b_below, c_above, d);

@@ -12,5 +12,7 @@ mod steps;
 mod timings;
 
 pub use calculus::{ClockFault, clocks};
-pub use laws::{clocks_are_unique, clocks_meet_constraints, outcomes_are_unique, solutions_have_clocks};
+pub use laws::{
+    clocks_are_unique, clocks_meet_constraints, outcomes_are_unique, solutions_have_clocks,
+};
 pub use timings::Timing;

@@ -46,7 +46,12 @@ fn low_clock(high: &Standing, over_low: &Timing, low: &Standing) -> Result<Optio
 }
 
 /// Brings the flows that `high` is one of over the one that `low` stands over, which `high` is `over_low` over.
-fn join(standings: &mut [Standing], high: &Standing, over_low: &Timing, low: &Standing) -> Result<(), Past>
+fn join(
+    standings: &mut [Standing],
+    high: &Standing,
+    over_low: &Timing,
+    low: &Standing,
+) -> Result<(), Past>
     requires { (cs : List Placed) × IsMerging cs standings.old high.now low.now over_low.now }
     ensures solved { (cs : List Placed) → IsMerging cs standings.old high.now low.now over_low.now → OnOk result (IsSolved cs standings.new) }
     ensures past { (cs : List Placed) → IsMerging cs standings.old high.now low.now over_low.now → OnErr result (Passes cs) }

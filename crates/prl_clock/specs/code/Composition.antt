@@ -1,5 +1,5 @@
 -- Timings one over another: what a flow is over a second one and that over a third make the first over the third.
-use Rattle.std.specs.Prelude.{◌≡◌, ◌≤◌, ◌*◌, ◌+ℤ◌, ◌*ℤ◌, ℕ, pos, nat_abs}
+use Rattle.std.specs.Prelude.{◌≡◌, ◌≤◌, ◌*◌, ◌+ℤ◌, ◌*ℤ◌, pos, nat_abs}
 use Rattle.std.specs.Int.{IsGcd}
 use Rattle.prl_base.specs.Ratios.{Fraction, IsSmallFraction}
 use Rattle.prl_base.specs.Reductions.{IsPast}

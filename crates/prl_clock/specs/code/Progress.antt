@@ -1,5 +1,5 @@
 -- How far the constraints of a flat program are taken.
-use Rattle.std.specs.Prelude.{◌≡◌, ◌<◌, ◌++◌, ◌∷◌, ◌+◌, ℕ, List, [], length, slice_get, Some}
+use Rattle.std.specs.Prelude.{◌≡◌, ◌++◌, ◌∷◌, ℕ, List, [], length}
 use Rattle.prl_flow.specs.Programs.{FlatProgram}
 use Rattle.prl_clock.specs.Constraints.{Placed}
 use Rattle.prl_clock.specs.Outcomes.{IsFine, clock_limit}

@@ -1,7 +1,5 @@
-use Rattle.std.proofs.Common.{◌≡◌, ◌<◌, List, ℕ, length, sym, subst, ◌∙◌}
-use Rattle.prl_clock.specs.Constraints.{constraints_of}
+use Rattle.std.proofs.Common.{◌<◌, List, ℕ, length, sym, subst, ◌∙◌}
 use Rattle.prl_clock.specs.code.Finishing.{IsFirstFree}
-use Rattle.prl_clock.specs.code.Progress.{IsReached}
 use Rattle.prl_clock.specs.code.Standings.{HasClock}
 use Rattle.prl_clock.specs.declared.standings.Standing.{Standing}
 use Rattle.prl_clock.proofs.Finishing.{fault_of_stop, free_is}

@@ -1,7 +1,7 @@
 use Rattle.std.proofs.Common.{◌≡◌, ◌<◌, List, Some, slice_get, length, subst, ap, arith, refl}
 use Rattle.std.proofs.lemmas.Option.{slice_get_read}
 use Rattle.prl_flow.specs.declared.programs.Flow.{Flow}
-use Rattle.prl_clock.specs.Constraints.{rate_constraints, definition_constraints, flow_constraints}
+use Rattle.prl_clock.specs.Constraints.{rate_constraints, definition_constraints}
 use Rattle.prl_clock.proofs.Fine.{stopped_within as stopped_front}
 use Rattle.prl_clock.proofs.Taking.{if_err_same, flow_found, reached_as, reached_twice, stopped_as, stopped_twice}
 use Rattle.prl_clock.proofs.constraints.constrain_flow.Goals as goal
@@ -29,7 +29,7 @@ returns-in_err-constrain_rate-clause-stopped c =
     let F : Flow = c.index-flows-x.result in
     stopped_as cs _ _ c.from_residual.result (flow_found c.args.flat.now c.args.x (slice_get c.args.flat.now.flows c.args.x) F (found d))
     (if_err_same c.from_residual.result _ c.in_err-constrain_rate.field-0.0 c.from_residual.ensures.1
-      (stopped_front cs (rate_constraints c.args.x F.at.at F.rate) (definition_constraints c.args.flat.now c.args.x F.at.at F.def) _ (c.in_err-constrain_rate.ensures.stopped cs r)))
+    (stopped_front cs (rate_constraints c.args.x F.at.at F.rate) (definition_constraints c.args.flat.now c.args.x F.at.at F.def) _ (c.in_err-constrain_rate.ensures.stopped cs r)))
 
 pub returns-clause-reached : goal.returns-clause-reached
 returns-clause-reached c =
@@ -39,7 +39,7 @@ returns-clause-reached c =
     reached_as c.args.flat.now cs _ _ c.constrain_definition.new.standings c.constrain_definition.result
     (flow_found c.args.flat.now c.args.x (slice_get c.args.flat.now.flows c.args.x) F (found d))
     (reached_twice c.args.flat.now cs (rate_constraints c.args.x F.at.at F.rate) (definition_constraints c.args.flat.now c.args.x F.at.at F.def) c.constrain_definition.new.standings
-      c.constrain_definition.result (c.constrain_definition.ensures.reached _ (c.in_ok-constrain_rate.ensures.reached cs r)))
+    c.constrain_definition.result (c.constrain_definition.ensures.reached _ (c.in_ok-constrain_rate.ensures.reached cs r)))
 
 pub returns-clause-stopped : goal.returns-clause-stopped
 returns-clause-stopped c =
@@ -48,4 +48,4 @@ returns-clause-stopped c =
     let F : Flow = c.index-flows-x.result in
     stopped_as cs _ _ c.constrain_definition.result (flow_found c.args.flat.now c.args.x (slice_get c.args.flat.now.flows c.args.x) F (found d))
     (stopped_twice cs (rate_constraints c.args.x F.at.at F.rate) (definition_constraints c.args.flat.now c.args.x F.at.at F.def) c.constrain_definition.result
-      (c.constrain_definition.ensures.stopped _ (c.in_ok-constrain_rate.ensures.reached cs r)))
+    (c.constrain_definition.ensures.stopped _ (c.in_ok-constrain_rate.ensures.reached cs r)))

@@ -1,8 +1,8 @@
-use Rattle.std.proofs.Common.{◌≡◌, ◌<◌, ◌++◌, ◌∷◌, [], List, map, take, length, get_or, subst, arith}
+use Rattle.std.proofs.Common.{◌<◌, ◌++◌, ◌∷◌, [], List, map, take, length, get_or, subst, arith}
 use Rattle.std.proofs.lemmas.List.{take_all}
 use Rattle.std.proofs.lemmas.Option.{slice_get-get_or}
 use Rattle.prl_flow.specs.declared.programs.Arg.{Arg}
-use Rattle.prl_clock.specs.Constraints.{Placed, argument_constraint, related}
+use Rattle.prl_clock.specs.Constraints.{argument_constraint, related}
 use Rattle.prl_clock.specs.code.Progress.{IsReached, IsStopped}
 use Rattle.prl_clock.specs.declared.timings.Timing.{Timing}
 use Rattle.prl_clock.proofs.Taking.{if_err_same, reached_next, stopped_next}
@@ -24,10 +24,10 @@ returns-in_err-relate_at-clause-stopped c =
     let a : Arg = get_or c.args.args.now c.loop-arg.arg-index d in
     let P : Timing → Type 0 = λ t.
     IsStopped (cs ++ map (argument_constraint c.args.x) (take c.loop-arg.arg-index c.args.args.now))
-      ((record { constraint = related c.args.x a.flow.0 t; at = a.at.at }) ∷ []) c.in_err-relate_at.field-0.0 in
+    ((record { constraint = related c.args.x a.flow.0 t; at = a.at.at }) ∷ []) c.in_err-relate_at.field-0.0 in
     if_err_same c.from_residual.result (IsStopped cs (map (argument_constraint c.args.x) c.args.args.now)) c.in_err-relate_at.field-0.0 c.from_residual.ensures.1
     (stopped_next cs (argument_constraint c.args.x) c.args.args.now c.loop-arg.arg-index d _ here
-      (subst P c.same_clock-same.ensures.timing (c.in_err-relate_at.ensures.stopped _ (c.loop-arg.invariant cs r))))
+    (subst P c.same_clock-same.ensures.timing (c.in_err-relate_at.ensures.stopped _ (c.loop-arg.invariant cs r))))
 
 pub loop-arg-preserved : goal.loop-arg-preserved
 loop-arg-preserved c =
@@ -37,8 +37,8 @@ loop-arg-preserved c =
     let a : Arg = get_or c.args.args.now c.loop-arg.arg-index d in
     let P : Timing → Type 0 = λ t.
     IsReached c.args.flat.now
-      ((cs ++ map (argument_constraint c.args.x) (take c.loop-arg.arg-index c.args.args.now)) ++ (record { constraint = related c.args.x a.flow.0 t; at = a.at.at }) ∷ [])
-      c.relate_at.new.standings in
+    ((cs ++ map (argument_constraint c.args.x) (take c.loop-arg.arg-index c.args.args.now)) ++ (record { constraint = related c.args.x a.flow.0 t; at = a.at.at }) ∷ [])
+    c.relate_at.new.standings in
     reached_next c.args.flat.now cs (argument_constraint c.args.x) c.args.args.now c.loop-arg.arg-index d c.relate_at.new.standings here
     (subst P c.same_clock-same.ensures.timing (c.in_ok-relate_at.ensures.reached _ (c.loop-arg.invariant cs r)))
 

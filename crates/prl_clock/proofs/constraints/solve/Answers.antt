@@ -1,4 +1,4 @@
-use Rattle.std.proofs.Common.{◌≡◌, ◌<◌, ◌∙◌, List, ap, length, arith, sym, subst}
+use Rattle.std.proofs.Common.{◌<◌, ◌∙◌, List, ap, length, arith, sym, subst}
 use Rattle.prl_clock.specs.declared.standings.Standing.{Standing}
 use Rattle.prl_clock.specs.Constraints.{constraints_below}
 use Rattle.prl_clock.specs.code.Progress.{IsReached}
@@ -25,7 +25,7 @@ returns-in_err-constrain_flow-clause-stopped c =
     let below : c.loop-x.x < length c.args.flat.now.flows = let e = ap length c.flows-count.ensures.flows in let h = c.loop-x-test.true in omega (arith, e, h) in
     if_err_same c.from_residual-in_err-constrain_flow.result _ c.in_err-constrain_flow.field-0.0 c.from_residual-in_err-constrain_flow.ensures.1
     (stop_of _ _ c.in_err-constrain_flow.field-0.0
-      (stopped_below c.args.flat.now c.loop-x.x _ below (c.in_err-constrain_flow.ensures.stopped _ (subst P (sym c.as_mut_slice.ensures.value) c.loop-x.invariant))))
+    (stopped_below c.args.flat.now c.loop-x.x _ below (c.in_err-constrain_flow.ensures.stopped _ (subst P (sym c.as_mut_slice.ensures.value) c.loop-x.invariant))))
 
 pub returns-clause-reached : goal.returns-clause-reached
 returns-clause-reached c =

@@ -1,7 +1,6 @@
-use Rattle.std.proofs.Common.{◌≡◌, ◌≤◌, ◌<◌, ◌/◌, inl, inr, ℤ, rules, w64, ◌∙◌, arith}
+use Rattle.std.proofs.Common.{inl, inr, rules, w64, ◌∙◌, arith}
 use mir.Val.{to_z, of_z, SFits}
 use Rattle.std.proofs.lemmas.Int.{to_z-of_z}
-use Rattle.prl_base.specs.Reductions.{signed}
 use Rattle.prl_base.proofs.Lowest.{divisor_positive}
 use Rattle.prl_clock.proofs.Reducing.{reduced_past, reduced_form, reduced_small}
 use Rattle.prl_clock.proofs.fractions.reduced.Goals as goal
@@ -26,6 +25,8 @@ invariant_of-result c =
 
 pub returns : goal.returns
 returns c =
-    let fits : SFits w64 c.with_sign.result = search rules in
-    (reduced_form c.args.negative c.args.size c.args.den c.wide_gcd-divisor.result (to_z w64 (of_z w64 c.with_sign.result)) c.requires c.wide_gcd-divisor.ensures
-      (to_z-of_z w64 c.with_sign.result fits ∙ c.with_sign.ensures), invariant_of-result c)
+    let fits : SFits w64 c.with_sign.result = search rules in (
+      reduced_form c.args.negative c.args.size c.args.den c.wide_gcd-divisor.result (to_z w64 (of_z w64 c.with_sign.result)) c.requires c.wide_gcd-divisor.ensures
+          (to_z-of_z w64 c.with_sign.result fits ∙ c.with_sign.ensures),
+      invariant_of-result c,
+    )

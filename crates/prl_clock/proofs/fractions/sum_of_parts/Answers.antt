@@ -1,4 +1,4 @@
-use Rattle.std.proofs.Common.{◌≡◌, ◌≤◌, ◌<◌, ◌+◌, ◌*◌, ℕ, ℤ, pos, ◌+ℤ◌, ◌*ℤ◌, rules, w64, ap, ◌∙◌, sym, subst, arith, true, false}
+use Rattle.std.proofs.Common.{◌≡◌, ◌+◌, ◌*◌, ℕ, ℤ, pos, ◌+ℤ◌, ◌*ℤ◌, w64, ap, ◌∙◌, sym, subst, arith}
 use borrow.Author.Differences.{up, down}
 use mir.Val.{to_z, of_z, SFits}
 use Rattle.std.proofs.lemmas.Int.{to_z-of_z}
@@ -56,12 +56,12 @@ pub returns-then-plus-minus : goal.returns-then-plus-minus
 returns-then-plus-minus c =
     turned _ _ _ _ c.reduced.result
     (below_is _ (c.product.result + c.product-2.result + c.product-3.result) (c.product-4.result + c.product-5.result + c.product-6.result)
-      (sums ((goal.at.returns-then-plus-minus c).After-product-6)) c.if-plus-minus.true)
+    (sums ((goal.at.returns-then-plus-minus c).After-product-6)) c.if-plus-minus.true)
     c.product-den.ensures.value c.reduced.ensures
 
 pub returns-else-plus-minus : goal.returns-else-plus-minus
 returns-else-plus-minus c =
     turned _ _ _ _ c.reduced-else-plus-minus.result
     (above_is _ (c.product.result + c.product-2.result + c.product-3.result) (c.product-4.result + c.product-5.result + c.product-6.result)
-      (sums ((goal.at.returns-else-plus-minus c).After-product-6)) c.if-plus-minus.false)
+    (sums ((goal.at.returns-else-plus-minus c).After-product-6)) c.if-plus-minus.false)
     c.product-den.ensures.value c.reduced-else-plus-minus.ensures

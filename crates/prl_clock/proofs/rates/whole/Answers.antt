@@ -1,5 +1,5 @@
-use Rattle.std.proofs.Common.{◌≡◌, ℤ, pos, rules, w64, ◌∙◌, sym, subst}
-use mir.Val.{to_z, of_z, SFits}
+use Rattle.std.proofs.Common.{ℤ, rules, w64, ◌∙◌, sym, subst}
+use mir.Val.{SFits}
 use Rattle.std.proofs.lemmas.Int.{to_z-of_z}
 use Rattle.prl_base.specs.Ratios.{IsSmallFraction}
 use Rattle.prl_clock.proofs.Rated.{whole_small}

@@ -1,4 +1,4 @@
-use Rattle.std.proofs.Common.{◌≡◌, ◌<◌, ◌≤◌, ℕ, length}
+use Rattle.std.proofs.Common.{◌≡◌, ◌<◌, ◌≤◌, ℕ}
 use Rattle.prl_clock.specs.code.Standings.{IsMoved, standing_at}
 use Rattle.prl_clock.proofs.standings.move_all.Given as goal
 

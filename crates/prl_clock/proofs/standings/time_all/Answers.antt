@@ -23,8 +23,8 @@ returns-in_err-standing-clause-past c =
     sym (c.loop-standing.invariant.left c.loop-standing.standing-index (omega arith))
     ∙ item_is c.loop-standing.standings c.loop-standing.standing-index c.standing-item.result here in
     on_err c.from_residual.result _ (record {
-        flow = c.loop-standing.standing-index;
-        within = omega arith;
-        is = ap (λ (s : Standing). s.root) e ∙ c.in_err-standing.ensures.past.0;
-        past = let P : Standing → Type 0 = λ s. IsComposedPast s.over c.args.clock.now in subst P (sym e) c.in_err-standing.ensures.past.1;
+      flow = c.loop-standing.standing-index;
+      within = omega arith;
+      is = ap (λ (s : Standing). s.root) e ∙ c.in_err-standing.ensures.past.0;
+      past = let P : Standing → Type 0 = λ s. IsComposedPast s.over c.args.clock.now in subst P (sym e) c.in_err-standing.ensures.past.1;
     })

@@ -1,5 +1,3 @@
-use Rattle.std.proofs.Common.{◌≡◌, ◌∙◌, sym, length}
-use Rattle.std.specs.Prelude.{OnOk}
 use Rattle.prl_clock.proofs.Terms.{on_err, on_ok, on_err_by}
 use Rattle.prl_clock.proofs.Joining.{shift_passes, one_passes}
 use Rattle.prl_clock.proofs.Joined.{high_nonzero, low_nonzero, over_nonzero, clock_passes, joined_none, joined_past, joined_some, low_none, low_some}
@@ -39,7 +37,7 @@ returns-in-Some-clause-solved c =
     let n = low_some _ _ _ c.in-Some.clock c.in_ok-clock.field-0 c.in-Some.is c.in_ok-clock.ensures.clock in
     on_ok c.time_all.result _ _ c.time_all.ensures.timed
     (joined_some cs _ _ _ _ m c.in_ok-shift.shift c.in_ok-shift.ensures.small c.in_ok-shift.ensures.composed c.move_all.new.standings c.move_all.auto.standings
-      c.in_ok-move_all.ensures.moved c.in-Some.clock n.0 n.1 c.time_all.new.standings c.time_all.auto.standings)
+    c.in_ok-move_all.ensures.moved c.in-Some.clock n.0 n.1 c.time_all.new.standings c.time_all.auto.standings)
 
 pub returns-in-Some-clause-past : goal.returns-in-Some-clause-past
 returns-in-Some-clause-past c =
@@ -47,4 +45,4 @@ returns-in-Some-clause-past c =
     let n = low_some _ _ _ c.in-Some.clock c.in_ok-clock.field-0 c.in-Some.is c.in_ok-clock.ensures.clock in
     on_err_by c.time_all.result _ _ c.time_all.ensures.past
     (joined_past cs _ _ _ _ m c.in_ok-shift.shift c.in_ok-shift.ensures.small c.in_ok-shift.ensures.composed c.move_all.new.standings c.move_all.auto.standings
-      c.in_ok-move_all.ensures.moved c.in-Some.clock n.0 n.1)
+    c.in_ok-move_all.ensures.moved c.in-Some.clock n.0 n.1)

@@ -1,4 +1,3 @@
-use Rattle.std.proofs.Common.{◌∙◌, sym}
 use Rattle.prl_clock.specs.code.Standings.{of_low, of_high, of_low_past, of_high_past}
 use Rattle.prl_clock.proofs.Terms.{on_err}
 use Rattle.prl_clock.proofs.steps.low_clock.Goals as goal

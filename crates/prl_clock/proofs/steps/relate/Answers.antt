@@ -1,13 +1,5 @@
-use Rattle.std.proofs.Common.{◌≡◌, ◌≢◌, ◌<◌, ◌≤◌, List, ℕ, Option, Some, pos, Result, Ok, Err, length, refl, sym, ap, arith, ◌∙◌}
-use Rattle.std.specs.Prelude.{IfErr}
-use Rattle.prl_clock.specs.declared.standings.Standing.{Standing}
-use Rattle.prl_clock.specs.declared.steps.Refusal.{Refusal}
-use Rattle.prl_clock.specs.declared.steps.Refusal.TheVariants as refusals
-use Rattle.prl_clock.specs.declared.timings.Timing.{Timing}
-use Rattle.prl_clock.specs.Constraints.{Placed}
-use Rattle.prl_clock.specs.Assignments.{IsConsistent, Passes}
-use Rattle.prl_clock.specs.code.Composition.{IsComposed}
-use Rattle.prl_clock.specs.code.Standings.{IsRefused, standing_at}
+use Rattle.std.proofs.Common.{◌≡◌, refl, sym, arith, ◌∙◌}
+use Rattle.prl_clock.specs.code.Standings.{standing_at}
 use Rattle.prl_clock.proofs.Loops.{item_is}
 use Rattle.prl_clock.proofs.Terms.{small_parts, if_limit}
 use Rattle.prl_clock.proofs.Related.{small_read, clock_read, parts_there, same_solved, same_refused, agree_refused, consistent, down_past, down_merging, up_past, up_merging, with_link}
@@ -82,18 +74,20 @@ returns-in_err-over_low-2-clause-refused c =
 pub join-requires : goal.join-requires
 join-requires c =
     let d = (goal.at.join-requires c).After-index-standings-y in
-    let g = c.if-not-agree.ensures.yes refl in
-    (with_link c.requires.solved.0 c.args.x c.args.y c.args.link.now 0,
+    let g = c.if-not-agree.ensures.yes refl in (
+      with_link c.requires.solved.0 c.args.x c.args.y c.args.link.now 0,
       down_merging c.requires.solved.0 _ c.requires.solved.1 c.args.x c.args.y c.args.link.now c.requires.link 0 c.index-standings-x.result c.index-standings-y.result (at_x d) (at_y d) c.if-of_x-of_y.false g
-      c.if-of_y-of_x.true c.requires.x c.in_ok-over_low.over_low c.in_ok-over_low.ensures.small c.in_ok-over_low.ensures.composed)
+          c.if-of_y-of_x.true c.requires.x c.in_ok-over_low.over_low c.in_ok-over_low.ensures.small c.in_ok-over_low.ensures.composed,
+    )
 
 pub join-requires-else-of_y-of_x : goal.join-requires-else-of_y-of_x
 join-requires-else-of_y-of_x c =
     let d = (goal.at.join-requires-else-of_y-of_x c).After-index-standings-y in
-    let g = c.if-not-agree.ensures.yes refl in
-    (with_link c.requires.solved.0 c.args.x c.args.y c.args.link.now 0,
+    let g = c.if-not-agree.ensures.yes refl in (
+      with_link c.requires.solved.0 c.args.x c.args.y c.args.link.now 0,
       up_merging c.requires.solved.0 _ c.requires.solved.1 c.args.x c.args.y c.args.link.now c.requires.link 0 c.index-standings-x.result c.index-standings-y.result (at_x d) (at_y d) c.if-of_x-of_y.false g
-      (omega (arith, c.if-of_y-of_x.false, c.if-of_x-of_y.false)) c.requires.y c.in_ok-over_low-2.over_low c.in_ok-over_low-2.ensures.small c.in_ok-over_low-2.ensures.composed)
+          (omega (arith, c.if-of_y-of_x.false, c.if-of_x-of_y.false)) c.requires.y c.in_ok-over_low-2.over_low c.in_ok-over_low-2.ensures.small c.in_ok-over_low-2.ensures.composed,
+    )
 
 pub returns-in_err-join-clause-refused : goal.returns-in_err-join-clause-refused
 returns-in_err-join-clause-refused c =

@@ -1,4 +1,4 @@
-use Rattle.std.proofs.Common.{ℤ, rules, arith, ap, ◌∙◌, neg_ℤ}
+use Rattle.std.proofs.Common.{rules, arith, ap, ◌∙◌, neg_ℤ}
 use Rattle.prl_base.specs.Ratios.{Fraction}
 use Rattle.prl_clock.proofs.Negation.{neg-passed, small_negated}
 use Rattle.prl_clock.proofs.timings.negated.Goals as goal

@@ -1,6 +1,4 @@
-use Rattle.std.proofs.Common.{◌≡◌, sym, subst}
-use Rattle.prl_base.specs.Ratios.{Fraction}
-use Rattle.prl_clock.specs.code.Composition.{IsComposed, over_period, over_start}
+use Rattle.prl_clock.specs.code.Composition.{over_period, over_start}
 use Rattle.prl_clock.proofs.Terms.{on_err, past_terms, quotient_product, sum_back}
 use Rattle.prl_clock.proofs.timings.over.Goals as goal
 
@@ -15,8 +13,8 @@ returns-in_err-start-clause-past c =
     let q = c.in_ok-period.ensures in
     on_err c.from_residual-in_err-start.result _
     (over_start e.0 c.in_ok-period.period q.0.positive (past_terms _ _ e.0 e.1.0 e.1.1)
-      (quotient_product c.args.first.period c.in_ok-period.period c.args.whole.period q.0)
-      (sum_back c.args.whole.start c.args.first.start c.in_ok-period.period _ e.0 c.negated.ensures.num c.negated.ensures.den e.1.0.equal))
+    (quotient_product c.args.first.period c.in_ok-period.period c.args.whole.period q.0)
+    (sum_back c.args.whole.start c.args.first.start c.in_ok-period.period _ e.0 c.negated.ensures.num c.negated.ensures.den e.1.0.equal))
 
 pub returns-clause-composed : goal.returns-clause-composed
 returns-clause-composed c =
