@@ -21,3 +21,6 @@ pub mod Reading
 pub mod Finishing
 pub mod Wholes
 pub mod Single
+pub mod Totals
+pub mod Outcoming
+pub mod Existing

@@ -37,3 +37,8 @@ pub fn clocks_are_unique()
 pub fn outcomes_are_unique()
     ensures { (p : FlatProgram) → IsFlat p → (one other : Result (List Clock) ClockFault) → IsOutcome p one → IsOutcome p other → one ≡ other }
 {}
+
+/// And it has one of these.
+pub fn programs_have_outcomes()
+    ensures { (p : FlatProgram) → IsFlat p → (one : Result (List Clock) ClockFault) × IsOutcome p one }
+{}

@@ -13,6 +13,7 @@ mod timings;
 
 pub use calculus::{ClockFault, clocks};
 pub use laws::{
-    clocks_are_unique, clocks_meet_constraints, outcomes_are_unique, solutions_have_clocks,
+    clocks_are_unique, clocks_meet_constraints, outcomes_are_unique, programs_have_outcomes,
+    solutions_have_clocks,
 };
 pub use timings::Timing;
