@@ -6,6 +6,7 @@ use Rattle.std.proofs.lemmas.Bool.{cases_lt}
 use Rattle.std.proofs.lemmas.List.FromFn.{get_or-map-range_with_len, length-map-range_with_len}
 use Rattle.std.proofs.lemmas.Option.{slice_get-get_or, slice_get_within}
 use borrow.Author.Differences.{ints}
+use Rattle.prl_base.specs.Operators.{IsOperatorFor}
 use Rattle.prl_base.specs.Ratios.{Fraction}
 use Rattle.prl_base.specs.declared.numbers.FlowNo.{FlowNo}
 use Rattle.prl_base.specs.declared.operators.Clock.{Clock}
@@ -19,7 +20,7 @@ use Rattle.prl_flow.specs.declared.programs.Arg.{Arg}
 use Rattle.prl_flow.specs.declared.programs.Def.{Def}
 use Rattle.prl_flow.specs.declared.programs.Def.TheVariants as definitions
 use Rattle.prl_flow.specs.declared.programs.Flow.{Flow}
-use Rattle.prl_flow.specs.Programs.{FlatProgram, IsFlat, IsWellDefined, IsApplication, FitsType}
+use Rattle.prl_flow.specs.Programs.{FlatProgram, IsFlat, IsWellDefined, IsApplication}
 use Rattle.prl_flow.specs.Solutions.{clock_of}
 use Rattle.prl_clock.specs.declared.calculus.ClockFault.{ClockFault}
 use Rattle.prl_clock.specs.declared.calculus.ClockFault.TheVariants as faults
@@ -42,7 +43,7 @@ use Rattle.prl_clock.proofs.Starting.{alone_solved}
 same_good : IsLink same_clock
 same_good = record { num = 1; is = refl; some = omega arith; parts = record { period = omega arith; start = omega arith } }
 
-operator_good : (op : Op) (ty : Ty) → FitsType ty op → IsLink (timing_of_operator op)
+operator_good : (op : Op) (ty : Ty) → IsOperatorFor ty op → IsLink (timing_of_operator op)
 operator_good (operators.Fby c) ty fits = same_good
 operator_good (operators.Cons c) ty fits = record { num = 1; is = refl; some = omega arith; parts = record { period = omega arith; start = omega arith } }
 operator_good operators.Tail ty fits = record { num = 1; is = refl; some = omega arith; parts = record { period = omega arith; start = omega arith } }

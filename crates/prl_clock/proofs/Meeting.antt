@@ -1,14 +1,7 @@
 -- Whole clocks that meet constraints, and the clocks of a flat program's solutions.
-<<<<<<< HEAD
-use Rattle.std.proofs.Common.{◌≡◌, ◌≤◌, ◌<◌, ◌+◌, ◌*◌, ◌++◌, ◌∷◌, ℕ, zero, suc, ℤ, pos, negsuc, nat_abs, ◌*ℤ◌, ◌-ℤ◌, ◌≤ℤ◌, List, [], length, map, get_or, slice_get, Option, Some, None, refl, sym, ap, ◌∙◌, subst, arith}
-use borrow.Author.Differences.{up, down, same_in, product_is, ints}
-use Rattle.prl_base.specs.Clocks.{IsClock}
-use Rattle.prl_base.specs.Operators.{IsOperatorFor, IsResultClock}
-=======
 use Rattle.std.proofs.Common.{◌≡◌, ◌≤◌, ◌+◌, ◌*◌, ℕ, ℤ, pos, negsuc, nat_abs, ◌-ℤ◌, ◌≤ℤ◌, refl, ap, arith}
 use borrow.Author.Differences.{up, down, product_is, ints}
-use Rattle.prl_base.specs.Operators.{IsResultClock}
->>>>>>> 4b317d8091d3ba70929013cf18ca17f05d015736
+use Rattle.prl_base.specs.Operators.{IsOperatorFor, IsResultClock}
 use Rattle.prl_base.specs.Ratios.{Fraction}
 use Rattle.prl_base.specs.declared.operators.Clock.{Clock}
 use Rattle.prl_base.specs.declared.operators.Op.{Op}
