@@ -28,7 +28,7 @@ use Rattle.prl_plan.proofs.RoundPeriods.{task_is}
 use Rattle.prl_plan.proofs.UsedLaws.{some_gaps}
 use Rattle.prl_buffers.specs.code.Counts.{at_turn, AreReleased, AreOver, IsLeastTurn}
 use Rattle.prl_buffers.specs.code.Edges.{IsPlanned, jobs_of, release_in, deadline_in, AreReleases, ReleasesFit, AreEnds, EndsFit, HasLeastCount}
-use Rattle.prl_buffers.specs.code.Repeats.{IsCutOf}
+use Rattle.prl_buffers.specs.code.Edges.{IsCutOf}
 use Rattle.prl_buffers.specs.code.Turns.{IsTurn}
 use Rattle.prl_buffers.proofs.EdgeNumbers.{edge_is, precedes, first_is, dates_small, releases_small, numbers_small, some_period, full, lists}
 

@@ -11,9 +11,8 @@ use Rattle.prl_plan.specs.declared.tables.Window.{Window}
 use Rattle.prl_plan.specs.declared.walks.Operand.TheVariants as operands
 use Rattle.prl_plan.specs.declared.words.Word.{Word}
 use Rattle.prl_plan.specs.CellTurns.{IsAskedFrom, ListsGaps, span_of}
-use Rattle.prl_plan.specs.FirstReaders.{first_reader, first_instance}
+use Rattle.prl_plan.specs.FirstReaders.{first_reader, natural, first_instance}
 use Rattle.prl_plan.specs.Graphs.{IsEdge}
-use Rattle.prl_plan.specs.Intervals.{natural}
 use Rattle.prl_plan.specs.Jobs.{task_at}
 use Rattle.prl_plan.specs.Operands.{walk}
 use Rattle.prl_plan.specs.Precedence.{preceding, ComesFrom}

@@ -1,6 +1,5 @@
 -- What private functions say to one another.
 pub mod Turns
-pub mod Repeats
 pub mod Counts
 pub mod Edges
 pub mod Tables

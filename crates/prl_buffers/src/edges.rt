@@ -1,18 +1,17 @@
 //! The cells of one edge.
 
-ghost use Rattle.std.specs.Prelude.{◌≡◌, ◌<◌, ◌^◌, ℕ, List, length, IfOk};
+ghost use Rattle.std.specs.Prelude.{◌≡◌, ◌<◌, ◌≤◌, ◌^◌, ℕ, List, length, IfOk};
 ghost use Rattle.prl_plan.specs.declared.tables.Window.{Window};
 ghost use Rattle.prl_plan.specs.Jobs.{task_at};
 ghost use Rattle.prl_plan.specs.Precedence.{ComesFrom};
 ghost use Rattle.prl_plan.specs.Words.{number_at};
-ghost use Rattle.prl_buffers.specs.code.Edges.{IsPlanned, jobs_of, ReleasesFit, AreReleases, EndsFit, AreEnds, HasLeastCount, HasTaskCells, HasEdgeCells};
+ghost use Rattle.prl_buffers.specs.code.Edges.{IsPlanned, jobs_of, ReleasesFit, AreReleases, EndsFit, AreEnds, IsCutOf, HasLeastCount, HasTaskCells, HasEdgeCells};
 ghost use Rattle.prl_buffers.specs.code.Turns.{IsTurn};
 
 use crate::counts::least_count;
-use crate::repeats::shortened;
 use crate::turns::{Turn, sums_of, turn_of};
 use prl_base::{Clock, Seq, TaskNo};
-use prl_plan::{Dates, Edge, Producer, TaskGraph, Used, Word};
+use prl_plan::{Dates, Edge, Producer, TaskGraph, Used, Word, shortest_repeat};
 use std::alloc::{AllocError, Global};
 
 /// The least number of cells of an edge, its used instances and the sums of their gaps.
@@ -29,6 +28,17 @@ fn clock_of(graph: &TaskGraph, i: TaskNo) -> Clock
     ensures { result ≡ (task_at graph.now i.0).clock }
 {
     graph.tasks.as_slice()[i.0 as usize].clock
+}
+
+/// The shortest list of gaps that repeats as this one does. Takes no memory.
+fn shortened(gaps: Seq<u64>) -> Seq<u64>
+    requires { 1 ≤ length gaps }
+    ensures { IsCutOf gaps result }
+{
+    let step = shortest_repeat(gaps.as_slice());
+    let mut items = gaps.into_vec();
+    items.truncate(step);
+    Seq::new(items)
 }
 
 /// The encoded releases of the instances that the gaps lead to.

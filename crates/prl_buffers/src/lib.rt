@@ -4,7 +4,6 @@
 
 mod counts;
 mod edges;
-mod repeats;
 mod tables;
 mod turns;
 

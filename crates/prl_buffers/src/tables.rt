@@ -13,7 +13,7 @@ ghost use Rattle.prl_buffers.specs.code.Tables.{IsDated, AreListed, bases_from};
 
 use crate::edges::cells_of;
 use prl_base::{Limit, Seq, What};
-use prl_plan::{Cells, Dates, MAX_CELLS, TaskGraph, Used, Word};
+use prl_plan::{Cells, Dates, MAX_CELLS, TaskGraph, Used, Words};
 use std::alloc::{AllocError, Global};
 
 /// Why there are no cells.
@@ -48,14 +48,14 @@ struct EdgeLists {
 fn listed(
     alloc: Global,
     graph: &TaskGraph,
-    words: &Seq<Word>,
+    words: &Words,
     dates: &Dates,
 ) -> Result<EdgeLists, AllocError>
-    requires { IsDated graph.now words.now dates.now }
+    requires { IsDated graph.now words.now.of dates.now }
     ensures { IfOk result (λ list. AreListed graph.now dates.now (length graph.now.edges) list.counts list.used list.sums × (list.total ≡ sum list.counts)) }
 {
     let edges = graph.edges.as_slice();
-    let words = words.as_slice();
+    let words = words.of.as_slice();
     let mut counts = Vec::with_capacity(alloc, edges.len())?;
     let mut used = Vec::with_capacity(alloc, edges.len())?;
     let mut sums = Vec::with_capacity(alloc, edges.len())?;
@@ -106,11 +106,11 @@ fn narrowed(alloc: Global, counts: &[u64]) -> Result<Seq<u32>, AllocError>
 pub fn cells(
     alloc: Global,
     graph: &TaskGraph,
-    words: &Seq<Word>,
+    words: &Words,
     dates: &Dates,
 ) -> Result<Cells, CellFault>
     requires well { IsWellFormed graph.now }
-    requires words { AreWords graph.now words.now }
+    requires words { AreWords graph.now words.now.of }
     requires dates { AreEncodedDates graph.now dates.now }
     ensures cells { MatchResult result
         (λ c. AreLeastCells graph.now dates.now c.bases c.counts c.used × (sum c.counts ≤ MAX_CELLS) × AreShortGaps c.used)

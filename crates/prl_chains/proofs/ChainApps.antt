@@ -5,6 +5,7 @@ use Rattle.std.specs.Str.{bytes_eq}
 use Rattle.std.proofs.lemmas.Bool.{leb-true, eqb-true}
 use Rattle.std.proofs.lemmas.Slice.Eq.{bytes_eq-Decides}
 use Rattle.std.proofs.lemmas.Option.{slice_get_within}
+use Rattle.prl_base.specs.Names.{IsName}
 use Rattle.prl_base.specs.declared.numbers.FlowNo.{FlowNo}
 use Rattle.prl_base.specs.declared.places.Span.{Span}
 use Rattle.prl_ast.specs.declared.declarations.Import.{Import}
@@ -21,11 +22,11 @@ use Rattle.prl_chains.specs.Links.{flow_named, link_clock, made_link, IsLink, Is
 use Rattle.prl_chains.specs.Applications.{Applied, bare_name, named_flow, argument_of, arguments_of, first_period, are_ints, takes, fits, may_define_all, have_numbers, place_of, output_links, numbers_from, made_app, app_of, IsOfImport, HasPeriod, IsMade, IsAmong}
 use Rattle.prl_chains.specs.Equations.{Definitions, AreDefined, with_app}
 use Rattle.prl_base.specs.Options.{◌>>=◌}
-use Rattle.prl_chains.specs.Rights.{is_factor}
+use Rattle.prl_chains.specs.Rights.{is_factor, is_name}
 use Rattle.prl_chains.proofs.ChainLinks.{first_more, HasPeriod_more, IsLink_more, IsAmong_more, at_both, get_behind, within_links}
 use Rattle.prl_chains.proofs.SomeParts.{both_some, taken_some}
 use Rattle.std.proofs.lemmas.Bool.{and_parts}
-use Rattle.prl_chains.proofs.Variables.{factor_from}
+use Rattle.prl_chains.proofs.Variables.{factor_from, name_from}
 
 -- numbers of outputs
 
@@ -149,6 +150,7 @@ period_there links (t ∷ ts) period is =
 -- what is known of an application that is taken, on its period
 pub record IsTaken (imports : List Import) (links : List Link) (lefts : List Placed) (app : App) (period : ℕ) : Type 0 where
   pub imported : IsOfImport imports app
+  pub name : IsName app.name
   pub wcet : IsFactor app.wcet
   pub some_output : 1 ≤ length lefts
   pub number : length links + length lefts ≤ 2 ^ 31
@@ -173,11 +175,12 @@ taken_app : (imports : List Import) (links : List Link) (lefts : List Placed) (n
     → IsPeriodOf links period → AreArguments links period count args
     → IsTaken imports links lefts (made_app of at args (numbers_from (length links) lefts)) period
 taken_app imports links lefts name at of args period count declared takes_it few period_of are =
-    let one = and_parts (is_factor of.wcet && are_ints of.ins && are_ints of.outs && (length of.ins == count) && (length of.outs == length lefts)) (nat_le 1 (length lefts)) takes_it in
-    let two = and_parts (is_factor of.wcet && are_ints of.ins && are_ints of.outs && (length of.ins == count)) (length of.outs == length lefts) one.0 in
-    let three = and_parts (is_factor of.wcet && are_ints of.ins && are_ints of.outs) (length of.ins == count) two.0 in
-    let four = and_parts (is_factor of.wcet && are_ints of.ins) (are_ints of.outs) three.0 in
-    let five = and_parts (is_factor of.wcet) (are_ints of.ins) four.0 in
+    let one = and_parts (is_name of.name && is_factor of.wcet && are_ints of.ins && are_ints of.outs && (length of.ins == count) && (length of.outs == length lefts)) (nat_le 1 (length lefts)) takes_it in
+    let two = and_parts (is_name of.name && is_factor of.wcet && are_ints of.ins && are_ints of.outs && (length of.ins == count)) (length of.outs == length lefts) one.0 in
+    let three = and_parts (is_name of.name && is_factor of.wcet && are_ints of.ins && are_ints of.outs) (length of.ins == count) two.0 in
+    let four = and_parts (is_name of.name && is_factor of.wcet && are_ints of.ins) (are_ints of.outs) three.0 in
+    let five = and_parts (is_name of.name && is_factor of.wcet) (are_ints of.ins) four.0 in
+    let six = and_parts (is_name of.name) (is_factor of.wcet) five.0 in
     record {
       imported = record {
         of = of;
@@ -187,7 +190,8 @@ taken_app imports links lefts name at of args period count declared takes_it few
         int_ins = five.1;
         int_outs = four.1;
       };
-      wcet = factor_from of.wcet five.0;
+      name = name_from of.name six.0;
+      wcet = factor_from of.wcet six.1;
       some_output = leb-true 1 (length lefts) one.1;
       number = leb-true (length links + length lefts) (2 ^ 31) few;
       period_of = period_of;
@@ -284,6 +288,7 @@ new_among : (imports : List Import) (d : Definitions) (lefts : List Placed) (app
     → IsAmong (d.links ++ output_links (length d.apps) period 0 lefts) (length d.apps) app
 new_among imports d lefts app period taken = record {
   period = period;
+  name = taken.name;
   wcet = taken.wcet;
   some_output = let number = numbers_length lefts (length d.links) in
       let outs = ap (λ (xs : List FlowNo). length xs) taken.outs in

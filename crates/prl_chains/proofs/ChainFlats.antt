@@ -7,6 +7,7 @@ use Rattle.std.proofs.lemmas.Option.{slice_get-map, slice_get_within}
 use Rattle.prl_ast.specs.declared.declarations.Device.{Device}
 use Rattle.prl_ast.specs.declared.declarations.Import.{Import}
 use Rattle.prl_base.specs.Clocks.{IsClock}
+use Rattle.prl_base.specs.Names.{IsName}
 use Rattle.prl_base.specs.declared.operators.Clock.{Clock}
 use Rattle.prl_base.specs.declared.numbers.FlowNo.{FlowNo}
 use Rattle.prl_base.specs.declared.values.Ty.TheVariants as types
@@ -89,6 +90,7 @@ is_input imports sensor actuator d h =
 -- the outputs of an application are its own
 is_application : (sensor actuator : Device) (d : Definitions) (k : ℕ) (app : App) → IsAmong d.links k app → IsApplication (flat_chain sensor actuator d).flat k app
 is_application sensor actuator d k app h = record {
+  name = h.name;
   wcet = h.wcet;
   args = λ j arg found. let has = h.args j arg found in
       let small = slice_get_within d.links arg.flow.0 has.link has.found in
@@ -103,7 +105,7 @@ IsFlat_chain imports sensor actuator d h = record {
   in_count = refl;
   out_count = refl;
   devices = (
-    at_two (λ k (x : programs.Device). IsFactor x.1) (sensor.name, sensor.wcet) (actuator.name, actuator.wcet) h.wcet_in h.wcet_out,
+    at_two (λ k (x : programs.Device). IsName x.0 × IsFactor x.1) (sensor.name, sensor.wcet) (actuator.name, actuator.wcet) (h.name_in, h.wcet_in) (h.name_out, h.wcet_out),
     apart_names sensor.name actuator.name sensor.wcet actuator.wcet h.apart,
   );
   flows = at_each link_flow (λ i (flow : Flow). IsWellDefined (flat_chain sensor actuator d).flat i flow.ty flow.def) d.links

@@ -32,11 +32,11 @@ right_is_linked : (clocks : List Clock) (i : ℕ) (right : Right) (of old new : 
 right_is_linked clocks i Copy of old new below clock factor period =
     (below, ap (λ (p : ℕ). record { period = p; start = 0 }) period.1 ∙ sym clock)
 right_is_linked clocks i (Delayed number) of old new below clock factor period =
-    (below, refl, rw clock (period.1, refl))
+    (below, (refl, factor), rw clock (period.1, refl))
 right_is_linked clocks i (Faster k) of old new below clock factor period =
-    (below, factor, rw clock (period.1, refl))
+    (below, (factor.0, omega (arith, factor.1)), rw clock (period.1, refl))
 right_is_linked clocks i (Slower k) of old new below clock factor period =
-    (below, factor, rw clock (period.1, refl))
+    (below, (factor.0, omega (arith, factor.1)), rw clock (period.1, refl))
 
 new_period : (right : Right) (old new : ℕ) → IsPeriod right old new → IsFactor new
 new_period Copy old new h = h.0
@@ -125,6 +125,7 @@ IsMade_more links more i period k out h =
 pub IsAmong_more : (links more : List Link) (k : ℕ) (app : App) → IsAmong links k app → IsAmong (links ++ more) k app
 IsAmong_more links more k app h = record {
   period = h.period;
+  name = h.name;
   wcet = h.wcet;
   some_output = h.some_output;
   args = λ j arg found. HasPeriod_more links more arg.flow.0 h.period (h.args j arg found);

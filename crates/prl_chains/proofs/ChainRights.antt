@@ -2,6 +2,8 @@
 use Rattle.std.proofs.Common.{◌≡◌, ◌==◌, ◌*◌, ◌/◌, ◌%◌, ◌^◌, ◌≤◌, ◌<◌, ℕ, zero, suc, List, [], ◌∷◌, length, Option, Some, None, nat_lt, refl, sym, ◌∙◌, subst, arith, mul_comm, mul-zero, mul-pos, div-add-mod', div-le_self}
 use Rattle.std.specs.Prelude.{slice_get, if◌then◌else◌}
 use Rattle.std.proofs.lemmas.Bool.{ltb-true, eqb-true}
+use Rattle.std.specs.Int.{int_wrap, w64}
+use Rattle.std.proofs.lemmas.Int.{SFits-int_wrap}
 use Rattle.prl_base.specs.declared.operators.Op.{Op}
 use Rattle.prl_base.specs.declared.operators.Op.TheVariants as operators
 use Rattle.prl_base.specs.declared.values.Value.TheVariants as values
@@ -21,7 +23,7 @@ use Rattle.prl_chains.proofs.SomeParts.{both_some, taken_some}
 use Rattle.prl_chains.proofs.Variables.{factor_from}
 
 prefix_is : (op : Op) (r : Right) → prefix_right op ≡ Some r → IsRight r
-prefix_is (operators.Fby (values.Int number)) r is = subst IsRight (some_inner (Delayed number) r is) tt
+prefix_is (operators.Fby (values.Int number)) r is = subst IsRight (some_inner (Delayed (int_wrap w64 number)) r is) (SFits-int_wrap w64 number)
 prefix_is (operators.Fby (values.Bool b)) r is = absurd (cc)
 prefix_is (operators.Up k) r is = absurd (cc)
 prefix_is (operators.Down k) r is = absurd (cc)

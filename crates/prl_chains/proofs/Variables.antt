@@ -4,11 +4,13 @@ use Rattle.std.specs.List.{list_all}
 use Rattle.std.specs.Str.{bytes_eq}
 use Rattle.std.proofs.lemmas.Bool.{leb-true, ltb-true}
 use Rattle.std.proofs.lemmas.Slice.Eq.{bytes_eq-Decides}
+use Rattle.prl_base.specs.Names.{IsName, is_word}
+use Rattle.prl_base.specs.declared.names.TheConstants.{MAX_NAME}
 use Rattle.prl_ast.specs.declared.declarations.Device.{Device}
 use Rattle.prl_ast.specs.declared.declarations.Import.{Import}
 use Rattle.prl_ast.specs.declared.declarations.Param.{Param}
 use Rattle.prl_flow.specs.Programs.{IsFactor}
-use Rattle.prl_chains.specs.Rights.{is_factor}
+use Rattle.prl_chains.specs.Rights.{is_factor, is_name}
 use Rattle.prl_chains.specs.Equations.{AreDefined, Definitions}
 use Rattle.prl_chains.specs.Links.{flow_named, is_linked, has_param}
 use Rattle.prl_chains.specs.Chains.{is_bare, are_apart, is_device_of, are_variables}
@@ -21,10 +23,21 @@ factor_from k h =
     let below : k < 2 ^ 31 = ltb-true k (2 ^ 31) both.1 in
     (leb-true 1 k both.0, omega (arith, below))
 
-device_from : (d : Device) (p : Param) → is_device_of d p ≡ true → IsFactor d.wcet × (p.name ≡ d.name)
+pub name_from : (name : List ℕ) → is_name name ≡ true → IsName name
+name_from name h =
+    let both = and_parts (is_word name) (nat_le (length name) MAX_NAME) h in
+    (both.0, leb-true (length name) MAX_NAME both.1)
+
+record IsDeviceOf (d : Device) (p : Param) : Type 0 where
+  named : IsName d.name
+  wcet : IsFactor d.wcet
+  same : p.name ≡ d.name
+
+device_from : (d : Device) (p : Param) → is_device_of d p ≡ true → IsDeviceOf d p
 device_from d p h =
-    let both = and_parts (is_factor d.wcet) (bytes_eq p.name d.name) h in
-    (factor_from d.wcet both.0, (bytes_eq-Decides p.name d.name).0 both.1)
+    let both = and_parts (is_name d.name && is_factor d.wcet) (bytes_eq p.name d.name) h in
+    let first = and_parts (is_name d.name) (is_factor d.wcet) both.0 in
+    record { named = name_from d.name first.0; wcet = factor_from d.wcet first.1; same = (bytes_eq-Decides p.name d.name).0 both.1 }
 
 apart_from : (input output : Param) (locals : List Param) → are_apart (input ∷ output ∷ locals) ≡ true → input.name ≢ output.name
 apart_from input output locals h same =
@@ -46,8 +59,10 @@ AreBetween_made imports sensor actuator input output locals d h defined few out 
     record {
       defined = defined;
       few = few;
-      out = subst (λ (name : List ℕ). flow_named d.links name < length d.links) to.1 last;
-      apart = λ same. apart_from input output locals first.1 (from.1 ∙ same ∙ sym to.1);
-      wcet_in = from.0;
-      wcet_out = to.0;
+      out = subst (λ (name : List ℕ). flow_named d.links name < length d.links) to.same last;
+      apart = λ same. apart_from input output locals first.1 (from.same ∙ same ∙ sym to.same);
+      name_in = from.named;
+      name_out = to.named;
+      wcet_in = from.wcet;
+      wcet_out = to.wcet;
     }

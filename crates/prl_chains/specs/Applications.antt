@@ -2,6 +2,7 @@
 use Rattle.std.specs.Prelude.{◌≡◌, ◌==◌, ◌&&◌, ◌+◌, ◌^◌, ◌≤◌, ℕ, Bool, true, false, not, List, [], ◌∷◌, length, Option, Some, None, nat_le, slice_get, if◌then◌else◌}
 use Rattle.std.specs.List.{list_all, list_any}
 use Rattle.std.specs.Str.{bytes_eq}
+use Rattle.prl_base.specs.Names.{IsName}
 use Rattle.prl_base.specs.declared.numbers.FlowNo.{FlowNo}
 use Rattle.prl_base.specs.declared.places.Span.{Span}
 use Rattle.prl_base.specs.declared.values.Ty.{Ty}
@@ -17,7 +18,7 @@ use Rattle.prl_flow.specs.declared.programs.Def.TheVariants as definitions
 use Rattle.prl_flow.specs.Programs.{IsFactor}
 use Rattle.prl_chains.specs.declared.links.Link.{Link}
 use Rattle.prl_base.specs.Options.{◌>>=◌}
-use Rattle.prl_chains.specs.Rights.{is_factor}
+use Rattle.prl_chains.specs.Rights.{is_factor, is_name}
 use Rattle.prl_chains.specs.Links.{flow_named, may_define, made_link}
 
 -- an application with no operator: the name that is applied, where it stands, and the arguments
@@ -77,10 +78,10 @@ is_int types.Bool = false
 abbrev pub are_ints : List Port → Bool
 are_ints ports = list_all (λ (p : Port). is_int p.ty) ports
 
--- an import with so many inputs and outputs, one output or more, all of type int, and a WCET of 1 to 2^31 - 1
+-- an import with a name, so many inputs and outputs, one output or more, all of type int, and a WCET of 1 to 2^31 - 1
 abbrev pub takes : Import → ℕ → ℕ → Bool
 takes import ins outs =
-    is_factor import.wcet && are_ints import.ins && are_ints import.outs && (length import.ins == ins) && (length import.outs == outs) && nat_le 1 outs
+    is_name import.name && is_factor import.wcet && are_ints import.ins && are_ints import.outs && (length import.ins == ins) && (length import.outs == outs) && nat_le 1 outs
 
 abbrev pub is_placed : List Placed → List ℕ → Bool
 is_placed lefts name = list_any (λ (left : Placed). bytes_eq left.name name) lefts
@@ -145,6 +146,7 @@ pub record IsMade (links : List Link) (i period k out : ℕ) : Type 0 where
 -- the application of number `k` stands among these flows: its arguments and its outputs are flows of one period
 pub record IsAmong (links : List Link) (k : ℕ) (app : App) : Type 0 where
   pub period : ℕ
+  pub name : IsName app.name
   pub wcet : IsFactor app.wcet
   pub some_output : 1 ≤ length app.outs
   pub args : (j : ℕ) (arg : Arg) → slice_get app.args j ≡ Some arg → HasPeriod links arg.flow.0 period

@@ -14,7 +14,7 @@ use Rattle.prl_flow.specs.declared.programs.Flow.{Flow}
 use Rattle.prl_chains.specs.declared.chains.Chain.{Chain}
 use Rattle.prl_chains.specs.declared.links.Link.{Link}
 use Rattle.prl_base.specs.Options.{◌>>=◌, the_one}
-use Rattle.prl_chains.specs.Rights.{is_factor}
+use Rattle.prl_chains.specs.Rights.{is_factor, is_name}
 use Rattle.prl_chains.specs.Links.{link_clock, flow_named, is_linked, has_param}
 use Rattle.prl_chains.specs.Equations.{Definitions, with_equations}
 
@@ -42,9 +42,9 @@ abbrev pub are_apart : List Param → Bool
 are_apart [] = true
 are_apart (p ∷ ps) = not (has_param ps p.name) && are_apart ps
 
--- a device with a WCET of 1 to 2^31 - 1, and the variable of its name
+-- a device with a name and a WCET of 1 to 2^31 - 1, and the variable of its name
 abbrev pub is_device_of : Device → Param → Bool
-is_device_of d p = is_factor d.wcet && bytes_eq p.name d.name
+is_device_of d p = is_name d.name && is_factor d.wcet && bytes_eq p.name d.name
 
 -- the variables of a node: the devices', and locals; all have names of their own, and the input alone has a note
 abbrev pub are_variables : Device → Device → Param → Param → List Param → Bool

@@ -2,6 +2,7 @@
 use Rattle.std.specs.Prelude.{◌≡◌, ◌≢◌, ◌<◌, ◌^◌, ℕ, List, [], ◌∷◌, length, Some, slice_get}
 use Rattle.prl_ast.specs.declared.declarations.Device.{Device}
 use Rattle.prl_ast.specs.declared.declarations.Import.{Import}
+use Rattle.prl_base.specs.Names.{IsName}
 use Rattle.prl_base.specs.declared.values.Ty.TheVariants as types
 use Rattle.prl_flow.specs.declared.programs.App.{App}
 use Rattle.prl_flow.specs.declared.programs.Flow.{Flow}
@@ -18,6 +19,8 @@ pub record AreBetween (imports : List Import) (sensor actuator : Device) (d : De
   pub few : length d.links < 2 ^ 32
   pub out : flow_named d.links actuator.name < length d.links
   pub apart : sensor.name ≢ actuator.name
+  pub name_in : IsName sensor.name
+  pub name_out : IsName actuator.name
   pub wcet_in : IsFactor sensor.wcet
   pub wcet_out : IsFactor actuator.wcet
 

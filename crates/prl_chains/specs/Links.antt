@@ -11,8 +11,8 @@ use Rattle.prl_flow.specs.declared.programs.App.{App}
 use Rattle.prl_flow.specs.declared.programs.Arg.{Arg}
 use Rattle.prl_flow.specs.declared.programs.Def.{Def}
 use Rattle.prl_flow.specs.declared.programs.Def.TheVariants as definitions
-use Rattle.prl_base.specs.Operators.{IsResultClock}
-use Rattle.prl_flow.specs.Programs.{IsFactor, FitsType}
+use Rattle.prl_base.specs.Operators.{IsOperatorFor, IsResultClock}
+use Rattle.prl_flow.specs.Programs.{IsFactor}
 use Rattle.prl_flow.specs.Solutions.{clock_of}
 use Rattle.prl_chains.specs.declared.links.Link.{Link}
 use Rattle.prl_base.specs.Options.{◌>>=◌, the_one}
@@ -65,7 +65,7 @@ IsLinked apps clocks i c (definitions.Copy of) = (of.0 < i) × (c ≡ clock_of c
 IsLinked apps clocks i c (definitions.Const v) = ⊥
 IsLinked apps clocks i c (definitions.Apply app out) = IsOutputOf apps i app out
 IsLinked apps clocks i c (definitions.Op op of) =
-    (of.0 < i) × FitsType types.Int op × IsResultClock op (clock_of clocks of.0) c
+    (of.0 < i) × IsOperatorFor types.Int op × IsResultClock op (clock_of clocks of.0) c
 
 -- each of these flows has a period of 1 to 2^31 - 1
 abbrev pub HavePeriods : List Link → Type 0

@@ -1,5 +1,8 @@
 -- The right sides of equations: what each makes of one flow.
-use Rattle.std.specs.Prelude.{◌≡◌, ◌==◌, ◌&&◌, ◌^◌, ◌*◌, ◌/◌, ◌%◌, ℕ, Bool, List, [], ◌∷◌, Option, Some, None, nat_lt, nat_le, if◌then◌else◌}
+use Rattle.std.specs.Prelude.{◌≡◌, ◌==◌, ◌&&◌, ◌^◌, ◌*◌, ◌/◌, ◌%◌, ℕ, Bool, List, [], ◌∷◌, length, Option, Some, None, nat_lt, nat_le, FitsSigned, if◌then◌else◌}
+use Rattle.std.specs.Int.{int_wrap, w64}
+use Rattle.prl_base.specs.Names.{is_word}
+use Rattle.prl_base.specs.declared.names.TheConstants.{MAX_NAME}
 use Rattle.prl_base.specs.declared.numbers.FlowNo.{FlowNo}
 use Rattle.prl_base.specs.declared.operators.Op.{Op}
 use Rattle.prl_base.specs.declared.operators.Op.TheVariants as operators
@@ -17,9 +20,13 @@ use Rattle.prl_base.specs.Options.{◌>>=◌}
 abbrev pub is_factor : ℕ → Bool
 is_factor k = nat_le 1 k && nat_lt k (2 ^ 31)
 
--- an operator in front of a name: a number `fby`
+-- a word of 64 bytes or less, as each name of a text is
+abbrev pub is_name : List ℕ → Bool
+is_name name = is_word name && nat_le (length name) MAX_NAME
+
+-- an operator in front of a name: a number `fby`, which has 64 bits in each text
 abbrev pub prefix_right : Op → Option Right
-prefix_right (operators.Fby (values.Int number)) = Some (Delayed number)
+prefix_right (operators.Fby (values.Int number)) = Some (Delayed (int_wrap w64 number))
 prefix_right other = None
 
 -- an operator after a name: `*^ k` or `/^ k`
@@ -60,10 +67,10 @@ def_of (Delayed number) of = definitions.Op (operators.Fby (values.Int number)) 
 def_of (Faster factor) of = definitions.Op (operators.Up factor) of
 def_of (Slower factor) of = definitions.Op (operators.Down factor) of
 
--- the factor of a right side is 1 to 2^31 - 1
+-- the factor of a right side is 1 to 2^31 - 1, and its number has 64 bits
 abbrev pub IsRight : Right → Type 0
 IsRight Copy = Unit {0}
-IsRight (Delayed number) = Unit {0}
+IsRight (Delayed number) = FitsSigned w64 number
 IsRight (Faster factor) = IsFactor factor
 IsRight (Slower factor) = IsFactor factor
 

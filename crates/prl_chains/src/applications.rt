@@ -7,7 +7,7 @@ ghost use Rattle.prl_ast.specs.Trees.{tree_of, node_tree};
 ghost use Rattle.prl_chains.specs.Applications.{applied_of, bare_name, named_flow, argument_of, arguments_of, first_period, is_int, are_ints, takes, is_placed, may_define_all, have_numbers, output_links, numbers_from, made_app, app_of};
 
 use crate::links::{Link, flow_named, may_define};
-use crate::rights::is_factor;
+use crate::rights::{is_factor, is_name};
 use prl_ast::{Base, Expr, Import, Node, Placed, Port};
 use prl_base::{FlowNo, Label, Name, Seq, Span, Ty};
 use prl_body::import_named;
@@ -135,11 +135,12 @@ fn are_ints(ports: &[Port]) -> bool
     ports.iter().all(|port| is_int(port.ty))
 }
 
-/// Whether the import has so many inputs and outputs, one output or more, all of type int, and a WCET of 1 to 2^31 - 1.
+/// Whether the import has a name, so many inputs and outputs, one output or more, all of type int, and a WCET of 1 to 2^31 - 1.
 fn takes(import: &Import, ins: usize, outs: usize) -> bool
     ensures { result ≡ takes import.now ins outs }
 {
-    is_factor(import.wcet)
+    is_name(&import.name)
+        && is_factor(import.wcet)
         && are_ints(import.ins.as_slice())
         && are_ints(import.outs.as_slice())
         && import.ins.len() == ins

@@ -16,7 +16,7 @@ ghost use Rattle.prl_chains.specs.Relays.{has_no_application, is_copy, are_copie
 use crate::equations::{Defined, are_few, defined_of};
 use crate::links::{flow_named, has_param, have_flows, is_linked, link_clocks, link_flows};
 use crate::options::the_one;
-use crate::rights::is_factor;
+use crate::rights::{is_factor, is_name};
 use prl_ast::{Device, Import, Node, Param, Program, Rate};
 use prl_base::{Clock, FlowNo, Name, Seq, Ty};
 use prl_flow::{Clocks, Def, Flat, Flow};
@@ -132,11 +132,11 @@ fn are_apart(params: &[Param]) -> bool
     true
 }
 
-/// Whether the device has a WCET of 1 to 2^31 - 1, and the variable its name.
+/// Whether the device has a name and a WCET of 1 to 2^31 - 1, and the variable its name.
 fn is_device_of(device: &Device, param: &Param) -> bool
     ensures { result ≡ is_device_of device.now param.now }
 {
-    is_factor(device.wcet) && param.name.bytes() == device.name.bytes()
+    is_name(&device.name) && is_factor(device.wcet) && param.name.bytes() == device.name.bytes()
 }
 
 /// Whether the names of input, output and locals are apart.

@@ -4,10 +4,10 @@ ghost use Rattle.std.specs.Prelude.{◌≡◌, IfSome, IsTrue};
 ghost use Rattle.std.specs.Option.{option_map};
 ghost use Rattle.prl_ast.specs.Trees.{tree_of};
 ghost use Rattle.prl_flow.specs.Programs.{IsFactor};
-ghost use Rattle.prl_chains.specs.Rights.{is_factor, prefix_right, postfix_right, operator_of, right_of, period_of, def_of, IsRight, IsPeriod};
+ghost use Rattle.prl_chains.specs.Rights.{is_factor, is_name, prefix_right, postfix_right, operator_of, right_of, period_of, def_of, IsRight, IsPeriod};
 
 use prl_ast::{Base, Expr, PlacedOp};
-use prl_base::{FlowNo, Name, Op, Value};
+use prl_base::{FlowNo, Name, Op, Value, is_word};
 use prl_flow::Def;
 
 /// The right side of an equation, over the flow that it uses.
@@ -28,6 +28,13 @@ pub fn is_factor(k: u32) -> bool
     ensures { result ≡ is_factor k }
 {
     1 <= k && k < 1 << 31
+}
+
+/// Whether a name is a word of 64 bytes or less, as each is.
+pub fn is_name(name: &Name) -> bool
+    ensures { result ≡ is_name name.now }
+{
+    is_word(name.bytes()) && name.bytes().len() <= 64
 }
 
 /// An operator in front of a name: a number `fby`.

@@ -16,7 +16,7 @@ use Rattle.prl_plan.specs.Jobs.{task_at, IsHorizonJob}
 use Rattle.prl_plan.specs.Operands.{operand_of, operand_from, walk}
 use Rattle.prl_plan.specs.Precedence.{ComesFrom}
 use Rattle.prl_plan.specs.Plans.{PlanView, IsPlan, edge_at, no_edge}
-use Rattle.prl_plan.specs.Devices.{LinksDevices}
+use Rattle.prl_core.specs.Devices.{LinksDevices}
 use Rattle.prl_values.specs.JobValues.{JobValues, AreJobValues, gives, at_most_one, value_from, value_on, body_of_task, reads_of_job}
 use Rattle.prl_core.specs.Values.{value_of_job, value_from as row_from, operand_value}
 

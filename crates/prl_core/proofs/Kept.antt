@@ -18,7 +18,7 @@ use Rattle.prl_plan.specs.Jobs.{task_at, job_count}
 use Rattle.prl_plan.specs.Operands.{operand_of}
 use Rattle.prl_plan.specs.Plans.{PlanView, edge_at, cell_of, low, reading, actions_of, completes}
 use Rattle.prl_plan.specs.Facts.{IsJob, WritesAt, HasPlanFacts}
-use Rattle.prl_plan.specs.Devices.{LinksDevices}
+use Rattle.prl_core.specs.Devices.{LinksDevices}
 use Rattle.prl_plan.specs.Runs.{ExecState, action_at, next_action, moved, after_action}
 use Rattle.prl_plan.specs.Rules.{MayTick, HasJob, KeepsLegal, first_unfinished}
 use Rattle.prl_plan.specs.States.{IsSound, IsDone}
@@ -63,6 +63,7 @@ module _ (core : CoreView) (facts : HasPlanFacts (constants core)) (links : Link
     (whole : IsWhole core values columns) where
   pub kept_tick : MayTick (constants core) core.state → IsWhole (record core { state = record core.state { now = core.state.now + 1 } }) values columns
   kept_tick may = record {
+    devices = whole.devices;
     horizon = whole.horizon;
     rows = whole.rows;
     sound = gated_event_keeps_sound (constants core) facts core.state whole.sound events.Tick may;
@@ -138,6 +139,7 @@ module _ (core : CoreView) (facts : HasPlanFacts (constants core)) (links : Link
   pub kept_end : (task : TaskNo) → KeepsLegal (constants core) core.state (events.Act task) →
       next_action (constants core) core.state task.0 ≡ actions.End → IsWhole (record core { state = after_action core.state task.0 actions.End }) values columns
   kept_end task keeps is = record {
+    devices = whole.devices;
     horizon = whole.horizon;
     rows = whole.rows;
     sound = sound_act task keeps actions.End is;
@@ -150,6 +152,7 @@ module _ (core : CoreView) (facts : HasPlanFacts (constants core)) (links : Link
   pub kept_pass : (task : TaskNo) → KeepsLegal (constants core) core.state (events.Act task) → ReadsLow core task.0 →
       IsWhole (record core { state = moved core.state task.0 }) values columns
   kept_pass task keeps reads = record {
+    devices = whole.devices;
     horizon = whole.horizon;
     rows = whole.rows;
     sound = sound_act task keeps (actions.Read reads.port reads.edge reads.instance reads.slot) reads.action;
@@ -164,6 +167,7 @@ module _ (core : CoreView) (facts : HasPlanFacts (constants core)) (links : Link
       value_of_job core.rows (task_at core.plan.graph task.0).kind n ≡ Some v →
       IsWhole (record core { state = after_action core.state task.0 (actions.Write edge n slot) }) (set values slot.0 v) columns
   kept_write task keeps edge n slot now is v has = record {
+    devices = whole.devices;
     horizon = whole.horizon;
     rows = whole.rows;
     sound = sound_act task keeps (actions.Write edge n slot) is;
@@ -224,6 +228,7 @@ module _ (core : CoreView) (facts : HasPlanFacts (constants core)) (links : Link
       ReadsValue core task.0 n (get_or core.state.places task.0 0) v →
       IsWhole (record core { state = moved core.state task.0 }) values (set columns task.0 (set (column columns task.0) n v))
   kept_take task keeps n v now reads = record {
+    devices = whole.devices;
     horizon = whole.horizon;
     rows = whole.rows;
     sound = subst (λ (x : ExecState). IsSound (constants core) x) (completing_moves core.state task.0 action complete)

@@ -10,7 +10,7 @@ use Rattle.prl_plan.specs.declared.graphs.Kind.TheVariants as kinds
 use Rattle.prl_plan.specs.Jobs.{task_at}
 use Rattle.prl_plan.specs.Plans.{IsActionOf}
 use Rattle.prl_plan.specs.Facts.{HasPlanFacts}
-use Rattle.prl_plan.specs.Devices.{LinksDevices}
+use Rattle.prl_core.specs.Devices.{LinksDevices}
 use Rattle.prl_plan.specs.Runs.{next_action}
 use Rattle.prl_plan.specs.Rules.{HasJob, KeepsLegal}
 use Rattle.prl_plan.proofs.StateLaws.{action_is_as_defined}

@@ -9,11 +9,13 @@ use Rattle.prl_plan.specs.Runs.{action_at}
 use Rattle.prl_plan.specs.States.{IsSound, IsDone}
 use Rattle.prl_plan.specs.Horizons.{IsHorizon}
 use Rattle.prl_core.specs.Columns.{column}
+use Rattle.prl_core.specs.Devices.{LinksDevices}
 use Rattle.prl_core.specs.Values.{HasRows, HasRoom, value_of_job, operand_value}
 use Rattle.prl_core.specs.Machine.{CoreView, constants}
 
 -- the values in the slots, each beside its tag, and by task what its jobs read
 pub record IsWhole (core : CoreView) (values : List Value) (columns : List (List Value)) : Type 0 where
+  pub devices : LinksDevices core.plan
   pub horizon : IsHorizon core.plan core.horizon
   pub rows : HasRows core.plan core.horizon.until core.rows
   pub sound : IsSound (constants core) core.state

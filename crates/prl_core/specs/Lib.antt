@@ -1,3 +1,4 @@
+pub mod Devices
 pub mod Values
 pub mod Machine
 pub mod Columns

@@ -12,13 +12,14 @@ ghost use Rattle.prl_core.specs.Machine.{cell_no, sight_of_write};
 ghost use Rattle.prl_core.specs.Tests.{Overtakes, IsNotEarlier, IsDueFirst, IsInTime};
 ghost use Rattle.prl_plan.specs.Jobs.{task_at};
 ghost use Rattle.prl_plan.specs.declared.graphs.Kind.TheVariants as kinds;
+ghost use Rattle.prl_core.specs.Devices.{LinksDevices};
 ghost use Rattle.prl_core.specs.Values.{HasRows, HasRoom, value_of_job};
 
 use crate::columns::put;
 use crate::{Illegal, Seen, Unfinished};
 use prl_base::{EdgeNo, TaskNo, Value};
 use prl_flow::Sensors;
-use prl_plan::{Action, Event, Horizon, Kind, Plan, Rule, SlotNo, plan_facts, plan_links_devices};
+use prl_plan::{Action, Event, Horizon, Kind, Plan, Rule, SlotNo, plan_facts};
 use std::alloc::{AllocError, Global};
 use std::marker::Model;
 
@@ -56,14 +57,15 @@ impl<'a> Core<'a> {
     ghost use Rattle.prl_core.specs.Machine.{constants, Tells, IsSightOf, IsOfPlan, Drives, AreOutputs};
     ghost use Rattle.prl_core.specs.Tests.{ReadsValue, ReadsLow};
 
-    /// The machine before the first event. The horizon is one of the plan, and each sensor has a row for each horizon
-    /// job.
+    /// The machine before the first event. The plan's tasks are sensors and actuators alone, the horizon is one of the
+    /// plan, and each sensor has a row for each horizon job.
     pub fn new(
         alloc: Global,
         plan: &'a Plan,
         sensors: &'a Sensors,
         horizon: Horizon,
     ) -> Result<Core<'a>, AllocError>
+        requires devices { LinksDevices plan.now }
         requires horizon { IsHorizon plan.now horizon }
         requires rows { HasRows plan.now horizon.until sensors.now }
         ensures { IfOk result (λ core. core ≡ record { plan = plan.now; rows = sensors.now; horizon = horizon; state = opening (constants_of plan.now horizon) }) }
@@ -76,7 +78,6 @@ impl<'a> Core<'a> {
         let tags = vec![in alloc; 0; slots]?;
         let values = vec![in alloc; Value::Int(0); slots]?;
         plan_facts(plan, horizon);
-        plan_links_devices(plan);
         Ok(Core {
             plan,
             sensors,
@@ -228,7 +229,6 @@ impl<'a> Core<'a> {
             return Err(Illegal { rule: Rule::L4 });
         }
         plan_facts(self.plan, self.horizon);
-        plan_links_devices(self.plan);
         self.now += 1;
         Ok(Seen::Ticked(self.now))
     }
@@ -241,7 +241,6 @@ impl<'a> Core<'a> {
         ensures { self.exit.now ≡ record self.entry.now { state = moved self.entry.now.state task.0 } }
     {
         plan_facts(self.plan, self.horizon);
-        plan_links_devices(self.plan);
         let i = task.0 as usize;
         put(&mut self.columns, i, job as usize, value);
         self.places[i] += 1;
@@ -254,7 +253,6 @@ impl<'a> Core<'a> {
         ensures { self.exit.now ≡ record self.entry.now { state = moved self.entry.now.state task.0 } }
     {
         plan_facts(self.plan, self.horizon);
-        plan_links_devices(self.plan);
         let i = task.0 as usize;
         self.places[i] += 1;
     }
@@ -319,7 +317,6 @@ impl<'a> Core<'a> {
         ensures { self.exit.now ≡ record self.entry.now { state = after_action self.entry.now.state task.0 (next_action (constants self.entry.now) self.entry.now.state task.0) } }
     {
         plan_facts(self.plan, self.horizon);
-        plan_links_devices(self.plan);
         let i = task.0 as usize;
         let value = self.sensed(task, job);
         self.places[i] += 1;
@@ -335,7 +332,6 @@ impl<'a> Core<'a> {
         ensures { self.exit.now ≡ record self.entry.now { state = after_action self.entry.now.state task.0 actions.End } }
     {
         plan_facts(self.plan, self.horizon);
-        plan_links_devices(self.plan);
         let i = task.0 as usize;
         self.ended[i] = job + 1;
         self.places[i] = 0;
@@ -349,7 +345,6 @@ impl<'a> Core<'a> {
         ensures tells { Tells self.entry.now (Event.Act task) result }
     {
         plan_facts(self.plan, self.horizon);
-        plan_links_devices(self.plan);
         let place = self.places[task.0 as usize];
         match self.plan.action(task, job, place) {
             Action::ReadConst { port, value } => {
@@ -424,7 +419,6 @@ impl<'a> Core<'a> {
         ensures { (i : ℕ) × Drives self.entry.now.plan i actuator × AreOutputs self.entry.now i result.now }
     {
         plan_facts(self.plan, self.horizon);
-        plan_links_devices(self.plan);
         let i = self.task_of(actuator);
         &self.columns[i].as_slice()[..self.ended[i] as usize]
     }

@@ -7,7 +7,7 @@ ghost use Rattle.prl_flow.specs.Rows.{Rows};
 ghost use Rattle.prl_plan.specs.Jobs.{IsHorizonJob};
 ghost use Rattle.prl_plan.specs.Operands.{operand_of};
 ghost use Rattle.prl_plan.specs.Plans.{PlanView, IsPlan, edge_at};
-ghost use Rattle.prl_plan.specs.Devices.{LinksDevices};
+ghost use Rattle.prl_core.specs.Devices.{LinksDevices};
 ghost use Rattle.prl_values.specs.JobValues.{JobValues, AreJobValues, value_on};
 ghost use Rattle.prl_core.specs.Values.{operand_value};
 

@@ -23,7 +23,8 @@ use Rattle.prl_dates.specs.code.Families.{IsRound}
 use Rattle.prl_dates.specs.code.Lanes.{link_at, AreLanes}
 use Rattle.prl_dates.specs.code.Indices.{jobs_before, index_of, dates_of}
 use Rattle.prl_dates.specs.code.Tables.{Leaves, LeaveAll, IsSpread, AreFinal, AreUpperDates}
-use Rattle.prl_dates.specs.code.Windows.{window_of, IsCut, AreWindowsOf, AreWindows}
+use Rattle.prl_plan.specs.Repeats.{IsLeastRepeat}
+use Rattle.prl_dates.specs.code.Windows.{window_of, AreWindowsOf, AreWindows}
 use Rattle.prl_dates.proofs.BestRounds.{above_release, least_releases}
 use Rattle.prl_dates.proofs.ChainEnds.{both_inside}
 use Rattle.prl_dates.proofs.Settles.{date_here, release_rises}
@@ -212,21 +213,21 @@ module _ (graph : TaskGraph) (good : IsWellFormed graph) (lanes : List Lane) (ar
 -- the list cut to its shortest
 pub cut_made : (graph : TaskGraph) (good : IsWellFormed graph) (bests tails : List ℕ) (i : ℕ) → i < length graph.tasks → (list : List Window) → length list ≡ jobs_of graph i →
     ((p : ℕ) → p < jobs_of graph i → slice_index_or list p no_window ≡ window_of graph i bests tails (jobs_before graph i + p)) →
-    (step : ℕ) → IsCut list step → AreWindowsOf graph bests tails i (take step list)
+    (step : ℕ) → IsLeastRepeat list step → AreWindowsOf graph bests tails i (take step list)
 cut_made graph good bests tails i inside list long each step cut =
-    let cut_long : length (take step list) ≡ step = length-take-le step list cut.fits in
+    let cut_long : length (take step list) ≡ step = length-take-le step list cut.within in
     record {
       some = (let s = cut.some in omega (arith, s, cut_long));
       divides = ap (λ (n : ℕ). jobs_of graph i % n) cut_long ∙ ap (λ (n : ℕ). n % step) (sym long) ∙ cut.divides;
       each = λ p below.
-          (let r = cut_repeats list step cut.some cut.fits cut.divides cut.serves cut.none_less p in
+          (let r = cut_repeats list step cut p in
           let x : slice_get (take step list) (p % length (take step list)) ≡ Some (slice_index_or (take step list) (p % length (take step list)) no_window) =
           slice_get-get_or (take step list) (p % length (take step list)) no_window (mod_below p (length (take step list)) (let s = cut.some in omega (arith, s, cut_long))) in
           let inner : p % length list ≡ p = mod-eq_of_lt (omega (arith, below, long)) in
           let y : slice_get list (p % length list) ≡ Some (slice_index_or list p no_window) =
           ap (λ (k : ℕ). slice_get list k) inner ∙ slice_get-get_or list p no_window (omega (arith, below, long)) in
           one_window (slice_index_or (take step list) (p % length (take step list)) no_window) (slice_index_or list p no_window) (sym x ∙ r ∙ y) ∙ each p below);
-      short = cut_is_shortest list step cut.some cut.fits cut.divides cut.serves cut.none_less;
+      short = cut_is_shortest list step cut;
     }
   where
     one_window : (a b : Window) → Some a ≡ Some b → a ≡ b

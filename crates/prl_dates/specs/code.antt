@@ -4,3 +4,4 @@ pub mod Families
 pub mod Lanes
 pub mod Tables
 pub mod Windows
+pub mod Runs

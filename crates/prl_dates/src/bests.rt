@@ -15,6 +15,7 @@ use crate::DateFault;
 use crate::lanes::Lane;
 use crate::numbers::{jobs_before, jobs_of};
 use crate::rounds::{round, rounds};
+use crate::runs::push_times;
 use prl_base::TaskNo;
 use prl_plan::TaskGraph;
 use std::alloc::{AllocError, Global};
@@ -36,16 +37,6 @@ fn first_of(graph: &TaskGraph, first: First, i: u32) -> u64
         First::Wcet => u64::from(task.wcet),
         First::Due => task.due,
     }
-}
-
-/// Adds the value so many times.
-fn push_times(table: &mut Vec<u64>, value: u64, count: u64) -> Result<(), AllocError>
-    ensures { IfOk result (λ done. table.new.items ≡ table.old.items ++ replicate count value) }
-{
-    for _ in 0..count {
-        table.push(value)?;
-    }
-    Ok(())
 }
 
 /// The table of the first dates.

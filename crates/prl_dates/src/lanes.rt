@@ -6,14 +6,14 @@ ghost use Rattle.std.specs.Int.{int_max};
 ghost use Rattle.prl_plan.specs.declared.graphs.Edge.{Edge};
 ghost use Rattle.prl_plan.specs.Graphs.{IsWellFormed};
 ghost use Rattle.prl_plan.specs.Jobs.{task_at, release_of};
-ghost use Rattle.prl_plan.specs.Precedence.{preceding, ComesFrom};
-ghost use Rattle.prl_plan.specs.Ranges.{PrecedingFits};
+ghost use Rattle.prl_plan.specs.Precedence.{ComesFrom};
 ghost use Rattle.prl_dates.specs.Faults.{jobs_of};
 ghost use Rattle.prl_dates.specs.code.Lanes.{Joins, AreGreatest, IsGreatestBefore, JoinsAt, IsLinkOf, IsLane, AreLanes, IsJoined, AreLanesOf};
-ghost use Rattle.prl_dates.specs.code.Indices.{index_of};
+ghost use Rattle.prl_dates.specs.code.Indices.{jobs_before};
 
-use crate::numbers::{jobs_before, jobs_of, place_in, preceding_job, release};
-use prl_base::{Op, Seq, TaskNo};
+use crate::numbers::{jobs_before, jobs_of, place_in, release};
+use crate::runs::numbers_over;
+use prl_base::{Seq, TaskNo};
 use prl_plan::{Edge, Producer, TaskGraph};
 use std::alloc::{AllocError, Global};
 
@@ -36,29 +36,14 @@ pub(crate) struct Lane {
     pub links: Seq<Link>,
 }
 
-/// The numbers of the jobs that precede the first `jobs` jobs over these operators.
-fn numbers_over(alloc: Global, ops: &[Op], jobs: u64) -> Result<Vec<i64>, AllocError>
-    requires fits { (n : ℕ) → n < jobs → PrecedingFits ops.now (pos n) }
-    requires few { jobs < 2 ^ 32 }
-    ensures long { IfOk result (λ v. length v.items ≡ jobs) }
-    ensures each { IfOk result (λ v. (n : ℕ) → n < jobs → slice_index_or v.items n (pos 0) ≡ preceding ops.now (pos n)) }
-{
-    let mut numbers = Vec::with_capacity(alloc, jobs as usize)?;
-    for n in 0..jobs {
-        numbers.push(preceding_job(ops, n as i64))?;
-    }
-    Ok(numbers)
-}
-
-/// Raises each number to that of the job that precedes over these operators.
-fn raise(numbers: &mut [i64], ops: &[Op])
-    requires fits { (n : ℕ) → n < length numbers.old → PrecedingFits ops.now (pos n) }
-    requires few { length numbers.old < 2 ^ 32 }
+/// Raises each number to the other at its place.
+fn raise(numbers: &mut [i64], others: &[i64])
+    requires { length others.now ≡ length numbers.old }
     ensures long { length numbers.new ≡ length numbers.old }
-    ensures each { (n : ℕ) → n < length numbers.old → slice_index_or numbers.new n (pos 0) ≡ int_max (slice_index_or numbers.old n (pos 0)) (preceding ops.now (pos n)) }
+    ensures each { (n : ℕ) → n < length numbers.old → slice_index_or numbers.new n (pos 0) ≡ int_max (slice_index_or numbers.old n (pos 0)) (slice_index_or others.now n (pos 0)) }
 {
     for n in 0..numbers.len() {
-        numbers[n] = numbers[n].max(preceding_job(ops, n as i64));
+        numbers[n] = numbers[n].max(others[n]);
     }
 }
 
@@ -86,20 +71,23 @@ fn greatest(
     ensures { IfOk result (λ v. AreGreatest graph.now from.0 to.0 (length graph.now.edges) v.items) }
 {
     let edges = graph.edges.as_slice();
-    let mut numbers = numbers_over(alloc, edges[e].ops.as_slice(), jobs_of(graph, to))?;
+    let jobs = jobs_of(graph, to);
+    let mut numbers = numbers_over(alloc, edges[e].ops.as_slice(), jobs)?;
     for edge in edges {
         if joins(edge, from, to) {
-            raise(numbers.as_mut_slice(), edge.ops.as_slice());
+            let others = numbers_over(alloc, edge.ops.as_slice(), jobs)?;
+            raise(numbers.as_mut_slice(), others.as_slice());
         }
     }
     Ok(numbers)
 }
 
-/// The link from job `before` of task `from` to job `n` of task `to`.
-fn link_of(graph: &TaskGraph, from: TaskNo, to: TaskNo, n: u64, before: i64) -> Link
+/// The link from job `before` of task `from`, whose job 0 has index `first`, to job `n` of task `to`.
+fn link_of(graph: &TaskGraph, from: TaskNo, to: TaskNo, first: u64, n: u64, before: i64) -> Link
     requires well { IsWellFormed graph.now }
     requires from { from.0 < length graph.now.tasks }
     requires to { to.0 < length graph.now.tasks }
+    requires first { first ≡ jobs_before graph.now from.0 }
     requires job { n < jobs_of graph.now to.0 }
     requires greatest { IsGreatestBefore graph.now from.0 to.0 (pos n) before }
     ensures { IsLinkOf graph.now from.0 to.0 (pos n) before result }
@@ -109,7 +97,7 @@ fn link_of(graph: &TaskGraph, from: TaskNo, to: TaskNo, n: u64, before: i64) -> 
     let earlier = release(&tasks[from.0 as usize], before);
     let later = release(&tasks[to.0 as usize], n as i64);
     Link {
-        from: jobs_before(graph, from.0) + place,
+        from: first + place,
         gap: later.abs_diff(earlier),
     }
 }
@@ -130,9 +118,10 @@ fn links(
     ensures each { IfOk result (λ v. (n : ℕ) (link : Link) → slice_get v.items n ≡ Some link →
         IsLinkOf graph.now from.0 to.0 (pos n) (slice_index_or numbers.now n (pos 0)) link) }
 {
+    let first = jobs_before(graph, from.0);
     let mut links = Vec::with_capacity(alloc, numbers.len())?;
     for n in 0..numbers.len() {
-        links.push(link_of(graph, from, to, n as u64, numbers[n]))?;
+        links.push(link_of(graph, from, to, first, n as u64, numbers[n]))?;
     }
     Ok(links)
 }

@@ -10,6 +10,7 @@ mod latest;
 mod laws;
 mod numbers;
 mod rounds;
+mod runs;
 mod windows;
 
 pub use encoding::encode;

@@ -1,46 +1,17 @@
 //! Windows of the jobs of a hyperperiod, as shortest lists that repeat.
 
-ghost use Rattle.std.specs.Prelude.{◌≡◌, ◌+◌, ◌-◌, ◌%◌, ◌<◌, ◌≤◌, ◌↔◌, ℕ, length, IfOk, IsTrue, slice_index, slice_index_or};
+ghost use Rattle.std.specs.Prelude.{◌≡◌, ◌+◌, ◌<◌, ◌≤◌, ℕ, length, IfOk, slice_index, slice_index_or};
 ghost use Rattle.prl_plan.specs.Dates.{no_window};
 ghost use Rattle.prl_plan.specs.Graphs.{IsWellFormed, jobs_in_hyperperiod};
 ghost use Rattle.prl_plan.specs.Jobs.{task_at};
-ghost use Rattle.prl_plan.proofs.ShortestRepeats.{ComesWithin};
 ghost use Rattle.prl_dates.specs.Faults.{jobs_of};
 ghost use Rattle.prl_dates.specs.code.Indices.{jobs_before};
-ghost use Rattle.prl_dates.specs.code.Windows.{window_of, IsCut, AreWindowsOf, AreWindows};
+ghost use Rattle.prl_dates.specs.code.Windows.{window_of, AreWindowsOf, AreWindows};
 
 use crate::numbers::{jobs_before, jobs_of, wcet_of};
 use prl_base::{Seq, TaskNo};
-use prl_plan::{TaskGraph, Window};
+use prl_plan::{TaskGraph, Window, shortest_repeat};
 use std::alloc::{AllocError, Global};
-
-/// Whether so many places later the same window stands, as far as the list goes.
-fn comes_within(list: &[Window], step: usize) -> bool
-    requires { step ≤ length list.now }
-    ensures { IsTrue result ↔ ComesWithin list.now step }
-{
-    for i in 0..list.len() - step {
-        let here = list[i];
-        let there = list[i + step];
-        if there.lead != here.lead || there.tail != here.tail {
-            return false;
-        }
-    }
-    true
-}
-
-/// The length of the shortest list that repeats as this one does.
-fn shortest(list: &[Window]) -> usize
-    requires { 1 ≤ length list.now }
-    ensures { IsCut list.now result }
-{
-    for step in 1..list.len() {
-        if list.len() % step == 0 && comes_within(list, step) {
-            return step;
-        }
-    }
-    list.len()
-}
 
 /// The windows of the task's jobs in a hyperperiod.
 fn all_windows(
@@ -89,7 +60,7 @@ fn windows_of(
     ensures { IfOk result (AreWindowsOf graph.now bests.now tails.now i.0) }
 {
     let mut list = all_windows(alloc, graph, i, bests, tails)?;
-    let step = shortest(list.as_slice());
+    let step = shortest_repeat(list.as_slice());
     list.truncate(step);
     Ok(Seq::new(list))
 }

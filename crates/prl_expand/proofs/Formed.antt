@@ -6,6 +6,7 @@ use Rattle.std.specs.Str.{bytes_eq}
 use Rattle.std.specs.Cmp.Lexicographic.{bytes_decides}
 use Rattle.std.proofs.lemmas.List.{length-append, length-map, append_assoc, map-append}
 use Rattle.std.proofs.lemmas.Option.{slice_get-map, slice_get_within, get_or_from_slice_get}
+use Rattle.prl_base.specs.Names.{IsName}
 use Rattle.prl_base.specs.declared.numbers.FlowNo.{FlowNo}
 use Rattle.prl_base.specs.declared.values.Ty.{Ty}
 use Rattle.prl_base.specs.declared.values.Ty.TheVariants as kinds
@@ -152,11 +153,16 @@ wcet_range (d ∷ ds) (suc t) name e h =
     let later : ranges.IsCount (wcet_named ds name) = wcet_range ds t name e h.1 in
     elim (bytes_eq d.name name) as (λ b. ranges.IsCount (cond b d.wcet (wcet_named ds name))) [ true ↦ h.0.1 | false ↦ later ]
 
-devices_range : (ds : List Device) (qs : List Param) → AllAreAmong (device_names ds) qs → AllByRecursion ranges.IsDeviceInRange ds → AllByRecursion (λ (d : flats.Device). IsFactor d.1) (devices_of ds qs)
-devices_range ds [] among range = tt
-devices_range ds (q ∷ qs) among range =
+-- a device of a flat program has a name and a WCET
+abbrev IsDevice : flats.Device → Type 0
+IsDevice d = IsName d.0 × IsFactor d.1
+
+devices_range : (ds : List Device) (qs : List Param) → AllAreAmong (device_names ds) qs → AllByRecursion ranges.IsDeviceInRange ds → AllByRecursion ranges.IsParamInRange qs
+    → AllByRecursion IsDevice (devices_of ds qs)
+devices_range ds [] among range params = tt
+devices_range ds (q ∷ qs) among range params =
     let t = among_place (device_names ds) q.name among.0 in
-    (factor (wcet_named ds q.name) (wcet_range ds t.0 q.name t.1 range), devices_range ds qs among.1 range)
+    ((params.0.name, factor (wcet_named ds q.name) (wcet_range ds t.0 q.name t.1 range)), devices_range ds qs among.1 range params.1)
 
 device_name : (ds : List Device) (qs : List Param) (j : ℕ) (d : flats.Device) → slice_get (devices_of ds qs) j ≡ Some d → slice_get (map (λ (q : Param). q.name) qs) j ≡ Some d.0
 device_name ds qs j d e =
@@ -209,6 +215,7 @@ module _ (p : ProgramTree) (asked : Option (List ℕ)) (main : ℕ) (tys : List 
       let vars : List Numbered = variable_flows [] tys (first_of p main) (params_of n) env (sources ++ copies (equated n env n.eqs rights) (n.outs ++ n.locals)) in
       let var_flow = all_first (HasFlow p tys flat) vars (right_flows p tys main n env n.eqs rights) flow in
       let devices = right.devices n found in
+      let node_range = ((typed_nodes p asked main tys range typed).node main n found).range in
       let ins_of : List flats.Device = devices_of p.sensors n.ins in
       let outs_of : List flats.Device = devices_of p.actuators n.outs in
       let ins_count : length ins_of ≡ length n.ins = length-map n.ins (λ (q : Param). (q.name, wcet_named p.sensors q.name)) in
@@ -217,8 +224,8 @@ module _ (p : ProgramTree) (asked : Option (List ℕ)) (main : ℕ) (tys : List 
         in_count = ins_count ∙ sym has.0 ∙ sym (length-map ins flow_no);
         out_count = outs_count ∙ sym has.1 ∙ sym (length-map outs flow_no);
         devices = (
-          λ k d found_d. at_place (λ (x : flats.Device). IsFactor x.1) (ins_of ++ outs_of) k d
-              (all_both (λ (x : flats.Device). IsFactor x.1) ins_of outs_of (devices_range p.sensors n.ins devices.sensors range.sensors) (devices_range p.actuators n.outs devices.actuators range.actuators)) found_d,
+          λ k d found_d. at_place IsDevice (ins_of ++ outs_of) k d
+              (all_both IsDevice ins_of outs_of (devices_range p.sensors n.ins devices.sensors range.sensors node_range.ins) (devices_range p.actuators n.outs devices.actuators range.actuators node_range.outs)) found_d,
           λ j k c d at_c at_d same_name.
               let first = device_there n ins_count j c at_c in
               let second = device_there n ins_count k d at_d in

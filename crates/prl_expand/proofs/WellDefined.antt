@@ -3,6 +3,7 @@ use Rattle.std.proofs.Common.{◌≡◌, ◌<◌, ◌+◌, ℕ, zero, suc, List,
 use Rattle.std.specs.List.{AllByRecursion}
 use Rattle.std.specs.Str.{bytes_eq}
 use Rattle.std.specs.Cmp.Lexicographic.{bytes_decides}
+use Rattle.prl_base.specs.Operators.{IsOperatorFor}
 use Rattle.prl_base.specs.declared.operators.Op.{Op}
 use Rattle.prl_base.specs.declared.operators.Op.TheVariants as ops
 use Rattle.prl_base.specs.declared.places.Span.{Span}
@@ -15,7 +16,7 @@ use Rattle.prl_ast.specs.declared.expressions.PlacedOp.{PlacedOp}
 use Rattle.prl_ast.specs.Trees.{NodeTree, ProgramTree}
 use Rattle.prl_flow.specs.declared.programs.App.{App}
 use Rattle.prl_flow.specs.declared.programs.Def.{Def}
-use Rattle.prl_flow.specs.Programs.{FlatProgram, HasType, FitsType, IsWellDefined, IsNoted}
+use Rattle.prl_flow.specs.Programs.{FlatProgram, HasType, IsWellDefined, IsNoted}
 use Rattle.prl_types.specs.declared.terms.Flow.{Flow as TermFlow}
 use Rattle.prl_types.specs.declared.terms.Rule.{Rule as TypeRule}
 use Rattle.prl_types.specs.declared.terms.Term.{Term}
@@ -43,28 +44,28 @@ pub record AreTypedNodes (p : ProgramTree) (tys : Types) : Type 0 where
   pub node : (k : ℕ) (n : NodeTree) → slice_get p.nodes k ≡ Some n → IsTypedNode p tys k n
   pub imports : AllByRecursion ranges.IsImportInRange p.imports
 
-postfix_fits : (ty : Ty) (o : Op) → ranges.IsPostfix o → FitsType ty o
+postfix_fits : (ty : Ty) (o : Op) → ranges.IsPostfix o → IsOperatorFor ty o
 postfix_fits ty (ops.Fby c) h = absurd h
 postfix_fits ty (ops.Cons c) h = absurd h
 postfix_fits ty ops.Tail h = absurd h
-postfix_fits ty (ops.Up k) h = (h.0, omega (arith, h.1))
-postfix_fits ty (ops.Down k) h = (h.0, omega (arith, h.1))
+postfix_fits ty (ops.Up k) h = h
+postfix_fits ty (ops.Down k) h = h
 postfix_fits ty (ops.Shift q) h = (h.0.positive, h.1)
 
-prefix_fits : (tys : Types) (of : Term) (at : ℕ) (o : Op) → ranges.IsPrefix o → AllMet tys (typing.constant_rule of at o) → FitsType (resolved tys of) o
-prefix_fits tys of at (ops.Fby c) h met = sym met.0
-prefix_fits tys of at (ops.Cons c) h met = sym met.0
+prefix_fits : (tys : Types) (of : Term) (at : ℕ) (o : Op) → ranges.IsPrefix o → AllMet tys (typing.constant_rule of at o) → IsOperatorFor (resolved tys of) o
+prefix_fits tys of at (ops.Fby c) h met = (sym met.0, h)
+prefix_fits tys of at (ops.Cons c) h met = (sym met.0, h)
 prefix_fits tys of at ops.Tail h met = tt
 prefix_fits tys of at (ops.Up k) h met = absurd h
 prefix_fits tys of at (ops.Down k) h met = absurd h
 prefix_fits tys of at (ops.Shift q) h met = absurd h
 
-pub postfixes_fit : (ty : Ty) (os : List PlacedOp) → AllByRecursion (λ (o : PlacedOp). ranges.IsPostfix o.op) os → AllByRecursion (λ (o : PlacedOp). FitsType ty o.op) os
+pub postfixes_fit : (ty : Ty) (os : List PlacedOp) → AllByRecursion (λ (o : PlacedOp). ranges.IsPostfix o.op) os → AllByRecursion (λ (o : PlacedOp). IsOperatorFor ty o.op) os
 postfixes_fit ty [] h = tt
 postfixes_fit ty (o ∷ os) h = (postfix_fits ty o.op h.0, postfixes_fit ty os h.1)
 
 pub prefixes_fit : (tys : Types) (of : Term) (os : List PlacedOp) → AllByRecursion (λ (o : PlacedOp). ranges.IsPrefix o.op) os → AllMet tys (typing.constant_rules of os)
-    → AllByRecursion (λ (o : PlacedOp). FitsType (resolved tys of) o.op) os
+    → AllByRecursion (λ (o : PlacedOp). IsOperatorFor (resolved tys of) o.op) os
 prefixes_fit tys of [] h met = tt
 prefixes_fit tys of (o ∷ os) h met = (
   prefix_fits tys of o.at.at o.op h.0 (all_second (Met tys) (typing.constant_rules of os) (typing.constant_rule of o.at.at o.op) met),
@@ -110,7 +111,7 @@ module _ (p : ProgramTree) (tys : Types) (flat : FlatProgram) where
   have_second (k ∷ ks) ls [] vs e h = absurd (omega (arith, e))
   have_second (k ∷ ks) ls (a ∷ us) vs e h = have_second ks ls us vs (omega (arith, e)) h.1
 
-  pub operators_sound : (ty : Ty) (os : List PlacedOp) (is of : List ℕ) → AllByRecursion (λ (o : PlacedOp). FitsType ty o.op) os → (0 < length os → HaveKind p tys flat ty of)
+  pub operators_sound : (ty : Ty) (os : List PlacedOp) (is of : List ℕ) → AllByRecursion (λ (o : PlacedOp). IsOperatorFor ty o.op) os → (0 < length os → HaveKind p tys flat ty of)
       → AllByRecursion (HasFlow p tys flat) (operator_flows ty os is of) → AllByRecursion IsSoundFlow (operator_flows ty os is of)
   operators_sound ty [] is of fits kind flow = tt
   operators_sound ty (o ∷ os) [] of fits kind flow = tt

@@ -18,7 +18,8 @@ use Rattle.prl_ast.specs.Trees.{Tree, tree, Root, const, var, apply, group, Tree
 use Rattle.prl_flow.specs.declared.programs.App.{App}
 use Rattle.prl_flow.specs.declared.programs.Arg.{Arg}
 use Rattle.prl_flow.specs.declared.programs.Def.{Def}
-use Rattle.prl_flow.specs.Programs.{FlatProgram, HasType, FitsType, IsWellDefined, IsApplication, IsOutput}
+use Rattle.prl_base.specs.Operators.{IsOperatorFor}
+use Rattle.prl_flow.specs.Programs.{FlatProgram, HasType, IsWellDefined, IsApplication, IsOutput}
 use Rattle.prl_flow.specs.Rules.{Rule}
 use Rattle.prl_flow.proofs.Lists.{slice_get_append_left}
 use Rattle.prl_names.specs.declared.lookups.Callee.{Callee}
@@ -211,7 +212,7 @@ module _ (p : ProgramTree) (tys : Types) (flat : FlatProgram) where
             all_both (IsSoundFlow p tys flat) a (b ++ c) r.0
                 (all_both (IsSoundFlow p tys flat) b c
                 (operators_sound p tys flat ty post posts of (postfixes_fit ty post range.2) (λ some. kinds (one ∙ postfix_one needed post back some)) post_flow)
-                (operators_sound p tys flat ty (reverse pre) (reverse pres) (last_of of posts) (all_reverse (λ (o : PlacedOp). FitsType ty o.op) pre (prefixes_fit tys (flows.operand terms_of) pre range.0 pre_met))
+                (operators_sound p tys flat ty (reverse pre) (reverse pres) (last_of of posts) (all_reverse (λ (o : PlacedOp). IsOperatorFor ty o.op) pre (prefixes_fit tys (flows.operand terms_of) pre range.0 pre_met))
                 (λ some. last_kind p tys flat ty of posts (kinds (one ∙ one_before needed pre post front back (omega (arith, some, length-reverse pre)))) posts_kind) pre_flow)),
             r.1,
           )
@@ -244,6 +245,7 @@ module _ (p : ProgramTree) (tys : Types) (flat : FlatProgram) where
           let range_of = import_range known_types.imports callee (length outs) h.0 in
           let many : length outs ≡ length ports = import_ports p callee (length outs) h.0 in
           let application : IsApplication flat x call = record {
+            name = range.0;
             wcet = factor (wcet_of (import_at p callee)) range_of.0;
             args = λ j arg e.
                 let number_at : slice_get (map (λ (u : Arg). u.flow.0) (arguments n env args parts)) j ≡ Some arg.flow.0 =

@@ -9,13 +9,14 @@ use Rattle.prl_base.specs.declared.operators.Op.TheVariants as operators
 use Rattle.prl_base.specs.declared.numbers.FlowNo.{FlowNo}
 use Rattle.prl_base.specs.declared.values.Ty.{Ty}
 use Rattle.prl_base.specs.declared.values.Value.{Value}
+use Rattle.prl_base.specs.Operators.{IsOperatorFor}
 use Rattle.prl_base.specs.Values.{type_of}
 use Rattle.prl_body.specs.declared.bodies.CheckedBody.{CheckedBody}
 use Rattle.prl_flow.specs.declared.programs.Def.{Def}
 use Rattle.prl_flow.specs.declared.programs.Def.TheVariants as definitions
 use Rattle.prl_flow.specs.declared.programs.Flow.{Flow}
 use Rattle.prl_flow.specs.Flows.{IsUpTo, value_at, value_of_operator}
-use Rattle.prl_flow.specs.Programs.{FlatProgram, FitsType, HasType, IsWellDefined}
+use Rattle.prl_flow.specs.Programs.{FlatProgram, HasType, IsWellDefined}
 use Rattle.prl_flow.specs.Progress.{HaveTypeOf}
 use Rattle.prl_flow.specs.Rows.{Rows, rows_of}
 use Rattle.prl_flow.specs.Solutions.{MeetsDefinition, clock_of, values_of}
@@ -27,12 +28,12 @@ type_of_choice : (b : Bool) (c v : Value) (other : Option Value) (ty : Ty) → t
 type_of_choice true c v other ty first rest is = let same : c ≡ v = cc in ap type_of (sym same) ∙ first
 type_of_choice false c v other ty first rest is = rest is
 
-type_of_operator : (op : Op) (x : Clock) (values : List Value) (first t : ℕ) (v : Value) (ty : Ty) → FitsType ty op
+type_of_operator : (op : Op) (x : Clock) (values : List Value) (first t : ℕ) (v : Value) (ty : Ty) → IsOperatorFor ty op
     → ((n : ℕ) (u : Value) → slice_get values n ≡ Some u → type_of u ≡ ty) → value_of_operator op x values first t ≡ Some v → type_of v ≡ ty
 type_of_operator (operators.Fby c) x values first t v ty fits typed is =
-    type_of_choice (t == first) c v (value_at x values (t - x.period)) ty fits (λ e. typed _ v e) is
+    type_of_choice (t == first) c v (value_at x values (t - x.period)) ty fits.0 (λ e. typed _ v e) is
 type_of_operator (operators.Cons c) x values first t v ty fits typed is =
-    type_of_choice (t == first) c v (value_at x values t) ty fits (λ e. typed _ v e) is
+    type_of_choice (t == first) c v (value_at x values t) ty fits.0 (λ e. typed _ v e) is
 type_of_operator operators.Tail x values first t v ty fits typed is = typed _ v is
 type_of_operator (operators.Up k) x values first t v ty fits typed is = typed _ v is
 type_of_operator (operators.Down k) x values first t v ty fits typed is = typed _ v is

@@ -1,9 +1,9 @@
 -- Flat programs.
-use Rattle.std.specs.Prelude.{◌≡◌, ◌≤◌, ◌<◌, ◌^◌, ◌++◌, ℕ, pos, ◌≤ℤ◌, List, [], length, Some, slice_get, slice_index_or}
-use Rattle.prl_base.specs.Values.{IsOfType, type_of}
+use Rattle.std.specs.Prelude.{◌≡◌, ◌≤◌, ◌<◌, ◌^◌, ◌++◌, ℕ, List, [], length, Some, slice_get, slice_index_or}
+use Rattle.prl_base.specs.Names.{IsName}
+use Rattle.prl_base.specs.Operators.{IsOperatorFor}
+use Rattle.prl_base.specs.Values.{IsOfType}
 use Rattle.prl_base.specs.declared.values.Ty.{Ty}
-use Rattle.prl_base.specs.declared.operators.Op.{Op}
-use Rattle.prl_base.specs.declared.operators.Op.TheVariants as operators
 use Rattle.prl_base.specs.declared.numbers.FlowNo.{FlowNo}
 use Rattle.prl_ast.specs.InRange.{IfThere, IsDue, IsRate}
 use Rattle.prl_flow.specs.declared.programs.App.{App}
@@ -31,18 +31,9 @@ name_of devices k = (slice_index_or devices k ([], 0)).0
 abbrev pub wcet_of : List Device → ℕ → ℕ
 wcet_of devices k = (slice_index_or devices k ([], 0)).1
 
--- in the range of factors, WCETs and periods: 1 to 2^31 - 1
+-- in the range of WCETs and periods: 1 to 2^31 - 1
 abbrev pub IsFactor : ℕ → Type 0
 IsFactor k = (1 ≤ k) × (k < 2 ^ 31)
-
--- the operator may stand on a flow of this type
-abbrev pub FitsType : Ty → Op → Type 0
-FitsType ty (operators.Fby c) = type_of c ≡ ty
-FitsType ty (operators.Cons c) = type_of c ≡ ty
-FitsType ty operators.Tail = Unit {0}
-FitsType ty (operators.Up k) = IsFactor k
-FitsType ty (operators.Down k) = IsFactor k
-FitsType ty (operators.Shift q) = (1 ≤ q.den) × (pos 0 ≤ℤ q.num)
 
 -- the flow of this number has the type
 abbrev pub HasType : FlatProgram → Ty → FlowNo → Type 0
@@ -55,7 +46,7 @@ IsWellDefined p i ty (definitions.Copy of) = HasType p ty of
 IsWellDefined p i ty (definitions.Const c) = IsOfType ty c
 IsWellDefined p i ty (definitions.Apply app out) =
     (a : App) × (slice_get p.apps app ≡ Some a) × (slice_get a.outs out ≡ Some (record { 0 = i }))
-IsWellDefined p i ty (definitions.Op op of) = HasType p ty of × FitsType ty op
+IsWellDefined p i ty (definitions.Op op of) = HasType p ty of × IsOperatorFor ty op
 
 -- the k-th input is the flow of the k-th sensor
 abbrev pub IsInput : FlatProgram → ℕ → FlowNo → Type 0
@@ -67,15 +58,16 @@ IsOutput p k out flow = (f : Flow) × (slice_get p.flows flow.0 ≡ Some f) × (
 
 -- the application of number k names flows that are there, and its outputs, of which it has one or more, are its own
 pub record IsApplication (p : FlatProgram) (k : ℕ) (app : App) : Type 0 where
+  pub name : IsName app.name
   pub wcet : IsFactor app.wcet
   pub args : (j : ℕ) (arg : Arg) → slice_get app.args j ≡ Some arg → arg.flow.0 < length p.flows
   pub outs : (j : ℕ) (flow : FlowNo) → slice_get app.outs j ≡ Some flow → IsOutput p k j flow
   pub has_output : 1 ≤ length app.outs
 
--- the devices have names of their own and WCETs
+-- the devices have names, each one of its own, and WCETs
 abbrev pub AreDevices : List Device → Type 0
 AreDevices devices =
-    ((k : ℕ) (d : Device) → slice_get devices k ≡ Some d → IsFactor d.1)
+    ((k : ℕ) (d : Device) → slice_get devices k ≡ Some d → IsName d.0 × IsFactor d.1)
     × ((j k : ℕ) (c d : Device) → slice_get devices j ≡ Some c → slice_get devices k ≡ Some d → c.0 ≡ d.0 → j ≡ k)
 
 -- the rate and the due of a flow, where it has them, are in their ranges

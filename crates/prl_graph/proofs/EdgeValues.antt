@@ -2,7 +2,7 @@
 use Rattle.std.proofs.Common.{◌≡◌, ◌<◌, ℕ, List, length, slice_get, Option, Some, refl, sym, ◌∙◌, ap, subst, arith}
 use Rattle.std.proofs.lemmas.Option.{slice_get_within}
 use Rattle.prl_base.specs.Clocks.{date_at}
-use Rattle.prl_base.specs.Operators.{instance, constant, origin_of}
+use Rattle.prl_base.specs.Operators.{IsOperatorFor, constant, instance, origin_of}
 use Rattle.prl_base.specs.declared.numbers.FlowNo.{FlowNo}
 use Rattle.prl_base.specs.declared.operators.Clock.{Clock}
 use Rattle.prl_base.specs.declared.operators.Op.{Op}
@@ -15,7 +15,7 @@ use Rattle.prl_flow.specs.declared.programs.Def.TheVariants as definitions
 use Rattle.prl_flow.specs.declared.programs.Flow.{Flow}
 use Rattle.prl_flow.specs.Flows.{OperatorByDate}
 use Rattle.prl_flow.specs.Instances.{IsDenominated, value_from}
-use Rattle.prl_flow.specs.Programs.{FitsType, FlatProgram, IsFlat, IsWellDefined}
+use Rattle.prl_flow.specs.Programs.{FlatProgram, IsFlat, IsWellDefined}
 use Rattle.prl_flow.specs.Rows.{Rows}
 use Rattle.prl_flow.specs.Solutions.{AgreesClock, AreClocks, MeetsDefinition, Solves, clock_of, values_of}
 use Rattle.prl_flow.proofs.ClockDates.{value_at_date, value_of_operator_date}
@@ -36,7 +36,7 @@ abbrev pub value_by : List Value → Operand → Option Value
 value_by values (operands.Const c) = Some c
 value_by values (operands.From m) = slice_get values m
 
-denominated : (ty : Ty) (op : Op) → FitsType ty op → IsDenominated op
+denominated : (ty : Ty) (op : Op) → IsOperatorFor ty op → IsDenominated op
 denominated ty (operators.Fby c) fits = tt
 denominated ty (operators.Cons c) fits = tt
 denominated ty operators.Tail fits = tt

@@ -7,21 +7,13 @@ use Rattle.prl_base.specs.declared.operators.Op.{Op}
 use Rattle.prl_base.specs.declared.operators.Op.TheVariants as operators
 use Rattle.prl_base.specs.declared.values.Ty.{Ty}
 use Rattle.prl_flow.specs.declared.programs.Flow.{Flow}
-use Rattle.prl_flow.specs.Programs.{FitsType, FlatProgram, IsFlat, IsWellDefined}
+use Rattle.prl_flow.specs.Programs.{FlatProgram, IsFlat, IsWellDefined}
 use Rattle.prl_flow.specs.Solutions.{AgreesClock, AreClocks, clock_of}
 use Rattle.prl_plan.specs.Graphs.{TakeClock}
 use Rattle.prl_graph.specs.Edges.{LeadsBack}
 use Rattle.prl_graph.specs.Edges as ways
 use Rattle.prl_graph.specs.Hyperperiods.{IsCommonMultiple}
 use Rattle.prl_graph.specs.code.Made.{FitOperators, FitsOperator}
-
-operator_fits : (ty : Ty) (op : Op) → FitsType ty op → FitsOperator op → IsOperatorFor ty op
-operator_fits ty (operators.Fby c) has fits = (has, fits)
-operator_fits ty (operators.Cons c) has fits = (has, fits)
-operator_fits ty operators.Tail has fits = tt
-operator_fits ty (operators.Up k) has fits = (let high = has.1 in let e : k ≤ 2147483647 = omega arith in (has.0, e))
-operator_fits ty (operators.Down k) has fits = (let high = has.1 in let e : k ≤ 2147483647 = omega arith in (has.0, e))
-operator_fits ty (operators.Shift q) has fits = has
 
 module _ (p : FlatProgram) (clocks : List Clock) (flat : IsFlat p) (are : AreClocks p clocks) where
   pub clock_found : (i : ℕ) → i < length p.flows → slice_get clocks i ≡ Some (clock_of clocks i)
@@ -70,7 +62,7 @@ operators_fit p flat i j ops (ways.copy k l rest h by found def way) ty typed fi
 operators_fit p flat i j ops (ways.operator k l rest h first by found def way) ty typed fit zero op at =
     let defined = subst (λ d. IsWellDefined p k h.ty d) def (flat.flows k h found) in
     let same : first ≡ op = cc in
-    subst (λ o. IsOperatorFor ty o) same (operator_fits ty first (subst (λ t. FitsType t first) (typed h found) defined.1) (fit zero first refl))
+    subst (λ o. IsOperatorFor ty o) same (subst (λ t. IsOperatorFor t first) (typed h found) defined.1)
 operators_fit p flat i j ops (ways.operator k l rest h first by found def way) ty typed fit (suc m) op at =
     let defined = subst (λ d. IsWellDefined p k h.ty d) def (flat.flows k h found) in
     operators_fit p flat by.0 l rest way ty

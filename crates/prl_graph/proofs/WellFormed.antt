@@ -96,7 +96,7 @@ module _ (p : FlatProgram) (clocks : List Clock) (flat : IsFlat p) (are : AreClo
       subst IsRightTask (sym is.is) (record {
         clock = right_clock is.flow.0 below;
         due = device_due_within is.flow.0 below;
-        wcet = flat.devices.0 i (slice_index_or p.in_devices i ([], 0)) (sensor_device p flat i is.flow is.found);
+        wcet = (flat.devices.0 i (slice_index_or p.in_devices i ([], 0)) (sensor_device p flat i is.flow is.found)).1;
       })
   right_task i task (node is) =
       let right = application_right is.number is.app is.found in
@@ -111,7 +111,7 @@ module _ (p : FlatProgram) (clocks : List Clock) (flat : IsFlat p) (are : AreClo
       subst IsRightTask (sym is.is) (record {
         clock = right_clock is.flow.0 below;
         due = device_due_within is.flow.0 below;
-        wcet = flat.devices.0 (length p.ins + is.number) (slice_index_or p.out_devices is.number ([], 0)) (actuator_device p flat is.number is.flow is.found);
+        wcet = (flat.devices.0 (length p.ins + is.number) (slice_index_or p.out_devices is.number ([], 0)) (actuator_device p flat is.number is.flow is.found)).1;
       })
 
   task_is : (i : ℕ) (task : Task) → slice_get g.tasks i ≡ Some task → IsTaskName task.kind task.name → IsTask g.hyper task

@@ -5,7 +5,6 @@ pub mod WordNumbers
 pub mod ReadOrder
 pub mod ShortestRepeats
 pub mod StateLaws
-pub mod TwoTasks
 pub mod WalkLaws
 pub mod UsedLaws
 pub mod RoundPeriods
@@ -29,13 +28,7 @@ mod Sound
 mod Legal
 mod Runs
 mod Counts
-mod TwoFacts
-mod TwoHorizon
 mod Actions
-mod RoundSteps
-mod IntervalLaws
-mod DeadlineLaws
-mod DeadlineSteps
 mod ActionPlaces
 mod PlanFacts
 mod ReadPlaces
@@ -48,7 +41,6 @@ mod Examples
 mod WorkedGraphs
 mod WorkedPlan
 mod TableMade
-mod Bests
 mod PlanNumbers
 mod DateOrder
 mod OnePlan

@@ -14,8 +14,6 @@ use Rattle.prl_base.specs.Operators.{IsOperatorFor}
 use Rattle.prl_plan.specs.Graphs.{Divides, TakeClock}
 use Rattle.prl_base.specs.Operators.{floor_div}
 use Rattle.prl_plan.specs.Precedence.{preceding}
-use Rattle.prl_plan.specs.declared.deadlines.Interval.{Interval}
-use Rattle.prl_plan.specs.Intervals.{preimage, successors}
 use Rattle.prl_plan.proofs.Floors.{floor_least, suc_is, pred_is}
 
 pub mul_plus : (k c : ℕ) (a : ℤ) → pos k *ℤ (a +ℤ pos c) ≡ (pos k *ℤ a) +ℤ pos (k * c)
@@ -126,76 +124,6 @@ preceding_shift ty hyper (operators.Fby v ∷ ops) are producer consumer takes c
     let e : c ≡ div.1.0 = times_same hyper c div.1.0 consumer.period x.period takes.0 hc div.1.1 takes.2.1.0 in
     ap (λ (z : ℕ). preceding ops (pred_ℤ (n +ℤ pos z))) e ∙ ap (λ (z : ℤ). preceding ops z) (pred_plus n div.1.0)
     ∙ preceding_shift ty hyper ops (λ j o is. are (suc j) o is) producer x takes.2.2 div.1.0 d div.1.1 hd (pred_ℤ n)
-
--- an interval moved up
-abbrev pub moved_up : ℕ → Interval → Interval
-moved_up c s = record { lowest = s.lowest +ℤ pos c; highest = s.highest +ℤ pos c }
-
-interval_is : (a b c d : ℤ) → a ≡ c → b ≡ d → (let s : Interval = record { lowest = a; highest = b } in s) ≡ (let t : Interval = record { lowest = c; highest = d } in t)
-interval_is a b c d p q = ap (λ (z : ℤ). (let s : Interval = record { lowest = z; highest = b } in s)) p ∙ ap (λ (z : ℤ). (let s : Interval = record { lowest = c; highest = z } in s)) q
-
--- the numbers that follow repeat
-pub following_shift : (ty : Ty) (hyper : ℕ) (ops : List Op) → ((k : ℕ) (op : Op) → slice_get ops k ≡ Some op → IsOperatorFor ty op) →
-    (producer consumer : Clock) → TakeClock hyper ops producer consumer → (c d : ℕ) → hyper ≡ c * consumer.period → hyper ≡ d * producer.period →
-    (m : ℤ) → successors ops (m +ℤ pos d) ≡ moved_up c (successors ops m)
-following_shift ty hyper [] are producer consumer takes c d hc hd m =
-    let e : d ≡ c = sym (times_same hyper c d consumer.period producer.period takes.0 hc hd (ap (λ (k : Clock). k.period) takes.2)) in
-    interval_is (m +ℤ pos d) (m +ℤ pos d) (m +ℤ pos c) (m +ℤ pos c) (ap (λ (z : ℕ). m +ℤ pos z) e) (ap (λ (z : ℕ). m +ℤ pos z) e)
-following_shift ty hyper (operators.Up k ∷ ops) are producer consumer takes c d hc hd m =
-    let x : Clock = takes.2.0 in
-    let div = clock_divides hyper ops producer x takes.2.2 in
-    let e : c ≡ k * div.1.0 = times_up hyper c div.1.0 consumer.period x.period k takes.0 hc div.1.1 takes.2.1.0 in
-    let s : Interval = successors ops m in
-    let low = mul_plus k div.1.0 s.lowest in
-    let high = mul_plus k div.1.0 s.highest in
-    ap (λ (z : Interval). preimage (operators.Up k) z) (following_shift ty hyper ops (λ j o is. are (suc j) o is) producer x takes.2.2 div.1.0 d div.1.1 hd m)
-    ∙ interval_is (pos k *ℤ (s.lowest +ℤ pos div.1.0)) ((pos k *ℤ (s.highest +ℤ pos div.1.0)) +ℤ pos (k - 1))
-    ((pos k *ℤ s.lowest) +ℤ pos c) (((pos k *ℤ s.highest) +ℤ pos (k - 1)) +ℤ pos c)
-    (omega (arith, ints, low, e)) (omega (arith, ints, high, e))
-following_shift ty hyper (operators.Down k ∷ ops) are producer consumer takes c d hc hd m =
-    let x : Clock = takes.2.0 in
-    let div = clock_divides hyper ops producer x takes.2.2 in
-    let e : div.1.0 ≡ k * c = times_up hyper div.1.0 c x.period consumer.period k div.0 div.1.1 hc (sym takes.2.1.0) in
-    let s : Interval = successors ops m in
-    let some : 1 ≤ k = (are 0 (operators.Down k) refl).0 in
-    let away : ℤ = neg_ℤ (s.lowest +ℤ pos div.1.0) in
-    let back : away +ℤ pos (k * c) ≡ neg_ℤ s.lowest = omega (arith, ints, e) in
-    let low : floor_div (neg_ℤ s.lowest) k ≡ floor_div away k +ℤ pos c = ap (λ (z : ℤ). floor_div z k) (sym back) ∙ floor_shift away k c some in
-    let high : floor_div (s.highest +ℤ pos div.1.0) k ≡ floor_div s.highest k +ℤ pos c = ap (λ (z : ℕ). floor_div (s.highest +ℤ pos z) k) e ∙ floor_shift s.highest k c some in
-    ap (λ (z : Interval). preimage (operators.Down k) z) (following_shift ty hyper ops (λ j o is. are (suc j) o is) producer x takes.2.2 div.1.0 d div.1.1 hd m)
-    ∙ interval_is (neg_ℤ (floor_div away k)) (floor_div (s.highest +ℤ pos div.1.0) k)
-    (neg_ℤ (floor_div (neg_ℤ s.lowest) k) +ℤ pos c) (floor_div s.highest k +ℤ pos c)
-    (omega (arith, ints, low)) high
-following_shift ty hyper (operators.Shift q ∷ ops) are producer consumer takes c d hc hd m =
-    let x : Clock = takes.2.0 in
-    let div = clock_divides hyper ops producer x takes.2.2 in
-    let e : c ≡ div.1.0 = times_same hyper c div.1.0 consumer.period x.period takes.0 hc div.1.1 takes.2.1.0 in
-    following_shift ty hyper ops (λ j o is. are (suc j) o is) producer x takes.2.2 div.1.0 d div.1.1 hd m
-    ∙ ap (λ (z : ℕ). moved_up z (successors ops m)) (sym e)
-following_shift ty hyper (operators.Tail ∷ ops) are producer consumer takes c d hc hd m =
-    let x : Clock = takes.2.0 in
-    let div = clock_divides hyper ops producer x takes.2.2 in
-    let e : c ≡ div.1.0 = times_same hyper c div.1.0 consumer.period x.period takes.0 hc div.1.1 takes.2.1.0 in
-    let s : Interval = successors ops m in
-    ap (λ (z : Interval). preimage operators.Tail z)
-    (following_shift ty hyper ops (λ j o is. are (suc j) o is) producer x takes.2.2 div.1.0 d div.1.1 hd m ∙ ap (λ (z : ℕ). moved_up z (successors ops m)) (sym e))
-    ∙ interval_is (pred_ℤ (s.lowest +ℤ pos c)) (pred_ℤ (s.highest +ℤ pos c)) (pred_ℤ s.lowest +ℤ pos c) (pred_ℤ s.highest +ℤ pos c) (pred_plus s.lowest c) (pred_plus s.highest c)
-following_shift ty hyper (operators.Cons v ∷ ops) are producer consumer takes c d hc hd m =
-    let x : Clock = takes.2.0 in
-    let div = clock_divides hyper ops producer x takes.2.2 in
-    let e : c ≡ div.1.0 = times_same hyper c div.1.0 consumer.period x.period takes.0 hc div.1.1 takes.2.1.0 in
-    let s : Interval = successors ops m in
-    ap (λ (z : Interval). preimage (operators.Cons v) z)
-    (following_shift ty hyper ops (λ j o is. are (suc j) o is) producer x takes.2.2 div.1.0 d div.1.1 hd m ∙ ap (λ (z : ℕ). moved_up z (successors ops m)) (sym e))
-    ∙ interval_is (suc_ℤ (s.lowest +ℤ pos c)) (suc_ℤ (s.highest +ℤ pos c)) (suc_ℤ s.lowest +ℤ pos c) (suc_ℤ s.highest +ℤ pos c) (suc_plus s.lowest c) (suc_plus s.highest c)
-following_shift ty hyper (operators.Fby v ∷ ops) are producer consumer takes c d hc hd m =
-    let x : Clock = takes.2.0 in
-    let div = clock_divides hyper ops producer x takes.2.2 in
-    let e : c ≡ div.1.0 = times_same hyper c div.1.0 consumer.period x.period takes.0 hc div.1.1 takes.2.1.0 in
-    let s : Interval = successors ops m in
-    ap (λ (z : Interval). preimage (operators.Fby v) z)
-    (following_shift ty hyper ops (λ j o is. are (suc j) o is) producer x takes.2.2 div.1.0 d div.1.1 hd m ∙ ap (λ (z : ℕ). moved_up z (successors ops m)) (sym e))
-    ∙ interval_is (suc_ℤ (s.lowest +ℤ pos c)) (suc_ℤ (s.highest +ℤ pos c)) (suc_ℤ s.lowest +ℤ pos c) (suc_ℤ s.highest +ℤ pos c) (suc_plus s.lowest c) (suc_plus s.highest c)
 
 -- what holds of the numbers below c, and of each number exactly where it holds c later, holds of all
 pub everywhere : (P : ℤ → Type 0) → (c : ℕ) → 1 ≤ c → ((n : ℕ) → n < c → P (pos n)) → ((m : ℤ) → P m → P (m +ℤ pos c)) → ((m : ℤ) → P (m +ℤ pos c) → P m) →

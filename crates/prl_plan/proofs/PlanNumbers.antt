@@ -12,12 +12,12 @@ use Rattle.prl_plan.specs.declared.tables.Window.{Window}
 use Rattle.prl_plan.specs.declared.walks.Operand.TheVariants as operands
 use Rattle.prl_plan.specs.Jobs.{task_at, deadline_of, IsHorizonJob}
 use Rattle.prl_plan.specs.Graphs.{IsWellFormed, IsEdge, IsTask, TakeClock}
-use Rattle.prl_plan.specs.Operands.{walk, operand_of, WalkFits}
+use Rattle.prl_plan.specs.Operands.{walk, operand_of}
 use Rattle.prl_plan.specs.Ranges.{PrecedingFits}
 use Rattle.prl_plan.specs.Dates.{AreEncodedDates, window_at, encoded_deadline}
 use Rattle.prl_plan.specs.Plans.{PlanView, HaveRoom, IsPlan, edge_at, no_edge, release_at, deadline_at}
 use Rattle.prl_plan.proofs.WalkLaws.{walked_back, operand_walks}
-use Rattle.prl_plan.proofs.WalkNumbers.{walk_fits, preceding_fits, divisor_within}
+use Rattle.prl_plan.proofs.WalkNumbers.{preceding_fits, divisor_within}
 use Rattle.prl_plan.proofs.RoundPeriods.{task_is}
 
 times_more : (n p : ℕ) → 1 ≤ p → n ≤ n * p
@@ -39,13 +39,6 @@ module _ (graph : TaskGraph) (good : IsWellFormed graph) where
       let a : length (edge_at graph e).ops * graph.hyper ≤ 2 ^ 32 * graph.hyper = mul-le-mul_right graph.hyper (omega (arith, few)) in
       let b : 2 ^ 32 * graph.hyper ≤ 2 ^ 32 * 10000000 = mul-le-mul_left (2 ^ 32) good.few_ticks in
       omega (arith, a, b)
-
-  pub walk_small : (e n : ℕ) → e < length graph.edges → n * (task_at graph (edge_at graph e).to.0).clock.period < 2 ^ 63 → WalkFits (edge_at graph e).ops n
-  walk_small e n inside small =
-      let is = edge_fact e inside in
-      let ops = operators_small e inside in
-      walk_fits graph.hyper (edge_at graph e).ops is.clocks.0 (task_at graph (edge_at graph e).to.0).clock good.hyper is.clocks.3 n
-      (2 ^ 63) (omega (arith, small)) (omega (arith, ops))
 
   pub preceding_small : (e : ℕ) (n : ℤ) → e < length graph.edges → nat_abs n * (task_at graph (edge_at graph e).to.0).clock.period ≤ 2 ^ 62 →
       PrecedingFits (edge_at graph e).ops n

@@ -17,9 +17,8 @@ use Rattle.prl_base.specs.Operators.{IsOperatorFor}
 use Rattle.prl_plan.specs.Operands.{walk, operand_from}
 use Rattle.prl_base.specs.Operators.{floor_div}
 use Rattle.prl_plan.specs.Precedence.{preceding, ComesFrom}
-use Rattle.prl_plan.specs.Intervals.{natural}
 use Rattle.prl_plan.specs.Cells.{Reads, IsUsed}
-use Rattle.prl_plan.specs.FirstReaders.{IsFirstReader, first_reader, first_instance}
+use Rattle.prl_plan.specs.FirstReaders.{IsFirstReader, first_reader, natural, first_instance}
 use Rattle.prl_plan.specs.CellTurns.{IsAsked, IsAskedFrom}
 use Rattle.prl_plan.proofs.Ceilings.{ceil_most, ceil_least}
 use Rattle.prl_plan.proofs.Floors.{floor_least, mono, suc_is, pred_is}

@@ -4,11 +4,7 @@ use Rattle.std.specs.Prelude.{slice_get}
 use Rattle.std.proofs.Math.Nat.{add-mul-mod_self_right, mod-eq_of_lt, mod-add-div'}
 use Rattle.std.proofs.lemmas.Bool.{cases_lt}
 use Rattle.std.proofs.lemmas.Nat.{mod_below}
-use Rattle.prl_plan.specs.Repeats.{repeated, ComesAgain, IsShortestRepeat}
-
--- so many places later the same stands, as far as the list goes
-abbrev pub ComesWithin : {A : Type 0} → List A → ℕ → Type 0
-ComesWithin list step = (i : ℕ) → i + step < length list → slice_get list (i + step) ≡ slice_get list i
+use Rattle.prl_plan.specs.Repeats.{repeated, ComesAgain, ComesWithin, IsShortestRepeat, IsLeastRepeat}
 
 get_take : {A : Type 0} (list : List A) (r i : ℕ) → i < r → slice_get (take r list) i ≡ slice_get list i
 get_take list zero i below = absurd (omega (arith, below))
@@ -105,23 +101,41 @@ module _ {A : Type 0} (list : List A) where
           | inr above ↦ above
         ]
 
+    pub least_repeat : IsLeastRepeat list shortest
+    least_repeat = record {
+      some = some;
+      within = fits;
+      divides = divides;
+      again = comes_again shortest some (omega (arith, some, fits)) divides serves;
+      shortest = record { least = λ step positive again. least_step step step (omega arith) positive again };
+    }
+
+  -- the whole list, where no divisor of its length serves
+  pub whole_repeat : 1 ≤ length list → ((d : ℕ) → 1 ≤ d → d < length list → length list % d ≡ 0 → ComesWithin list d → ⊥) →
+      IsLeastRepeat list (length list)
+  whole_repeat some none_less =
+      least_repeat (length list) some (omega arith)
+      (ap (λ (k : ℕ). k % length list) (let e : length list ≡ 0 + 1 * length list = omega arith in e)
+      ∙ add-mul-mod_self_right 0 1 (length list) ∙ mod-eq_of_lt (omega (arith, some)))
+      (λ i inside. absurd (omega (arith, inside))) none_less
+
+  module _ (step : ℕ) (is : IsLeastRepeat list step) where
     -- the list cut there repeats as the whole does
-    pub cut_repeats : (n : ℕ) → repeated (take shortest list) n ≡ repeated list n
+    pub cut_repeats : (n : ℕ) → repeated (take step list) n ≡ repeated list n
     cut_repeats n =
-        let long : length (take shortest list) ≡ shortest = length-take-le shortest list fits in
-        let below : n % shortest < shortest = mod_below n shortest some in
-        let whole : n % shortest + n / shortest * shortest ≡ n = mod-add-div' n shortest in
-        let again : ComesAgain list shortest = comes_again shortest some (omega (arith, some, fits)) divides serves in
-        ap (λ (k : ℕ). slice_get (take shortest list) (n % k)) long ∙ get_take list shortest (n % shortest) below
-        ∙ ap (λ (k : ℕ). slice_get list k) (sym (mod-eq_of_lt (let e : n % shortest < length list = omega (arith, below, fits) in e)))
-        ∙ sym (again_often shortest again (n / shortest) (n % shortest)) ∙ ap (λ (k : ℕ). repeated list k) whole
+        let long : length (take step list) ≡ step = length-take-le step list is.within in
+        let below : n % step < step = mod_below n step is.some in
+        let whole : n % step + n / step * step ≡ n = mod-add-div' n step in
+        ap (λ (k : ℕ). slice_get (take step list) (n % k)) long ∙ get_take list step (n % step) below
+        ∙ ap (λ (k : ℕ). slice_get list k) (sym (mod-eq_of_lt (let e : n % step < length list = (let w = is.within in omega (arith, below, w)) in e)))
+        ∙ sym (again_often step is.again (n / step) (n % step)) ∙ ap (λ (k : ℕ). repeated list k) whole
 
     -- and no shorter one does
-    pub cut_is_shortest : IsShortestRepeat (take shortest list)
+    pub cut_is_shortest : IsShortestRepeat (take step list)
     cut_is_shortest = record {
-      least = λ step positive again.
-          (let long : length (take shortest list) ≡ shortest = length-take-le shortest list fits in
-          let mine : ComesAgain list step = λ n. sym (cut_repeats (n + step)) ∙ again n ∙ cut_repeats n in
-          let least = least_step step step (omega arith) positive mine in
+      least = λ other positive again.
+          (let long : length (take step list) ≡ step = length-take-le step list is.within in
+          let mine : ComesAgain list other = λ n. sym (cut_repeats (n + other)) ∙ again n ∙ cut_repeats n in
+          let least = is.shortest.least other positive mine in
           omega (arith, long, least));
     }

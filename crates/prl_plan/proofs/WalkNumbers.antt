@@ -1,5 +1,5 @@
--- The numbers on a walk, and on the way to a preceding job, are bounded by the date of the job that they begin with and by
--- a hyperperiod for each operator.
+-- The numbers on the way to a preceding job are bounded by the date of the job that they begin with and by a hyperperiod for
+-- each operator.
 use Rattle.std.proofs.Common.{◌≡◌, ◌+◌, ◌*◌, ◌/◌, ◌<◌, ◌≤◌, ◌^◌, ℕ, zero, suc, List, [], ◌∷◌, length, refl, sym, ◌∙◌, ap, subst, arith}
 use Rattle.std.specs.Prelude.{ℤ, pos, negsuc, ◌+ℤ◌, ◌-ℤ◌, ◌*ℤ◌, neg_ℤ, nat_abs}
 use Rattle.std.proofs.Math.IntN.{pos-*ℤ-pos, pos-*ℤ-negsuc, zero-*ℤ}
@@ -11,7 +11,6 @@ use Rattle.prl_base.specs.declared.operators.Clock.{Clock}
 use Rattle.prl_base.specs.declared.operators.Op.{Op}
 use Rattle.prl_base.specs.declared.operators.Op.TheVariants as operators
 use Rattle.prl_plan.specs.Graphs.{Divides, TakeClock}
-use Rattle.prl_plan.specs.Operands.{WalkFits}
 use Rattle.prl_plan.specs.Ranges.{Fits64, PrecedingFits}
 use Rattle.prl_plan.proofs.Floors.{suc_is, pred_is}
 use Rattle.prl_plan.proofs.Periods.{clock_divides}
@@ -34,58 +33,6 @@ period_here hyper ops producer consumer some takes =
 
 pub number_within : (n p room : ℕ) → 1 ≤ p → n * p ≤ room → n ≤ room
 number_within n p room some is = (let up : n * 1 ≤ n * p = mul-le-mul_left n some in omega (arith, up, is))
-
-pub walk_fits : (hyper : ℕ) (ops : List Op) (producer consumer : Clock) → 1 ≤ hyper → TakeClock hyper ops producer consumer →
-    (n room : ℕ) → n * consumer.period ≤ room → room + length ops * hyper < 2 ^ 64 → WalkFits ops n
-walk_fits hyper [] producer consumer some takes n room is fits =
-    (let w = number_within n consumer.period room takes.0 is in let z : 0 * hyper ≡ 0 = omega arith in omega (arith, w, fits, z))
-walk_fits hyper (operators.Up k ∷ ops) producer consumer some takes n room is fits =
-    let x : Clock = takes.2.0 in
-    let here = period_here hyper ops producer x some takes.2.2 in
-    let down : n / k * k * consumer.period ≤ n * consumer.period = mul-le-mul_right consumer.period (div-mul-le_self n k) in
-    let p : n / k * (k * consumer.period) ≡ n / k * x.period = ap (λ (y : ℕ). n / k * y) takes.2.1.0 in
-    let a : n / k * (k * consumer.period) ≡ n / k * k * consumer.period = omega arith in
-    let l : suc (length ops) * hyper ≡ length ops * hyper + hyper = omega arith in (
-      factor_some k consumer.period x.period here.0 takes.2.1.0,
-      walk_fits hyper ops producer x some takes.2.2 (n / k) room (omega (arith, down, p, a, is)) (omega (arith, l, fits)),
-    )
-walk_fits hyper (operators.Down k ∷ ops) producer consumer some takes n room is fits =
-    let x : Clock = takes.2.0 in
-    let here = period_here hyper ops producer x some takes.2.2 in
-    let p : n * consumer.period ≡ n * (k * x.period) = ap (λ (y : ℕ). n * y) takes.2.1.0 in
-    let a : n * (k * x.period) ≡ k * n * x.period = omega arith in
-    let within : k * n * x.period ≤ room = omega (arith, p, a, is) in
-    let l : suc (length ops) * hyper ≡ length ops * hyper + hyper = omega arith in
-    let w = number_within (k * n) x.period room here.0 within in
-    (omega (arith, w, fits), walk_fits hyper ops producer x some takes.2.2 (k * n) room within (omega (arith, l, fits)))
-walk_fits hyper (operators.Shift q ∷ ops) producer consumer some takes n room is fits =
-    let x : Clock = takes.2.0 in
-    let p : n * consumer.period ≡ n * x.period = ap (λ (y : ℕ). n * y) takes.2.1.0 in
-    let l : suc (length ops) * hyper ≡ length ops * hyper + hyper = omega arith in
-    walk_fits hyper ops producer x some takes.2.2 n room (omega (arith, p, is)) (omega (arith, l, fits))
-walk_fits hyper (operators.Tail ∷ ops) producer consumer some takes n room is fits =
-    let x : Clock = takes.2.0 in
-    let here = period_here hyper ops producer x some takes.2.2 in
-    let p : n * consumer.period ≡ n * x.period = ap (λ (y : ℕ). n * y) takes.2.1.0 in
-    let a : (n + 1) * x.period ≡ n * x.period + x.period = omega arith in
-    let l : suc (length ops) * hyper ≡ length ops * hyper + hyper = omega arith in
-    let within : (n + 1) * x.period ≤ room + hyper = omega (arith, p, a, is, here.1) in
-    let w = number_within (n + 1) x.period (room + hyper) here.0 within in
-    (omega (arith, w, fits, l), walk_fits hyper ops producer x some takes.2.2 (n + 1) (room + hyper) within (omega (arith, l, fits)))
-walk_fits hyper (operators.Cons c ∷ ops) producer consumer some takes zero room is fits = tt
-walk_fits hyper (operators.Cons c ∷ ops) producer consumer some takes (suc n) room is fits =
-    let x : Clock = takes.2.0 in
-    let p : suc n * consumer.period ≡ suc n * x.period = ap (λ (y : ℕ). suc n * y) takes.2.1.0 in
-    let a : suc n * x.period ≡ n * x.period + x.period = omega arith in
-    let l : suc (length ops) * hyper ≡ length ops * hyper + hyper = omega arith in
-    walk_fits hyper ops producer x some takes.2.2 n room (omega (arith, p, a, is)) (omega (arith, l, fits))
-walk_fits hyper (operators.Fby c ∷ ops) producer consumer some takes zero room is fits = tt
-walk_fits hyper (operators.Fby c ∷ ops) producer consumer some takes (suc n) room is fits =
-    let x : Clock = takes.2.0 in
-    let p : suc n * consumer.period ≡ suc n * x.period = ap (λ (y : ℕ). suc n * y) takes.2.1.0 in
-    let a : suc n * x.period ≡ n * x.period + x.period = omega arith in
-    let l : suc (length ops) * hyper ≡ length ops * hyper + hyper = omega arith in
-    walk_fits hyper ops producer x some takes.2.2 n room (omega (arith, p, a, is)) (omega (arith, l, fits))
 
 -- sizes of whole numbers
 fits_64 : (z : ℤ) → nat_abs z < 2 ^ 63 → Fits64 z

@@ -1,7 +1,6 @@
--- Words repeat with the hyperperiod, and first readers come early: at most a hyperperiod an operator.
+-- Words repeat with the hyperperiod.
 use Rattle.std.proofs.Common.{◌≡◌, ◌+◌, ◌-◌, ◌*◌, ◌<◌, ◌≤◌, ℕ, zero, suc, List, [], ◌∷◌, length, Some, refl, sym, ◌∙◌, ap, subst, arith}
 use Rattle.std.specs.Prelude.{ℤ, pos, ◌+ℤ◌, slice_get}
-use Rattle.std.specs.Int.{div_ceil}
 use Rattle.std.proofs.Math.Nat.{mul-le-mul_right}
 use Rattle.std.proofs.lemmas.Int.{ints}
 use Rattle.std.proofs.lemmas.Option.{slice_get-get_or}
@@ -9,7 +8,6 @@ use Rattle.prl_base.specs.Operators.{IsOperatorFor}
 use Rattle.prl_base.specs.declared.values.Ty.{Ty}
 use Rattle.prl_base.specs.declared.operators.Clock.{Clock}
 use Rattle.prl_base.specs.declared.operators.Op.{Op}
-use Rattle.prl_base.specs.declared.operators.Op.TheVariants as operators
 use Rattle.prl_plan.specs.declared.graphs.Edge.{Edge}
 use Rattle.prl_plan.specs.declared.graphs.TaskGraph.{TaskGraph}
 use Rattle.prl_plan.specs.declared.walks.Operand.TheVariants as operands
@@ -17,15 +15,12 @@ use Rattle.prl_plan.specs.declared.words.Word.{Word}
 use Rattle.prl_plan.specs.Graphs.{IsWellFormed, IsEdge, TakeClock, Divides}
 use Rattle.prl_plan.specs.Jobs.{task_at}
 use Rattle.prl_plan.specs.Precedence.{preceding}
-use Rattle.prl_plan.specs.FirstReaders.{first_reader}
 use Rattle.prl_plan.specs.Words.{IsWordOf, RepeatsAfter, number_at}
 use Rattle.prl_plan.specs.Plans.{edge_at, no_edge}
-use Rattle.prl_plan.proofs.Ceilings.{ceil_times}
 use Rattle.prl_plan.proofs.Periods.{preceding_shift}
 use Rattle.prl_plan.proofs.PlanNumbers.{walked_within}
 use Rattle.prl_plan.proofs.ReaderLaws.{reads_from, never_before}
 use Rattle.prl_plan.proofs.WalkLaws.{walk_preceding}
-use Rattle.prl_plan.proofs.WalkNumbers.{period_here}
 use Rattle.prl_plan.proofs.WordNumbers.{after_prefix}
 
 -- how often the producer's clock comes in the hyperperiod
@@ -54,61 +49,6 @@ module _ (ty : Ty) (hyper : ℕ) (ops : List Op) (are : (k : ℕ) (op : Op) → 
             later.1 ∙ ap (λ (k : ℕ). operands.From k) (same_number later.0 (m + d.0) (sym a ∙ f))),
       )
 
-pub first_reader_early : (ty : Ty) (hyper : ℕ) (ops : List Op) → ((k : ℕ) (op : Op) → slice_get ops k ≡ Some op → IsOperatorFor ty op) →
-    (producer consumer : Clock) → 1 ≤ hyper → TakeClock hyper ops producer consumer → first_reader ops * consumer.period ≤ length ops * hyper
-first_reader_early ty hyper [] are producer consumer some takes = (let z : 0 * consumer.period ≡ 0 = omega arith in omega (arith, z))
-first_reader_early ty hyper (operators.Up k ∷ ops) are producer consumer some takes =
-    let x : Clock = takes.2.0 in
-    let p : ℕ = first_reader ops in
-    let rest = first_reader_early ty hyper ops (λ j o is. are (suc j) o is) producer x some takes.2.2 in
-    let a : k * p * consumer.period ≡ p * (k * consumer.period) = omega arith in
-    let b : p * (k * consumer.period) ≡ p * x.period = ap (λ (y : ℕ). p * y) takes.2.1.0 in
-    let l : suc (length ops) * hyper ≡ length ops * hyper + hyper = omega arith in
-    omega (arith, rest, a, b, l)
-first_reader_early ty hyper (operators.Down k ∷ ops) are producer consumer some takes =
-    let x : Clock = takes.2.0 in
-    let p : ℕ = first_reader ops in
-    let rest = first_reader_early ty hyper ops (λ j o is. are (suc j) o is) producer x some takes.2.2 in
-    let here = period_here hyper (operators.Down k ∷ ops) producer consumer some takes in
-    let a : div_ceil p k * consumer.period ≡ div_ceil p k * (k * x.period) = ap (λ (y : ℕ). div_ceil p k * y) takes.2.1.0 in
-    let b : div_ceil p k * (k * x.period) ≡ div_ceil p k * k * x.period = omega arith in
-    let up : div_ceil p k * k * x.period ≤ (p + k) * x.period = mul-le-mul_right x.period (ceil_times p k (are 0 (operators.Down k) refl).0) in
-    let c : (p + k) * x.period ≡ p * x.period + k * x.period = omega arith in
-    let l : suc (length ops) * hyper ≡ length ops * hyper + hyper = omega arith in
-    omega (arith, rest, a, b, up, c, l, takes.2.1.0, here.1)
-first_reader_early ty hyper (operators.Shift q ∷ ops) are producer consumer some takes =
-    let x : Clock = takes.2.0 in
-    let rest = first_reader_early ty hyper ops (λ j o is. are (suc j) o is) producer x some takes.2.2 in
-    let b : first_reader ops * consumer.period ≡ first_reader ops * x.period = ap (λ (y : ℕ). first_reader ops * y) takes.2.1.0 in
-    let l : suc (length ops) * hyper ≡ length ops * hyper + hyper = omega arith in
-    omega (arith, rest, b, l)
-first_reader_early ty hyper (operators.Tail ∷ ops) are producer consumer some takes =
-    let x : Clock = takes.2.0 in
-    let p : ℕ = first_reader ops in
-    let rest = first_reader_early ty hyper ops (λ j o is. are (suc j) o is) producer x some takes.2.2 in
-    let down : (p - 1) * consumer.period ≤ p * consumer.period = mul-le-mul_right consumer.period (omega arith) in
-    let b : p * consumer.period ≡ p * x.period = ap (λ (y : ℕ). p * y) takes.2.1.0 in
-    let l : suc (length ops) * hyper ≡ length ops * hyper + hyper = omega arith in
-    omega (arith, rest, down, b, l)
-first_reader_early ty hyper (operators.Cons c ∷ ops) are producer consumer some takes =
-    let x : Clock = takes.2.0 in
-    let p : ℕ = first_reader ops in
-    let rest = first_reader_early ty hyper ops (λ j o is. are (suc j) o is) producer x some takes.2.2 in
-    let here = period_here hyper (operators.Cons c ∷ ops) producer consumer some takes in
-    let a : (p + 1) * consumer.period ≡ p * consumer.period + consumer.period = omega arith in
-    let b : p * consumer.period ≡ p * x.period = ap (λ (y : ℕ). p * y) takes.2.1.0 in
-    let l : suc (length ops) * hyper ≡ length ops * hyper + hyper = omega arith in
-    omega (arith, rest, a, b, l, here.1)
-first_reader_early ty hyper (operators.Fby c ∷ ops) are producer consumer some takes =
-    let x : Clock = takes.2.0 in
-    let p : ℕ = first_reader ops in
-    let rest = first_reader_early ty hyper ops (λ j o is. are (suc j) o is) producer x some takes.2.2 in
-    let here = period_here hyper (operators.Fby c ∷ ops) producer consumer some takes in
-    let a : (p + 1) * consumer.period ≡ p * consumer.period + consumer.period = omega arith in
-    let b : p * consumer.period ≡ p * x.period = ap (λ (y : ℕ). p * y) takes.2.1.0 in
-    let l : suc (length ops) * hyper ≡ length ops * hyper + hyper = omega arith in
-    omega (arith, rest, a, b, l, here.1)
-
 module _ (graph : TaskGraph) (good : IsWellFormed graph) (e : ℕ) (inside : e < length graph.edges) where
   abbrev edge : Edge
   edge = edge_at graph e
@@ -136,7 +76,3 @@ module _ (graph : TaskGraph) (good : IsWellFormed graph) (e : ℕ) (inside : e <
       let same : number_at w (length w.prefix + i - length w.prefix) ≡ number_at w i = ap (λ (k : ℕ). number_at w k) (let z : length w.prefix + i - length w.prefix ≡ i = omega arith in z) in
       walked_within graph good e (length w.prefix + i) (number_at w i) inside
       (sym (is.at (length w.prefix + i)) ∙ at ∙ ap (λ (k : ℕ). operands.From k) same)
-
-  pub first_readers_early : first_reader (edge_at graph e).ops * (task_at graph (edge_at graph e).to.0).clock.period ≤ length (edge_at graph e).ops * graph.hyper
-  first_readers_early =
-      first_reader_early (edge_at graph e).ty graph.hyper (edge_at graph e).ops edge_is.operators edge_is.clocks.0 (task_at graph (edge_at graph e).to.0).clock good.hyper edge_is.clocks.3

@@ -24,11 +24,4 @@ pub mod Facts
 pub mod States
 pub mod LastTags
 pub mod CellTurns
-pub mod Intervals
 pub mod Ranges
--- scaffolding: the plan of two tasks, and plain slow calls that decide the dates of small graphs
-pub mod TwoTasks
-pub mod Devices
-pub mod Rounds
-pub mod Deadlines
-pub mod FixedPoints

@@ -29,15 +29,3 @@ operand_from (producers.Constant value) (operands.From m) = operands.Const value
 -- what job n of the consumer reads on the edge
 abbrev pub operand_of : Edge → ℕ → Operand
 operand_of edge n = operand_from edge.from (walk edge.ops n)
-
--- each number on the walk fits 64 bits
-abbrev pub WalkFits : List Op → ℕ → Type 0
-WalkFits [] n = n < 2 ^ 64
-WalkFits (operators.Up k ∷ ops) n = (1 ≤ k) × WalkFits ops (n / k)
-WalkFits (operators.Down k ∷ ops) n = (k * n < 2 ^ 64) × WalkFits ops (k * n)
-WalkFits (operators.Shift q ∷ ops) n = WalkFits ops n
-WalkFits (operators.Tail ∷ ops) n = (n + 1 < 2 ^ 64) × WalkFits ops (n + 1)
-WalkFits (operators.Cons c ∷ ops) zero = Unit {0}
-WalkFits (operators.Cons c ∷ ops) (suc n) = WalkFits ops n
-WalkFits (operators.Fby c ∷ ops) zero = Unit {0}
-WalkFits (operators.Fby c ∷ ops) (suc n) = WalkFits ops n

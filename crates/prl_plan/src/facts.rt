@@ -26,7 +26,6 @@ ghost use Rattle.prl_plan.specs.Jobs.{Job, task_at, release_of, job_count, IsHor
 ghost use Rattle.prl_plan.specs.Plans.{PlanView, HaveRoom, AreShortWindows, IsPlan, edge_at, place_on, cell_of, IsHalfOf, reading, actions_of, reads_before, operands_before, IsAtPort, IsActionOf};
 ghost use Rattle.prl_plan.specs.Facts.{HasPlanFacts};
 ghost use Rattle.prl_plan.specs.JobTables.{TableRow, IsJobTable, job_table};
-ghost use Rattle.prl_plan.specs.Devices.{LinksDevices};
 ghost use Rattle.prl_plan.specs.Horizons.{IsHorizon, constants_of};
 
 use crate::{Horizon, Plan};
@@ -125,13 +124,6 @@ pub fn plan_facts(plan: &Plan, horizon: Horizon)
     let _ = horizon;
     plans_keep_facts();
     plan_is_one(plan);
-}
-
-/// The tasks of a plan are sensors and actuators alone.
-pub fn plan_links_devices(plan: &Plan)
-    ensures { LinksDevices plan.now }
-{
-    plan.is_two();
 }
 
 /// Where each job has room for its WCET between its encoded dates, no chain of jobs needs longer than its last job has. A job

@@ -5,41 +5,30 @@
 
 mod cell_lists;
 mod dates;
-mod deadlines;
 mod events;
 mod facts;
-mod fixed_points;
-mod graph_actions;
-mod graph_horizons;
-mod graph_plans;
 mod graphs;
 mod horizons;
+mod job_actions;
 mod laws;
 mod limits;
 mod numbers;
 mod plans;
-mod rounds;
+mod repeats;
 mod tables;
-mod turns;
 mod walks;
 mod words;
 
 pub use cell_lists::Cells;
 pub use dates::Dates;
-pub use deadlines::{
-    Interval, count_of, deadline_after, following_jobs, rounds_reach_the_greatest_deadlines,
-};
 pub use events::{Action, Event, Rule, SlotNo};
 pub use facts::{
     actions_are_as_defined, constants_are_of_their_type, encoded_dates_keep_order,
     encoded_dates_repeat, encoded_dates_rise, horizon_jobs_are_counted, hyperperiod_shows_all_jobs,
     operands_are_of_horizon_jobs, operands_precede, operands_stand_earlier, plan_facts,
-    plan_has_one_job_table, plan_is_one, plan_is_unique, plan_links_devices, plans_keep_facts,
-    precedence_is_not_later, precedence_repeats_and_rises, room_leaves_no_narrow_chain,
-    words_begin_with_constants,
+    plan_has_one_job_table, plan_is_one, plan_is_unique, plans_keep_facts, precedence_is_not_later,
+    precedence_repeats_and_rises, room_leaves_no_narrow_chain, words_begin_with_constants,
 };
-pub use fixed_points::{hyperperiod_decides, rounds_reach_dates};
-pub use graph_plans::GraphPlan;
 pub use graphs::{Edge, Kind, Producer, Task, TaskGraph};
 pub use horizons::Horizon;
 pub use laws::{
@@ -53,12 +42,11 @@ pub use limits::{
     MAX_CELLS, MAX_EDGES, MAX_EVENTS, MAX_HYPER, MAX_JOBS, MAX_PERIOD_JOBS, MAX_PREFIX, MAX_TASKS,
 };
 pub use numbers::{
-    bests_are_near_releases, first_readers_come_early, gaps_fit_a_hyperperiod, horizons_are_small,
-    look_ups_fit, walk_numbers_fit, windows_are_within_dues, words_repeat_by_hyperperiod,
+    horizons_are_small, look_ups_fit, walk_numbers_fit, windows_are_within_dues,
+    words_repeat_by_hyperperiod,
 };
 pub use plans::Plan;
-pub use rounds::{AnyJob, preceding_job, release_after, rounds_reach_the_least_releases};
+pub use repeats::shortest_repeat;
 pub use tables::{Used, Window};
-pub use turns::hyperperiod_shows_cells;
-pub use walks::{Operand, operand_by_walk, walk_back};
-pub use words::Word;
+pub use walks::Operand;
+pub use words::{Word, Words};

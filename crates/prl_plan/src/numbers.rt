@@ -1,36 +1,25 @@
 //! Laws of the numbers of graphs and plans: that they fit 64 bits, so that no real computation has
 //! to give up. Functions that do nothing: the contract of each is the law.
 
-ghost use Rattle.std.specs.Prelude.{◌≡◌, ◌+◌, ◌*◌, ◌<◌, ◌≤◌, ◌^◌, ℕ, ℤ, pos, ◌+ℤ◌, ◌≤ℤ◌, nat_abs, List, length, sum};
+ghost use Rattle.std.specs.Prelude.{◌≡◌, ◌+◌, ◌*◌, ◌<◌, ◌≤◌, ◌^◌, ℕ, ℤ, nat_abs, List, length};
 ghost use Rattle.prl_plan.specs.declared.graphs.TaskGraph.{TaskGraph};
 ghost use Rattle.prl_plan.specs.declared.tables.Window.{Window};
-ghost use Rattle.prl_plan.specs.declared.tables.Used.{Used};
-ghost use Rattle.prl_plan.specs.Cells.{EnumeratesUsed};
-ghost use Rattle.prl_plan.specs.CellTurns.{span_of};
-ghost use Rattle.prl_plan.specs.Precedence.{ComesFrom};
-ghost use Rattle.prl_plan.specs.Repeats.{IsShortestRepeat};
 ghost use Rattle.prl_plan.specs.declared.walks.Operand.TheVariants as operands;
 ghost use Rattle.prl_plan.specs.declared.words.Word.{Word};
-ghost use Rattle.prl_plan.specs.FirstReaders.{first_reader};
 ghost use Rattle.prl_plan.specs.Words.{IsWordOf, RepeatsAfter, number_at};
 ghost use Rattle.prl_plan.specs.declared.horizons.Horizon.{Horizon};
 ghost use Rattle.prl_plan.specs.declared.limits.TheConstants.{MAX_JOBS, MAX_EVENTS};
-ghost use Rattle.prl_plan.specs.Chains.{IsBest};
 ghost use Rattle.prl_plan.specs.Dates.{AreEncodedDates, window_at};
 ghost use Rattle.prl_plan.specs.Graphs.{IsWellFormed};
 ghost use Rattle.prl_plan.specs.Horizons.{IsHorizon, constants_of};
-ghost use Rattle.prl_plan.specs.Jobs.{Job, task_at, release_of, IsHorizonJob};
-ghost use Rattle.prl_plan.specs.Operands.{walk, operand_of, WalkFits};
+ghost use Rattle.prl_plan.specs.Jobs.{task_at, IsHorizonJob};
+ghost use Rattle.prl_plan.specs.Operands.{walk, operand_of};
 ghost use Rattle.prl_plan.specs.Plans.{PlanView, IsPlan, HaveRoom, edge_at, release_at, deadline_at};
 ghost use Rattle.prl_plan.specs.Ranges.{PrecedingFits};
 
-/// The numbers on the walk of a job fit where the job's number times its period is below 2^63, and
-/// what it reads has no higher number than the job's date. The numbers on the way to the job that
-/// precedes fit likewise, below 2^62.
+/// What a job reads has no higher number than the job's date. The numbers on the way to the job that
+/// precedes fit where the job's number times its period is at most 2^62.
 pub fn walk_numbers_fit()
-    ensures walk { (graph : TaskGraph) → IsWellFormed graph → (e n : ℕ) → e < length graph.edges →
-        n * (task_at graph (edge_at graph e).to.0).clock.period < 2 ^ 63 →
-        WalkFits (edge_at graph e).ops n }
     ensures read { (graph : TaskGraph) → IsWellFormed graph → (e n m : ℕ) →
         e < length graph.edges → walk (edge_at graph e).ops n ≡ operands.From m →
         m ≤ (task_at graph (edge_at graph e).to.0).clock.start + n * (task_at graph (edge_at graph e).to.0).clock.period }
@@ -56,34 +45,6 @@ pub fn words_repeat_by_hyperperiod()
         e < length graph.edges → (w : Word) (i : ℕ) → IsWordOf (edge_at graph e).ops w →
         number_at w i
         ≤ (task_at graph (edge_at graph e).to.0).clock.start + (length w.prefix + i) * (task_at graph (edge_at graph e).to.0).clock.period }
-{}
-
-/// The first job that reads an instance on an edge is released at most a hyperperiod an operator
-/// after the first job.
-pub fn first_readers_come_early()
-    ensures { (graph : TaskGraph) → IsWellFormed graph → (e : ℕ) → e < length graph.edges →
-        first_reader (edge_at graph e).ops * (task_at graph (edge_at graph e).to.0).clock.period ≤ length (edge_at graph e).ops * graph.hyper }
-{}
-
-/// The shortest gaps between the used instances of an edge from a task are no more than the task's
-/// jobs in a hyperperiod, nor is their sum.
-pub fn gaps_fit_a_hyperperiod()
-    ensures { (graph : TaskGraph) → IsWellFormed graph → (e i : ℕ) (used : Used) →
-        e < length graph.edges → ComesFrom (edge_at graph e).from i →
-        EnumeratesUsed (edge_at graph e) used → IsShortestRepeat used.gaps →
-        (length used.gaps ≤ span_of graph (edge_at graph e)) × (sum used.gaps ≤ span_of graph (edge_at graph e)) }
-{}
-
-/// The best of a job over chains of at most so many jobs is at least its release and its WCET, and
-/// at most 2^31 ticks a job after its release.
-pub fn bests_are_near_releases()
-    ensures above { (graph : TaskGraph) → IsWellFormed graph →
-        (most : ℕ) (job : Job) (needs : ℤ) → IsBest graph most job needs →
-        (release_of (task_at graph job.task) job.number +ℤ pos (task_at graph job.task).wcet)
-        ≤ℤ needs }
-    ensures within { (graph : TaskGraph) → IsWellFormed graph →
-        (most : ℕ) (job : Job) (needs : ℤ) → IsBest graph most job needs →
-        needs ≤ℤ (release_of (task_at graph job.task) job.number +ℤ pos (most * 2 ^ 31)) }
 {}
 
 /// Where each job has room, its encoded release and then its WCET lie before its encoded deadline,

@@ -21,6 +21,12 @@ pub struct Word {
     pub step_out: u64,
 }
 
+/// The words of the edges of a graph, in the order of the edges.
+#[derive(Debug, Drop)]
+pub struct Words {
+    pub of: Seq<Word>,
+}
+
 impl Word {
     /// The operand of job `n` of the consumer. It takes no memory. An instance's number has to be
     /// below 2^63.

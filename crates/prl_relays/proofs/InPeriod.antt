@@ -6,7 +6,7 @@ use Rattle.prl_chains.specs.declared.chains.Chain.{Chain}
 use Rattle.prl_chains.specs.Facts.{IsChain}
 use Rattle.prl_chains.specs.Relays.{is_relay}
 use Rattle.prl_plan.specs.declared.limits.TheConstants.{MAX_HYPER}
-use Rattle.prl_plan.specs.TwoTasks.{AreInPeriod}
+use Rattle.prl_relays.specs.TwoTasks.{AreInPeriod}
 use Rattle.prl_relays.specs.Relays.{input_clock, fits_period, is_in_time}
 use Rattle.prl_relays.proofs.Solutions.{both}
 

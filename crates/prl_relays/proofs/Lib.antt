@@ -1,3 +1,4 @@
+pub mod TwoTasks
 pub mod Solutions
 pub mod Handed
 pub mod Operands
@@ -5,3 +6,4 @@ pub mod WholeRuns
 pub mod TwoNames
 pub mod OneEnd
 mod InPeriod
+mod Examples

@@ -4,7 +4,7 @@ use Rattle.prl_base.specs.Names.{IsName}
 use Rattle.prl_flow.specs.Programs.{AreDevices, name_of}
 use Rattle.prl_chains.specs.declared.chains.Chain.{Chain}
 use Rattle.prl_chains.specs.Facts.{IsChain}
-use Rattle.prl_plan.specs.TwoTasks.{AreTwoNames}
+use Rattle.prl_relays.specs.TwoTasks.{AreTwoNames}
 
 names_differ : (ins outs : List (List ℕ × ℕ)) → length ins ≡ 1 → length outs ≡ 1 → AreDevices (ins ++ outs) → name_of ins 0 ≢ name_of outs 0
 names_differ [] outs one single h e = absurd (omega (arith, one))

@@ -17,12 +17,12 @@ use Rattle.prl_plan.specs.declared.events.Event.TheVariants as events
 use Rattle.prl_plan.specs.declared.horizons.Horizon.{Horizon}
 use Rattle.prl_plan.specs.Jobs.{task_at, job_count, IsHorizonJob}
 use Rattle.prl_plan.specs.Plans.{PlanView, IsPlan, edge_at, release_at, deadline_at}
-use Rattle.prl_plan.specs.TwoTasks.{AreInPeriod, AreTwoNames, two_plan}
+use Rattle.prl_relays.specs.TwoTasks.{AreInPeriod, AreTwoNames, two_plan}
 use Rattle.prl_plan.specs.Facts.{HasPlanFacts, ReadsAt}
 use Rattle.prl_plan.specs.Horizons.{IsEnd, IsHorizon, constants_of}
 use Rattle.prl_plan.specs.Runs.{RunConstants, ExecState, opening, next_action, after_event, after_events}
 use Rattle.prl_plan.specs.Rules.{IsLegal, IsGated, IsComplete, KeepsLegal, FindsTag, HasJob, ActsReleased, first_unfinished}
-use Rattle.prl_plan.proofs.TwoTasks.{two_is_plan}
+use Rattle.prl_relays.proofs.TwoTasks.{two_is_plan}
 use Rattle.prl_core.specs.declared.seen.Seen.{Seen}
 use Rattle.prl_core.specs.declared.seen.Seen.TheVariants as sights
 use Rattle.prl_core.specs.Values.{instance_value}

@@ -1,2 +1,3 @@
+pub mod TwoTasks
 pub mod Reads
 pub mod Relays

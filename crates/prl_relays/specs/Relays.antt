@@ -15,7 +15,7 @@ use Rattle.prl_plan.specs.declared.events.Event.{Event}
 use Rattle.prl_plan.specs.declared.horizons.Horizon.{Horizon}
 use Rattle.prl_plan.specs.declared.limits.TheConstants.{MAX_HYPER}
 use Rattle.prl_plan.specs.Plans.{PlanView}
-use Rattle.prl_plan.specs.TwoTasks.{two_plan}
+use Rattle.prl_relays.specs.TwoTasks.{two_plan}
 use Rattle.prl_plan.specs.Horizons.{IsHorizon, constants_of}
 use Rattle.prl_plan.specs.Runs.{opening}
 use Rattle.prl_core.specs.declared.seen.Seen.{Seen}

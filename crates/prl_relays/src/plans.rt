@@ -6,6 +6,7 @@ ghost use Rattle.prl_chains.specs.Facts.{IsChain};
 ghost use Rattle.prl_plan.specs.Plans.{IsPlan};
 ghost use Rattle.prl_relays.specs.Relays.{is_in_time, relay_plan, task_names};
 
+use crate::two_tasks::plan_of_two;
 use prl_base::Label;
 use prl_chains::Chain;
 use prl_plan::{MAX_HYPER, Plan};
@@ -34,7 +35,7 @@ pub fn plan_of(alloc: Global, chain: &Chain) -> Result<Plan, AllocError>
     let period = chain.input_clock().period;
     let wcet_in = chain.flat.in_wcet(0);
     let wcet_out = chain.flat.out_wcet(0);
-    Plan::two(alloc, sensor, actuator, period, wcet_in, wcet_out)
+    plan_of_two(alloc, sensor, actuator, period, wcet_in, wcet_out)
 }
 
 /// The names of the tasks: those of the devices.

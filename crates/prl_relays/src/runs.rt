@@ -7,6 +7,7 @@ ghost use Rattle.prl_replay.specs.Replays.{IsReplay, FailsWith};
 ghost use Rattle.prl_replay.specs.Schedules.{IsOfTasks};
 ghost use Rattle.prl_relays.specs.Relays.{relay_plan, machine, IsReady, IsOutput, AreOperands};
 
+use crate::two_tasks::two_plans_link_devices;
 use prl_base::Value;
 use prl_chains::{Chain, copies_hand_on};
 use prl_core::{Core, Seen};
@@ -42,6 +43,7 @@ pub(crate) fn replayed(
     ensures solved { IfOk result (λ run. IsOutput (record { chain = chain.now; values = rows_of sensors.now 0; until = horizon.until }) run.outputs.items) }
     ensures operands { IfOk result (λ run. AreOperands run.outputs.items run.reads.items) }
 {
+    two_plans_link_devices();
     copies_hand_on();
     legal_list_is_gated();
     gated_list_keeps_halves();

@@ -58,7 +58,7 @@ get_same zero c i h = absurd (omega (arith, h))
 get_same (suc count) c zero h = refl
 get_same (suc count) c (suc i) h = get_same count c i (omega (arith, h))
 
-constants_long : (op : Op) (zeros : ℕ) → AreZeros op zeros → length (constants_of op zeros) ≡ zeros
+pub constants_long : (op : Op) (zeros : ℕ) → AreZeros op zeros → length (constants_of op zeros) ≡ zeros
 constants_long (operators.Up k) z none = sym none
 constants_long (operators.Down k) z none = sym none
 constants_long (operators.Shift q) z none = sym none

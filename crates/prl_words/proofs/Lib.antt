@@ -4,6 +4,9 @@ mod Extended
 mod Rooms
 mod SoFar
 mod Shortest
+mod Pushed
+mod Held
+mod Lead
 mod Constants
 mod Listed
 mod Examples

@@ -1,45 +1,77 @@
--- The least step by which a word climbs divides each other one, so it is among the divisors of its step.
-use Rattle.std.proofs.Common.{◌≡◌, ◌+◌, ◌-◌, ◌*◌, ◌/◌, ◌%◌, ◌<◌, ◌≤◌, ℕ, zero, suc, List, inl, inr, sym, ◌∙◌, ap, arith, length, length-take-le, slice_index, slice_get}
+-- The least step by which a word climbs is that by which its gaps come again.
+use Rattle.std.proofs.Common.{◌≡◌, ◌+◌, ◌-◌, ◌*◌, ◌/◌, ◌%◌, ◌<◌, ◌≤◌, ℕ, zero, suc, List, Some, sym, ◌∙◌, ap, arith, length, length-take-le, slice_index, slice_get}
 use Rattle.std.proofs.Math.Nat.{mod-add-div'}
 use Rattle.std.proofs.lemmas.Nat.{mod_below}
-use Rattle.std.proofs.lemmas.Bool.{cases_lt}
 use Rattle.std.proofs.lemmas.List.{get_or-take}
+use Rattle.std.proofs.lemmas.Option.{slice_get-get_or, same_Some}
 use Rattle.prl_base.specs.declared.values.Value.{Value}
 use Rattle.prl_plan.specs.declared.walks.Operand.TheVariants as operands
 use Rattle.prl_plan.specs.declared.words.Word.{Word}
+use Rattle.prl_plan.specs.Repeats.{repeated, ComesAgain, IsLeastRepeat}
 use Rattle.prl_plan.specs.Words.{number_at, word_at, constant_or, IsWord}
-use Rattle.prl_words.specs.code.Shortest.{ClimbsFirst, rise_of, IsSteady, IsShortestStep, IsShortened}
+use Rattle.prl_words.specs.code.Shortest.{ClimbsBy, rise_of, IsSteady, AreGaps, IsShortestStep, IsShortened}
 use Rattle.prl_plan.proofs.WordNumbers.{next_turns}
 use Rattle.prl_words.proofs.Rooms.{number_first}
 
--- so many jobs later each number is higher by so many
-pub record ClimbsBy (w : Word) (jobs higher : ℕ) : Type 0 where
-  pub each : (i : ℕ) → number_at w (i + jobs) ≡ number_at w i + higher
+module _ (w : Word) (steady : IsSteady w) (gaps : List ℕ) (are : AreGaps w gaps) where
+  -- the gap after number i, in any turn
+  next_number : (i : ℕ) → number_at w (i + 1) ≡ number_at w i + slice_index gaps (i % length gaps)
+  next_number i =
+      let word = steady.word in
+      let part = i % w.step_in in
+      let turn = i / w.step_in in
+      let whole : part + turn * w.step_in ≡ i = mod-add-div' i w.step_in in
+      let here : number_at w (part + turn * w.step_in) ≡ number_at w part + turn * w.step_out = next_turns w word.some part turn in
+      let there : number_at w (part + 1 + turn * w.step_in) ≡ number_at w (part + 1) + turn * w.step_out = next_turns w word.some (part + 1) turn in
+      let gap : number_at w (part + 1) ≡ number_at w part + slice_index gaps part = are.each part (mod_below i w.step_in word.some) in
+      let a : number_at w i ≡ number_at w (part + turn * w.step_in) = ap (λ (k : ℕ). number_at w k) (sym whole) in
+      let b : number_at w (i + 1) ≡ number_at w (part + 1 + turn * w.step_in) =
+      ap (λ (k : ℕ). number_at w k) (let e : i + 1 ≡ part + 1 + turn * w.step_in = omega (arith, whole) in e) in
+      let c : slice_index gaps (i % length gaps) ≡ slice_index gaps part = ap (λ (l : ℕ). slice_index gaps (i % l)) are.long in
+      omega (arith, here, there, gap, a, b, c)
 
--- what holds in the first turn holds in all
-pub from_first_turn : (w : Word) (jobs higher : ℕ) → IsWord w → ClimbsFirst w jobs higher → ClimbsBy w jobs higher
-from_first_turn w jobs higher word first =
-    record {
-      each = λ i. (let part = i % w.step_in in
-          let turn = i / w.step_in in
-          let whole : part + turn * w.step_in ≡ i = mod-add-div' i w.step_in in
-          let here : number_at w (part + turn * w.step_in) ≡ number_at w part + turn * w.step_out = next_turns w word.some part turn in
-          let there : number_at w (part + jobs + turn * w.step_in) ≡ number_at w (part + jobs) + turn * w.step_out = next_turns w word.some (part + jobs) turn in
-          let at : number_at w (part + jobs) ≡ number_at w part + higher = first part (mod_below i w.step_in word.some) in
-          let a : number_at w i ≡ number_at w (part + turn * w.step_in) = ap (λ (k : ℕ). number_at w k) (sym whole) in
-          let b : number_at w (i + jobs) ≡ number_at w (part + jobs + turn * w.step_in) =
-          ap (λ (k : ℕ). number_at w k) (let e : i + jobs ≡ part + jobs + turn * w.step_in = omega (arith, whole) in e) in
-          omega (arith, here, there, at, a, b));
-    }
+  some_gap : 1 ≤ length gaps
+  some_gap = (let l = are.long in let s = steady.word.some in omega (arith, l, s))
 
-pub own_step : (w : Word) → IsWord w → ClimbsBy w w.step_in w.step_out
-own_step w word =
-    record {
-      each = λ i. (let e : number_at w (i + 1 * w.step_in) ≡ number_at w i + 1 * w.step_out = next_turns w word.some i 1 in
-          let one : 1 * w.step_in ≡ w.step_in = omega arith in
-          let same : number_at w (i + 1 * w.step_in) ≡ number_at w (i + w.step_in) = ap (λ (k : ℕ). number_at w (i + k)) one in
-          omega (arith, e, same));
-    }
+  -- where the gaps come again, the word climbs
+  again_climbs : (step : ℕ) → ComesAgain gaps step → (i : ℕ) → number_at w (i + step) ≡ number_at w i + rise_of w step
+  again_climbs step again zero =
+      let no_fall : number_at w 0 ≤ number_at w step = steady.rises 0 step (omega arith) in
+      let e : number_at w (0 + step) ≡ number_at w step = ap (λ (k : ℕ). number_at w k) (let z : 0 + step ≡ step = omega arith in z) in
+      omega (arith, no_fall, e)
+  again_climbs step again (suc i) =
+      let before = again_climbs step again i in
+      let first = next_number i in
+      let second = next_number (i + step) in
+      let x : slice_get gaps ((i + step) % length gaps) ≡ Some (slice_index gaps ((i + step) % length gaps)) =
+      slice_get-get_or gaps ((i + step) % length gaps) 0 (mod_below (i + step) (length gaps) some_gap) in
+      let y : slice_get gaps (i % length gaps) ≡ Some (slice_index gaps (i % length gaps)) =
+      slice_get-get_or gaps (i % length gaps) 0 (mod_below i (length gaps) some_gap) in
+      let same : slice_index gaps ((i + step) % length gaps) ≡ slice_index gaps (i % length gaps) =
+      same_Some (slice_index gaps ((i + step) % length gaps)) (slice_index gaps (i % length gaps)) (sym x ∙ again i ∙ y) in
+      let a : number_at w (suc i + step) ≡ number_at w (i + step + 1) = ap (λ (k : ℕ). number_at w k) (let e : suc i + step ≡ i + step + 1 = omega arith in e) in
+      let b : number_at w (suc i) ≡ number_at w (i + 1) = ap (λ (k : ℕ). number_at w k) (let e : suc i ≡ i + 1 = omega arith in e) in
+      omega (arith, before, first, second, same, a, b)
+
+  -- and where the word climbs, the gaps come again
+  climbs_again : (step higher : ℕ) → ClimbsBy w step higher → ComesAgain gaps step
+  climbs_again step higher climbs n =
+      let first = next_number n in
+      let second = next_number (n + step) in
+      let here = climbs.each n in
+      let there = climbs.each (n + 1) in
+      let a : number_at w (n + 1 + step) ≡ number_at w (n + step + 1) = ap (λ (k : ℕ). number_at w k) (let e : n + 1 + step ≡ n + step + 1 = omega arith in e) in
+      let same : slice_index gaps ((n + step) % length gaps) ≡ slice_index gaps (n % length gaps) = omega (arith, first, second, here, there, a) in
+      slice_get-get_or gaps ((n + step) % length gaps) 0 (mod_below (n + step) (length gaps) some_gap) ∙ ap (λ (x : ℕ). Some x) same
+      ∙ sym (slice_get-get_or gaps (n % length gaps) 0 (mod_below n (length gaps) some_gap))
+
+  pub shortest_step : (step : ℕ) → IsLeastRepeat gaps step → IsShortestStep w step
+  shortest_step step is = record {
+    some = is.some;
+    within = (let l = are.long in let f = is.within in omega (arith, l, f));
+    climbs = record { each = again_climbs step is.again };
+    least = λ other higher some climbs. is.shortest.least other some (climbs_again other higher climbs);
+  }
 
 -- many times as many jobs later, as many times higher
 pub climbs_often : (w : Word) (jobs higher : ℕ) → ClimbsBy w jobs higher → (times i : ℕ) → number_at w (i + times * jobs) ≡ number_at w i + times * higher
@@ -56,55 +88,10 @@ climbs_often w jobs higher c (suc times) i =
     let b : suc times * higher ≡ times * higher + higher = omega arith in
     omega (arith, e, rest, last, b)
 
--- by how much it climbs is told by the numbers
-pub rise_is : (w : Word) (jobs higher : ℕ) → ClimbsBy w jobs higher → rise_of w jobs ≡ higher
-rise_is w jobs higher c =
-    let e : number_at w (0 + jobs) ≡ number_at w 0 + higher = c.each 0 in
-    let same : number_at w (0 + jobs) ≡ number_at w jobs = ap (λ (k : ℕ). number_at w k) (let z : 0 + jobs ≡ jobs = omega arith in z) in
-    omega (arith, e, same)
-
--- what is left of the step over whole times a shorter one
-remainder_climbs : (w : Word) (jobs higher : ℕ) → IsSteady w → ClimbsBy w jobs higher →
-    ClimbsBy w (w.step_in % jobs) (w.step_out - w.step_in / jobs * higher)
-remainder_climbs w jobs higher steady c =
-    let part = w.step_in % jobs in
-    let times = w.step_in / jobs in
-    let whole : part + times * jobs ≡ w.step_in = mod-add-div' w.step_in jobs in
-    record {
-      each = λ i. (let own : number_at w (i + w.step_in) ≡ number_at w i + w.step_out = (own_step w steady.word).each i in
-          let many : number_at w (i + part + times * jobs) ≡ number_at w (i + part) + times * higher = climbs_often w jobs higher c times (i + part) in
-          let same : number_at w (i + part + times * jobs) ≡ number_at w (i + w.step_in) =
-          ap (λ (k : ℕ). number_at w k) (let e : i + part + times * jobs ≡ i + w.step_in = omega (arith, whole) in e) in
-          let no_fall : number_at w i ≤ number_at w (i + part) = steady.rises i (i + part) (omega arith) in
-          omega (arith, own, many, same, no_fall));
-    }
-
--- whatever the word climbs by, the shortest is no longer
-pub shortest_least : (w : Word) (shortest : ℕ) → IsSteady w → IsShortestStep w shortest → (most jobs higher : ℕ) → jobs ≤ most → 1 ≤ jobs → ClimbsBy w jobs higher →
-    shortest ≤ jobs
-shortest_least w shortest steady s zero jobs higher bound some c = absurd (omega (arith, bound, some))
-shortest_least w shortest steady s (suc most) jobs higher bound some c =
-    elim (cases_lt jobs shortest) [
-      | inl less ↦
-          elim (cases_lt 0 (w.step_in % jobs)) [
-            | inl left ↦
-                (let part_less : w.step_in % jobs < jobs = mod_below w.step_in jobs some in
-                let below : shortest ≤ w.step_in % jobs =
-                shortest_least w shortest steady s most (w.step_in % jobs) (w.step_out - w.step_in / jobs * higher) (omega (arith, part_less, bound)) left
-                (remainder_climbs w jobs higher steady c) in
-                omega (arith, below, part_less))
-            | inr none ↦
-                (let divides : w.step_in % jobs ≡ 0 = omega (arith, none) in
-                let rise : rise_of w jobs ≡ higher = rise_is w jobs higher c in
-                absurd (s.none_less jobs some less divides (λ i within. (let e = c.each i in omega (arith, e, rise)))))
-          ]
-      | inr above ↦ above
-    ]
-
 -- the shorter list tells the same numbers
 pub number_shortened : (w t : Word) → IsSteady w → IsShortened w t → (i : ℕ) → number_at t i ≡ number_at w i
 number_shortened w t steady s i =
-    let c : ClimbsBy w t.step_in (rise_of w t.step_in) = from_first_turn w t.step_in (rise_of w t.step_in) steady.word s.shortest.serves in
+    let c : ClimbsBy w t.step_in (rise_of w t.step_in) = s.shortest.climbs in
     let part = i % t.step_in in
     let turn = i / t.step_in in
     let within : part < t.step_in = mod_below i t.step_in s.shortest.some in

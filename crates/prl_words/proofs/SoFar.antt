@@ -1,5 +1,5 @@
 -- The word of the operators so far, one operator more at a time.
-use Rattle.std.proofs.Common.{◌≡◌, ◌+◌, ◌-◌, ◌*◌, ◌/◌, ◌%◌, ◌<◌, ◌≤◌, ◌^◌, ◌++◌, ℕ, zero, suc, List, [], ◌∷◌, refl, sym, ◌∙◌, ap, subst, arith, length, slice_index}
+use Rattle.std.proofs.Common.{◌≡◌, ◌+◌, ◌-◌, ◌*◌, ◌/◌, ◌%◌, ◌<◌, ◌≤◌, ◌^◌, ◌++◌, ℕ, zero, suc, List, [], ◌∷◌, refl, sym, ◌∙◌, ap, subst, arith, length, length-append, slice_index}
 use Rattle.std.proofs.Math.Nat.{mul-le-mul_left}
 use Rattle.std.proofs.lemmas.List.{length_push}
 use Rattle.prl_base.specs.declared.operators.Op.{Op}
@@ -9,21 +9,21 @@ use Rattle.prl_plan.specs.Operands.{walk}
 use Rattle.prl_plan.specs.declared.words.Word.{Word}
 use Rattle.prl_plan.specs.Words.{number_at, word_at, IsWordOf, Climbs}
 use Rattle.prl_words.specs.Counts.{IsCount, HaveCounts}
-use Rattle.prl_words.specs.code.Steps.{IsExtended, IsSized, HasRoom, IsSoFar}
-use Rattle.prl_words.specs.code.Shortest.{IsSteady, IsShortened}
+use Rattle.prl_words.specs.code.Steps.{IsExtended, IsSized, HasRoom, IsSoFar, constants_of}
+use Rattle.prl_words.specs.code.Shortest.{ClimbsBy, IsSteady, IsShortened}
 use Rattle.prl_plan.proofs.WordNumbers.{after_prefix}
-use Rattle.prl_words.proofs.Extended.{walk_extended, sized_extended}
-use Rattle.prl_words.proofs.Shortest.{ClimbsBy, shortest_least, word_shortened, operand_shortened}
+use Rattle.prl_words.proofs.Extended.{walk_extended, sized_extended, constants_long}
+use Rattle.prl_words.proofs.Shortest.{word_shortened, operand_shortened}
 use Rattle.prl_words.proofs.Turns.{second_some, number_upto}
 
 pub counts_here : (ops : List Op) (count : ℕ) → HaveCounts ops count → IsCount count
 counts_here [] count counts = counts
 counts_here (op ∷ ops) count counts = counts.0
 
-pub room_so_far : (op : Op) (front rest : List Op) (w : Word) → IsSoFar front (op ∷ rest) w → length front < 2 ^ 32 → HasRoom op w
-room_so_far op front rest w s few =
+pub room_so_far : (jobs : ℕ) (op : Op) (front rest : List Op) (w : Word) → IsSoFar jobs front (op ∷ rest) w → length front < 2 ^ 32 → HasRoom op w
+room_so_far jobs op front rest w s few =
     record {
-      jobs = s.jobs;
+      jobs = jobs;
       count = s.count;
       before = s.coming.1.0;
       done = length front;
@@ -35,17 +35,25 @@ room_so_far op front rest w s few =
       few = few;
     }
 
-pub next_so_far : (op : Op) (front rest : List Op) (w t : Word) → IsSoFar front (op ∷ rest) w → IsExtended op w t → IsSoFar (front ++ op ∷ []) rest t
-next_so_far op front rest w t s e =
+pub next_so_far : (jobs : ℕ) (op : Op) (front rest : List Op) (w t : Word) → IsSoFar jobs front (op ∷ rest) w → IsExtended op w t → IsSoFar jobs (front ++ op ∷ []) rest t
+next_so_far jobs op front rest w t s e =
     let before = s.coming.1.0 in
-    let sized : IsSized s.jobs before (length front + 1) t =
-    sized_extended op w t s.jobs s.count before (length front) s.sized s.coming.1.1 s.jobs_fit.0 s.coming.0.0 (counts_here rest before s.coming.1.2).0 e in
+    let sized : IsSized jobs before (length front + 1) t =
+    sized_extended op w t jobs s.count before (length front) s.sized s.coming.1.1 s.jobs_fit.0 s.coming.0.0 (counts_here rest before s.coming.1.2).0 e in
+    let turns_some : 1 ≤ s.sized.turns = second_some w.step_in s.sized.turns jobs s.sized.jobs_are s.jobs_fit.0 in
+    let in_le : w.step_in * 1 ≤ w.step_in * s.sized.turns = mul-le-mul_left w.step_in turns_some in
+    let long : length t.prefix ≡ length w.prefix + e.zeros =
+    ap length e.prefix ∙ length-append w.prefix (constants_of op e.zeros)
+    ∙ ap (λ (k : ℕ). length w.prefix + k) (constants_long op e.zeros e.before.only) in
+    let zeros = e.before.few in
+    let more : (length front + 1) * jobs ≡ length front * jobs + jobs = omega arith in
+    let fewer : length t.prefix ≤ (length front + 1) * jobs = (let c = s.constants in let j = s.sized.jobs_are in omega (arith, long, zeros, more, in_le, c, j)) in
     record {
-      jobs = s.jobs;
       count = before;
       jobs_fit = s.jobs_fit;
-      sized = subst (λ (k : ℕ). IsSized s.jobs before k t) (sym (length_push front op)) sized;
+      sized = subst (λ (k : ℕ). IsSized jobs before k t) (sym (length_push front op)) sized;
       coming = s.coming.1.2;
+      constants = subst (λ (k : ℕ). length t.prefix ≤ k * jobs) (sym (length_push front op)) fewer;
       at = walk_extended op front w t s.sized.word sized.word.some e s.at;
     }
 
@@ -62,11 +70,11 @@ direct_number i =
     let rest : i / 1 ≡ i = omega arith in
     omega (arith, first, rest)
 
-pub first_so_far : (ops : List Op) (jobs : ℕ) → HaveCounts ops jobs → IsSoFar [] ops direct_word
+pub first_so_far : (ops : List Op) (jobs : ℕ) → HaveCounts ops jobs → IsSoFar jobs [] ops direct_word
 first_so_far ops jobs counts =
     record {
-      jobs = jobs;
       count = jobs;
+      constants = omega arith;
       jobs_fit = counts_here ops jobs counts;
       sized = record {
         word = record { some = omega arith; long = refl };
@@ -80,9 +88,9 @@ first_so_far ops jobs counts =
       at = λ n. ap (λ (k : ℕ). operands.From k) (direct_number (n - 0) ∙ (let e : n - 0 ≡ n = omega arith in e));
     }
 
-pub steady_so_far : (ops rest : List Op) (w : Word) → IsSoFar ops rest w → length ops < 2 ^ 32 → IsSteady w
-steady_so_far ops rest w s few =
-    let turns_some : 1 ≤ s.sized.turns = second_some w.step_in s.sized.turns s.jobs s.sized.jobs_are s.jobs_fit.0 in
+pub steady_so_far : (jobs : ℕ) (ops rest : List Op) (w : Word) → IsSoFar jobs ops rest w → length ops < 2 ^ 32 → IsSteady w
+steady_so_far jobs ops rest w s few =
+    let turns_some : 1 ≤ s.sized.turns = second_some w.step_in s.sized.turns jobs s.sized.jobs_are s.jobs_fit.0 in
     let in_le : w.step_in * 1 ≤ w.step_in * s.sized.turns = mul-le-mul_left w.step_in turns_some in
     let out_le : w.step_out * 1 ≤ w.step_out * s.sized.turns = mul-le-mul_left w.step_out turns_some in
     let count_fits = counts_here rest s.count s.coming in
@@ -116,14 +124,14 @@ climbs_by_walk ops w at jobs instances climbs =
           omega (arith, first, later, same));
     }
 
-pub word_so_far : (ops rest : List Op) (w t : Word) → IsSoFar ops rest w → length ops < 2 ^ 32 → IsShortened w t → IsWordOf ops t
-word_so_far ops rest w t s few shortened =
-    let steady = steady_so_far ops rest w s few in
+-- the shortened word is that of the operators
+pub word_shortest : (ops : List Op) (w t : Word) → IsSteady w → ((n : ℕ) → word_at w n ≡ walk ops n) → IsShortened w t → IsWordOf ops t
+word_shortest ops w t steady at shortened =
     record {
       word = word_shortened w t steady shortened;
-      at = λ n. operand_shortened w t steady shortened n ∙ s.at n;
+      at = λ n. operand_shortened w t steady shortened n ∙ at n;
       shortest = record {
-        least = λ jobs some serves. shortest_least w t.step_in steady shortened.shortest jobs jobs serves.0 (omega arith) some
-            (climbs_by_walk ops w s.at jobs serves.0 (subst (λ (xs : List Value). Climbs ops (length xs) jobs serves.0) shortened.prefix serves.1));
+        least = λ jobs some serves. shortened.shortest.least jobs serves.0 some
+            (climbs_by_walk ops w at jobs serves.0 (subst (λ (xs : List Value). Climbs ops (length xs) jobs serves.0) shortened.prefix serves.1));
       };
     }

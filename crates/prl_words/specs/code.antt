@@ -1,3 +1,4 @@
 -- What private functions say to one another.
 pub mod Steps
 pub mod Shortest
+pub mod Holding

@@ -8,7 +8,7 @@ ghost use Rattle.prl_words.specs.GraphWords.{IsWordFault, constant_reads};
 use crate::composing::word_of;
 use crate::prefixes::all_constants;
 use prl_base::{Limit, Seq, What};
-use prl_plan::{MAX_PREFIX, TaskGraph, Word, hyperperiod_shows_cells, words_begin_with_constants};
+use prl_plan::{MAX_PREFIX, TaskGraph, Words};
 use std::alloc::{AllocError, Global};
 
 /// Why there are no words.
@@ -31,27 +31,27 @@ impl From<AllocError> for WordFault {
 }
 
 /// The words of the edges, where the limit is kept.
-fn listed(alloc: Global, graph: &TaskGraph) -> Result<Seq<Word>, AllocError>
+fn listed(alloc: Global, graph: &TaskGraph) -> Result<Words, AllocError>
     requires well { IsWellFormed graph.now }
     requires few { constant_reads graph.now ≤ MAX_PREFIX }
-    ensures { IfOk result (AreWords graph.now) }
+    ensures { IfOk result (λ words. AreWords graph.now words.of) }
 {
-    hyperperiod_shows_cells();
-    words_begin_with_constants();
     let mut words = Vec::with_capacity(alloc, graph.edges.len())?;
     for edge in graph.edges.as_slice() {
         let word = word_of(alloc, edge.ops.as_slice())?;
         words.push(word)?;
     }
-    Ok(Seq::new(words))
+    Ok(Words {
+        of: Seq::new(words),
+    })
 }
 
 /// The dependency word of each edge, in the order of the edges. The limit on the constants in
 /// their prefixes is tested before any is listed. An edge from a constant has its instances
 /// counted like those of a flow.
-pub fn words(alloc: Global, graph: &TaskGraph) -> Result<Seq<Word>, WordFault>
+pub fn words(alloc: Global, graph: &TaskGraph) -> Result<Words, WordFault>
     requires well { IsWellFormed graph.now }
-    ensures { MatchResult result (AreWords graph.now) (IsWordFault graph.now) }
+    ensures { MatchResult result (λ words. AreWords graph.now words.of) (IsWordFault graph.now) }
 {
     let found = all_constants(graph);
     if found > MAX_PREFIX {

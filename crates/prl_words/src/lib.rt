@@ -4,6 +4,7 @@
 
 mod composing;
 mod graphs;
+mod holding;
 mod prefixes;
 mod shortening;
 mod steps;

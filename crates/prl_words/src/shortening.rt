@@ -1,63 +1,38 @@
 //! The shortest repeating part of a word.
 
-ghost use Rattle.std.specs.Prelude.{◌≡◌, ◌+◌, ◌-◌, ◌*◌, ◌%◌, ◌<◌, ◌≤◌, ◌^◌, ◌↔◌, ℕ, IsTrue};
-ghost use Rattle.prl_plan.specs.Words.{number_at};
-ghost use Rattle.prl_words.specs.code.Shortest.{ClimbsFirst, rise_of, IsSteady, IsShortestStep, IsShortened};
+ghost use Rattle.std.specs.Prelude.{IfOk};
+ghost use Rattle.prl_words.specs.code.Shortest.{AreGaps, IsSteady, IsShortened};
 
 use prl_base::Seq;
-use prl_plan::Word;
+use prl_plan::{Word, shortest_repeat};
+use std::alloc::{AllocError, Global};
 
-/// How much higher number `jobs` of the word is than number 0.
-fn rise(word: &Word, jobs: u64) -> u64
-    requires steady { IsSteady word.now }
-    requires within { jobs ≤ word.now.step_in }
-    ensures { result ≡ rise_of word.now jobs }
-{
-    word.number(jobs) - word.number(0)
-}
-
-/// Whether so many jobs later each number of the first turn is higher by so many.
-fn climbs(word: &Word, jobs: u64, higher: u64) -> bool
-    requires steady { IsSteady word.now }
-    requires within { jobs ≤ word.now.step_in }
-    requires higher { higher < 2 ^ 63 }
-    ensures { IsTrue result ↔ ClimbsFirst word.now jobs higher }
-{
-    for i in 0..word.step_in {
-        if word.number(i + jobs) != word.number(i) + higher {
-            return false;
-        }
-    }
-    true
-}
-
-/// The least number of jobs that divides the step and after which the numbers repeat, each as much
-/// higher as the others.
-fn shortest(word: &Word) -> u64
+/// How much higher each number of the first turn is than the one before it.
+fn gaps(alloc: Global, word: &Word) -> Result<Vec<u64>, AllocError>
     requires { IsSteady word.now }
-    ensures { IsShortestStep word.now result }
+    ensures { IfOk result (λ gaps. AreGaps word.now gaps.items) }
 {
-    for jobs in 1..word.step_in {
-        if word.step_in % jobs == 0 && climbs(word, jobs, rise(word, jobs)) {
-            return jobs;
-        }
+    let mut gaps = Vec::with_capacity(alloc, word.step_in as usize)?;
+    for i in 0..word.step_in {
+        gaps.push(word.number(i + 1) - word.number(i))?;
     }
-    word.step_in
+    Ok(gaps)
 }
 
-/// The word with its shortest repeating part. It takes no memory.
-pub(crate) fn shortened(word: Word) -> Word
+/// The word with its shortest repeating part: that of the gaps between its numbers.
+pub(crate) fn shortened(alloc: Global, word: Word) -> Result<Word, AllocError>
     requires { IsSteady word }
-    ensures { IsShortened word result }
+    ensures { IfOk result (IsShortened word) }
 {
-    let step_in = shortest(&word);
-    let step_out = rise(&word, step_in);
+    let gaps = gaps(alloc, &word)?;
+    let step_in = shortest_repeat(gaps.as_slice()) as u64;
+    let step_out = word.number(step_in) - word.number(0);
     let mut repeat = word.repeat.into_vec();
     repeat.truncate(step_in as usize);
-    Word {
+    Ok(Word {
         prefix: word.prefix,
         repeat: Seq::new(repeat),
         step_in,
         step_out,
-    }
+    })
 }

@@ -1,10 +1,6 @@
-//! Tests of the public calls of plans, cells, the machine and replays.
+//! Tests of the public calls of the plan of two tasks, the machine and replays.
 #![tactic(auto)]
 
-#[cfg(test)]
-mod cells;
-#[cfg(test)]
-mod graphs;
 #[cfg(test)]
 mod machines;
 #[cfg(test)]

@@ -1,12 +1,13 @@
 //! The machine over the plan of a sensor and its actuator.
 
 ghost use Rattle.std.specs.Prelude.{◌≡◌, codes};
-ghost use Rattle.prl_plan.specs.TwoTasks.{two_plan};
+ghost use Rattle.prl_relays.specs.TwoTasks.{two_plan};
 
 use prl_base::{CellNo, EdgeNo, Seq, TaskNo, Value};
 use prl_core::{Core, Event, Illegal, Rule, Seen, Unfinished};
 use prl_flow::Sensors;
-use prl_plan::{Horizon, Plan};
+use prl_plan::Horizon;
+use prl_relays::{plan_of_two, two_plans_link_devices};
 use std::test::Fail;
 
 /// Does the events of a list in which `t` is a tick, `i` an act of task 0 and `o` one of task 1, up to the first that is
@@ -40,10 +41,11 @@ struct Outcome {
 
 /// Plays a list on a sensor with the rows 1 and 2 and its actuator, both of WCET 1 on period 10, until 20.
 fn outcome_of(rt: &HostRuntime, events: &[u8]) -> Result<Outcome, Fail> {
-    let plan = Plan::two(rt.alloc(), b"i", b"o", 10, 1, 1)?;
+    let plan = plan_of_two(rt.alloc(), b"i", b"o", 10, 1, 1)?;
     let rows = Seq::new(vec![in rt.alloc(); Value::Int(1), Value::Int(2)]?);
     let sensors = Sensors::new(vec![in rt.alloc(); rows]?);
     let horizon = Horizon::new(&plan, 20).ok().ok_or("a small horizon")?;
+    two_plans_link_devices();
     let mut core = Core::new(rt.alloc(), &plan, &sensors, horizon)?;
     let seen = play(&mut core, events);
     Ok(Outcome {
@@ -93,10 +95,11 @@ fn reads_of_a_run(rt: HostRuntime) -> Result<(), Fail> {
 
 #[test]
 fn no_job_until_0(rt: HostRuntime) -> Result<(), Fail> {
-    let plan = Plan::two(rt.alloc(), b"i", b"o", 10, 1, 1)?;
+    let plan = plan_of_two(rt.alloc(), b"i", b"o", 10, 1, 1)?;
     let none = Seq::new(Vec::new(rt.alloc()));
     let sensors = Sensors::new(vec![in rt.alloc(); none]?);
     let horizon = Horizon::new(&plan, 0).ok().ok_or("a small horizon")?;
+    two_plans_link_devices();
     let mut core = Core::new(rt.alloc(), &plan, &sensors, horizon)?;
     assert_eq!(rt; core.finished(), Ok(()));
     assert_eq!(rt; play(&mut core, b"t"), Err((1, Rule::L4)));

@@ -1,14 +1,15 @@
 //! Worked schedules of a sensor `i` and its actuator `o`, both of WCET 1 on period 10, with the rows 1 and 2, until 20.
 
 ghost use Rattle.std.specs.Prelude.{◌≡◌, All, IfOk, codes, length};
-ghost use Rattle.prl_plan.specs.TwoTasks.{two_plan};
+ghost use Rattle.prl_relays.specs.TwoTasks.{two_plan};
 ghost use Rattle.prl_replay.specs.Schedules.{IsOfTasks};
 
 use crate::schedules::WHOLE;
 use prl_base::{CellNo, EdgeNo, Label, Seq, TaskNo, Value};
 use prl_core::{Core, Seen};
 use prl_flow::Sensors;
-use prl_plan::{Event, Horizon, Plan, Rule};
+use prl_plan::{Event, Horizon, Rule};
+use prl_relays::{plan_of_two, two_plans_link_devices};
 use prl_replay::{ReplayFault, ScheduleFault, read_schedule, replay};
 use std::alloc::Global;
 use std::test::Fail;
@@ -40,10 +41,11 @@ fn replayed(alloc: Global, core: &mut Core<'_>, events: &[Event]) -> Result<Vec<
 
 /// What the replay of a text until 20 comes to.
 fn outcome_of(alloc: Global, text: &str) -> Result<Result<Vec<Seen>, ReplayFault>, Fail> {
-    let plan = Plan::two(alloc, b"i", b"o", 10, 1, 1)?;
+    let plan = plan_of_two(alloc, b"i", b"o", 10, 1, 1)?;
     let rows = Seq::new(vec![in alloc; Value::Int(1), Value::Int(2)]?);
     let sensors = Sensors::new(vec![in alloc; rows]?);
     let horizon = Horizon::new(&plan, 20).ok().ok_or("a small horizon")?;
+    two_plans_link_devices();
     let mut core = Core::new(alloc, &plan, &sensors, horizon)?;
     let events = events_of(alloc, text)?.ok().ok_or("a schedule")?;
     Ok(replayed(alloc, &mut core, &events))
@@ -128,9 +130,10 @@ fn lines_of_schedules(rt: HostRuntime) -> Result<(), Fail> {
 #[test]
 fn nothing_until_0(rt: HostRuntime) -> Result<(), Fail> {
     let alloc = rt.alloc();
-    let plan = Plan::two(alloc, b"i", b"o", 10, 1, 1)?;
+    let plan = plan_of_two(alloc, b"i", b"o", 10, 1, 1)?;
     let sensors = Sensors::new(vec![in alloc; Seq::new(Vec::new(alloc))]?);
     let horizon = Horizon::new(&plan, 0).ok().ok_or("a small horizon")?;
+    two_plans_link_devices();
     let mut core = Core::new(alloc, &plan, &sensors, horizon)?;
     let events = events_of(alloc, "")?.ok().ok_or("a schedule")?;
     let reads = replayed(alloc, &mut core, &events)

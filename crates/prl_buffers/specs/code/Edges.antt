@@ -11,7 +11,7 @@ use Rattle.prl_plan.specs.CellLists.{ListsSums}
 use Rattle.prl_plan.specs.Dates.{AreEncodedDates, encoded_release, encoded_deadline, window_at}
 use Rattle.prl_plan.specs.Graphs.{IsWellFormed}
 use Rattle.prl_plan.specs.Jobs.{task_at}
-use Rattle.prl_plan.specs.Repeats.{IsShortestRepeat}
+use Rattle.prl_plan.specs.Repeats.{repeated, IsShortestRepeat}
 use Rattle.prl_plan.specs.Words.{IsWordOf}
 
 -- an edge of a well-formed graph, with its word and the encoded dates of the graph
@@ -51,6 +51,14 @@ pub record AreEnds (graph : TaskGraph) (windows : List (List Window)) (i from : 
 
 abbrev pub EndsFit : TaskGraph → List (List Window) → ℕ → ℕ → List ℕ → Type 0
 EndsFit graph windows i from jobs = (x : ℕ) → x < length jobs → deadline_in graph windows i (from + slice_index jobs x) < 2 ^ 50
+
+-- a front of the list that repeats as it does, and is the shortest that does so
+pub record IsCutOf (list cut : List ℕ) : Type 0 where
+  pub front : cut ≡ take (length cut) list
+  pub some : 1 ≤ length cut
+  pub within : length cut ≤ length list
+  pub same : (n : ℕ) → repeated cut n ≡ repeated list n
+  pub shortest : IsShortestRepeat cut
 
 -- the least number of cells of an edge from task i, and it fits
 pub record HasLeastCount (graph : TaskGraph) (windows : List (List Window)) (edge : Edge) (i : ℕ) (used : Used) (count : ℕ) : Type 0 where

@@ -5,21 +5,12 @@ use Rattle.prl_plan.specs.declared.tables.Window.{Window}
 use Rattle.prl_plan.specs.Dates.{no_window}
 use Rattle.prl_plan.specs.Jobs.{task_at}
 use Rattle.prl_plan.specs.Repeats.{IsShortestRepeat}
-use Rattle.prl_plan.proofs.ShortestRepeats.{ComesWithin}
 use Rattle.prl_dates.specs.Faults.{jobs_of}
 use Rattle.prl_dates.specs.code.Indices.{jobs_before}
 
 -- the window that the tables tell for an index of task i
 abbrev pub window_of : TaskGraph → ℕ → List ℕ → List ℕ → ℕ → Window
 window_of graph i bests tails index = record { lead = slice_index bests index - (task_at graph i).wcet; tail = slice_index tails index }
-
--- of the divisors of the length after which the same comes, the least
-pub record IsCut (list : List Window) (step : ℕ) : Type 0 where
-  pub some : 1 ≤ step
-  pub fits : step ≤ length list
-  pub divides : length list % step ≡ 0
-  pub serves : ComesWithin list step
-  pub none_less : (other : ℕ) → 1 ≤ other → other < step → length list % other ≡ 0 → ComesWithin list other → ⊥
 
 -- the shortest list of windows of task i
 pub record AreWindowsOf (graph : TaskGraph) (bests tails : List ℕ) (i : ℕ) (list : List Window) : Type 0 where

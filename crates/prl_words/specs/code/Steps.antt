@@ -108,11 +108,15 @@ pub record HasRoom (op : Op) (w : Word) : Type 0 where
   pub before_fits : IsCount before
   pub few : done < 2 ^ 32
 
--- the word of the operators so far, with those that are to come
-pub record IsSoFar (front rest : List Op) (w : Word) : Type 0 where
-  pub jobs : ℕ
+-- the word of the operators so far, with those that are to come, where the consumer has so many jobs in a hyperperiod
+pub record IsSoFar (jobs : ℕ) (front rest : List Op) (w : Word) : Type 0 where
   pub count : ℕ
   pub jobs_fit : IsCount jobs
   pub sized : IsSized jobs count (length front) w
   pub coming : HaveCounts rest count
+  pub constants : length w.prefix ≤ length front * jobs
   pub at : (n : ℕ) → word_at w n ≡ walk front n
+
+-- the word of these operators, whatever number of jobs the consumer has in a hyperperiod
+pub record IsComposed (ops : List Op) (w : Word) : Type 0 where
+  pub each : (jobs : ℕ) → HaveCounts ops jobs → IsSoFar jobs ops [] w

@@ -8,11 +8,11 @@ pub cells_of-requires : goal.cells_of-requires
 cells_of-requires c =
     let inside = c.loop-e-test.true in
     let edges : length c.as_slice-edges.result.now ≡ length c.args.graph.now.edges = ap length c.as_slice-edges.ensures in
-    let words : length c.as_slice-words.result.now ≡ length c.args.words.now = ap length c.as_slice-words.ensures in
+    let words : length c.as_slice-words.result.now ≡ length c.args.words.now.of = ap length c.as_slice-words.ensures in
     let long = c.requires.are_words.long in
-    planned c.args.graph.now c.args.words.now c.args.dates.now c.requires c.loop-e.e c.index-edges-e.result c.index-words-e.result
+    planned c.args.graph.now c.args.words.now.of c.args.dates.now c.requires c.loop-e.e c.index-edges-e.result c.index-words-e.result
     (item_at c.args.graph.now.edges c.as_slice-edges.result.now c.loop-e.e c.index-edges-e.result c.as_slice-edges.ensures inside c.index-edges-e.is)
-    (item_at c.args.words.now c.as_slice-words.result.now c.loop-e.e c.index-words-e.result c.as_slice-words.ensures (omega (arith, inside, edges, words, long)) c.index-words-e.is)
+    (item_at c.args.words.now.of c.as_slice-words.result.now c.loop-e.e c.index-words-e.result c.as_slice-words.ensures (omega (arith, inside, edges, words, long)) c.index-words-e.is)
 
 pub loop-e-preserved : goal.loop-e-preserved
 loop-e-preserved c =

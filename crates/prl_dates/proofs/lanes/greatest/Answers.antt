@@ -6,14 +6,16 @@ use Rattle.prl_base.specs.declared.operators.Op.{Op}
 use Rattle.prl_plan.specs.declared.graphs.Edge.{Edge}
 use Rattle.prl_plan.specs.Precedence.{preceding}
 use Rattle.prl_plan.specs.Ranges.{PrecedingFits}
+use Rattle.prl_plan.proofs.ReaderLaws.{preceding_rises}
 use Rattle.prl_dates.specs.code.Lanes.{Joins, AreGreatest}
+use Rattle.prl_dates.specs.code.Runs.{Rises}
 use Rattle.prl_dates.proofs.Readings.{item_stands}
 use Rattle.prl_dates.proofs.LaneSteps.{joins_edge, joins_inside, joined_fits, greatest_first, greatest_more, greatest_same}
 use Rattle.prl_dates.proofs.lanes.greatest.Goals as goal
-use Rattle.prl_dates.proofs.lanes.greatest.Goals.{then-joins, else-joins}
+use Rattle.prl_dates.proofs.lanes.greatest.Goals.{then-joins+in_ok-others, else-joins}
 
-pub jobs_of-requires-clause-task : goal.jobs_of-requires-clause-task
-jobs_of-requires-clause-task c = (joins_inside c.args.graph.now c.requires.well c.args.from.0 c.args.to.0 c.args.e c.requires.joins).1
+pub jobs_of-jobs-requires-clause-task : goal.jobs_of-jobs-requires-clause-task
+jobs_of-jobs-requires-clause-task c = (joins_inside c.args.graph.now c.requires.well c.args.from.0 c.args.to.0 c.args.e c.requires.joins).1
 
 pub numbers_over-requires-clause-fits : goal.numbers_over-requires-clause-fits
 numbers_over-requires-clause-fits c n below =
@@ -23,7 +25,17 @@ numbers_over-requires-clause-fits c n below =
     ap (λ (es : List Edge). get_or es c.args.e c.index-edges-e.result) c.as_slice-edges.ensures ∙ get_or_default graph.edges c.args.e c.index-edges-e.result edge c.requires.joins.inside in
     let joins : Joins graph c.args.from.0 c.args.to.0 edge = joins_edge graph c.requires.well c.args.from.0 c.args.to.0 c.args.e c.requires.joins edge is in
     subst (λ (ops : List Op). PrecedingFits ops (pos n)) (sym c.as_slice.ensures)
-    (joined_fits graph c.requires.well c.args.from.0 c.args.to.0 edge joins n (let j = c.jobs_of.ensures.jobs in omega (arith, j, below)))
+    (joined_fits graph c.requires.well c.args.from.0 c.args.to.0 edge joins n (let j = c.jobs_of-jobs.ensures.jobs in omega (arith, j, below)))
+
+pub numbers_over-requires-clause-rises : goal.numbers_over-requires-clause-rises
+numbers_over-requires-clause-rises c =
+    let graph = c.args.graph.now in
+    let edge : Edge = get_or c.as_slice-edges.result.now c.args.e c.index-edges-e.result in
+    let is : edge ≡ get_or graph.edges c.args.e edge =
+    ap (λ (es : List Edge). get_or es c.args.e c.index-edges-e.result) c.as_slice-edges.ensures ∙ get_or_default graph.edges c.args.e c.index-edges-e.result edge c.requires.joins.inside in
+    let joins : Joins graph c.args.from.0 c.args.to.0 edge = joins_edge graph c.requires.well c.args.from.0 c.args.to.0 c.args.e c.requires.joins edge is in
+    subst (λ (ops : List Op). Rises ops) (sym c.as_slice.ensures)
+    (preceding_rises edge.ty edge.ops (c.requires.well.edges joins.stands.0 edge joins.stands.1).operators)
 
 pub loop-edge-init : goal.loop-edge-init
 loop-edge-init c =
@@ -33,22 +45,30 @@ loop-edge-init c =
     ap (λ (es : List Edge). get_or es c.args.e c.index-edges-e.result) c.as_slice-edges.ensures ∙ get_or_default graph.edges c.args.e c.index-edges-e.result edge c.requires.joins.inside in
     let joins : Joins graph c.args.from.0 c.args.to.0 edge = joins_edge graph c.requires.well c.args.from.0 c.args.to.0 c.args.e c.requires.joins edge is in
     greatest_first graph c.requires.well c.args.from.0 c.args.to.0 joins.stands.0 edge joins.stands.1 joins.from joins.to c.in_ok-numbers.numbers.items
-    (c.in_ok-numbers.ensures.long ∙ c.jobs_of.ensures.jobs)
-    (λ n below. c.in_ok-numbers.ensures.each n (let j = c.jobs_of.ensures.jobs in omega (arith, j, below)) ∙ ap (λ (ops : List Op). preceding ops (pos n)) c.as_slice.ensures)
+    (c.in_ok-numbers.ensures.long ∙ c.jobs_of-jobs.ensures.jobs)
+    (λ n below. c.in_ok-numbers.ensures.each n (let j = c.jobs_of-jobs.ensures.jobs in omega (arith, j, below)) ∙ ap (λ (ops : List Op). preceding ops (pos n)) c.as_slice.ensures)
 
-pub raise-requires-clause-fits : goal.raise-requires-clause-fits
-raise-requires-clause-fits c n below =
+pub numbers_over-requires-then-joins-clause-fits : goal.numbers_over-requires-then-joins-clause-fits
+numbers_over-requires-then-joins-clause-fits c n below =
     let graph = c.args.graph.now in
     let edge = c.edge-item.result in
-    let k = c.loop-edge.edge-index in
     let is : edge ≡ get_or graph.edges c.loop-edge.edge-index edge = c.edge-item.is ∙ ap (λ (es : List Edge). get_or es c.loop-edge.edge-index edge) c.as_slice-edges.ensures in
     let inside : c.loop-edge.edge-index < length graph.edges = subst (λ (es : List Edge). c.loop-edge.edge-index < length es) c.as_slice-edges.ensures c.loop-edge-test.true in
     let stands : slice_get graph.edges c.loop-edge.edge-index ≡ Some edge = item_stands graph.edges c.loop-edge.edge-index edge inside is in
     let both = c.joins.ensures.0 c.if-joins.true in
     let joins : Joins graph c.args.from.0 c.args.to.0 edge = record { stands = (c.loop-edge.edge-index, stands); from = both.0; to = both.1 } in
     subst (λ (ops : List Op). PrecedingFits ops (pos n)) (sym c.as_slice-then-joins.ensures)
-    (joined_fits graph c.requires.well c.args.from.0 c.args.to.0 edge joins n
-    (let l = c.loop-edge.invariant.long in let v = ap (λ (xs : List ℤ). length xs) c.as_mut_slice.ensures.value in omega (arith, l, v, below)))
+    (joined_fits graph c.requires.well c.args.from.0 c.args.to.0 edge joins n (let j = c.jobs_of-jobs.ensures.jobs in omega (arith, j, below)))
+
+pub numbers_over-requires-then-joins-clause-rises : goal.numbers_over-requires-then-joins-clause-rises
+numbers_over-requires-then-joins-clause-rises c =
+    let graph = c.args.graph.now in
+    let edge = c.edge-item.result in
+    let is : edge ≡ get_or graph.edges c.loop-edge.edge-index edge = c.edge-item.is ∙ ap (λ (es : List Edge). get_or es c.loop-edge.edge-index edge) c.as_slice-edges.ensures in
+    let inside : c.loop-edge.edge-index < length graph.edges = subst (λ (es : List Edge). c.loop-edge.edge-index < length es) c.as_slice-edges.ensures c.loop-edge-test.true in
+    let stands : slice_get graph.edges c.loop-edge.edge-index ≡ Some edge = item_stands graph.edges c.loop-edge.edge-index edge inside is in
+    subst (λ (ops : List Op). Rises ops) (sym c.as_slice-then-joins.ensures)
+    (preceding_rises edge.ty edge.ops (c.requires.well.edges c.loop-edge.edge-index edge stands).operators)
 
 pub loop-edge-preserved : goal.loop-edge-preserved
 loop-edge-preserved c =
@@ -59,14 +79,17 @@ loop-edge-preserved c =
     let inside : c.loop-edge.edge-index < length graph.edges = subst (λ (es : List Edge). c.loop-edge.edge-index < length es) c.as_slice-edges.ensures c.loop-edge-test.true in
     let stands : slice_get graph.edges c.loop-edge.edge-index ≡ Some edge = item_stands graph.edges c.loop-edge.edge-index edge inside is in
     elim c.if-joins.branch [
-      | then-joins w ↦
+      | then-joins+in_ok-others w ↦
           (let both = c.joins.ensures.0 w.if-joins.true in
           let value : w.as_mut_slice.result.now ≡ c.loop-edge.numbers.items = w.as_mut_slice.ensures.value in
           let long : length w.raise.new.numbers ≡ length c.loop-edge.numbers.items = w.raise.ensures.long ∙ ap (λ (xs : List ℤ). length xs) value in
+          let jobs : length c.loop-edge.numbers.items ≡ c.jobs_of-jobs.result = (let l = c.loop-edge.invariant.long in let j = c.jobs_of-jobs.ensures.jobs in omega (arith, l, j)) in
           let each : (n : ℕ) → n < length c.loop-edge.numbers.items →
           slice_index_or w.raise.new.numbers n (pos 0) ≡ int_max (slice_index_or c.loop-edge.numbers.items n (pos 0)) (preceding edge.ops (pos n)) =
           λ n below. w.raise.ensures.each n (subst (λ (xs : List ℤ). n < length xs) (sym value) below)
-          ∙ ap (λ (xs : List ℤ). int_max (slice_index_or xs n (pos 0)) (preceding w.as_slice-then-joins.result.now (pos n))) value
+          ∙ ap (λ (xs : List ℤ). int_max (slice_index_or xs n (pos 0)) (slice_index_or w.as_slice-then-joins-2.result.now n (pos 0))) value
+          ∙ ap (λ (xs : List ℤ). int_max (slice_index_or c.loop-edge.numbers.items n (pos 0)) (slice_index_or xs n (pos 0))) w.as_slice-then-joins-2.ensures.value
+          ∙ ap (λ (z : ℤ). int_max (slice_index_or c.loop-edge.numbers.items n (pos 0)) z) (w.in_ok-others.ensures.each n (omega (arith, below, jobs)))
           ∙ ap (λ (ops : List Op). int_max (slice_index_or c.loop-edge.numbers.items n (pos 0)) (preceding ops (pos n))) w.as_slice-then-joins.ensures in
           subst (λ (v : Vec ℤ Global). AreGreatest graph c.args.from.0 c.args.to.0 (k + 1) v.items) (sym w.numbers-is)
           (subst (λ (xs : List ℤ). AreGreatest graph c.args.from.0 c.args.to.0 (k + 1) xs) (sym (with_items_is c.loop-edge.numbers w.raise.new.numbers (let o = c.loop-edge.numbers.ok.0 in omega (arith, long, o))))

@@ -7,6 +7,7 @@ use Rattle.prl_plan.specs.Ranges.{Fits64}
 use Rattle.prl_plan.specs.Dates.{place_in}
 use Rattle.prl_plan.proofs.RoundPeriods.{task_is}
 use Rattle.prl_dates.specs.Faults.{jobs_of}
+use Rattle.prl_dates.proofs.Indices.{index_below}
 use Rattle.prl_dates.proofs.Readings.{task_read}
 use Rattle.prl_dates.proofs.LaneSteps.{AreNear, are_near, link_made, few_jobs}
 use Rattle.prl_dates.proofs.lanes.link_of.Goals as goal
@@ -52,6 +53,15 @@ release-later-requires-clause-fits c =
     let near : AreNear graph c.requires.well c.args.from.0 c.args.to.0 c.args.n c.args.before = are_near graph c.requires.well c.args.from.0 c.args.to.0 c.args.n c.args.before c.requires.from c.requires.to c.requires.job c.requires.greatest in
     subst (λ (z : ℤ). Fits64 (release_of t z)) (sym small) (subst (λ (x : Task). Fits64 (release_of x (pos c.args.n))) (sym e) near.later)
 
+pub overflow_add-result : goal.overflow_add-result
+overflow_add-result c =
+    let graph = c.args.graph.now in
+    let below : c.place_in-place.result < jobs_of graph c.args.from.0 = (let b = c.place_in-place.ensures.below in let j = c.jobs_of.ensures.jobs in omega (arith, b, j)) in
+    let inside = index_below graph c.args.from.0 c.place_in-place.result c.requires.from below in
+    let first = c.requires.first in
+    let few = c.requires.well.few_jobs in
+    omega (arith, inside, first, few)
+
 pub returns : goal.returns
 returns c =
     let graph = c.args.graph.now in
@@ -62,8 +72,8 @@ returns c =
     let seam : to_z w64 (of_z w64 c.args.before) ≡ c.args.before = to_z-of_z w64 c.args.before c.ranges.before in
     let small : to_z w64 c.args.n ≡ pos c.args.n = to_z_pos w64 c.args.n (let f = few_jobs graph c.requires.well c.args.to.0 c.args.n c.requires.to c.requires.job in omega (arith, f)) in
     let near : AreNear graph c.requires.well c.args.from.0 c.args.to.0 c.args.n c.args.before = are_near graph c.requires.well c.args.from.0 c.args.to.0 c.args.n c.args.before c.requires.from c.requires.to c.requires.job c.requires.greatest in
-    link_made graph c.requires.well c.args.from.0 c.args.to.0 c.args.n c.args.before near (record { from = c.jobs_before.result + c.place_in-place.result; gap = c.abs_diff.result })
-    (let x = c.jobs_before.ensures.jobs in
+    link_made graph c.requires.well c.args.from.0 c.args.to.0 c.args.n c.args.before near (record { from = c.args.first + c.place_in-place.result; gap = c.abs_diff.result })
+    (let x = c.requires.first in
     let y : c.place_in-place.result ≡ place_in c.args.before (jobs_of graph c.args.from.0) =
     c.place_in-place.ensures.place ∙ ap (λ (z : ℤ). place_in z c.jobs_of.result) seam ∙ ap (λ (n : ℕ). place_in c.args.before n) c.jobs_of.ensures.jobs in
     omega (arith, x, y))

@@ -1,5 +1,5 @@
-use Rattle.prl_plan.proofs.PlanNumbers.{walk_small, walked_within, preceding_small}
+use Rattle.prl_plan.proofs.PlanNumbers.{walked_within, preceding_small}
 use Rattle.prl_plan.proofs.numbers.walk_numbers_fit.Goals as goal
 
 pub returns : goal.returns
-returns c = record { walk = walk_small; read = walked_within; precedence = preceding_small }
+returns c = record { read = walked_within; precedence = preceding_small }

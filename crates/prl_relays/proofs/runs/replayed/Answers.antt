@@ -1,16 +1,24 @@
 use Rattle.std.proofs.Common.{◌≡◌, ℕ, List, lit≤, refl, sym, ap, ◌∙◌, subst}
 use Rattle.std.specs.Prelude.{nat_le, ◌+◌}
 use Rattle.prl_base.specs.declared.values.Value.{Value}
-use Rattle.prl_flow.specs.Programs.{wcet_of}
+use Rattle.prl_flow.specs.Programs.{name_of, wcet_of}
 use Rattle.prl_flow.specs.Rows.{rows_of}
 use Rattle.prl_chains.specs.Relays.{is_relay}
+use Rattle.prl_core.specs.Devices.{LinksDevices}
 use Rattle.prl_core.specs.Machine.{CoreView, Drives}
+use Rattle.prl_plan.specs.Plans.{PlanView}
 use Rattle.prl_replay.specs.Replays.{IsReplay, after_all}
 use Rattle.prl_relays.specs.Relays.{Relay, machine, input_clock, fits_period, IsOutput, AreOperands}
 use Rattle.prl_relays.proofs.Solutions.{both}
 use Rattle.prl_relays.proofs.Handed.{core_rows, core_is, solved_after}
 use Rattle.prl_relays.proofs.Operands.{operands_after}
 use Rattle.prl_relays.proofs.runs.replayed.Goals as goal
+
+pub new-requires-clause-devices : goal.new-requires-clause-devices
+new-requires-clause-devices c =
+    subst (λ (p : PlanView). LinksDevices p) (sym c.requires.plan)
+    (c.two_plans_link_devices.ensures (name_of c.args.chain.now.flat.in_devices 0) (name_of c.args.chain.now.flat.out_devices 0) (input_clock c.args.chain.now).period
+    (wcet_of c.args.chain.now.flat.in_devices 0) (wcet_of c.args.chain.now.flat.out_devices 0))
 
 pub new-requires-clause-rows : goal.new-requires-clause-rows
 new-requires-clause-rows c =

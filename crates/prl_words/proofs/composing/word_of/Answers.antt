@@ -1,57 +1,97 @@
-use Rattle.std.proofs.Common.{◌≡◌, ◌+◌, ◌<◌, ◌≤◌, ◌++◌, ℕ, List, [], ◌∷◌, take, drop, length, length-take-le, get_or, sym, ap, subst, ◌∙◌, arith}
-use Rattle.std.proofs.lemmas.List.{take_more, drop_more, take_all}
+use Rattle.std.proofs.Common.{◌≡◌, ◌+◌, ◌*◌, ◌/◌, ◌<◌, ◌≤◌, ◌^◌, ℕ, List, [], drop, length, sym, ap, subst, ◌∙◌, arith, length-drop}
+use Rattle.std.specs.Prelude.{IfOk}
+use Rattle.std.proofs.Math.Nat.{mul-le-mul_left, mul-le-mul_right}
+use Rattle.std.proofs.lemmas.List.{take_rest}
 use Rattle.prl_base.specs.declared.operators.Op.{Op}
 use Rattle.prl_plan.specs.declared.words.Word.{Word}
-use Rattle.prl_words.specs.code.Steps.{IsSoFar, IsExtended}
-use Rattle.prl_words.proofs.SoFar.{room_so_far, next_so_far, first_so_far, steady_so_far, word_so_far}
+use Rattle.prl_plan.specs.Operands.{walk}
+use Rattle.prl_plan.specs.Words.{word_at, IsWordOf}
+use Rattle.prl_words.specs.code.Holding.{IsLeading, IsHeld}
+use Rattle.prl_words.specs.code.Shortest.{IsSteady, IsShortened}
+use Rattle.prl_words.specs.code.Steps.{IsSoFar, IsComposed}
+use Rattle.prl_words.specs.Counts.{HaveCounts}
+use Rattle.prl_words.proofs.Held.{held_word, operand_held, steady_held}
+use Rattle.prl_words.proofs.SoFar.{counts_here, steady_so_far, word_shortest}
+use Rattle.prl_words.proofs.Turns.{first_some, second_some}
 use Rattle.prl_words.proofs.composing.word_of.Goals as goal
 
--- the operators to come begin with the one at this place
-at_turn : (ops : List Op) (i : ℕ) (op : Op) (w : Word) → i < length ops → op ≡ get_or ops i op → IsSoFar (take i ops) (drop i ops) w →
-    IsSoFar (take i ops) (op ∷ drop (i + 1) ops) w
-at_turn ops i op w below is so_far =
-    let split : drop i ops ≡ op ∷ drop (i + 1) ops = drop_more ops i op below ∙ ap (λ (o : Op). o ∷ drop (i + 1) ops) (sym is) in
-    subst (λ (rest : List Op). IsSoFar (take i ops) rest w) split so_far
+-- what the slow word comes to
+record Slow (ops : List Op) (count times : ℕ) (w : Word) : Type 0 where
+  steady : IsSteady w
+  prefix : length w.prefix * times ≤ 2 ^ 32 * 10000000
+  step : w.step_in * times ≤ 10000000
+  at : (n : ℕ) → word_at w n ≡ walk (drop count ops) n
 
-pub with_operator-requires : goal.with_operator-requires
-with_operator-requires c =
-    let ops = c.args.ops.now in
-    let i = c.loop-op.op-index in
-    let op = c.op-item.result in
-    let below : i < length ops = c.loop-op-test.true in
-    let front_long : length (take i ops) ≡ i = length-take-le i ops (omega (arith, below)) in
-    room_so_far op (take i ops) (drop (i + 1) ops) c.loop-op.word (at_turn ops i op c.loop-op.word below c.op-item.is c.loop-op.invariant)
-    (omega (arith, front_long, below, c.requires.few))
+slow : (ops : List Op) (count times : ℕ) (w : Word) → length ops < 2 ^ 32 → (jobs : ℕ) → HaveCounts ops jobs → IsLeading ops count times → IsComposed (drop count ops) w → Slow ops count times w
+slow ops count times w few jobs counts lead composed =
+    let b = lead.counts jobs counts in
+    let s : IsSoFar b.0 (drop count ops) [] w = composed.each b.0 b.1 in
+    let fit = counts_here ops jobs counts in
+    let fewer : length (drop count ops) < 2 ^ 32 = (let l = length-drop count ops in omega (arith, l, few)) in
+    let j : jobs ≡ times * b.0 = b.2 in
+    let turns_some : 1 ≤ s.sized.turns = second_some w.step_in s.sized.turns b.0 s.sized.jobs_are s.jobs_fit.0 in
+    let in_le : w.step_in * 1 ≤ w.step_in * s.sized.turns = mul-le-mul_left w.step_in turns_some in
+    let within : w.step_in ≤ b.0 = (let e = s.sized.jobs_are in omega (arith, in_le, e)) in
+    let step : times * w.step_in ≤ times * b.0 = mul-le-mul_left times within in
+    let swap : w.step_in * times ≡ times * w.step_in = omega arith in
+    let prefix : length w.prefix * times ≤ length (drop count ops) * b.0 * times = mul-le-mul_right times s.constants in
+    let group : length (drop count ops) * b.0 * times ≡ length (drop count ops) * (times * b.0) = omega arith in
+    let whole : length (drop count ops) * (times * b.0) ≡ length (drop count ops) * jobs = ap (λ (x : ℕ). length (drop count ops) * x) (sym j) in
+    let most : length (drop count ops) * jobs ≤ length (drop count ops) * 10000000 = mul-le-mul_left (length (drop count ops)) fit.1 in
+    let all : length (drop count ops) * 10000000 ≤ 2 ^ 32 * 10000000 = mul-le-mul_right 10000000 (let e : length (drop count ops) ≤ 2 ^ 32 = omega (arith, fewer) in e) in
+    record {
+      steady = steady_so_far b.0 (drop count ops) [] w s fewer;
+      prefix = omega (arith, prefix, group, whole, most, all);
+      step = omega (arith, step, swap, j, fit.1);
+      at = s.at;
+    }
 
-pub loop-op-init : goal.loop-op-init
-loop-op-init c =
-    let ops = c.args.ops.now in
-    subst (λ (w : Word). IsSoFar [] ops w) (sym c.in_ok-word.ensures) (first_so_far ops c.requires.counts.0 c.requires.counts.1)
+pub held-requires-clause-prefix : goal.held-requires-clause-prefix
+held-requires-clause-prefix c =
+    let lead = c.leading_rates-operators.ensures in
+    let composed : IsComposed (drop c.leading_rates-operators.result.operators c.args.ops.now) c.in_ok-slow.slow =
+    subst (λ (xs : List Op). IsComposed xs c.in_ok-slow.slow) (take_rest c.args.ops.now c.leading_rates-operators.result.operators) c.in_ok-slow.ensures in
+    let s = slow c.args.ops.now c.leading_rates-operators.result.operators c.leading_rates-operators.result.times c.in_ok-slow.slow c.requires.few c.requires.counts.0 c.requires.counts.1 lead composed in
+    (let p = s.prefix in omega (arith, p))
 
-pub loop-op-preserved : goal.loop-op-preserved
-loop-op-preserved c =
-    let ops = c.args.ops.now in
-    let i = c.loop-op.op-index in
-    let op = c.op-item.result in
-    let below : i < length ops = c.loop-op-test.true in
-    let extended : IsExtended op c.loop-op.word c.in_ok-word-2.word = c.in_ok-word-2.ensures in
-    let split : take (i + 1) ops ≡ take i ops ++ op ∷ [] = take_more ops i op below ∙ ap (λ (o : Op). take i ops ++ o ∷ []) (sym c.op-item.is) in
-    subst (λ (front : List Op). IsSoFar front (drop (i + 1) ops) c.in_ok-word-2.word) (sym split)
-    (next_so_far op (take i ops) (drop (i + 1) ops) c.loop-op.word c.in_ok-word-2.word (at_turn ops i op c.loop-op.word below c.op-item.is c.loop-op.invariant) extended)
+pub held-requires-clause-repeat : goal.held-requires-clause-repeat
+held-requires-clause-repeat c =
+    let lead = c.leading_rates-operators.ensures in
+    let composed : IsComposed (drop c.leading_rates-operators.result.operators c.args.ops.now) c.in_ok-slow.slow =
+    subst (λ (xs : List Op). IsComposed xs c.in_ok-slow.slow) (take_rest c.args.ops.now c.leading_rates-operators.result.operators) c.in_ok-slow.ensures in
+    let s = slow c.args.ops.now c.leading_rates-operators.result.operators c.leading_rates-operators.result.times c.in_ok-slow.slow c.requires.few c.requires.counts.0 c.requires.counts.1 lead composed in
+    let l : length c.in_ok-slow.slow.repeat * c.leading_rates-operators.result.times ≡ c.in_ok-slow.slow.step_in * c.leading_rates-operators.result.times =
+    ap (λ (x : ℕ). x * c.leading_rates-operators.result.times) s.steady.word.long in
+    (let p = s.step in omega (arith, p, l))
 
--- all operators are composed
-all_composed : (ops : List Op) (i : ℕ) (w : Word) → length ops ≤ i → IsSoFar (take i ops) (drop i ops) w → IsSoFar ops (drop i ops) w
-all_composed ops i w past so_far = subst (λ (front : List Op). IsSoFar front (drop i ops) w) (take_all i ops past) so_far
+pub held-requires-clause-step : goal.held-requires-clause-step
+held-requires-clause-step c =
+    let lead = c.leading_rates-operators.ensures in
+    let composed : IsComposed (drop c.leading_rates-operators.result.operators c.args.ops.now) c.in_ok-slow.slow =
+    subst (λ (xs : List Op). IsComposed xs c.in_ok-slow.slow) (take_rest c.args.ops.now c.leading_rates-operators.result.operators) c.in_ok-slow.ensures in
+    let s = slow c.args.ops.now c.leading_rates-operators.result.operators c.leading_rates-operators.result.times c.in_ok-slow.slow c.requires.few c.requires.counts.0 c.requires.counts.1 lead composed in
+    (let p = s.step in omega (arith, p))
 
 pub shortened-requires : goal.shortened-requires
 shortened-requires c =
-    let ops = c.args.ops.now in
-    let i = c.loop-op.op-index in
-    steady_so_far ops (drop i ops) c.loop-op.word (all_composed ops i c.loop-op.word c.loop-op-test.false c.loop-op.invariant) c.requires.few
+    let lead = c.leading_rates-operators.ensures in
+    let composed : IsComposed (drop c.leading_rates-operators.result.operators c.args.ops.now) c.in_ok-slow.slow =
+    subst (λ (xs : List Op). IsComposed xs c.in_ok-slow.slow) (take_rest c.args.ops.now c.leading_rates-operators.result.operators) c.in_ok-slow.ensures in
+    let s = slow c.args.ops.now c.leading_rates-operators.result.operators c.leading_rates-operators.result.times c.in_ok-slow.slow c.requires.few c.requires.counts.0 c.requires.counts.1 lead composed in
+    steady_held c.leading_rates-operators.result.times lead.some c.in_ok-slow.slow c.in_ok-long.long s.steady.word c.in_ok-long.ensures s.steady
+    (let p = s.step in let e = c.in_ok-long.ensures.step_in in omega (arith, p, e))
+
+word_made : (ops : List Op) (count times : ℕ) (w t r : Word) → IsLeading ops count times → Slow ops count times w → IsHeld times w t → IsShortened t r → IsWordOf ops r
+word_made ops count times w t r lead s held shortened =
+    let few : t.step_in ≤ 2 ^ 32 = (let p = s.step in let e = held.step_in in omega (arith, p, e)) in
+    word_shortest ops t r (steady_held times lead.some w t s.steady.word held s.steady few)
+    (λ n. operand_held times lead.some w t s.steady.word held n ∙ s.at (n / times) ∙ sym (lead.walks n)) shortened
 
 pub returns : goal.returns
 returns c =
-    let ops = c.args.ops.now in
-    let i = c.loop-op.op-index in
-    word_so_far ops (drop i ops) c.loop-op.word c.shortened.result
-    (all_composed ops i c.loop-op.word c.loop-op-test.false c.loop-op.invariant) c.requires.few c.shortened.ensures
+    let lead = c.leading_rates-operators.ensures in
+    let composed : IsComposed (drop c.leading_rates-operators.result.operators c.args.ops.now) c.in_ok-slow.slow =
+    subst (λ (xs : List Op). IsComposed xs c.in_ok-slow.slow) (take_rest c.args.ops.now c.leading_rates-operators.result.operators) c.in_ok-slow.ensures in
+    let s = slow c.args.ops.now c.leading_rates-operators.result.operators c.leading_rates-operators.result.times c.in_ok-slow.slow c.requires.few c.requires.counts.0 c.requires.counts.1 lead composed in
+    word_made c.args.ops.now c.leading_rates-operators.result.operators c.leading_rates-operators.result.times c.in_ok-slow.slow c.in_ok-long.long c.in_ok-word.word
+    lead s c.in_ok-long.ensures c.in_ok-word.ensures

@@ -9,6 +9,8 @@ use Rattle.prl_plan.specs.Words.{AreWords}
 use Rattle.prl_words.proofs.Constants.{edge_counts, edge_read}
 use Rattle.prl_plan.specs.declared.graphs.Edge.{Edge}
 use Rattle.prl_plan.specs.FirstReaders.{first_reader}
+use Rattle.prl_plan.proofs.ReaderLaws.{is_first_reader}
+use Rattle.prl_plan.proofs.WordNumbers.{first_after_prefix, one_first}
 use Rattle.prl_words.proofs.Listed.{AreSoMany, one_more, same_sum}
 use Rattle.prl_words.proofs.graphs.listed.Goals as goal
 
@@ -51,8 +53,8 @@ returns c =
     λ e edge found. (let w = each e edge found in (
       w.0,
       w.1,
-      c.words_begin_with_constants.ensures.one edge.ops (length w.0.prefix) (first_reader edge.ops) (c.words_begin_with_constants.ensures.first edge.ops w.0 w.2)
-          (c.hyperperiod_shows_cells.ensures.reader graph c.requires.well e edge found),
+      one_first edge.ops (length w.0.prefix) (first_reader edge.ops) (first_after_prefix edge.ops w.0 w.2)
+          (is_first_reader edge.ty edge.ops (c.requires.well.edges e edge found).operators),
     )) in
     subst (λ (xs : List Word). AreWords graph xs) (sym c.new.ensures)
     (record {

@@ -1,6 +1,6 @@
 use Rattle.std.proofs.Common.{◌≡◌}
 use Rattle.std.specs.Prelude.{codes}
-use Rattle.prl_plan.specs.TwoTasks.{two_plan}
+use Rattle.prl_relays.specs.TwoTasks.{two_plan}
 use Rattle.test_plans.proofs.machines.play.Given as goal
 
 abbrev pub invariant-loop-k : goal.invariant-loop-k

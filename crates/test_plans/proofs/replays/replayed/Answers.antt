@@ -2,7 +2,7 @@ use Rattle.std.proofs.Common.{sym, subst}
 use Rattle.std.specs.Prelude.{All, codes}
 use Rattle.prl_core.specs.Machine.{IsOfPlan}
 use Rattle.prl_plan.specs.Plans.{PlanView}
-use Rattle.prl_plan.specs.TwoTasks.{two_plan}
+use Rattle.prl_relays.specs.TwoTasks.{two_plan}
 use Rattle.prl_plan.specs.declared.events.Event.{Event}
 use Rattle.prl_plan.specs.declared.events.Event.TheVariants as events
 use Rattle.prl_replay.specs.Schedules.{IsOfTasks}

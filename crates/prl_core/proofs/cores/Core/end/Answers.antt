@@ -28,4 +28,4 @@ invariant_of-self c =
     subst (λ (v : CoreView). next_action (constants v) v.state c.args.task.0 ≡ actions.End) (sym seen) c.requires.ends in
     subst (λ (n : ℕ). IsWhole (record core { state = record core.state { ended = set core.state.ended c.args.task.0 (n + 1); places = set core.state.places c.args.task.0 0 } })
     c.self.inside.values.items columns) (sym now)
-    (kept_end core c.plan_facts.ensures c.plan_links_devices.ensures c.self.inside.values.items columns c.self.invariant c.args.task keeps ends)
+    (kept_end core c.plan_facts.ensures c.self.invariant.devices c.self.inside.values.items columns c.self.invariant c.args.task keeps ends)

@@ -33,5 +33,5 @@ returns c =
       subst (λ (v : CoreView). AreOutputs v i (take c.index-2.result.now c.as_slice.result.now)) seen
           (subst (λ (xs : List Value). AreOutputs core i (take c.index-2.result.now xs)) row
           (subst (λ (n : ℕ). AreOutputs core i (take n (column columns i))) (sym ended)
-          (column_is_output core c.plan_facts.ensures c.plan_links_devices.ensures c.self.inside.values.items columns c.self.invariant i inside))),
+          (column_is_output core c.plan_facts.ensures c.self.invariant.devices c.self.inside.values.items columns c.self.invariant i inside))),
     )

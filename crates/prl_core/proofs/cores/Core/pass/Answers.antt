@@ -26,4 +26,4 @@ invariant_of-self c =
     let place : c.index_mut.result.now ≡ get_or core.state.places c.args.task.0 0 =
     c.index_mut.ensures.value ∙ get_or_default_zero core.state.places c.args.task.0 c.index_mut.result.now (let l = c.self.invariant.sound.tagged.places in let t = keeps.0.task in omega (arith, l, t)) in
     subst (λ (p : ℕ). IsWhole (record core { state = record core.state { places = set core.state.places c.args.task.0 (p + 1) } }) c.self.inside.values.items columns) (sym place)
-    (kept_pass core c.plan_facts.ensures c.plan_links_devices.ensures c.self.inside.values.items columns c.self.invariant c.args.task keeps reads)
+    (kept_pass core c.plan_facts.ensures c.self.invariant.devices c.self.inside.values.items columns c.self.invariant c.args.task keeps reads)

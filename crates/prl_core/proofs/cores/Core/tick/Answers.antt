@@ -23,4 +23,4 @@ invariant_of-self c =
       within = omega (arith, c.if-self.false);
       ended = λ j n unfinished. in_time j unfinished.task n unfinished;
     } in
-    kept_tick core c.plan_facts.ensures c.plan_links_devices.ensures c.self.inside.values.items columns c.self.invariant may
+    kept_tick core c.plan_facts.ensures c.self.invariant.devices c.self.inside.values.items columns c.self.invariant may

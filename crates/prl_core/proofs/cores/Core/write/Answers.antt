@@ -30,7 +30,7 @@ sensed-value-requires-clause-sensor c =
     let is : next_action (constants core) core.state c.args.task.0 ≡ actions.Write c.requires.writes.0 c.args.job c.args.slot =
     subst (λ (v : CoreView). next_action (constants v) v.state c.args.task.0 ≡ actions.Write c.requires.writes.0 c.args.job c.args.slot) (sym seen) c.requires.writes.1 in
     subst (λ (v : CoreView). (k : ℕ) × ((task_at v.plan.graph c.args.task.0).kind ≡ kinds.Sensor k)) seen
-    (writer_is_sensor core c.plan_links_devices.ensures c.args.task.0 c.requires.writes.0 c.args.job c.args.slot is)
+    (writer_is_sensor core c.self.invariant.devices c.args.task.0 c.requires.writes.0 c.args.job c.args.slot is)
 
 pub index_mut-requires-2 : goal.index_mut-requires-2
 index_mut-requires-2 c =
@@ -95,5 +95,5 @@ invariant_of-self c =
     subst (λ (v : CoreView). value_of_job v.rows (task_at v.plan.graph c.args.task.0).kind c.args.job ≡ Some c.sensed-value.result) (sym seen) c.sensed-value.ensures in
     subst (λ (p : ℕ). IsWhole (record core { state = record core.state { places = set core.state.places c.args.task.0 (p + 1); tags = set core.state.tags c.args.slot.0 (c.args.job + 1) } })
     (set c.self.inside.values.items c.args.slot.0 c.sensed-value.result) columns) (sym place)
-    (kept_write core c.plan_facts.ensures c.plan_links_devices.ensures c.self.inside.values.items columns c.self.invariant c.args.task keeps c.requires.writes.0 c.args.job c.args.slot
+    (kept_write core c.plan_facts.ensures c.self.invariant.devices c.self.inside.values.items columns c.self.invariant c.args.task keeps c.requires.writes.0 c.args.job c.args.slot
     now is c.sensed-value.result has)

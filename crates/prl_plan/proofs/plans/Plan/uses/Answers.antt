@@ -1,16 +1,16 @@
-use Rattle.std.proofs.Common.{◌<◌, subst, refl, length}
-use Rattle.prl_plan.specs.Jobs.{task_at}
-use Rattle.prl_plan.specs.Cells.{Reads}
-use Rattle.prl_plan.specs.Plans.{PlanView, edge_at}
-use Rattle.prl_plan.proofs.TwoTasks.{two_reads}
+use Rattle.std.proofs.Common.{◌≡◌, ◌<◌, ◌↔◌, ℕ, Option, Some, None, Bool, true, false, length, sym, ◌∙◌}
+use Rattle.std.specs.Prelude.{is_some, IsTrue}
+use Rattle.prl_plan.specs.Cells.{IsUsed}
+use Rattle.prl_plan.specs.Plans.{PlanView, IsPlan, edge_at, place_on}
+use Rattle.prl_plan.proofs.PlanParts.{used_place, place_used}
 use Rattle.prl_plan.proofs.plans.Plan.uses.Goals as goal
 
+tells : (plan : PlanView) → IsPlan plan → (e m : ℕ) → e < length plan.graph.edges → (o : Option ℕ) → o ≡ place_on plan e m → (b : Bool) → b ≡ is_some o →
+    (IsTrue b ↔ IsUsed (edge_at plan.graph e) m)
+tells plan is e m inside None at b told =
+    ((λ yes. (let n : false ≡ true = sym told ∙ yes in cc)), (λ used. (let p = used_place plan is e inside m used in let n : ◌≡◌ {A = Option ℕ} None (Some p.0) = at ∙ p.1 in cc)))
+tells plan is e m inside (Some k) at b told =
+    ((λ yes. (place_used plan is e inside m k (sym at)).0), (λ used. told))
+
 pub returns-clause-used : goal.returns-clause-used
-returns-clause-used c = (
-  (λ t. (
-    c.args.m,
-    subst (λ (p : PlanView). c.args.e.0 < length p.graph.edges → Reads (edge_at p.graph c.args.e.0) c.args.m c.args.m) c.self.view_is
-        (two_reads (task_at c.self.inside.graph 0).name (task_at c.self.inside.graph 1).name c.self.invariant.2 c.self.inside.period c.self.inside.wcet_in c.self.inside.wcet_out c.self.invariant.1 c.args.e.0 c.args.m) c.requires,
-  )),
-  (λ used. refl),
-)
+returns-clause-used c = tells c.args.self.now c.place.ensures.plan c.args.e.0 c.args.m c.requires c.place.result c.place.ensures.at c.is_some.result c.is_some.ensures

@@ -1,0 +1,4 @@
+mod Places
+mod Turning
+mod Chained
+mod Ordered

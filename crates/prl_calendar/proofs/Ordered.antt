@@ -1,0 +1,78 @@
+-- The heap of turns gives the earliest, and the first turns of the kinds.
+use Rattle.std.proofs.Common.{◌≡◌, ◌+◌, ◌-◌, ◌^◌, ◌<◌, ◌≤◌, ◌==◌, inl, inr, ℕ, zero, suc, Bool, true, false, List, [], ◌∷◌, length, map, Option, Some, slice_get, slice_index, slice_index_or, refl, sym, ◌∙◌, ap, subst, arith, eqb}
+use Rattle.std.specs.BinaryHeap.{IsUpperBound}
+use Rattle.std.specs.List.{All, AllByRecursion, Contains, IsDistinct}
+use Rattle.std.specs.List.Sorted.{IsPermutation}
+use Rattle.std.specs.Ordering.{is_lt}
+use Rattle.std.proofs.lemmas.Bool.{cases_lt}
+use Rattle.std.proofs.lemmas.Bool.Decides.{nat_tests}
+use Rattle.std.proofs.lemmas.List.Elements.{All-from_recursion, All-weaker}
+use Rattle.std.proofs.lemmas.List.Sorted.{All-permutation, Contains-permutation}
+use Rattle.std.proofs.lemmas.Map.Keys.{IsDistinct-IsPermutation, IsDistinct-cons, IsDistinct-head, IsDistinct-tail}
+use Rattle.std.proofs.lemmas.Option.{same_Some, slice_get-get_or}
+use Rattle.prl_base.specs.Clocks.{date_at}
+use Rattle.prl_base.specs.declared.operators.Clock.{Clock}
+use Rattle.prl_calendar.specs.Calendars.{HasDate}
+use Rattle.prl_calendar.specs.Kinds.{AreFirsts, AreSame, IsFirst}
+use Rattle.prl_calendar.specs.Turns.{AreTurns, IsTurn, Turn, date_of, first_turn, last, place_of, same_place, turn_order}
+use Rattle.prl_calendar.proofs.Places.{contains_head, contains_tail, distinct_none}
+use Rattle.prl_calendar.proofs.Turning.{same_place_flips}
+
+le_from_order : (x y : Turn) → is_lt (turn_order x y) ≡ false → date_of x ≤ date_of y
+le_from_order x y e = elim (cases_lt (date_of y) (date_of x)) [
+  | inl less ↦ absurd (grind (arith, nat_tests))
+  | inr le ↦ le
+]
+
+-- no turn is before the greatest in the order of turns
+pub least_from_greatest : (x : Turn) (xs : List Turn) → IsUpperBound turn_order x xs → All (λ e. date_of x ≤ date_of e) xs
+least_from_greatest x xs bound =
+    All-weaker (λ y. is_lt (turn_order x y) ≡ false) (λ y. date_of x ≤ date_of y) (le_from_order x) xs (All-from_recursion (λ y. is_lt (turn_order x y) ≡ false) xs bound)
+
+module _ (clocks : List Clock) where
+  abbrev begin : ℕ → Turn
+  begin h = first_turn clocks h
+
+  apart_map : (h : ℕ) (hs : List ℕ) → AllByRecursion (λ g. eqb h g ≡ false) hs → AllByRecursion (λ e. same_place (begin h) e ≡ false) (map begin hs)
+  apart_map h [] all = tt
+  apart_map h (g ∷ hs) all = (all.0, apart_map h hs all.1)
+
+  distinct_map : (hs : List ℕ) → IsDistinct eqb hs → IsDistinct same_place (map begin hs)
+  distinct_map [] distinct = distinct_none same_place
+  distinct_map (h ∷ hs) distinct =
+      IsDistinct-cons same_place (begin h) (map begin hs) (apart_map h hs (IsDistinct-head eqb h hs distinct)) (distinct_map hs (IsDistinct-tail eqb h hs distinct))
+
+  clock_there : (xs : List Clock) (h : ℕ) → h < length xs → slice_get xs h ≡ Some (slice_index_or xs h (record { period = 0; start = 0 }))
+  clock_there xs h below = slice_get-get_or xs h (record { period = 0; start = 0 }) below
+
+  first_is_turn : (h : ℕ) → IsFirst clocks h → IsTurn clocks last 0 (begin h)
+  first_is_turn h first =
+      let c : Clock = slice_index_or clocks h (record { period = 0; start = 0 }) in
+      let found = clock_there clocks h first.0 in
+      record {
+        first = first;
+        late = omega arith;
+        due = λ before. (c, found, (0, omega arith));
+        next = λ s (d, d_found, (k, is)) from before.
+            let same : d ≡ c = same_Some d c (sym d_found ∙ found) in
+            let start : d.start ≡ c.start = ap (λ (x : Clock). x.start) same in
+            omega (arith, is, start);
+      }
+
+  all_begin : (hs : List ℕ) → ((k : ℕ) → k < length hs → IsFirst clocks (slice_index hs k)) → AllByRecursion (IsTurn clocks last 0) (map begin hs)
+  all_begin [] each = tt
+  all_begin (h ∷ hs) each = (first_is_turn h (each 0 (omega arith)), all_begin hs (λ k below. each (suc k) (omega (arith, below))))
+
+  contains_begin : (hs : List ℕ) (k : ℕ) → k < length hs → Contains (map begin hs) (begin (slice_index hs k))
+  contains_begin [] k below = absurd (omega (arith, below))
+  contains_begin (h ∷ hs) zero below = contains_head (begin h) (map begin hs)
+  contains_begin (h ∷ hs) (suc k) below = contains_tail (begin h) (map begin hs) (begin (slice_index hs k)) (contains_begin hs k (omega (arith, below)))
+
+  pub first_turns_are : (firsts : List ℕ) (turns : List Turn) → AreFirsts clocks (length clocks) firsts → IsPermutation (map begin firsts) turns → AreTurns clocks last 0 turns
+  first_turns_are firsts turns a same = record {
+    each = All-permutation (IsTurn clocks last 0) (map begin firsts) turns same (All-from_recursion (IsTurn clocks last 0) (map begin firsts) (all_begin firsts (λ k below. (a.each k below).0)));
+    apart = IsDistinct-IsPermutation same_place same_place_flips (map begin firsts) turns same (distinct_map firsts a.apart);
+    all = λ i below.
+        let (k, within, clock) = a.all i below in
+        (begin (slice_index firsts k), Contains-permutation (map begin firsts) turns (begin (slice_index firsts k)) same (contains_begin firsts k within), clock);
+  }

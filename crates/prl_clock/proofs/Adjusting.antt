@@ -1,0 +1,146 @@
+-- Assignments in which some flows are changed together: all of a component, which stays as it is but for a factor and an offset.
+use Rattle.std.proofs.Common.{◌≡◌, ◌≤◌, ◌+◌, ◌*◌, inl, inr, ℕ, ℤ, pos, ◌*ℤ◌, ◌+ℤ◌, ◌-ℤ◌, Bool, true, false, cond, List, [], ◌∷◌, refl, ap, ◌∙◌, subst, arith}
+use borrow.Author.Differences.{up, down, product_is, ints}
+use Rattle.prl_clock.specs.declared.timings.Timing.{Timing}
+use Rattle.prl_clock.specs.Assignments.{Assignment, tick, Meets, MeetsAll, IsJoin, Joins}
+use Rattle.prl_clock.specs.Constraints.{Constraint, rated, related, Placed}
+use Rattle.prl_clock.specs.Timings.{Point, IsOver}
+use Rattle.prl_clock.specs.code.Standings.{IsRated, HasRate, IsLink}
+use Rattle.prl_clock.proofs.Algebra.{times, positive, ratio_in, ratio_out}
+
+abbrev pub scaled : ℕ → ℤ → Point → Point
+scaled k d x = record { period = k * x.period; start = pos k *ℤ x.start +ℤ d }
+
+distance : (k : ℕ) (d x y : ℤ)
+    → up ((pos k *ℤ x +ℤ d) -ℤ (pos k *ℤ y +ℤ d)) + k * down (x -ℤ y) ≡ down ((pos k *ℤ x +ℤ d) -ℤ (pos k *ℤ y +ℤ d)) + k * up (x -ℤ y)
+distance k d x y =
+    let a : up ((pos k *ℤ x +ℤ d) -ℤ (pos k *ℤ y +ℤ d)) + (down (pos k *ℤ x) + up (pos k *ℤ y))
+    ≡ down ((pos k *ℤ x +ℤ d) -ℤ (pos k *ℤ y +ℤ d)) + (up (pos k *ℤ x) + down (pos k *ℤ y)) = apart (pos k *ℤ x) (pos k *ℤ y) d in
+    let b : up (x -ℤ y) + (down x + up y) ≡ down (x -ℤ y) + (up x + down y) = omega (arith, ints) in
+    omega (arith, a, times k _ _ b, product_is (pos k) x, product_is (pos k) y)
+  where
+    apart : (p q d : ℤ) → up ((p +ℤ d) -ℤ (q +ℤ d)) + (down p + up q) ≡ down ((p +ℤ d) -ℤ (q +ℤ d)) + (up p + down q)
+    apart p q d = omega (arith, ints)
+
+pub scaled_over : (q : Timing) (k : ℕ) (d : ℤ) (x y : Point) → IsOver q x y → IsOver q (scaled k d x) (scaled k d y)
+scaled_over q k d x y o = record {
+  period = ratio_in q.period (pos (k * x.period)) (k * y.period) (omega (arith, times k _ _ (ratio_out q.period (pos x.period) y.period o.period)));
+  start =
+      ratio_in q.start ((pos k *ℤ x.start +ℤ d) -ℤ (pos k *ℤ y.start +ℤ d)) (k * y.period)
+      (omega (arith, times k _ _ (ratio_out q.start (x.start -ℤ y.start) y.period o.start), times q.start.den _ _ (distance k d x.start y.start)));
+}
+
+pub adjusted_positive : (b : Bool) (p q : ℕ) (d : ℤ) → 1 ≤ p → 1 ≤ q → (x : Point) → 1 ≤ x.period → 1 ≤ (cond b (scaled p d x) (scaled q (pos 0) x)).period
+adjusted_positive true p q d some_p some_q x some = positive p x.period some_p some
+adjusted_positive false p q d some_p some_q x some = positive q x.period some_q some
+
+-- the flows inside by one factor and an offset, all else by another factor
+abbrev pub adjusted : Assignment → (ℕ → Bool) → (p q : ℕ) → ℤ → 1 ≤ p → 1 ≤ q → Assignment
+adjusted s inside p q d some_p some_q = record {
+  unit = q * s.unit;
+  flow = λ i. cond (inside i) (scaled p d (s.flow i)) (scaled q (pos 0) (s.flow i));
+  some = positive q s.unit some_q s.some;
+  positive = λ i. adjusted_positive (inside i) p q d some_p some_q (s.flow i) (s.positive i);
+}
+
+both_over : (a b : Bool) (q : Timing) (m n : ℕ) (d : ℤ) (x y : Point) → a ≡ b → IsOver q x y
+    → IsOver q (cond a (scaled m d x) (scaled n (pos 0) x)) (cond b (scaled m d y) (scaled n (pos 0) y))
+both_over true true q m n d x y e o = scaled_over q m d x y o
+both_over false false q m n d x y e o = scaled_over q n (pos 0) x y o
+both_over true false q m n d x y e o = absurd (cc e)
+both_over false true q m n d x y e o = absurd (cc e)
+
+-- a tick, by a factor
+pub tick_scaled : (k : ℕ) (s : Assignment) → scaled k (pos 0) (tick s) ≡ record { period = k * s.unit; start = pos 0 }
+tick_scaled k s = let z : k * 0 + 0 ≡ 0 = omega arith in ap (λ (n : ℕ). record { period = k * s.unit; start = pos n }) z
+
+tick_over : (a : Bool) (q : Timing) (m n : ℕ) (d : ℤ) (x : Point) (s : Assignment) → a ≡ false → IsOver q x (tick s)
+    → IsOver q (cond a (scaled m d x) (scaled n (pos 0) x)) (record { period = n * s.unit; start = pos 0 })
+tick_over true q m n d x s e o = absurd (cc e)
+tick_over false q m n d x s e o =
+    let P : Point → Type 0 = λ y. IsOver q (scaled n (pos 0) x) y in subst P (tick_scaled n s) (scaled_over q n (pos 0) x (tick s) o)
+
+module _ (s : Assignment) (inside : ℕ → Bool) (p q : ℕ) (d : ℤ) (some_p : 1 ≤ p) (some_q : 1 ≤ q) where
+  one_meets : (c : Constraint) → Meets s c → ((x y : ℕ) → IsJoin c x y → inside x ≡ inside y) → ((x : ℕ) → IsRated c x → inside x ≡ false)
+      → Meets (adjusted s inside p q d some_p some_q) c
+  one_meets (rated x t) m joined out = tick_over (inside x) t p q d (s.flow x) s (out x refl) m
+  one_meets (related x y t) m joined out = both_over (inside x) (inside y) t p q d (s.flow x) (s.flow y) (joined x y (refl, refl)) m
+
+  pub adjusted_meets : (cs : List Placed) → MeetsAll s cs → ((x y : ℕ) → Joins cs x y → inside x ≡ inside y) → ((x : ℕ) → HasRate cs x → inside x ≡ false)
+      → MeetsAll (adjusted s inside p q d some_p some_q) cs
+  adjusted_meets [] m joined out = tt
+  adjusted_meets (c ∷ cs) m joined out =
+      (one_meets c.constraint m.0 (λ x y j. joined x y (inl j)) (λ x j. out x (inl j)), adjusted_meets cs m.1 (λ x y j. joined x y (inr j)) (λ x j. out x (inr j)))
+
+-- factors and an offset by which a first point comes over a second as it should
+pub record IsBridge (q : Timing) (x y : Point) : Type 0 where
+  pub first : ℕ
+  pub second : ℕ
+  pub offset : ℤ
+  pub some_first : 1 ≤ first
+  pub some_second : 1 ≤ second
+  pub over : IsOver q (scaled first offset x) (scaled second (pos 0) y)
+
+-- the same where the second point is changed by the offset
+pub record IsBridgeBack (q : Timing) (x y : Point) : Type 0 where
+  pub first : ℕ
+  pub second : ℕ
+  pub offset : ℤ
+  pub some_first : 1 ≤ first
+  pub some_second : 1 ≤ second
+  pub over : IsOver q (scaled first (pos 0) x) (scaled second offset y)
+
+left_over : (a b m : ℤ) → up ((a +ℤ ((b -ℤ a) +ℤ m)) -ℤ (b +ℤ pos 0)) + down m ≡ down ((a +ℤ ((b -ℤ a) +ℤ m)) -ℤ (b +ℤ pos 0)) + up m
+left_over a b m = omega (arith, ints)
+
+left_back : (a b m : ℤ) → up ((b +ℤ pos 0) -ℤ (a +ℤ ((b -ℤ a) -ℤ m))) + down m ≡ down ((b +ℤ pos 0) -ℤ (a +ℤ ((b -ℤ a) -ℤ m))) + up m
+left_back a b m = omega (arith, ints)
+
+module _ (q : Timing) (link : IsLink q) (x y : Point) (sx : 1 ≤ x.period) (sy : 1 ≤ y.period) where
+  pub bridge : IsBridge q x y
+  bridge =
+      let a : ℕ = link.num in
+      let D : ℕ = q.period.den in
+      let E : ℕ = q.start.den in
+      let p : ℕ = a * y.period * E in
+      let k : ℕ = D * x.period * E in
+      let m : ℤ = q.start.num *ℤ pos (D * x.period * y.period) in
+      let A : ℤ = pos p *ℤ x.start in
+      let B : ℤ = pos k *ℤ y.start in
+      record {
+        first = p;
+        second = k;
+        offset = (B -ℤ A) +ℤ m;
+        some_first = positive (a * y.period) E (positive a y.period link.some sy) link.parts.start;
+        some_second = positive (D * x.period) E (positive D x.period link.parts.period sx) link.parts.start;
+        over = record {
+          period = ap (λ n. n *ℤ pos (k * y.period)) link.is ∙ ap pos (omega arith);
+          start =
+              ratio_in q.start ((A +ℤ ((B -ℤ A) +ℤ m)) -ℤ (B +ℤ pos 0)) (k * y.period)
+              (omega (arith, times E _ _ (left_over A B m), times E _ _ (product_is q.start.num (pos (D * x.period * y.period))).0, times E _ _ (product_is q.start.num (pos (D * x.period * y.period))).1));
+        };
+      }
+
+  pub bridge_back : IsBridgeBack q x y
+  bridge_back =
+      let a : ℕ = link.num in
+      let D : ℕ = q.period.den in
+      let E : ℕ = q.start.den in
+      let p : ℕ = D * x.period * E in
+      let k : ℕ = a * y.period * E in
+      let m : ℤ = q.start.num *ℤ pos (D * x.period * y.period) in
+      let A : ℤ = pos p *ℤ y.start in
+      let B : ℤ = pos k *ℤ x.start in
+      record {
+        first = k;
+        second = p;
+        offset = (B -ℤ A) -ℤ m;
+        some_first = positive (a * y.period) E (positive a y.period link.some sy) link.parts.start;
+        some_second = positive (D * x.period) E (positive D x.period link.parts.period sx) link.parts.start;
+        over = record {
+          period = ap (λ n. n *ℤ pos (p * y.period)) link.is ∙ ap pos (omega arith);
+          start =
+              ratio_in q.start ((B +ℤ pos 0) -ℤ (A +ℤ ((B -ℤ A) -ℤ m))) (p * y.period)
+              (omega (arith, times E _ _ (left_back A B m), times E _ _ (product_is q.start.num (pos (D * x.period * y.period))).0, times E _ _ (product_is q.start.num (pos (D * x.period * y.period))).1));
+        };
+      }

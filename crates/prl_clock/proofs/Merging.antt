@@ -1,0 +1,117 @@
+-- Constraints one more: who stands where then.
+use Rattle.std.proofs.Common.{◌≡◌, ◌≢◌, ◌≤◌, ◌<◌, ◌⊎◌, inl, inr, ℕ, List, length, Some, sym, ap, ◌∙◌, subst, arith}
+use Rattle.std.proofs.Math.ListN.{get_or-eq_default}
+use Rattle.std.proofs.lemmas.Bool.{cases_lt}
+use Rattle.prl_clock.specs.declared.timings.Timing.{Timing}
+use Rattle.prl_clock.specs.declared.standings.Standing.{Standing}
+use Rattle.prl_clock.specs.Assignments.{Assignment, tick, MeetsAll, Connected}
+use Rattle.prl_clock.specs.Constraints.{Placed}
+use Rattle.prl_clock.specs.Timings.{IsOver}
+use Rattle.prl_clock.specs.code.Composition.{IsSmallTiming}
+use Rattle.prl_clock.specs.code.Standings.{IsSolved, IsOpen, IsMoved, IsTimed, AreMoved, AreTimed, HasClock, standing_at, root_at, alone}
+use Rattle.prl_clock.proofs.Algebra.{composed_of}
+use Rattle.prl_clock.proofs.Terms.{small_parts}
+
+-- past the end there are lone flows
+pub beyond : (st : List Standing) (x : ℕ) → length st ≤ x → standing_at st x ≡ alone x
+beyond st x h = get_or-eq_default st (alone x) h
+
+pub decide : (m n : ℕ) → (m ≡ n) ⊎ (m ≢ n)
+decide m n = elim (cases_lt m n) [
+  | inl below ↦ inr (λ e. omega (arith, below, e))
+  | inr above ↦ elim (cases_lt n m) [ inl less ↦ inr (λ e. omega (arith, less, e)) | inr other ↦ inl (omega (arith, above, other)) ]
+]
+
+-- what changes for each flow of a list changes so for all
+pub moved_everywhere : (high low : ℕ) (shift : Timing) (old new : List Standing) → length new ≡ length old → high < length old
+    → AreMoved high low shift old new → (x : ℕ) → IsMoved high low shift (standing_at old x) (standing_at new x)
+moved_everywhere high low shift old new len within moved x =
+    elim (cases_lt x (length old)) [
+      | inl below ↦ moved x below
+      | inr above ↦
+          let a : standing_at old x ≡ alone x = beyond old x above in
+          let b : standing_at new x ≡ alone x = beyond new x (omega arith) in
+          let r : root_at old x ≡ x = ap (λ (s : Standing). s.root) a in
+          record { moved = λ e. absurd (omega (arith, r, e, above, within)); kept = λ _. b ∙ sym a }
+    ]
+
+pub timed_everywhere : (root : ℕ) (clock : Timing) (old new : List Standing) → length new ≡ length old → root < length old
+    → AreTimed root clock old new → (x : ℕ) → IsTimed root clock (standing_at old x) (standing_at new x)
+timed_everywhere root clock old new len within timed x =
+    elim (cases_lt x (length old)) [
+      | inl below ↦ timed x below
+      | inr above ↦
+          let a : standing_at old x ≡ alone x = beyond old x above in
+          let b : standing_at new x ≡ alone x = beyond new x (omega arith) in
+          let r : root_at old x ≡ x = ap (λ (s : Standing). s.root) a in
+          record { timed = λ e. absurd (omega (arith, r, e, above, within)); kept = λ _. b ∙ sym a }
+    ]
+
+-- Clocks for all flows over `r`.
+module _ (cs : List Placed) (old new : List Standing) (r : ℕ) (clock : Timing) (open_ : IsOpen cs old r) (small : IsSmallTiming clock)
+    (over : (s : Assignment) → MeetsAll s cs → IsOver clock (s.flow r) (tick s))
+    (timed : (x : ℕ) → IsTimed r clock (standing_at old x) (standing_at new x)) where
+  same_over : (x : ℕ) → ((standing_at new x).over ≡ (standing_at old x).over) × (root_at new x ≡ root_at old x)
+  same_over x =
+      elim (decide (root_at old x) r) [
+        | inl e ↦ let t = (timed x).timed e in (ap (λ (s : Standing). s.over) t.1.0, ap (λ (s : Standing). s.root) t.1.0)
+        | inr n ↦ let k = (timed x).kept n in (ap (λ (s : Standing). s.over) k, ap (λ (s : Standing). s.root) k)
+      ]
+
+  new_clock : (x : ℕ) (t : Timing) → (standing_at new x).clock ≡ Some t → IsSmallTiming t × ((s : Assignment) → MeetsAll s cs → IsOver t (s.flow x) (tick s))
+  new_clock x t is =
+      elim (decide (root_at old x) r) [
+        | inl e ↦
+            let u = (timed x).timed e in
+            let same : t ≡ u.0 = some_same (sym is ∙ ap (λ (s : Standing). s.clock) u.1.0) in
+            let P : Timing → Type 0 = λ v. IsSmallTiming v × ((s : Assignment) → MeetsAll s cs → IsOver v (s.flow x) (tick s)) in
+            subst P (sym same) (
+              u.1.2,
+              λ s m.
+                  let root : IsOver (standing_at old x).over (s.flow x) (s.flow r) =
+                  let Q : ℕ → Type 0 = λ y. IsOver (standing_at old x).over (s.flow x) (s.flow y) in subst Q e (open_.standings.over s m x) in
+                  composed_of (standing_at old x).over clock u.0 (small_parts _ (open_.standings.small x)) (small_parts _ small) (small_parts _ u.1.2)
+                  (s.flow x) (s.flow r) (tick s) (s.positive x) (s.positive r) s.some root (over s m) u.1.1,
+            )
+        | inr n ↦
+            let k : (standing_at old x).clock ≡ Some t = sym (ap (λ (s : Standing). s.clock) ((timed x).kept n)) ∙ is in
+            (open_.standings.small_clock x t k, λ s m. open_.standings.clock s m x t k)
+      ]
+    where
+      some_same : {a b : Timing} → Some a ≡ Some b → a ≡ b
+      some_same e = cc
+
+  has_clock : (x : ℕ) → (root_at old x ≡ r) ⊎ HasClock old x → HasClock new x
+  has_clock x h =
+      elim (decide (root_at old x) r) [
+        | inl e ↦ let u = (timed x).timed e in (u.0, ap (λ (s : Standing). s.clock) u.1.0)
+        | inr n ↦ elim h [
+          | inl e ↦ absurd (n e)
+          | inr c ↦ (c.0, ap (λ (s : Standing). s.clock) ((timed x).kept n) ∙ c.1)
+        ]
+      ]
+
+  had_clock : (x : ℕ) → root_at old x ≢ r → HasClock new x → HasClock old x
+  had_clock x n c = (c.0, sym (ap (λ (s : Standing). s.clock) ((timed x).kept n)) ∙ c.1)
+
+  pub timed_solved : IsSolved cs new
+  timed_solved = record {
+    standings = record {
+      consistent = open_.standings.consistent;
+      over = λ s m x.
+          let e = same_over x in
+          let P : Timing → Type 0 = λ o. IsOver o (s.flow x) (s.flow (root_at new x)) in
+          let Q : ℕ → Type 0 = λ y. IsOver (standing_at old x).over (s.flow x) (s.flow y) in
+          subst P (sym e.0) (subst Q (sym e.1) (open_.standings.over s m x));
+      clock = λ s m x t is. (new_clock x t is).1 s m;
+      small = λ x. let P : Timing → Type 0 = λ o. IsSmallTiming o in subst P (sym (same_over x).0) (open_.standings.small x);
+      small_clock = λ x t is. (new_clock x t is).0;
+      low = λ x. let e = (same_over x).1 in let l = open_.standings.low x in omega (arith, e, l);
+      led = λ x. let P : ℕ → Type 0 = λ y. Connected cs x y in subst P (sym (same_over x).1) (open_.standings.led x);
+    };
+    joined = λ x y j. (same_over x).1 ∙ open_.joined x y j ∙ sym (same_over y).1;
+    rated = λ x h. has_clock x (elim (decide (root_at old x) r) [ inl e ↦ inl e | inr n ↦ inr (open_.rated x h n) ]);
+    shared = λ x y e c.
+        let f : root_at old x ≡ root_at old y = sym (same_over x).1 ∙ e ∙ (same_over y).1 in
+        has_clock y (elim (decide (root_at old x) r) [ inl g ↦ inl (sym f ∙ g) | inr n ↦ inr (open_.shared x y f n (had_clock x n c)) ]);
+  }

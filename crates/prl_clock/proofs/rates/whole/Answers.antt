@@ -1,0 +1,12 @@
+use Rattle.std.proofs.Common.{ℤ, rules, w64, ◌∙◌, sym, subst}
+use mir.Val.{SFits}
+use Rattle.std.proofs.lemmas.Int.{to_z-of_z}
+use Rattle.prl_base.specs.Ratios.{IsSmallFraction}
+use Rattle.prl_clock.proofs.Rated.{whole_small}
+use Rattle.prl_clock.proofs.rates.whole.Goals as goal
+
+pub invariant_of-result : goal.invariant_of-result
+invariant_of-result c =
+    let fits : SFits w64 c.from.result = search rules in
+    let P : ℤ → Type 0 = λ z. IsSmallFraction (record { num = z; den = 1 }) in
+    subst P (sym (to_z-of_z w64 c.from.result fits ∙ c.from.ensures)) (whole_small c.args.number c.requires)

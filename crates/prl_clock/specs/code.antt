@@ -1,0 +1,5 @@
+pub mod Composition
+pub mod Finishing
+pub mod Progress
+pub mod Rates
+pub mod Standings

@@ -1,0 +1,90 @@
+//! Runs of jobs that the same job precedes, found without a walk for each job.
+
+ghost use Rattle.std.specs.Prelude.{◌≡◌, ◌+◌, ◌<◌, ◌≤◌, ◌++◌, ◌^◌, ℕ, ℤ, pos, ◌≤ℤ◌, length, replicate, IfOk, slice_index_or};
+ghost use Rattle.prl_plan.specs.Precedence.{preceding};
+ghost use Rattle.prl_plan.specs.Ranges.{PrecedingFits};
+ghost use Rattle.prl_dates.specs.code.Runs.{Rises, AreFitting, IsSameTo};
+
+use crate::numbers::preceding_job;
+use prl_base::Op;
+use std::alloc::{AllocError, Global};
+
+/// A job of a run, and a step on from it.
+#[derive(Clone, Copy, Debug, PartialEq, Eq)]
+struct Stride {
+    last: u64,
+    step: u64,
+}
+
+/// Adds the value so many times.
+pub(crate) fn push_times<T: Copy>(
+    table: &mut Vec<T>,
+    value: T,
+    count: u64,
+) -> Result<(), AllocError>
+    ensures { IfOk result (λ done. table.new.items ≡ table.old.items ++ replicate count value) }
+{
+    for _ in 0..count {
+        table.push(value)?;
+    }
+    Ok(())
+}
+
+/// A late job of the run of job `from`, found by steps that double.
+fn leap(ops: &[Op], from: u64, value: i64, jobs: u64) -> Stride
+    requires fits { AreFitting ops.now jobs }
+    requires few { jobs < 2 ^ 32 }
+    requires inside { from < jobs }
+    requires value { preceding ops.now (pos from) ≡ value }
+    ensures same { IsSameTo ops.now from value jobs result.last }
+    ensures step { result.step < 2 ^ 34 }
+{
+    let mut last = from;
+    let mut step = 1;
+    while step < jobs - last && preceding_job(ops, (last + step) as i64) == value {
+        last += step;
+        step *= 2;
+    }
+    Stride { last, step }
+}
+
+/// The end of the run of job `from`: all jobs from it on and below the end are preceded by the
+/// same job.
+fn end_of_run(ops: &[Op], from: u64, value: i64, jobs: u64) -> u64
+    requires fits { AreFitting ops.now jobs }
+    requires few { jobs < 2 ^ 32 }
+    requires rises { Rises ops.now }
+    requires inside { from < jobs }
+    requires value { preceding ops.now (pos from) ≡ value }
+    ensures after { from < result }
+    ensures within { result ≤ jobs }
+    ensures same { (k : ℕ) → from ≤ k → k < result → preceding ops.now (pos k) ≡ value }
+{
+    let Stride { mut last, mut step } = leap(ops, from, value, jobs);
+    while step > 1 {
+        step /= 2;
+        if step < jobs - last && preceding_job(ops, (last + step) as i64) == value {
+            last += step;
+        }
+    }
+    last + 1
+}
+
+/// The numbers of the jobs that precede the first `jobs` jobs over these operators.
+pub(crate) fn numbers_over(alloc: Global, ops: &[Op], jobs: u64) -> Result<Vec<i64>, AllocError>
+    requires fits { AreFitting ops.now jobs }
+    requires few { jobs < 2 ^ 32 }
+    requires rises { Rises ops.now }
+    ensures long { IfOk result (λ v. length v.items ≡ jobs) }
+    ensures each { IfOk result (λ v. (n : ℕ) → n < jobs → slice_index_or v.items n (pos 0) ≡ preceding ops.now (pos n)) }
+{
+    let mut numbers = Vec::with_capacity(alloc, jobs as usize)?;
+    let mut n = 0;
+    while n < jobs {
+        let number = preceding_job(ops, n as i64);
+        let end = end_of_run(ops, n, number, jobs);
+        push_times(&mut numbers, number, end - n)?;
+        n = end;
+    }
+    Ok(numbers)
+}

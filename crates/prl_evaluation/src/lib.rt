@@ -1,0 +1,15 @@
+//! The values of the flows of a flat program, by instance and by date, feedback through delays included. It stands on the
+//! flat programs of `prl_flow`, the bodies of `prl_body` and the calendars of `prl_calendar`; that there is exactly one
+//! solution is the law of `prl_solutions`.
+#![tactic(auto)]
+
+mod by_date;
+mod evaluation;
+mod fronts;
+mod operators;
+mod runs;
+mod settings;
+mod tables;
+
+pub use evaluation::{FlowFault, evaluate};
+pub use tables::FlowTable;

@@ -1,0 +1,2 @@
+-- that a flat program leaves one choice of clocks
+pub mod Clocks

@@ -1,0 +1,75 @@
+use Rattle.std.proofs.Common.{◌≡◌, ◌+◌, ◌<◌, ◌≤◌, ℕ, Option, Some, None, length, sum, sym, ◌∙◌, arith}
+use Rattle.std.specs.Prelude.{slice_index}
+use Rattle.std.proofs.lemmas.Nat.{mod_below}
+use Rattle.prl_plan.specs.Cells.{IsUsed}
+use Rattle.prl_plan.specs.CellLists.{plan_of}
+use Rattle.prl_plan.specs.Plans.{PlanView, IsPlan, edge_at, place_on}
+use Rattle.prl_plan.proofs.PlanParts.{used_place, place_used}
+use Rattle.prl_plan.proofs.plans.Plan.cell.Goals as goal
+
+-- a used instance's edge has cells, within the limit
+record Room (base count total : ℕ) : Type 0 where
+  some : 1 ≤ count
+  within : base + count ≤ total
+  few : total ≤ 4096
+
+room : (inner plan : PlanView) → inner ≡ plan → IsPlan inner → (e m k : ℕ) → e < length plan.graph.edges → place_on plan e m ≡ Some k →
+    Room (slice_index inner.bases e) (slice_index inner.counts e) (sum inner.counts)
+room inner plan same is e m k inside at =
+    let p = place_used inner is e (rw same inside) m k (rw same at) in
+    record { some = p.1; within = p.2; few = is.few_cells }
+
+used_somewhere : (plan : PlanView) → IsPlan plan → (e m : ℕ) → e < length plan.graph.edges → IsUsed (edge_at plan.graph e) m → place_on plan e m ≡ None → ⊥
+used_somewhere plan is e m inside used none =
+    let p = used_place plan is e inside m used in
+    let never : ◌≡◌ {A = Option ℕ} None (Some p.0) = sym none ∙ p.1 in cc
+
+pub nonzero_rem-result : goal.nonzero_rem-result
+nonzero_rem-result c =
+    let r = room (plan_of c.self.inside.graph c.self.inside.words.of c.self.inside.dates c.self.inside.cells) c.args.self.now c.self.view_is c.self.invariant c.args.e.0 c.args.m c.in-Some.k
+    c.requires.edge (sym c.place.ensures.at ∙ c.in-Some.is) in
+    let some = r.some in
+    let f = c.from.ensures in
+    let n = c.count.ensures in
+    omega (arith, some, f, n)
+
+pub overflow_cast-result : goal.overflow_cast-result
+overflow_cast-result c =
+    let r = room (plan_of c.self.inside.graph c.self.inside.words.of c.self.inside.dates c.self.inside.cells) c.args.self.now c.self.view_is c.self.invariant c.args.e.0 c.args.m c.in-Some.k
+    c.requires.edge (sym c.place.ensures.at ∙ c.in-Some.is) in
+    let some = r.some in
+    let within = r.within in
+    let few = r.few in
+    let f = c.from.ensures in
+    let n = c.count.ensures in
+    let below = mod_below c.in-Some.k c.from.result (omega (arith, some, f, n)) in
+    omega (arith, below, f, n, within, few)
+
+pub overflow_add-result : goal.overflow_add-result
+overflow_add-result c =
+    let r = room (plan_of c.self.inside.graph c.self.inside.words.of c.self.inside.dates c.self.inside.cells) c.args.self.now c.self.view_is c.self.invariant c.args.e.0 c.args.m c.in-Some.k
+    c.requires.edge (sym c.place.ensures.at ∙ c.in-Some.is) in
+    let some = r.some in
+    let within = r.within in
+    let few = r.few in
+    let f = c.from.ensures in
+    let n = c.count.ensures in
+    let b = c.base.ensures in
+    let below = mod_below c.in-Some.k c.from.result (omega (arith, some, f, n)) in
+    omega (arith, below, f, n, b, within, few)
+
+pub unreachable-requires : goal.unreachable-requires
+unreachable-requires c = used_somewhere c.args.self.now c.place.ensures.plan c.args.e.0 c.args.m c.requires.edge c.requires.used (sym c.place.ensures.at ∙ c.in-None.is)
+
+pub returns-clause-small : goal.returns-clause-small
+returns-clause-small c =
+    let r = room (plan_of c.self.inside.graph c.self.inside.words.of c.self.inside.dates c.self.inside.cells) c.args.self.now c.self.view_is c.self.invariant c.args.e.0 c.args.m c.in-Some.k
+    c.requires.edge (sym c.place.ensures.at ∙ c.in-Some.is) in
+    let some = r.some in
+    let within = r.within in
+    let few = r.few in
+    let f = c.from.ensures in
+    let n = c.count.ensures in
+    let b = c.base.ensures in
+    let below = mod_below c.in-Some.k c.from.result (omega (arith, some, f, n)) in
+    omega (arith, below, f, n, b, within, few)

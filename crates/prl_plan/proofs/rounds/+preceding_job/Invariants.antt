@@ -1,5 +1,0 @@
-use Rattle.std.proofs.Common.{length}
-use Rattle.prl_plan.proofs.rounds.+preceding_job.Given as goal
-
-abbrev pub decreases-preceding_job : goal.decreases-preceding_job
-decreases-preceding_job l = length l.ops.now

@@ -1,4 +1,0 @@
-pub mod GapSteps
-pub mod CellSteps
-pub mod CellTables
-pub mod FirstJobs

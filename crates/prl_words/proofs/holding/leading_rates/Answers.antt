@@ -1,0 +1,23 @@
+use Rattle.std.proofs.Common.{◌≡◌, ◌+◌, ◌*◌, ◌≤◌, ℕ, get_or, sym, ap, subst, arith}
+use Rattle.prl_base.specs.declared.operators.Op.{Op}
+use Rattle.prl_base.specs.declared.operators.Op.TheVariants as operators
+use Rattle.prl_words.specs.code.Holding.{IsLeading}
+use Rattle.prl_words.proofs.Lead.{one_leading, times_within, split_up}
+use Rattle.prl_words.proofs.holding.leading_rates.Goals as goal
+
+pub overflow_mul-times : goal.overflow_mul-times
+overflow_mul-times c =
+    let at : operators.Up c.in-Up.k ≡ get_or c.args.ops.now c.loop-i.i (operators.Up c.in-Up.k) =
+    subst (λ (o : Op). o ≡ get_or c.args.ops.now c.loop-i.i o) c.in-Up.is c.index-ops-i.is in
+    let within : c.loop-i.times * c.in-Up.k ≤ 10000000 =
+    (times_within c.args.ops.now c.loop-i.i c.in-Up.k c.loop-i.times (split_up c.args.ops.now c.loop-i.i c.in-Up.k c.loop-i-test.true at)
+    c.loop-i.invariant c.requires.0 c.requires.1).0 in
+    let same : c.loop-i.times * c.from-times.result ≡ c.loop-i.times * c.in-Up.k = ap (λ (k : ℕ). c.loop-i.times * k) c.from-times.ensures in
+    omega (arith, within, same)
+
+pub loop-i-preserved : goal.loop-i-preserved
+loop-i-preserved c =
+    let at : operators.Up c.in-Up.k ≡ get_or c.args.ops.now c.loop-i.i (operators.Up c.in-Up.k) =
+    subst (λ (o : Op). o ≡ get_or c.args.ops.now c.loop-i.i o) c.in-Up.is c.index-ops-i.is in
+    subst (λ (k : ℕ). IsLeading c.args.ops.now (c.loop-i.i + 1) (c.loop-i.times * k)) (sym c.from-times.ensures)
+    (one_leading c.args.ops.now c.loop-i.i c.in-Up.k c.loop-i.times c.loop-i-test.true at c.requires.0 c.requires.1 c.loop-i.invariant)
