@@ -91,9 +91,7 @@ fn limit_of(alloc: Global, text: &[u8], pairs: &[(u64, u64)]) -> Result<Limit, F
 fn sampling(alloc: Global) -> Result<TaskGraph, Fail> {
     let fast = (10, 0);
     let slow = (30, 0);
-    let pairs = [
-        fast, fast, fast, slow, slow, fast, fast, fast, slow, slow,
-    ];
+    let pairs = [fast, fast, fast, slow, slow, fast, fast, fast, slow, slow];
     made(alloc, SAMPLING, pairs.as_slice())
 }
 
@@ -128,10 +126,28 @@ fn sampling_has_four_edges(rt: HostRuntime) -> Result<(), Fail> {
     let graph = sampling(rt.alloc())?;
     let edges = graph.edges.as_slice();
     assert_eq!(rt; edges.len(), 4);
-    assert_eq!(rt; edges[0].from, Producer::Port { task: TaskNo(0), out: 0 });
-    assert_eq!(rt; edges[2].from, Producer::Port { task: TaskNo(1), out: 1 });
+    assert_eq!(rt;
+        edges[0].from,
+        Producer::Port {
+            task: TaskNo(0),
+            out: 0
+        }
+    );
+    assert_eq!(rt;
+        edges[2].from,
+        Producer::Port {
+            task: TaskNo(1),
+            out: 1
+        }
+    );
     assert_eq!(rt; edges[2].ops.as_slice(), [Op::Down(3)].as_slice());
-    assert_eq!(rt; edges[3].from, Producer::Port { task: TaskNo(1), out: 0 });
+    assert_eq!(rt;
+        edges[3].from,
+        Producer::Port {
+            task: TaskNo(1),
+            out: 0
+        }
+    );
     assert_eq!(rt; edges[3].to, TaskNo(3));
     Ok(())
 }
@@ -142,11 +158,20 @@ fn operators_of_an_edge_stand_from_the_consumer_on(rt: HostRuntime) -> Result<()
     let edges = graph.edges.as_slice();
     assert_eq!(rt; edges.len(), 4);
     let edge = &edges[1];
-    assert_eq!(rt; edge.from, Producer::Port { task: TaskNo(2), out: 0 });
+    assert_eq!(rt;
+        edge.from,
+        Producer::Port {
+            task: TaskNo(2),
+            out: 0
+        }
+    );
     assert_eq!(rt; edge.to, TaskNo(1));
     assert_eq!(rt; edge.port, 1);
     assert_eq!(rt; edge.period, 30);
-    assert_eq!(rt; edge.ops.as_slice(), [Op::Up(3), Op::Fby(Value::Int(0))].as_slice());
+    assert_eq!(rt;
+        edge.ops.as_slice(),
+        [Op::Up(3), Op::Fby(Value::Int(0))].as_slice()
+    );
     Ok(())
 }
 
