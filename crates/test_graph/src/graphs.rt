@@ -4,12 +4,13 @@ ghost use Rattle.std.specs.Prelude.{◌≤◌};
 ghost use Rattle.prl_ast.specs.InRange.{IsInRange};
 ghost use Rattle.prl_ast.specs.Trees.{program_tree};
 
-use crate::clocks::are_clocks;
+use crate::clocks::are_small;
 use prl_ast::Program;
-use prl_base::{Clock, Limit, Op, Seq, TaskNo, Value, What};
+use prl_base::{Limit, Op, TaskNo, Value, What};
 use prl_causal::causal;
+use prl_clock::clocks;
 use prl_expansion::{ExpandFault, expand};
-use prl_flow::{Clocks, Flat};
+use prl_flow::Flat;
 use prl_graph::{GraphFault, graph};
 use prl_plan::{Kind, Producer, TaskGraph};
 use prl_print::programs_are_in_range;
@@ -42,46 +43,35 @@ fn flat_of(alloc: Global, text: &[u8]) -> Result<Flat, Fail> {
     }
 }
 
-/// The clocks of these periods and starts.
-fn clocks_of(alloc: Global, pairs: &[(u64, u64)]) -> Result<Clocks, Fail> {
-    let mut of = Vec::new(alloc);
-    for (period, start) in pairs {
-        of.push(Clock {
-            period: *period,
-            start: *start,
-        })?;
-    }
-    Ok(Clocks { of: Seq::new(of) })
-}
-
-/// What the call says of the text, whose flows have these periods and starts.
-fn graph_of(
-    alloc: Global,
-    text: &[u8],
-    pairs: &[(u64, u64)],
-) -> Result<Result<TaskGraph, GraphFault>, Fail> {
+/// What the call says of the text.
+fn graph_of(alloc: Global, text: &[u8]) -> Result<Result<TaskGraph, GraphFault>, Fail> {
     let flat = flat_of(alloc, text)?;
-    let clocks = clocks_of(alloc, pairs)?;
-    if !are_clocks(&flat, &clocks) {
-        return Err("other clocks".into());
-    }
     match causal(alloc, &flat) {
-        Ok(_) => Ok(graph(alloc, &flat, &clocks)),
+        Ok(_) => match clocks(alloc, &flat) {
+            Ok(clocks) => {
+                if are_small(&clocks) {
+                    Ok(graph(alloc, &flat, &clocks))
+                } else {
+                    Err("large clocks".into())
+                }
+            }
+            Err(_) => Err("no clocks".into()),
+        },
         Err(_) => Err("a cycle".into()),
     }
 }
 
 /// The graph of the text.
-fn made(alloc: Global, text: &[u8], pairs: &[(u64, u64)]) -> Result<TaskGraph, Fail> {
-    match graph_of(alloc, text, pairs)? {
+fn made(alloc: Global, text: &[u8]) -> Result<TaskGraph, Fail> {
+    match graph_of(alloc, text)? {
         Ok(graph) => Ok(graph),
         Err(_) => Err("no graph".into()),
     }
 }
 
 /// The limit that the graph of the text passes.
-fn limit_of(alloc: Global, text: &[u8], pairs: &[(u64, u64)]) -> Result<Limit, Fail> {
-    match graph_of(alloc, text, pairs)? {
+fn limit_of(alloc: Global, text: &[u8]) -> Result<Limit, Fail> {
+    match graph_of(alloc, text)? {
         Err(GraphFault::Limit(limit)) => Ok(limit),
         _ => Err("no limit".into()),
     }
@@ -89,10 +79,7 @@ fn limit_of(alloc: Global, text: &[u8], pairs: &[(u64, u64)]) -> Result<Limit, F
 
 /// The graph of the sampling program.
 fn sampling(alloc: Global) -> Result<TaskGraph, Fail> {
-    let fast = (10, 0);
-    let slow = (30, 0);
-    let pairs = [fast, fast, fast, slow, slow, fast, fast, fast, slow, slow];
-    made(alloc, SAMPLING, pairs.as_slice())
+    made(alloc, SAMPLING)
 }
 
 #[test]
@@ -183,7 +170,7 @@ node main (i: int rate (10, 0); j: int rate (20, 0)) returns (o) let o = i; tel
 
 #[test]
 fn an_unused_input_is_a_task(rt: HostRuntime) -> Result<(), Fail> {
-    let graph = made(rt.alloc(), UNUSED, [(10, 0), (20, 0), (10, 0)].as_slice())?;
+    let graph = made(rt.alloc(), UNUSED)?;
     assert_eq!(rt; graph.hyper, 20);
     let tasks = graph.tasks.as_slice();
     assert_eq!(rt; tasks.len(), 3);
@@ -201,7 +188,7 @@ node main (i: int rate (10, 0)) returns (o: due 0) let o = i; tel
 
 #[test]
 fn a_due_of_zero_is_out_of_range(rt: HostRuntime) -> Result<(), Fail> {
-    match graph_of(rt.alloc(), ZERO_DUE, [(10, 0), (10, 0)].as_slice())? {
+    match graph_of(rt.alloc(), ZERO_DUE)? {
         Err(GraphFault::DueRange { flow, due, period }) => {
             assert_eq!(rt; flow.bytes(), b"o".as_slice());
             assert_eq!(rt; due, 0);
@@ -219,8 +206,7 @@ node main (i: int rate (10, 0)) returns (o) var x: due 3; let x = 0 fby i; o = x
 
 #[test]
 fn a_due_on_a_flow_of_no_task_is_refused(rt: HostRuntime) -> Result<(), Fail> {
-    let pairs = [(10, 0), (10, 0), (10, 0), (10, 0)];
-    match graph_of(rt.alloc(), NO_TASK, pairs.as_slice())? {
+    match graph_of(rt.alloc(), NO_TASK)? {
         Err(GraphFault::DueOnNonTask(label)) => {
             assert_eq!(rt; label.bytes(), b"x".as_slice());
             Ok(())
@@ -238,8 +224,7 @@ node main (i: int rate (10, 0)) returns (o: due 8) let o = g(F(i)); tel
 
 #[test]
 fn a_due_on_an_inlined_input_binds_the_application(rt: HostRuntime) -> Result<(), Fail> {
-    let pairs = [(10, 0), (10, 0), (10, 0), (10, 0), (10, 0)];
-    let graph = made(rt.alloc(), INLINED, pairs.as_slice())?;
+    let graph = made(rt.alloc(), INLINED)?;
     let tasks = graph.tasks.as_slice();
     assert_eq!(rt; tasks.len(), 3);
     assert_eq!(rt; tasks[0].due, 10);
@@ -257,8 +242,7 @@ node main (i: int rate (10, 0)) returns (o) let o = g(F(i)); tel
 
 #[test]
 fn a_due_on_a_copy_of_a_copy_is_refused(rt: HostRuntime) -> Result<(), Fail> {
-    let pairs = [(10, 0), (10, 0), (10, 0), (10, 0), (10, 0)];
-    match graph_of(rt.alloc(), COPY_OF_COPY, pairs.as_slice())? {
+    match graph_of(rt.alloc(), COPY_OF_COPY)? {
         Err(GraphFault::DueOnNonTask(label)) => {
             assert_eq!(rt; label.bytes(), b"g#0.y".as_slice());
             Ok(())
@@ -276,8 +260,7 @@ let (x, y) = F(i); o = x; tel
 
 #[test]
 fn the_least_due_of_an_application_counts(rt: HostRuntime) -> Result<(), Fail> {
-    let pairs = [(10, 0), (10, 0), (10, 0), (10, 0), (10, 0), (10, 0)];
-    let graph = made(rt.alloc(), TWO_DUES, pairs.as_slice())?;
+    let graph = made(rt.alloc(), TWO_DUES)?;
     let tasks = graph.tasks.as_slice();
     assert_eq!(rt; tasks.len(), 3);
     assert_eq!(rt; tasks[1].due, 4);
@@ -292,8 +275,7 @@ node main (i: int rate (10, 0)) returns (o) let o = i /^ 3 *^ 3; tel
 
 #[test]
 fn the_hyperperiod_is_over_all_flows(rt: HostRuntime) -> Result<(), Fail> {
-    let pairs = [(10, 0), (10, 0), (30, 0), (10, 0)];
-    let graph = made(rt.alloc(), THINNED, pairs.as_slice())?;
+    let graph = made(rt.alloc(), THINNED)?;
     assert_eq!(rt; graph.hyper, 30);
     let edges = graph.edges.as_slice();
     assert_eq!(rt; edges.len(), 1);
@@ -313,8 +295,7 @@ node main (i: int rate (65536, 0); j: int rate (3, 0)) returns (o, p) let o = i;
 
 #[test]
 fn too_many_jobs_of_a_hyperperiod_are_told(rt: HostRuntime) -> Result<(), Fail> {
-    let pairs = [(65_536, 0), (3, 0), (65_536, 0), (3, 0)];
-    let limit = limit_of(rt.alloc(), TWO_LANES, pairs.as_slice())?;
+    let limit = limit_of(rt.alloc(), TWO_LANES)?;
     assert_eq!(rt; limit.what, What::PeriodJobs);
     assert_eq!(rt; limit.found, 131_078);
     Ok(())
@@ -329,8 +310,7 @@ node main (i: int rate (65536, 0); j: int rate (153, 0)) returns (o, p) let o = 
 
 #[test]
 fn too_long_a_hyperperiod_is_told(rt: HostRuntime) -> Result<(), Fail> {
-    let pairs = [(65_536, 0), (153, 0), (65_536, 0), (153, 0)];
-    let limit = limit_of(rt.alloc(), LONG_LANES, pairs.as_slice())?;
+    let limit = limit_of(rt.alloc(), LONG_LANES)?;
     assert_eq!(rt; limit.what, What::Hyperperiod);
     assert_eq!(rt; limit.found, 10_027_008);
     Ok(())
