@@ -1,14 +1,14 @@
 -- Chains of the places of equal clocks, made one clock after another, and walked.
-use Rattle.std.proofs.Common.{◌≡◌, ◌≢◌, ◌+◌, ◌<◌, ◌≤◌, ◌==◌, ◌⊎◌, inl, inr, ℕ, zero, suc, Bool, true, false, cond, List, [], ◌∷◌, ◌++◌, length, map, set, replicate, Option, Some, None, slice_get, slice_index, slice_index_or, refl, sym, ◌∙◌, ap, subst, arith, eqb}
-use Rattle.std.specs.List.{Contains, IsDistinct}
-use Rattle.std.specs.Ordering.{is_eq, nat_cmp, ordering_then}
+use Rattle.std.proofs.Common.{◌≡◌, ◌+◌, ◌<◌, ◌≤◌, inl, inr, ℕ, true, false, cond, List, [], ◌∷◌, ◌++◌, length, set, replicate, Option, Some, None, slice_get, slice_index, refl, sym, ◌∙◌, ap, subst, arith, eqb}
+use Rattle.std.specs.List.{Contains}
+use Rattle.std.specs.Ordering.{is_eq}
 use Rattle.std.proofs.lemmas.Bool.{cases_Bool, cases_eq, cases_lt, cases_order}
 use Rattle.std.proofs.lemmas.List.{get_or-replicate, get_or-set_other, get_or-set_same, get_or_append_left, get_or_default, get_or_push, length-replicate, length-set, length_push}
 use Rattle.std.proofs.lemmas.Bool.Decides.{nat_tests}
 use Rattle.std.proofs.lemmas.Option.{same_Some, slice_get_within}
 use Rattle.prl_base.specs.declared.operators.Clock.{Clock}
-use Rattle.prl_calendar.specs.Kinds.{AddsKind, AreChained, AreFirsts, AreFollowing, AreLasts, AreSame, IsAdding, IsFirst, IsLast, IsNext, pair_order}
-use Rattle.prl_calendar.proofs.Places.{contains_left, contains_none, contains_push, contains_push_cases, distinct_none, distinct_push}
+use Rattle.prl_calendar.specs.Kinds.{AddsKind, AreChained, AreFollowing, AreLasts, AreSame, IsAdding, IsFirst, IsLast, IsNext, pair_order}
+use Rattle.prl_calendar.proofs.Places.{contains_left, contains_push, contains_push_cases, distinct_none, distinct_push}
 
 -- the walk along a chain
 pub adding_none : (clocks : List Clock) (h : ℕ) (old : List ℕ) → IsFirst clocks h → IsAdding clocks h old h old
@@ -45,8 +45,8 @@ adding_step clocks following h old place new chains within a =
         ]
       ];
       apart = λ distinct none. distinct_push new place (a.apart distinct none) (λ there. elim (a.each place there) [
-          | inl before ↦ none place before here
-          | inr added ↦ omega (arith, added.0)
+        | inl before ↦ none place before here
+        | inr added ↦ omega (arith, added.0)
       ]);
     }
 
@@ -83,10 +83,14 @@ module _ (clocks : List Clock) (i : ℕ) (own : Clock) (here : slice_get clocks 
     | inl is ↦ other (same_Some c own (sym found ∙ ap (slice_get clocks) is ∙ here))
     | inr earlier ↦ none m (omega (arith, less, earlier)) found
   ]
-  last_kept c (Some j) other (below, at, none) = (omega (arith, below), at, λ m after less found. elim (cases_eq m i) [
+  last_kept c (Some j) other (below, at, none) = (
+    omega (arith, below),
+    at,
+    λ m after less found. elim (cases_eq m i) [
       | inl is ↦ other (same_Some c own (sym found ∙ ap (slice_get clocks) is ∙ here))
       | inr earlier ↦ none m after (omega (arith, less, earlier)) found
-  ])
+    ],
+  )
 
   pub lasts_step : (f g : ℕ × ℕ → Option ℕ) → ((q : ℕ × ℕ) → g q ≡ cond (is_eq (pair_order (own.period, own.start) q)) (Some i) (f q)) → AreLasts clocks i f → AreLasts clocks (i + 1) g
   lasts_step f g put old c = elim (cases_Bool (is_eq (pair_order (own.period, own.start) (c.period, c.start)))) [
@@ -194,11 +198,11 @@ module _ (clocks : List Clock) (i : ℕ) (own : Clock) (here : slice_get clocks 
                       let value : slice_index (set following e i) j ≡ slice_index following j = get_or-set_other following e j i 0 other in
                       let next = a.next j below in
                       rw value (next_kept j (slice_index following j) below (λ same. elim (cases_lt j e) [
-                          | inl lower ↦ elim (cases_lt (slice_index following j) i) [
-                            | inl inner ↦ inner
-                            | inr late ↦ absurd (next.none e lower (omega (arith, e_less, late)) e_less (e_same ∙ same))
-                          ]
-                          | inr higher ↦ absurd (none j (omega (arith, higher, other)) below (sym same ∙ here))
+                        | inl lower ↦ elim (cases_lt (slice_index following j) i) [
+                          | inl inner ↦ inner
+                          | inr late ↦ absurd (next.none e lower (omega (arith, e_less, late)) e_less (e_same ∙ same))
+                        ]
+                        | inr higher ↦ absurd (none j (omega (arith, higher, other)) below (sym same ∙ here))
                       ]) next)
                 ]
           ];

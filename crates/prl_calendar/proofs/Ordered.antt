@@ -1,5 +1,5 @@
 -- The heap of turns gives the earliest, and the first turns of the kinds.
-use Rattle.std.proofs.Common.{◌≡◌, ◌+◌, ◌-◌, ◌^◌, ◌<◌, ◌≤◌, ◌==◌, inl, inr, ℕ, zero, suc, Bool, true, false, List, [], ◌∷◌, length, map, Option, Some, slice_get, slice_index, slice_index_or, refl, sym, ◌∙◌, ap, subst, arith, eqb}
+use Rattle.std.proofs.Common.{◌≡◌, ◌<◌, ◌≤◌, inl, inr, ℕ, zero, suc, false, List, [], ◌∷◌, length, map, Some, slice_get, slice_index, slice_index_or, sym, ◌∙◌, ap, arith, eqb}
 use Rattle.std.specs.BinaryHeap.{IsUpperBound}
 use Rattle.std.specs.List.{All, AllByRecursion, Contains, IsDistinct}
 use Rattle.std.specs.List.Sorted.{IsPermutation}
@@ -10,11 +10,9 @@ use Rattle.std.proofs.lemmas.List.Elements.{All-from_recursion, All-weaker}
 use Rattle.std.proofs.lemmas.List.Sorted.{All-permutation, Contains-permutation}
 use Rattle.std.proofs.lemmas.Map.Keys.{IsDistinct-IsPermutation, IsDistinct-cons, IsDistinct-head, IsDistinct-tail}
 use Rattle.std.proofs.lemmas.Option.{same_Some, slice_get-get_or}
-use Rattle.prl_base.specs.Clocks.{date_at}
 use Rattle.prl_base.specs.declared.operators.Clock.{Clock}
-use Rattle.prl_calendar.specs.Calendars.{HasDate}
-use Rattle.prl_calendar.specs.Kinds.{AreFirsts, AreSame, IsFirst}
-use Rattle.prl_calendar.specs.Turns.{AreTurns, IsTurn, Turn, date_of, first_turn, last, place_of, same_place, turn_order}
+use Rattle.prl_calendar.specs.Kinds.{AreFirsts, IsFirst}
+use Rattle.prl_calendar.specs.Turns.{AreTurns, IsTurn, Turn, date_of, first_turn, last, same_place, turn_order}
 use Rattle.prl_calendar.proofs.Places.{contains_head, contains_tail, distinct_none}
 use Rattle.prl_calendar.proofs.Turning.{same_place_flips}
 

@@ -1,12 +1,9 @@
 -- Lists that contain an element, and places of equal clocks.
-use Rattle.std.proofs.Common.{◌≡◌, ◌+◌, ◌<◌, ◌≤◌, ◌⊎◌, inl, inr, ℕ, zero, suc, Bool, true, false, List, [], ◌∷◌, ◌++◌, length, Option, Some, slice_get, slice_index_or, refl, sym, ◌∙◌, ap, subst, arith, eqb}
-use Rattle.std.specs.List.{All, Contains, IsDistinct}
-use Rattle.std.specs.List.Sorted.{IsPermutation}
-use Rattle.std.proofs.lemmas.Bool.{cases_lt, cases_order, cases_eq, eq-eqb, eqb-true, ne_eqb}
+use Rattle.std.proofs.Common.{◌≡◌, ◌<◌, ◌⊎◌, inl, inr, ℕ, zero, suc, Bool, List, [], ◌∷◌, ◌++◌, length, slice_index_or, refl, sym, ◌∙◌, ap, subst, arith, eqb}
+use Rattle.std.specs.List.{Contains, IsDistinct}
+use Rattle.std.proofs.lemmas.Bool.{cases_lt, cases_order, ne_eqb}
 use Rattle.std.proofs.lemmas.List.{get_or_append_left, get_or_default, get_or_push, length_push}
-use Rattle.std.proofs.lemmas.List.Sorted.{Contains-permutation}
 use Rattle.std.proofs.lemmas.Map.Keys.{IsDistinct-from_apart, apart_from_distinct}
-use Rattle.std.proofs.lemmas.Option.{slice_get_within}
 use Rattle.prl_base.specs.declared.operators.Clock.{Clock}
 use Rattle.prl_calendar.specs.Calendars.{HasDate}
 use Rattle.prl_calendar.specs.Kinds.{AreSame, IsFirst}
@@ -41,16 +38,16 @@ contains_push_cases (z ∷ xs) x y c = elim (contains_cases z (xs ++ x ∷ []) y
 pub distinct_push : (xs : List ℕ) (x : ℕ) → IsDistinct eqb xs → (Contains xs x → ⊥) → IsDistinct eqb (xs ++ x ∷ [])
 distinct_push xs x distinct fresh =
     IsDistinct-from_apart eqb (xs ++ x ∷ []) (λ i j d less below. elim (cases_lt j (length xs)) [
-    | inl within ↦
-        rw (get_or_append_left xs (x ∷ []) d i (omega (arith, less, within)), get_or_append_left xs (x ∷ []) d j within)
-        (apart_from_distinct eqb xs i j d distinct less within)
-    | inr past ↦
-        let last : j ≡ length xs = omega (arith, past, below, length_push xs x) in
-        let early : i < length xs = omega (arith, less, last) in
-        let here : slice_index_or (xs ++ x ∷ []) j d ≡ x = ap (λ k. slice_index_or (xs ++ x ∷ []) k d) last ∙ get_or_push xs x d (length xs) refl in
-        let there : slice_index_or (xs ++ x ∷ []) i d ≡ slice_index_or xs i d = get_or_append_left xs (x ∷ []) d i early in
-        let differ : slice_index_or xs i d ≡ x → ⊥ = λ same. fresh (i, early, get_or_default xs i x d early ∙ same) in
-        rw (here, there) (ne_eqb (slice_index_or xs i d) x differ)
+      | inl within ↦
+          rw (get_or_append_left xs (x ∷ []) d i (omega (arith, less, within)), get_or_append_left xs (x ∷ []) d j within)
+          (apart_from_distinct eqb xs i j d distinct less within)
+      | inr past ↦
+          let last : j ≡ length xs = omega (arith, past, below, length_push xs x) in
+          let early : i < length xs = omega (arith, less, last) in
+          let here : slice_index_or (xs ++ x ∷ []) j d ≡ x = ap (λ k. slice_index_or (xs ++ x ∷ []) k d) last ∙ get_or_push xs x d (length xs) refl in
+          let there : slice_index_or (xs ++ x ∷ []) i d ≡ slice_index_or xs i d = get_or_append_left xs (x ∷ []) d i early in
+          let differ : slice_index_or xs i d ≡ x → ⊥ = λ same. fresh (i, early, get_or_default xs i x d early ∙ same) in
+          rw (here, there) (ne_eqb (slice_index_or xs i d) x differ)
     ])
 
 pub distinct_none : {A : Type 0} (e : A → A → Bool) → IsDistinct e []

@@ -10,8 +10,8 @@ use prl_base::Clock;
 use std::alloc::{AllocError, Global};
 use std::marker::Model;
 
-/// The dates of a list of clocks before a date, each told once, in order. Contracts see the clocks, from which date on
-/// and before which one their dates are told.
+/// The dates of a list of clocks before a date, each told once, in order. Contracts see the
+/// clocks, from which date on and before which one their dates are told.
 #[derive(Drop)]
 pub struct Calendar<'a> {
     clocks: &'a [Clock],
@@ -36,11 +36,7 @@ impl<'a> Model for Calendar<'a> {
 
 impl<'a> Calendar<'a> {
     /// The calendar of these clocks before `until`.
-    pub fn new(
-        alloc: Global,
-        clocks: &'a [Clock],
-        until: u64,
-    ) -> Result<Calendar<'a>, AllocError>
+    pub fn new(alloc: Global, clocks: &'a [Clock], until: u64) -> Result<Calendar<'a>, AllocError>
         requires periods { AreAllClocks clocks.now }
         requires few { length clocks.now < 2 ^ 32 }
         ensures { IfOk result (λ c. c ≡ record { clocks = clocks.now; from = 0; until = until }) }
@@ -56,8 +52,8 @@ impl<'a> Calendar<'a> {
         })
     }
 
-    /// The next date of a clock, and the places of the clocks that have it, in rising order; none where no date is
-    /// left. After want of memory none is left.
+    /// The next date of a clock, and the places of the clocks that have it, in rising order; none
+    /// where no date is left. After want of memory none is left.
     pub fn next(&mut self, due: &mut Vec<u32>) -> Result<Option<u64>, AllocError>
         ensures told { IfOk result (λ date. Tells self.old date due.new.items self.new) }
         ensures fault { OnErr result (self.new ≡ record self.old { from = self.old.until }) }
@@ -70,7 +66,13 @@ impl<'a> Calendar<'a> {
         };
         self.from = self.until;
         due.clear();
-        take_due(self.clocks, self.following.as_slice(), &mut self.turns, date, due)?;
+        take_due(
+            self.clocks,
+            self.following.as_slice(),
+            &mut self.turns,
+            date,
+            due,
+        )?;
         sort(due);
         self.from = date + 1;
         Ok(Some(date))

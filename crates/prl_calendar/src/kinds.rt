@@ -7,7 +7,8 @@ use prl_base::Clock;
 use std::alloc::{AllocError, Global};
 use std::collections::BTreeMap;
 
-/// For each clock the place of the next one that equals it, and the number of clocks where there is none.
+/// For each clock the place of the next one that equals it, and the number of clocks where there
+/// is none.
 #[derive(Debug, Drop)]
 pub(crate) struct Chains {
     pub(crate) following: Vec<u32>,

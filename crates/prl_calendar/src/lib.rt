@@ -1,5 +1,5 @@
-//! Calendars: the dates of a list of clocks in order, and which of the clocks have each. It stands on the clocks of
-//! `prl_base`.
+//! Calendars: the dates of a list of clocks in order, and which of the clocks have each. It
+//! stands on the clocks of `prl_base`.
 #![tactic(auto)]
 
 mod calendars;

@@ -33,8 +33,8 @@ pub(crate) fn first_turns(
     Ok(turns)
 }
 
-/// Where the next date is this one, moves that turn to the next date of its kind, and gives the place of the
-/// kind's first clock.
+/// Where the next date is this one, moves that turn to the next date of its kind, and gives the
+/// place of the kind's first clock.
 fn turn(clocks: &[Clock], turns: &mut Turns, date: u64) -> Result<Option<u32>, AllocError>
     requires heap { IsHeap turn_order (heap_items turns.old) }
     requires places { All (λ e. place_of e < length clocks.now) (heap_items turns.old) }

@@ -1,6 +1,6 @@
 -- Each flat program has its clocks or a fault.
-use Rattle.std.proofs.Common.{◌≡◌, ◌≢◌, ◌≤◌, ◌<◌, ◌+◌, ◌++◌, ◌∷◌, ◌⊎◌, inl, inr, ℕ, zero, suc, ℤ, pos, negsuc, nat_abs, ◌≤ℤ◌, List, [], length, map, get_or, Option, Some, None, Result, Ok, Err, refl, sym, ap, ◌∙◌, subst, arith, add-one}
-use Rattle.std.specs.List.{AllByRecursion, range_with_len}
+use Rattle.std.proofs.Common.{◌≡◌, ◌<◌, ◌++◌, ◌∷◌, ◌⊎◌, inl, inr, ℕ, zero, suc, ℤ, pos, negsuc, nat_abs, ◌≤ℤ◌, List, [], length, map, get_or, Option, Some, None, Result, Ok, Err, refl, sym, ap, ◌∙◌, subst, arith}
+use Rattle.std.specs.List.{range_with_len}
 use Rattle.std.specs.Prelude.{slice_get}
 use Rattle.std.proofs.lemmas.Bool.{cases_lt}
 use Rattle.std.proofs.lemmas.List.FromFn.{get_or-map-range_with_len, length-map-range_with_len}
@@ -8,7 +8,6 @@ use Rattle.std.proofs.lemmas.Option.{slice_get-get_or, slice_get_within}
 use borrow.Author.Differences.{ints}
 use Rattle.prl_base.specs.Operators.{IsOperatorFor}
 use Rattle.prl_base.specs.Ratios.{Fraction}
-use Rattle.prl_base.specs.declared.numbers.FlowNo.{FlowNo}
 use Rattle.prl_base.specs.declared.operators.Clock.{Clock}
 use Rattle.prl_base.specs.declared.operators.Op.{Op}
 use Rattle.prl_base.specs.declared.operators.Op.TheVariants as operators
@@ -111,13 +110,13 @@ searched A B f (suc n) =
     elim (searched A B f n) [
       | inr r ↦ let h = r.1 in inr (r.0, omega (arith, h), r.2, r.3)
       | inl all ↦ elim (f n) [
-          | inr b ↦ inr (n, omega arith, b, all)
-          | inl a ↦ inl (λ x h.
-                elim (cases_lt x n) [
-                  | inl below ↦ all x below
-                  | inr above ↦ let e : n ≡ x = omega (arith, h, above) in subst A e a
-                ])
-        ]
+        | inr b ↦ inr (n, omega arith, b, all)
+        | inl a ↦ inl (λ x h.
+            elim (cases_lt x n) [
+              | inl below ↦ all x below
+              | inr above ↦ let e : n ≡ x = omega (arith, h, above) in subst A e a
+            ])
+      ]
     ]
 
 timed_or : (st : List Standing) (x : ℕ) → HasClock st x ⊎ ((standing_at st x).clock ≡ None)
@@ -132,9 +131,9 @@ whole_or f g =
     elim (decide f.den 1) [
       | inr n ↦ inr (λ w. n w.0)
       | inl a ↦ elim (decide g.den 1) [
-          | inr n ↦ inr (λ w. n w.1)
-          | inl b ↦ elim (sign g.num) [ inl c ↦ inl (a, b, c) | inr n ↦ inr (λ w. n w.2) ]
-        ]
+        | inr n ↦ inr (λ w. n w.1)
+        | inl b ↦ elim (sign g.num) [ inl c ↦ inl (a, b, c) | inr n ↦ inr (λ w. n w.2) ]
+      ]
     ]
   where
     sign : (z : ℤ) → (pos 0 ≤ℤ z) ⊎ (pos 0 ≤ℤ z → ⊥)
@@ -209,20 +208,22 @@ module _ (p : FlatProgram) (flat : IsFlat p) where
       elim (searched (HasClock st) (λ x. (standing_at st x).clock ≡ None) (timed_or st) (length st)) [
         | inr f ↦
             let below : f.0 < length p.flows = let h = f.1 in let e = r.len in omega (arith, h, e) in
-            let flow = found f.0 below in
-            (Err (faults.Free flow.0.label),
-              free_is p st r f.0 flow.0.label (record { within = f.1; free = f.2; earlier = f.3 }) (record { flow = flow.0; found = flow.1; is = refl }))
+            let flow = found f.0 below in (
+              Err (faults.Free flow.0.label),
+              free_is p st r f.0 flow.0.label (record { within = f.1; free = f.2; earlier = f.3 }) (record { flow = flow.0; found = flow.1; is = refl }),
+            )
         | inl timed ↦ elim (searched (Whole st) (NotWhole st) (whole_at st) (length st)) [
-            | inl whole ↦ let b = built st (length st) whole in (Ok b.0, whole_are p flat st b.0 r b.1 b.2)
-            | inr f ↦ elim f.2 [
-                | inr none ↦ absurd (some_none (timed f.0 f.1).1 none)
-                | inl t ↦
-                    let below : f.0 < length p.flows = let h = f.1 in let e = r.len in omega (arith, h, e) in
-                    let flow = found f.0 below in
-                    (Err (faults.NotWhole flow.0.label t.0.period t.0.start),
-                      not_whole_is p st r timed f.0 flow.0.label t.0 t.1 t.2 f.3 (record { flow = flow.0; found = flow.1; is = refl }))
-              ]
+          | inl whole ↦ let b = built st (length st) whole in (Ok b.0, whole_are p flat st b.0 r b.1 b.2)
+          | inr f ↦ elim f.2 [
+            | inr none ↦ absurd (some_none (timed f.0 f.1).1 none)
+            | inl t ↦
+                let below : f.0 < length p.flows = let h = f.1 in let e = r.len in omega (arith, h, e) in
+                let flow = found f.0 below in (
+                  Err (faults.NotWhole flow.0.label t.0.period t.0.start),
+                  not_whole_is p st r timed f.0 flow.0.label t.0 t.1 t.2 f.3 (record { flow = flow.0; found = flow.1; is = refl }),
+                )
           ]
+        ]
       ]
     where
       some_none : {o : Option Timing} {t : Timing} → o ≡ Some t → o ≡ None → ⊥
@@ -233,7 +234,7 @@ module _ (p : FlatProgram) (flat : IsFlat p) where
       let n = length p.flows in
       let start = alone_solved (alones n) (alones_are n) in
       elim (steps_total p [] (constraints_of p) (alones n) (record { len = length-map-range_with_len alone 0 n; fine = fine_none (alones n) start; solved = start })
-        (good_below p flat n)) [
+      (good_below p flat n)) [
         | inl r ↦ reached_outcome r.0 r.1
         | inr e ↦ (Err e.0, stopped_outcome e.0 e.1)
       ]

@@ -1,42 +1,26 @@
 -- Each flat program has an outcome, with no call that takes memory.
-use Rattle.std.proofs.Common.{◌≡◌, ◌≢◌, ◌≤◌, ◌<◌, ◌+◌, ◌*◌, ◌++◌, ◌∷◌, ◌⊎◌, inl, inr, ℕ, zero, suc, ℤ, pos, negsuc, nat_abs, ◌*ℤ◌, ◌≤ℤ◌, List, [], length, map, get_or, Option, Some, None, Result, Ok, Err, refl, sym, ap, ◌∙◌, subst, arith, append_assoc}
+use Rattle.std.proofs.Common.{◌≡◌, ◌≢◌, ◌≤◌, ◌<◌, ◌++◌, ◌∷◌, ◌⊎◌, inl, inr, ℕ, pos, List, [], length, Option, Some, None, refl, sym, ap, ◌∙◌, subst, arith, append_assoc}
 use Rattle.std.specs.List.{AllByRecursion}
-use Rattle.std.specs.Prelude.{slice_get}
 use Rattle.std.proofs.lemmas.Bool.{cases_lt}
 use Rattle.std.proofs.lemmas.List.{append-nil}
-use Rattle.std.proofs.lemmas.Option.{slice_get-get_or, slice_get_within}
-use borrow.Author.Differences.{up, down, ints}
-use Rattle.prl_base.specs.Ratios.{Fraction, IsSmallFraction}
-use Rattle.prl_base.specs.declared.numbers.FlowNo.{FlowNo}
-use Rattle.prl_base.specs.declared.operators.Clock.{Clock}
-use Rattle.prl_base.specs.declared.operators.Op.{Op}
-use Rattle.prl_base.specs.declared.operators.Op.TheVariants as operators
-use Rattle.prl_base.specs.declared.values.Ty.{Ty}
-use Rattle.prl_ast.specs.InRange.{IfThere, IsRate}
-use Rattle.prl_ast.specs.declared.declarations.Rate.{Rate}
-use Rattle.prl_flow.specs.declared.programs.App.{App}
-use Rattle.prl_flow.specs.declared.programs.Arg.{Arg}
-use Rattle.prl_flow.specs.declared.programs.Def.{Def}
-use Rattle.prl_flow.specs.declared.programs.Def.TheVariants as definitions
-use Rattle.prl_flow.specs.declared.programs.Flow.{Flow}
-use Rattle.prl_flow.specs.Programs.{FlatProgram, IsFlat, IsWellDefined}
+use borrow.Author.Differences.{up}
+use Rattle.prl_base.specs.Ratios.{IsSmallFraction}
+use Rattle.prl_flow.specs.Programs.{FlatProgram}
 use Rattle.prl_clock.specs.declared.calculus.ClockFault.{ClockFault}
 use Rattle.prl_clock.specs.declared.standings.Standing.{Standing}
 use Rattle.prl_clock.specs.declared.steps.Refusal.{Refusal}
 use Rattle.prl_clock.specs.declared.steps.Refusal.TheVariants as refusals
 use Rattle.prl_clock.specs.declared.timings.Timing.{Timing}
 use Rattle.prl_clock.specs.Assignments.{Assignment, MeetsAll, IsConsistent, Passes}
-use Rattle.prl_clock.specs.Constraints.{Constraint, rated, related, Placed, same_clock, timing_of_operator, timing_of_rate, rate_constraints, argument_constraint, first_output, output_constraints, definition_constraints, flow_constraints, constraints_below, constraints_of}
+use Rattle.prl_clock.specs.Constraints.{Constraint, rated, related, Placed}
 use Rattle.prl_clock.specs.code.Composition.{HasParts, IsComposed, IsSmallTiming}
 use Rattle.prl_clock.specs.code.Progress.{IsReached, IsStopped, told}
-use Rattle.prl_clock.specs.code.Rates.{IsReducedTiming, IsTimingPast}
-use Rattle.prl_clock.specs.code.Standings.{AreStandings, IsSolved, IsMerging, IsLink, IsMoved, IsRefused, IsLowClock, of_low, of_high, of_low_past, of_high_past, HasClock, standing_at, root_at}
+use Rattle.prl_clock.specs.code.Standings.{IsSolved, IsMerging, IsLink, IsMoved, IsRefused, IsLowClock, of_low, of_high, of_low_past, of_high_past, standing_at, root_at}
 use Rattle.prl_clock.proofs.Algebra.{numerator}
 use Rattle.prl_clock.proofs.Fine.{reached_more, stopped_one, stopped_later, stopped_within, one, one_meets}
 use Rattle.prl_clock.proofs.Joining.{shift_passes, one_passes, high_small, low_small, first_over, second_over}
 use Rattle.prl_clock.proofs.Joined.{clock_passes, joined_none, joined_past, joined_some}
 use Rattle.prl_clock.proofs.Merging.{beyond, decide}
-use Rattle.prl_clock.proofs.Rated.{rate_link, rate_lowest, reduced_only, reduced_past}
 use Rattle.prl_clock.proofs.Rating.{known_solved, known_refused, new_consistent, new_past, root_past, new_one_past, new_solved}
 use Rattle.prl_clock.proofs.Relating.{within_solved, within_refused, clocks_refused, across_consistent, down_passes, up_passes, merging_down, merging_up}
 use Rattle.prl_clock.proofs.Terms.{small_parts}
@@ -100,9 +84,9 @@ module _ (cs : List Placed) (st : List Standing) (high low : Standing) (w : Timi
       elim (over_total w high.over (small_parts _ m.small) (small_parts _ (high_small cs st high low m.joint)) (up high.over.period.num) n.0 n.1) [
         | inr past ↦ inr (shift_passes cs st high low w m past)
         | inl q ↦ elim (moved_total st parts high.root low.root q.0 (small_parts _ q.2)) [
-            | inr past ↦ inr (one_passes cs st high low w m q.0 q.2 q.1 past)
-            | inl r ↦ finished q.0 q.2 q.1 r.0 r.1 r.2 (mid_parts q.0 r.0 r.1 r.2)
-          ]
+          | inr past ↦ inr (one_passes cs st high low w m q.0 q.2 q.1 past)
+          | inl r ↦ finished q.0 q.2 q.1 r.0 r.1 r.2 (mid_parts q.0 r.0 r.1 r.2)
+        ]
       ]
     where
       mid_parts : (shift : Timing) (mid : List Standing) → length mid ≡ length st
@@ -110,9 +94,9 @@ module _ (cs : List Placed) (st : List Standing) (high low : Standing) (w : Timi
       mid_parts shift mid len moved x =
           elim (cases_lt x (length st)) [
             | inl below ↦ elim (decide (root_at st x) high.root) [
-                | inl e ↦ small_parts _ ((moved x below).moved e).2
-                | inr n ↦ let P : Standing → Type 0 = λ s. HasParts s.over in subst P (sym ((moved x below).kept n)) (parts x)
-              ]
+              | inl e ↦ small_parts _ ((moved x below).moved e).2
+              | inr n ↦ let P : Standing → Type 0 = λ s. HasParts s.over in subst P (sym ((moved x below).kept n)) (parts x)
+            ]
             | inr above ↦
                 let P : Standing → Type 0 = λ s. HasParts s.over in
                 subst P (sym (beyond mid x (omega (arith, len, above)))) (record { period = omega arith; start = omega arith })
@@ -128,26 +112,26 @@ module _ (cs : List Placed) (st : List Standing) (solved : IsSolved cs st) where
       let py = small_parts _ (solved.standings.small y) in
       elim (decide (root_at st x) (root_at st y)) [
         | inl e ↦ elim (fits_total link (standing_at st y).over (standing_at st x).over is.parts py (solved.standings.small x)) [
-            | inl c ↦ inl (st, refl, within_solved cs st solved x y link is at e c)
-            | inr n ↦ inr (refusals.Mismatch, within_refused cs st solved x y link is at e n)
-          ]
+          | inl c ↦ inl (st, refl, within_solved cs st solved x y link is at e c)
+          | inr n ↦ inr (refusals.Mismatch, within_refused cs st solved x y link is at e n)
+        ]
         | inr two ↦ elim (clocks_total (standing_at st y).clock (standing_at st x).clock refl refl) [
-            | inr n ↦ inr (refusals.Mismatch, clocks_refused cs st solved x y link is at n.0 n.1 n.2 n.3 n.4)
-            | inl agree ↦
-                let consistent = across_consistent cs st solved x y link is at two agree in
-                elim (cases_lt (root_at st y) (root_at st x)) [
-                  | inl lower ↦ elim (composed_total link (standing_at st y).over is.parts py) [
-                      | inr past ↦ inr (refusals.Limit, (consistent, down_passes cs st solved x y link is at two agree lower hx past))
-                      | inl w ↦ ended consistent (join_total _ st _ _ w.0 (merging_down cs st solved x y link is at two agree lower hx w.0 w.2 w.1))
-                    ]
-                  | inr above ↦
-                      let lower : root_at st x < root_at st y = less (root_at st x) (root_at st y) above two in
-                      elim (over_total (standing_at st x).over link px is.parts is.num is.is is.some) [
-                        | inr past ↦ inr (refusals.Limit, (consistent, up_passes cs st solved x y link is at two agree lower hy past))
-                        | inl w ↦ ended consistent (join_total _ st _ _ w.0 (merging_up cs st solved x y link is at two agree lower hy w.0 w.2 w.1))
-                      ]
+          | inr n ↦ inr (refusals.Mismatch, clocks_refused cs st solved x y link is at n.0 n.1 n.2 n.3 n.4)
+          | inl agree ↦
+              let consistent = across_consistent cs st solved x y link is at two agree in
+              elim (cases_lt (root_at st y) (root_at st x)) [
+                | inl lower ↦ elim (composed_total link (standing_at st y).over is.parts py) [
+                  | inr past ↦ inr (refusals.Limit, (consistent, down_passes cs st solved x y link is at two agree lower hx past))
+                  | inl w ↦ ended consistent (join_total _ st _ _ w.0 (merging_down cs st solved x y link is at two agree lower hx w.0 w.2 w.1))
                 ]
-          ]
+                | inr above ↦
+                    let lower : root_at st x < root_at st y = less (root_at st x) (root_at st y) above two in
+                    elim (over_total (standing_at st x).over link px is.parts is.num is.is is.some) [
+                      | inr past ↦ inr (refusals.Limit, (consistent, up_passes cs st solved x y link is at two agree lower hy past))
+                      | inl w ↦ ended consistent (join_total _ st _ _ w.0 (merging_up cs st solved x y link is at two agree lower hy w.0 w.2 w.1))
+                    ]
+              ]
+        ]
       ]
     where
       less : (m n : ℕ) → m ≤ n → m ≢ n → m < n
@@ -171,8 +155,8 @@ module _ (cs : List Placed) (st : List Standing) (solved : IsSolved cs st) where
       clocks_total (Some t) (Some v) ey ex =
           elim (fits_total link t v is.parts (small_parts _ (solved.standings.small_clock y t ey)) (solved.standings.small_clock x v ex)) [
             | inl c ↦ inl (λ s w a b.
-                  let P : Timing → Type 0 = λ q. IsComposed link q w in
-                  let Q : Timing → Type 0 = λ q. IsComposed link t q in subst P (some_same (sym ey ∙ a)) (subst Q (some_same (sym ex ∙ b)) c))
+                let P : Timing → Type 0 = λ q. IsComposed link q w in
+                let Q : Timing → Type 0 = λ q. IsComposed link t q in subst P (some_same (sym ey ∙ a)) (subst Q (some_same (sym ex ∙ b)) c))
             | inr n ↦ inr (t, v, ey, ex, n)
           ]
 
@@ -193,12 +177,12 @@ module _ (cs : List Placed) (st : List Standing) (solved : IsSolved cs st) where
           elim (reduced_total q is.parts lowest) [
             | inr p ↦ inr (refusals.Limit, (consistent, new_past cs st solved x q is lowest at e p))
             | inl t ↦ elim (over_total t.0 (standing_at st x).over (small_parts _ t.1.small) (small_parts _ (solved.standings.small x)) (up (standing_at st x).over.period.num) n.0 n.1) [
-                | inr p ↦ inr (refusals.Limit, (consistent, root_past cs st solved x q is lowest at e t.0 t.1 p))
-                | inl r ↦ elim (timed_total st (λ z. small_parts _ (solved.standings.small z)) (root_at st x) r.0 (small_parts _ r.2)) [
-                    | inr p ↦ inr (refusals.Limit, (consistent, new_one_past cs st solved x q is lowest at e t.0 t.1 r.0 r.2 r.1 p))
-                    | inl k ↦ inl (k.0, k.1, new_solved cs st solved x q is lowest at e t.0 t.1 r.0 r.2 r.1 k.0 k.1 hx k.2)
-                  ]
+              | inr p ↦ inr (refusals.Limit, (consistent, root_past cs st solved x q is lowest at e t.0 t.1 p))
+              | inl r ↦ elim (timed_total st (λ z. small_parts _ (solved.standings.small z)) (root_at st x) r.0 (small_parts _ r.2)) [
+                | inr p ↦ inr (refusals.Limit, (consistent, new_one_past cs st solved x q is lowest at e t.0 t.1 r.0 r.2 r.1 p))
+                | inl k ↦ inl (k.0, k.1, new_solved cs st solved x q is lowest at e t.0 t.1 r.0 r.2 r.1 k.0 k.1 hx k.2)
               ]
+            ]
           ]
 
 -- constraints of flows that are there
@@ -220,7 +204,7 @@ steps_total p cs (d ∷ ds) st r good =
     elim (step_total cs st (length p.flows) r.len r.solved d.constraint d.at good.0) [
       | inr x ↦ inr (told x.0 d.at, stopped_within cs (d ∷ []) ds _ (stopped_one cs d x.0 _ r.fine x.1 refl))
       | inl x ↦ elim (steps_total p (cs ++ d ∷ []) ds x.0 (reached_more p cs d st x.0 r x.1 x.2) good.1) [
-          | inl y ↦ let P : List Placed → Type 0 = λ t. IsReached p t y.0 in inl (y.0, subst P (append_assoc cs (d ∷ []) ds) y.1)
-          | inr y ↦ inr (y.0, stopped_later cs (d ∷ []) ds y.0 y.1)
-        ]
+        | inl y ↦ let P : List Placed → Type 0 = λ t. IsReached p t y.0 in inl (y.0, subst P (append_assoc cs (d ∷ []) ds) y.1)
+        | inr y ↦ inr (y.0, stopped_later cs (d ∷ []) ds y.0 y.1)
+      ]
     ]

@@ -1,5 +1,5 @@
 -- Each step of the calculus has an answer, with no call that takes memory.
-use Rattle.std.proofs.Common.{◌≡◌, ◌≢◌, ◌≤◌, ◌<◌, ◌+◌, ◌-◌, ◌*◌, ◌++◌, ◌∷◌, ◌⊎◌, inl, inr, ℕ, zero, suc, ℤ, pos, negsuc, neg_ℤ, nat_abs, ◌*ℤ◌, ◌+ℤ◌, List, [], length, get_or, Option, Some, None, refl, sym, ap, ◌∙◌, subst, arith}
+use Rattle.std.proofs.Common.{◌≡◌, ◌≢◌, ◌≤◌, ◌<◌, ◌+◌, ◌-◌, ◌*◌, ◌∷◌, ◌⊎◌, inl, inr, ℕ, zero, suc, ℤ, pos, negsuc, neg_ℤ, nat_abs, ◌*ℤ◌, ◌+ℤ◌, List, [], length, get_or, Some, refl, sym, ap, ◌∙◌, subst, arith}
 use Rattle.std.specs.Int.{IsGcd}
 use Rattle.std.proofs.lemmas.Bool.{cases_lt}
 use Rattle.std.proofs.lemmas.Nat.Gcd.{IsGcd-from_zero, IsGcd-swap, IsGcd-from_sub}
@@ -11,7 +11,7 @@ use Rattle.prl_clock.specs.declared.standings.Standing.{Standing}
 use Rattle.prl_clock.specs.declared.timings.Timing.{Timing}
 use Rattle.prl_clock.specs.code.Composition.{HasParts, IsProduct, IsSum, IsComposed, IsComposedPast, composed_period, composed_start, IsOverPast, over_period, over_start, IsSmallTiming, IsPastTerms}
 use Rattle.prl_clock.specs.code.Rates.{IsReducedTiming, IsTimingPast}
-use Rattle.prl_clock.specs.code.Standings.{AreMoved, AreTimed, IsMoved, IsTimed, IsOnePast, IsLink, alone, standing_at, root_at}
+use Rattle.prl_clock.specs.code.Standings.{AreMoved, AreTimed, IsMoved, IsTimed, IsOnePast, alone, standing_at}
 use Rattle.prl_clock.proofs.Algebra.{positive}
 use Rattle.prl_clock.proofs.Loops.{same_within}
 use Rattle.prl_clock.proofs.Merging.{decide}
@@ -40,9 +40,9 @@ sized top bottom f form =
     elim (cases_lt MAX_PART (nat_abs f.num)) [
       | inl past ↦ inr (record { positive = form.positive; reduced = form.reduced; past = inl past })
       | inr num ↦ elim (cases_lt MAX_PART f.den) [
-          | inl past ↦ inr (record { positive = form.positive; reduced = form.reduced; past = inr past })
-          | inr den ↦ inl (record { positive = form.positive; reduced = form.reduced; num = num; den = den })
-        ]
+        | inl past ↦ inr (record { positive = form.positive; reduced = form.reduced; past = inr past })
+        | inr den ↦ inl (record { positive = form.positive; reduced = form.reduced; num = num; den = den })
+      ]
     ]
 
 reduced : (top : ℤ) (bottom : ℕ) → 1 ≤ bottom → Reduced top bottom
@@ -59,9 +59,9 @@ composed_total p q dp dq =
     elim a.size [
       | inr past ↦ inr (composed_period a.terms past a.form.equal)
       | inl small ↦ elim b.size [
-          | inr past ↦ inr (composed_start b.terms past b.form.equal)
-          | inl low ↦ inl (record { period = a.terms; start = b.terms }, record { period = a.form.equal; start = b.form.equal }, record { period = small; start = low })
-        ]
+        | inr past ↦ inr (composed_start b.terms past b.form.equal)
+        | inl low ↦ inl (record { period = a.terms; start = b.terms }, record { period = a.form.equal; start = b.form.equal }, record { period = small; start = low })
+      ]
     ]
 
 pub over_total : (whole first : Timing) → HasParts whole → HasParts first → (n : ℕ) → first.period.num ≡ pos n → 1 ≤ n
@@ -77,9 +77,9 @@ over_total whole first dw df n is some =
     elim a.size [
       | inr past ↦ inr (over_period a.terms past product)
       | inl small ↦ elim b.size [
-          | inr past ↦ inr (over_start b.terms a.terms a.form.positive past product sum)
-          | inl low ↦ inl (record { period = a.terms; start = b.terms }, record { period = product; start = sum }, record { period = small; start = low })
-        ]
+        | inr past ↦ inr (over_start b.terms a.terms a.form.positive past product sum)
+        | inl low ↦ inl (record { period = a.terms; start = b.terms }, record { period = product; start = sum }, record { period = small; start = low })
+      ]
     ]
 
 -- equal or not
@@ -93,9 +93,9 @@ decide_fraction : (f g : Fraction) → (f ≡ g) ⊎ (f ≢ g)
 decide_fraction f g =
     elim (decide_whole f.num g.num) [
       | inl a ↦ elim (decide f.den g.den) [
-          | inl b ↦ inl (λ i. record { num = a i; den = b i })
-          | inr d ↦ inr (λ e. d (ap (λ (x : Fraction). x.den) e))
-        ]
+        | inl b ↦ inl (λ i. record { num = a i; den = b i })
+        | inr d ↦ inr (λ e. d (ap (λ (x : Fraction). x.den) e))
+      ]
       | inr d ↦ inr (λ e. d (ap (λ (x : Fraction). x.num) e))
     ]
 
@@ -103,9 +103,9 @@ pub decide_timing : (t u : Timing) → (t ≡ u) ⊎ (t ≢ u)
 decide_timing t u =
     elim (decide_fraction t.period u.period) [
       | inl a ↦ elim (decide_fraction t.start u.start) [
-          | inl b ↦ inl (λ i. record { period = a i; start = b i })
-          | inr d ↦ inr (λ e. d (ap (λ (x : Timing). x.start) e))
-        ]
+        | inl b ↦ inl (λ i. record { period = a i; start = b i })
+        | inr d ↦ inr (λ e. d (ap (λ (x : Timing). x.start) e))
+      ]
       | inr d ↦ inr (λ e. d (ap (λ (x : Timing). x.period) e))
     ]
 
@@ -113,9 +113,9 @@ pub fits_total : (link second whole : Timing) → HasParts link → HasParts sec
 fits_total link second whole dl ds small =
     elim (composed_total link second dl ds) [
       | inl r ↦ elim (decide_timing r.0 whole) [
-          | inl e ↦ let P : Timing → Type 0 = λ t. IsComposed link second t in inl (subst P e r.1)
-          | inr d ↦ inr (λ c. d (composed_only link second r.0 whole dl ds r.2 small r.1 c))
-        ]
+        | inl e ↦ let P : Timing → Type 0 = λ t. IsComposed link second t in inl (subst P e r.1)
+        | inr d ↦ inr (λ c. d (composed_only link second r.0 whole dl ds r.2 small r.1 c))
+      ]
       | inr past ↦ inr (λ c. past_composed link second whole whole dl ds past small c)
     ]
 
@@ -133,12 +133,12 @@ rate_fits q known d lowest =
     elim (reduced_total q d lowest) [
       | inr p ↦ inr (λ k. past_small p.terms known.start (only q.start.num q.start.den p.terms known.start d.start (past_form q.start.num q.start.den p.terms p.past p.equal) k.start) p.past.past k.small.start)
       | inl t ↦ elim (decide_timing t.0 known) [
-          | inl e ↦ let P : Timing → Type 0 = λ u. IsReducedTiming q u in inl (subst P e t.1)
-          | inr n ↦ inr (λ k.
-                let a : t.0.period ≡ known.period = t.1.period ∙ sym k.period in
-                let b : t.0.start ≡ known.start = only q.start.num q.start.den t.0.start known.start d.start t.1.start k.start in
-                n (λ i. record { period = a i; start = b i }))
-        ]
+        | inl e ↦ let P : Timing → Type 0 = λ u. IsReducedTiming q u in inl (subst P e t.1)
+        | inr n ↦ inr (λ k.
+            let a : t.0.period ≡ known.period = t.1.period ∙ sym k.period in
+            let b : t.0.start ≡ known.start = only q.start.num q.start.den t.0.start known.start d.start t.1.start k.start in
+            n (λ i. record { period = a i; start = b i }))
+      ]
     ]
 
 -- each standing of a list in turn
@@ -151,9 +151,9 @@ each_total S Q P f (s ∷ st) all =
     elim (f s (all 0 s (omega arith))) [
       | inr q ↦ inr (0, omega arith, λ d. q)
       | inl t ↦ elim (each_total S Q P f st (λ x d h. all (suc x) d (omega (arith, h)))) [
-          | inr q ↦ let h = q.1 in inr (suc q.0, omega (arith, h), q.2)
-          | inl r ↦ inl (t.0 ∷ r.0, ap suc r.1, at r.0 t r.2)
-        ]
+        | inr q ↦ let h = q.1 in inr (suc q.0, omega (arith, h), q.2)
+        | inl r ↦ inl (t.0 ∷ r.0, ap suc r.1, at r.0 t r.2)
+      ]
     ]
   where
     at : (new : List Standing) (t : (u : Standing) × P s u) → ((x : ℕ) (d e : Standing) → x < length st → P (get_or st x d) (get_or new x e))
@@ -177,9 +177,9 @@ module _ (st : List Standing) (parts : (x : ℕ) → HasParts (standing_at st x)
           elim (decide s.root high) [
             | inr n ↦ inl (s, record { moved = λ e. absurd (n e); kept = λ _. refl })
             | inl e ↦ elim (composed_total s.over shift dp ds) [
-                | inl r ↦ inl (record { root = low; over = r.0; clock = s.clock }, record { moved = λ _. (refl, r.1, r.2, refl); kept = λ n. absurd (n e) })
-                | inr past ↦ inr (e, past)
-              ]
+              | inl r ↦ inl (record { root = low; over = r.0; clock = s.clock }, record { moved = λ _. (refl, r.1, r.2, refl); kept = λ n. absurd (n e) })
+              | inr past ↦ inr (e, past)
+            ]
           ]
 
   pub timed_total : (root : ℕ) (clock : Timing) → HasParts clock → ((new : List Standing) × (length new ≡ length st) × AreTimed root clock st new) ⊎ IsOnePast root clock st
@@ -194,7 +194,7 @@ module _ (st : List Standing) (parts : (x : ℕ) → HasParts (standing_at st x)
           elim (decide s.root root) [
             | inr n ↦ inl (s, record { timed = λ e. absurd (n e); kept = λ _. refl })
             | inl e ↦ elim (composed_total s.over clock dp dc) [
-                | inl r ↦ inl (record { root = s.root; over = s.over; clock = Some r.0 }, record { timed = λ _. (r.0, (refl, r.1, r.2)); kept = λ n. absurd (n e) })
-                | inr past ↦ inr (e, past)
-              ]
+              | inl r ↦ inl (record { root = s.root; over = s.over; clock = Some r.0 }, record { timed = λ _. (r.0, (refl, r.1, r.2)); kept = λ n. absurd (n e) })
+              | inr past ↦ inr (e, past)
+            ]
           ]

@@ -103,7 +103,8 @@ fn sum_of_parts(a: i64, b: i64, c: i64, d: u128, e: u128, f: u128) -> Result<Rat
     }
 }
 
-/// The sum `base + slope * by` in lowest terms, where a part of the product may be past the limit. It takes no memory.
+/// The sum `base + slope * by` in lowest terms, where a part of the product may be past the limit.
+/// It takes no memory.
 pub fn sum_of(base: Ratio, slope: Ratio, by: Ratio) -> Result<Ratio, Past>
     ensures { IsReduction (base.num *ℤ pos (slope.den * by.den) +ℤ slope.num *ℤ by.num *ℤ pos base.den) (pos (base.den * slope.den * by.den)) result }
 {

@@ -1,4 +1,5 @@
-//! Laws of the clock calculus, as functions that do nothing: the contract of each is the law, over the definitions alone.
+//! Laws of the clock calculus, as functions that do nothing: the contract of each is the law, over
+//! the definitions alone.
 
 ghost use Rattle.std.specs.Prelude.{◌≡◌, ◌≤◌, ◌↔◌, ℕ, List, Result, length, map};
 ghost use Rattle.prl_base.specs.declared.operators.Clock.{Clock};
@@ -25,7 +26,8 @@ pub fn solutions_have_clocks()
         → AreClocks p (map (λ (f : Timed). f.clock) s.flows) }
 {}
 
-/// Where the constraints leave only one list of clocks, there are no others, and the flows of each solution have these.
+/// Where the constraints leave only one list of clocks, there are no others, and the flows of each
+/// solution have these.
 pub fn clocks_are_unique()
     ensures others { (p : FlatProgram) → IsFlat p → (clocks others : List Clock) → AreOnlyClocks p clocks → AreClocks p others → others ≡ clocks }
     ensures solutions { (p : FlatProgram) → IsFlat p → (clocks : List Clock) → AreOnlyClocks p clocks

@@ -1,5 +1,5 @@
-//! The clock calculus: the clocks that the constraints of a flat program leave to its flows, or the first constraint
-//! that leaves none. It stands on the flat programs of `prl_flow`.
+//! The clock calculus: the clocks that the constraints of a flat program leave to its flows, or
+//! the first constraint that leaves none. It stands on the flat programs of `prl_flow`.
 #![tactic(auto)]
 
 mod calculus;

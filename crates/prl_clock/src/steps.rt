@@ -29,7 +29,8 @@ impl From<Past> for Refusal {
     }
 }
 
-/// What the flow that `low` stands over is in ticks, where one of the two flows has a clock; `high` is `over_low` over it.
+/// What the flow that `low` stands over is in ticks, where one of the two flows has a clock;
+/// `high` is `over_low` over it.
 fn low_clock(high: &Standing, over_low: &Timing, low: &Standing) -> Result<Option<Timing>, Past>
     requires high { over_low.now.period.num ≢ pos 0 }
     requires low { low.now.over.period.num ≢ pos 0 }
@@ -45,7 +46,8 @@ fn low_clock(high: &Standing, over_low: &Timing, low: &Standing) -> Result<Optio
     }
 }
 
-/// Brings the flows that `high` is one of over the one that `low` stands over, which `high` is `over_low` over.
+/// Brings the flows that `high` is one of over the one that `low` stands over, which `high` is
+/// `over_low` over.
 fn join(
     standings: &mut [Standing],
     high: &Standing,

@@ -8,8 +8,8 @@ ghost use Rattle.prl_clock.specs.code.Composition.{HasParts, IsComposed, IsCompo
 use crate::fractions::sum_of;
 use prl_base::{Past, Ratio};
 
-/// A period and a start in ticks; or those of a flow over another one: its period in periods of the other, and by how
-/// many of these it starts after the other.
+/// A period and a start in ticks; or those of a flow over another one: its period in periods of
+/// the other, and by how many of these it starts after the other.
 #[derive(Clone, Copy, Debug, PartialEq, Eq)]
 pub struct Timing {
     pub period: Ratio,
@@ -50,7 +50,8 @@ pub fn over(whole: Timing, first: Timing) -> Result<Timing, Past>
     Ok(Timing { period, start })
 }
 
-/// Whether a flow that is `link` over a second one, which is `second` over a third, is `whole` over the third.
+/// Whether a flow that is `link` over a second one, which is `second` over a third, is `whole`
+/// over the third.
 pub fn fits(link: Timing, second: Timing, whole: Timing) -> bool
     requires link { HasParts link }
     requires second { HasParts second }
@@ -64,7 +65,8 @@ pub fn fits(link: Timing, second: Timing, whole: Timing) -> bool
     }
 }
 
-/// Whether the clocks of two flows, the first of which is `link` over the second, agree where both are there.
+/// Whether the clocks of two flows, the first of which is `link` over the second, agree where both
+/// are there.
 pub fn agree(link: Timing, second: Option<Timing>, first: Option<Timing>) -> bool
     requires link { HasParts link }
     requires second { IfThere HasParts second }

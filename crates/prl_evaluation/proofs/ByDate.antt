@@ -1,30 +1,27 @@
 -- Dates of clocks that come one after another, and flows that have their values up to a date.
-use Rattle.std.proofs.Common.{◌≡◌, ◌+◌, ◌*◌, ◌<◌, ◌≤◌, ◌⊎◌, inl, inr, ℕ, zero, suc, List, [], ◌∷◌, map, length, Option, Some, slice_get, slice_index, slice_index_or, refl, sym, ◌∙◌, add-one, ap, subst, arith}
+use Rattle.std.proofs.Common.{◌≡◌, ◌+◌, ◌*◌, ◌<◌, ◌≤◌, inl, inr, ℕ, zero, suc, List, [], ◌∷◌, map, length, Some, slice_get, slice_index, slice_index_or, refl, sym, ◌∙◌, add-one, ap, subst, arith}
 use Rattle.std.specs.List.{Contains}
 use Rattle.std.specs.List.Sorted.{IsStrictlyIncreasing}
 use Rattle.std.proofs.Math.Nat.{lt_of_mul-lt-mul_right, mul-le-mul_right}
-use Rattle.std.proofs.lemmas.Bool.{cases_eq, cases_lt, cases_order}
+use Rattle.std.proofs.lemmas.Bool.{cases_eq, cases_lt}
 use Rattle.std.proofs.lemmas.List.{get_or_default, length-map}
 use Rattle.std.proofs.lemmas.Option.{same_Some, slice_get-get_or, slice_get_within}
 use Rattle.prl_base.specs.Clocks.{IsClock, IsDate, date_at}
 use Rattle.prl_base.specs.declared.numbers.FlowNo.{FlowNo}
 use Rattle.prl_base.specs.declared.operators.Clock.{Clock}
 use Rattle.prl_base.specs.declared.values.Value.{Value}
-use Rattle.prl_calendar.specs.Calendars.{AreAllClocks, AreDue, CalendarView, HasDate, HasNoDate, IsNextDate}
+use Rattle.prl_calendar.specs.Calendars.{AreAllClocks, AreDue, HasDate}
 use Rattle.prl_flow.specs.Counts.{dates_before}
 use Rattle.prl_flow.specs.Programs.{IsWellDefined}
-use Rattle.prl_flow.specs.Solutions.{AreClocks, clock_of}
-use Rattle.prl_flow.specs.Uses.{UsesNow}
+use Rattle.prl_flow.specs.Solutions.{clock_of}
 use Rattle.prl_flow.specs.declared.programs.App.{App}
-use Rattle.prl_flow.specs.declared.programs.Def.{Def}
 use Rattle.prl_flow.specs.declared.programs.Def.TheVariants as definitions
 use Rattle.prl_flow.specs.declared.programs.Flow.{Flow}
 use Rattle.prl_flow.proofs.ClockDates.{dates_before_number}
 use Rattle.prl_solutions.specs.Tables.{Reads}
 use Rattle.prl_solutions.proofs.Earlier.{reads_earlier}
-use Rattle.prl_evaluation.specs.Dates.{AreAt, AreFull, IsFull, IsPart, IsRest, clocks_by, place_after}
-use Rattle.prl_evaluation.specs.Fronts.{CanGrow, HasGrown, IsReady, IsSet, UnderWay, len}
-use Rattle.prl_evaluation.specs.declared.runs.Run.{Run}
+use Rattle.prl_evaluation.specs.Dates.{AreAt, AreFull, IsPart, IsRest, clocks_by, place_after}
+use Rattle.prl_evaluation.specs.Fronts.{CanGrow, HasGrown, IsSet, len}
 use Rattle.prl_evaluation.specs.declared.settings.Setting.{Setting}
 
 not_more : (a b : ℕ) → ((k : ℕ) → k < a → k < b) → a ≤ b

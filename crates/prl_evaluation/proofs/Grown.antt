@@ -1,26 +1,22 @@
 -- One value more of a flow that is under way.
-use Rattle.std.proofs.Common.{◌≡◌, ◌+◌, ◌*◌, ◌^◌, ◌<◌, ◌≤◌, ◌⊎◌, inl, inr, ℕ, zero, suc, List, [], ◌∷◌, ◌++◌, map, length, set, Option, Some, slice_get, slice_index_or, refl, sym, ◌∙◌, ap, subst, arith}
+use Rattle.std.proofs.Common.{◌≡◌, ◌+◌, ◌*◌, ◌^◌, ◌<◌, ◌≤◌, inl, inr, ℕ, zero, suc, List, [], ◌∷◌, ◌++◌, map, length, set, Some, slice_get, slice_index_or, refl, sym, ◌∙◌, ap, subst, arith}
 use Rattle.std.proofs.Math.Nat.{mul-le-mul_left}
 use Rattle.std.proofs.lemmas.Bool.{cases_eq, cases_lt}
-use Rattle.std.proofs.lemmas.List.{get_or-set_other, get_or-set_same, get_or_append_left, get_or_push, length-map, length-set, length_push}
-use Rattle.std.proofs.lemmas.Option.{same_Some, slice_get-get_or, slice_get_within}
+use Rattle.std.proofs.lemmas.List.{get_or-set_other, get_or-set_same, get_or_append_left, get_or_push, length-set, length_push}
+use Rattle.std.proofs.lemmas.Option.{same_Some, slice_get_within}
 use Rattle.prl_base.specs.Clocks.{IsClock, date_at}
-use Rattle.prl_base.specs.Operators.{instance, origin_of}
 use Rattle.prl_base.specs.Values.{type_of}
 use Rattle.prl_base.specs.declared.numbers.FlowNo.{FlowNo}
 use Rattle.prl_base.specs.declared.operators.Clock.{Clock}
-use Rattle.prl_base.specs.declared.operators.Op.{Op}
-use Rattle.prl_base.specs.declared.operators.Op.TheVariants as operators
-use Rattle.prl_base.specs.declared.values.Ty.{Ty}
 use Rattle.prl_base.specs.declared.values.Value.{Value}
 use Rattle.prl_body.specs.declared.bodies.CheckedBody.{CheckedBody}
-use Rattle.prl_body.specs.Bodies.{IsWellTyped, body_named, body_step, input_types, output_types, register_types}
+use Rattle.prl_body.specs.Bodies.{body_step, input_types, output_types, register_types}
 use Rattle.prl_body.specs.Machines.{MachineState}
 use Rattle.prl_flow.specs.Applications.{HaveBodies, nth_step, registers_before}
 use Rattle.prl_flow.specs.Counts.{dates_before}
 use Rattle.prl_flow.specs.Programs.{FlatProgram, IsFlat, IsWellDefined}
-use Rattle.prl_flow.specs.Rows.{Rows, rows_of}
-use Rattle.prl_flow.specs.Solutions.{AreClocks, HasRows, clock_of, values_of}
+use Rattle.prl_flow.specs.Rows.{Rows}
+use Rattle.prl_flow.specs.Solutions.{AreClocks, clock_of, values_of}
 use Rattle.prl_flow.specs.Uses.{IsArgument}
 use Rattle.prl_flow.specs.declared.programs.App.{App}
 use Rattle.prl_flow.specs.declared.programs.Arg.{Arg}
@@ -29,15 +25,13 @@ use Rattle.prl_flow.specs.declared.programs.Def.TheVariants as definitions
 use Rattle.prl_flow.specs.declared.programs.Flow.{Flow}
 use Rattle.prl_flow.proofs.Applied.{length_HaveTypes}
 use Rattle.prl_flow.proofs.ClockDates.{dates_before_number}
-use Rattle.prl_flow.proofs.Lists.{element_at}
-use Rattle.prl_solutions.specs.Tables.{IsFixed, Reads, Table, inputs_of, nothing, table_of, value_of}
+use Rattle.prl_solutions.specs.Tables.{Reads, inputs_of, nothing, table_of, value_of}
 use Rattle.prl_solutions.proofs.Earlier.{inputs_local, reads_before, reads_earlier, value_local}
-use Rattle.prl_solutions.proofs.Solved.{applied_is, outputs_count}
+use Rattle.prl_solutions.proofs.Solved.{applied_is}
 use Rattle.prl_solutions.proofs.Typed.{types_inputs, types_registers}
-use Rattle.prl_evaluation.specs.Fronts.{CanGrow, HasGrown, IsPlain, IsReady, IsSet, IsThere, IsUnderWay, UnderWay, len, pushed}
+use Rattle.prl_evaluation.specs.Fronts.{HasGrown, IsPlain, IsReady, IsUnderWay, len, pushed}
 use Rattle.prl_evaluation.specs.Runs.{HasStepped, HaveArguments, IsRun, MayStep}
 use Rattle.prl_evaluation.specs.declared.runs.Run.{Run}
-use Rattle.prl_evaluation.specs.declared.settings.Setting.{Setting}
 
 same_application : (j o k out : ℕ) → definitions.Apply j o ≡ definitions.Apply k out → j ≡ k
 same_application j o k out e = cc
@@ -87,7 +81,7 @@ module _ (p : FlatProgram) (flat : IsFlat p) (clocks : List Clock) (agree : AreC
   grow : (x : Value) (new : List Run) → x ≡ h.table i (len flows i) → length new ≡ length p.apps
       → ((k : ℕ) (app : App) (r : Run) → slice_get p.apps k ≡ Some app → slice_get new k ≡ Some r → IsRun bodies h.table app r)
       → ((k o : ℕ) (app : App) (r : Run) (f : FlowNo) → slice_get p.apps k ≡ Some app → slice_get new k ≡ Some r → slice_get app.outs o ≡ Some f
-        → (len (pushed flows i x) f.0 ≤ r.steps) × (r.steps ≤ len (pushed flows i x) f.0 + 1))
+      → (len (pushed flows i x) f.0 ≤ r.steps) × (r.steps ≤ len (pushed flows i x) f.0 + 1))
       → IsUnderWay p clocks bodies rows until (pushed flows i x) new
   grow x new is new_count run steps =
       let inside : i < length flows = omega (arith, within, h.count) in

@@ -1,11 +1,8 @@
 -- The next value of a flow, as the code reads it.
-use Rattle.std.proofs.Common.{◌≡◌, ◌+◌, ◌^◌, ◌<◌, ◌≤◌, ℕ, List, length, set, Option, Some, slice_get, slice_index_or, refl, sym, ◌∙◌, ap, subst, arith}
+use Rattle.std.proofs.Common.{◌≡◌, ◌^◌, ◌<◌, ℕ, List, length, set, Some, slice_get, slice_index_or, refl, sym, ◌∙◌, ap, subst, arith}
 use Rattle.std.proofs.lemmas.Option.{slice_get_read, slice_get_within}
-use Rattle.prl_base.specs.Clocks.{date_at}
-use Rattle.prl_base.specs.declared.numbers.FlowNo.{FlowNo}
 use Rattle.prl_base.specs.declared.values.Value.{Value}
-use Rattle.prl_flow.specs.Programs.{FlatProgram, IsWellDefined}
-use Rattle.prl_flow.specs.Solutions.{clock_of}
+use Rattle.prl_flow.specs.Programs.{IsWellDefined}
 use Rattle.prl_flow.specs.declared.programs.App.{App}
 use Rattle.prl_flow.specs.declared.programs.Arg.{Arg}
 use Rattle.prl_flow.specs.declared.programs.Def.{Def}
@@ -101,9 +98,9 @@ module _ (s : Setting) (setting : IsSet s) (flows : List (List Value)) (runs : L
     output_grows new x stepped kept is =
         grown.output_step s.flat.now setting.flat s.clocks.now setting.agree s.bodies.now s.sensors.now s.until flows runs h i flow found can.before ready k out applies_own setting.have app applied run there new
         (λ same.
-          let steps : (slice_index_or runs k run).steps ≡ n = ap (λ (r : Run). r.steps) (sym run_read) ∙ same ∙ sym n_is in
-          subst (λ t. HasStepped run new (inputs_of (table_of flows) app.args t)) n_is
-          (subst (λ (us : List Arg). HasStepped run new (inputs_of (table_of flows) us n)) args_own
-          (subst (λ (r : Run). HasStepped r new (inputs_of (table_of flows) args n)) (sym run_read) (stepped steps))))
+        let steps : (slice_index_or runs k run).steps ≡ n = ap (λ (r : Run). r.steps) (sym run_read) ∙ same ∙ sym n_is in
+        subst (λ t. HasStepped run new (inputs_of (table_of flows) app.args t)) n_is
+        (subst (λ (us : List Arg). HasStepped run new (inputs_of (table_of flows) us n)) args_own
+        (subst (λ (r : Run). HasStepped r new (inputs_of (table_of flows) args n)) (sym run_read) (stepped steps))))
         (λ other. kept (λ same. other (ap (λ (r : Run). r.steps) run_read ∙ same ∙ n_is)) ∙ sym run_read)
         x is

@@ -1,12 +1,11 @@
 -- An order of causality has each flow once.
-use Rattle.std.proofs.Common.{◌≡◌, ◌+◌, ◌<◌, ◌≤◌, ◌||◌, inl, inr, ℕ, zero, suc, Bool, true, false, List, [], ◌∷◌, map, length, Option, Some, slice_get, refl, sym, ◌∙◌, ap, subst, arith, eqb}
+use Rattle.std.proofs.Common.{◌≡◌, ◌+◌, ◌<◌, ◌||◌, inl, inr, ℕ, zero, suc, Bool, true, false, List, [], ◌∷◌, length, Some, slice_get, refl, sym, ◌∙◌, ap, arith, eqb}
 use Rattle.std.specs.List.{list_any}
-use Rattle.std.proofs.lemmas.Bool.{cases_Bool, cases_eq, cases_lt, eq-eqb}
+use Rattle.std.proofs.lemmas.Bool.{cases_eq, cases_lt, eq-eqb}
 use Rattle.std.proofs.lemmas.Map.Steps.{le-length_from_below}
 use Rattle.std.proofs.lemmas.Option.{same_Some, slice_get_within}
 use Rattle.prl_base.specs.declared.numbers.FlowNo.{FlowNo}
 use Rattle.prl_base.specs.declared.values.Value.{Value}
-use Rattle.prl_flow.specs.Counts.{dates_before}
 use Rattle.prl_flow.specs.Programs.{FlatProgram}
 use Rattle.prl_flow.specs.Uses.{IsOrder}
 use Rattle.prl_evaluation.specs.Dates.{IsRest}
@@ -68,22 +67,25 @@ module _ (p : FlatProgram) (order : List FlowNo) (is_order : IsOrder p order) wh
   order_within b x found = elim (cases_lt x.0 (length p.flows)) [
     | inl less ↦ less
     | inr past ↦ absurd (spared b (slice_get_within order b x found) (λ q less.
-      let (k, at) = is_order.each q less in
-      (k, λ same. let is : x ≡ record { 0 = q } = same_Some x (record { 0 = q }) (sym found ∙ ap (slice_get order) (sym same) ∙ at) in
-       let number : x.0 ≡ q = ap (λ (y : FlowNo). y.0) is in omega (arith, number, past, less), at)))
+        let (k, at) = is_order.each q less in (
+          k,
+          λ same. let is : x ≡ record { 0 = q } = same_Some x (record { 0 = q }) (sym found ∙ ap (slice_get order) (sym same) ∙ at) in
+              let number : x.0 ≡ q = ap (λ (y : FlowNo). y.0) is in omega (arith, number, past, less),
+          at,
+        )))
   ]
 
   pub order_once : (a b : ℕ) (x : FlowNo) → slice_get order a ≡ Some x → slice_get order b ≡ Some x → a ≡ b
   order_once a b x a_found b_found = elim (cases_eq a b) [
     | inl same ↦ same
     | inr other ↦ absurd (spared b (slice_get_within order b x b_found) (λ q less.
-      let (k, at) = is_order.each q less in
-      elim (cases_eq k b) [
-        | inl same ↦
-            let is : x ≡ record { 0 = q } = same_Some x (record { 0 = q }) (sym b_found ∙ ap (slice_get order) (sym same) ∙ at) in
-            (a, other, a_found ∙ ap Some is)
-        | inr apart ↦ (k, apart, at)
-      ]))
+        let (k, at) = is_order.each q less in
+        elim (cases_eq k b) [
+          | inl same ↦
+              let is : x ≡ record { 0 = q } = same_Some x (record { 0 = q }) (sym b_found ∙ ap (slice_get order) (sym same) ∙ at) in
+              (a, other, a_found ∙ ap Some is)
+          | inr apart ↦ (k, apart, at)
+        ]))
   ]
 
 -- all flows in the order of causality

@@ -1,8 +1,8 @@
 -- Flows under way, from the first to the solution.
-use Rattle.std.proofs.Common.{◌≡◌, ◌+◌, ◌<◌, ◌≤◌, ℕ, zero, suc, List, [], length, Option, Some, slice_get, refl, sym, ◌∙◌, ap, subst, arith}
+use Rattle.std.proofs.Common.{◌≡◌, ◌<◌, ℕ, List, [], length, Some, slice_get, refl, sym, ◌∙◌, ap, subst, arith}
 use Rattle.std.proofs.lemmas.Bool.{le-leb}
 use Rattle.std.proofs.lemmas.Option.{same_Some, slice_get_within}
-use Rattle.prl_base.specs.Clocks.{IsClock, date_at}
+use Rattle.prl_base.specs.Clocks.{IsClock}
 use Rattle.prl_base.specs.declared.numbers.FlowNo.{FlowNo}
 use Rattle.prl_base.specs.declared.operators.Clock.{Clock}
 use Rattle.prl_base.specs.declared.values.Value.{Value}
@@ -29,7 +29,7 @@ use Rattle.prl_solutions.proofs.Typed.{fixed_typed}
 use Rattle.prl_evaluation.specs.Dates.{AreAt, AreFull}
 use Rattle.prl_evaluation.specs.Evaluations.{AreSolution}
 use Rattle.prl_evaluation.specs.Fronts.{IsSet, UnderWay, len}
-use Rattle.prl_evaluation.specs.Runs.{IsNew, IsRun}
+use Rattle.prl_evaluation.specs.Runs.{IsNew}
 use Rattle.prl_evaluation.specs.declared.runs.Run.{Run}
 use Rattle.prl_evaluation.specs.declared.settings.Setting.{Setting}
 

@@ -1,7 +1,6 @@
 -- What is read for the next value is there.
-use Rattle.std.proofs.Common.{◌≡◌, ◌+◌, ◌-◌, ◌*◌, ◌/◌, ◌<◌, ◌≤◌, ℕ, zero, suc, List, [], ◌∷◌, length, Some, slice_get, refl, sym, ap, subst, arith, ◌∙◌}
+use Rattle.std.proofs.Common.{◌≡◌, ◌+◌, ◌-◌, ◌*◌, ◌/◌, ◌<◌, ℕ, zero, suc, List, [], ◌∷◌, length, Some, slice_get, refl, ap, arith}
 use Rattle.std.proofs.lemmas.Option.{slice_get_within}
-use Rattle.prl_base.specs.Clocks.{date_at}
 use Rattle.prl_base.specs.Operators.{IsOperatorFor, after_constant, instance, origin_of}
 use Rattle.prl_base.specs.declared.operators.Op.{Op}
 use Rattle.prl_base.specs.declared.operators.Op.TheVariants as operators
@@ -9,10 +8,8 @@ use Rattle.prl_base.specs.declared.values.Ty.{Ty}
 use Rattle.prl_base.specs.declared.values.Value.{Value}
 use Rattle.prl_flow.specs.Programs.{FlatProgram, IsWellDefined}
 use Rattle.prl_flow.specs.Rows.{Rows, rows_of}
-use Rattle.prl_flow.specs.Solutions.{HasRows, clock_of}
 use Rattle.prl_flow.specs.declared.programs.Def.{Def}
 use Rattle.prl_flow.specs.declared.programs.Def.TheVariants as definitions
-use Rattle.prl_flow.specs.declared.programs.Flow.{Flow}
 use Rattle.prl_evaluation.specs.Fronts.{HasInstance, IsPlain, IsReady, IsThere, len}
 
 -- an operator's result has an instance where what it reads is there

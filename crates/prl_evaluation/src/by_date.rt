@@ -26,7 +26,8 @@ fn clocks_of(alloc: Global, clocks: &[Clock], flows: &[FlowNo]) -> Result<Vec<Cl
     Ok(of)
 }
 
-/// Gives each of the flows at these places, whose clocks have the date, its value at it, one after another.
+/// Gives each of the flows at these places, whose clocks have the date, its value at it, one
+/// after another.
 fn advance_due(
     setting: &Setting<'_>,
     rest: &[FlowNo],
@@ -51,7 +52,8 @@ fn advance_due(
     Ok(())
 }
 
-/// Gives each of these flows all its values, date by date, and at one date in their order; all others have theirs.
+/// Gives each of these flows all its values, date by date, and at one date in their order; all
+/// others have theirs.
 pub(crate) fn by_date(
     alloc: Global,
     setting: &Setting<'_>,

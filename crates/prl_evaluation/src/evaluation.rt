@@ -76,11 +76,7 @@ fn empty_flows(alloc: Global, clocks: &[Clock], until: u64) -> Result<Vec<Values
 }
 
 /// The runs of the applications before their first steps.
-fn new_runs<'a>(
-    alloc: Global,
-    apps: &[App],
-    bodies: &'a Bodies,
-) -> Result<Vec<Run<'a>>, AllocError>
+fn new_runs<'a>(alloc: Global, apps: &[App], bodies: &'a Bodies) -> Result<Vec<Run<'a>>, AllocError>
     requires { (k : ℕ) (app : AnyApp) → slice_get apps.now k ≡ Some app → HasBodyNamed bodies.now app }
     ensures number { IfOk result (λ v. length v.items ≡ length apps.now) }
     ensures each { IfOk result (λ v. (k : ℕ) (app : AnyApp) (r : AnyRun) → slice_get apps.now k ≡ Some app → slice_get v.items k ≡ Some r → IsNew bodies.now app r) }
@@ -105,8 +101,9 @@ fn solution(alloc: Global, setting: &Setting<'_>) -> Result<FlowTable, AllocErro
     Ok(FlowTable::new(flows))
 }
 
-/// The flows of the program below `until`, in ticks: its one solution over these clocks for these bodies and rows. Each
-/// application makes one step at each of its dates; at most 16 bytes are taken for a value.
+/// The flows of the program below `until`, in ticks: its one solution over these clocks for these
+/// bodies and rows. Each application makes one step at each of its dates; at most 16 bytes are
+/// taken for a value.
 pub fn evaluate(
     alloc: Global,
     flat: &Flat,

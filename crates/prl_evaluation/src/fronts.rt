@@ -11,13 +11,9 @@ use prl_base::Value;
 use prl_flow::Def;
 use std::alloc::AllocError;
 
-/// The next value of flow `i`. An application makes its step where this is the first of its outputs at a date.
-fn next_value(
-    setting: &Setting<'_>,
-    flows: &[Values],
-    runs: &mut [Run<'_>],
-    i: usize,
-) -> Value
+/// The next value of flow `i`. An application makes its step where this is the first of its
+/// outputs at a date.
+fn next_value(setting: &Setting<'_>, flows: &[Values], runs: &mut [Run<'_>], i: usize) -> Value
     requires set { IsSet setting.now }
     requires under_way { UnderWay setting.now flows.now runs.old }
     requires ready { CanGrow setting.now flows.now i }

@@ -22,7 +22,8 @@ pub(crate) fn value_in(flows: &[Values], flow: FlowNo, n: usize) -> Value
     flows[flow.0 as usize].as_slice()[n]
 }
 
-/// The value that the operator makes for instance `n` of its result, from the flow that it stands on.
+/// The value that the operator makes for instance `n` of its result, from the flow that it stands
+/// on.
 fn operator_value(op: Op, of: &[Value], n: usize) -> Value
     requires { HasInstance op (length of.now) n }
     ensures { result ≡ taken (λ m. slice_index_or of.now m nothing) (origin_of op n) }

@@ -60,7 +60,8 @@ fn catch_up(run: &mut Run<'_>, args: &[Arg], flows: &[Values], n: usize)
     }
 }
 
-/// The value of an output's instance `n`: the run makes its next step where it has made `n` steps.
+/// The value of an output's instance `n`: the run makes its next step where it has made `n`
+/// steps.
 pub(crate) fn output_value(
     run: &mut Run<'_>,
     args: &[Arg],
@@ -81,7 +82,11 @@ pub(crate) fn output_value(
 }
 
 /// The run of an application before its first step.
-pub(crate) fn new_run<'a>(alloc: Global, app: &App, bodies: &'a Bodies) -> Result<Run<'a>, AllocError>
+pub(crate) fn new_run<'a>(
+    alloc: Global,
+    app: &App,
+    bodies: &'a Bodies,
+) -> Result<Run<'a>, AllocError>
     requires { HasBodyNamed bodies.now app.now }
     ensures { IfOk result (IsNew bodies.now app.now) }
 {

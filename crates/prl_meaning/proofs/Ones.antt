@@ -1,5 +1,5 @@
 -- One solution makes one behaviour.
-use Rattle.std.proofs.Common.{◌≡◌, ◌∙◌, sym, subst}
+use Rattle.std.proofs.Common.{◌∙◌, sym}
 use Rattle.prl_expand.specs.Correspondence.{IsOneToOne}
 use Rattle.prl_solutions.specs.Uniqueness.{ExactlyOne}
 

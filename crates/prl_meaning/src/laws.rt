@@ -1,4 +1,5 @@
-//! Laws of behaviours, as functions that do nothing: the contract of each is the law, over the definitions alone.
+//! Laws of behaviours, as functions that do nothing: the contract of each is the law, over the
+//! definitions alone.
 
 ghost use Rattle.std.specs.Prelude.{◌≡◌, ℕ, List, Option};
 ghost use Rattle.prl_ast.specs.Trees.{ProgramTree};
@@ -23,8 +24,9 @@ use prl_behaviours::solutions_are_of_their_clocks;
 use prl_expand::behaviours_are_solutions;
 use prl_solutions::programs_have_one_solution;
 
-/// Exactly one behaviour satisfies a program up to each date, where its expansion has only these clocks and an order of
-/// causality, the applications have bodies that fit, and the sensors have a row for each date.
+/// Exactly one behaviour satisfies a program up to each date, where its expansion has only these
+/// clocks and an order of causality, the applications have bodies that fit, and the sensors have
+/// a row for each date.
 pub fn programs_have_one_behaviour()
     ensures { (p : ProgramTree) (asked : Option (List ℕ)) (main : ℕ) (types : List Ty) (e : Expansion) → IsTyped p asked main types → IsExpansion p main e
         → (clocks : List Clock) (order : List FlowNo) (bodies : List CheckedBody) (rows : Rows) (until : ℕ)

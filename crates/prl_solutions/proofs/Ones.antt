@@ -1,9 +1,9 @@
 -- A program has exactly one solution over its clocks, and its values have the types of their flows.
-use Rattle.std.proofs.Common.{◌≡◌, ◌+◌, ◌<◌, ◌≤◌, ℕ, List, [], map, length, take, Some, slice_get, refl, sym, ◌∙◌, ap, subst, arith}
+use Rattle.std.proofs.Common.{◌≡◌, ◌<◌, ℕ, List, [], length, take, Some, slice_get, sym, ◌∙◌, ap, subst, arith}
 use Rattle.std.specs.List.{AllByRecursion}
 use Rattle.std.proofs.lemmas.List.{length-take}
 use Rattle.std.proofs.lemmas.Option.{get_or_from_slice_get, slice_get_within}
-use Rattle.prl_base.specs.Clocks.{IsClock, date_at}
+use Rattle.prl_base.specs.Clocks.{date_at}
 use Rattle.prl_base.specs.Values.{type_of}
 use Rattle.prl_base.specs.declared.numbers.FlowNo.{FlowNo}
 use Rattle.prl_base.specs.declared.operators.Clock.{Clock}
@@ -17,8 +17,6 @@ use Rattle.prl_flow.specs.Solutions.{AreClocks, HasRows, MeetsDefinition, Solves
 use Rattle.prl_flow.specs.States.{IsSolution, State}
 use Rattle.prl_flow.specs.Uses.{IsOrder}
 use Rattle.prl_flow.specs.declared.programs.Def.{Def}
-use Rattle.prl_flow.specs.declared.programs.Def.TheVariants as definitions
-use Rattle.prl_flow.specs.declared.programs.Flow.{Flow}
 use Rattle.prl_solutions.specs.Conditions.{AreTyped, AreTypedRows, HaveTypedBodies, clocks_in, values_in}
 use Rattle.prl_solutions.specs.Tables.{nothing, table_of}
 use Rattle.prl_solutions.specs.Uniqueness.{ExactlyOne}
@@ -88,4 +86,4 @@ module _ (of_clocks : AreOfTheirClocks) (p : FlatProgram) (flat : IsFlat p) (ord
       let before : date_at (clock_of clocks i) n < until = (solves.up_to i (omega (arith, within, solves.count)) n).0 (slice_get_within (values_of flows i) n v value) in
       ap type_of (sym (get_or_from_slice_get (values_of flows i) n v nothing value))
       ∙ fixed_typed p flat clocks agree order is_order bodies rows until have typed (rows_used clocks agree flows solves) typed_rows (table_of flows)
-        (fixed_from_solves p flat clocks agree bodies rows until flows solves) i n within before flow found
+      (fixed_from_solves p flat clocks agree bodies rows until flows solves) i n within before flow found

@@ -1,7 +1,6 @@
 -- The flows of a solution decide its registers.
-use Rattle.std.proofs.Common.{◌≡◌, ◌+◌, ◌<◌, ◌≤◌, ℕ, zero, suc, List, [], ◌∷◌, ◌++◌, map, length, Option, Some, slice_get, slice_index_or, refl, sym, ◌∙◌, ap, subst, arith}
+use Rattle.std.proofs.Common.{◌≡◌, ◌+◌, ◌<◌, ◌≤◌, ℕ, zero, suc, List, [], ◌∷◌, map, length, Some, slice_get, slice_index_or, refl, sym, ◌∙◌, ap, subst, arith}
 use Rattle.std.specs.List.{AllByRecursion}
-use Rattle.std.proofs.lemmas.List.{length-map}
 use Rattle.std.proofs.lemmas.Option.{slice_get-get_or}
 use Rattle.prl_base.specs.Clocks.{IsClock, date_at}
 use Rattle.prl_base.specs.declared.numbers.FlowNo.{FlowNo}
@@ -13,7 +12,7 @@ use Rattle.prl_flow.specs.Counts.{dates_before}
 use Rattle.prl_flow.specs.Programs.{FlatProgram, IsFlat}
 use Rattle.prl_flow.specs.Rows.{Rows}
 use Rattle.prl_flow.specs.Rules.{Rule, app_rule, apps_rules, flat_rules, flows_rules, mark_rule}
-use Rattle.prl_flow.specs.States.{HaveClock, Holds, IsApplied, IsSolution, IsStep, IsTimed, State, Timed, all_at, flow_at, registers_at}
+use Rattle.prl_flow.specs.States.{Holds, IsApplied, IsSolution, IsStep, IsTimed, State, Timed, flow_at, registers_at}
 use Rattle.prl_flow.specs.declared.programs.App.{App}
 use Rattle.prl_flow.specs.declared.programs.Arg.{Arg}
 use Rattle.prl_flow.proofs.ClockDates.{dates_before_number}

@@ -1,5 +1,5 @@
 -- Exactly one table is fixed: each instance is decided by instances of an earlier date, or of the same and a lower rank.
-use Rattle.std.proofs.Common.{◌≡◌, ◌+◌, ◌*◌, ◌<◌, ◌≤◌, ◌==◌, ◌⊎◌, inl, inr, ℕ, zero, suc, cond, List, [], ◌∷◌, length, Option, Some, None, slice_get, refl, sym, ◌∙◌, ap, subst, arith}
+use Rattle.std.proofs.Common.{◌≡◌, ◌+◌, ◌*◌, ◌<◌, ◌≤◌, ◌==◌, inl, inr, ℕ, zero, suc, cond, List, [], ◌∷◌, length, Option, Some, None, slice_get, refl, sym, ◌∙◌, ap, arith}
 use Rattle.std.proofs.Math.Nat.{mul-le-mul_right}
 use Rattle.std.proofs.lemmas.Bool.{cases_eq, eq-eqb, ne_eqb}
 use Rattle.std.proofs.lemmas.Option.{same_Some, slice_get_within}
@@ -93,7 +93,7 @@ module _ (p : FlatProgram) (flat : IsFlat p) (clocks : List Clock) (agree : AreC
 
     along_below : (P : ℕ → ℕ → Type 0)
         → ((i n : ℕ) (flow : Flow) → slice_get p.flows i ≡ Some flow → date_at (clock_of clocks i) n < until
-          → ((j m : ℕ) → Reads p flow.def n j m → P j m) → P i n)
+        → ((j m : ℕ) → Reads p flow.def n j m → P j m) → P i n)
         → (k i n : ℕ) → i < length p.flows → date_at (clock_of clocks i) n < until → measure i n < k → P i n
     along_below P step zero i n within before less = absurd (omega (arith, less))
     along_below P step (suc k) i n within before less =
@@ -105,7 +105,7 @@ module _ (p : FlatProgram) (flat : IsFlat p) (clocks : List Clock) (agree : AreC
     -- what holds of an instance where it holds of all that is read for it holds of every instance before the date
     pub along_reads : (P : ℕ → ℕ → Type 0)
         → ((i n : ℕ) (flow : Flow) → slice_get p.flows i ≡ Some flow → date_at (clock_of clocks i) n < until
-          → ((j m : ℕ) → Reads p flow.def n j m → P j m) → P i n)
+        → ((j m : ℕ) → Reads p flow.def n j m → P j m) → P i n)
         → (i n : ℕ) → i < length p.flows → date_at (clock_of clocks i) n < until → P i n
     along_reads P step i n within before = along_below P step (suc (measure i n)) i n within before (omega arith)
 

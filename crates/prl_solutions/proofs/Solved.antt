@@ -1,10 +1,9 @@
 -- Lists of values solve a program over its clocks exactly where they are as long as the clocks ask and their table is fixed.
-use Rattle.std.proofs.Common.{◌≡◌, ◌+◌, ◌<◌, ◌≤◌, inl, inr, ℕ, zero, suc, List, [], ◌∷◌, map, length, take, Option, Some, None, slice_get, slice_index_or, refl, sym, ◌∙◌, ap, subst, arith}
+use Rattle.std.proofs.Common.{◌≡◌, ◌<◌, ◌≤◌, ℕ, List, [], ◌∷◌, map, length, take, Some, slice_get, slice_index_or, refl, sym, ◌∙◌, ap, subst, arith}
 use Rattle.std.proofs.lemmas.List.{length-take-le, length-map}
 use Rattle.std.proofs.lemmas.Option.{get_or_from_slice_get, slice_get-get_or, slice_get_within}
-use Rattle.prl_base.specs.Clocks.{IsClock, IsDate, date_at}
+use Rattle.prl_base.specs.Clocks.{IsClock, date_at}
 use Rattle.prl_base.specs.Operators.{IsOperatorFor, Origin, constant, instance, origin_of}
-use Rattle.prl_base.specs.declared.numbers.FlowNo.{FlowNo}
 use Rattle.prl_base.specs.declared.operators.Clock.{Clock}
 use Rattle.prl_base.specs.declared.operators.Op.{Op}
 use Rattle.prl_base.specs.declared.operators.Op.TheVariants as operators
@@ -16,7 +15,6 @@ use Rattle.prl_body.specs.Values.{value}
 use Rattle.prl_body.proofs.Sound as sound
 use Rattle.prl_flow.specs.Applications.{HaveBodies, nth_step, registers_before, values_at}
 use Rattle.prl_flow.specs.Counts.{dates_before}
-use Rattle.prl_flow.specs.Flows.{IsUpTo, value_at, OperatorByDate}
 use Rattle.prl_flow.specs.Instances.{IsDenominated, instance_values, value_from}
 use Rattle.prl_flow.specs.Programs.{FlatProgram, IsFlat, IsWellDefined}
 use Rattle.prl_flow.specs.Rows.{Rows, rows_of}

@@ -1,5 +1,5 @@
 -- The values of a table that is fixed have the types of their flows.
-use Rattle.std.proofs.Common.{◌≡◌, ◌+◌, ◌<◌, ◌≤◌, ℕ, zero, suc, List, [], ◌∷◌, map, length, Option, Some, slice_get, slice_index_or, refl, sym, ◌∙◌, ap, subst, arith}
+use Rattle.std.proofs.Common.{◌≡◌, ◌<◌, ◌≤◌, ℕ, zero, suc, List, [], ◌∷◌, map, length, Some, slice_get, slice_index_or, refl, sym, ◌∙◌, ap, subst, arith}
 use Rattle.std.proofs.lemmas.Option.{slice_get-get_or, slice_get_within}
 use Rattle.prl_base.specs.Clocks.{date_at}
 use Rattle.prl_base.specs.Operators.{IsOperatorFor, Origin, constant, instance, origin_of}
@@ -14,11 +14,10 @@ use Rattle.prl_body.specs.declared.bodies.CheckedBody.{CheckedBody}
 use Rattle.prl_body.specs.Bodies.{IsWellTyped, input_types, output_types, register_types}
 use Rattle.prl_body.proofs.Sound.{types_step}
 use Rattle.prl_flow.specs.Applications.{HaveBodies, HaveTypes, nth_step, registers_before}
-use Rattle.prl_flow.specs.Programs.{FlatProgram, HasType, IsFlat, IsWellDefined}
+use Rattle.prl_flow.specs.Programs.{FlatProgram, IsFlat, IsWellDefined}
 use Rattle.prl_flow.specs.Rows.{Rows, rows_of}
 use Rattle.prl_flow.specs.Solutions.{AreClocks, HasRows, clock_of}
 use Rattle.prl_flow.specs.Uses.{IsArgument, IsOrder}
-use Rattle.prl_flow.specs.declared.programs.App.{App}
 use Rattle.prl_flow.specs.declared.programs.Arg.{Arg}
 use Rattle.prl_flow.specs.declared.programs.Def.{Def}
 use Rattle.prl_flow.specs.declared.programs.Def.TheVariants as definitions

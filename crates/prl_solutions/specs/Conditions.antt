@@ -8,7 +8,7 @@ use Rattle.prl_body.specs.declared.bodies.CheckedBody.{CheckedBody}
 use Rattle.prl_body.specs.Bodies.{IsWellTyped, body_named}
 use Rattle.prl_flow.specs.Programs.{FlatProgram, HasType}
 use Rattle.prl_flow.specs.Rows.{Rows, rows_of}
-use Rattle.prl_flow.specs.States.{State, Timed, IsSolution}
+use Rattle.prl_flow.specs.States.{State, Timed}
 use Rattle.prl_flow.specs.declared.programs.App.{App}
 use Rattle.prl_flow.specs.declared.programs.Flow.{Flow}
 

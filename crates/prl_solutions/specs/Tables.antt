@@ -1,6 +1,6 @@
 -- The values of all flows by the numbers of the flow and of the instance: the value that a definition makes of others, and
 -- which instances it reads.
-use Rattle.std.specs.Prelude.{◌≡◌, ◌<◌, ◌≤◌, ℕ, pos, List, [], ◌∷◌, map, Option, Some, None, slice_get, slice_index_or}
+use Rattle.std.specs.Prelude.{◌≡◌, ◌<◌, ◌≤◌, ℕ, pos, List, map, Option, Some, None, slice_get, slice_index_or}
 use Rattle.prl_base.specs.Clocks.{date_at}
 use Rattle.prl_base.specs.Operators.{Origin, instance, constant, origin_of}
 use Rattle.prl_base.specs.declared.operators.Clock.{Clock}

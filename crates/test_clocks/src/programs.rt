@@ -62,11 +62,13 @@ fn clock(period: u64, start: u64) -> Clock {
 fn constant_before_a_flow_starts_too_early(rt: HostRuntime) -> Result<(), Fail> {
     let text = with_equations(rt.alloc(), b"".as_slice(), b"o = 9 :: i;".as_slice())?;
     match clocks_of(rt.alloc(), text.as_slice())? {
-        Err(ClockFault::NotWhole {
-            flow,
-            period,
-            start,
-        }) => {
+        Err(
+            ClockFault::NotWhole {
+                flow,
+                period,
+                start,
+            },
+        ) => {
             assert_eq!(rt; flow.bytes(), b"o".as_slice());
             assert_eq!(rt; period.num, 10);
             assert_eq!(rt; period.den, 1);
@@ -96,11 +98,13 @@ fn local_flow_with_a_period_that_is_not_whole(rt: HostRuntime) -> Result<(), Fai
     let equations = b"x = i *^ 3; o = x /^ 3;".as_slice();
     let text = with_equations(rt.alloc(), b"var x;".as_slice(), equations)?;
     match clocks_of(rt.alloc(), text.as_slice())? {
-        Err(ClockFault::NotWhole {
-            flow,
-            period,
-            start,
-        }) => {
+        Err(
+            ClockFault::NotWhole {
+                flow,
+                period,
+                start,
+            },
+        ) => {
             assert_eq!(rt; flow.bytes(), b"x".as_slice());
             assert_eq!(rt; period.num, 10);
             assert_eq!(rt; period.den, 3);
@@ -164,19 +168,21 @@ fn is_free(alloc: Global, text: &[u8], label: &[u8]) -> Result<bool, Fail> {
 /// Whether a number of a clock is past the limit.
 fn is_past(alloc: Global, text: &[u8]) -> Result<bool, Fail> {
     match clocks_of(alloc, text)? {
-        Err(ClockFault::Limit(limit)) => Ok(limit
-            == Limit {
-                what: What::Clock,
-                found: 2_147_483_648,
-            }),
+        Err(ClockFault::Limit(limit)) => Ok(
+            limit
+                == Limit {
+                    what: What::Clock,
+                    found: 2_147_483_648,
+                },
+        ),
         _ => Ok(false),
     }
 }
 
 #[test]
 fn flows_without_a_rate(rt: HostRuntime) -> Result<(), Fail> {
-    let text = b"sensor i wcet 1; actuator o wcet 1; node main (i: int) returns (o) let o = i; tel"
-        .as_slice();
+    let text =
+        b"sensor i wcet 1; actuator o wcet 1; node main (i: int) returns (o) let o = i; tel".as_slice();
     assert!(rt; is_free(rt.alloc(), text, b"i".as_slice())?);
     let constant = with_equations(rt.alloc(), b"".as_slice(), b"o = 9999999999;".as_slice())?;
     assert!(rt; is_free(rt.alloc(), constant.as_slice(), b"o".as_slice())?);
@@ -185,7 +191,8 @@ fn flows_without_a_rate(rt: HostRuntime) -> Result<(), Fail> {
 
 #[test]
 fn product_on_the_way_is_past_the_limit(rt: HostRuntime) -> Result<(), Fail> {
-    let text = b"sensor i wcet 1; actuator o wcet 1; node main (i: int rate (1, 0)) returns (o) var x; let x = i /^ 2000000000; o = x ~> 1999999999/2000000000; tel".as_slice();
+    let text =
+        b"sensor i wcet 1; actuator o wcet 1; node main (i: int rate (1, 0)) returns (o) var x; let x = i /^ 2000000000; o = x ~> 1999999999/2000000000; tel".as_slice();
     match clocks_of(rt.alloc(), text)? {
         Ok(found) => {
             let slow = clock(2_000_000_000, 0);

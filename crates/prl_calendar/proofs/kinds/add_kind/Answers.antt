@@ -1,5 +1,3 @@
-use Rattle.std.proofs.Common.{sym}
-use Rattle.prl_calendar.specs.Kinds.{IsAdding}
 use Rattle.prl_calendar.proofs.Chained.{adding_step}
 use Rattle.prl_calendar.proofs.kinds.add_kind.Goals as goal
 

@@ -1,17 +1,19 @@
-use Rattle.std.proofs.Common.{◌≡◌, ◌<◌, ◌++◌, ◌∷◌, [], ℕ, Option, None, Some, List, arith, ap, refl, set, slice_index_or, slice_get, subst, sym, ◌∙◌}
+use Rattle.std.proofs.Common.{◌≡◌, ℕ, None, Some, List, arith, refl, slice_index_or, slice_get, subst, sym, ◌∙◌}
 use Rattle.std.specs.BTreeMap.{get}
 use Rattle.std.proofs.lemmas.Option.{slice_get-get_or}
 use Rattle.prl_base.specs.declared.operators.Clock.{Clock}
-use Rattle.prl_calendar.specs.Kinds.{AreChained, AreLasts, IsLast, pair_order}
+use Rattle.prl_calendar.specs.Kinds.{IsLast, pair_order}
 use Rattle.prl_calendar.proofs.Chained.{chained_first, chained_next, chained_none, lasts_step}
 use Rattle.prl_calendar.proofs.kinds.chains_of.Goals as goal
 use Rattle.prl_calendar.proofs.kinds.chains_of.Goals.{in-Some, in-None+in_ok-push-in-None}
 
 pub loop-place-init : goal.loop-place-init
-loop-place-init c =
-    (rw (c.in_ok-following.ensures, c.new-firsts.ensures.items) (chained_none c.args.clocks.now), λ d.
-     let none : get pair_order c.new-last.result (d.period, d.start) ≡ None = rw c.new-last.ensures.empty refl in
-     subst (IsLast c.args.clocks.now 0 d) (sym none) (λ m less found. omega (arith, less)))
+loop-place-init c = (
+  rw (c.in_ok-following.ensures, c.new-firsts.ensures.items) (chained_none c.args.clocks.now),
+  λ d.
+      let none : get pair_order c.new-last.result (d.period, d.start) ≡ None = rw c.new-last.ensures.empty refl in
+      subst (IsLast c.args.clocks.now 0 d) (sym none) (λ m less found. omega (arith, less)),
+)
 
 pub index_mut-requires : goal.index_mut-requires
 index_mut-requires c =

@@ -1,9 +1,9 @@
-use Rattle.std.proofs.Common.{ℕ, ◌≡◌, ◌+◌, ◌∙◌, List, [], ◌∷◌, ap, arith, sym, subst, map, take, slice_index, slice_index_or, ◌++◌}
+use Rattle.std.proofs.Common.{ℕ, ◌≡◌, ◌+◌, ◌∙◌, List, [], ◌∷◌, ap, arith, subst, map, take, slice_index, ◌++◌}
 use Rattle.std.specs.BinaryHeap.{heap_items}
 use Rattle.std.specs.List.Sorted.{IsPermutation}
 use Rattle.std.proofs.lemmas.List.{map-append, take_all, take_more}
 use Rattle.std.proofs.lemmas.List.Sorted.{IsPermutation-push_more}
-use Rattle.prl_calendar.specs.Turns.{Turn, first_turn}
+use Rattle.prl_calendar.specs.Turns.{first_turn}
 use Rattle.prl_calendar.proofs.Ordered.{first_turns_are}
 use Rattle.prl_calendar.proofs.turns.first_turns.Goals as goal
 
@@ -12,9 +12,10 @@ loop-first-preserved c =
     let f = first_turn c.args.clocks.now in
     let firsts : List ℕ = c.args.firsts.now in
     let k : ℕ = c.loop-first.first-index in
-    let more : map f (take (k + 1) firsts) ≡ map f (take k firsts) ++ f (slice_index firsts k) ∷ [] = ap (map f) (take_more firsts k 0 c.loop-first-test.true) ∙ map-append f (take k firsts) (slice_index firsts k ∷ []) in
-    (c.in_ok-push.ensures.heap_order c.loop-first.invariant.0,
-     rw more (IsPermutation-push_more (map f (take k firsts)) (heap_items c.loop-first.turns) (heap_items c.push.new.self) (f (slice_index firsts k)) c.loop-first.invariant.1 c.in_ok-push.ensures.permutation))
+    let more : map f (take (k + 1) firsts) ≡ map f (take k firsts) ++ f (slice_index firsts k) ∷ [] = ap (map f) (take_more firsts k 0 c.loop-first-test.true) ∙ map-append f (take k firsts) (slice_index firsts k ∷ []) in (
+      c.in_ok-push.ensures.heap_order c.loop-first.invariant.0,
+      rw more (IsPermutation-push_more (map f (take k firsts)) (heap_items c.loop-first.turns) (heap_items c.push.new.self) (f (slice_index firsts k)) c.loop-first.invariant.1 c.in_ok-push.ensures.permutation),
+    )
 
 pub returns-clause-told : goal.returns-clause-told
 returns-clause-told c =

@@ -1,8 +1,7 @@
-use Rattle.std.proofs.Common.{ℕ, ◌≡◌, ◌≤◌, arith, sym, subst}
+use Rattle.std.proofs.Common.{arith}
 use Rattle.std.specs.BinaryHeap.{heap_items}
-use Rattle.std.specs.List.{All}
 use Rattle.std.proofs.lemmas.Option.{MatchOption-at_some}
-use Rattle.prl_calendar.specs.Turns.{AreTurning, HasTurned, last}
+use Rattle.prl_calendar.specs.Turns.{HasTurned, last}
 use Rattle.prl_calendar.proofs.Turning.{turned_first, turned_later, turning_step, turns_fall}
 use Rattle.prl_calendar.proofs.turns.take_due.Goals as goal
 
@@ -19,7 +18,8 @@ loop-first-smaller c =
 
 pub loop-first-preserved : goal.loop-first-preserved
 loop-first-preserved c =
-    let turned = MatchOption-at_some _ (λ first. HasTurned c.args.clocks.now c.args.date first (heap_items c.loop-first.turns) (heap_items c.turn.new.turns)) c.in-Some.first c.in-Some.is c.in_ok-first.ensures.some in
-    (c.in_ok-first.ensures.heap,
-     turning_step c.args.clocks.now c.requires.periods last c.args.date c.in-Some.first (heap_items c.loop-first.turns) (heap_items c.turn.new.turns) c.loop-first.due.items c.add_kind.new.due.items
-     c.requires.before (omega arith) c.loop-first.invariant.1 turned c.in_ok-add_kind.ensures)
+    let turned = MatchOption-at_some _ (λ first. HasTurned c.args.clocks.now c.args.date first (heap_items c.loop-first.turns) (heap_items c.turn.new.turns)) c.in-Some.first c.in-Some.is c.in_ok-first.ensures.some in (
+      c.in_ok-first.ensures.heap,
+      turning_step c.args.clocks.now c.requires.periods last c.args.date c.in-Some.first (heap_items c.loop-first.turns) (heap_items c.turn.new.turns) c.loop-first.due.items c.add_kind.new.due.items
+          c.requires.before (omega arith) c.loop-first.invariant.1 turned c.in_ok-add_kind.ensures,
+    )

@@ -1,1 +1,0 @@
-use Rattle.prl_evaluation.proofs.evaluation.empty_flows.Goals as goal

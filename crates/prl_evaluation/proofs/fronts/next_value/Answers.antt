@@ -1,4 +1,4 @@
-use Rattle.prl_evaluation.proofs.NextValue.{arguments, few, may_step, output_grows, output_within, plain_grows, plain_there}
+use Rattle.prl_evaluation.proofs.NextValue.{arguments, may_step, output_grows, output_within, plain_grows, plain_there}
 use Rattle.prl_evaluation.proofs.fronts.next_value.Goals as goal
 
 pub output_value-requires-clause-output : goal.output_value-requires-clause-output

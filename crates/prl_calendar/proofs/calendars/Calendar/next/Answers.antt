@@ -1,8 +1,8 @@
-use Rattle.std.proofs.Common.{◌≡◌, ◌≤◌, ◌<◌, ℕ, List, arith, refl, sym, subst}
+use Rattle.std.proofs.Common.{◌≤◌, ◌<◌, ℕ, List, arith, refl}
 use Rattle.std.specs.BinaryHeap.{heap_items}
 use Rattle.prl_base.specs.declared.operators.Clock.{Clock}
 use Rattle.prl_calendar.specs.Calendars.{IsNextDate}
-use Rattle.prl_calendar.specs.Turns.{AreTurning, AreTurns, Turn, last}
+use Rattle.prl_calendar.specs.Turns.{AreTurns, Turn, last}
 use Rattle.prl_calendar.proofs.Turning.{next_is, none_left, turning_due, turning_none}
 use Rattle.prl_calendar.proofs.calendars.Calendar.next.Goals as goal
 
@@ -41,6 +41,6 @@ returns-clause-told c =
     rw (← c.self.view_is) (
       next,
       turning_due clocks last date (heap_items c.take_due.new.turns) c.take_due.new.due.items c.sort.new.due.items c.in_ok-take_due.ensures.turning c.in_ok-take_due.ensures.over
-      c.sort.ensures.same c.sort.ensures.rising,
+          c.sort.ensures.same c.sort.ensures.rising,
       refl,
     )
