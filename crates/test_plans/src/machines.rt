@@ -7,7 +7,7 @@ use prl_base::{CellNo, EdgeNo, Seq, TaskNo, Value};
 use prl_core::{Core, Event, Illegal, Rule, Seen, Unfinished};
 use prl_flow::Sensors;
 use prl_plan::Horizon;
-use prl_relays::{plan_of_two, two_plans_link_devices};
+use prl_relays::plan_of_two;
 use std::test::Fail;
 
 /// Does the events of a list in which `t` is a tick, `i` an act of task 0 and `o` one of task 1, up to the first that is
@@ -45,7 +45,6 @@ fn outcome_of(rt: &HostRuntime, events: &[u8]) -> Result<Outcome, Fail> {
     let rows = Seq::new(vec![in rt.alloc(); Value::Int(1), Value::Int(2)]?);
     let sensors = Sensors::new(vec![in rt.alloc(); rows]?);
     let horizon = Horizon::new(&plan, 20).ok().ok_or("a small horizon")?;
-    two_plans_link_devices();
     let mut core = Core::new(rt.alloc(), &plan, &sensors, horizon)?;
     let seen = play(&mut core, events);
     Ok(Outcome {
@@ -99,7 +98,6 @@ fn no_job_until_0(rt: HostRuntime) -> Result<(), Fail> {
     let none = Seq::new(Vec::new(rt.alloc()));
     let sensors = Sensors::new(vec![in rt.alloc(); none]?);
     let horizon = Horizon::new(&plan, 0).ok().ok_or("a small horizon")?;
-    two_plans_link_devices();
     let mut core = Core::new(rt.alloc(), &plan, &sensors, horizon)?;
     assert_eq!(rt; core.finished(), Ok(()));
     assert_eq!(rt; play(&mut core, b"t"), Err((1, Rule::L4)));

@@ -9,7 +9,7 @@ use prl_base::{CellNo, EdgeNo, Label, Seq, TaskNo, Value};
 use prl_core::{Core, Seen};
 use prl_flow::Sensors;
 use prl_plan::{Event, Horizon, Rule};
-use prl_relays::{plan_of_two, two_plans_link_devices};
+use prl_relays::plan_of_two;
 use prl_replay::{ReplayFault, ScheduleFault, read_schedule, replay};
 use std::alloc::Global;
 use std::test::Fail;
@@ -45,7 +45,6 @@ fn outcome_of(alloc: Global, text: &str) -> Result<Result<Vec<Seen>, ReplayFault
     let rows = Seq::new(vec![in alloc; Value::Int(1), Value::Int(2)]?);
     let sensors = Sensors::new(vec![in alloc; rows]?);
     let horizon = Horizon::new(&plan, 20).ok().ok_or("a small horizon")?;
-    two_plans_link_devices();
     let mut core = Core::new(alloc, &plan, &sensors, horizon)?;
     let events = events_of(alloc, text)?.ok().ok_or("a schedule")?;
     Ok(replayed(alloc, &mut core, &events))
@@ -133,7 +132,6 @@ fn nothing_until_0(rt: HostRuntime) -> Result<(), Fail> {
     let plan = plan_of_two(alloc, b"i", b"o", 10, 1, 1)?;
     let sensors = Sensors::new(vec![in alloc; Seq::new(Vec::new(alloc))]?);
     let horizon = Horizon::new(&plan, 0).ok().ok_or("a small horizon")?;
-    two_plans_link_devices();
     let mut core = Core::new(alloc, &plan, &sensors, horizon)?;
     let events = events_of(alloc, "")?.ok().ok_or("a schedule")?;
     let reads = replayed(alloc, &mut core, &events)
