@@ -33,34 +33,3 @@ pub(crate) fn end_of(outs: &[OutFlow]) -> u64
     }
     end
 }
-
-/// The first date from `from` on at which the actuator has a row, or `end`.
-fn next_date_of(out: &OutFlow, from: u64, end: u64) -> u64
-    requires out { EndsBefore end out.now }
-    requires from { from ≤ end }
-    ensures low { from ≤ result }
-    ensures high { result ≤ end }
-    ensures none { (t : ℕ) → from ≤ t → t < result → row_at t out.now ≡ [] }
-{
-    let instance = dates_before(from, out.clock);
-    if instance < out.values.len() as u64 {
-        out.clock.start + instance * out.clock.period
-    } else {
-        end
-    }
-}
-
-/// The first date from `from` on at which an actuator has a row, or `end`.
-pub(crate) fn next_date(outs: &[OutFlow], from: u64, end: u64) -> u64
-    requires outs { All (EndsBefore end) outs.now }
-    requires from { from ≤ end }
-    ensures low { from ≤ result }
-    ensures high { result ≤ end }
-    ensures none { (t : ℕ) → from ≤ t → t < result → flat_map (row_at t) outs.now ≡ [] }
-{
-    let mut date = end;
-    for out in outs {
-        date = next_date_of(out, from, end).min(date);
-    }
-    date
-}
