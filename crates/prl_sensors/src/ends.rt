@@ -1,11 +1,9 @@
-//! The dates at which actuators have rows: where they end, and which comes next.
+//! Where the rows of actuators end.
 
-ghost use Rattle.std.specs.Prelude.{◌≡◌, ◌-◌, ◌^◌, ◌<◌, ◌≤◌, ℕ, [], All};
-ghost use Rattle.std.specs.List.{flat_map};
-ghost use Rattle.prl_flow.specs.Actuators.{row_at};
+ghost use Rattle.std.specs.Prelude.{◌-◌, ◌^◌, ◌≤◌, ℕ, All};
 ghost use Rattle.prl_sensors.specs.Ends.{EndsBefore};
 
-use prl_flow::{OutFlow, dates_before};
+use prl_flow::OutFlow;
 
 /// The first date after the last row of the actuator, or 0 where it has none.
 fn end_of_one(out: &OutFlow) -> u64
