@@ -6,4 +6,4 @@ mod ByDate
 mod Orders
 mod Solutions
 mod Begun
-mod Wholes
+mod Groups

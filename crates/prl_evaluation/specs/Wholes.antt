@@ -1,5 +1,5 @@
 -- Flows that are evaluated whole.
-use Rattle.std.specs.Prelude.{◌≡◌, ◌+◌, ◌<◌, ◌≤◌, ◌⊎◌, ◌==◌, ℕ, Bool, List, length, Some, slice_get}
+use Rattle.std.specs.Prelude.{◌≡◌, ◌+◌, ◌<◌, ◌≤◌, ◌⊎◌, ◌==◌, ◌++◌, ◌∷◌, ℕ, Bool, List, [], length, Some, slice_get}
 use Rattle.prl_base.specs.declared.numbers.FlowNo.{FlowNo}
 use Rattle.prl_base.specs.declared.values.Value.{Value}
 use Rattle.prl_flow.specs.Counts.{dates_before}
@@ -20,7 +20,11 @@ abbrev pub AreFlows : FlatProgram → List FlowNo → Type 0
 AreFlows p flows = (b : ℕ) (x : FlowNo) → slice_get flows b ≡ Some x → x.0 < length p.flows
 
 abbrev pub AreVisited : FlatProgram → List Visited → Type 0
-AreVisited p visits = (b : ℕ) (v : Visited) → slice_get visits b ≡ Some v → v.flow < length p.flows
+AreVisited p visits = (b : ℕ) (v : Visited) → slice_get visits b ≡ Some v → v.flow.0 < length p.flows
+
+-- what is visited is what was, or the flow as well
+abbrev pub Opens : FlowNo → List Visited → List Visited → Type 0
+Opens flow old new = (new ≡ old) ⊎ (new ≡ old ++ record { flow = flow; looked_at = 0 } ∷ [])
 
 -- the definition uses flow j, at its own date or delayed
 abbrev pub Names : FlatProgram → Def → ℕ → Type 0

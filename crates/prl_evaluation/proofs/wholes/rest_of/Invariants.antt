@@ -1,6 +1,6 @@
 use Rattle.std.proofs.Common.{◌≡◌, take}
 use Rattle.std.specs.List.{filter}
-use Rattle.prl_evaluation.proofs.Wholes.{is_left}
+use Rattle.prl_evaluation.proofs.Groups.{is_left}
 use Rattle.prl_evaluation.proofs.wholes.rest_of.Given as goal
 
 abbrev pub invariant-loop-flow : goal.invariant-loop-flow

@@ -1,15 +1,15 @@
 -- Groups of flows that are filled together, and what is left then.
-use Rattle.std.proofs.Common.{◌≡◌, ◌≢◌, ◌+◌, ◌<◌, ◌≤◌, ◌⊎◌, inl, inr, ℕ, zero, suc, Bool, true, false, List, [], ◌∷◌, length, Some, slice_get, refl, sym, ◌∙◌, ap, subst, arith, cond, not}
+use Rattle.std.proofs.Common.{◌≡◌, ◌≢◌, ◌+◌, ◌<◌, ◌≤◌, inl, inr, ℕ, zero, suc, Bool, true, false, List, [], ◌∷◌, length, IfSome, Option, None, Some, slice_get, slice_index_or, refl, sym, ◌∙◌, ap, subst, arith, cond, not}
 use Rattle.std.specs.List.{filter}
 use Rattle.std.proofs.lemmas.Bool.{cases_Bool, cases_eq, cases_order, eq-eqb, eqb-true}
-use Rattle.std.proofs.lemmas.Option.{same_Some, slice_get_within}
+use Rattle.std.proofs.lemmas.Option.{same_Some, slice_get_read, slice_get_within}
 use Rattle.prl_base.specs.Clocks.{IsClock, date_at}
 use Rattle.prl_base.specs.declared.numbers.FlowNo.{FlowNo}
 use Rattle.prl_base.specs.declared.values.Value.{Value}
 use Rattle.prl_flow.specs.Counts.{dates_before}
-use Rattle.prl_flow.specs.Programs.{FlatProgram, IsWellDefined}
+use Rattle.prl_flow.specs.Programs.{FlatProgram, IsFlat, IsWellDefined}
 use Rattle.prl_flow.specs.Solutions.{clock_of}
-use Rattle.prl_flow.specs.Uses.{IsArgument, UsesNow}
+use Rattle.prl_flow.specs.Uses.{IsArgument}
 use Rattle.prl_flow.specs.declared.programs.App.{App}
 use Rattle.prl_flow.specs.declared.programs.Arg.{Arg}
 use Rattle.prl_flow.specs.declared.programs.Def.{Def}
@@ -20,7 +20,7 @@ use Rattle.prl_solutions.specs.Tables.{Reads}
 use Rattle.prl_solutions.proofs.Earlier.{reads_earlier}
 use Rattle.prl_evaluation.specs.Dates.{AreAt, IsFull, IsRest}
 use Rattle.prl_evaluation.specs.Fronts.{CanGrow, HasGrown, IsSet, UnderWay, len}
-use Rattle.prl_evaluation.specs.Wholes.{AreFlows, AreWhole, IsFilling, IsGroup, Names, is_full}
+use Rattle.prl_evaluation.specs.Wholes.{AreWhole, IsFilling, IsGroup, Names, is_full}
 use Rattle.prl_evaluation.specs.declared.runs.Run.{Run}
 use Rattle.prl_evaluation.specs.declared.settings.Setting.{Setting}
 use Rattle.prl_evaluation.proofs.Orders.{order_once, order_within}
@@ -174,7 +174,7 @@ module _ (s : Setting) (set : IsSet s) where
       → IsGroup s app.outs number flows
   group_outs i number k out flow app flows found applies applied is full = record {
     within = λ b x at. let (g, there, defined) = (set.flat.apps k app applied).outs b x at in slice_get_within s.flat.now.flows x.0 g there;
-    dates = λ b x at. ap (dates_before s.until) (one.outs b x at ∙ sym (one.outs out (record { 0 = i }) own_out)) ∙ sym is;
+    dates = λ b x at. ap (dates_before s.until) ((set.agree.apps k app applied).outs b x at ∙ sym ((set.agree.apps k app applied).outs out (record { 0 = i }) own_out)) ∙ sym is;
     uses = λ b j x g at there names. argument_full j (subst (λ d. Names s.flat.now d j) (output_def b x g at there) names);
     outs = λ b l o_own o x f g a at there by applied_by output.
         let numbers = same_apply k b l o_own (sym (output_def b x g at there) ∙ by) in
@@ -182,8 +182,6 @@ module _ (s : Setting) (set : IsSet s) where
         (o, ap (λ (z : App). slice_get z.outs o) (sym same) ∙ output);
   }
     where
-      one = set.agree.apps k app applied
-
       own_out : slice_get app.outs out ≡ Some (record { 0 = i })
       own_out =
           let (own, own_applied, own_output) = subst (IsWellDefined s.flat.now i flow.ty) applies (set.flat.flows i flow found) in
@@ -201,56 +199,61 @@ module _ (s : Setting) (set : IsSet s) where
 
 -- what passes a test, in the order of the list
 module _ {X : Type 0} (test : X → Bool) where
+  cons_place : (y : X) (xs ys : List X) (x : X) → test y ≡ true → ((a : ℕ) → slice_get ys a ≡ Some x → (k : ℕ) × (slice_get xs k ≡ Some x) × (test x ≡ true))
+      → (a : ℕ) → slice_get (y ∷ ys) a ≡ Some x → (k : ℕ) × (slice_get (y ∷ xs) k ≡ Some x) × (test x ≡ true)
+  cons_place y xs ys x passes rest zero at = let same : y ≡ x = same_Some y x at in (0, ap Some same, subst (λ z. test z ≡ true) same passes)
+  cons_place y xs ys x passes rest (suc a) at = let (k, found, is) = rest a at in (suc k, found, is)
+
   pub filter_place : (xs : List X) (a : ℕ) (x : X) → slice_get (filter test xs) a ≡ Some x → (k : ℕ) × (slice_get xs k ≡ Some x) × (test x ≡ true)
   filter_place [] a x found = absurd (cc)
   filter_place (y ∷ xs) a x found = elim (cases_Bool (test y)) [
-    | inl yes ↦ first a (rw yes found) yes
-    | inr other ↦ let rest = filter_place xs a x (subst (λ t. slice_get (cond t (y ∷ filter test xs) (filter test xs)) a ≡ Some x) other found) in (suc rest.0, rest.1, rest.2)
+    | inl passes ↦ cons_place y xs (filter test xs) x passes (λ b at. filter_place xs b x at) a (subst (λ t. slice_get (cond t (y ∷ filter test xs) (filter test xs)) a ≡ Some x) passes found)
+    | inr fails ↦
+        let (k, there, is) = filter_place xs a x (subst (λ t. slice_get (cond t (y ∷ filter test xs) (filter test xs)) a ≡ Some x) fails found) in
+        (suc k, there, is)
   ]
-    where
-      first : (a : ℕ) → slice_get (filter test (y ∷ xs)) a ≡ Some x → test y ≡ true → (k : ℕ) × (slice_get (y ∷ xs) k ≡ Some x) × (test x ≡ true)
-      first zero at yes =
-          let same : y ≡ x = same_Some y x (subst (λ t. slice_get (cond t (y ∷ filter test xs) (filter test xs)) 0 ≡ Some x) yes at) in
-          (0, ap Some same, subst (λ z. test z ≡ true) same yes)
-      first (suc a) at yes =
-          let rest = filter_place xs a x (subst (λ t. slice_get (cond t (y ∷ filter test xs) (filter test xs)) (suc a) ≡ Some x) yes at) in
-          (suc rest.0, rest.1, rest.2)
 
-  pub filter_order : (xs : List X) (a b : ℕ) (x y : X) → a < b → slice_get (filter test xs) a ≡ Some x → slice_get (filter test xs) b ≡ Some y
-      → (j : ℕ) × (k : ℕ) × (slice_get xs j ≡ Some x) × (slice_get xs k ≡ Some y) × (j < k)
+  -- two elements are at these places of the list, one after the other
+  abbrev AreInOrder : List X → X → X → Type 0
+  AreInOrder xs x y = (j : ℕ) × (k : ℕ) × (slice_get xs j ≡ Some x) × (slice_get xs k ≡ Some y) × (j < k)
+
+  cons_order : (z : X) (xs ys : List X) (x y : X) → ((b : ℕ) → slice_get ys b ≡ Some y → (k : ℕ) × (slice_get xs k ≡ Some y) × (test y ≡ true))
+      → ((a b : ℕ) → a < b → slice_get ys a ≡ Some x → slice_get ys b ≡ Some y → AreInOrder xs x y)
+      → (a b : ℕ) → a < b → slice_get (z ∷ ys) a ≡ Some x → slice_get (z ∷ ys) b ≡ Some y → AreInOrder (z ∷ xs) x y
+  cons_order z xs ys x y place order a zero less at_a at_b = absurd (omega (arith, less))
+  cons_order z xs ys x y place order zero (suc b) less at_a at_b = let (k, found, is) = place b at_b in (0, suc k, at_a, found, omega arith)
+  cons_order z xs ys x y place order (suc a) (suc b) less at_a at_b =
+      let (j, k, at_j, at_k, less_in) = order a b (omega (arith, less)) at_a at_b in (suc j, suc k, at_j, at_k, omega (arith, less_in))
+
+  pub filter_order : (xs : List X) (a b : ℕ) (x y : X) → a < b → slice_get (filter test xs) a ≡ Some x → slice_get (filter test xs) b ≡ Some y → AreInOrder xs x y
   filter_order [] a b x y less one other = absurd (cc)
   filter_order (z ∷ xs) a b x y less one other = elim (cases_Bool (test z)) [
-    | inl yes ↦ first a b less (subst (λ t. slice_get (cond t (z ∷ filter test xs) (filter test xs)) a ≡ Some x) yes one) (subst (λ t. slice_get (cond t (z ∷ filter test xs) (filter test xs)) b ≡ Some y) yes other)
-    | inr none ↦
+    | inl passes ↦
+        cons_order z xs (filter test xs) x y (λ c at. filter_place xs c y at) (λ c d before at_c at_d. filter_order xs c d x y before at_c at_d) a b less
+        (subst (λ t. slice_get (cond t (z ∷ filter test xs) (filter test xs)) a ≡ Some x) passes one) (subst (λ t. slice_get (cond t (z ∷ filter test xs) (filter test xs)) b ≡ Some y) passes other)
+    | inr fails ↦
         let (j, k, at_j, at_k, order) =
-        filter_order xs a b x y less (subst (λ t. slice_get (cond t (z ∷ filter test xs) (filter test xs)) a ≡ Some x) none one)
-        (subst (λ t. slice_get (cond t (z ∷ filter test xs) (filter test xs)) b ≡ Some y) none other) in
+        filter_order xs a b x y less (subst (λ t. slice_get (cond t (z ∷ filter test xs) (filter test xs)) a ≡ Some x) fails one)
+        (subst (λ t. slice_get (cond t (z ∷ filter test xs) (filter test xs)) b ≡ Some y) fails other) in
         (suc j, suc k, at_j, at_k, omega (arith, order))
   ]
-    where
-      first : (a b : ℕ) → a < b → slice_get (z ∷ filter test xs) a ≡ Some x → slice_get (z ∷ filter test xs) b ≡ Some y
-          → (j : ℕ) × (k : ℕ) × (slice_get (z ∷ xs) j ≡ Some x) × (slice_get (z ∷ xs) k ≡ Some y) × (j < k)
-      first a zero less at_a at_b = absurd (omega (arith, less))
-      first zero (suc b) less at_a at_b = let rest = filter_place xs b y at_b in (0, suc rest.0, at_a, rest.1, omega arith)
-      first (suc a) (suc b) less at_a at_b =
-          let (j, k, at_j, at_k, order) = filter_order xs a b x y (omega (arith, less)) at_a at_b in
-          (suc j, suc k, at_j, at_k, omega (arith, order))
 
   pub filter_has : (xs : List X) (k : ℕ) (x : X) → slice_get xs k ≡ Some x → test x ≡ true → (b : ℕ) × (slice_get (filter test xs) b ≡ Some x)
-  filter_has [] k x found passes = absurd (cc)
-  filter_has (y ∷ xs) zero x found passes =
-      let yes : test y ≡ true = ap test (same_Some y x found) ∙ passes in
-      (0, rw yes found)
-  filter_has (y ∷ xs) (suc k) x found passes =
-      let (b, at) = filter_has xs k x found passes in
-      elim (cases_Bool (test y)) [ inl yes ↦ (suc b, rw yes at) | inr none ↦ (b, rw none at) ]
+  filter_has [] k x found is = absurd (cc)
+  filter_has (y ∷ xs) zero x found is = let passes : test y ≡ true = ap test (same_Some y x found) ∙ is in (0, rw passes found)
+  filter_has (y ∷ xs) (suc k) x found is =
+      let (b, at) = filter_has xs k x found is in
+      elim (cases_Bool (test y)) [ inl passes ↦ (suc b, rw passes at) | inr fails ↦ (b, rw fails at) ]
 
   pub filter_shorter : (xs : List X) → length (filter test xs) ≤ length xs
   filter_shorter [] = omega arith
-  filter_shorter (x ∷ xs) = elim (cases_Bool (test x)) [ inl yes ↦ rw yes (omega (arith, filter_shorter xs)) | inr none ↦ rw none (omega (arith, filter_shorter xs)) ]
+  filter_shorter (x ∷ xs) = elim (cases_Bool (test x)) [
+    | inl passes ↦ rw passes (omega (arith, filter_shorter xs))
+    | inr fails ↦ rw fails (omega (arith, filter_shorter xs))
+  ]
 
 -- whether a flow is not full
-pub is_left : Setting → List (List Value) → FlowNo → Bool
+abbrev pub is_left : Setting → List (List Value) → FlowNo → Bool
 is_left s flows x = not (is_full s flows x.0)
 
 not_true : (b : Bool) → not b ≡ true → b ≡ true → ⊥
@@ -310,3 +313,17 @@ module _ (s : Setting) (set : IsSet s) (flows : List (List Value)) (whole : AreW
 
   pub rest_few : length (filter (is_left s flows) s.order.now) ≤ length s.flat.now.flows
   rest_few = let le = filter_shorter (is_left s flows) s.order.now in omega (arith, le, set.is_order.count)
+
+-- the application that a flow is an output of
+pub applied_app : (p : FlatProgram) → IsFlat p → (i k out : ℕ) (flow : Flow) → slice_get p.flows i ≡ Some flow → flow.def ≡ definitions.Apply k out → (apps : List App) → apps ≡ p.apps
+    → (app : App) → app ≡ slice_index_or apps k app → slice_get p.apps k ≡ Some app
+applied_app p flat i k out flow found applies apps same app read =
+    let (own, applied, output) = subst (IsWellDefined p i flow.ty) applies (flat.flows i flow found) in
+    slice_get_read p.apps (length p.apps) k app refl (slice_get_within p.apps k own applied) (read ∙ ap (λ (us : List App). slice_index_or us k app) same)
+
+-- its arguments are flows
+pub argument_within : (p : FlatProgram) → IsFlat p → (k : ℕ) (app : App) → slice_get p.apps k ≡ Some app → (args : List Arg) → args ≡ app.args → (n : ℕ) (found : Option FlowNo)
+    → IfSome found (λ flow. (arg : Arg) × (slice_get args n ≡ Some arg) × (flow ≡ arg.flow)) → IfSome found (λ flow. flow.0 < length p.flows)
+argument_within p flat k app applied args same n None is = tt
+argument_within p flat k app applied args same n (Some flow) (arg, there, own) =
+    subst (λ (x : FlowNo). x.0 < length p.flows) (sym own) ((flat.apps k app applied).args n arg (ap (λ (us : List Arg). slice_get us n) (sym same) ∙ there))
