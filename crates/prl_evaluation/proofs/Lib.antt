@@ -6,3 +6,4 @@ mod ByDate
 mod Orders
 mod Solutions
 mod Begun
+mod Groups

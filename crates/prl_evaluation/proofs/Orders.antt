@@ -5,12 +5,8 @@ use Rattle.std.proofs.lemmas.Bool.{cases_eq, cases_lt, eq-eqb}
 use Rattle.std.proofs.lemmas.Map.Steps.{le-length_from_below}
 use Rattle.std.proofs.lemmas.Option.{same_Some, slice_get_within}
 use Rattle.prl_base.specs.declared.numbers.FlowNo.{FlowNo}
-use Rattle.prl_base.specs.declared.values.Value.{Value}
 use Rattle.prl_flow.specs.Programs.{FlatProgram}
 use Rattle.prl_flow.specs.Uses.{IsOrder}
-use Rattle.prl_evaluation.specs.Dates.{IsRest}
-use Rattle.prl_evaluation.specs.Fronts.{IsSet}
-use Rattle.prl_evaluation.specs.declared.settings.Setting.{Setting}
 
 numbers : List FlowNo → List ℕ
 numbers [] = []
@@ -87,12 +83,3 @@ module _ (p : FlatProgram) (order : List FlowNo) (is_order : IsOrder p order) wh
           | inr apart ↦ (k, apart, at)
         ]))
   ]
-
--- all flows in the order of causality
-pub whole_rest : (s : Setting) → IsSet s → (flows : List (List Value)) → IsRest s s.order.now flows
-whole_rest s set flows = record {
-  within = order_within s.flat.now s.order.now set.is_order;
-  once = order_once s.flat.now s.order.now set.is_order;
-  after = set.is_order.after;
-  others = λ i below. inl (set.is_order.each i below);
-}

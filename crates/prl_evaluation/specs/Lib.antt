@@ -6,3 +6,5 @@ pub mod Fronts
 pub mod Dates
 -- what evaluation gives, and when it does not
 pub mod Evaluations
+-- flows that are evaluated whole
+pub mod Wholes

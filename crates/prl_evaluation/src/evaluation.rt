@@ -13,10 +13,10 @@ ghost use Rattle.prl_evaluation.specs.Fronts.{IsSet};
 ghost use Rattle.prl_evaluation.specs.Runs.{HasBodyNamed, IsNew};
 ghost use Rattle.prl_evaluation.specs.declared.runs.Run.{Run as AnyRun};
 
-use crate::by_date::by_date;
 use crate::runs::{Run, new_run};
 use crate::settings::Setting;
 use crate::tables::{FlowTable, Values};
+use crate::wholes::fill_all;
 use prl_base::{Clock, Limit, What};
 use prl_behaviours::solutions_are_of_their_clocks;
 use prl_body::Bodies;
@@ -97,7 +97,7 @@ fn solution(alloc: Global, setting: &Setting<'_>) -> Result<FlowTable, AllocErro
     programs_have_one_solution();
     let mut flows = empty_flows(alloc, setting.clocks, setting.until)?;
     let mut runs = new_runs(alloc, setting.flat.apps(), setting.bodies)?;
-    by_date(alloc, setting, setting.order, &mut flows, &mut runs)?;
+    fill_all(alloc, setting, &mut flows, &mut runs)?;
     Ok(FlowTable::new(flows))
 }
 

@@ -8,8 +8,10 @@ mod evaluation;
 mod fronts;
 mod operators;
 mod runs;
+mod sequences;
 mod settings;
 mod tables;
+mod wholes;
 
 pub use evaluation::{FlowFault, evaluate};
 pub use tables::FlowTable;

@@ -1,3 +1,4 @@
+pub mod DueRows
 pub mod RowDates
 pub mod LeftRecords
 pub mod RowsRead

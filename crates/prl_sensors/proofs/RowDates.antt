@@ -7,7 +7,6 @@ use Rattle.std.proofs.lemmas.List.{append-nil}
 use Rattle.std.proofs.lemmas.List.Elements.{All-head, All-tail}
 use Rattle.std.proofs.lemmas.Nat.{div-add-mod'}
 use Rattle.std.proofs.lemmas.Option.{slice_get_past}
-use Rattle.std.proofs.Math.Nat.{lt_of_mul-lt-mul_right}
 use Rattle.prl_base.specs.Clocks.{date_at}
 use Rattle.prl_base.specs.declared.operators.Clock.{Clock}
 use Rattle.prl_flow.specs.declared.programs.OutFlow.{OutFlow}
@@ -16,7 +15,7 @@ use Rattle.prl_flow.specs.Actuators.{AreUpTo, is_date, row_at, actuator_rows, ac
 use Rattle.prl_sensors.specs.Ends.{EndsBefore}
 
 -- a date of the clock has a number
-date_of : (c : Clock) (t : ℕ) → is_date c t ≡ true → t ≡ date_at c ((t - c.start) / c.period)
+pub date_of : (c : Clock) (t : ℕ) → is_date c t ≡ true → t ≡ date_at c ((t - c.start) / c.period)
 date_of c t date =
     let tests = and_parts (nat_le c.start t) ((t - c.start) % c.period == 0) date in
     let late : c.start ≤ t = leb-true c.start t tests.0 in
@@ -31,10 +30,6 @@ row_at_none out t past = elim (cases_Bool (is_date out.clock t)) [
       rw (date, none) refl
   | inr other ↦ rw other refl
 ]
-
--- dates of one clock are in the order of their numbers
-pub date_order : (c : Clock) (j k : ℕ) → date_at c j < date_at c k → j < k
-date_order c j k before = lt_of_mul-lt-mul_right c.period (omega arith)
 
 pub EndsBefore_more : (a b : ℕ) (out : OutFlow) → a ≤ b → EndsBefore a out → EndsBefore b out
 EndsBefore_more a b out order ends = record { clock = ends.clock; dates = λ k within. let h : date_at out.clock k < a = ends.dates k within in omega arith }

@@ -1,12 +1,14 @@
 //! The text of the actuators' rows, by date.
 
-ghost use Rattle.std.specs.Prelude.{◌≡◌, ◌^◌, ◌<◌, ◌++◌, ℕ, All, IfOk, OnOk};
+ghost use Rattle.std.specs.Prelude.{◌≡◌, ◌^◌, ◌<◌, ◌++◌, ℕ, All, IfOk, OnOk, map};
 ghost use Rattle.std.specs.List.{flat_map};
-ghost use Rattle.prl_base.specs.Clocks.{IsClock};
+ghost use Rattle.prl_base.specs.Clocks.{IsClock, IsDate};
+ghost use Rattle.prl_calendar.specs.Calendars.{AreDue};
 ghost use Rattle.prl_flow.specs.Actuators.{AreUpTo, actuator_text, row_at, row_text};
 
-use crate::ends::{end_of, next_date};
-use prl_base::{Value, push_number, push_value};
+use crate::ends::end_of;
+use prl_base::{Clock, Value, push_number, push_value};
+use prl_calendar::Calendar;
 use prl_flow::OutFlow;
 use std::alloc::{AllocError, Global};
 
@@ -34,31 +36,45 @@ fn push_row(
     Ok(())
 }
 
-/// Appends the row of the actuator at the date, if it has one there.
+/// Appends the row of the actuator at one of its dates, if it has a value there.
 fn push_row_at(text: &mut Vec<u8>, out: &OutFlow, date: u64) -> Result<(), AllocError>
-    requires { IsClock out.now.clock }
+    requires clock { IsClock out.now.clock }
+    requires date { IsDate out.now.clock date }
     ensures { OnOk result (text.new.items ≡ text.old.items ++ flat_map row_text (row_at date out.now)) }
 {
-    let clock = out.clock;
-    if date < clock.start || (date - clock.start) % clock.period != 0 {
-        return Ok(());
-    }
-    let instance = (date - clock.start) / clock.period;
+    let instance = (date - out.clock.start) / out.clock.period;
     match out.values.as_slice().get(instance as usize) {
         Some(value) => push_row(text, out.name.bytes(), instance, date, *value),
         None => Ok(()),
     }
 }
 
-/// Appends the rows of the actuators at the date, in their order.
-fn push_rows_at(text: &mut Vec<u8>, outs: &[OutFlow], date: u64) -> Result<(), AllocError>
-    requires { All (λ out. IsClock out.clock) outs.now }
+/// Appends the rows of the actuators that are due at the date, in their order.
+fn push_rows_at(
+    text: &mut Vec<u8>,
+    outs: &[OutFlow],
+    due: &[u32],
+    date: u64,
+) -> Result<(), AllocError>
+    requires clocks { All (λ out. IsClock out.clock) outs.now }
+    requires due { AreDue (map (λ out. out.clock) outs.now) date due.now }
     ensures { OnOk result (text.new.items ≡ text.old.items ++ flat_map row_text (flat_map (row_at date) outs.now)) }
 {
-    for out in outs {
-        push_row_at(text, out, date)?;
+    for place in due {
+        push_row_at(text, &outs[*place as usize], date)?;
     }
     Ok(())
+}
+
+/// The clocks of the actuators.
+fn clocks_of(alloc: Global, outs: &[OutFlow]) -> Result<Vec<Clock>, AllocError>
+    ensures { IfOk result (λ v. v.items ≡ map (λ out. out.clock) outs.now) }
+{
+    let mut clocks = Vec::with_capacity(alloc, outs.len())?;
+    for out in outs {
+        clocks.push(out.clock)?;
+    }
+    Ok(clocks)
 }
 
 /// How many bytes the rows have at least.
@@ -77,12 +93,15 @@ pub fn actuator_text(alloc: Global, outs: &[OutFlow]) -> Result<Vec<u8>, AllocEr
     requires { (until : ℕ) × (until < 2 ^ 64) × AreUpTo until outs.now }
     ensures { (until : ℕ) → AreUpTo until outs.now → IfOk result (λ text. text.items ≡ actuator_text until outs.now) }
 {
+    // A calendar numbers its clocks by 32 bits; for more actuators no memory is there.
+    u32::try_from(outs.len()).map_err(|_| AllocError)?;
     let end = end_of(outs);
+    let clocks = clocks_of(alloc, outs)?;
+    let mut calendar = Calendar::new(alloc, clocks.as_slice(), end)?;
     let mut text = Vec::with_capacity(alloc, least_bytes(outs))?;
-    let mut date = next_date(outs, 0, end);
-    while date < end {
-        push_rows_at(&mut text, outs, date)?;
-        date = next_date(outs, date + 1, end);
+    let mut due = Vec::new(alloc);
+    while let Some(date) = calendar.next(&mut due)? {
+        push_rows_at(&mut text, outs, due.as_slice(), date)?;
     }
     Ok(text)
 }

@@ -1,11 +1,9 @@
-//! The dates at which actuators have rows: where they end, and which comes next.
+//! Where the rows of actuators end.
 
-ghost use Rattle.std.specs.Prelude.{◌≡◌, ◌-◌, ◌^◌, ◌<◌, ◌≤◌, ℕ, [], All};
-ghost use Rattle.std.specs.List.{flat_map};
-ghost use Rattle.prl_flow.specs.Actuators.{row_at};
+ghost use Rattle.std.specs.Prelude.{◌-◌, ◌^◌, ◌≤◌, ℕ, All};
 ghost use Rattle.prl_sensors.specs.Ends.{EndsBefore};
 
-use prl_flow::{OutFlow, dates_before};
+use prl_flow::OutFlow;
 
 /// The first date after the last row of the actuator, or 0 where it has none.
 fn end_of_one(out: &OutFlow) -> u64
@@ -32,35 +30,4 @@ pub(crate) fn end_of(outs: &[OutFlow]) -> u64
         end = end_of_one(out).max(end);
     }
     end
-}
-
-/// The first date from `from` on at which the actuator has a row, or `end`.
-fn next_date_of(out: &OutFlow, from: u64, end: u64) -> u64
-    requires out { EndsBefore end out.now }
-    requires from { from ≤ end }
-    ensures low { from ≤ result }
-    ensures high { result ≤ end }
-    ensures none { (t : ℕ) → from ≤ t → t < result → row_at t out.now ≡ [] }
-{
-    let instance = dates_before(from, out.clock);
-    if instance < out.values.len() as u64 {
-        out.clock.start + instance * out.clock.period
-    } else {
-        end
-    }
-}
-
-/// The first date from `from` on at which an actuator has a row, or `end`.
-pub(crate) fn next_date(outs: &[OutFlow], from: u64, end: u64) -> u64
-    requires outs { All (EndsBefore end) outs.now }
-    requires from { from ≤ end }
-    ensures low { from ≤ result }
-    ensures high { result ≤ end }
-    ensures none { (t : ℕ) → from ≤ t → t < result → flat_map (row_at t) outs.now ≡ [] }
-{
-    let mut date = end;
-    for out in outs {
-        date = next_date_of(out, from, end).min(date);
-    }
-    date
 }

@@ -1,9 +1,13 @@
-use Rattle.std.proofs.Common.{◌≡◌, ◌≤◌, ◌-◌}
+use Rattle.std.proofs.Common.{◌≡◌, ◌≤◌, ◌-◌, map}
 use Rattle.prl_flow.specs.Actuators.{actuator_text}
 use Rattle.prl_sensors.proofs.actuators.actuator_text.Given as goal
 
-abbrev pub invariant-loop-date : goal.invariant-loop-date
-invariant-loop-date l = (l.text.items ≡ actuator_text l.date l.outs) × (l.date ≤ l.end)
+abbrev pub invariant-loop-due : goal.invariant-loop-due
+invariant-loop-due l =
+    (l.text.items ≡ actuator_text l.calendar.from l.outs)
+    × (l.calendar.clocks ≡ map (λ out. out.clock) l.outs)
+    × (l.calendar.until ≡ l.end)
+    × (l.calendar.from ≤ l.end)
 
-abbrev pub decreases-loop-date : goal.decreases-loop-date
-decreases-loop-date l = l.end - l.date
+abbrev pub decreases-loop-due : goal.decreases-loop-due
+decreases-loop-due l = l.end - l.calendar.from

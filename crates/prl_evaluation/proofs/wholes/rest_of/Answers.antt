@@ -1,0 +1,52 @@
+use Rattle.std.proofs.Common.{◌≡◌, ◌∙◌, ◌++◌, ◌∷◌, ◌<◌, ◌^◌, [], List, true, false, ap, arith, cond, not, slice_index_or, subst, sym, take, length}
+use Rattle.std.specs.List.{filter}
+use Rattle.std.proofs.lemmas.List.{append-nil, take_all}
+use Rattle.std.proofs.lemmas.List.Elements.{filter_more}
+use Rattle.std.proofs.lemmas.Option.{slice_get-get_or}
+use Rattle.prl_base.specs.declared.numbers.FlowNo.{FlowNo}
+use Rattle.prl_evaluation.specs.Dates.{AreAt, IsRest}
+use Rattle.prl_evaluation.proofs.Groups.{is_left, rest_at_first, rest_few, rest_in_order}
+use Rattle.prl_evaluation.proofs.Orders.{order_within}
+use Rattle.prl_evaluation.proofs.wholes.rest_of.Goals as goal
+use Rattle.prl_evaluation.proofs.wholes.rest_of.Goals.{then-not-is_full+in_ok-push, else-not-is_full}
+
+pub is_full-requires-clause-flow : goal.is_full-requires-clause-flow
+is_full-requires-clause-flow c =
+    let order : List FlowNo = c.args.setting.now.order.now in
+    let x : FlowNo = slice_index_or order c.loop-flow.flow-index (record { 0 = 0 }) in
+    order_within c.args.setting.now.flat.now order c.requires.set.is_order c.loop-flow.flow-index x (slice_get-get_or order c.loop-flow.flow-index (record { 0 = 0 }) c.loop-flow-test.true)
+
+pub loop-flow-preserved : goal.loop-flow-preserved
+loop-flow-preserved c =
+    let order : List FlowNo = c.args.setting.now.order.now in
+    let x : FlowNo = slice_index_or order c.loop-flow.flow-index (record { 0 = 0 }) in
+    let more = filter_more (is_left c.args.setting.now c.args.flows.now) order c.loop-flow.flow-index (record { 0 = 0 }) c.loop-flow-test.true in
+    elim c.if-not-is_full.branch [
+      | then-not-is_full+in_ok-push w ↦
+          let left : is_left c.args.setting.now c.args.flows.now x ≡ true = ap not (sym c.is_full.ensures) ∙ ap not w.if-not-is_full.true in
+          ap (λ v. v.items) w.rest-is ∙ w.in_ok-push.ensures.items ∙ ap (λ (xs : List FlowNo). xs ++ x ∷ []) c.loop-flow.invariant
+          ∙ sym (more ∙ ap (λ b. filter (is_left c.args.setting.now c.args.flows.now) (take c.loop-flow.flow-index order) ++ cond b (x ∷ []) []) left)
+      | else-not-is_full w ↦
+          let full : is_left c.args.setting.now c.args.flows.now x ≡ false = ap not (sym c.is_full.ensures) ∙ ap not w.if-not-is_full.false in
+          ap (λ v. v.items) w.rest-is ∙ c.loop-flow.invariant
+          ∙ sym (more ∙ ap (λ b. filter (is_left c.args.setting.now c.args.flows.now) (take c.loop-flow.flow-index order) ++ cond b (x ∷ []) []) full ∙ append-nil _)
+    ]
+
+pub returns-clause-rest : goal.returns-clause-rest
+returns-clause-rest c =
+    let order : List FlowNo = c.args.setting.now.order.now in
+    let all = c.loop-flow.invariant ∙ ap (filter (is_left c.args.setting.now c.args.flows.now)) (take_all c.loop-flow.flow-index order c.loop-flow-test.false) in
+    subst (λ rest. IsRest c.args.setting.now rest c.args.flows.now) (sym all) (rest_in_order c.args.setting.now c.requires.set c.args.flows.now c.requires.whole)
+
+pub returns-clause-at : goal.returns-clause-at
+returns-clause-at c =
+    let order : List FlowNo = c.args.setting.now.order.now in
+    let all = c.loop-flow.invariant ∙ ap (filter (is_left c.args.setting.now c.args.flows.now)) (take_all c.loop-flow.flow-index order c.loop-flow-test.false) in
+    subst (λ rest. AreAt c.args.setting.now rest c.args.flows.now 0) (sym all) (rest_at_first c.args.setting.now c.requires.set c.args.flows.now c.requires.whole)
+
+pub returns-clause-few : goal.returns-clause-few
+returns-clause-few c =
+    let order : List FlowNo = c.args.setting.now.order.now in
+    let all = c.loop-flow.invariant ∙ ap (filter (is_left c.args.setting.now c.args.flows.now)) (take_all c.loop-flow.flow-index order c.loop-flow-test.false) in
+    let few = rest_few c.args.setting.now c.requires.set c.args.flows.now c.requires.whole in
+    subst (λ (rest : List FlowNo). length rest < 2 ^ 32) (sym all) (omega (arith, few, c.requires.set.flat.few))
