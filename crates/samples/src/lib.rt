@@ -1,6 +1,10 @@
 //! Texts that several crates of tests read.
 #![tactic(auto)]
 
+mod autopilot;
+
+pub use autopilot::{AUTOPILOT, AUTOPILOT_ACTUATORS, AUTOPILOT_BODIES, AUTOPILOT_SENSORS};
+
 /// The sampling program: a sensor is read each 10 ticks, and of each three of its values one is used.
 pub const SAMPLING: &[u8] = b"imported node F(i, j: int) returns (o, p: int) wcet 2;
 imported node S(i: int) returns (o: int) wcet 10;
