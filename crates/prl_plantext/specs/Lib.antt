@@ -1,0 +1,2 @@
+-- the text of a plan
+pub mod PlanTexts

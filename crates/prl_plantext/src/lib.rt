@@ -1,0 +1,7 @@
+//! The text of a plan, and the plan of a text: each is the exact inverse of the other. A text is read to its task graph
+//! alone; the graph is planned anew, and the plan's text is compared with the one that was given.
+#![tactic(auto)]
+
+mod printing;
+
+pub use printing::plan_text;
