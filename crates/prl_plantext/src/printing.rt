@@ -13,7 +13,7 @@ use prl_plan::{Edge, Kind, Plan, Producer, Task, Window, Word};
 use std::alloc::{AllocError, Global};
 
 /// The name of a kind of task, as it is written.
-fn kind_text(kind: Kind) -> &'static str
+pub(crate) fn kind_text(kind: Kind) -> &'static str
     ensures { result.now ≡ kind_text kind }
 {
     match kind {

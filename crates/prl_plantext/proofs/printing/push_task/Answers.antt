@@ -1,4 +1,4 @@
-use Rattle.std.proofs.Common.{rules, ◌≡◌, ◌++◌, ◌∙◌, [], ◌∷◌, codes, decimal, length}
+use Rattle.std.proofs.Common.{rules, ◌≡◌, ◌++◌, ◌∙◌, codes, decimal}
 use Rattle.prl_plantext.specs.PlanTexts.{kind_text}
 use Rattle.prl_plantext.proofs.Lines.{more, task_line}
 use Rattle.prl_plantext.proofs.printing.push_task.Goals as goal
