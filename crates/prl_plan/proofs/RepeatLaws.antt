@@ -201,7 +201,8 @@ no_later edge a b all_a all_b k same =
           ]
     ]
 
-agree_below : (edge : Edge) (a b : Used) → EnumeratesUsed edge a → EnumeratesUsed edge b → (n j : ℕ) → j < n → used_at a j ≡ used_at b j
+-- two enumerations of the used instances are one
+pub agree_below : (edge : Edge) (a b : Used) → EnumeratesUsed edge a → EnumeratesUsed edge b → (n j : ℕ) → j < n → used_at a j ≡ used_at b j
 agree_below edge a b all_a all_b zero j below = absurd (omega (arith, below))
 agree_below edge a b all_a all_b (suc n) j below =
     let before : (i : ℕ) → i < j → used_at a i ≡ used_at b i = λ i less. agree_below edge a b all_a all_b n i (omega (arith, less, below)) in

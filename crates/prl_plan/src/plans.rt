@@ -77,6 +77,20 @@ impl Plan {
         &self.graph
     }
 
+    /// The dependency words of the edges. Takes no memory.
+    pub fn words(&self) -> &Words
+        ensures { result.now.of ≡ self.now.words }
+    {
+        &self.words
+    }
+
+    /// The encoded dates. Takes no memory.
+    pub fn dates(&self) -> &Dates
+        ensures { result.now ≡ self.now.windows }
+    {
+        &self.dates
+    }
+
     /// The clock of a task.
     pub(crate) fn clock_of(&self, i: TaskNo) -> Clock
         requires { i.0 < length self.now.graph.tasks }

@@ -1,0 +1,24 @@
+-- Items of lists that pass a test.
+use Rattle.std.proofs.Common.{◌≡◌, ◌<◌, ◌^◌, ℕ, zero, suc, Bool, true, List, [], ◌∷◌, Some, slice_get, subst}
+use Rattle.std.specs.List.{list_all}
+use Rattle.std.proofs.lemmas.Bool.{and_parts, ltb-true}
+use Rattle.prl_plan.specs.declared.graphs.Task.{Task}
+use Rattle.prl_plantext.specs.code.Checks.{is_task}
+
+same_item : {A : Type 0} (x y : A) → Some x ≡ Some y → x ≡ y
+same_item x y e = cc
+
+pub passes_at : {A : Type 0} (test : A → Bool) (items : List A) → list_all test items ≡ true → (k : ℕ) (item : A) → slice_get items k ≡ Some item → test item ≡ true
+passes_at test [] all k item at = cc
+passes_at test (first ∷ items) all zero item at =
+    subst (λ x. test x ≡ true) (same_item first item at) (and_parts (test first) (list_all test items) all).0
+passes_at test (first ∷ items) all (suc k) item at = passes_at test items (and_parts (test first) (list_all test items) all).1 k item at
+
+pub start_is_small : (hyper : ℕ) (task : Task) → is_task hyper task ≡ true → task.clock.start < 2 ^ 31
+start_is_small hyper task is =
+    let divides = and_parts _ _ is in
+    let due = and_parts _ _ divides.0 in
+    let some_due = and_parts _ _ due.0 in
+    let wcet = and_parts _ _ some_due.0 in
+    let start = and_parts _ _ wcet.0 in
+    ltb-true task.clock.start (2 ^ 31) start.1

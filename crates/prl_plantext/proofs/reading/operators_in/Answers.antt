@@ -1,0 +1,43 @@
+use Rattle.std.proofs.Common.{rules, ◌≡◌, ◌<◌, ◌++◌, ℕ, false, List, [], ◌∷◌, Some, length, codes, ap, sym, ◌∙◌, arith}
+use Rattle.std.specs.Str.{bytes_eq}
+use Rattle.std.proofs.lemmas.Bool.Decides.{nat_tests}
+use Rattle.prl_plantext.specs.code.Graphs.{first_of, operator_in, operators_in, rest_of}
+use Rattle.prl_plantext.proofs.Operators.{nothing_is_none, with_one_more, with_none_more}
+use Rattle.prl_plantext.proofs.reading.operators_in.Goals as goal
+
+pub loop-words-preserved-in-Continue-branch-2 : goal.loop-words-preserved-in-Continue-branch-2
+loop-words-preserved-in-Continue-branch-2 c =
+    let words = c.loop-words.words in
+    let empty = c.is_empty.ensures in
+    let test = c.loop-words-test.true in
+    let some : 0 < length words = grind (arith, nat_tests, empty, test) in
+    let not_tail : bytes_eq c.next-word.result.now (codes "tail") ≡ false = search rules in
+    let other = ap (λ (w : List ℕ). bytes_eq w (codes "tail")) (sym c.next-word.ensures.word) ∙ not_tail in
+    let rest : c.next.new.self ≡ rest_of (rest_of words) = c.next.ensures.rest ∙ ap rest_of c.next-word.ensures.rest in
+    let argument : c.next.result.now ≡ first_of (rest_of words) = c.next.ensures.word ∙ ap first_of c.next-word.ensures.rest in
+    let is : operator_in (first_of words) (first_of (rest_of words)) ≡ Some c.in-Some.op =
+    ap (λ (w : List ℕ). operator_in w (first_of (rest_of words))) (sym c.next-word.ensures.word)
+    ∙ ap (λ (a : List ℕ). operator_in c.next-word.result.now a) (sym argument) ∙ sym c.operator_in.ensures ∙ c.in-Some.is in
+    let pushed : c.push-in-Some.new.self.items ≡ c.loop-words.ops.items ++ c.in-Some.op ∷ [] = search rules in
+    ap (λ ops. ops ++ operators_in c.next.new.self) pushed
+    ∙ ap (λ (ws : List (List ℕ)). (c.loop-words.ops.items ++ c.in-Some.op ∷ []) ++ operators_in ws) rest
+    ∙ with_one_more c.loop-words.ops.items c.in-Some.op words some other is
+    ∙ c.loop-words.invariant
+
+pub loop-words-preserved : goal.loop-words-preserved
+loop-words-preserved c =
+    let words = c.loop-words.words in
+    let empty = c.is_empty.ensures in
+    let test = c.loop-words-test.true in
+    let some : 0 < length words = grind (arith, nat_tests, empty, test) in
+    let not_tail : bytes_eq c.next-word.result.now (codes "tail") ≡ false = search rules in
+    let other = ap (λ (w : List ℕ). bytes_eq w (codes "tail")) (sym c.next-word.ensures.word) ∙ not_tail in
+    let rest : c.next.new.self ≡ rest_of (rest_of words) = c.next.ensures.rest ∙ ap rest_of c.next-word.ensures.rest in
+    let argument : c.next.result.now ≡ first_of (rest_of words) = c.next.ensures.word ∙ ap first_of c.next-word.ensures.rest in
+    let none = nothing_is_none c.operator_in.result c.in_default.not-Some in
+    let is =
+    ap (λ (w : List ℕ). operator_in w (first_of (rest_of words))) (sym c.next-word.ensures.word)
+    ∙ ap (λ (a : List ℕ). operator_in c.next-word.result.now a) (sym argument) ∙ sym c.operator_in.ensures ∙ none in
+    ap (λ (ws : List (List ℕ)). c.loop-words.ops.items ++ operators_in ws) rest
+    ∙ with_none_more c.loop-words.ops.items words some other is
+    ∙ c.loop-words.invariant

@@ -1,0 +1,309 @@
+//! Printing a plan.
+
+ghost use Rattle.std.specs.Prelude.{◌≡◌, ◌++◌, ◌<◌, ◌^◌, length, IfOk, OnOk, codes, decimal};
+ghost use Rattle.std.specs.List.{flat_map};
+ghost use Rattle.prl_base.specs.Texts.{type_text, value_text};
+ghost use Rattle.prl_plan.specs.Plans.{edge_at};
+ghost use Rattle.prl_plantext.specs.PlanTexts.{after_blank, cells_line_words, dates_words, edge_words, kind_text, line, numbered, operator_words, operators_words, pair_text, plan_text, producer_words, task_words, window_text, word_words};
+
+use prl_base::{
+    Clock, EdgeNo, Op, TaskNo, Ty, Value, push_number, push_ratio, push_type, push_value,
+};
+use prl_plan::{Edge, Kind, Plan, Producer, Task, Window, Word};
+use std::alloc::{AllocError, Global};
+
+/// The name of a kind of task, as it is written.
+pub(crate) fn kind_text(kind: Kind) -> &'static str
+    ensures { result.now ≡ kind_text kind }
+{
+    match kind {
+        Kind::Sensor(_) => "sensor",
+        Kind::Node(_) => "node",
+        Kind::Actuator(_) => "actuator",
+    }
+}
+
+/// Appends two numbers with a byte between them.
+fn push_pair(text: &mut Vec<u8>, first: u64, byte: u8, second: u64) -> Result<(), AllocError>
+    ensures { OnOk result (text.new.items ≡ text.old.items ++ pair_text first byte second) }
+{
+    push_number(text, first)?;
+    text.push(byte)?;
+    push_number(text, second)
+}
+
+/// Appends the clock of a task.
+fn push_clock(text: &mut Vec<u8>, clock: Clock) -> Result<(), AllocError>
+    ensures { OnOk result (text.new.items ≡ text.old.items ++ (codes " period " ++ decimal clock.period ++ codes " start " ++ decimal clock.start)) }
+{
+    text.extend_from_slice(b" period ")?;
+    push_number(text, clock.period)?;
+    text.extend_from_slice(b" start ")?;
+    push_number(text, clock.start)
+}
+
+/// Appends the relative deadline and the worst-case execution time of a task.
+fn push_times(text: &mut Vec<u8>, due: u64, wcet: u32) -> Result<(), AllocError>
+    ensures { OnOk result (text.new.items ≡ text.old.items ++ (codes " due " ++ decimal due ++ codes " wcet " ++ decimal wcet)) }
+{
+    text.extend_from_slice(b" due ")?;
+    push_number(text, due)?;
+    text.extend_from_slice(b" wcet ")?;
+    push_number(text, u64::from(wcet))
+}
+
+/// Appends the line of a task.
+fn push_task(text: &mut Vec<u8>, k: usize, task: &Task) -> Result<(), AllocError>
+    ensures { OnOk result (text.new.items ≡ text.old.items ++ line (task_words k task.now)) }
+{
+    text.extend_from_slice(b"task ")?;
+    push_number(text, k as u64)?;
+    text.push(b' ')?;
+    text.extend_from_slice(task.name.bytes())?;
+    text.push(b' ')?;
+    text.extend_from_slice(kind_text(task.kind).as_bytes())?;
+    push_clock(text, task.clock)?;
+    push_times(text, task.due, task.wcet)?;
+    text.push(b'\n')?;
+    Ok(())
+}
+
+/// Appends a line for each task.
+fn push_tasks(text: &mut Vec<u8>, tasks: &[Task]) -> Result<(), AllocError>
+    ensures { OnOk result (text.new.items ≡ text.old.items ++ numbered task_words 0 tasks.now) }
+{
+    for (k, task) in tasks.iter().enumerate() {
+        push_task(text, k, task)?;
+    }
+    Ok(())
+}
+
+/// Appends windows, each after a blank.
+fn push_windows(text: &mut Vec<u8>, windows: &[Window]) -> Result<(), AllocError>
+    ensures { OnOk result (text.new.items ≡ text.old.items ++ flat_map (λ w. after_blank (window_text w)) windows.now) }
+{
+    for window in windows {
+        text.push(b' ')?;
+        push_pair(text, window.lead, b':', window.tail)?;
+    }
+    Ok(())
+}
+
+/// Appends the line of a task's dates.
+fn push_task_dates(text: &mut Vec<u8>, i: usize, windows: &[Window]) -> Result<(), AllocError>
+    ensures { OnOk result (text.new.items ≡ text.old.items ++ line (dates_words i windows.now)) }
+{
+    text.extend_from_slice(b"dates ")?;
+    push_number(text, i as u64)?;
+    push_windows(text, windows)?;
+    text.push(b'\n')?;
+    Ok(())
+}
+
+/// Appends a line for the dates of each task.
+fn push_dates(text: &mut Vec<u8>, plan: &Plan) -> Result<(), AllocError>
+    ensures { OnOk result (text.new.items ≡ text.old.items ++ numbered dates_words 0 plan.now.windows) }
+{
+    for i in 0..plan.graph().tasks.len() {
+        push_task_dates(text, i, plan.dates().list(TaskNo(i as u32)))?;
+    }
+    Ok(())
+}
+
+/// Appends where an edge comes from, each word after a blank.
+fn push_producer(text: &mut Vec<u8>, from: Producer) -> Result<(), AllocError>
+    ensures { OnOk result (text.new.items ≡ text.old.items ++ flat_map after_blank (producer_words from)) }
+{
+    match from {
+        Producer::Port { task, out } => {
+            text.push(b' ')?;
+            push_pair(text, u64::from(task.0), b'.', u64::from(out))
+        }
+        Producer::Constant(value) => {
+            text.extend_from_slice(b" const ")?;
+            push_value(text, value)
+        }
+    }
+}
+
+/// Appends an operator, each word after a blank.
+fn push_operator(text: &mut Vec<u8>, op: Op) -> Result<(), AllocError>
+    ensures { OnOk result (text.new.items ≡ text.old.items ++ flat_map after_blank (operator_words op)) }
+{
+    match op {
+        Op::Fby(value) => {
+            text.extend_from_slice(b" fby ")?;
+            push_value(text, value)
+        }
+        Op::Cons(value) => {
+            text.extend_from_slice(b" cons ")?;
+            push_value(text, value)
+        }
+        Op::Tail => text.extend_from_slice(b" tail"),
+        Op::Up(factor) => {
+            text.extend_from_slice(b" up ")?;
+            push_number(text, u64::from(factor))
+        }
+        Op::Down(factor) => {
+            text.extend_from_slice(b" down ")?;
+            push_number(text, u64::from(factor))
+        }
+        Op::Shift(ratio) => {
+            text.extend_from_slice(b" shift ")?;
+            push_ratio(text, ratio)
+        }
+    }
+}
+
+/// Appends the operators of an edge, each word after a blank.
+fn push_operators(text: &mut Vec<u8>, ops: &[Op]) -> Result<(), AllocError>
+    ensures { OnOk result (text.new.items ≡ text.old.items ++ flat_map after_blank (operators_words ops.now)) }
+{
+    if ops.is_empty() {
+        return text.extend_from_slice(b" none");
+    }
+    for op in ops {
+        push_operator(text, *op)?;
+    }
+    Ok(())
+}
+
+/// Appends the type and the period of a producer's flow.
+fn push_flow(text: &mut Vec<u8>, ty: Ty, period: u64) -> Result<(), AllocError>
+    ensures { OnOk result (text.new.items ≡ text.old.items ++ (codes " type " ++ type_text ty ++ codes " period " ++ decimal period)) }
+{
+    text.extend_from_slice(b" type ")?;
+    push_type(text, ty)?;
+    text.extend_from_slice(b" period ")?;
+    push_number(text, period)
+}
+
+/// Appends the line of an edge.
+fn push_edge(text: &mut Vec<u8>, e: usize, edge: &Edge) -> Result<(), AllocError>
+    ensures { OnOk result (text.new.items ≡ text.old.items ++ line (edge_words e edge.now)) }
+{
+    text.extend_from_slice(b"edge ")?;
+    push_number(text, e as u64)?;
+    text.extend_from_slice(b" from")?;
+    push_producer(text, edge.from)?;
+    text.extend_from_slice(b" to ")?;
+    push_pair(text, u64::from(edge.to.0), b'.', u64::from(edge.port))?;
+    push_flow(text, edge.ty, edge.period)?;
+    text.extend_from_slice(b" ops")?;
+    push_operators(text, edge.ops.as_slice())?;
+    text.push(b'\n')?;
+    Ok(())
+}
+
+/// Appends a line for each edge.
+fn push_edges(text: &mut Vec<u8>, edges: &[Edge]) -> Result<(), AllocError>
+    ensures { OnOk result (text.new.items ≡ text.old.items ++ numbered edge_words 0 edges.now) }
+{
+    for (e, edge) in edges.iter().enumerate() {
+        push_edge(text, e, edge)?;
+    }
+    Ok(())
+}
+
+/// Appends values, each after a blank.
+fn push_values(text: &mut Vec<u8>, values: &[Value]) -> Result<(), AllocError>
+    ensures { OnOk result (text.new.items ≡ text.old.items ++ flat_map (λ v. after_blank (value_text v)) values.now) }
+{
+    for value in values {
+        text.push(b' ')?;
+        push_value(text, *value)?;
+    }
+    Ok(())
+}
+
+/// Appends numbers, each after a blank.
+fn push_numbers(text: &mut Vec<u8>, numbers: &[u64]) -> Result<(), AllocError>
+    ensures { OnOk result (text.new.items ≡ text.old.items ++ flat_map (λ n. after_blank (decimal n)) numbers.now) }
+{
+    for number in numbers {
+        text.push(b' ')?;
+        push_number(text, *number)?;
+    }
+    Ok(())
+}
+
+/// Appends the line of a dependency word.
+fn push_word(text: &mut Vec<u8>, e: usize, word: &Word) -> Result<(), AllocError>
+    ensures { OnOk result (text.new.items ≡ text.old.items ++ line (word_words e word.now)) }
+{
+    text.extend_from_slice(b"word ")?;
+    push_number(text, e as u64)?;
+    text.extend_from_slice(b" prefix ")?;
+    push_number(text, word.prefix.len() as u64)?;
+    push_values(text, word.prefix.as_slice())?;
+    text.extend_from_slice(b" repeat")?;
+    push_numbers(text, word.repeat.as_slice())?;
+    text.extend_from_slice(b" step ")?;
+    push_number(text, word.step_in)?;
+    text.push(b' ')?;
+    push_number(text, word.step_out)?;
+    text.push(b'\n')?;
+    Ok(())
+}
+
+/// Appends a line for each dependency word.
+fn push_words(text: &mut Vec<u8>, words: &[Word]) -> Result<(), AllocError>
+    ensures { OnOk result (text.new.items ≡ text.old.items ++ numbered word_words 0 words.now) }
+{
+    for (e, word) in words.iter().enumerate() {
+        push_word(text, e, word)?;
+    }
+    Ok(())
+}
+
+/// Appends the first cell of an edge and how many it has, each word after a blank.
+fn push_cells(text: &mut Vec<u8>, base: u32, count: u32) -> Result<(), AllocError>
+    ensures { OnOk result (text.new.items ≡ text.old.items ++ codes " base " ++ decimal base ++ codes " count " ++ decimal count) }
+{
+    text.extend_from_slice(b" base ")?;
+    push_number(text, u64::from(base))?;
+    text.extend_from_slice(b" count ")?;
+    push_number(text, u64::from(count))
+}
+
+/// Appends the line of an edge's cells.
+fn push_edge_cells(text: &mut Vec<u8>, plan: &Plan, e: EdgeNo) -> Result<(), AllocError>
+    requires { e.0 < length plan.now.graph.edges }
+    ensures { OnOk result (text.new.items ≡ text.old.items ++ line (cells_line_words plan.now e.0 (edge_at plan.now.graph e.0))) }
+{
+    text.extend_from_slice(b"cells ")?;
+    push_number(text, u64::from(e.0))?;
+    match plan.graph().edges.as_slice()[e.0 as usize].from {
+        Producer::Port { .. } => push_cells(text, plan.base(e).0, plan.count(e))?,
+        Producer::Constant(_) => text.extend_from_slice(b" none")?,
+    }
+    text.push(b'\n')?;
+    Ok(())
+}
+
+/// Appends a line for the cells of each edge.
+fn push_all_cells(text: &mut Vec<u8>, plan: &Plan) -> Result<(), AllocError>
+    ensures { OnOk result (text.new.items ≡ text.old.items ++ numbered (cells_line_words plan.now) 0 plan.now.graph.edges) }
+{
+    for e in 0..plan.graph().edges.len() {
+        push_edge_cells(text, plan, EdgeNo(e as u32))?;
+    }
+    Ok(())
+}
+
+/// The text of a plan: its hyperperiod, its tasks, their dates, its edges, their words and their cells, a line each.
+pub fn plan_text(alloc: Global, plan: &Plan) -> Result<Vec<u8>, AllocError>
+    ensures { IfOk result (λ text. text.items ≡ plan_text plan.now) }
+{
+    let graph = plan.graph();
+    let mut text = Vec::new(alloc);
+    text.extend_from_slice(b"plan 1\nhyperperiod ")?;
+    push_number(&mut text, graph.hyper)?;
+    text.push(b'\n')?;
+    push_tasks(&mut text, graph.tasks.as_slice())?;
+    push_dates(&mut text, plan)?;
+    push_edges(&mut text, graph.edges.as_slice())?;
+    push_words(&mut text, plan.words().of.as_slice())?;
+    push_all_cells(&mut text, plan)?;
+    Ok(text)
+}

@@ -1,0 +1,6 @@
+//! Tests of the texts of plans.
+#![tactic(auto)]
+
+#[cfg(test)]
+mod plans;
+mod texts;
