@@ -1,10 +1,10 @@
 -- The event that comes next: the choice of its task, and that it is legal.
-use Rattle.std.proofs.Common.{◌≡◌, ◌+◌, ◌<◌, ◌≤◌, ℕ, Option, Some, None, refl, sym, ap, subst, arith, inl, inr}
+use Rattle.std.proofs.Common.{◌≡◌, ◌+◌, ◌<◌, ◌≤◌, ◌⊎◌, ℕ, zero, suc, Option, Some, None, refl, sym, ap, subst, arith, inl, inr}
 use Rattle.std.proofs.lemmas.Bool.{cases_lt, cases_eq}
 use Rattle.prl_plan.specs.declared.events.Event.{Event}
 use Rattle.prl_plan.specs.declared.events.Event.TheVariants as events
 use Rattle.prl_plan.specs.Facts.{HasPlanFacts, IsJob}
-use Rattle.prl_plan.specs.Rules.{first_unfinished, IsUnfinished, HasJob, ActsReleased, KeepsLegal}
+use Rattle.prl_plan.specs.Rules.{first_unfinished, IsUnfinished, HasJob, ActsReleased, KeepsLegal, IsComplete, IsFirstUnfinished}
 use Rattle.prl_plan.specs.Runs.{RunConstants, ExecState}
 use Rattle.prl_core.specs.declared.firsts.First.{First}
 use Rattle.prl_core.specs.declared.firsts.Chosen.{Chosen}
@@ -123,3 +123,60 @@ module _ (c : RunConstants) (facts : HasPlanFacts c) (s : ExecState) where
           let later = is.none j n left in
           let window = facts.window j n (record { task = left.task; job = left.job }) in
           omega (arith, later, window)
+
+module _ (c : RunConstants) (facts : HasPlanFacts c) (s : ExecState) where
+  -- the first unfinished job of a task that has one
+  abbrev first_job : ℕ → First
+  first_job j = record {
+    job = first_unfinished s j;
+    release = c.release j (first_unfinished s j);
+    deadline = c.deadline j (first_unfinished s j);
+  }
+
+  is_first_job : (j : ℕ) → HasJob c s j → IsFirst c s j (first_job j)
+  is_first_job j has = record { job = refl; left = has; release = refl; deadline = refl }
+
+  -- the choice with one task more
+  choice_more : (j : ℕ) → j < c.tasks → (best : Option Chosen) → IsChoice c s j best → (more : Option Chosen) × IsChoice c s (j + 1) more
+  choice_more j inside best is = elim (cases_lt (first_unfinished s j) (c.jobs j)) [
+    | inr done ↦ (best, choice_without c facts s j best is done)
+    | inl below ↦
+        (let has : HasJob c s j = record { task = inside; job = below; unfinished = omega arith } in
+        elim (cases_lt s.now (c.release j (first_unfinished s j))) [
+          | inl early ↦ (best, choice_unreleased c facts s j (first_job j) (is_first_job j has) best is early)
+          | inr released ↦ at_release j has released best is
+        ])
+  ]
+    where
+      at_release : (j : ℕ) → HasJob c s j → c.release j (first_unfinished s j) ≤ s.now → (best : Option Chosen) → IsChoice c s j best →
+          (more : Option Chosen) × IsChoice c s (j + 1) more
+      at_release j has released None is =
+          (Some (record { task = record { 0 = j }; deadline = c.deadline j (first_unfinished s j) }),
+          choice_first c facts s j (first_job j) (is_first_job j has) released (record { task = record { 0 = j }; deadline = c.deadline j (first_unfinished s j) }) refl refl is)
+      at_release j has released (Some chosen) is = elim (cases_lt (c.deadline j (first_unfinished s j)) chosen.deadline) [
+        | inl earlier ↦
+            (Some (record { task = record { 0 = j }; deadline = c.deadline j (first_unfinished s j) }),
+            choice_earlier c facts s j (first_job j) (is_first_job j has) released (record { task = record { 0 = j }; deadline = c.deadline j (first_unfinished s j) }) refl refl chosen is earlier)
+        | inr kept ↦ (Some chosen, choice_kept c facts s j (first_job j) (is_first_job j has) chosen is kept)
+      ]
+
+  choice_up_to : (bound : ℕ) → bound ≤ c.tasks → (best : Option Chosen) × IsChoice c s bound best
+  choice_up_to zero within = (None, λ j n below left. absurd (omega (arith, below)))
+  choice_up_to (suc j) within =
+      let before = choice_up_to j (omega (arith, within)) in
+      let e : j + 1 ≡ suc j = omega arith in
+      subst (λ (k : ℕ). (best : Option Chosen) × IsChoice c s k best) e (choice_more j (omega (arith, within)) before.0 before.1)
+
+  -- in each state some event comes next, or none does since all is done
+  pub some_next : (IsComplete c s ⊎ ((i : ℕ) × (n : ℕ) × IsFirstUnfinished c s i n)) → (next : Option Event) × IsNext c s next
+  some_next decided = by_choice (choice_up_to c.tasks (omega arith)).0 (choice_up_to c.tasks (omega arith)).1
+    where
+      by_choice : (best : Option Chosen) → IsChoice c s c.tasks best → (next : Option Event) × IsNext c s next
+      by_choice (Some chosen) is = (Some (events.Act chosen.task), chosen_is_earliest c facts s chosen is)
+      by_choice None is = elim decided [
+        | inl complete ↦ (None, complete)
+        | inr first ↦
+            (let f = first.2 in
+            let now = f.first in
+            (Some events.Tick, none_is_idle c facts s is first.0 first.1 (record { task = f.task; job = f.job; unfinished = omega (arith, now) })))
+      ]
