@@ -150,13 +150,15 @@ module _ (c : RunConstants) (facts : HasPlanFacts c) (s : ExecState) where
     where
       at_release : (j : ℕ) → HasJob c s j → c.release j (first_unfinished s j) ≤ s.now → (best : Option Chosen) → IsChoice c s j best →
           (more : Option Chosen) × IsChoice c s (j + 1) more
-      at_release j has released None is =
-          (Some (record { task = record { 0 = j }; deadline = c.deadline j (first_unfinished s j) }),
-          choice_first c facts s j (first_job j) (is_first_job j has) released (record { task = record { 0 = j }; deadline = c.deadline j (first_unfinished s j) }) refl refl is)
+      at_release j has released None is = (
+        Some (record { task = record { 0 = j }; deadline = c.deadline j (first_unfinished s j) }),
+        choice_first c facts s j (first_job j) (is_first_job j has) released (record { task = record { 0 = j }; deadline = c.deadline j (first_unfinished s j) }) refl refl is,
+      )
       at_release j has released (Some chosen) is = elim (cases_lt (c.deadline j (first_unfinished s j)) chosen.deadline) [
-        | inl earlier ↦
-            (Some (record { task = record { 0 = j }; deadline = c.deadline j (first_unfinished s j) }),
-            choice_earlier c facts s j (first_job j) (is_first_job j has) released (record { task = record { 0 = j }; deadline = c.deadline j (first_unfinished s j) }) refl refl chosen is earlier)
+        | inl earlier ↦ (
+          Some (record { task = record { 0 = j }; deadline = c.deadline j (first_unfinished s j) }),
+          choice_earlier c facts s j (first_job j) (is_first_job j has) released (record { task = record { 0 = j }; deadline = c.deadline j (first_unfinished s j) }) refl refl chosen is earlier,
+        )
         | inr kept ↦ (Some chosen, choice_kept c facts s j (first_job j) (is_first_job j has) chosen is kept)
       ]
 

@@ -20,7 +20,9 @@ fn plan_of(alloc: Global, graph: TaskGraph) -> Result<Plan, Fail>
 {
     let words = words(alloc, &graph).ok().ok_or("few constants")?;
     let dates = encode(alloc, &graph).ok().ok_or("room for each job")?;
-    let cells = cells(alloc, &graph, &words, &dates).ok().ok_or("few cells")?;
+    let cells = cells(alloc, &graph, &words, &dates)
+        .ok()
+        .ok_or("few cells")?;
     Ok(Plan::new(graph, words, dates, cells))
 }
 
@@ -79,9 +81,15 @@ fn rules_that_events_break(rt: HostRuntime) -> Result<(), Fail> {
     let plan = fast_and_slow_plan(alloc)?;
     let horizon = Horizon::new(&plan, 60).ok().ok_or("a small horizon")?;
     let mut track = Track::new(alloc, &plan, horizon)?;
-    assert_eq!(rt; track.act(TaskNo(1)).err(), Some(Illegal { rule: Rule::L1 }));
+    assert_eq!(rt;
+        track.act(TaskNo(1)).err(),
+        Some(Illegal { rule: Rule::L1 })
+    );
     assert_eq!(rt; track.tick().ok(), Some(1));
-    assert_eq!(rt; track.act(TaskNo(1)).err(), Some(Illegal { rule: Rule::L3 }));
+    assert_eq!(rt;
+        track.act(TaskNo(1)).err(),
+        Some(Illegal { rule: Rule::L3 })
+    );
     for tick in 2..7 {
         assert_eq!(rt; track.tick().ok(), Some(tick));
     }

@@ -116,9 +116,7 @@ fn nothing_until_0(rt: HostRuntime) -> Result<(), Fail> {
     let horizon = Horizon::new(&plan, 0).ok().ok_or("a small horizon")?;
     let mut core = Core::new(alloc, &plan, &sensors, horizon)?;
     let events = events_of(alloc, &plan, "").ok().ok_or("a schedule")?;
-    let reads = replay(alloc, &mut core, &events)
-        .ok()
-        .ok_or("a whole run")?;
+    let reads = replay(alloc, &mut core, &events).ok().ok_or("a whole run")?;
     assert!(rt; reads.is_empty());
     Ok(())
 }
