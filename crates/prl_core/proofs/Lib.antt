@@ -5,3 +5,7 @@ pub mod Kept
 pub mod Writers
 pub mod LegalReads
 mod DeviceValues
+mod RouteLaws
+mod TrackSteps
+pub mod NextLaws
+pub mod Falls

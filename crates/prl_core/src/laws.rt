@@ -1,7 +1,14 @@
 //! Scaffolding: what ties the values of a machine of sensors and actuators alone to the values by instance. It goes when the
 //! machine runs bodies.
 
-ghost use Rattle.std.specs.Prelude.{◌≡◌, ◌<◌, ℕ, List, length};
+ghost use Rattle.std.specs.Prelude.{◌≡◌, ◌<◌, ℕ, List, Some, length};
+ghost use Rattle.prl_plan.specs.declared.events.Event.{Event};
+ghost use Rattle.prl_plan.specs.Facts.{HasPlanFacts};
+ghost use Rattle.prl_plan.specs.Rules.{KeepsLegal};
+ghost use Rattle.prl_plan.specs.Runs.{RunConstants, ExecState, after_event};
+ghost use Rattle.prl_plan.specs.States.{IsTagged};
+ghost use Rattle.prl_core.specs.Lefts.{left_in};
+ghost use Rattle.prl_core.specs.Tracks.{IsNext};
 ghost use Rattle.prl_body.specs.declared.bodies.CheckedBody.{CheckedBody};
 ghost use Rattle.prl_flow.specs.Rows.{Rows};
 ghost use Rattle.prl_plan.specs.Jobs.{IsHorizonJob};
@@ -22,3 +29,14 @@ pub fn device_values_are_rows()
 {
     operands_are_of_horizon_jobs();
 }
+
+/// The event that comes next is legal.
+pub fn next_event_is_legal()
+    ensures { (c : RunConstants) → HasPlanFacts c → (s : ExecState) → (event : Event) → IsNext c s (Some event) → KeepsLegal c s event }
+{}
+
+/// Each legal event leaves less of a run, so a list of legal events comes to an end.
+pub fn legal_event_leaves_less()
+    ensures { (c : RunConstants) → HasPlanFacts c → (s : ExecState) → IsTagged c s → (event : Event) → KeepsLegal c s event →
+        left_in c (after_event c s event) < left_in c s }
+{}

@@ -4,10 +4,14 @@
 
 mod columns;
 mod cores;
+mod firsts;
 mod laws;
+mod routes;
 mod seen;
+mod tracks;
 
 pub use cores::Core;
-pub use laws::device_values_are_rows;
+pub use laws::{device_values_are_rows, legal_event_leaves_less, next_event_is_legal};
 pub use prl_plan::{Event, Rule};
-pub use seen::{Illegal, Seen, Unfinished};
+pub use seen::{Acted, Illegal, Seen, Unfinished};
+pub use tracks::Track;

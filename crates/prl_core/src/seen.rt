@@ -1,7 +1,14 @@
 //! What the machine tells of an event, and why it refuses one.
 
 use prl_base::{CellNo, EdgeNo, TaskNo, Value};
-use prl_plan::Rule;
+use prl_plan::{Action, Rule};
+
+/// An action that a job did.
+#[derive(Clone, Copy, Debug, PartialEq, Eq)]
+pub struct Acted {
+    pub job: u64,
+    pub action: Action,
+}
 
 /// What an event did.
 #[derive(Clone, Copy, Debug, PartialEq, Eq)]

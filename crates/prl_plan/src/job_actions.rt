@@ -9,8 +9,9 @@ use crate::{Action, Operand, Plan, SlotNo};
 use prl_base::{EdgeNo, TaskNo};
 
 impl Plan {
-    /// The action at this place among the reads of job `n` on an edge into its task, or how far the place is past them.
-    fn read_on(&self, e: EdgeNo, n: u64, place: u32) -> Result<Action, u32>
+    /// The action at this place, from 0, among the reads of job `n` on an edge into its task, or how far the place is past
+    /// them. Takes no memory.
+    pub fn read_on(&self, e: EdgeNo, n: u64, place: u32) -> Result<Action, u32>
         requires edge { e.0 < length self.now.graph.edges }
         requires small { IsSmallOperand (operand_of (edge_at self.now.graph e.0) n) }
         ensures { MatchResult result (λ action. slice_get (reading self.now e.0 (edge_at self.now.graph e.0) (operand_of (edge_at self.now.graph e.0) n)) place ≡ Some action)
@@ -39,8 +40,9 @@ impl Plan {
         }
     }
 
-    /// The action at this place among the writes of instance `n` to an edge from its task, or how far the place is past them.
-    fn write_on(&self, e: EdgeNo, n: u64, place: u32) -> Result<Action, u32>
+    /// The action at this place, from 0, among the writes of instance `n` to an edge from its task, or how far the place is
+    /// past them. Takes no memory.
+    pub fn write_on(&self, e: EdgeNo, n: u64, place: u32) -> Result<Action, u32>
         requires edge { e.0 < length self.now.graph.edges }
         ensures { MatchResult result (λ action. slice_get (if is_some (place_on self.now e.0 n) then both_writes self.now e.0 n else []) place ≡ Some action)
             (λ rest. place ≡ length (if is_some (place_on self.now e.0 n) then both_writes self.now e.0 n else []) + rest) }

@@ -69,14 +69,6 @@ core_rows r plan rows ready is are =
     (subst (λ (xs : Rows). HasRows (relay_plan r.chain) r.until xs) (sym are)
     (two_rows r.chain r.until r.values (enough_jobs r.chain r.values r.until ready.chain ready.values)))
 
--- an event of two tasks is one of the plan
-of_plan : (c : Chain) (event : Event) → IsOfTasks 2 event → IsOfPlan (relay_plan c) event
-of_plan c events.Tick h = tt
-of_plan c (events.Act task) h = h
-
-pub all_of_plan : (c : Chain) (plan : PlanView) (list : List Event) → plan ≡ relay_plan c → All (IsOfTasks 2) list → All (IsOfPlan plan) list
-all_of_plan c plan list is each = subst (λ (p : PlanView). All (IsOfPlan p) list) (sym is) (λ k d small. of_plan c _ (each k d small))
-
 -- the chain hands its values over
 pub hands_over : (r : Relay) → IsReady r → HandsOn r.chain → HandsOver r.chain r.values r.until (jobs_of r.chain r.until)
 hands_over r ready hands = record {

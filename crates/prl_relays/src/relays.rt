@@ -5,14 +5,16 @@ ghost use Rattle.std.specs.Vec.{vec_items};
 ghost use Rattle.prl_flow.specs.Actuators.{AreUpTo, actuator_text};
 ghost use Rattle.prl_flow.specs.Rows.{rows_of};
 ghost use Rattle.prl_chains.specs.Facts.{IsChain};
-ghost use Rattle.prl_replay.specs.Schedules.{schedule_of, IsOfTasks};
+ghost use Rattle.prl_core.specs.Machine.{IsOfPlan};
+ghost use Rattle.prl_replay.specs.Schedules.{schedule_of};
+ghost use Rattle.prl_replay.specs.ScheduleTexts.{task_names as plan_names};
 ghost use Rattle.prl_plan.specs.Horizons.{IsHorizon};
 ghost use Rattle.prl_relays.specs.Relays.{relay_plan, out_flow, of_fault, IsReady, IsReplayText, IsRelayFault, IsUnwritten};
 
 use crate::plans::task_names;
 use crate::reads::reads_text;
 use crate::runs::replayed;
-use prl_base::{Label, Seq, TaskNo, Value};
+use prl_base::{Seq, TaskNo, Value};
 use prl_chains::Chain;
 use prl_flow::{OutFlow, Sensors};
 use prl_plan::{Event, Horizon, Plan, Rule};
@@ -45,13 +47,12 @@ impl From<AllocError> for RelayFault {
 }
 
 /// The events of the schedule, or the first line that is no event.
-fn events_of(alloc: Global, names: &[Label], schedule: &[u8]) -> Result<Vec<Event>, RelayFault>
-    requires { length names.now ≡ 2 }
-    ensures exact { MatchResult result (λ events. schedule_of names.now schedule.now ≡ Ok (vec_items events))
-        (λ fault. fault ≢ RelayFault.Memory → IsUnwritten names.now schedule.now fault) }
-    ensures tasks { IfOk result (λ events. All (IsOfTasks 2) events.items) }
+fn events_of(alloc: Global, plan: &Plan, schedule: &[u8]) -> Result<Vec<Event>, RelayFault>
+    ensures exact { MatchResult result (λ events. schedule_of (plan_names plan.now) schedule.now ≡ Ok (vec_items events))
+        (λ fault. fault ≢ RelayFault.Memory → IsUnwritten (plan_names plan.now) schedule.now fault) }
+    ensures tasks { IfOk result (λ events. All (IsOfPlan plan.now) events.items) }
 {
-    match read_schedule(alloc, schedule, names) {
+    match read_schedule(alloc, schedule, plan) {
         Ok(events) => Ok(events),
         Err(ScheduleFault::Syntax(line)) => Err(RelayFault::Syntax(line)),
         Err(ScheduleFault::Memory) => Err(RelayFault::Memory),
@@ -118,7 +119,7 @@ pub fn replay_text(
         → IsRelayFault (record { chain = chain.now; values = rows_of sensors.now 0; until = horizon.until }) schedule.now fault) }
 {
     let names = task_names(alloc, chain)?;
-    let events = match events_of(alloc, &names, schedule) {
+    let events = match events_of(alloc, plan, schedule) {
         Ok(events) => events,
         Err(fault) => return Err(fault),
     };

@@ -4,7 +4,7 @@ ghost use Rattle.std.specs.Prelude.{◌≡◌, ◌∷◌, [], All, IfOk, MatchRe
 ghost use Rattle.prl_flow.specs.Rows.{rows_of};
 ghost use Rattle.prl_plan.specs.Horizons.{IsHorizon};
 ghost use Rattle.prl_replay.specs.Replays.{IsReplay, FailsWith};
-ghost use Rattle.prl_replay.specs.Schedules.{IsOfTasks};
+ghost use Rattle.prl_core.specs.Machine.{IsOfPlan};
 ghost use Rattle.prl_relays.specs.Relays.{relay_plan, machine, IsReady, IsOutput, AreOperands};
 
 use crate::two_tasks::two_plans_link_devices;
@@ -37,7 +37,7 @@ pub(crate) fn replayed(
     requires one { sensors.now ≡ rows_of sensors.now 0 ∷ [] }
     requires plan { plan.now ≡ relay_plan chain.now }
     requires horizon { IsHorizon plan.now horizon }
-    requires events { All (IsOfTasks 2) events.now }
+    requires events { All (IsOfPlan plan.now) events.now }
     ensures run { MatchResult result (λ run. IsReplay (machine (record { chain = chain.now; values = rows_of sensors.now 0; until = horizon.until }) horizon) events.now run.reads.items)
         (FailsWith (machine (record { chain = chain.now; values = rows_of sensors.now 0; until = horizon.until }) horizon) events.now) }
     ensures solved { IfOk result (λ run. IsOutput (record { chain = chain.now; values = rows_of sensors.now 0; until = horizon.until }) run.outputs.items) }

@@ -1,2 +1,7 @@
 pub mod Schedules
 pub mod Replays
+pub mod Dispatches
+pub mod ScheduleTexts
+pub mod ReadTexts
+-- what private functions say to one another
+pub mod code

@@ -9,10 +9,14 @@ use Rattle.prl_plan.specs.declared.events.Event.TheVariants as events
 use Rattle.prl_replay.specs.declared.schedules.ScheduleFault.{ScheduleFault}
 use Rattle.prl_replay.specs.declared.schedules.ScheduleFault.TheVariants as faults
 
+-- the task of a number
+abbrev pub task_no : ℕ → TaskNo
+task_no k = record { 0 = k }
+
 -- the first task of this name, from number k on
 abbrev pub task_from : ℕ → List (List ℕ) → List ℕ → Option TaskNo
 task_from k [] name = None
-task_from k (task ∷ tasks) name = if bytes_eq task name then Some (record { 0 = k }) else task_from (k + 1) tasks name
+task_from k (task ∷ tasks) name = if bytes_eq task name then Some (task_no k) else task_from (k + 1) tasks name
 
 abbrev pub task_of : List (List ℕ) → List ℕ → Option TaskNo
 task_of names name = task_from 0 names name

@@ -4,11 +4,14 @@ ghost use Rattle.std.specs.Prelude.{◌≡◌, ◌<◌, ◌≤◌, ◌^◌, All,
 ghost use Rattle.std.specs.Option.{option_map};
 ghost use Rattle.std.specs.Vec.{vec_items};
 ghost use Rattle.prl_base.specs.Reading.{GivesBut};
+ghost use Rattle.prl_core.specs.Machine.{IsOfPlan};
+ghost use Rattle.prl_replay.specs.ScheduleTexts.{task_names};
 ghost use Rattle.prl_replay.specs.declared.schedules.ScheduleFault.TheVariants as faults;
-ghost use Rattle.prl_replay.specs.Schedules.{task_of, event_of, without_return, or_line, schedule_of, IsOfTasks};
+ghost use Rattle.prl_replay.specs.Schedules.{event_of, without_return, or_line, schedule_of, IsOfTasks};
 
-use prl_base::{Label, TaskNo, cut_line};
-use prl_plan::Event;
+use crate::numbers::TaskNames;
+use prl_base::cut_line;
+use prl_plan::{Event, Plan, plan_is_one};
 use std::alloc::{AllocFailed, Global};
 
 /// Why a text is no schedule.
@@ -30,23 +33,8 @@ impl<T: Drop> From<AllocFailed<T>> for ScheduleFault {
     }
 }
 
-/// The first task of this name.
-fn task_of(names: &[Label], name: &[u8]) -> Option<TaskNo>
-    requires { length names.now < 2 ^ 32 }
-    ensures exact { result ≡ task_of names.now name.now }
-    ensures task { IfSome result (λ task. task.0 < length names.now) }
-{
-    for (i, task) in names.iter().enumerate() {
-        if task.bytes() == name {
-            return Some(TaskNo(i as u32));
-        }
-    }
-    None
-}
-
 /// The event that a line writes: `tick`, or `act` and the name of a task.
-fn event_of(names: &[Label], line: &[u8]) -> Option<Event>
-    requires { length names.now < 2 ^ 32 }
+fn event_of(names: &TaskNames<'_>, line: &[u8]) -> Option<Event>
     ensures exact { result ≡ event_of names.now line.now }
     ensures tasks { IfSome result (IsOfTasks (length names.now)) }
 {
@@ -55,7 +43,7 @@ fn event_of(names: &[Label], line: &[u8]) -> Option<Event>
     }
     match line.strip_prefix(b"act ") {
         None => None,
-        Some(name) => match task_of(names, name) {
+        Some(name) => match names.task_of(name) {
             None => None,
             Some(task) => Some(Event::Act(task)),
         },
@@ -73,8 +61,7 @@ fn without_return(line: &[u8]) -> &[u8]
 }
 
 /// The event of a line, where it is one.
-fn event_at(names: &[Label], line: &[u8], number: u64) -> Result<Event, ScheduleFault>
-    requires { length names.now < 2 ^ 32 }
+fn event_at(names: &TaskNames<'_>, line: &[u8], number: u64) -> Result<Event, ScheduleFault>
     ensures exact { GivesBut faults.Memory (λ event. event) result (or_line number (event_of names.now line.now)) }
     ensures tasks { IfOk result (IsOfTasks (length names.now)) }
 {
@@ -84,14 +71,8 @@ fn event_at(names: &[Label], line: &[u8], number: u64) -> Result<Event, Schedule
     }
 }
 
-/// The events of the schedule, a line each, whose acts are of the tasks of these names. `Syntax` at the first line that
-/// is no event.
-pub fn read_schedule(
-    alloc: Global,
-    text: &[u8],
-    names: &[Label],
-) -> Result<Vec<Event>, ScheduleFault>
-    requires { length names.now < 2 ^ 32 }
+/// The events of a schedule, a line each, whose acts are of the tasks of these names.
+fn events_of(alloc: Global, names: &TaskNames<'_>, text: &[u8]) -> Result<Vec<Event>, ScheduleFault>
     ensures exact { GivesBut faults.Memory vec_items result (schedule_of names.now text.now) }
     ensures tasks { IfOk result (λ events. All (IsOfTasks (length names.now)) events.items) }
 {
@@ -108,4 +89,17 @@ pub fn read_schedule(
     }
     events.push(event_at(names, rest, number)?)?;
     Ok(events)
+}
+
+/// The events of the schedule, a line each, whose acts are of tasks of the plan by their names. `Syntax` at the first line
+/// that is no event.
+pub fn read_schedule(alloc: Global, text: &[u8], plan: &Plan) -> Result<Vec<Event>, ScheduleFault>
+    ensures exact { GivesBut faults.Memory vec_items result (schedule_of (task_names plan.now) text.now) }
+    ensures tasks { IfOk result (λ events. All (IsOfPlan plan.now) events.items) }
+{
+    plan_is_one(plan);
+    match TaskNames::new(alloc, plan.graph().tasks.as_slice()) {
+        Ok(names) => events_of(alloc, &names, text),
+        Err(_) => Err(ScheduleFault::Memory),
+    }
 }

@@ -3,4 +3,4 @@
 
 #[cfg(test)]
 mod dates;
-mod graphs;
+pub mod graphs;

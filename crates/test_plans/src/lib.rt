@@ -2,6 +2,8 @@
 #![tactic(auto)]
 
 #[cfg(test)]
+mod dispatches;
+#[cfg(test)]
 mod machines;
 #[cfg(test)]
 mod plans;

@@ -1,42 +1,23 @@
 //! Worked schedules of a sensor `i` and its actuator `o`, both of WCET 1 on period 10, with the rows 1 and 2, until 20.
 
-ghost use Rattle.std.specs.Prelude.{◌≡◌, All, IfOk, codes, length};
-ghost use Rattle.prl_relays.specs.TwoTasks.{two_plan};
-ghost use Rattle.prl_replay.specs.Schedules.{IsOfTasks};
+ghost use Rattle.std.specs.Prelude.{All, IfOk};
+ghost use Rattle.prl_core.specs.Machine.{IsOfPlan};
 
 use crate::schedules::WHOLE;
-use prl_base::{CellNo, EdgeNo, Label, Seq, TaskNo, Value};
+use prl_base::{CellNo, EdgeNo, Seq, TaskNo, Value};
 use prl_core::{Core, Seen};
 use prl_flow::Sensors;
-use prl_plan::{Event, Horizon, Rule};
+use prl_plan::{Event, Horizon, Plan, Rule};
 use prl_relays::plan_of_two;
 use prl_replay::{ReplayFault, ScheduleFault, read_schedule, replay};
 use std::alloc::Global;
 use std::test::Fail;
 
-fn names(alloc: Global) -> Result<Vec<Label>, Fail>
-    ensures { IfOk result (λ names. length names.items ≡ 2) }
-{
-    let mut names = Vec::new(alloc);
-    names.push(Label::new(alloc, b"i")?)?;
-    names.push(Label::new(alloc, b"o")?)?;
-    Ok(names)
-}
-
 /// The events of a text, or the fault of its lines.
-fn events_of(alloc: Global, text: &str) -> Result<Result<Vec<Event>, ScheduleFault>, Fail>
-    ensures { IfOk result (λ read. IfOk read (λ events. All (IsOfTasks 2) events.items)) }
+fn events_of(alloc: Global, plan: &Plan, text: &str) -> Result<Vec<Event>, ScheduleFault>
+    ensures { IfOk result (λ events. All (IsOfPlan plan.now) events.items) }
 {
-    let names = names(alloc)?;
-    Ok(read_schedule(alloc, text.as_bytes(), &names))
-}
-
-/// The replay of events on the machine of the plan.
-fn replayed(alloc: Global, core: &mut Core<'_>, events: &[Event]) -> Result<Vec<Seen>, ReplayFault>
-    requires plan { core.old.plan ≡ two_plan (codes "i") (codes "o") 10 1 1 }
-    requires events { All (IsOfTasks 2) events.now }
-{
-    replay(alloc, core, events)
+    read_schedule(alloc, text.as_bytes(), plan)
 }
 
 /// What the replay of a text until 20 comes to.
@@ -46,8 +27,8 @@ fn outcome_of(alloc: Global, text: &str) -> Result<Result<Vec<Seen>, ReplayFault
     let sensors = Sensors::new(vec![in alloc; rows]?);
     let horizon = Horizon::new(&plan, 20).ok().ok_or("a small horizon")?;
     let mut core = Core::new(alloc, &plan, &sensors, horizon)?;
-    let events = events_of(alloc, text)?.ok().ok_or("a schedule")?;
-    Ok(replayed(alloc, &mut core, &events))
+    let events = events_of(alloc, &plan, text).ok().ok_or("a schedule")?;
+    Ok(replay(alloc, &mut core, &events))
 }
 
 fn read(job: u64, value: i64) -> Seen {
@@ -107,7 +88,8 @@ fn replays(rt: HostRuntime) -> Result<(), Fail> {
 #[test]
 fn lines_of_schedules(rt: HostRuntime) -> Result<(), Fail> {
     let alloc = rt.alloc();
-    let read = events_of(alloc, "tick\r\nact o\nact i")?
+    let plan = plan_of_two(alloc, b"i", b"o", 10, 1, 1)?;
+    let read = events_of(alloc, &plan, "tick\r\nact o\nact i")
         .ok()
         .ok_or("a schedule")?;
     let wanted = [Event::Tick, Event::Act(TaskNo(1)), Event::Act(TaskNo(0))];
@@ -120,7 +102,7 @@ fn lines_of_schedules(rt: HostRuntime) -> Result<(), Fail> {
         ("tick \n", 1),
     ];
     for (text, line) in faults {
-        let found = events_of(alloc, text)?.err().ok_or("a fault")?;
+        let found = events_of(alloc, &plan, text).err().ok_or("a fault")?;
         assert_eq!(rt; found, ScheduleFault::Syntax(line), "{text}");
     }
     Ok(())
@@ -133,10 +115,8 @@ fn nothing_until_0(rt: HostRuntime) -> Result<(), Fail> {
     let sensors = Sensors::new(vec![in alloc; Seq::new(Vec::new(alloc))]?);
     let horizon = Horizon::new(&plan, 0).ok().ok_or("a small horizon")?;
     let mut core = Core::new(alloc, &plan, &sensors, horizon)?;
-    let events = events_of(alloc, "")?.ok().ok_or("a schedule")?;
-    let reads = replayed(alloc, &mut core, &events)
-        .ok()
-        .ok_or("a whole run")?;
+    let events = events_of(alloc, &plan, "").ok().ok_or("a schedule")?;
+    let reads = replay(alloc, &mut core, &events).ok().ok_or("a whole run")?;
     assert!(rt; reads.is_empty());
     Ok(())
 }

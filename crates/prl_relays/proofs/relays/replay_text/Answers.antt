@@ -1,8 +1,9 @@
-use Rattle.std.proofs.Common.{◌≡◌, ℕ, List, Ok, refl, ◌∙◌, subst, arith}
+use Rattle.std.proofs.Common.{◌≡◌, Ok, refl, ◌∙◌, subst, arith}
 use Rattle.prl_flow.specs.Rows.{rows_of}
 use Rattle.prl_plan.specs.Plans.{PlanView}
 use Rattle.prl_plan.specs.Horizons.{IsHorizon}
 use Rattle.prl_replay.specs.Schedules.{schedule_of}
+use Rattle.prl_replay.specs.ScheduleTexts.{task_names as plan_names}
 use Rattle.prl_relays.specs.Relays.{Relay}
 use Rattle.prl_relays.proofs.Handed.{outputs_up_to, lines_are}
 use Rattle.prl_relays.proofs.relays.replay_text.Goals as goal
@@ -16,18 +17,17 @@ pub returns : goal.returns
 returns c =
     let r : Relay = record { chain = c.args.chain.now; values = rows_of c.args.sensors.now 0; until = c.args.horizon.until } in
     let out = c.in-Ok-replayed.run'.outputs.items in
-    let named = c.deref.ensures.value ∙ c.in_ok-names.ensures in
     record {
       horizon = c.args.horizon;
       of_plan = (subst (λ (p : PlanView). IsHorizon p c.args.horizon) c.requires.plan c.requires.horizon, refl);
       events = c.in-Ok.events.items;
-      written = subst (λ (ns : List (List ℕ)). schedule_of ns c.args.schedule.now ≡ Ok c.in-Ok.events.items) named c.in-Ok.ensures.exact;
+      written = subst (λ (p : PlanView). schedule_of (plan_names p) c.args.schedule.now ≡ Ok c.in-Ok.events.items) c.requires.plan c.in-Ok.ensures.exact;
       reads = c.in-Ok-replayed.run'.reads.items;
-      replayed = rw c.deref-2.ensures.value at c.in-Ok-replayed.ensures.run;
+      replayed = rw c.deref.ensures.value at c.in-Ok-replayed.ensures.run;
       outputs = out;
       solved = c.in-Ok-replayed.ensures.solved;
       operands = c.in-Ok-replayed.ensures.operands;
-      text_is = lines_are r c.deref-3.result.now c.deref-4.result.now c.in-Ok-replayed.run'.reads.items out c.deref-5.result.now c.in_ok-rows.rows.items c.in_ok-reads_text.field-0.items
-          c.in_ok-reads_text.ensures (c.deref-3.ensures.value ∙ c.in_ok-names.ensures) c.deref-4.ensures.value c.deref-5.ensures.value
+      text_is = lines_are r c.deref-2.result.now c.deref-3.result.now c.in-Ok-replayed.run'.reads.items out c.deref-4.result.now c.in_ok-rows.rows.items c.in_ok-reads_text.field-0.items
+          c.in_ok-reads_text.ensures (c.deref-2.ensures.value ∙ c.in_ok-names.ensures) c.deref-3.ensures.value c.deref-4.ensures.value
           (c.in_ok-rows.ensures c.args.horizon.until (outputs_up_to r out c.requires.ready c.in-Ok-replayed.ensures.solved));
     }

@@ -2,7 +2,7 @@ use Rattle.std.proofs.Common.{◌≡◌, ◌+◌, ◌≤◌, All, length, vec_it
 use Rattle.prl_base.specs.Lines.{lines_of}
 use Rattle.prl_replay.specs.Schedules.{events_from, schedule_of, IsOfTasks}
 use Rattle.prl_replay.proofs.Lines.{with_front}
-use Rattle.prl_replay.proofs.schedules.read_schedule.Given as goal
+use Rattle.prl_replay.proofs.schedules.events_of.Given as goal
 
 -- the events so far and those of the lines that are left are those of all lines
 abbrev pub invariant-loop-line : goal.invariant-loop-line

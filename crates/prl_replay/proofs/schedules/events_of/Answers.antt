@@ -8,7 +8,7 @@ use Rattle.prl_base.proofs.LineCuts.{option_map_none, length_cut}
 use Rattle.prl_replay.specs.declared.schedules.ScheduleFault.TheVariants as faults
 use Rattle.prl_replay.specs.Schedules.{or_line, event_of, events_from, schedule_of, IsOfTasks}
 use Rattle.prl_replay.proofs.Lines.{with_front, with_front_event, with_front_fault, with_front_last}
-use Rattle.prl_replay.proofs.schedules.read_schedule.Goals as goal
+use Rattle.prl_replay.proofs.schedules.events_of.Goals as goal
 
 pub returns-in_err-event_at-clause-exact : goal.returns-in_err-event_at-clause-exact
 returns-in_err-event_at-clause-exact c =

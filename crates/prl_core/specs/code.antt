@@ -1,0 +1,4 @@
+pub mod Firsts
+pub mod Routes
+pub mod Nexts
+pub mod Tracks
