@@ -17,7 +17,7 @@ use crate::reading::{MAX_BODIES, MAX_PROGRAM, Texts};
 use crate::stages::{Stage, Stop};
 use prl_arguments::Command;
 use prl_ast::Program;
-use prl_body::{Bodies, BodyFault, BodyTexts, check_bodies};
+use prl_body::{Bodies, BodyFault, BodyTexts, check_bodies, used_imports_have_bodies};
 use prl_bodytext::parse_bodies;
 use prl_names::{Names, right_names_stand_for_something, used_imports};
 use prl_print::programs_are_in_range;
@@ -152,6 +152,7 @@ pub fn read_bodies(
     ensures holds { IfOk result (λ _. Holds (given_of command.now texts.now) Stage.Bodies) }
     ensures stop { IfErr result (StopsAt (given_of command.now texts.now) Stage.Bodies) }
 {
+    used_imports_have_bodies();
     let written = parse_bodies(alloc, &texts.bodies)?;
     Ok(check_texts(alloc, program, main, &written)?)
 }

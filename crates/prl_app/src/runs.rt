@@ -84,8 +84,10 @@ pub struct Run {
 
 /// The names of main's inputs.
 fn input_names(alloc: Global, flat: &Flat) -> Result<Vec<Name>, AllocError>
+    requires { length flat.now.ins ≤ 4096 }
     ensures { IfOk result (λ names. names.items ≡ (inputs_of flat.now).names) }
 {
+    let _flows = flat.flows();
     let count = flat.ins().len();
     let mut names = Vec::with_capacity(alloc, count)?;
     for k in 0..count {
@@ -116,6 +118,7 @@ fn input_needs(
     requires { AreClocks flat.now clocks.now.of }
     ensures { IfOk result (λ needs. needs.items ≡ needs_of flat.now clocks.now.of until) }
 {
+    let _flows = flat.flows();
     let of = clocks.of.as_slice();
     let mut needs = Vec::with_capacity(alloc, flat.ins().len())?;
     for flow in flat.ins() {
@@ -132,7 +135,8 @@ fn rows_of_text(
     clocks: &Clocks,
     until: u32,
 ) -> Result<Sensors, SensorFault>
-    requires { AreClocks flat.now clocks.now.of }
+    requires few { length flat.now.ins ≤ 4096 }
+    requires clocks { AreClocks flat.now clocks.now.of }
     ensures { GivesBut SensorFault.Memory (λ sensors. sensors) result
         (sensors_of (inputs_of flat.now) (needs_of flat.now clocks.now.of until) text.now) }
 {
@@ -218,7 +222,7 @@ fn out_flow(
 fn out_flows(alloc: Global, run: &Run, table: &FlowTable) -> Result<Vec<OutFlow>, AllocError>
     requires clocks { length run.now.clocks.of ≡ length run.now.flat.flows }
     requires table { length table.now ≡ length run.now.flat.flows }
-    requires few { length run.now.flat.outs < 2 ^ 32 }
+    requires few { length run.now.flat.outs ≤ 4096 }
     ensures { IfOk result (λ outs. vec_items outs ≡ out_flows run.now.flat.out_devices run.now.clocks.of table.now 0 run.now.flat.outs) }
 {
     let flows = run.flat.outs();
