@@ -22,5 +22,6 @@ main_with law g p main types program typed =
 -- and this flat program is that of its expansion
 pub flattened_with : NamesLaw → (g : Given) (p : ProgramTree) (main : ℕ) (types : List Ty) (flat : FlatProgram) → IsProgram g p → IsTyped p g.node main types
     → IsExpanded p main types flat → IsFlattened g flat
+unfolding main_with
 flattened_with law g p main types flat program typed expanded =
     record { program = p; main = main; is_main = main_with law g p main types program typed; expanded = expanded }

@@ -45,7 +45,7 @@ few_inputs p main tys flat x =
     let few = x.few in
     let within = inputs_within x.expansion in
     let count : length flat.ins ≡ length (entered_inputs x.expansion) =
-    ap (λ (f : FlatProgram). length f.ins) x.flat_is ∙ length-map flow_no (entered_inputs x.expansion) in
+    ap (λ (f : FlatProgram). length f.ins) x.flat_is ∙ length-map (entered_inputs x.expansion) flow_no in
     omega (arith, few, within, count)
 
 pub few_outputs : (p : ProgramTree) (main : ℕ) (tys : List Ty) (flat : FlatProgram) → IsExpanded p main tys flat → length flat.outs ≤ 4096
@@ -53,7 +53,7 @@ few_outputs p main tys flat x =
     let few = x.few in
     let within = outputs_within x.expansion in
     let count : length flat.outs ≡ length (entered_outputs x.expansion) =
-    ap (λ (f : FlatProgram). length f.outs) x.flat_is ∙ length-map flow_no (entered_outputs x.expansion) in
+    ap (λ (f : FlatProgram). length f.outs) x.flat_is ∙ length-map (entered_outputs x.expansion) flow_no in
     omega (arith, few, within, count)
 
 abbrev no_flow : FlowNo
@@ -87,10 +87,10 @@ module _ (p : FlatProgram) (clocks : List Clock) (until : ℕ) where
     input_within k flow found = let (f, at, is) = flat.ins k flow found in slice_get_within p.flows flow.0 f at
 
     pub as_many_types : length (inputs_of p).types ≡ length (inputs_of p).names
-    as_many_types = length-map type_at p.ins ∙ sym flat.in_count ∙ sym (length-map (λ (d : Device). d.0) p.in_devices)
+    as_many_types = length-map p.ins type_at ∙ sym flat.in_count ∙ sym (length-map p.in_devices (λ (d : Device). d.0))
 
     pub as_many_needs : length (needs_of p clocks until) ≡ length (inputs_of p).names
-    as_many_needs = length-map need_at p.ins ∙ sym flat.in_count ∙ sym (length-map (λ (d : Device). d.0) p.in_devices)
+    as_many_needs = length-map p.ins need_at ∙ sym flat.in_count ∙ sym (length-map p.in_devices (λ (d : Device). d.0))
 
     module _ (law : (inputs : Inputs) (needs text : List ℕ) (rows : Rows) → length needs ≡ length inputs.names → sensors_of inputs needs text ≡ Ok rows → AreRowsFor inputs needs rows)
         (text : List ℕ) (rows : Rows) (read : sensors_of (inputs_of p) (needs_of p clocks until) text ≡ Ok rows) where

@@ -17,7 +17,11 @@ fn sampling(rt: HostRuntime) -> Result<(), Fail> {
         ("", "0", (0, "", "")),
         (SIX, "0", (0, "", "")),
         (five, "60", (9, "", "84 short i 5 6\n")),
-        (five, "41", (0, "o,0,0,1\no,1,10,2\no,2,20,3\no,3,30,6\no,4,40,7\n", "")),
+        (
+            five,
+            "41",
+            (0, "o,0,0,1\no,1,10,2\no,2,20,3\no,3,30,6\no,4,40,7\n", ""),
+        ),
     ];
     for (sensors, until, told) in cases {
         let files = sampling_files(alloc, sensors, &[])?;
@@ -291,17 +295,12 @@ fn switches(rt: HostRuntime) -> Result<(), Fail> {
     let body =
         "body hold { reg last = 0; y = if(on, x, last); moved = on and x <> last; last = if(on, x, last); }";
     let rows = "i,0,4\non,0,true\ni,1,5\ni,2,6\non,1,false\ni,3,7\ni,4,5\non,2,true\ni,5,8\n";
-    let told = "y,0,0,4\nmoved,0,0,true\ny,1,10,5\nmoved,1,10,true\ny,2,20,5\nmoved,2,20,false\ny,3,30,5\nmoved,3,30,false\ny,4,40,5\nmoved,4,40,false\ny,5,50,8\nmoved,5,50,true\n";
+    let told =
+        "y,0,0,4\nmoved,0,0,true\ny,1,10,5\nmoved,1,10,true\ny,2,20,5\nmoved,2,20,false\ny,3,30,5\nmoved,3,30,false\ny,4,40,5\nmoved,4,40,false\ny,5,50,8\nmoved,5,50,true\n";
     let files = with_bodies(alloc, GATE, rows, body)?;
     check(&rt, alloc, &WITH_BODIES, files, (0, told, ""))?;
     let number = with_bodies(alloc, GATE, "on,0,1\n", body)?;
-    check(
-        &rt,
-        alloc,
-        &WITH_BODIES,
-        number,
-        (9, "", "83 value 1\n"),
-    )?;
+    check(&rt, alloc, &WITH_BODIES, number, (9, "", "83 value 1\n"))?;
     let few = with_bodies(alloc, GATE, "i,0,4\non,0,true\n", body)?;
     check(&rt, alloc, &WITH_BODIES, few, (9, "", "84 short on 1 3\n"))
 }
