@@ -49,7 +49,7 @@ module _ (law : Laws) (p : ProgramTree) (asked : Option (List ℕ)) (main : ℕ)
       subst (λ (f : FlatProgram). IsOneToOne (Satisfies p main bodies rows until) (IsSolution f bodies rows until) state_in) (sym expanded.flat_is)
       (law.solutions p asked main types expanded.expansion typed expanded.is bodies rows until)
 
-  pub found : (b : Behaviour) × Satisfies p main bodies rows until b × (state_in b ≡ solution.state)
+  found : (b : Behaviour) × Satisfies p main bodies rows until b × (state_in b ≡ solution.state)
   found = correspond.onto solution.state solution.is
 
   only_one : (other : Behaviour) → Satisfies p main bodies rows until other → other ≡ found.0
@@ -70,7 +70,8 @@ module _ (law : Laws) (p : ProgramTree) (asked : Option (List ℕ)) (main : ℕ)
       ∙ outputs_marked (flow_at solution.state) _ _ e
 
   -- main's outputs are those of this behaviour
-  pub outs : out_flows flat.out_devices clocks table 0 flat.outs ≡ named_flows (node_at p main).outs (outputs_of found.0)
+  pub outs : out_flows flat.out_devices clocks table 0 flat.outs ≡ named_flows (node_at p main).outs (outputs_of one.one)
+  unfolding one
   outs =
       let e = expanded.expansion in
       let s = solution.state in
@@ -85,6 +86,7 @@ module _ (law : Laws) (p : ProgramTree) (asked : Option (List ℕ)) (main : ℕ)
 
   -- and they are up to the date
   pub up_to : AreUpTo until (out_flows flat.out_devices clocks table 0 flat.outs)
+  unfolding one
   up_to =
       let timed = outputs_all (IsTimed until) found.0 found.1.timed in
       let all = named_up_to until (node_at p main).outs (outputs_of found.0) timed in

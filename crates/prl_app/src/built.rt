@@ -94,12 +94,7 @@ fn rows_needed(chain: &Chain, until: u32) -> u64
 }
 
 /// What the text of the sensors has for the chain's input.
-fn relay_rows(
-    alloc: Global,
-    text: &[u8],
-    chain: &Chain,
-    until: u32,
-) -> Result<Sensors, SensorFault>
+fn relay_rows(alloc: Global, text: &[u8], chain: &Chain, until: u32) -> Result<Sensors, SensorFault>
     requires { IsChain chain.now }
     ensures { GivesBut SensorFault.Memory (λ sensors. sensors) result
         (sensors_of (relay_inputs chain.now) (dates_before until (input_clock chain.now) ∷ []) text.now) }

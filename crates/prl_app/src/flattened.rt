@@ -98,12 +98,7 @@ pub fn flattened(
 }
 
 /// An order of the flat program's flows in which each comes after those that it uses undelayed.
-pub fn ordered(
-    alloc: Global,
-    command: &Command,
-    texts: &Texts,
-    flat: &Flat,
-) -> Result<Order, Stop>
+pub fn ordered(alloc: Global, command: &Command, texts: &Texts, flat: &Flat) -> Result<Order, Stop>
     requires { IsFlattened (given_of command.now texts.now) flat.now }
     ensures order { IfOk result (λ order. IsOrder flat.now order.flows) }
     ensures found { IfOk result (λ _. IsCausal (given_of command.now texts.now) flat.now) }
@@ -114,12 +109,7 @@ pub fn ordered(
 }
 
 /// The clocks of the flat program's flows.
-pub fn clocked(
-    alloc: Global,
-    command: &Command,
-    texts: &Texts,
-    flat: &Flat,
-) -> Result<Clocks, Stop>
+pub fn clocked(alloc: Global, command: &Command, texts: &Texts, flat: &Flat) -> Result<Clocks, Stop>
     requires { IsCausal (given_of command.now texts.now) flat.now }
     ensures found { IfOk result (λ clocks. HasClocks (given_of command.now texts.now) flat.now clocks.of) }
     ensures holds { IfOk result (λ _. Holds (given_of command.now texts.now) Stage.Clocks) }

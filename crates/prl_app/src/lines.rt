@@ -4,7 +4,7 @@ ghost use Rattle.std.specs.Prelude.{◌≡◌, ◌<◌, ◌≤◌, [], unwrap_or
 ghost use Rattle.prl_io.specs.Growth.{IsWritten};
 ghost use Rattle.prl_app.specs.ErrorLines.{file_name, named_line, placed_line, grammar_line, mismatch_line, type_free_line, types_line, limit_line, bodies_line, short_line, sensors_line, not_whole_line, clocks_line, illegal_line, unfinished_line, schedule_line, line_of_fault, line_of_stop, line_of};
 ghost use Rattle.prl_app.specs.Endings.{IsTold};
-ghost use Rattle.prl_app.specs.code.Ratios.{slash_text, denominator_text};
+ghost use Rattle.prl_app.specs.code.Ratios.{unless_whole};
 
 use crate::endings::Ending;
 use crate::faults::{
@@ -170,22 +170,18 @@ fn write_limit<E: Sink>(err: &mut E, limit: Limit) -> Result<(), Failed>
     )
 }
 
-/// The mark between the parts of a ratio: none where it is whole.
-fn slash(ratio: Ratio) -> &'static [u8]
-    ensures { result.now ≡ slash_text ratio }
+/// This part of the text of a ratio that follows its numerator: none where the ratio is whole.
+fn unless_whole<'a>(ratio: Ratio, part: &'a [u8]) -> &'a [u8]
+    ensures { result.now ≡ unless_whole ratio part.now }
 {
-    if ratio.den == 1 { b"" } else { b"/" }
+    if ratio.den == 1 { &[] } else { part }
 }
 
-/// The denominator of a ratio: none where it is whole.
-fn denominator<'a>(ratio: Ratio, buffer: &'a mut Buffer) -> &'a [u8]
-    ensures { result.now ≡ denominator_text ratio }
+/// The numerator and the denominator of a ratio.
+fn parts(ratio: Ratio) -> (i64, u64)
+    ensures { result ≡ (ratio.num, ratio.den) }
 {
-    if ratio.den == 1 {
-        b""
-    } else {
-        buffer.format(ratio.den).as_bytes()
-    }
+    (ratio.num, ratio.den)
 }
 
 /// Writes the line of a flow whose clock is not whole or starts below 0.
@@ -203,14 +199,21 @@ fn write_not_whole<E: Sink>(
     let mut second = Buffer::new();
     let mut third = Buffer::new();
     let mut fourth = Buffer::new();
-    let period_top = first.format(period.num).as_bytes();
-    let period_rest = denominator(period, &mut second);
-    let start_top = third.format(start.num).as_bytes();
-    let start_rest = denominator(start, &mut fourth);
+    let period_parts = parts(period);
+    let start_parts = parts(start);
+    let period_top = first.format(period_parts.0).as_bytes();
+    let period_rest = second.format(period_parts.1).as_bytes();
+    let start_top = third.format(start_parts.0).as_bytes();
+    let start_rest = fourth.format(start_parts.1).as_bytes();
     let front = b"42 not whole ".as_slice();
     let middle = b" period ".as_slice();
     let starting = b" start ".as_slice();
+    let slash = b"/".as_slice();
     let end = b"\n".as_slice();
+    let period_mark = unless_whole(period, slash);
+    let period_rest = unless_whole(period, period_rest);
+    let start_mark = unless_whole(start, slash);
+    let start_rest = unless_whole(start, start_rest);
     write_pieces(
         err,
         &[
@@ -218,11 +221,11 @@ fn write_not_whole<E: Sink>(
             label,
             middle,
             period_top,
-            slash(period),
+            period_mark,
             period_rest,
             starting,
             start_top,
-            slash(start),
+            start_mark,
             start_rest,
             end,
         ],

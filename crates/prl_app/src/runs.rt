@@ -1,6 +1,6 @@
 //! The last stages of `flows`: the rows of main's inputs, the values of all flows, and the text of main's outputs.
 
-ghost use Rattle.std.specs.Prelude.{◌≡◌, ◌<◌, ◌≤◌, ◌^◌, ℕ, IfOk, IfErr, [], ◌∷◌, length, map};
+ghost use Rattle.std.specs.Prelude.{◌≡◌, ◌<◌, ◌≤◌, ◌^◌, ℕ, IfOk, IfErr, [], ◌∷◌, length, map, slice_get};
 ghost use Rattle.std.specs.Vec.{vec_items};
 ghost use Rattle.prl_ast.specs.Trees.{program_tree};
 ghost use Rattle.prl_base.specs.Reading.{GivesBut};
@@ -20,7 +20,7 @@ ghost use Rattle.prl_solutions.specs.Conditions.{AreTypedRows};
 ghost use Rattle.prl_types.specs.Typing.{IsTyped};
 ghost use Rattle.prl_app.specs.Flattened.{HasClocks};
 ghost use Rattle.prl_app.specs.Parts.{AreBodies, IsMain};
-ghost use Rattle.prl_app.specs.Runs.{inputs_of, needs_of, HasRows};
+ghost use Rattle.prl_app.specs.Runs.{inputs_of, needs_of, type_of_flow, HasRows};
 ghost use Rattle.prl_app.specs.Stages.{Holds, IsText};
 ghost use Rattle.prl_app.specs.code.Outs.{out_flow, out_flows};
 ghost use Rattle.prl_app.specs.code.Stops.{given_of, StopsAt};
@@ -96,14 +96,22 @@ fn input_names(alloc: Global, flat: &Flat) -> Result<Vec<Name>, AllocError>
     Ok(names)
 }
 
+/// The type of a flow.
+fn type_of(flat: &Flat, flow: FlowNo) -> Ty
+    requires { flow.0 < length flat.now.flows }
+    ensures { result ≡ type_of_flow (slice_get flat.now.flows flow.0) }
+{
+    flat.flows()[flow.0 as usize].ty
+}
+
 /// The types of main's inputs.
 fn input_types(alloc: Global, flat: &Flat) -> Result<Vec<Ty>, AllocError>
     ensures { IfOk result (λ types. types.items ≡ (inputs_of flat.now).types) }
 {
-    let flows = flat.flows();
+    let _flows = flat.flows();
     let mut types = Vec::with_capacity(alloc, flat.ins().len())?;
     for flow in flat.ins() {
-        types.push(flows[flow.0 as usize].ty)?;
+        types.push(type_of(flat, *flow))?;
     }
     Ok(types)
 }
@@ -260,6 +268,7 @@ pub fn flows_of(
     expansions_have_bodies();
     clocks_are_unique();
     let _main = typed.main();
+    let _flows = run.flat.flows();
     let table = values(alloc, command, texts, run)?;
     let outs = out_flows(alloc, run, &table)?;
     Ok(actuator_text(alloc, &outs)?)

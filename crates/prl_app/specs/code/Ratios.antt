@@ -1,10 +1,7 @@
 -- The parts of a ratio as they are written one after another.
-use Rattle.std.specs.Prelude.{◌==◌, ℕ, List, [], codes, decimal, if◌then◌else◌}
+use Rattle.std.specs.Prelude.{◌==◌, ℕ, List, [], if◌then◌else◌}
 use Rattle.prl_base.specs.Ratios.{Fraction}
 
--- the mark before the denominator, and the denominator; of a ratio that is whole nothing
-abbrev pub slash_text : Fraction → List ℕ
-slash_text q = if q.den == 1 then [] else codes "/"
-
-abbrev pub denominator_text : Fraction → List ℕ
-denominator_text q = if q.den == 1 then [] else decimal q.den
+-- a part of its text after the numerator; of a ratio that is whole nothing
+abbrev pub unless_whole : Fraction → List ℕ → List ℕ
+unless_whole q part = if q.den == 1 then [] else part

@@ -1,35 +1,25 @@
-use Rattle.std.proofs.Common.{◌≡◌, ◌∙◌, ℕ, List, [], ◌∷◌, Ok}
-use Rattle.prl_base.specs.declared.values.Ty.TheVariants as types
-use Rattle.prl_flow.specs.Rows.{Rows}
+use Rattle.std.proofs.Common.{◌≡◌, ℕ, List, [], ◌∷◌, Ok, subst}
+use Rattle.prl_flow.specs.Counts.{dates_before}
+use Rattle.prl_relays.specs.Relays.{input_clock}
 use Rattle.prl_sensors.specs.SensorRows.{sensors_of}
-use Rattle.prl_app.specs.Built.{rows_for}
+use Rattle.prl_app.specs.Built.{relay_inputs}
 use Rattle.prl_app.specs.code.Stops.{given_of}
 use Rattle.prl_app.proofs.SensorRows.{IsRead, is_read}
-use Rattle.prl_app.proofs.built.read_rows.Goals as goal
-use Rattle.prl_app.proofs.built.read_rows.Goals.{After-array_drop-names-2}
+use Rattle.prl_app.proofs.built.read_relay_rows.Goals as goal
 
-same_sensors : {name name' : List ℕ} {need need' : ℕ} {text text' : List ℕ} {rows : Rows} → name ≡ name' → need ≡ need' → text ≡ text'
-    → sensors_of (record { names = name ∷ []; types = types.Int ∷ [] }) (need ∷ []) text ≡ Ok rows
-    → sensors_of (record { names = name' ∷ []; types = types.Int ∷ [] }) (need' ∷ []) text' ≡ Ok rows
-same_sensors a b c h = rw (← a, ← b, ← c) h
-
-read : (c : After-array_drop-names-2) → IsRead (given_of c.args.command.now c.args.texts.now) c.args.chain.now c.in_ok-read_sensors.field-0
+read : (c : goal.In-Ok) → IsRead (given_of c.args.command.now c.args.texts.now) c.args.chain.now c.in-Ok.sensors
 read c =
-    let g = given_of c.args.command.now c.args.texts.now in
-    let name = c.in_ok-copy.ensures ∙ c.in_name.ensures in
-    let rows : rows_for g c.args.chain.now ≡ Ok c.in_ok-read_sensors.field-0 =
-    same_sensors name c.rows_needed.ensures.exact c.deref.ensures.value c.in_ok-read_sensors.ensures in
-    is_read c.rows_are_typed_and_enough.ensures g c.args.chain.now c.in_ok-read_sensors.field-0 c.requires rows
-    (rw c.rows_needed.ensures.exact at c.rows_needed.ensures.each)
+    let chain = c.args.chain.now in
+    let needs : List ℕ = dates_before c.args.command.now.until (input_clock chain) ∷ [] in
+    is_read c.rows_are_typed_and_enough.ensures (given_of c.args.command.now c.args.texts.now) chain c.in-Ok.sensors c.requires
+    (subst (λ (text : List ℕ). sensors_of (relay_inputs chain) needs text ≡ Ok c.in-Ok.sensors) c.deref.ensures.value (c.in-Ok.ensures tt))
+    (rw c.rows_needed-needed.ensures.exact at c.rows_needed-needed.ensures.each)
 
-pub returns-clause-found : goal.returns-clause-found
-returns-clause-found c = (read c).has
+pub returns-in-Ok-clause-found : goal.returns-in-Ok-clause-found
+returns-in-Ok-clause-found c = (read c).has
 
-pub returns-clause-one : goal.returns-clause-one
-returns-clause-one c = (read c).one
+pub returns-in-Ok-clause-one : goal.returns-in-Ok-clause-one
+returns-in-Ok-clause-one c = (read c).one
 
-pub returns-clause-numbers : goal.returns-clause-numbers
-returns-clause-numbers c = (read c).numbers
-
-pub returns-clause-holds : goal.returns-clause-holds
-returns-clause-holds c = (c.args.chain.now, _, (read c).has)
+pub returns-in-Ok-clause-holds : goal.returns-in-Ok-clause-holds
+returns-in-Ok-clause-holds c = (c.args.chain.now, _, (read c).has)
