@@ -1,7 +1,11 @@
+pub mod Inputs
+pub mod Found
+pub mod RatioTexts
 pub mod Outputs
-pub mod ChainBodies
+pub mod Meaning
 pub mod SensorRows
 pub mod Told
+pub mod OneCycle
 pub mod OneEnd
 pub mod Stops
 pub mod Exact

@@ -1,12 +1,12 @@
 -- A list of stages comes to one end.
-use Rattle.std.proofs.Common.{◌≡◌, ◌<◌, ℕ, true, false, List, [], ◌∷◌, Option, Some, None, Result, Ok, Err, refl, sym, ap, ◌∙◌, inl, inr, subst, arith}
+use Rattle.std.proofs.Common.{◌≡◌, ◌<◌, ◌≤◌, ℕ, length, true, false, List, [], ◌∷◌, Option, Some, None, Result, Ok, Err, refl, sym, ap, ◌∙◌, inl, inr, subst, arith}
 use Rattle.std.specs.Prelude.{Bool, IsTrue}
 use Rattle.prl_base.specs.declared.limits.Limit.{Limit}
 use Rattle.prl_base.specs.declared.values.Ty.{Ty}
 use Rattle.prl_base.specs.declared.values.Value.{Value}
 use Rattle.prl_ast.specs.Trees.{ProgramTree}
 use Rattle.prl_syntax.specs.declared.parsing.ParseFault.{ParseFault}
-use Rattle.prl_syntax.specs.Parsing.{IsParsed as IsParsedProgram}
+use Rattle.prl_syntax.specs.Parsing.{IsParsed as IsParsedProgram, IsProgramOf}
 use Rattle.prl_types.specs.declared.faults.TypeFault.{TypeFault}
 use Rattle.prl_types.specs.Typing.{IsTyped, IsFault, IsOutcome}
 use Rattle.prl_body.specs.declared.faults.BodyFault.{BodyFault}
@@ -16,8 +16,17 @@ use Rattle.prl_bodytext.specs.Parsing.{IsParsed}
 use Rattle.prl_names.specs.Uses.{used_imports}
 use Rattle.prl_chains.specs.declared.chains.Chain.{Chain}
 use Rattle.prl_chains.specs.Chains.{chain_of}
-use Rattle.prl_flow.specs.declared.evaluation.TheConstants.{MAX_VALUES}
+use Rattle.prl_base.specs.declared.operators.Clock.{Clock}
+use Rattle.prl_ast.specs.InRange.{IsInRange}
+use Rattle.prl_behaviours.specs.Annotations.{flows_in}
+use Rattle.prl_clock.specs.Outcomes.{AreOnlyClocks, IsOutcome as IsClockOutcome}
+use Rattle.prl_clock.specs.declared.calculus.ClockFault.{ClockFault}
+use Rattle.prl_evaluation.specs.declared.evaluation.TheConstants.{MAX_VALUES}
+use Rattle.prl_expand.specs.Expansions.{Expansion, IsExpansion}
+use Rattle.prl_expand.specs.Flats.{flat_of}
+use Rattle.prl_flow.specs.Programs.{FlatProgram, IsFlat}
 use Rattle.prl_flow.specs.Rows.{Rows}
+use Rattle.prl_flow.specs.Uses.{IsCycleLabel}
 use Rattle.prl_flow.specs.Counts.{values_before}
 use Rattle.prl_plan.specs.declared.events.Event.{Event}
 use Rattle.prl_plan.specs.declared.horizons.Horizon.{Horizon}
@@ -37,10 +46,12 @@ use Rattle.prl_app.specs.declared.stages.Stage.{Stage}
 use Rattle.prl_app.specs.declared.stages.Stage.TheVariants as stages
 use Rattle.prl_app.specs.Given.{Given, content_of, text_of}
 use Rattle.prl_app.specs.Parts.{IsProgram, IsMain, AreBodies, RefusesBodies, grammar_fault, types_fault, bodies_fault}
-use Rattle.prl_app.specs.Runs.{too_many}
-use Rattle.prl_app.specs.Built.{IsFormed, HasRows, IsWholeRun, Tells, relay_of, rows_for, sensors_fault}
-use Rattle.prl_app.specs.code.Told.{told_parse, told_types, told_body, told_relay, told_sensors}
-use Rattle.prl_app.proofs.Told.{grammar_told, types_told, bodies_told, sensors_told, schedule_told}
+use Rattle.prl_app.specs.Flattened.{IsFlattened, HasClocks, clock_fault}
+use Rattle.prl_app.specs.Runs.{too_many, rows_for, sensors_fault}
+use Rattle.prl_app.specs.Built.{IsFormed, HasRelayRows, IsWholeRun, Tells, relay_of, relay_rows_for}
+use Rattle.prl_app.specs.code.Told.{told_parse, told_types, told_clocks, told_body, told_relay, told_sensors}
+use Rattle.prl_app.proofs.OneCycle.{no_label, one_label}
+use Rattle.prl_app.proofs.Told.{grammar_told, types_told, clocks_told, bodies_told, sensors_told, schedule_told}
 use Rattle.prl_app.specs.Stages.{Holds, Refuses, Comes}
 
 -- the laws of the crates below
@@ -48,6 +59,11 @@ pub record Laws : Type 0 where
   pub programs : (text : List ℕ) (a b : Result ProgramTree ParseFault) → IsParsedProgram text a → IsParsedProgram text b → a ≡ b
   pub bodies : (text : List ℕ) (a b : Result (List TextTree) BodyFault) → IsParsed text a → IsParsed text b → a ≡ b
   pub one : (p : ProgramTree) (main : Option (List ℕ)) (r s : Result (ℕ × List Ty) TypeFault) → IsOutcome p main r → IsOutcome p main s → r ≡ s
+  pub ranges : (text : List ℕ) (p : ProgramTree) → IsProgramOf text p → IsInRange p
+  pub expansions : (p : ProgramTree) (main : ℕ) (one other : Expansion) → IsExpansion p main one → IsExpansion p main other → one ≡ other
+  pub formed : (p : ProgramTree) (asked : Option (List ℕ)) (main : ℕ) (types : List Ty) (e : Expansion) → IsInRange p → IsTyped p asked main types
+      → IsExpansion p main e → length (flows_in e) ≤ 4096 → IsFlat (flat_of p types main e)
+  pub clocks : (p : FlatProgram) → IsFlat p → (one other : Result (List Clock) ClockFault) → IsClockOutcome p one → IsClockOutcome p other → one ≡ other
   pub horizon_or_limit : (plan : PlanView) (until : ℕ) (horizon : Horizon) (limit : Limit) → IsHorizon plan horizon → horizon.until ≡ until
       → IsPastLimit plan until limit → ⊥
   pub one_limit : (plan : PlanView) (until : ℕ) (a b : Limit) → IsPastLimit plan until a → IsPastLimit plan until b → a ≡ b
@@ -92,6 +108,9 @@ err_same a b e = cc
 ok_main : (a b : ℕ × List Ty) → typed_as a ≡ typed_as b → a.0 ≡ b.0
 ok_main a b e = cc
 
+ok_types : (a b : ℕ × List Ty) → typed_as a ≡ typed_as b → a.1 ≡ b.1
+ok_types a b e = cc
+
 no_ok_err : (t : ℕ × List Ty) (fault : TypeFault) → typed_as t ≡ failed fault → ⊥
 no_ok_err t fault e = cc
 
@@ -115,6 +134,46 @@ module _ (law : Laws) (g : Given) where
       let same = one_program q p k.program h.program in
       let typed : IsTyped p g.node other k.types = subst (λ (x : ProgramTree). IsTyped x g.node other k.types) same k.typed in
       one_node p main other h.types k.types h.typed typed
+
+  -- the types of a program's variables
+  one_typing : (p : ProgramTree) (main : ℕ) (q : ProgramTree) (other : ℕ) (h : IsMain g p main) (k : IsMain g q other) → h.types ≡ k.types
+  one_typing p main q other h k =
+      let same = one_program q p k.program h.program in
+      let typed : IsTyped p g.node other k.types = subst (λ (x : ProgramTree). IsTyped x g.node other k.types) same k.typed in
+      ok_types (main, h.types) (other, k.types) (law.one p g.node (Ok (main, h.types)) (Ok (other, k.types)) h.typed typed)
+
+  -- the expansion of one program
+  one_expansion : (p : ProgramTree) (main : ℕ) (q : ProgramTree) (other : ℕ) (a b : Expansion) → IsMain g p main → IsMain g q other
+      → IsExpansion p main a → IsExpansion q other b → a ≡ b
+  one_expansion p main q other a b h k is are =
+      let at : IsExpansion p other b = subst (λ (x : ProgramTree). IsExpansion x other b) (one_program q p k.program h.program) are in
+      let here : IsExpansion p main b = subst (λ (x : ℕ). IsExpansion p x b) (one_main q other p main k h) at in
+      law.expansions p main a b is here
+
+  one_flat : (a b : FlatProgram) → IsFlattened g a → IsFlattened g b → a ≡ b
+  one_flat a b h k =
+      let programs = one_program h.program k.program h.is_main.program k.is_main.program in
+      let mains = one_main h.program h.main k.program k.main h.is_main k.is_main in
+      let types = one_typing h.program h.main k.program k.main h.is_main k.is_main in
+      let expansions = one_expansion h.program h.main k.program k.main h.expanded.expansion k.expanded.expansion h.is_main k.is_main h.expanded.is k.expanded.is in
+      h.expanded.flat_is
+      ∙ (ap (λ (x : ProgramTree). flat_of x h.is_main.types h.main h.expanded.expansion) programs
+      ∙ ap (λ (x : List Ty). flat_of k.program x h.main h.expanded.expansion) types
+      ∙ ap (λ (x : ℕ). flat_of k.program k.is_main.types x h.expanded.expansion) mains
+      ∙ ap (λ (x : Expansion). flat_of k.program k.is_main.types k.main x) expansions)
+      ∙ sym k.expanded.flat_is
+
+  is_flat : (flat : FlatProgram) → IsFlattened g flat → IsFlat flat
+  is_flat flat h =
+      let range = law.ranges (text_of g parts.Program) h.program h.is_main.program.written in
+      subst IsFlat (sym h.expanded.flat_is)
+      (law.formed h.program g.node h.main h.is_main.types h.expanded.expansion range h.is_main.typed h.expanded.is h.expanded.few)
+
+  one_clocks : (p q : FlatProgram) (a b : List Clock) → HasClocks g p a → HasClocks g q b → a ≡ b
+  one_clocks p q a b h k =
+      let same = one_flat q p k.causal.flattened h.causal.flattened in
+      let only : AreOnlyClocks p b = subst (λ (x : FlatProgram). AreOnlyClocks x b) same k.only in
+      ok_ok (Ok a) a b refl (law.clocks p (is_flat p h.causal.flattened) (Ok a) (Ok b) h.only only)
 
   -- the faults of two texts of bodies that are one
   moved_bodies : (p : ProgramTree) (main : ℕ) (q : ProgramTree) (other : ℕ) (fault : BodyFault) → IsMain g p main → IsMain g q other
@@ -160,13 +219,13 @@ module _ (law : Laws) (g : Given) where
   values_in : (rows : Result Rows SensorFault) (xs ys : List Value) → rows ≡ Ok (xs ∷ []) → rows ≡ Ok (ys ∷ []) → xs ≡ ys
   values_in rows xs ys h k = cc
 
-  one_rows : (a b : Chain) (xs ys : List Value) → HasRows g a xs → HasRows g b ys → xs ≡ ys
+  one_rows : (a b : Chain) (xs ys : List Value) → HasRelayRows g a xs → HasRelayRows g b ys → xs ≡ ys
   one_rows a b xs ys h k =
       let same = one_chain b a k.formed h.formed in
-      values_in (rows_for g a) xs ys h.rows (subst (λ (c : Chain). rows_for g c ≡ Ok (ys ∷ [])) same k.rows)
+      values_in (relay_rows_for g a) xs ys h.rows (subst (λ (c : Chain). relay_rows_for g c ≡ Ok (ys ∷ [])) same k.rows)
 
   -- a fault of the schedule for one chain and its rows is one for any
-  moved_fault : (a b : Chain) (xs ys : List Value) (cause : RelayFault) → HasRows g a xs → HasRows g b ys
+  moved_fault : (a b : Chain) (xs ys : List Value) (cause : RelayFault) → HasRelayRows g a xs → HasRelayRows g b ys
       → IsRelayFault (relay_of g a xs) (text_of g parts.Schedule) cause → IsRelayFault (relay_of g b ys) (text_of g parts.Schedule) cause
   moved_fault a b xs ys cause h k fault =
       let at = subst (λ (vs : List Value). IsRelayFault (relay_of g a vs) (text_of g parts.Schedule) cause) (one_rows a b xs ys h k) fault in
@@ -182,6 +241,11 @@ module _ (law : Laws) (g : Given) where
       (record { chain = w.has_horizon.timely.formed.is_chain; in_time = timely_true c w.has_horizon.timely.timely; values = w.rows.each })
       w.has_horizon.horizon w.written w.legal w.complete
 
+  moved_rows : (p q : FlatProgram) (a b : List Clock) (r : Result Rows SensorFault) → HasClocks g p a → HasClocks g q b → rows_for g p a ≡ r → rows_for g q b ≡ r
+  moved_rows p q a b r h k e =
+      let at : rows_for g q a ≡ r = subst (λ (x : FlatProgram). rows_for g x a ≡ r) (one_flat p q h.causal.flattened k.causal.flattened) e in
+      subst (λ (clocks : List Clock). rows_for g q clocks ≡ r) (one_clocks p q a b h k) at
+
   apart : (s : Stage) (f : Fault) → Holds g s → Refuses g s f → ⊥
   apart (stages.File part) f h k = ok_err (content_of g part) h.0 f h.1 k
   apart stages.Grammar f h k =
@@ -191,6 +255,19 @@ module _ (law : Laws) (g : Given) where
       let same = one_program k.0 h.0 k.1 h.2.program in
       let fault = types_fault k.2 in
       typed_is_no_fault h.0 h.1 h.2.types fault h.2.typed (subst (λ (p : ProgramTree). IsFault p g.node fault) same k.3)
+  apart stages.Expansion f h k =
+      let same = one_expansion h.1.program h.1.main k.0 k.1 h.1.expanded.expansion k.4.1.expansion h.1.is_main k.2 h.1.expanded.is k.4.1.is in
+      let few = h.1.expanded.few in
+      let many : 4096 < length (flows_in h.1.expanded.expansion) = subst (λ (e : Expansion). 4096 < length (flows_in e)) (sym same) k.4.1.many in
+      omega (arith, few, many)
+  apart stages.Causality f h k =
+      let same = one_flat k.0 h.0 k.1 h.1.flattened in
+      no_label h.0 h.1.acyclic k.2 (subst (λ (x : FlatProgram). IsCycleLabel x k.2) same k.3)
+  apart stages.Clocks f h k =
+      let same = one_flat k.0 h.0 k.1.flattened h.2.causal.flattened in
+      let fault = clock_fault k.2 in
+      let at : IsClockOutcome h.0 (Err fault) = subst (λ (x : FlatProgram). IsClockOutcome x (Err fault)) same k.3 in
+      ok_err (Ok h.1) h.1 fault refl (law.clocks h.0 (is_flat h.0 h.2.causal.flattened) (Ok h.1) (Err fault) h.2.only at)
   apart stages.Bodies f h k =
       let fault = bodies_fault k.3 in
       bodies_apart h.0 fault h.1 (moved_bodies k.0 k.1 h.1.program h.1.main fault k.2 h.1.is_main k.4)
@@ -203,17 +280,21 @@ module _ (law : Laws) (g : Given) where
   apart stages.Horizon f h k =
       let same = one_chain k.0 h.0 k.1.formed h.2.timely.formed in
       law.horizon_or_limit (relay_plan h.0) g.until h.1 k.2 h.2.horizon.0 h.2.horizon.1 (subst (λ (c : Chain). IsPastLimit (relay_plan c) g.until k.2) same k.3)
-  apart stages.Rows f h k =
+  apart stages.RelayRows f h k =
       let fault = sensors_fault k.2 in
-      let at = subst (λ (c : Chain). rows_for g c ≡ Err fault) (one_chain k.0 h.0 k.1 h.2.formed) k.3 in
-      ok_err (rows_for g h.0) (h.1 ∷ []) fault h.2.rows at
+      let at = subst (λ (c : Chain). relay_rows_for g c ≡ Err fault) (one_chain k.0 h.0 k.1 h.2.formed) k.3 in
+      ok_err (relay_rows_for g h.0) (h.1 ∷ []) fault h.2.rows at
+  apart stages.Rows f h k =
+      let fault = sensors_fault k.3 in
+      let at = moved_rows k.0 h.0 k.1 h.1 (Err fault) k.2 h.3.clocked k.4 in
+      ok_err (rows_for g h.0 h.1) h.2 fault h.3.read at
   apart stages.Schedule f h k =
       let text = whole_text h.0 h.1 h.2 h.3 in
       let fault = moved_fault k.0 h.0 k.1 h.1 k.3 k.2 h.3.rows k.4 in
       law.replay_or_fault (relay_of g h.0 h.1) (text_of g parts.Schedule) text.0 k.3 text.1 fault
   apart stages.Values f h k =
-      let few = h.2 in
-      let many = subst (λ (c : Chain). MAX_VALUES < values_before g.until c.clocks.of) (one_chain k.0 h.0 k.1 h.1) k.2 in omega (arith, few, many)
+      let few = h.3 in
+      let many = subst (λ (clocks : List Clock). MAX_VALUES < values_before g.until clocks) (one_clocks k.0 h.0 k.1 h.1 k.2 h.2) k.3 in omega (arith, few, many)
 
   one : (s : Stage) (a b : Fault) → Refuses g s a → Refuses g s b → a ≡ b
   one (stages.File part) a b h k = err_err (content_of g part) a b h k
@@ -228,6 +309,18 @@ module _ (law : Laws) (g : Given) where
       let y = types_fault k.2 in
       let fault = subst (λ (p : ProgramTree). IsFault p g.node y) same k.3 in
       same_told told_types x y (faults.Types h.2) (faults.Types k.2) a b (one_type_fault h.0 x y h.3 fault) (types_told h.2) h.4 (types_told k.2) k.4
+  one stages.Expansion a b h k = h.5 ∙ ap faults.Limit (h.4.0 ∙ sym k.4.0) ∙ sym k.5
+  one stages.Causality a b h k =
+      let same = one_flat k.0 h.0 k.1 h.1 in
+      let label = subst (λ (x : FlatProgram). IsCycleLabel x k.2) same k.3 in
+      h.4 ∙ ap faults.Cycle (one_label h.0 h.2 k.2 h.3 label) ∙ sym k.4
+  one stages.Clocks a b h k =
+      let same = one_flat k.0 h.0 k.1.flattened h.1.flattened in
+      let x = clock_fault h.2 in
+      let y = clock_fault k.2 in
+      let at : IsClockOutcome h.0 (Err y) = subst (λ (p : FlatProgram). IsClockOutcome p (Err y)) same k.3 in
+      let faulty = err_err (Err x) x y refl (law.clocks h.0 (is_flat h.0 h.1.flattened) (Err x) (Err y) h.3 at) in
+      same_told told_clocks x y (faults.Clocks h.2) (faults.Clocks k.2) a b faulty (clocks_told h.2) h.4 (clocks_told k.2) k.4
   one stages.Bodies a b h k =
       let x = bodies_fault h.3 in
       let y = bodies_fault k.3 in
@@ -239,11 +332,16 @@ module _ (law : Laws) (g : Given) where
       let same = one_chain k.0 h.0 k.1.formed h.1.formed in
       let limit = subst (λ (c : Chain). IsPastLimit (relay_plan c) g.until k.2) same k.3 in
       h.4 ∙ ap faults.Limit (law.one_limit (relay_plan h.0) g.until h.2 k.2 h.3 limit) ∙ sym k.4
-  one stages.Rows a b h k =
+  one stages.RelayRows a b h k =
       let x = sensors_fault h.2 in
       let y = sensors_fault k.2 in
-      let at = subst (λ (c : Chain). rows_for g c ≡ Err y) (one_chain k.0 h.0 k.1 h.1) k.3 in
-      same_told told_sensors x y (faults.Sensors h.2) (faults.Sensors k.2) a b (err_err (rows_for g h.0) x y h.3 at) (sensors_told h.2) h.4 (sensors_told k.2) k.4
+      let at = subst (λ (c : Chain). relay_rows_for g c ≡ Err y) (one_chain k.0 h.0 k.1 h.1) k.3 in
+      same_told told_sensors x y (faults.Sensors h.2) (faults.Sensors k.2) a b (err_err (relay_rows_for g h.0) x y h.3 at) (sensors_told h.2) h.4 (sensors_told k.2) k.4
+  one stages.Rows a b h k =
+      let x = sensors_fault h.3 in
+      let y = sensors_fault k.3 in
+      let at = moved_rows k.0 h.0 k.1 h.1 (Err y) k.2 h.2 k.4 in
+      same_told told_sensors x y (faults.Sensors h.3) (faults.Sensors k.3) a b (err_err (rows_for g h.0 h.1) x y h.4 at) (sensors_told h.3) h.5 (sensors_told k.3) k.5
   one stages.Schedule a b h k =
       let fault = moved_fault k.0 h.0 k.1 h.1 k.3 k.2 h.2 k.4 in
       let same = law.one_fault (relay_of g h.0 h.1) (text_of g parts.Schedule) h.3 k.3 h.4 fault in
@@ -252,7 +350,7 @@ module _ (law : Laws) (g : Given) where
       same_told (told_relay k.0) h.3 k.3 (faults.Schedule h.5) (faults.Schedule k.5) a b same
       (schedule_told k.0 h.5 h.3 here) h.7 (schedule_told k.0 k.5 k.3 k.6) k.7
   one stages.Values a b h k =
-      h.3 ∙ ap (λ (c : Chain). too_many (values_before g.until c.clocks.of)) (one_chain h.0 k.0 h.1 k.1) ∙ sym k.3
+      h.4 ∙ ap (λ (clocks : List Clock). too_many (values_before g.until clocks)) (one_clocks h.0 k.0 h.1 k.1 h.2 k.2) ∙ sym k.4
 
   -- a list of stages comes to one end
   pub one_end : (list : List Stage) (a b : Option (Stage × Fault)) → Comes g list a → Comes g list b → a ≡ b

@@ -11,7 +11,22 @@ use Rattle.prl_types.specs.declared.faults.TypeFault.TheVariants as typing
 use Rattle.prl_types.specs.Typing.{FailsWith}
 use Rattle.prl_body.specs.declared.faults.BodyFault.{BodyFault}
 use Rattle.prl_body.specs.declared.faults.BodyFault.TheVariants as body_faults
+use Rattle.prl_base.specs.declared.operators.Clock.{Clock}
 use Rattle.prl_base.specs.declared.values.Value.{Value}
+use Rattle.prl_flow.specs.Counts.{values_before}
+use Rattle.prl_flow.specs.Programs.{FlatProgram}
+use Rattle.prl_expansion.specs.Expanding.{IsExpandFault}
+use Rattle.prl_expansion.specs.declared.counts.ExpandFault.{ExpandFault}
+use Rattle.prl_expansion.specs.declared.counts.ExpandFault.TheVariants as expanding
+use Rattle.prl_causal.specs.Cycles.{IsCausalFault}
+use Rattle.prl_causal.specs.declared.causality.CausalFault.{CausalFault}
+use Rattle.prl_causal.specs.declared.causality.CausalFault.TheVariants as causality
+use Rattle.prl_clock.specs.Outcomes.{IsClockFault}
+use Rattle.prl_clock.specs.declared.calculus.ClockFault.{ClockFault}
+use Rattle.prl_clock.specs.declared.calculus.ClockFault.TheVariants as clocking
+use Rattle.prl_evaluation.specs.Evaluations.{IsFlowFault}
+use Rattle.prl_evaluation.specs.declared.evaluation.FlowFault.{FlowFault}
+use Rattle.prl_evaluation.specs.declared.evaluation.FlowFault.TheVariants as flow_faults
 use Rattle.prl_chains.specs.declared.chains.Chain.{Chain}
 use Rattle.prl_relays.specs.Relays.{IsRelayFault}
 use Rattle.prl_relays.specs.declared.relays.RelayFault.{RelayFault}
@@ -21,9 +36,11 @@ use Rattle.prl_app.specs.declared.faults.Part.{Part}
 use Rattle.prl_app.specs.declared.faults.Part.TheVariants as parts
 use Rattle.prl_app.specs.declared.faults.GrammarRefusal.TheVariants as bad_grammar
 use Rattle.prl_app.specs.declared.faults.TypesRefusal.TheVariants as bad_types
+use Rattle.prl_app.specs.declared.faults.ClocksRefusal.TheVariants as bad_clocks
 use Rattle.prl_app.specs.declared.faults.BodiesRefusal.TheVariants as bad_bodies
 use Rattle.prl_app.specs.declared.faults.SensorsRefusal.TheVariants as bad_rows
 use Rattle.prl_app.specs.declared.faults.Fault.{Fault}
+use Rattle.prl_app.specs.declared.faults.Fault.TheVariants as faults
 use Rattle.prl_app.specs.declared.stages.Stage.{Stage}
 use Rattle.prl_app.specs.declared.stages.Stage.TheVariants as stages
 use Rattle.prl_app.specs.declared.stages.Stop.{Stop}
@@ -32,10 +49,12 @@ use Rattle.prl_app.specs.declared.reading.Texts.{Texts}
 use Rattle.prl_arguments.specs.declared.arguments.Command.{Command}
 use Rattle.prl_app.specs.Given.{Folder, Given, IsContent, IsGiven, content_of, text_of, file_of, read_as}
 use Rattle.prl_app.specs.Parts.{IsProgram, IsMain, RefusesBodies}
-use Rattle.prl_app.specs.Built.{HasRows, IsFormed, relay_of, rows_for}
+use Rattle.prl_app.specs.Flattened.{IsFlattened, IsCausal, HasClocks}
+use Rattle.prl_app.specs.Runs.{rows_for}
+use Rattle.prl_app.specs.Built.{HasRelayRows, IsFormed, relay_of, relay_rows_for}
 use Rattle.prl_app.specs.Stages.{Comes, files, stages_after}
 use Rattle.prl_app.specs.code.Stops.{given_of, StopsAt, StopsBy, StopsIn, AllHold, IsFileStop, IsStopOfFiles, IsAnswerStop}
-use Rattle.prl_app.specs.code.Told.{stop_of, told_parse, told_types, told_body, told_sensors, told_relay}
+use Rattle.prl_app.specs.code.Told.{stop_of, told_parse, told_types, told_expand, told_causal, told_clocks, told_body, told_sensors, told_flow, told_relay}
 use Rattle.prl_app.proofs.Told.{schedule_refusal}
 
 -- the grammar refuses
@@ -72,19 +91,58 @@ bodies_stop g p main (body_faults.BodyArity at) stop h e is = subst (StopsAt g s
 bodies_stop g p main (body_faults.Missing name) stop h e is = subst (StopsAt g stages.Bodies) (sym is) (refl, (p, main, h, bad_bodies.Missing name, e (λ k. cc), refl))
 bodies_stop g p main body_faults.Memory stop h e is = subst (StopsAt g stages.Bodies) (sym is) tt
 
+-- the expansion is past its limit
+pub expansion_stop : (g : Given) (p : ProgramTree) (main : ℕ) (fault : ExpandFault) (stop : Stop) → IsMain g p main → IsExpandFault p main fault
+    → stop ≡ stop_of stages.Expansion (told_expand fault) → StopsAt g stages.Expansion stop
+expansion_stop g p main (expanding.Limit limit) stop h e is = subst (StopsAt g stages.Expansion) (sym is) (refl, (p, main, h, limit, e, refl))
+expansion_stop g p main expanding.Memory stop h e is = subst (StopsAt g stages.Expansion) (sym is) tt
+
+-- flows on a cycle
+pub causality_stop : (g : Given) (flat : FlatProgram) (fault : CausalFault) (stop : Stop) → IsFlattened g flat → IsCausalFault flat fault
+    → stop ≡ stop_of stages.Causality (told_causal fault) → StopsAt g stages.Causality stop
+causality_stop g flat (causality.Cycle label) stop h e is = subst (StopsAt g stages.Causality) (sym is) (refl, (flat, h, label, e, refl))
+causality_stop g flat causality.Memory stop h e is = subst (StopsAt g stages.Causality) (sym is) tt
+
+-- the flows have no clocks
+pub clocks_stop : (g : Given) (flat : FlatProgram) (fault : ClockFault) (stop : Stop) → IsCausal g flat → IsClockFault flat fault
+    → stop ≡ stop_of stages.Clocks (told_clocks fault) → StopsAt g stages.Clocks stop
+clocks_stop g flat (clocking.Mismatch at) stop h e is = subst (StopsAt g stages.Clocks) (sym is) (refl, (flat, h, bad_clocks.Mismatch at, e, refl))
+clocks_stop g flat (clocking.Limit limit) stop h e is = subst (StopsAt g stages.Clocks) (sym is) (refl, (flat, h, bad_clocks.Limit limit, e, refl))
+clocks_stop g flat (clocking.Free label) stop h e is = subst (StopsAt g stages.Clocks) (sym is) (refl, (flat, h, bad_clocks.Free label, e, refl))
+clocks_stop g flat (clocking.NotWhole label period start) stop h e is =
+    subst (StopsAt g stages.Clocks) (sym is) (refl, (flat, h, bad_clocks.NotWhole label period start, e, refl))
+clocks_stop g flat clocking.Memory stop h e is = subst (StopsAt g stages.Clocks) (sym is) tt
+
 -- rows refuse
-pub rows_stop : (g : Given) (c : Chain) (fault : SensorFault) (stop : Stop) → IsFormed g c
-    → (fault ≢ sensor_faults.Memory → rows_for g c ≡ Err fault)
+pub rows_stop : (g : Given) (p : FlatProgram) (clocks : List Clock) (fault : SensorFault) (stop : Stop) → HasClocks g p clocks
+    → (fault ≢ sensor_faults.Memory → rows_for g p clocks ≡ Err fault)
     → stop ≡ stop_of stages.Rows (told_sensors fault) → StopsAt g stages.Rows stop
-rows_stop g c (sensor_faults.Row number) stop h e is = subst (StopsAt g stages.Rows) (sym is) (refl, (c, h, bad_rows.Row number, e (λ k. cc), refl))
-rows_stop g c (sensor_faults.NoSensor number) stop h e is = subst (StopsAt g stages.Rows) (sym is) (refl, (c, h, bad_rows.NoSensor number, e (λ k. cc), refl))
-rows_stop g c (sensor_faults.Order number) stop h e is = subst (StopsAt g stages.Rows) (sym is) (refl, (c, h, bad_rows.Order number, e (λ k. cc), refl))
-rows_stop g c (sensor_faults.Value number) stop h e is = subst (StopsAt g stages.Rows) (sym is) (refl, (c, h, bad_rows.Value number, e (λ k. cc), refl))
-rows_stop g c (sensor_faults.Short name have need) stop h e is = subst (StopsAt g stages.Rows) (sym is) (refl, (c, h, bad_rows.Short name have need, e (λ k. cc), refl))
-rows_stop g c sensor_faults.Memory stop h e is = subst (StopsAt g stages.Rows) (sym is) tt
+rows_stop g p clocks (sensor_faults.Row number) stop h e is = subst (StopsAt g stages.Rows) (sym is) (refl, (p, clocks, h, bad_rows.Row number, e (λ k. cc), refl))
+rows_stop g p clocks (sensor_faults.NoSensor number) stop h e is = subst (StopsAt g stages.Rows) (sym is) (refl, (p, clocks, h, bad_rows.NoSensor number, e (λ k. cc), refl))
+rows_stop g p clocks (sensor_faults.Order number) stop h e is = subst (StopsAt g stages.Rows) (sym is) (refl, (p, clocks, h, bad_rows.Order number, e (λ k. cc), refl))
+rows_stop g p clocks (sensor_faults.Value number) stop h e is = subst (StopsAt g stages.Rows) (sym is) (refl, (p, clocks, h, bad_rows.Value number, e (λ k. cc), refl))
+rows_stop g p clocks (sensor_faults.Short name have need) stop h e is = subst (StopsAt g stages.Rows) (sym is) (refl, (p, clocks, h, bad_rows.Short name have need, e (λ k. cc), refl))
+rows_stop g p clocks sensor_faults.Memory stop h e is = subst (StopsAt g stages.Rows) (sym is) tt
+
+pub relay_rows_stop : (g : Given) (c : Chain) (fault : SensorFault) (stop : Stop) → IsFormed g c
+    → (fault ≢ sensor_faults.Memory → relay_rows_for g c ≡ Err fault)
+    → stop ≡ stop_of stages.RelayRows (told_sensors fault) → StopsAt g stages.RelayRows stop
+relay_rows_stop g c (sensor_faults.Row number) stop h e is = subst (StopsAt g stages.RelayRows) (sym is) (refl, (c, h, bad_rows.Row number, e (λ k. cc), refl))
+relay_rows_stop g c (sensor_faults.NoSensor number) stop h e is = subst (StopsAt g stages.RelayRows) (sym is) (refl, (c, h, bad_rows.NoSensor number, e (λ k. cc), refl))
+relay_rows_stop g c (sensor_faults.Order number) stop h e is = subst (StopsAt g stages.RelayRows) (sym is) (refl, (c, h, bad_rows.Order number, e (λ k. cc), refl))
+relay_rows_stop g c (sensor_faults.Value number) stop h e is = subst (StopsAt g stages.RelayRows) (sym is) (refl, (c, h, bad_rows.Value number, e (λ k. cc), refl))
+relay_rows_stop g c (sensor_faults.Short name have need) stop h e is = subst (StopsAt g stages.RelayRows) (sym is) (refl, (c, h, bad_rows.Short name have need, e (λ k. cc), refl))
+relay_rows_stop g c sensor_faults.Memory stop h e is = subst (StopsAt g stages.RelayRows) (sym is) tt
+
+-- the flows have too many values
+pub values_stop : (g : Given) (p : FlatProgram) (clocks : List Clock) (fault : FlowFault) (stop : Stop) → HasClocks g p clocks
+    → IsFlowFault (values_before g.until clocks) fault → stop ≡ stop_of stages.Values (told_flow fault) → StopsAt g stages.Values stop
+values_stop g p clocks (flow_faults.Limit limit) stop h e is =
+    subst (StopsAt g stages.Values) (sym is) (refl, (p, clocks, h, e.1, ap faults.Limit e.0))
+values_stop g p clocks flow_faults.Memory stop h e is = subst (StopsAt g stages.Values) (sym is) tt
 
 -- the schedule refuses
-pub schedule_stop : (g : Given) (c : Chain) (values : List Value) (cause : RelayFault) (stop : Stop) → HasRows g c values
+pub schedule_stop : (g : Given) (c : Chain) (values : List Value) (cause : RelayFault) (stop : Stop) → HasRelayRows g c values
     → ((told : Fault) → told_relay c cause ≡ Some told → IsRelayFault (relay_of g c values) (text_of g parts.Schedule) cause)
     → StopsBy stages.Schedule (λ told. told_relay c cause ≡ Some told) stop → StopsAt g stages.Schedule stop
 schedule_stop g c values cause (stops.Unread part) h e is = is

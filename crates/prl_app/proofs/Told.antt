@@ -7,6 +7,8 @@ use Rattle.prl_app.specs.declared.faults.GrammarRefusal.{GrammarRefusal}
 use Rattle.prl_app.specs.declared.faults.GrammarRefusal.TheVariants as bad_grammar
 use Rattle.prl_app.specs.declared.faults.TypesRefusal.{TypesRefusal}
 use Rattle.prl_app.specs.declared.faults.TypesRefusal.TheVariants as bad_types
+use Rattle.prl_app.specs.declared.faults.ClocksRefusal.{ClocksRefusal}
+use Rattle.prl_app.specs.declared.faults.ClocksRefusal.TheVariants as bad_clocks
 use Rattle.prl_app.specs.declared.faults.BodiesRefusal.{BodiesRefusal}
 use Rattle.prl_app.specs.declared.faults.BodiesRefusal.TheVariants as bad_bodies
 use Rattle.prl_app.specs.declared.faults.SensorsRefusal.{SensorsRefusal}
@@ -16,8 +18,10 @@ use Rattle.prl_app.specs.declared.faults.ScheduleRefusal.TheVariants as bad_sche
 use Rattle.prl_app.specs.declared.faults.Fault.{Fault}
 use Rattle.prl_app.specs.declared.faults.Fault.TheVariants as faults
 use Rattle.prl_app.specs.Parts.{grammar_fault, types_fault, bodies_fault}
-use Rattle.prl_app.specs.Built.{Tells, device_name, sensors_fault}
-use Rattle.prl_app.specs.code.Told.{told_parse, told_types, told_body, told_sensors, told_relay}
+use Rattle.prl_app.specs.Flattened.{clock_fault}
+use Rattle.prl_app.specs.Runs.{sensors_fault}
+use Rattle.prl_app.specs.Built.{Tells, device_name}
+use Rattle.prl_app.specs.code.Told.{told_parse, told_types, told_clocks, told_body, told_sensors, told_relay}
 
 -- the fault of a refusal is told as that refusal
 pub grammar_told : (r : GrammarRefusal) → told_parse (grammar_fault r) ≡ Some (faults.Grammar r)
@@ -35,6 +39,12 @@ types_told bad_types.NoMain = refl
 types_told (bad_types.Arity at) = refl
 types_told (bad_types.Mismatch at wanted found) = refl
 types_told (bad_types.TypeFree node name) = refl
+
+pub clocks_told : (r : ClocksRefusal) → told_clocks (clock_fault r) ≡ Some (faults.Clocks r)
+clocks_told (bad_clocks.Mismatch at) = refl
+clocks_told (bad_clocks.Limit limit) = refl
+clocks_told (bad_clocks.Free label) = refl
+clocks_told (bad_clocks.NotWhole label period start) = refl
 
 pub bodies_told : (r : BodiesRefusal) → told_body (bodies_fault r) ≡ Some (faults.Bodies r)
 bodies_told (bad_bodies.Syntax at) = refl

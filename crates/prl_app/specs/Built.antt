@@ -1,13 +1,12 @@
--- Scaffolding: the programs, plans and rows that are built so far. It goes when each program has its flat program, its
--- plan and its sensors.
+-- Scaffolding: the programs, plans and rows that mode `replay` is built for so far. It goes when each program has its
+-- plan.
 use Rattle.std.specs.Prelude.{◌≡◌, ◌<◌, ◌≤◌, ℕ, zero, suc, true, false, List, [], ◌∷◌, Some, None, Result, Ok, Err}
 use Rattle.prl_base.specs.declared.limits.Limit.{Limit}
 use Rattle.prl_base.specs.declared.numbers.TaskNo.{TaskNo}
 use Rattle.prl_base.specs.declared.values.Ty.TheVariants as types
 use Rattle.prl_base.specs.declared.values.Value.{Value}
 use Rattle.prl_ast.specs.Trees.{ProgramTree}
-use Rattle.prl_flow.specs.declared.evaluation.TheConstants.{MAX_VALUES}
-use Rattle.prl_flow.specs.Counts.{dates_before, values_before}
+use Rattle.prl_flow.specs.Counts.{dates_before}
 use Rattle.prl_flow.specs.Programs.{name_of}
 use Rattle.prl_flow.specs.Rows.{Rows}
 use Rattle.prl_chains.specs.declared.chains.Chain.{Chain}
@@ -26,17 +25,15 @@ use Rattle.prl_replay.specs.Replays.{after_all}
 use Rattle.prl_relays.specs.Relays.{Relay, is_in_time, relay_plan, task_names, machine, input_clock, HasValues, IsHorizonUpTo, IsRelayFault}
 use Rattle.prl_sensors.specs.SensorRows.{Inputs, sensors_of}
 use Rattle.prl_sensors.specs.declared.faults.SensorFault.{SensorFault}
-use Rattle.prl_sensors.specs.declared.faults.SensorFault.TheVariants as sensors
 use Rattle.prl_app.specs.declared.faults.Part.TheVariants as parts
 use Rattle.prl_app.specs.declared.faults.SensorsRefusal.{SensorsRefusal}
-use Rattle.prl_app.specs.declared.faults.SensorsRefusal.TheVariants as bad_rows
 use Rattle.prl_app.specs.declared.faults.ScheduleRefusal.{ScheduleRefusal}
 use Rattle.prl_app.specs.declared.faults.ScheduleRefusal.TheVariants as bad_schedule
 use Rattle.prl_app.specs.declared.faults.Fault.{Fault}
 use Rattle.prl_app.specs.declared.faults.Fault.TheVariants as faults
 use Rattle.prl_app.specs.Given.{Given, text_of}
 use Rattle.prl_app.specs.Parts.{IsProgram}
-use Rattle.prl_app.specs.Runs.{too_many}
+use Rattle.prl_app.specs.Runs.{sensors_fault}
 
 -- the program is a chain of equations: a flat program in order, with the clocks of its flows
 pub record IsFormed (g : Given) (c : Chain) : Type 0 where
@@ -69,30 +66,22 @@ RefusesHorizon g fault =
     (c : Chain) × IsTimely g c × (limit : Limit) × IsPastLimit (relay_plan c) g.until limit × (fault ≡ faults.Limit limit)
 
 -- main's one input, which is of integers
-abbrev pub inputs_of : Chain → Inputs
-inputs_of c = record { names = name_of c.flat.in_devices 0 ∷ []; types = types.Int ∷ [] }
+abbrev pub relay_inputs : Chain → Inputs
+relay_inputs c = record { names = name_of c.flat.in_devices 0 ∷ []; types = types.Int ∷ [] }
 
 -- what the text of the sensors has for main's inputs: as many rows as they have dates are needed
-abbrev pub rows_for : Given → Chain → Result Rows SensorFault
-rows_for g c = sensors_of (inputs_of c) (dates_before g.until (input_clock c) ∷ []) (text_of g parts.Sensors)
+abbrev pub relay_rows_for : Given → Chain → Result Rows SensorFault
+relay_rows_for g c = sensors_of (relay_inputs c) (dates_before g.until (input_clock c) ∷ []) (text_of g parts.Sensors)
 
 -- the rows of the sensor have these values
-pub record HasRows (g : Given) (c : Chain) (values : List Value) : Type 0 where
+pub record HasRelayRows (g : Given) (c : Chain) (values : List Value) : Type 0 where
   pub formed : IsFormed g c
-  pub rows : rows_for g c ≡ Ok (values ∷ [])
+  pub rows : relay_rows_for g c ≡ Ok (values ∷ [])
   pub each : HasValues c values g.until
 
--- the fault of rows that is told as a refusal
-abbrev pub sensors_fault : SensorsRefusal → SensorFault
-sensors_fault (bad_rows.Row number) = sensors.Row number
-sensors_fault (bad_rows.NoSensor number) = sensors.NoSensor number
-sensors_fault (bad_rows.Order number) = sensors.Order number
-sensors_fault (bad_rows.Value number) = sensors.Value number
-sensors_fault (bad_rows.Short name have need) = sensors.Short name have need
-
-abbrev pub RefusesRows : Given → Fault → Type 0
-RefusesRows g fault =
-    (c : Chain) × IsFormed g c × (refusal : SensorsRefusal) × (rows_for g c ≡ Err (sensors_fault refusal)) × (fault ≡ faults.Sensors refusal)
+abbrev pub RefusesRelayRows : Given → Fault → Type 0
+RefusesRelayRows g fault =
+    (c : Chain) × IsFormed g c × (refusal : SensorsRefusal) × (relay_rows_for g c ≡ Err (sensors_fault refusal)) × (fault ≡ faults.Sensors refusal)
 
 abbrev pub relay_of : Given → Chain → List Value → Relay
 relay_of g c values = record { chain = c; values = values; until = g.until }
@@ -103,7 +92,7 @@ opened g c values h = machine (relay_of g c values) h
 
 -- the schedule is a legal and complete list of events of the plan, up to the horizon
 pub record IsWholeRun (g : Given) (c : Chain) (values : List Value) (h : Horizon) : Type 0 where
-  pub rows : HasRows g c values
+  pub rows : HasRelayRows g c values
   pub has_horizon : HasHorizon g c h
   pub events : List Event
   pub written : schedule_of (task_names c) (text_of g parts.Schedule) ≡ Ok events
@@ -124,15 +113,6 @@ Tells c (bad_schedule.Unfinished name job) cause =
 
 abbrev pub RefusesSchedule : Given → Fault → Type 0
 RefusesSchedule g fault =
-    (c : Chain) × (values : List Value) × HasRows g c values × (cause : RelayFault)
+    (c : Chain) × (values : List Value) × HasRelayRows g c values × (cause : RelayFault)
     × IsRelayFault (relay_of g c values) (text_of g parts.Schedule) cause
     × (refusal : ScheduleRefusal) × Tells c refusal cause × (fault ≡ faults.Schedule refusal)
-
--- its flows have few enough values
-abbrev pub HasFewValues : Given → Type 0
-HasFewValues g = (c : Chain) × IsFormed g c × (values_before g.until c.clocks.of ≤ MAX_VALUES)
-
-abbrev pub RefusesValues : Given → Fault → Type 0
-RefusesValues g fault =
-    (c : Chain) × IsFormed g c × (MAX_VALUES < values_before g.until c.clocks.of)
-    × (fault ≡ too_many (values_before g.until c.clocks.of))

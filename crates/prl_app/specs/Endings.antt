@@ -25,10 +25,14 @@ abbrev pub status_of_stage : Stage → ℕ
 status_of_stage (stages.File part) = 7
 status_of_stage stages.Grammar = 1
 status_of_stage stages.Types = 1
+status_of_stage stages.Expansion = 1
+status_of_stage stages.Causality = 1
+status_of_stage stages.Clocks = 1
 status_of_stage stages.Bodies = 1
 status_of_stage stages.Form = 1
 status_of_stage stages.Timing = 1
 status_of_stage stages.Horizon = 1
+status_of_stage stages.RelayRows = 9
 status_of_stage stages.Rows = 9
 status_of_stage stages.Schedule = 8
 status_of_stage stages.Values = 1

@@ -4,7 +4,8 @@ use Rattle.std.specs.List.{concat}
 use Rattle.std.specs.Fmt.{decimal}
 use Rattle.prl_base.specs.Limits.{what_text}
 use Rattle.prl_base.specs.declared.limits.Limit.{Limit}
-use Rattle.prl_base.specs.Texts.{type_text}
+use Rattle.prl_base.specs.Ratios.{Fraction}
+use Rattle.prl_base.specs.Texts.{fraction_text, type_text}
 use Rattle.prl_base.specs.declared.values.Ty.{Ty}
 use Rattle.prl_plan.specs.declared.events.Rule.{Rule}
 use Rattle.prl_plan.specs.Rules.{rule_text}
@@ -14,6 +15,8 @@ use Rattle.prl_app.specs.declared.faults.GrammarRefusal.{GrammarRefusal}
 use Rattle.prl_app.specs.declared.faults.GrammarRefusal.TheVariants as bad_grammar
 use Rattle.prl_app.specs.declared.faults.TypesRefusal.{TypesRefusal}
 use Rattle.prl_app.specs.declared.faults.TypesRefusal.TheVariants as bad_types
+use Rattle.prl_app.specs.declared.faults.ClocksRefusal.{ClocksRefusal}
+use Rattle.prl_app.specs.declared.faults.ClocksRefusal.TheVariants as bad_clocks
 use Rattle.prl_app.specs.declared.faults.BodiesRefusal.{BodiesRefusal}
 use Rattle.prl_app.specs.declared.faults.BodiesRefusal.TheVariants as bad_bodies
 use Rattle.prl_app.specs.declared.faults.SensorsRefusal.{SensorsRefusal}
@@ -68,6 +71,16 @@ types_line (bad_types.Arity at) = placed_line (codes "12 arity at ") at
 types_line (bad_types.Mismatch at wanted found) = mismatch_line at wanted found
 types_line (bad_types.TypeFree node name) = type_free_line node name
 
+abbrev pub not_whole_line : List ℕ → Fraction → Fraction → List ℕ
+not_whole_line label period start =
+    concat (codes "42 not whole " ∷ label ∷ codes " period " ∷ fraction_text period ∷ codes " start " ∷ fraction_text start ∷ codes "\n" ∷ [])
+
+abbrev pub clocks_line : ClocksRefusal → List ℕ
+clocks_line (bad_clocks.Mismatch at) = placed_line (codes "40 clock mismatch at ") at
+clocks_line (bad_clocks.Limit limit) = limit_line limit
+clocks_line (bad_clocks.Free label) = named_line (codes "41 clock free ") label
+clocks_line (bad_clocks.NotWhole label period start) = not_whole_line label period start
+
 abbrev pub bodies_line : BodiesRefusal → List ℕ
 bodies_line (bad_bodies.Syntax at) = placed_line (codes "23 body syntax at ") at
 bodies_line (bad_bodies.Limit limit) = limit_line limit
@@ -103,6 +116,8 @@ line_of_fault command (faults.Absent part) = named_line (codes "absent ") (file_
 line_of_fault command (faults.TooLong part) = named_line (codes "too long ") (file_name command part)
 line_of_fault command (faults.Grammar refusal) = grammar_line refusal
 line_of_fault command (faults.Types refusal) = types_line refusal
+line_of_fault command (faults.Cycle label) = named_line (codes "30 cycle ") label
+line_of_fault command (faults.Clocks refusal) = clocks_line refusal
 line_of_fault command (faults.Bodies refusal) = bodies_line refusal
 line_of_fault command faults.NotBuilt = named_line (codes "9 not built ") (file_name command parts.Program)
 line_of_fault command (faults.Sensors refusal) = sensors_line refusal

@@ -2,10 +2,12 @@
 pub mod Given
 -- The program and the bodies that the texts are.
 pub mod Parts
--- Scaffolding: the programs and plans that are built so far.
-pub mod Built
--- What is to be computed, and its text.
+-- The flat program, that it has no cycle, and its clocks.
+pub mod Flattened
+-- The rows of the sensors, the values, and the text of what is computed.
 pub mod Runs
+-- Scaffolding: the programs and plans that replays are built for so far.
+pub mod Built
 -- The stages, and the modes as lists of them.
 pub mod Stages
 -- The lines on err.

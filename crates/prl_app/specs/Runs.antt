@@ -1,80 +1,106 @@
--- What a program, its bodies and its rows ask to be computed, and the text that they mean.
-use Rattle.std.specs.Prelude.{◌≡◌, ◌+◌, ◌<◌, ◌^◌, ℕ, List, [], ◌∷◌, map}
-use Rattle.prl_body.specs.declared.bodies.CheckedBody.{CheckedBody}
-use Rattle.prl_body.specs.Checks.{BodyTree, body_tree}
-use Rattle.prl_flow.specs.declared.programs.Clocks.{Clocks}
-use Rattle.prl_flow.specs.Programs.{FlatProgram}
-use Rattle.prl_flow.specs.Rows.{Rows}
-use Rattle.prl_base.specs.declared.numbers.FlowNo.{FlowNo}
-use Rattle.prl_base.specs.declared.values.Value.{Value}
-use Rattle.prl_flow.specs.declared.programs.OutFlow.{OutFlow}
-use Rattle.prl_flow.specs.Programs.{name_of}
-use Rattle.prl_flow.specs.Solutions.{Solves, AreClocks, IsOrdered, HasRows, HasTypedRows, clock_of, values_of}
-use Rattle.prl_flow.specs.Applications.{HaveBodies}
-use Rattle.prl_flow.specs.Actuators.{actuator_text}
-use Rattle.prl_chains.specs.declared.chains.Chain.{Chain}
+-- The rows that the flows of main's inputs need, and the text of what a program computes from them.
+use Rattle.std.specs.Prelude.{◌≡◌, ◌<◌, ◌≤◌, ℕ, List, [], ◌∷◌, map, Option, Some, None, Result, Ok, Err, slice_get}
 use Rattle.prl_base.specs.declared.limits.What.TheVariants as whats
-use Rattle.prl_flow.specs.Counts.{values_before}
-use Rattle.prl_flow.specs.declared.evaluation.TheConstants.{MAX_VALUES}
+use Rattle.prl_base.specs.declared.numbers.FlowNo.{FlowNo}
+use Rattle.prl_base.specs.declared.operators.Clock.{Clock}
+use Rattle.prl_base.specs.declared.values.Ty.{Ty}
+use Rattle.prl_base.specs.declared.values.Ty.TheVariants as types
+use Rattle.prl_ast.specs.Trees.{ProgramTree}
+use Rattle.prl_ast.specs.declared.declarations.Param.{Param}
+use Rattle.prl_body.specs.declared.bodies.CheckedBody.{CheckedBody}
+use Rattle.prl_body.specs.Checks.{body_tree}
+use Rattle.prl_flow.specs.declared.programs.Flow.{Flow}
+use Rattle.prl_flow.specs.declared.programs.OutFlow.{OutFlow}
+use Rattle.prl_flow.specs.Actuators.{actuator_text}
+use Rattle.prl_flow.specs.Counts.{dates_before, values_before}
+use Rattle.prl_flow.specs.Programs.{Device, FlatProgram}
+use Rattle.prl_flow.specs.Rows.{Rows}
+use Rattle.prl_flow.specs.Solutions.{clock_of}
+use Rattle.prl_flow.specs.States.{Timed}
+use Rattle.prl_behaviours.specs.Asked.{outputs_of}
+use Rattle.prl_behaviours.specs.Behaviours.{Satisfies}
+use Rattle.prl_behaviours.specs.Texts.{node_at}
+use Rattle.prl_solutions.specs.Uniqueness.{ExactlyOne}
+use Rattle.prl_evaluation.specs.declared.evaluation.TheConstants.{MAX_VALUES}
+use Rattle.prl_sensors.specs.SensorRows.{Inputs, sensors_of}
+use Rattle.prl_sensors.specs.declared.faults.SensorFault.{SensorFault}
+use Rattle.prl_sensors.specs.declared.faults.SensorFault.TheVariants as sensors
+use Rattle.prl_app.specs.declared.faults.Part.TheVariants as parts
+use Rattle.prl_app.specs.declared.faults.SensorsRefusal.{SensorsRefusal}
+use Rattle.prl_app.specs.declared.faults.SensorsRefusal.TheVariants as bad_rows
 use Rattle.prl_app.specs.declared.faults.Fault.{Fault}
 use Rattle.prl_app.specs.declared.faults.Fault.TheVariants as faults
-use Rattle.prl_app.specs.declared.runs.Run.{Run}
+use Rattle.prl_app.specs.Given.{Given, text_of}
+use Rattle.prl_app.specs.Parts.{IsMain, AreBodies}
+use Rattle.prl_app.specs.Flattened.{HasClocks}
 
--- a flat program with its clocks, the trees of its bodies, its rows, and the date up to which it runs
-pub record Computation : Type 0 where
-  pub flat : FlatProgram
-  pub clocks : Clocks
-  pub bodies : List BodyTree
-  pub sensors : Rows
-  pub until : ℕ
+abbrev pub type_of_flow : Option Flow → Ty
+type_of_flow None = types.Int
+type_of_flow (Some flow) = flow.ty
 
--- what a chain, its bodies and the values of its input ask to be computed
-abbrev pub chain_computation : Chain → List BodyTree → List Value → ℕ → Computation
-chain_computation c bodies values until = record { flat = c.flat; clocks = c.clocks; bodies = bodies; sensors = values ∷ []; until = until }
+-- main's inputs: the names of their devices, and the types of their flows
+abbrev pub inputs_of : FlatProgram → Inputs
+inputs_of p = record {
+  names = map (λ (d : Device). d.0) p.in_devices;
+  types = map (λ (flow : FlowNo). type_of_flow (slice_get p.flows flow.0)) p.ins;
+}
 
--- what a run computes, whose bodies are checked
-abbrev pub computation_of : Run → Computation
-computation_of run = record { flat = run.flat; clocks = run.clocks; bodies = map body_tree run.bodies; sensors = run.sensors; until = run.until }
+-- how many rows each of them needs: one for each date of its flow before `until`
+abbrev pub needs_of : FlatProgram → List Clock → ℕ → List ℕ
+needs_of p clocks until = map (λ (flow : FlowNo). dates_before until (clock_of clocks flow.0)) p.ins
 
--- a run of a chain
-abbrev pub chain_run : Chain → List CheckedBody → List Value → ℕ → Run
-chain_run c bodies values until = record { flat = c.flat; clocks = c.clocks; bodies = bodies; sensors = values ∷ []; until = until }
+-- what the text of the sensors has for main's inputs
+abbrev pub rows_for : Given → FlatProgram → List Clock → Result Rows SensorFault
+rows_for g p clocks = sensors_of (inputs_of p) (needs_of p clocks g.until) (text_of g parts.Sensors)
 
--- the clocks are the program's, the flows stand in order, each application has a body that fits it, and the rows suffice
-pub record IsReady (run : Run) : Type 0 where
-  pub until : run.until < 2 ^ 31
-  pub clocks : AreClocks run.flat run.clocks.of
-  pub ordered : IsOrdered run.flat
-  pub rows : HasRows run.flat run.clocks.of run.sensors run.until
-  pub bodies : HaveBodies run.flat run.bodies
-  pub types : HasTypedRows run.flat run.sensors
+pub record HasRows (g : Given) (p : FlatProgram) (clocks : List Clock) (rows : Rows) : Type 0 where
+  pub clocked : HasClocks g p clocks
+  pub read : rows_for g p clocks ≡ Ok rows
+
+-- the fault of rows that is told as a refusal
+abbrev pub sensors_fault : SensorsRefusal → SensorFault
+sensors_fault (bad_rows.Row number) = sensors.Row number
+sensors_fault (bad_rows.NoSensor number) = sensors.NoSensor number
+sensors_fault (bad_rows.Order number) = sensors.Order number
+sensors_fault (bad_rows.Value number) = sensors.Value number
+sensors_fault (bad_rows.Short name have need) = sensors.Short name have need
+
+abbrev pub RefusesRows : Given → Fault → Type 0
+RefusesRows g fault =
+    (p : FlatProgram) × (clocks : List Clock) × HasClocks g p clocks × (refusal : SensorsRefusal)
+    × (rows_for g p clocks ≡ Err (sensors_fault refusal)) × (fault ≡ faults.Sensors refusal)
+
+-- the flows have few enough values
+abbrev pub HasFewValues : Given → Type 0
+HasFewValues g =
+    (p : FlatProgram) × (clocks : List Clock) × HasClocks g p clocks × (values_before g.until clocks ≤ MAX_VALUES)
 
 -- the fault that the flows have so many values
 abbrev pub too_many : ℕ → Fault
 too_many found = faults.Limit (record { what = whats.Values; found = found })
 
--- its flows have more values than are kept
-abbrev pub HasManyValues : Run → Fault → Type 0
-HasManyValues run fault =
-    (MAX_VALUES < values_before run.until run.clocks.of) × (fault ≡ too_many (values_before run.until run.clocks.of))
+abbrev pub RefusesValues : Given → Fault → Type 0
+RefusesValues g fault =
+    (p : FlatProgram) × (clocks : List Clock) × HasClocks g p clocks × (MAX_VALUES < values_before g.until clocks)
+    × (fault ≡ too_many (values_before g.until clocks))
 
--- the flow of main's output of number k, with its name and clock
-abbrev pub out_flow : Run → List (List Value) → ℕ → FlowNo → OutFlow
-out_flow run flows k flow =
-    record { name = name_of run.flat.out_devices k; clock = clock_of run.clocks.of flow.0; values = values_of flows flow.0 }
+-- flows with the names of these variables, one for one
+abbrev pub named_flows : List Param → List Timed → List OutFlow
+named_flows [] flows = []
+named_flows (q ∷ qs) [] = []
+named_flows (q ∷ qs) (f ∷ flows) = record { name = q.name; clock = f.clock; values = f.values } ∷ named_flows qs flows
 
--- the flows of main's outputs from number k on
-abbrev pub out_flows : Run → List (List Value) → ℕ → List FlowNo → List OutFlow
-out_flows run flows k [] = []
-out_flows run flows k (flow ∷ rest) = out_flow run flows k flow ∷ out_flows run flows (k + 1) rest
-
--- The clocks are those of the program; it has one solution on them for the bodies and the rows; and the text is that of
--- its actuators.
-pub record IsFlowsText (c : Computation) (text : List ℕ) : Type 0 where
-  pub run : Run
-  pub computed : computation_of run ≡ c
-  pub clocks : AreClocks run.flat run.clocks.of
-  pub flows : List (List Value)
-  pub solution : Solves run.flat run.clocks.of run.bodies run.sensors run.until flows
-  pub only : (others : List (List Value)) → Solves run.flat run.clocks.of run.bodies run.sensors run.until others → others ≡ flows
-  pub rows : text ≡ actuator_text run.until (out_flows run flows 0 run.flat.outs)
+-- Exactly one behaviour satisfies the program up to the date, for the bodies and the rows of the texts; and the text is
+-- that of the flows of main's outputs in it.
+pub record IsFlowsText (g : Given) (text : List ℕ) : Type 0 where
+  pub program : ProgramTree
+  pub main : ℕ
+  pub is_main : IsMain g program main
+  pub bodies : List CheckedBody
+  pub are_bodies : AreBodies g (map body_tree bodies)
+  pub flat : FlatProgram
+  pub clocks : List Clock
+  pub rows : Rows
+  pub has_rows : HasRows g flat clocks rows
+  pub one : ExactlyOne (Satisfies program main bodies rows g.until)
+  pub written : text ≡ actuator_text g.until (named_flows (node_at program main).outs (outputs_of one.one))

@@ -5,6 +5,9 @@ use Rattle.prl_syntax.specs.Parsing.{IsParsed}
 use Rattle.prl_types.specs.Typing.{IsFault}
 use Rattle.prl_body.specs.Checks.{BodyTree}
 use Rattle.prl_base.specs.declared.values.Value.{Value}
+use Rattle.prl_base.specs.declared.operators.Clock.{Clock}
+use Rattle.prl_flow.specs.Programs.{FlatProgram}
+use Rattle.prl_flow.specs.Rows.{Rows}
 use Rattle.prl_chains.specs.declared.chains.Chain.{Chain}
 use Rattle.prl_plan.specs.declared.horizons.Horizon.{Horizon}
 use Rattle.prl_print.specs.Printing.{printed}
@@ -20,20 +23,25 @@ use Rattle.prl_arguments.specs.declared.arguments.Mode.{Mode}
 use Rattle.prl_arguments.specs.declared.arguments.Mode.TheVariants as modes
 use Rattle.prl_app.specs.Given.{Given, content_of, text_of}
 use Rattle.prl_app.specs.Parts.{IsProgram, IsMain, AreBodies, RefusesBodies, grammar_fault, types_fault, bodies_fault}
-use Rattle.prl_app.specs.Built.{IsFormed, IsTimely, HasHorizon, HasRows, relay_of, IsWholeRun, HasFewValues, RefusesForm, RefusesTiming, RefusesHorizon, RefusesRows, RefusesSchedule, RefusesValues}
+use Rattle.prl_app.specs.Flattened.{IsFlattened, IsCausal, HasClocks, RefusesExpansion, RefusesCausality, RefusesClocks}
+use Rattle.prl_app.specs.Built.{IsFormed, IsTimely, HasHorizon, HasRelayRows, relay_of, IsWholeRun, RefusesForm, RefusesTiming, RefusesHorizon, RefusesRelayRows, RefusesSchedule}
 use Rattle.prl_relays.specs.Relays.{IsReplayText}
-use Rattle.prl_app.specs.Runs.{IsFlowsText, chain_computation}
+use Rattle.prl_app.specs.Runs.{HasRows, HasFewValues, IsFlowsText, RefusesRows, RefusesValues}
 
 -- a stage finds what it looks for
 abbrev pub Holds : Given → Stage → Type 0
 Holds g (stages.File part) = (bytes : List ℕ) × (content_of g part ≡ Ok bytes)
 Holds g stages.Grammar = (p : ProgramTree) × IsProgram g p
 Holds g stages.Types = (p : ProgramTree) × (main : ℕ) × IsMain g p main
+Holds g stages.Expansion = (flat : FlatProgram) × IsFlattened g flat
+Holds g stages.Causality = (flat : FlatProgram) × IsCausal g flat
+Holds g stages.Clocks = (flat : FlatProgram) × (clocks : List Clock) × HasClocks g flat clocks
 Holds g stages.Bodies = (trees : List BodyTree) × AreBodies g trees
 Holds g stages.Form = (c : Chain) × IsFormed g c
 Holds g stages.Timing = (c : Chain) × IsTimely g c
 Holds g stages.Horizon = (c : Chain) × (h : Horizon) × HasHorizon g c h
-Holds g stages.Rows = (c : Chain) × (values : List Value) × HasRows g c values
+Holds g stages.RelayRows = (c : Chain) × (values : List Value) × HasRelayRows g c values
+Holds g stages.Rows = (flat : FlatProgram) × (clocks : List Clock) × (rows : Rows) × HasRows g flat clocks rows
 Holds g stages.Schedule = (c : Chain) × (values : List Value) × (h : Horizon) × IsWholeRun g c values h
 Holds g stages.Values = HasFewValues g
 
@@ -44,12 +52,16 @@ Refuses g stages.Grammar fault =
     (refusal : GrammarRefusal) × IsParsed (text_of g parts.Program) (Err (grammar_fault refusal)) × (fault ≡ faults.Grammar refusal)
 Refuses g stages.Types fault =
     (p : ProgramTree) × IsProgram g p × (refusal : TypesRefusal) × IsFault p g.node (types_fault refusal) × (fault ≡ faults.Types refusal)
+Refuses g stages.Expansion fault = RefusesExpansion g fault
+Refuses g stages.Causality fault = RefusesCausality g fault
+Refuses g stages.Clocks fault = RefusesClocks g fault
 Refuses g stages.Bodies fault =
     (p : ProgramTree) × (main : ℕ) × IsMain g p main × (refusal : BodiesRefusal)
     × RefusesBodies p main (text_of g parts.Bodies) (bodies_fault refusal) × (fault ≡ faults.Bodies refusal)
 Refuses g stages.Form fault = RefusesForm g fault
 Refuses g stages.Timing fault = RefusesTiming g fault
 Refuses g stages.Horizon fault = RefusesHorizon g fault
+Refuses g stages.RelayRows fault = RefusesRelayRows g fault
 Refuses g stages.Rows fault = RefusesRows g fault
 Refuses g stages.Schedule fault = RefusesSchedule g fault
 Refuses g stages.Values fault = RefusesValues g fault
@@ -74,15 +86,16 @@ abbrev pub files : List Stage
 files =
     stages.File parts.Program ∷ stages.File parts.Bodies ∷ stages.File parts.Sensors ∷ stages.File parts.Schedule ∷ []
 
--- what modes that take a program with bodies have in common
+-- what modes that take a program have in common
 abbrev pub front : List Stage
-front = stages.Grammar ∷ stages.Types ∷ stages.Bodies ∷ stages.Form ∷ []
+front = stages.Grammar ∷ stages.Types ∷ stages.Expansion ∷ stages.Causality ∷ stages.Clocks ∷ []
 
 -- the stages of a mode after the files
 abbrev pub stages_after : Mode → List Stage
 stages_after modes.Print = stages.Grammar ∷ []
-stages_after modes.Flows = front ++ stages.Rows ∷ stages.Values ∷ []
-stages_after modes.Replay = front ++ stages.Timing ∷ stages.Horizon ∷ stages.Rows ∷ stages.Schedule ∷ []
+stages_after modes.Flows = front ++ stages.Bodies ∷ stages.Rows ∷ stages.Values ∷ []
+stages_after modes.Replay =
+    stages.Grammar ∷ stages.Types ∷ stages.Bodies ∷ stages.Form ∷ stages.Timing ∷ stages.Horizon ∷ stages.RelayRows ∷ stages.Schedule ∷ []
 
 -- the stages of a mode
 abbrev pub stages_of : Mode → List Stage
@@ -91,9 +104,7 @@ stages_of mode = files ++ stages_after mode
 -- the text that a mode means where its stages hold
 abbrev pub IsText : Given → Mode → List ℕ → Type 0
 IsText g modes.Print text = (p : ProgramTree) × IsProgram g p × (text ≡ printed p)
-IsText g modes.Flows text =
-    (c : Chain) × (trees : List BodyTree) × (values : List Value) × AreBodies g trees × HasRows g c values
-    × IsFlowsText (chain_computation c trees values g.until) text
+IsText g modes.Flows text = IsFlowsText g text
 IsText g modes.Replay text =
-    (c : Chain) × (values : List Value) × HasRows g c values
+    (c : Chain) × (values : List Value) × HasRelayRows g c values
     × IsReplayText (relay_of g c values) (text_of g parts.Schedule) text

@@ -1,4 +1,5 @@
 pub mod Told
 pub mod Stops
 pub mod Performed
-pub mod Numbers
+pub mod Outs
+pub mod Ratios

@@ -24,8 +24,9 @@ fn status_of_stage(stage: Stage) -> u8
     match stage {
         Stage::File(_) => 7,
         Stage::Grammar | Stage::Types | Stage::Bodies => 1,
+        Stage::Expansion | Stage::Causality | Stage::Clocks => 1,
         Stage::Form | Stage::Timing | Stage::Horizon => 1,
-        Stage::Rows => 9,
+        Stage::Rows | Stage::RelayRows => 9,
         Stage::Schedule => 8,
         Stage::Values => 1,
     }

@@ -1,6 +1,6 @@
 //! Why a stage of a command refuses. Want of memory is no refusal, so the faults of the crates below are told here without it.
 
-use prl_base::{Limit, Name, Ty};
+use prl_base::{Label, Limit, Name, Ratio, Ty};
 use prl_plan::Rule;
 
 /// A file that a command names.
@@ -44,6 +44,23 @@ pub enum TypesRefusal {
     Mismatch { at: u32, wanted: Ty, found: Ty },
     /// A flow of a node whose type the rules leave open.
     TypeFree { node: Name, name: Name },
+}
+
+/// Why the flows of a program have no clocks, as `ClockFault` of `prl_clock` has it.
+#[derive(Debug, Drop)]
+pub enum ClocksRefusal {
+    /// The constraint here, in bytes of the text, contradicts the earlier ones.
+    Mismatch(u32),
+    /// A number of a clock is past its limit.
+    Limit(Limit),
+    /// A flow whose clock the constraints leave open.
+    Free(Label),
+    /// A flow whose period or start, in ticks, is not whole, or that starts below 0.
+    NotWhole {
+        flow: Label,
+        period: Ratio,
+        start: Ratio,
+    },
 }
 
 /// Why the bodies of imported nodes are refused, as `BodyFault` of `prl_body` has it.
@@ -102,7 +119,11 @@ pub enum Fault {
     Types(TypesRefusal),
     /// The bodies of imported nodes are not of their grammar, do not fit, or lack one.
     Bodies(BodiesRefusal),
-    /// The program is not of the form that is built so far.
+    /// A cycle of flows has no delay or passes through no application: the label of a flow on it.
+    Cycle(Label),
+    /// The flows have no clocks.
+    Clocks(ClocksRefusal),
+    /// The program is not of the form that replays are built for so far.
     NotBuilt,
     /// The rows of the sensors are not right, or too few.
     Sensors(SensorsRefusal),

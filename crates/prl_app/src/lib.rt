@@ -5,6 +5,7 @@
 mod built;
 mod endings;
 mod faults;
+mod flattened;
 mod laws;
 mod lines;
 mod pipeline;
@@ -16,7 +17,8 @@ mod top;
 
 pub use endings::Ending;
 pub use faults::{
-    BodiesRefusal, Fault, GrammarRefusal, Part, ScheduleRefusal, SensorsRefusal, TypesRefusal,
+    BodiesRefusal, ClocksRefusal, Fault, GrammarRefusal, Part, ScheduleRefusal, SensorsRefusal,
+    TypesRefusal,
 };
 pub use laws::{front_is_decided, stages_come_to_an_end, stages_end_one_way};
 pub use prl_arguments::{ArgumentsFault, Command, Mode, Setting, read_arguments};

@@ -2,17 +2,19 @@
 
 ghost use Rattle.std.specs.Prelude.{◌≡◌, ◌<◌, ◌≤◌, [], unwrap_or, OnErr};
 ghost use Rattle.prl_io.specs.Growth.{IsWritten};
-ghost use Rattle.prl_app.specs.ErrorLines.{file_name, named_line, placed_line, grammar_line, mismatch_line, type_free_line, types_line, limit_line, bodies_line, short_line, sensors_line, illegal_line, unfinished_line, schedule_line, line_of_fault, line_of_stop, line_of};
+ghost use Rattle.prl_app.specs.ErrorLines.{file_name, named_line, placed_line, grammar_line, mismatch_line, type_free_line, types_line, limit_line, bodies_line, short_line, sensors_line, not_whole_line, clocks_line, illegal_line, unfinished_line, schedule_line, line_of_fault, line_of_stop, line_of};
 ghost use Rattle.prl_app.specs.Endings.{IsTold};
+ghost use Rattle.prl_app.specs.code.Ratios.{unless_whole};
 
 use crate::endings::Ending;
 use crate::faults::{
-    BodiesRefusal, Fault, GrammarRefusal, Part, ScheduleRefusal, SensorsRefusal, TypesRefusal,
+    BodiesRefusal, ClocksRefusal, Fault, GrammarRefusal, Part, ScheduleRefusal, SensorsRefusal,
+    TypesRefusal,
 };
 use crate::stages::Stop;
 use itoa::Buffer;
 use prl_arguments::Command;
-use prl_base::{Label, Limit, Ty};
+use prl_base::{Label, Limit, Ratio, Ty};
 use prl_io::{Failed, Sink, write_all, write_pieces};
 use prl_plan::Rule;
 
@@ -168,6 +170,86 @@ fn write_limit<E: Sink>(err: &mut E, limit: Limit) -> Result<(), Failed>
     )
 }
 
+/// This part of the text of a ratio that follows its numerator: none where the ratio is whole.
+fn unless_whole<'a>(ratio: Ratio, part: &'a [u8]) -> &'a [u8]
+    ensures { result.now ≡ unless_whole ratio part.now }
+{
+    if ratio.den == 1 { &[] } else { part }
+}
+
+/// The numerator and the denominator of a ratio.
+fn parts(ratio: Ratio) -> (i64, u64)
+    ensures { result ≡ (ratio.num, ratio.den) }
+{
+    (ratio.num, ratio.den)
+}
+
+/// Writes the line of a flow whose clock is not whole or starts below 0.
+fn write_not_whole<E: Sink>(
+    err: &mut E,
+    label: &[u8],
+    period: Ratio,
+    start: Ratio,
+) -> Result<(), Failed>
+    ensures grown { IsWritten (E.seen err.old).written (E.seen err.new).written (not_whole_line label.now period start) result }
+    ensures counted { (E.seen err.old).faults ≤ (E.seen err.new).faults }
+    ensures failed { OnErr result ((E.seen err.old).faults < (E.seen err.new).faults) }
+{
+    let mut first = Buffer::new();
+    let mut second = Buffer::new();
+    let mut third = Buffer::new();
+    let mut fourth = Buffer::new();
+    let period_parts = parts(period);
+    let start_parts = parts(start);
+    let period_top = first.format(period_parts.0).as_bytes();
+    let period_rest = second.format(period_parts.1).as_bytes();
+    let start_top = third.format(start_parts.0).as_bytes();
+    let start_rest = fourth.format(start_parts.1).as_bytes();
+    let front = b"42 not whole ".as_slice();
+    let middle = b" period ".as_slice();
+    let starting = b" start ".as_slice();
+    let slash = b"/".as_slice();
+    let end = b"\n".as_slice();
+    let period_mark = unless_whole(period, slash);
+    let period_rest = unless_whole(period, period_rest);
+    let start_mark = unless_whole(start, slash);
+    let start_rest = unless_whole(start, start_rest);
+    write_pieces(
+        err,
+        &[
+            front,
+            label,
+            middle,
+            period_top,
+            period_mark,
+            period_rest,
+            starting,
+            start_top,
+            start_mark,
+            start_rest,
+            end,
+        ],
+    )
+}
+
+/// Writes the line of flows without clocks.
+fn write_clocks<E: Sink>(err: &mut E, fault: &ClocksRefusal) -> Result<(), Failed>
+    ensures grown { IsWritten (E.seen err.old).written (E.seen err.new).written (clocks_line fault.now) result }
+    ensures counted { (E.seen err.old).faults ≤ (E.seen err.new).faults }
+    ensures failed { OnErr result ((E.seen err.old).faults < (E.seen err.new).faults) }
+{
+    match fault {
+        ClocksRefusal::Mismatch(at) => write_placed(err, b"40 clock mismatch at ", *at as u64),
+        ClocksRefusal::Limit(limit) => write_limit(err, *limit),
+        ClocksRefusal::Free(label) => write_two(err, b"41 clock free ", label.bytes()),
+        ClocksRefusal::NotWhole {
+            flow,
+            period,
+            start,
+        } => write_not_whole(err, flow.bytes(), *period, *start),
+    }
+}
+
 /// Writes the line of a fault of bodies.
 fn write_bodies<E: Sink>(err: &mut E, fault: &BodiesRefusal) -> Result<(), Failed>
     ensures grown { IsWritten (E.seen err.old).written (E.seen err.new).written (bodies_line fault.now) result }
@@ -236,6 +318,8 @@ fn write_fault<E: Sink>(err: &mut E, command: &Option<Command>, fault: &Fault) -
         Fault::TooLong(part) => write_two(err, b"too long ", file_name(command, *part)),
         Fault::Grammar(fault) => write_grammar(err, *fault),
         Fault::Types(fault) => write_types(err, fault),
+        Fault::Cycle(label) => write_two(err, b"30 cycle ", label.bytes()),
+        Fault::Clocks(fault) => write_clocks(err, fault),
         Fault::Bodies(fault) => write_bodies(err, fault),
         Fault::NotBuilt => write_two(err, b"9 not built ", file_name(command, Part::Program)),
         Fault::Sensors(fault) => write_sensors(err, fault),

@@ -4,9 +4,11 @@ ghost use Rattle.std.specs.Prelude.{◌≡◌, ◌<◌, ◌≤◌, ◌^◌, IfOk
 ghost use Rattle.prl_app.specs.Stages.{stages_after, IsText};
 ghost use Rattle.prl_app.specs.code.Stops.{given_of, AllHold, StopsIn, IsAnswer, IsAnswerStop};
 
-use crate::built::{check_timing, flows_of, form, plan, read_rows, replay_of};
+use crate::built::{check_timing, form, plan, read_relay_rows, replay_of};
+use crate::flattened::{clocked, flattened, ordered};
 use crate::programs::{check_types, read_bodies, read_program};
 use crate::reading::{MAX_BODIES, MAX_PROGRAM, Texts, read_texts};
+use crate::runs::{Run, flows_of, read_rows};
 use crate::stages::Stop;
 use prl_arguments::{Command, Mode};
 use prl_io::Files;
@@ -35,10 +37,19 @@ fn flows_text(alloc: Global, command: &Command, texts: &Texts) -> Result<Vec<u8>
 {
     let program = read_program(alloc, command, texts)?;
     let typed = check_types(alloc, command, texts, &program)?;
+    let flat = flattened(alloc, command, texts, &typed)?;
+    let order = ordered(alloc, command, texts, &flat)?;
+    let clocks = clocked(alloc, command, texts, &flat)?;
     let bodies = read_bodies(alloc, command, texts, &program, typed.main())?;
-    let chain = form(alloc, command, texts, &program)?;
-    let sensors = read_rows(alloc, command, texts, &chain)?;
-    flows_of(alloc, command, texts, chain, bodies, sensors)
+    let sensors = read_rows(alloc, command, texts, &flat, &clocks)?;
+    let run = Run {
+        flat,
+        clocks,
+        order,
+        bodies,
+        sensors,
+    };
+    flows_of(alloc, command, texts, &typed, &run)
 }
 
 /// Mode `replay`.
@@ -55,7 +66,7 @@ fn replayed_text(alloc: Global, command: &Command, texts: &Texts) -> Result<Vec<
     let copies = form(alloc, command, texts, &program)?;
     check_timing(command, texts, &copies)?;
     let planned = plan(alloc, command, texts, &copies)?;
-    let sensors = read_rows(alloc, command, texts, &copies)?;
+    let sensors = read_relay_rows(alloc, command, texts, &copies)?;
     replay_of(alloc, command, texts, &copies, planned, &sensors)
 }
 

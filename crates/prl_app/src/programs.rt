@@ -5,7 +5,9 @@ ghost use Rattle.prl_base.specs.Reading.{GivesBut};
 ghost use Rattle.prl_ast.specs.Trees.{program_tree};
 ghost use Rattle.prl_body.specs.Checks.{body_tree, checked};
 ghost use Rattle.prl_body.specs.Texts.{text_trees};
+ghost use Rattle.prl_body.specs.Used.{HaveBodiesOf};
 ghost use Rattle.prl_names.specs.Uses.{used_imports};
+ghost use Rattle.prl_types.specs.Typing.{IsTyped};
 ghost use Rattle.prl_app.specs.Parts.{IsProgram, IsMain, AreBodies};
 ghost use Rattle.prl_app.specs.Stages.{Holds};
 ghost use Rattle.prl_app.specs.code.Stops.{given_of, StopsAt};
@@ -15,7 +17,7 @@ use crate::reading::{MAX_BODIES, MAX_PROGRAM, Texts};
 use crate::stages::{Stage, Stop};
 use prl_arguments::Command;
 use prl_ast::Program;
-use prl_body::{Bodies, BodyFault, BodyTexts, check_bodies};
+use prl_body::{Bodies, BodyFault, BodyTexts, check_bodies, used_imports_have_bodies};
 use prl_bodytext::parse_bodies;
 use prl_names::{Names, right_names_stand_for_something, used_imports};
 use prl_print::programs_are_in_range;
@@ -110,6 +112,7 @@ pub fn check_types<'a>(
     requires { IsProgram (given_of command.now texts.now) (program_tree program.now) }
     ensures program { IfOk result (λ t. t.program ≡ program.now) }
     ensures found { IfOk result (λ t. IsMain (given_of command.now texts.now) (program_tree program.now) t.main) }
+    ensures typed { IfOk result (λ t. IsTyped (program_tree program.now) (given_of command.now texts.now).node t.main t.types) }
     ensures holds { IfOk result (λ _. Holds (given_of command.now texts.now) Stage.Types) }
     ensures stop { IfErr result (StopsAt (given_of command.now texts.now) Stage.Types) }
 {
@@ -145,9 +148,11 @@ pub fn read_bodies(
     requires main { IsMain (given_of command.now texts.now) (program_tree program.now) main }
     requires text { length texts.now.bodies.items ≤ MAX_BODIES }
     ensures found { IfOk result (λ bodies. AreBodies (given_of command.now texts.now) (map body_tree bodies)) }
+    ensures have { IfOk result (HaveBodiesOf (program_tree program.now).imports (used_imports (program_tree program.now) main)) }
     ensures holds { IfOk result (λ _. Holds (given_of command.now texts.now) Stage.Bodies) }
     ensures stop { IfErr result (StopsAt (given_of command.now texts.now) Stage.Bodies) }
 {
+    used_imports_have_bodies();
     let written = parse_bodies(alloc, &texts.bodies)?;
     Ok(check_texts(alloc, program, main, &written)?)
 }

@@ -12,20 +12,28 @@ pub enum Stage {
     Grammar,
     /// Names and types.
     Types,
+    /// The limit on the flows of the expansion.
+    Expansion,
+    /// Cycles of flows.
+    Causality,
+    /// The clocks of flows.
+    Clocks,
     /// The bodies of imported nodes.
     Bodies,
-    /// Scaffolding: the form of programs that is built.
+    /// The rows of the sensors.
+    Rows,
+    /// The limit of values.
+    Values,
+    /// Scaffolding: the form of programs that replays are built for.
     Form,
     /// Scaffolding: the form of programs that have a plan.
     Timing,
     /// The horizon of the plan.
     Horizon,
-    /// The rows of the sensor.
-    Rows,
+    /// Scaffolding: the rows of the one sensor of a replay.
+    RelayRows,
     /// The events of the schedule.
     Schedule,
-    /// The limit of values.
-    Values,
 }
 
 /// Why a command gives no text.

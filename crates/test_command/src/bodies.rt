@@ -62,27 +62,26 @@ fn running_sums_and_bodies_that_are_refused(rt: HostRuntime) -> Result<(), Fail>
     )
 }
 
-/// A program whose actuator has one of the four outputs of `F`; the place of `o` in the left names tells which.
-fn one_of_four(alloc: Global, lefts: &str) -> Result<String, Fail> {
-    Ok(format!(in alloc;
-        "imported node F(i: int) returns (o, p, q, r: int) wcet 1; sensor i wcet 1; actuator o wcet 1;
-node main (i: int rate (10, 0)) returns (o) var x, y, z; let ({lefts}) = F(i); tel"
-    )?)
-}
+/// A program whose actuators have the four outputs of `F`.
+const FOUR: &str =
+    "imported node F(i: int) returns (o, p, q, r: int) wcet 1; sensor i wcet 1; actuator o wcet 1; actuator p wcet 1; actuator q wcet 1; actuator r wcet 1;
+node main (i: int rate (10, 0)) returns (o, p, q, r) let (o, p, q, r) = F(i); tel";
 
 #[test]
 fn numbers_wrap_and_division_is_total(rt: HostRuntime) -> Result<(), Fail> {
     let alloc = rt.alloc();
-    let body = "body F { o = i + 1; p = (-9223372036854775807 - 1) / -1; q = i / 0; r = i % 0; }";
     let cases = [
-        ("o, x, y, z", "o,0,0,-9223372036854775808\n"),
-        ("x, o, y, z", "o,0,0,-9223372036854775808\n"),
-        ("x, y, o, z", "o,0,0,0\n"),
-        ("x, y, z, o", "o,0,0,9223372036854775807\n"),
+        (
+            "body F { o = i + 1; p = (-9223372036854775807 - 1) / -1; q = i / 0; r = i % 0; }",
+            "o,0,0,-9223372036854775808\np,0,0,-9223372036854775808\nq,0,0,0\nr,0,0,9223372036854775807\n",
+        ),
+        (
+            "body F { o = i + 1; p = (-2147483647 - 1) / -1; q = i / 0; r = i % 0; }",
+            "o,0,0,-9223372036854775808\np,0,0,2147483648\nq,0,0,0\nr,0,0,9223372036854775807\n",
+        ),
     ];
-    for (lefts, rows) in cases {
-        let program = one_of_four(alloc, lefts)?;
-        let files = with_bodies(alloc, program.as_str(), "i,0,9223372036854775807\n", body)?;
+    for (body, rows) in cases {
+        let files = with_bodies(alloc, FOUR, "i,0,9223372036854775807\n", body)?;
         check(&rt, alloc, &line("10"), files, (0, rows, ""))?;
     }
     Ok(())
@@ -98,19 +97,26 @@ node main (i: int rate (10, 0)) returns (o) let o = {right}; tel"
 }
 
 #[test]
-fn bodies_come_before_the_form(rt: HostRuntime) -> Result<(), Fail> {
+fn bodies_come_after_the_clocks(rt: HostRuntime) -> Result<(), Fail> {
     let alloc = rt.alloc();
     let cases = [
-        ("tail G(i)", "", "20 body missing G\n"),
-        ("tail G(i)", "body G { y = x; }", "9 not built p.prl\n"),
-        ("other(i)", "", "20 body missing G\n"),
-        ("i", "", "9 not built p.prl\n"),
-        ("i", "body G { }", "21 body arity at 5\n"),
+        ("G(o)", "", (1, "", "30 cycle o\n")),
+        (
+            "9 :: G(i)",
+            "",
+            (1, "", "42 not whole o period 10 start -10\n"),
+        ),
+        ("tail G(i)", "", (1, "", "20 body missing G\n")),
+        ("tail G(i)", "body G { y = x; }", (0, "", "")),
+        ("other(i)", "", (1, "", "20 body missing G\n")),
+        ("other(i)", "body G { y = x + 1; }", (0, "o,0,0,2\n", "")),
+        ("i", "", (0, "o,0,0,1\n", "")),
+        ("i", "body G { }", (1, "", "21 body arity at 5\n")),
     ];
     for (right, body, told) in cases {
         let program = with_another_node(alloc, right)?;
         let files = with_bodies(alloc, program.as_str(), SIX, body)?;
-        check(&rt, alloc, &line("10"), files, (1, "", told))?;
+        check(&rt, alloc, &line("10"), files, told)?;
     }
     Ok(())
 }

@@ -1,6 +1,6 @@
 //! Command lines through the top calls: what is written to `out` and `err`, and the status.
 
-use crate::lines::{SIX, check, files, flows_line, program, words};
+use crate::lines::{SIX, check, files, flows_line, program, sampling_files, sampling_line, words};
 use prl_app::prelude;
 use prl_io::{MemFiles, MemSink, NoProbe};
 use samples::SAMPLING;
@@ -31,7 +31,6 @@ fn programs_rows_and_dates(rt: HostRuntime) -> Result<(), Fail> {
         ),
         ("9999999999 fby i", SIX, "10", (0, "o,0,0,9999999999\n", "")),
         ("i", "i,0,1\n", "20", (9, "", "84 short i 1 2\n")),
-        ("tail i", SIX, "60", (1, "", "9 not built p.prl\n")),
         (
             "9223372036854775808",
             SIX,
@@ -282,9 +281,8 @@ fn absent_and_long_files(rt: HostRuntime) -> Result<(), Fail> {
 #[test]
 fn a_write_that_fails(rt: HostRuntime) -> Result<(), Fail> {
     let alloc = rt.alloc();
-    let words = words(alloc, &flows_line("60"))?;
-    let text = program(alloc, "i")?;
-    let mut files = with_rows(alloc, text.as_str().as_bytes())?;
+    let words = words(alloc, &sampling_line("60"))?;
+    let mut files = sampling_files(alloc, SIX, &[])?;
     let mut narrow = MemSink::new(alloc, 1000, 4, Vec::from_slice(alloc, &[2])?)?;
     let mut err = MemSink::new(alloc, 1000, 1000, Vec::new(alloc))?;
     let status = prelude(

@@ -8,6 +8,8 @@ mod bodies;
 #[cfg(test)]
 mod commands;
 #[cfg(test)]
+mod flows;
+#[cfg(test)]
 mod fronts;
 #[cfg(test)]
 mod lines;

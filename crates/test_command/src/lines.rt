@@ -3,6 +3,7 @@
 use prl_app::prelude_alone;
 use prl_base::Label;
 use prl_io::{MemFiles, MemSink};
+use samples::{SAMPLING, SAMPLING_BODIES};
 use std::alloc::Global;
 use std::process::Abort;
 use std::test::Fail;
@@ -25,6 +26,32 @@ pub fn flows_line(until: &str) -> [&str; 8] {
         "--until",
         until,
     ]
+}
+
+/// Mode `flows` on the sampling program with its bodies, up to a date.
+pub fn sampling_line(until: &str) -> [&str; 10] {
+    [
+        "prelude",
+        "flows",
+        "--program",
+        "s.prl",
+        "--bodies",
+        "s.bod",
+        "--sensors",
+        "s.csv",
+        "--until",
+        until,
+    ]
+}
+
+/// The files of the sampling program with these rows, in which the readings of these numbers fail.
+pub fn sampling_files(alloc: Global, rows: &str, fails: &[u64]) -> Result<MemFiles, Fail> {
+    let entries = [
+        ("s.prl", SAMPLING),
+        ("s.bod", SAMPLING_BODIES),
+        ("s.csv", rows.as_bytes()),
+    ];
+    files(alloc, &entries, fails)
 }
 
 /// The words of a command line.

@@ -6,8 +6,14 @@ use Rattle.prl_types.specs.declared.faults.TypeFault.{TypeFault}
 use Rattle.prl_types.specs.declared.faults.TypeFault.TheVariants as typing
 use Rattle.prl_body.specs.declared.faults.BodyFault.{BodyFault}
 use Rattle.prl_body.specs.declared.faults.BodyFault.TheVariants as body_faults
-use Rattle.prl_flow.specs.declared.evaluation.FlowFault.{FlowFault}
-use Rattle.prl_flow.specs.declared.evaluation.FlowFault.TheVariants as flows
+use Rattle.prl_expansion.specs.declared.counts.ExpandFault.{ExpandFault}
+use Rattle.prl_expansion.specs.declared.counts.ExpandFault.TheVariants as expanding
+use Rattle.prl_causal.specs.declared.causality.CausalFault.{CausalFault}
+use Rattle.prl_causal.specs.declared.causality.CausalFault.TheVariants as causality
+use Rattle.prl_clock.specs.declared.calculus.ClockFault.{ClockFault}
+use Rattle.prl_clock.specs.declared.calculus.ClockFault.TheVariants as clocking
+use Rattle.prl_evaluation.specs.declared.evaluation.FlowFault.{FlowFault}
+use Rattle.prl_evaluation.specs.declared.evaluation.FlowFault.TheVariants as flows
 use Rattle.prl_chains.specs.declared.chains.Chain.{Chain}
 use Rattle.prl_relays.specs.declared.relays.RelayFault.{RelayFault}
 use Rattle.prl_relays.specs.declared.relays.RelayFault.TheVariants as relays
@@ -15,6 +21,7 @@ use Rattle.prl_sensors.specs.declared.faults.SensorFault.{SensorFault}
 use Rattle.prl_sensors.specs.declared.faults.SensorFault.TheVariants as sensors
 use Rattle.prl_app.specs.declared.faults.GrammarRefusal.TheVariants as bad_grammar
 use Rattle.prl_app.specs.declared.faults.TypesRefusal.TheVariants as bad_types
+use Rattle.prl_app.specs.declared.faults.ClocksRefusal.TheVariants as bad_clocks
 use Rattle.prl_app.specs.declared.faults.BodiesRefusal.TheVariants as bad_bodies
 use Rattle.prl_app.specs.declared.faults.SensorsRefusal.TheVariants as bad_rows
 use Rattle.prl_app.specs.declared.faults.ScheduleRefusal.TheVariants as bad_schedule
@@ -47,6 +54,21 @@ told_types (typing.Arity at) = Some (faults.Types (bad_types.Arity at))
 told_types (typing.Mismatch at wanted found) = Some (faults.Types (bad_types.Mismatch at wanted found))
 told_types (typing.TypeFree node name) = Some (faults.Types (bad_types.TypeFree node name))
 told_types typing.Memory = None
+
+abbrev pub told_expand : ExpandFault → Option Fault
+told_expand (expanding.Limit limit) = Some (faults.Limit limit)
+told_expand expanding.Memory = None
+
+abbrev pub told_causal : CausalFault → Option Fault
+told_causal (causality.Cycle label) = Some (faults.Cycle label)
+told_causal causality.Memory = None
+
+abbrev pub told_clocks : ClockFault → Option Fault
+told_clocks (clocking.Mismatch at) = Some (faults.Clocks (bad_clocks.Mismatch at))
+told_clocks (clocking.Limit limit) = Some (faults.Clocks (bad_clocks.Limit limit))
+told_clocks (clocking.Free label) = Some (faults.Clocks (bad_clocks.Free label))
+told_clocks (clocking.NotWhole label period start) = Some (faults.Clocks (bad_clocks.NotWhole label period start))
+told_clocks clocking.Memory = None
 
 abbrev pub told_body : BodyFault → Option Fault
 told_body (body_faults.Syntax at) = Some (faults.Bodies (bad_bodies.Syntax at))
