@@ -3,6 +3,7 @@
 
 #[cfg(test)]
 mod arguments;
+mod autopilot;
 #[cfg(test)]
 mod bodies;
 #[cfg(test)]
