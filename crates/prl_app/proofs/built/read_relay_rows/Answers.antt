@@ -12,7 +12,7 @@ read c =
     let chain = c.args.chain.now in
     let needs : List ℕ = dates_before c.args.command.now.until (input_clock chain) ∷ [] in
     is_read c.rows_are_typed_and_enough.ensures (given_of c.args.command.now c.args.texts.now) chain c.in-Ok.sensors c.requires
-    (subst (λ (text : List ℕ). sensors_of (relay_inputs chain) needs text ≡ Ok c.in-Ok.sensors) c.deref.ensures.value (c.in-Ok.ensures tt))
+    (subst (λ (text : List ℕ). sensors_of (relay_inputs chain) needs text ≡ Ok c.in-Ok.sensors) c.deref.ensures.value c.in-Ok.ensures)
     (rw c.rows_needed-needed.ensures.exact at c.rows_needed-needed.ensures.each)
 
 pub returns-in-Ok-clause-found : goal.returns-in-Ok-clause-found
