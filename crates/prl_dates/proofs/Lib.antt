@@ -11,3 +11,4 @@ mod Settles
 mod Lowering
 mod DateTables
 mod Circles
+mod TurnSteps

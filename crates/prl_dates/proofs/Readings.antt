@@ -55,7 +55,7 @@ fits_first operators.Tail ops n fits = (fits.0, tt)
 fits_first (operators.Cons c) ops n fits = (fits.0, tt)
 fits_first (operators.Fby c) ops n fits = (fits.0, tt)
 
-pred_same : (n : ℤ) → n -ℤ pos 1 ≡ pred_ℤ n
+pub pred_same : (n : ℤ) → n -ℤ pos 1 ≡ pred_ℤ n
 pred_same n = (let e = pred_is n in omega (arith, ints, e))
 
 pub fits_rest : (op : Op) (ops : List Op) (n : ℤ) → PrecedingFits (op ∷ ops) n → PrecedingFits ops (preceding_number op n)

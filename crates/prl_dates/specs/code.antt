@@ -5,3 +5,4 @@ pub mod Lanes
 pub mod Tables
 pub mod Windows
 pub mod Runs
+pub mod Turns

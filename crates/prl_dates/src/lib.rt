@@ -11,6 +11,7 @@ mod laws;
 mod numbers;
 mod rounds;
 mod runs;
+mod turns;
 mod windows;
 
 pub use encoding::encode;

@@ -1,4 +1,5 @@
-//! Runs of jobs that the same job precedes, found without a walk for each job.
+//! The jobs that precede those of a hyperperiod, found run by run and turn by turn without a walk for
+//! each job.
 
 ghost use Rattle.std.specs.Prelude.{◌≡◌, ◌+◌, ◌<◌, ◌≤◌, ◌++◌, ◌^◌, ℕ, ℤ, pos, ◌≤ℤ◌, length, replicate, IfOk, slice_index_or};
 ghost use Rattle.prl_plan.specs.Precedence.{preceding};
@@ -6,6 +7,7 @@ ghost use Rattle.prl_plan.specs.Ranges.{PrecedingFits};
 ghost use Rattle.prl_dates.specs.code.Runs.{Rises, AreFitting, IsSameTo};
 
 use crate::numbers::preceding_job;
+use crate::turns::turn_within;
 use prl_base::Op;
 use std::alloc::{AllocError, Global};
 
@@ -70,21 +72,40 @@ fn end_of_run(ops: &[Op], from: u64, value: i64, jobs: u64) -> u64
     last + 1
 }
 
-/// The numbers of the jobs that precede the first `jobs` jobs over these operators.
+/// The numbers of the jobs that precede the first `count` jobs, with room for more.
+fn first_numbers(alloc: Global, ops: &[Op], count: u64, room: u64) -> Result<Vec<i64>, AllocError>
+    requires fits { AreFitting ops.now count }
+    requires few { count < 2 ^ 32 }
+    requires rises { Rises ops.now }
+    ensures long { IfOk result (λ v. length v.items ≡ count) }
+    ensures each { IfOk result (λ v. (n : ℕ) → n < count → slice_index_or v.items n (pos 0) ≡ preceding ops.now (pos n)) }
+{
+    let mut numbers = Vec::with_capacity(alloc, room as usize)?;
+    let mut n = 0;
+    while n < count {
+        let number = preceding_job(ops, n as i64);
+        let end = end_of_run(ops, n, number, count);
+        push_times(&mut numbers, number, end - n)?;
+        n = end;
+    }
+    Ok(numbers)
+}
+
+/// The numbers of the jobs that precede the first `jobs` jobs over these operators: those of one
+/// turn, and then each from the job a turn before.
 pub(crate) fn numbers_over(alloc: Global, ops: &[Op], jobs: u64) -> Result<Vec<i64>, AllocError>
+    requires some { 1 ≤ jobs }
     requires fits { AreFitting ops.now jobs }
     requires few { jobs < 2 ^ 32 }
     requires rises { Rises ops.now }
     ensures long { IfOk result (λ v. length v.items ≡ jobs) }
     ensures each { IfOk result (λ v. (n : ℕ) → n < jobs → slice_index_or v.items n (pos 0) ≡ preceding ops.now (pos n)) }
 {
-    let mut numbers = Vec::with_capacity(alloc, jobs as usize)?;
-    let mut n = 0;
-    while n < jobs {
-        let number = preceding_job(ops, n as i64);
-        let end = end_of_run(ops, n, number, jobs);
-        push_times(&mut numbers, number, end - n)?;
-        n = end;
+    let turn = turn_within(ops, jobs);
+    let mut numbers = first_numbers(alloc, ops, turn.jobs, jobs)?;
+    for n in turn.jobs..jobs {
+        let before = numbers[(n - turn.jobs) as usize];
+        numbers.push(before + turn.higher as i64)?;
     }
     Ok(numbers)
 }

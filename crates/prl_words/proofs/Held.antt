@@ -1,18 +1,16 @@
 -- A word whose operands are each read by several jobs in turn.
-use Rattle.std.proofs.Common.{◌≡◌, ◌+◌, ◌-◌, ◌*◌, ◌/◌, ◌%◌, ◌<◌, ◌≤◌, ◌^◌, ℕ, List, Option, Some, inl, inr, sym, ◌∙◌, ap, arith, length, get_or, slice_get, slice_index}
-use Rattle.std.proofs.Math.Nat.{div-div-eq-div-mul, div-lt_iff_lt-mul, mod-add-div', mul-le-mul_left, mul-le-mul_right, div-mul-le_self, lt-div-mul-add}
+use Rattle.std.proofs.Common.{◌≡◌, ◌+◌, ◌-◌, ◌*◌, ◌/◌, ◌%◌, ◌<◌, ◌≤◌, ◌^◌, ℕ, Some, inl, inr, sym, ◌∙◌, ap, arith, length, get_or, slice_get, slice_index}
+use Rattle.std.proofs.Math.Nat.{div-lt_iff_lt-mul, mod-add-div', mul-le-mul_left, mul-le-mul_right, div-mul-le_self, lt-div-mul-add}
 use Rattle.std.proofs.lemmas.Nat.{mod_below}
 use Rattle.std.proofs.lemmas.Bool.{cases_lt}
 use Rattle.std.proofs.lemmas.Option.{slice_get-get_or, same_Some}
-use Rattle.prl_base.specs.declared.operators.Op.{Op}
 use Rattle.prl_base.specs.declared.values.Value.{Value}
 use Rattle.prl_base.specs.declared.values.Value.TheVariants as values
 use Rattle.std.specs.Prelude.{pos}
-use Rattle.prl_plan.specs.declared.walks.Operand.{Operand}
 use Rattle.prl_plan.specs.declared.walks.Operand.TheVariants as operands
 use Rattle.prl_plan.specs.declared.words.Word.{Word}
 use Rattle.prl_plan.specs.Words.{number_at, word_at, IsWord}
-use Rattle.prl_words.specs.code.Holding.{IsSpread, IsHeld}
+use Rattle.prl_words.specs.code.Holding.{IsHeld}
 use Rattle.prl_words.specs.code.Shortest.{IsSteady}
 use Rattle.prl_plan.proofs.WordNumbers.{after_prefix, next_turns}
 use Rattle.prl_words.proofs.Extended.{told_constant}

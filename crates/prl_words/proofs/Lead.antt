@@ -1,15 +1,15 @@
--- The `*^` at the consumer's end.
-use Rattle.std.proofs.Common.{◌≡◌, ◌+◌, ◌*◌, ◌/◌, ◌<◌, ◌≤◌, ℕ, List, [], ◌∷◌, drop, length, get_or, refl, sym, ◌∙◌, ap, subst, arith}
+-- The `*^` and `~>` at the consumer's end.
+use Rattle.std.proofs.Common.{◌≡◌, ◌+◌, ◌*◌, ◌/◌, ◌<◌, ◌≤◌, ℕ, List, ◌∷◌, drop, length, get_or, sym, ◌∙◌, ap, subst, arith}
 use Rattle.std.proofs.Math.Nat.{div-div-eq-div-mul, mul-le-mul_left}
 use Rattle.std.proofs.lemmas.List.{drop_more}
 use Rattle.prl_base.specs.declared.operators.Op.{Op}
 use Rattle.prl_base.specs.declared.operators.Op.TheVariants as operators
-use Rattle.prl_plan.specs.declared.walks.Operand.{Operand}
+use Rattle.prl_base.specs.declared.ratios.Ratio.{Ratio}
 use Rattle.prl_plan.specs.Operands.{walk}
 use Rattle.prl_words.specs.Counts.{HaveCounts}
 use Rattle.prl_words.specs.code.Holding.{IsLeading}
 use Rattle.prl_words.proofs.SoFar.{counts_here}
-use Rattle.prl_words.proofs.Turns.{first_some, second_some}
+use Rattle.prl_words.proofs.Turns.{first_some}
 
 pub no_leading : (ops : List Op) → IsLeading ops 0 1
 no_leading ops = record {
@@ -56,6 +56,20 @@ one_leading ops i k times below at jobs counts is =
           is.walks n ∙ ap (λ (xs : List Op). walk xs (n / times)) split
           ∙ ap (λ (x : ℕ). walk (drop (i + 1) ops) x) (div-div-eq-div-mul n times k);
       counts = counts_more ops i k times split is;
+    }
+
+-- one that leaves each instance its number
+pub shift_leading : (ops : List Op) (i : ℕ) (q : Ratio) (times : ℕ) → i < length ops → operators.Shift q ≡ get_or ops i (operators.Shift q) → IsLeading ops i times →
+    IsLeading ops (i + 1) times
+shift_leading ops i q times below at is =
+    let split = split_at ops i (operators.Shift q) below at in
+    record {
+      within = omega (arith, below);
+      some = is.some;
+      walks = λ n. is.walks n ∙ ap (λ (xs : List Op). walk xs (n / times)) split;
+      counts = λ jobs counts. (let b = is.counts jobs counts in
+          let c : HaveCounts (operators.Shift q ∷ drop (i + 1) ops) b.0 = subst (λ (xs : List Op). HaveCounts xs b.0) split b.1 in
+          (c.1.0, c.1.2, b.2 ∙ ap (λ (x : ℕ). times * x) (sym c.1.1)));
     }
 
 pub split_up : (ops : List Op) (i k : ℕ) → i < length ops → operators.Up k ≡ get_or ops i (operators.Up k) → drop i ops ≡ operators.Up k ∷ drop (i + 1) ops

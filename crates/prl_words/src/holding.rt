@@ -1,4 +1,4 @@
-//! Words whose operands are each read by several jobs in turn: what leading `*^` come to.
+//! Words whose operands are each read by several jobs in turn: what leading `*^` and `~>` come to.
 
 ghost use Rattle.std.specs.Prelude.{◌≡◌, ◌*◌, ◌≤◌, ◌<◌, ◌^◌, ℕ, IfOk, length};
 ghost use Rattle.prl_words.specs.Counts.{HaveCounts};
@@ -8,7 +8,7 @@ use prl_base::{Op, Seq};
 use prl_plan::Word;
 use std::alloc::{AllocError, Global};
 
-/// The `*^` at the consumer's end.
+/// The `*^` and `~>` at the consumer's end.
 #[derive(Clone, Copy, Debug, PartialEq, Eq)]
 pub(crate) struct Leading {
     /// How many operators they are.
@@ -17,7 +17,7 @@ pub(crate) struct Leading {
     pub(crate) times: u64,
 }
 
-/// The `*^` at the consumer's end.
+/// The `*^` at the consumer's end, and the `~>` among them, which leave each instance its number.
 pub(crate) fn leading_rates(ops: &[Op]) -> Leading
     requires { (jobs : ℕ) × HaveCounts ops.now jobs }
     ensures { IsLeading ops.now result.operators result.times }
@@ -26,6 +26,7 @@ pub(crate) fn leading_rates(ops: &[Op]) -> Leading
     for (i, op) in ops.iter().enumerate() {
         match *op {
             Op::Up(k) => times *= u64::from(k),
+            Op::Shift(_) => {}
             _ => {
                 return Leading {
                     operators: i,

@@ -1,2 +1,5 @@
 mod Lists
 mod Worked
+mod Jobs
+mod Shifted
+mod TwoLanes

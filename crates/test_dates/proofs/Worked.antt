@@ -18,18 +18,18 @@ use Rattle.test_dates.specs.Graphs.{fast_and_slow, circle, IsCircle, pair, held}
 use Rattle.test_dates.proofs.Lists.{Each, Differ, each_got, differ_at}
 
 -- lists of bytes that differ in the first one
-heads : (a b : List ℕ) → (slice_index a 0 ≡ slice_index b 0 → ⊥) → a ≢ b
+pub heads : (a b : List ℕ) → (slice_index a 0 ≡ slice_index b 0 → ⊥) → a ≢ b
 heads a b other same = other (ap (λ (xs : List ℕ). slice_index xs 0) same)
 
 -- an actuator's one port, where the edge is the last of so many
-one_port : (graph : TaskGraph) (i e : ℕ) (edge : Edge) → slice_get graph.edges e ≡ Some edge → edge.to.0 ≡ i →
+pub one_port : (graph : TaskGraph) (i e : ℕ) (edge : Edge) → slice_get graph.edges e ≡ Some edge → edge.to.0 ≡ i →
     Each (λ (x : Edge). x.to.0 ≡ i → x.port ≡ 0) graph.edges → HasOnePort graph i
 one_port graph i e edge stands to all = record {
   one = (e, edge, stands, to);
   only = λ k x is. each_got (λ (y : Edge). y.to.0 ≡ i → y.port ≡ 0) graph.edges all k x is;
 }
 
-each_at_op : (ops : List Op) → Each (IsOperatorFor types.Int) ops → (k : ℕ) (op : Op) → slice_get ops k ≡ Some op → IsOperatorFor types.Int op
+pub each_at_op : (ops : List Op) → Each (IsOperatorFor types.Int) ops → (k : ℕ) (op : Op) → slice_get ops k ≡ Some op → IsOperatorFor types.Int op
 each_at_op ops all = each_got (IsOperatorFor types.Int) ops all
 
 module _ (wcet : ℕ) (some : 1 ≤ wcet) (small : wcet < 2 ^ 31) where

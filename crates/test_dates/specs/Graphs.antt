@@ -1,5 +1,6 @@
 -- Worked task graphs.
-use Rattle.std.specs.Prelude.{◌*◌, ◌<◌, ◌≤◌, ◌^◌, ℕ, pos, List, [], ◌∷◌, codes}
+use Rattle.std.specs.Prelude.{◌≡◌, ◌*◌, ◌<◌, ◌≤◌, ◌^◌, ℕ, pos, ◌≤ℤ◌, nat_abs, List, [], ◌∷◌, codes}
+use Rattle.prl_base.specs.Ratios.{Fraction}
 use Rattle.prl_base.specs.declared.operators.Op.{Op}
 use Rattle.prl_base.specs.declared.operators.Op.TheVariants as operators
 use Rattle.prl_base.specs.declared.values.Ty.TheVariants as types
@@ -60,3 +61,17 @@ pair ops due hyper = record {
 -- three jobs of the actuator read the same instance
 abbrev pub held : List Op
 held = operators.Up 3 ∷ operators.Down 3 ∷ []
+
+-- a sensor, and an actuator that reads it q periods later
+abbrev pub later : Fraction → ℕ → ℕ → TaskGraph
+later q period start = record {
+  tasks = task_of (codes "i") (kinds.Sensor 0) period 0 1 period ∷ task_of (codes "o") (kinds.Actuator 0) period start 1 period ∷ [];
+  edges = edge_of 0 1 0 period (operators.Shift q ∷ []) ∷ [];
+  hyper = period;
+}
+
+pub record IsLater (q : Fraction) (period start : ℕ) : Type 0 where
+  pub some : (1 ≤ period) × (1 ≤ q.den) × (pos 0 ≤ℤ q.num)
+  pub short : period ≤ 10000
+  pub early : start < 2 ^ 31
+  pub later : q.den * start ≡ nat_abs q.num * period

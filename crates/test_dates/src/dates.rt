@@ -3,6 +3,7 @@
 ghost use Rattle.prl_plan.specs.Graphs.{IsWellFormed};
 
 use crate::graphs::{circle_graph, fast_and_slow_graph, half, held_graph, pair_graph};
+use crate::lanes::{beside_graph, crowded_graph, two_lanes_graph};
 use prl_base::TaskNo;
 use prl_dates::{DateFault, encode};
 use prl_plan::{TaskGraph, Window};
@@ -113,6 +114,44 @@ fn of_a_circle(rt: HostRuntime) -> Result<(), Fail> {
         has: 10,
     };
     let fault = encode(rt.alloc(), &circle_graph(rt.alloc(), 5, 6, 6, 100, later)?).err();
+    assert_eq!(rt; fault, Some(narrow));
+    Ok(())
+}
+
+// The hyperperiod is 999,000, and one window tells all jobs of a lane.
+#[test]
+fn of_two_lanes(rt: HostRuntime) -> Result<(), Fail> {
+    let graph = two_lanes_graph(rt.alloc())?;
+    assert!(rt; has_list(rt.alloc(), &graph, 0, &[(0, 999)]));
+    assert!(rt; has_list(rt.alloc(), &graph, 1, &[(0, 998)]));
+    assert!(rt; has_list(rt.alloc(), &graph, 2, &[(1, 1000)]));
+    assert!(rt; has_list(rt.alloc(), &graph, 3, &[(1, 999)]));
+    Ok(())
+}
+
+// Whether one processor can meet the dates is not asked here.
+#[test]
+fn of_two_sensors_at_once(rt: HostRuntime) -> Result<(), Fail> {
+    let graph = crowded_graph(rt.alloc())?;
+    assert!(rt; has_list(rt.alloc(), &graph, 0, &[(0, 3)]));
+    assert!(rt; has_list(rt.alloc(), &graph, 1, &[(0, 3)]));
+    assert!(rt; has_list(rt.alloc(), &graph, 2, &[(2, 4)]));
+    assert!(rt; has_list(rt.alloc(), &graph, 3, &[(2, 4)]));
+    Ok(())
+}
+
+// A hyperperiod has 302 jobs, and a chain of as many, from the release of G at -1505 on, needs 1812
+// ticks more.
+#[test]
+fn of_a_circle_beside_a_lane(rt: HostRuntime) -> Result<(), Fail> {
+    let later = half().ok_or("a half")?;
+    let fault = encode(rt.alloc(), &beside_graph(rt.alloc(), later)?).err();
+    let narrow = DateFault::Narrow {
+        task: TaskNo(1),
+        job: 0,
+        needs: 307,
+        has: 10,
+    };
     assert_eq!(rt; fault, Some(narrow));
     Ok(())
 }

@@ -8,7 +8,7 @@ use prl_base::{Clock, Label, Op, Ratio, Seq, TaskNo, Ty, Value};
 use prl_plan::{Edge, Kind, Producer, Task, TaskGraph};
 use std::alloc::{AllocError, Global};
 
-fn task(
+pub(crate) fn task(
     alloc: Global,
     name: &[u8],
     kind: Kind,
@@ -27,13 +27,13 @@ fn task(
     })
 }
 
-fn from_zero(period: u64) -> Clock
+pub(crate) fn from_zero(period: u64) -> Clock
     ensures { result ≡ record { period = period; start = 0 } }
 {
     Clock { period, start: 0 }
 }
 
-fn edge(from: u32, to: u32, port: u32, period: u64, ops: Vec<Op>) -> Edge
+pub(crate) fn edge(from: u32, to: u32, port: u32, period: u64, ops: Vec<Op>) -> Edge
     ensures { result ≡ edge_of from to port period ops.items }
 {
     Edge {

@@ -1,6 +1,14 @@
-//! Tests of encoded dates.
+//! Tests of words, encoded dates, cells and plans of task graphs that are worked out by hand.
 #![tactic(auto)]
 
 #[cfg(test)]
 mod dates;
 pub mod graphs;
+mod lanes;
+mod later;
+#[cfg(test)]
+mod lookups;
+#[cfg(test)]
+mod plans;
+#[cfg(test)]
+mod words;

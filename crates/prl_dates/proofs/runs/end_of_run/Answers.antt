@@ -1,7 +1,6 @@
-use Rattle.std.proofs.Common.{◌≡◌, ◌+◌, ◌<◌, ◌≤◌, ℕ, arith}
+use Rattle.std.proofs.Common.{ℕ, arith}
 use Rattle.std.specs.Prelude.{pos}
 use Rattle.std.proofs.lemmas.Int.{ints}
-use Rattle.prl_plan.specs.Precedence.{preceding}
 use Rattle.prl_dates.proofs.runs.end_of_run.Goals as goal
 
 pub returns-clause-same : goal.returns-clause-same

@@ -1,4 +1,4 @@
-use Rattle.std.proofs.Common.{◌≡◌, ◌-◌, ◌<◌, ◌≤◌, ℕ, length, slice_index_or}
+use Rattle.std.proofs.Common.{◌≡◌, ◌<◌, ℕ, length, slice_index_or}
 use Rattle.std.specs.Prelude.{pos}
 use Rattle.prl_plan.specs.Precedence.{preceding}
 use Rattle.prl_dates.proofs.runs.numbers_over.Given as goal
@@ -6,9 +6,5 @@ use Rattle.prl_dates.proofs.runs.numbers_over.Given as goal
 abbrev pub invariant-loop-n : goal.invariant-loop-n
 invariant-loop-n l = record {
   long : length l.numbers.items ≡ l.n;
-  within : l.n ≤ l.jobs;
   each : (k : ℕ) → k < l.n → slice_index_or l.numbers.items k (pos 0) ≡ preceding l.ops (pos k);
 }
-
-abbrev pub decreases-loop-n : goal.decreases-loop-n
-decreases-loop-n l = l.jobs - l.n

@@ -2,8 +2,7 @@ use Rattle.std.proofs.Common.{◌≡◌, ◌+◌, ◌<◌, ◌≤◌, ◌++◌, 
 use Rattle.std.proofs.lemmas.List.{take_more, drop_more, take_all, drop_all}
 use Rattle.prl_base.specs.declared.operators.Op.{Op}
 use Rattle.prl_plan.specs.declared.words.Word.{Word}
-use Rattle.prl_words.specs.Counts.{HaveCounts}
-use Rattle.prl_words.specs.code.Steps.{IsSoFar, IsComposed, IsExtended}
+use Rattle.prl_words.specs.code.Steps.{IsSoFar, IsExtended}
 use Rattle.prl_words.proofs.SoFar.{room_so_far, next_so_far, first_so_far}
 use Rattle.prl_words.proofs.composing.composed.Goals as goal
 

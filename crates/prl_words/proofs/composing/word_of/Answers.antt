@@ -1,5 +1,4 @@
-use Rattle.std.proofs.Common.{◌≡◌, ◌+◌, ◌*◌, ◌/◌, ◌<◌, ◌≤◌, ◌^◌, ℕ, List, [], drop, length, sym, ap, subst, ◌∙◌, arith, length-drop}
-use Rattle.std.specs.Prelude.{IfOk}
+use Rattle.std.proofs.Common.{◌≡◌, ◌*◌, ◌/◌, ◌<◌, ◌≤◌, ◌^◌, ℕ, List, [], drop, length, sym, ap, subst, ◌∙◌, arith, length-drop}
 use Rattle.std.proofs.Math.Nat.{mul-le-mul_left, mul-le-mul_right}
 use Rattle.std.proofs.lemmas.List.{take_rest}
 use Rattle.prl_base.specs.declared.operators.Op.{Op}
@@ -10,9 +9,9 @@ use Rattle.prl_words.specs.code.Holding.{IsLeading, IsHeld}
 use Rattle.prl_words.specs.code.Shortest.{IsSteady, IsShortened}
 use Rattle.prl_words.specs.code.Steps.{IsSoFar, IsComposed}
 use Rattle.prl_words.specs.Counts.{HaveCounts}
-use Rattle.prl_words.proofs.Held.{held_word, operand_held, steady_held}
+use Rattle.prl_words.proofs.Held.{operand_held, steady_held}
 use Rattle.prl_words.proofs.SoFar.{counts_here, steady_so_far, word_shortest}
-use Rattle.prl_words.proofs.Turns.{first_some, second_some}
+use Rattle.prl_words.proofs.Turns.{second_some}
 use Rattle.prl_words.proofs.composing.word_of.Goals as goal
 
 -- what the slow word comes to

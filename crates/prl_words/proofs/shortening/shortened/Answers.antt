@@ -1,6 +1,5 @@
-use Rattle.std.proofs.Common.{◌≡◌, ◌-◌, ◌≤◌, ℕ, List, take, refl, sym, ◌∙◌, ap, subst, arith, rules}
+use Rattle.std.proofs.Common.{◌≡◌, ◌-◌, ℕ, List, take, refl, ◌∙◌, subst, arith, rules}
 use Rattle.prl_plan.specs.Repeats.{IsLeastRepeat}
-use Rattle.prl_plan.specs.Words.{number_at}
 use Rattle.prl_words.specs.code.Shortest.{rise_of}
 use Rattle.prl_words.proofs.Shortest.{shortest_step}
 use Rattle.prl_words.proofs.shortening.shortened.Goals as goal

@@ -1,0 +1,171 @@
+-- Turns: after how many jobs the jobs that precede them come again.
+use Rattle.std.proofs.Common.{◌≡◌, ◌+◌, ◌-◌, ◌*◌, ◌/◌, ◌<◌, ◌≤◌, ◌^◌, ◌++◌, w64, to_z, of_z, ℕ, zero, suc, List, [], ◌∷◌, take, length, get_or, refl, sym, ◌∙◌, ap, subst, arith}
+use Rattle.std.specs.Prelude.{ℤ, pos, negsuc, ◌+ℤ◌, ◌*ℤ◌}
+use Rattle.std.specs.Int.{IsGcd}
+use lib.IntN.{suc_ℤ, pred_ℤ}
+use Rattle.std.proofs.Math.Nat.{div-mul_cancel, div-le_self, mul-le-mul_left}
+use Rattle.std.proofs.lemmas.Int.{ints, to_z-of_z, to_z_pos}
+use Rattle.std.proofs.lemmas.List.{take_more, take_all}
+use Rattle.prl_base.specs.declared.operators.Op.{Op}
+use Rattle.prl_base.specs.declared.operators.Op.TheVariants as operators
+use Rattle.prl_base.specs.declared.ratios.Ratio.{Ratio}
+use Rattle.prl_base.specs.declared.values.Value.{Value}
+use Rattle.prl_base.specs.Operators.{preceding_number, floor_div}
+use Rattle.prl_plan.specs.Precedence.{preceding}
+use Rattle.prl_plan.specs.Ranges.{Fits64, HasFactor, PrecedingFits}
+use Rattle.prl_plan.proofs.Floors.{suc_is, pred_is}
+use Rattle.prl_plan.proofs.Periods.{floor_shift, mul_plus}
+use Rattle.prl_dates.specs.declared.turns.Turn.{Turn}
+use Rattle.prl_dates.specs.code.Runs.{AreFitting}
+use Rattle.prl_dates.specs.code.Turns.{StepsBy, IsTurnUnder}
+use Rattle.prl_dates.proofs.LaneSteps.{fits_low, fits_high, fits_between}
+use Rattle.prl_dates.proofs.Readings.{fits_rest, pred_same}
+
+-- a product that is not 0 has no factor 0
+first_some : (a b whole : ℕ) → a * b ≡ whole → 1 ≤ whole → 1 ≤ a
+first_some zero b whole is some = absurd (let e : zero * b ≡ 0 = omega arith in omega (arith, is, some, e))
+first_some (suc a) b whole is some = omega arith
+
+pub divisor_some : (k h g : ℕ) → 1 ≤ k → IsGcd k h g → 1 ≤ g
+divisor_some k h g some gcd = first_some g (k / g) k ((let e : g * (k / g) ≡ k / g * g = omega arith in e) ∙ div-mul_cancel g gcd.0) some
+
+-- several turns on
+steps_times : (ops : List Op) (jobs higher : ℕ) → StepsBy ops jobs higher → (times : ℕ) → StepsBy ops (jobs * times) (higher * times)
+steps_times ops jobs higher steps zero n =
+    let none : jobs * 0 ≡ 0 = omega arith in
+    let still : higher * 0 ≡ 0 = omega arith in
+    ap (λ (z : ℤ). preceding ops z) (let e : n +ℤ pos (jobs * 0) ≡ n = omega (arith, ints, none) in e) ∙ omega (arith, ints, still)
+steps_times ops jobs higher steps (suc times) n =
+    let more : jobs * suc times ≡ jobs * times + jobs = omega arith in
+    let up : higher * suc times ≡ higher * times + higher = omega arith in
+    let turn = steps (n +ℤ pos (jobs * times)) in
+    let rest = steps_times ops jobs higher steps times n in
+    ap (λ (z : ℤ). preceding ops z) (let e : n +ℤ pos (jobs * suc times) ≡ (n +ℤ pos (jobs * times)) +ℤ pos jobs = omega (arith, ints, more) in e)
+    ∙ omega (arith, ints, turn, rest, up)
+
+preceding_append : (ops : List Op) (op : Op) (n : ℤ) → preceding (ops ++ op ∷ []) n ≡ preceding_number op (preceding ops n)
+preceding_append [] op n = refl
+preceding_append (x ∷ ops) op n = preceding_append ops op (preceding_number x n)
+
+-- one more operator at the producer's end
+steps_append : (front : List Op) (op : Op) (turn after : Turn) → StepsBy front turn.jobs turn.higher → IsTurnUnder op turn after → StepsBy (front ++ op ∷ []) after.jobs after.higher
+steps_append front op turn after steps under n =
+    preceding_append front op (n +ℤ pos after.jobs)
+    ∙ ap (λ (j : ℕ). preceding_number op (preceding front (n +ℤ pos j))) under.jobs
+    ∙ ap (λ (z : ℤ). preceding_number op z) (steps_times front turn.jobs turn.higher steps under.times n)
+    ∙ under.steps (preceding front n)
+    ∙ ap (λ (z : ℤ). z +ℤ pos after.higher) (sym (preceding_append front op n))
+
+pub some_under : (op : Op) (turn after : Turn) → 1 ≤ turn.jobs → IsTurnUnder op turn after → 1 ≤ after.jobs
+some_under op turn after some under =
+    let is = under.jobs in
+    let more : turn.jobs * 1 ≤ turn.jobs * under.times = mul-le-mul_left turn.jobs under.some in
+    omega (arith, is, some, more)
+
+pub steps_next : (ops : List Op) (i : ℕ) (op : Op) (turn after : Turn) → i < length ops → op ≡ get_or ops i op → StepsBy (take i ops) turn.jobs turn.higher →
+    IsTurnUnder op turn after → StepsBy (take (i + 1) ops) after.jobs after.higher
+steps_next ops i op turn after below is steps under =
+    let split : take (i + 1) ops ≡ take i ops ++ op ∷ [] = take_more ops i op below ∙ ap (λ (o : Op). take i ops ++ o ∷ []) (sym is) in
+    subst (λ (front : List Op). StepsBy front after.jobs after.higher) (sym split) (steps_append (take i ops) op turn after steps under)
+
+pub steps_all : (ops : List Op) (i jobs higher : ℕ) → length ops ≤ i → StepsBy (take i ops) jobs higher → StepsBy ops jobs higher
+steps_all ops i jobs higher past steps = subst (λ (front : List Op). StepsBy front jobs higher) (take_all i ops past) steps
+
+pub under_up : (k g jobs higher : ℕ) → 1 ≤ k → IsGcd k higher g → (more : ℕ) → more ≡ jobs * (k / g) →
+    IsTurnUnder (operators.Up k) (record { jobs = jobs; higher = higher }) (record { jobs = more; higher = higher / g })
+under_up k g jobs higher some gcd more more_is =
+    let factor : k / g * g ≡ k = div-mul_cancel g gcd.0 in
+    let step : higher / g * g ≡ higher = div-mul_cancel g gcd.1 in
+    let both : higher * (k / g) ≡ k * (higher / g) =
+    ap (λ (x : ℕ). x * (k / g)) (sym step)
+    ∙ (let e : higher / g * g * (k / g) ≡ k / g * g * (higher / g) = omega arith in e)
+    ∙ ap (λ (x : ℕ). x * (higher / g)) factor in
+    record {
+      times = k / g;
+      some = first_some (k / g) g k factor some;
+      jobs = more_is;
+      steps = λ n. ap (λ (h : ℕ). floor_div (n +ℤ pos h) k) both ∙ floor_shift n k (higher / g) some;
+    }
+
+pub under_down : (k jobs higher more : ℕ) → more ≡ higher * k →
+    IsTurnUnder (operators.Down k) (record { jobs = jobs; higher = higher }) (record { jobs = jobs; higher = more })
+under_down k jobs higher more more_is = record {
+  times = 1;
+  some = omega arith;
+  jobs = omega arith;
+  steps = λ n. mul_plus k (higher * 1) n ∙ ap (λ (h : ℕ). preceding_number (operators.Down k) n +ℤ pos h) ((let e : k * (higher * 1) ≡ higher * k = omega arith in e) ∙ sym more_is);
+}
+
+same_turn : (op : Op) (turn : Turn) → StepsBy (op ∷ []) turn.higher turn.higher → IsTurnUnder op turn turn
+same_turn op turn steps = record {
+  times = 1;
+  some = omega arith;
+  jobs = omega arith;
+  steps = subst (λ (h : ℕ). StepsBy (op ∷ []) h turn.higher) (let e : turn.higher ≡ turn.higher * 1 = omega arith in e) steps;
+}
+
+suc_plus : (n : ℤ) (c : ℕ) → suc_ℤ (n +ℤ pos c) ≡ suc_ℤ n +ℤ pos c
+suc_plus n c = (let a = suc_is (n +ℤ pos c) in let b = suc_is n in omega (arith, ints, a, b))
+
+pred_plus : (n : ℤ) (c : ℕ) → pred_ℤ (n +ℤ pos c) ≡ pred_ℤ n +ℤ pos c
+pred_plus n c = (let a = pred_is (n +ℤ pos c) in let b = pred_is n in omega (arith, ints, a, b))
+
+pub under_shift : (q : Ratio) (turn : Turn) → IsTurnUnder (operators.Shift q) turn turn
+under_shift q turn = same_turn (operators.Shift q) turn (λ n. refl)
+
+pub under_tail : (turn : Turn) → IsTurnUnder operators.Tail turn turn
+under_tail turn = same_turn operators.Tail turn (λ n. suc_plus n turn.higher)
+
+pub under_cons : (v : Value) (turn : Turn) → IsTurnUnder (operators.Cons v) turn turn
+under_cons v turn = same_turn (operators.Cons v) turn (λ n. pred_plus n turn.higher)
+
+pub under_fby : (v : Value) (turn : Turn) → IsTurnUnder (operators.Fby v) turn turn
+under_fby v turn = same_turn (operators.Fby v) turn (λ n. pred_plus n turn.higher)
+
+pub one_turn : StepsBy [] 1 1
+one_turn n = refl
+
+-- the factors on the way
+factor_first : (op : Op) (ops : List Op) (n : ℤ) → PrecedingFits (op ∷ ops) n → HasFactor op
+factor_first (operators.Up k) ops n fits = fits.0
+factor_first (operators.Down k) ops n fits = fits.0
+factor_first (operators.Shift q) ops n fits = tt
+factor_first operators.Tail ops n fits = tt
+factor_first (operators.Cons c) ops n fits = tt
+factor_first (operators.Fby c) ops n fits = tt
+
+pub factor_at : (ops : List Op) (n : ℤ) → PrecedingFits ops n → (i : ℕ) (d : Op) → i < length ops → HasFactor (get_or ops i d)
+factor_at [] n fits i d below = absurd (omega arith)
+factor_at (op ∷ ops) n fits zero d below = factor_first op ops n fits
+factor_at (op ∷ ops) n fits (suc i) d below = factor_at ops (preceding_number op n) (fits_rest op ops n fits) i d (omega (arith, below))
+
+-- the number of the job that precedes fits
+floor_fits : (n : ℤ) (k : ℕ) → Fits64 n → Fits64 (floor_div n k)
+floor_fits (pos n) k fits = (let h = fits_high (pos n) fits in let less = div-le_self n k in fits_between (pos (n / k)) (omega (arith, ints)) (omega (arith, ints, h, less)))
+floor_fits (negsuc n) k fits = (let l = fits_low (negsuc n) fits in let less = div-le_self n k in fits_between (negsuc (n / k)) (omega (arith, ints, l, less)) (omega (arith, ints)))
+
+pub preceding_small : (ops : List Op) (n : ℤ) → Fits64 n → PrecedingFits ops n → Fits64 (preceding ops n)
+preceding_small [] n small fits = small
+preceding_small (operators.Up k ∷ ops) n small fits = preceding_small ops (floor_div n k) (floor_fits n k small) fits.1
+preceding_small (operators.Down k ∷ ops) n small fits = preceding_small ops (pos k *ℤ n) fits.1 fits.2
+preceding_small (operators.Shift q ∷ ops) n small fits = preceding_small ops n small fits
+preceding_small (operators.Tail ∷ ops) n small fits =
+    preceding_small ops (suc_ℤ n) (subst (λ (z : ℤ). Fits64 z) (sym (suc_is n)) fits.0) (fits_rest operators.Tail ops n fits)
+preceding_small (operators.Cons c ∷ ops) n small fits =
+    preceding_small ops (pred_ℤ n) (subst (λ (z : ℤ). Fits64 z) (pred_same n) fits.0) (fits_rest (operators.Cons c) ops n fits)
+preceding_small (operators.Fby c ∷ ops) n small fits =
+    preceding_small ops (pred_ℤ n) (subst (λ (z : ℤ). Fits64 z) (pred_same n) fits.0) (fits_rest (operators.Fby c) ops n fits)
+
+-- one turn later
+pub turned : (ops : List Op) (jobs turn higher n : ℕ) → AreFitting ops jobs → jobs < 2 ^ 32 → n < jobs → turn ≤ n → StepsBy ops turn higher →
+    preceding ops (pos (n - turn)) +ℤ pos higher ≡ preceding ops (pos n)
+turned ops jobs turn higher n fits few below past steps =
+    sym (steps (pos (n - turn))) ∙ ap (λ (z : ℤ). preceding ops z) (let e : pos (n - turn) +ℤ pos turn ≡ pos n = omega (arith, ints, past) in e)
+
+pub first_fits : (ops : List Op) (jobs n : ℕ) → AreFitting ops jobs → jobs < 2 ^ 32 → n < jobs → Fits64 (preceding ops (pos n))
+first_fits ops jobs n fits few below = preceding_small ops (pos n) (fits_between (pos n) (omega (arith, ints)) (omega (arith, ints, few, below))) (fits n below)
+
+-- the sum as it is computed
+pub sum_computed : (before : ℤ) (higher : ℕ) → Fits64 before → higher < 2 ^ 63 → to_z w64 (of_z w64 before) +ℤ to_z w64 higher ≡ before +ℤ pos higher
+sum_computed before higher fits small =
+    ap (λ (z : ℤ). z +ℤ to_z w64 higher) (to_z-of_z w64 before fits) ∙ ap (λ (z : ℤ). before +ℤ z) (to_z_pos w64 higher small)
