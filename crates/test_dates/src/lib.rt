@@ -3,4 +3,4 @@
 
 #[cfg(test)]
 mod dates;
-pub mod graphs;
+mod graphs;
