@@ -3,7 +3,7 @@
 
 #[cfg(test)]
 mod dates;
-pub mod graphs;
+mod graphs;
 mod lanes;
 mod later;
 #[cfg(test)]

@@ -2,8 +2,6 @@
 #![tactic(auto)]
 
 #[cfg(test)]
-mod dispatches;
-#[cfg(test)]
 mod machines;
 #[cfg(test)]
 mod plans;
