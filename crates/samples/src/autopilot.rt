@@ -7,16 +7,16 @@ pub const AUTOPILOT: &[u8] =
     b"-- A longitudinal flight controller: it holds a height and an airspeed.
 -- A tick is a tenth of a millisecond. Gyro and servo run each 5 ms, height and climb are measured
 -- each 10 ms, the inner loops run each 20 ms, the guidance each 50 ms, and the modes each 100 ms.
--- Heights are in centimetres, speeds in centimetres a second, pitch rates and angles in hundredths
--- of a degree.
+-- Heights are in centimetres, speeds and climbs in centimetres a second, angles in hundredths of
+-- a degree, pitch rates in hundredths of a degree a second, thrust in ten-thousandths of the full.
 
-imported node Mean(a, b: int) returns (mean: int) wcet 1;
+imported node Mean(now, before: int; later: bool) returns (mean: int) wcet 1;
 imported node Error(wanted, measured: int) returns (error: int) wcet 1;
-imported node Modes(engage, alarm: bool; error: int) returns (hold, capture: bool) wcet 4;
-imported node Guidance(hold, capture: bool; error: int) returns (climb: int) wcet 20;
+imported node Modes(engage, alarm: bool; error: int) returns (hold, acquire: bool) wcet 4;
+imported node Guidance(hold, acquire: bool; error: int) returns (climb: int) wcet 20;
 imported node Pitch(wanted, climb, pitch_rate: int; saturated: bool) returns (angle: int) wcet 8;
 imported node Throttle(hold: bool; error: int) returns (thrust: int) wcet 6;
-imported node Servo(wanted, angle: int) returns (drive, moved: int; saturated: bool) wcet 2;
+imported node Servo(wanted, before: int) returns (angle: int; saturated: bool) wcet 2;
 imported node Watch(pitch_rate: int; saturated: bool) returns (alarm: bool) wcet 4;
 
 sensor engage wcet 1;
@@ -31,17 +31,16 @@ actuator thrust wcet 1;
 actuator holding wcet 1;
 actuator alarm wcet 1;
 
--- The mean of a value and of the one before.
+-- The mean of a value and of the one before; the first value alone.
 node smooth (raw: int) returns (value: int)
 let
-  value = Mean(raw, 0 fby raw);
+  value = Mean(raw, 0 fby raw, false fby true);
 tel
 
--- The servo goes towards the angle that is wanted; it knows where it stood one period ago.
-node actuation (wanted: int) returns (drive: int; saturated: bool)
-  var angle;
+-- The servo turns towards the angle that is wanted; it knows where it stood one period ago.
+node actuation (wanted: int) returns (angle: int; saturated: bool)
 let
-  (drive, angle, saturated) = Servo(wanted, 0 fby angle);
+  (angle, saturated) = Servo(wanted, 0 fby angle);
 tel
 
 node autopilot
@@ -51,15 +50,15 @@ node autopilot
    pitch_rate: int rate (50, 0);
    airspeed: int rate (200, 1/2))
 returns (elevator: due 40; thrust; holding; alarm)
-  var error, hold, capture, climb_wanted, angle, saturated, turning;
+  var error, hold, acquire, climb_wanted, angle, saturated, turning;
 let
   -- Each 50 ms: how far the height is from the one wanted.
   error = Error(height_wanted *^ 2, smooth(height) /^ 5);
   -- Each 100 ms: the modes. An alarm of the last round lets the height go.
-  (hold, capture) = Modes(engage, false fby alarm, error /^ 2);
+  (hold, acquire) = Modes(engage, false fby alarm, error /^ 2);
   holding = hold;
   -- Each 50 ms: the climb to ask for.
-  climb_wanted = Guidance(hold *^ 2, capture *^ 2, error);
+  climb_wanted = Guidance(hold *^ 2, acquire *^ 2, error);
   -- Each 20 ms: the angle of the elevator, from the last guidance and from what the servo told.
   turning = smooth(pitch_rate);
   angle = Pitch((0 fby climb_wanted) *^ 5 /^ 2, smooth(climb) /^ 2, turning /^ 4,
@@ -69,35 +68,35 @@ let
   -- Each 20 ms: the throttle. The airspeed is measured half a period earlier.
   thrust = Throttle((false fby hold) *^ 5,
                     Error(airspeed_wanted *^ 5, 0 :: (smooth(airspeed) ~> 1/2)));
-  -- Each 100 ms: an alarm where the servo stood at its limit while the nose turned fast.
+  -- Each 100 ms: an alarm where the servo turned as fast as it can while the nose turned fast.
   alarm = Watch(turning /^ 20, (false fby saturated) /^ 20);
 tel
 ";
 
 /// The bodies of its imports.
-pub const AUTOPILOT_BODIES: &[u8] = b"body Mean { mean = (a + b) / 2; }
+pub const AUTOPILOT_BODIES: &[u8] = b"body Mean { mean = if(later, (now + before) / 2, now); }
 body Error { error = wanted - measured; }
 
--- Engaged until an alarm; far from the height it is captured, near it is held.
+-- Engaged until an alarm. Far from the height wanted it is acquired, near it is held.
 body Modes {
   reg engaged = false;
   hold = (engage or engaged) and not alarm;
-  capture = (engage or engaged) and not alarm and (error > 1000 or error < -1000);
+  acquire = (engage or engaged) and not alarm and (error > 1000 or error < -1000);
   engaged = (engage or engaged) and not alarm;
 }
 
--- A constant climb while the height is captured, then in proportion to the error and to its sum.
+-- A constant climb while the height is acquired, then in proportion to the error and to its sum.
 body Guidance {
   reg sum = 0;
-  climb = if(not hold, 0, if(capture, if(error > 0, 500, -500), error / 4 + sum / 16));
-  sum = if(hold and not capture, sum + error / 8, 0);
+  climb = if(not hold, 0, if(acquire, if(error > 0, 500, -500), error / 4 + sum / 16));
+  sum = if(hold and not acquire, sum + error / 8, 0);
 }
 
--- No more is summed up while the servo is at its limit.
+-- No more is summed up while the servo turns as fast as it can.
 body Pitch {
   reg sum = 0;
-  angle = (wanted - climb) / 2 - 3 * pitch_rate + sum;
-  sum = if(saturated, sum, sum + (wanted - climb) / 16);
+  angle = (wanted - climb) / 8 - pitch_rate / 4 + sum;
+  sum = if(saturated, sum, sum + (wanted - climb) / 64);
 }
 
 body Throttle {
@@ -106,12 +105,11 @@ body Throttle {
   sum = if(hold, sum + error / 4, 0);
 }
 
--- At most 3 degrees in one period.
+-- At most 0.3 degrees in one period, which is 60 degrees a second.
 body Servo {
-  drive = if(wanted - angle > 300, 300, if(wanted - angle < -300, -300, wanted - angle));
-  moved = angle
-    + if(wanted - angle > 300, 300, if(wanted - angle < -300, -300, wanted - angle));
-  saturated = wanted - angle > 300 or wanted - angle < -300;
+  angle = before
+    + if(wanted - before > 30, 30, if(wanted - before < -30, -30, wanted - before));
+  saturated = wanted - before > 30 or wanted - before < -30;
 }
 
 -- An alarm stays for three rounds.
@@ -216,86 +214,86 @@ climb,36,-560
 climb,37,-605
 climb,38,-650
 climb,39,-695
-pitch_rate,0,-50
-pitch_rate,1,-13
-pitch_rate,2,24
-pitch_rate,3,-40
+pitch_rate,0,-10
+pitch_rate,1,-3
+pitch_rate,2,4
+pitch_rate,3,-10
 pitch_rate,4,-3
-pitch_rate,5,34
-pitch_rate,6,-30
-pitch_rate,7,7
-pitch_rate,8,44
-pitch_rate,9,-20
-pitch_rate,10,17
-pitch_rate,11,-47
+pitch_rate,5,4
+pitch_rate,6,-10
+pitch_rate,7,-3
+pitch_rate,8,4
+pitch_rate,9,-10
+pitch_rate,10,-3
+pitch_rate,11,4
 pitch_rate,12,-10
-pitch_rate,13,27
-pitch_rate,14,-37
-pitch_rate,15,2000
-pitch_rate,16,2037
-pitch_rate,17,1973
-pitch_rate,18,2010
-pitch_rate,19,2047
-pitch_rate,20,1983
-pitch_rate,21,2020
-pitch_rate,22,1956
-pitch_rate,23,-7
-pitch_rate,24,30
-pitch_rate,25,-34
-pitch_rate,26,3
-pitch_rate,27,40
-pitch_rate,28,-24
-pitch_rate,29,13
-pitch_rate,30,50
-pitch_rate,31,-14
-pitch_rate,32,23
-pitch_rate,33,-41
-pitch_rate,34,-4
-pitch_rate,35,33
-pitch_rate,36,-31
-pitch_rate,37,6
-pitch_rate,38,43
-pitch_rate,39,-21
-pitch_rate,40,16
-pitch_rate,41,-48
-pitch_rate,42,-11
-pitch_rate,43,26
-pitch_rate,44,-38
-pitch_rate,45,-1
-pitch_rate,46,36
-pitch_rate,47,-28
-pitch_rate,48,9
-pitch_rate,49,46
-pitch_rate,50,-18
-pitch_rate,51,19
-pitch_rate,52,-45
-pitch_rate,53,-8
-pitch_rate,54,29
-pitch_rate,55,-35
-pitch_rate,56,2
-pitch_rate,57,39
-pitch_rate,58,-25
-pitch_rate,59,12
-pitch_rate,60,49
-pitch_rate,61,-15
-pitch_rate,62,22
-pitch_rate,63,-42
-pitch_rate,64,-5
-pitch_rate,65,32
-pitch_rate,66,-32
-pitch_rate,67,5
-pitch_rate,68,42
-pitch_rate,69,-22
-pitch_rate,70,15
-pitch_rate,71,-49
-pitch_rate,72,-12
-pitch_rate,73,25
-pitch_rate,74,-39
-pitch_rate,75,-2
-pitch_rate,76,35
-pitch_rate,77,-29
-pitch_rate,78,8
-pitch_rate,79,45
+pitch_rate,13,-3
+pitch_rate,14,4
+pitch_rate,15,1990
+pitch_rate,16,1997
+pitch_rate,17,2004
+pitch_rate,18,1990
+pitch_rate,19,1997
+pitch_rate,20,2004
+pitch_rate,21,1990
+pitch_rate,22,1997
+pitch_rate,23,4
+pitch_rate,24,-10
+pitch_rate,25,-3
+pitch_rate,26,4
+pitch_rate,27,-10
+pitch_rate,28,-3
+pitch_rate,29,4
+pitch_rate,30,-10
+pitch_rate,31,-3
+pitch_rate,32,4
+pitch_rate,33,-10
+pitch_rate,34,-3
+pitch_rate,35,4
+pitch_rate,36,-10
+pitch_rate,37,-3
+pitch_rate,38,4
+pitch_rate,39,-10
+pitch_rate,40,-3
+pitch_rate,41,4
+pitch_rate,42,-10
+pitch_rate,43,-3
+pitch_rate,44,4
+pitch_rate,45,-10
+pitch_rate,46,-3
+pitch_rate,47,4
+pitch_rate,48,-10
+pitch_rate,49,-3
+pitch_rate,50,4
+pitch_rate,51,-10
+pitch_rate,52,-3
+pitch_rate,53,4
+pitch_rate,54,-10
+pitch_rate,55,-3
+pitch_rate,56,4
+pitch_rate,57,-10
+pitch_rate,58,-3
+pitch_rate,59,4
+pitch_rate,60,-10
+pitch_rate,61,-3
+pitch_rate,62,4
+pitch_rate,63,-10
+pitch_rate,64,-3
+pitch_rate,65,4
+pitch_rate,66,-10
+pitch_rate,67,-3
+pitch_rate,68,4
+pitch_rate,69,-10
+pitch_rate,70,-3
+pitch_rate,71,4
+pitch_rate,72,-10
+pitch_rate,73,-3
+pitch_rate,74,4
+pitch_rate,75,-10
+pitch_rate,76,-3
+pitch_rate,77,4
+pitch_rate,78,-10
+pitch_rate,79,-3
 airspeed,0,6800
 airspeed,1,6823
 airspeed,2,6844
@@ -319,112 +317,112 @@ airspeed,19,7057
 ";
 
 /// The rows of its actuators.
-pub const AUTOPILOT_ACTUATORS: &str = "elevator,0,0,-25
+pub const AUTOPILOT_ACTUATORS: &str = "elevator,0,0,-30
 thrust,0,0,5000
 holding,0,0,true
 alarm,0,0,false
-elevator,1,50,0
-elevator,2,100,0
-elevator,3,150,0
-elevator,4,200,-131
+elevator,1,50,-48
+elevator,2,100,-48
+elevator,3,150,-48
+elevator,4,200,-56
 thrust,1,200,5000
-elevator,5,250,0
-elevator,6,300,0
-elevator,7,350,0
-elevator,8,400,-173
+elevator,5,250,-56
+elevator,6,300,-56
+elevator,7,350,-56
+elevator,8,400,-66
 thrust,2,400,5000
-elevator,9,450,0
-elevator,10,500,0
-elevator,11,550,0
-elevator,12,600,300
+elevator,9,450,-66
+elevator,10,500,-66
+elevator,11,550,-66
+elevator,12,600,-36
 thrust,3,600,5000
-elevator,13,650,71
-elevator,14,700,0
-elevator,15,750,0
-elevator,16,800,-300
+elevator,13,650,-13
+elevator,14,700,-13
+elevator,15,750,-13
+elevator,16,800,-43
 thrust,4,800,5000
-elevator,17,850,-300
-elevator,18,900,-300
-elevator,19,950,-300
-elevator,20,1000,-300
+elevator,17,850,-73
+elevator,18,900,-103
+elevator,19,950,-133
+elevator,20,1000,-163
 thrust,5,1000,5252
 holding,1,1000,true
 alarm,1,1000,true
-elevator,21,1050,-300
-elevator,22,1100,-300
-elevator,23,1150,-300
-elevator,24,1200,300
+elevator,21,1050,-193
+elevator,22,1100,-223
+elevator,23,1150,-253
+elevator,24,1200,-223
 thrust,6,1200,5221
-elevator,25,1250,300
-elevator,26,1300,300
-elevator,27,1350,300
-elevator,28,1400,300
+elevator,25,1250,-193
+elevator,26,1300,-163
+elevator,27,1350,-133
+elevator,28,1400,-103
 thrust,7,1400,5192
-elevator,29,1450,300
-elevator,30,1500,300
-elevator,31,1550,197
-elevator,32,1600,-102
+elevator,29,1450,-73
+elevator,30,1500,-43
+elevator,31,1550,-13
+elevator,32,1600,-40
 thrust,8,1600,5163
-elevator,33,1650,0
-elevator,34,1700,0
-elevator,35,1750,0
-elevator,36,1800,43
+elevator,33,1650,-40
+elevator,34,1700,-40
+elevator,35,1750,-40
+elevator,36,1800,-29
 thrust,9,1800,5136
-elevator,37,1850,0
-elevator,38,1900,0
-elevator,39,1950,0
-elevator,40,2000,14
+elevator,37,1850,-29
+elevator,38,1900,-29
+elevator,39,1950,-29
+elevator,40,2000,-26
 thrust,10,2000,5109
 holding,2,2000,false
 alarm,2,2000,true
-elevator,41,2050,0
-elevator,42,2100,0
-elevator,43,2150,0
-elevator,44,2200,53
+elevator,41,2050,-26
+elevator,42,2100,-26
+elevator,43,2150,-26
+elevator,44,2200,-18
 thrust,11,2200,5084
-elevator,45,2250,0
-elevator,46,2300,0
-elevator,47,2350,0
-elevator,48,2400,55
+elevator,45,2250,-18
+elevator,46,2300,-18
+elevator,47,2350,-18
+elevator,48,2400,-7
 thrust,12,2400,5059
-elevator,49,2450,0
-elevator,50,2500,0
-elevator,51,2550,0
-elevator,52,2600,6
+elevator,49,2450,-7
+elevator,50,2500,-7
+elevator,51,2550,-7
+elevator,52,2600,-8
 thrust,13,2600,5036
-elevator,53,2650,0
-elevator,54,2700,0
-elevator,55,2750,0
-elevator,56,2800,59
+elevator,53,2650,-8
+elevator,54,2700,-8
+elevator,55,2750,-8
+elevator,56,2800,4
 thrust,14,2800,5014
-elevator,57,2850,0
-elevator,58,2900,0
-elevator,59,2950,0
-elevator,60,3000,-82
+elevator,57,2850,4
+elevator,58,2900,4
+elevator,59,2950,4
+elevator,60,3000,17
 thrust,15,3000,5000
 holding,3,3000,false
 alarm,3,3000,true
-elevator,61,3050,0
-elevator,62,3100,0
-elevator,63,3150,0
-elevator,64,3200,220
+elevator,61,3050,17
+elevator,62,3100,17
+elevator,63,3150,17
+elevator,64,3200,33
 thrust,16,3200,5000
-elevator,65,3250,0
-elevator,66,3300,0
-elevator,67,3350,0
-elevator,68,3400,-71
+elevator,65,3250,33
+elevator,66,3300,33
+elevator,67,3350,33
+elevator,68,3400,48
 thrust,17,3400,5000
-elevator,69,3450,0
-elevator,70,3500,0
-elevator,71,3550,0
-elevator,72,3600,231
+elevator,69,3450,48
+elevator,70,3500,48
+elevator,71,3550,48
+elevator,72,3600,66
 thrust,18,3600,5000
-elevator,73,3650,0
-elevator,74,3700,0
-elevator,75,3750,0
-elevator,76,3800,-60
+elevator,73,3650,66
+elevator,74,3700,66
+elevator,75,3750,66
+elevator,76,3800,86
 thrust,19,3800,5000
-elevator,77,3850,0
-elevator,78,3900,0
-elevator,79,3950,0
+elevator,77,3850,86
+elevator,78,3900,86
+elevator,79,3950,86
 ";
