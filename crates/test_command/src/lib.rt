@@ -3,6 +3,7 @@
 
 #[cfg(test)]
 mod arguments;
+#[cfg(test)]
 mod autopilot;
 #[cfg(test)]
 mod bodies;
