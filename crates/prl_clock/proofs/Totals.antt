@@ -189,6 +189,9 @@ module _ (st : List Standing) (parts : (x : ℕ) → HasParts (standing_at st x)
         | inr q ↦ let k = q.2 (alone q.0) in inr (record { flow = q.0; within = q.1; is = k.0; past = k.1 })
       ]
     where
+      none_some : {o : Option Timing} {t : Timing} → o ≡ None → o ≡ Some t → ⊥
+      none_some a b = cc
+
       one : (s : Standing) → HasParts s.over → ((t : Standing) × IsTimed root clock s t) ⊎ ((s.root ≡ root) × IsComposedPast s.over clock)
       one s dp =
           elim (decide s.root root) [
@@ -204,6 +207,3 @@ module _ (st : List Standing) (parts : (x : ℕ) → HasParts (standing_at st x)
               ]
             ]
           ]
-
-      none_some : {o : Option Timing} {t : Timing} → o ≡ None → o ≡ Some t → ⊥
-      none_some a b = cc
