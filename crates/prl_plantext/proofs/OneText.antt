@@ -5,7 +5,7 @@ use Rattle.prl_plan.specs.Plans.{IsPlan, PlanView}
 use Rattle.prl_plan.specs.declared.graphs.TaskGraph.{TaskGraph}
 use Rattle.prl_plantext.specs.PlanTexts.{plan_text}
 use Rattle.prl_plantext.specs.ReadTexts.{IsTextFault, IsTextOf}
-use Rattle.prl_plantext.specs.Representable.{IsRepresentable}
+use Rattle.prl_plan.specs.Representable.{IsRepresentable}
 use Rattle.prl_plantext.specs.code.Graphs.{graph_of}
 use Rattle.prl_plantext.specs.code.Planned.{IsGraphFault}
 use Rattle.prl_plantext.specs.declared.plans.PlanFault.{PlanFault}

@@ -2,7 +2,7 @@
 use Rattle.std.specs.Prelude.{◌≡◌, ℕ, List}
 use Rattle.prl_plan.specs.Plans.{PlanView, IsPlan}
 use Rattle.prl_plantext.specs.PlanTexts.{plan_text}
-use Rattle.prl_plantext.specs.Representable.{IsRepresentable}
+use Rattle.prl_plan.specs.Representable.{IsRepresentable}
 use Rattle.prl_plantext.specs.declared.plans.PlanFault.{PlanFault}
 use Rattle.prl_plantext.specs.declared.plans.PlanFault.TheVariants as faults
 

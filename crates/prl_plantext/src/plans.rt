@@ -4,7 +4,7 @@ ghost use Rattle.std.specs.Prelude.{◌≡◌, ℕ, List, MatchResult};
 ghost use Rattle.prl_plan.specs.Graphs.{IsWellFormed};
 ghost use Rattle.prl_plan.specs.Plans.{PlanView, IsPlan};
 ghost use Rattle.prl_plantext.specs.ReadTexts.{IsTextFault, IsTextOf};
-ghost use Rattle.prl_plantext.specs.Representable.{IsRepresentable};
+ghost use Rattle.prl_plan.specs.Representable.{IsRepresentable};
 ghost use Rattle.prl_plantext.specs.code.Planned.{IsGraphFault};
 
 use crate::checking::is_well_formed;

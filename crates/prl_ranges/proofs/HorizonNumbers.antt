@@ -1,19 +1,11 @@
 -- The numbers of a horizon are within its limits.
-use Rattle.std.proofs.Common.{◌≡◌, ◌<◌, ◌≤◌, ℕ, zero, suc, length, inl, inr, ap, arith}
-use Rattle.std.proofs.lemmas.Bool.{cases_lt}
+use Rattle.std.proofs.Common.{◌<◌, ◌≤◌, ℕ, length, arith}
 use Rattle.prl_plan.specs.declared.horizons.Horizon.{Horizon}
 use Rattle.prl_plan.specs.declared.limits.TheConstants.{MAX_JOBS, MAX_EVENTS}
 use Rattle.prl_plan.specs.Horizons.{sum_below, IsHorizon, constants_of}
 use Rattle.prl_plan.specs.Jobs.{task_at, job_count}
 use Rattle.prl_plan.specs.Plans.{PlanView}
-
-pub part_of_sum : (f : ℕ → ℕ) (n i : ℕ) → i < n → f i ≤ sum_below f n
-part_of_sum f zero i below = absurd (omega (arith, below))
-part_of_sum f (suc n) i below =
-    elim (cases_lt i n) [
-      | inl less ↦ (let rest = part_of_sum f n i less in omega (arith, rest))
-      | inr past ↦ (let same : i ≡ n = omega (arith, below, past) in let e : f i ≡ f n = ap f same in omega (arith, e))
-    ]
+use Rattle.prl_plan.proofs.PartsOfSums.{part_of_sum}
 
 pub jobs_small : (plan : PlanView) (h : Horizon) → IsHorizon plan h → (i : ℕ) → i < length plan.graph.tasks → (constants_of plan h).jobs i ≤ MAX_JOBS
 jobs_small plan h is i inside =

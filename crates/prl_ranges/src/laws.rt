@@ -1,5 +1,4 @@
-//! Laws of the numbers of graphs and plans: that they fit 64 bits, so that no real computation has
-//! to give up. Functions that do nothing: the contract of each is the law.
+//! Laws of the numbers of graphs and plans, as functions that do nothing: the contract of each is the law.
 
 ghost use Rattle.std.specs.Prelude.{◌≡◌, ◌+◌, ◌*◌, ◌<◌, ◌≤◌, ◌^◌, ℕ, ℤ, nat_abs, List, length};
 ghost use Rattle.prl_plan.specs.declared.graphs.TaskGraph.{TaskGraph};
@@ -12,9 +11,9 @@ ghost use Rattle.prl_plan.specs.declared.limits.TheConstants.{MAX_JOBS, MAX_EVEN
 ghost use Rattle.prl_plan.specs.Dates.{AreEncodedDates, window_at};
 ghost use Rattle.prl_plan.specs.Graphs.{IsWellFormed};
 ghost use Rattle.prl_plan.specs.Horizons.{IsHorizon, constants_of};
-ghost use Rattle.prl_plan.specs.Jobs.{task_at, IsHorizonJob};
-ghost use Rattle.prl_plan.specs.Operands.{walk, operand_of};
-ghost use Rattle.prl_plan.specs.Plans.{PlanView, IsPlan, HaveRoom, edge_at, release_at, deadline_at};
+ghost use Rattle.prl_plan.specs.Jobs.{task_at};
+ghost use Rattle.prl_plan.specs.Operands.{walk};
+ghost use Rattle.prl_plan.specs.Plans.{PlanView, HaveRoom, edge_at};
 ghost use Rattle.prl_plan.specs.Ranges.{PrecedingFits};
 
 /// What a job reads has no higher number than the job's date. The numbers on the way to the job that
@@ -55,17 +54,6 @@ pub fn windows_are_within_dues()
         (i : ℕ) (m : ℤ) → i < length graph.tasks →
         ((window_at windows i m).lead + (task_at graph i).wcet ≤ (window_at windows i m).tail) ×
         ((window_at windows i m).tail ≤ (task_at graph i).due) }
-{}
-
-/// What a job reads has no higher number than its encoded release. The dates of a horizon job are
-/// below 2^33 and its number is below 2^32.
-pub fn look_ups_fit()
-    ensures operand { (plan : PlanView) → IsPlan plan → (e n m : ℕ) →
-        e < length plan.graph.edges → operand_of (edge_at plan.graph e) n ≡ operands.From m →
-        m ≤ release_at plan (edge_at plan.graph e).to.0 n }
-    ensures horizon { (plan : PlanView) → IsPlan plan → (until i n : ℕ) → until < 2 ^ 32 →
-        IsHorizonJob plan.graph until i n →
-        (release_at plan i n < 2 ^ 33) × (deadline_at plan i n < 2 ^ 33) × (n < 2 ^ 32) }
 {}
 
 /// In a horizon within the limits no task has more jobs than the limit, and the end is within the

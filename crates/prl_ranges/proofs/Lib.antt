@@ -1,0 +1,3 @@
+mod PrecedingNumbers
+mod WordPeriods
+mod HorizonNumbers
