@@ -1,0 +1,2 @@
+-- halves of values, and tagged words
+pub mod Halves
