@@ -1,4 +1,4 @@
-//! Laws of the board, as functions that do nothing: the contract of each is the law.
+//! Laws of halves and words, as functions that do nothing: the contract of each is the law.
 
 ghost use Rattle.std.specs.Prelude.{◌≡◌, ◌/◌, ◌%◌, ◌^◌, ◌<◌, ℕ};
 ghost use Rattle.prl_base.specs.Values.{type_of, FitsValue, IsOfType};
