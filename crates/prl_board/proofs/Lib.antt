@@ -1,0 +1,14 @@
+mod Exact
+mod PlanLaws
+mod ValueSteps
+mod Keeps
+mod Reading
+mod Catching
+mod HalfSteps
+mod JobSteps
+mod ClockSteps
+mod StopSteps
+mod SeatSteps
+mod Opens
+mod Telling
+mod Caught
