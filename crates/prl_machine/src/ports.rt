@@ -1,13 +1,13 @@
 //! The ports of tasks.
 
-ghost use Rattle.std.specs.Prelude.{◌≡◌};
-ghost use Rattle.prl_machine.specs.code.Ports.{port_count};
+ghost use Rattle.std.specs.Prelude.{◌≡◌, length};
+ghost use Rattle.prl_values.specs.Fitting.{port_types};
 
 use prl_plan::Edge;
 
 /// How many of these edges lead to task `i`.
 pub(crate) fn ports_of(edges: &[Edge], i: u32) -> usize
-    ensures { result ≡ port_count edges.now i }
+    ensures { result ≡ length (port_types edges.now i) }
 {
     let mut count = 0;
     for edge in edges {

@@ -1,6 +1,6 @@
 //! The bodies of node tasks.
 
-ghost use Rattle.std.specs.Prelude.{◌≡◌, ◌×◌, Some, IfOk};
+ghost use Rattle.std.specs.Prelude.{◌≡◌, Some, IfOk};
 ghost use Rattle.prl_base.specs.Names.{IsName};
 ghost use Rattle.prl_body.specs.Bodies.{body_named};
 ghost use Rattle.prl_body.specs.declared.bodies.CheckedBody.{CheckedBody};

@@ -3,8 +3,8 @@
 ghost use Rattle.std.specs.Prelude.{◌≡◌, ◌+◌, ◌<◌, ◌^◌, length, map, slice_set, slice_get, Some};
 ghost use Rattle.prl_machine.specs.code.Workers.{IsReady, HasRun, HasTaken, HasBegun, HasEnded};
 
-use prl_body::{Body, Machine};
 use prl_base::Value;
+use prl_body::{Body, Machine};
 use prl_flow::Sensors;
 
 /// How the jobs of a task come to what they give.
@@ -42,9 +42,7 @@ impl<'a> Worker<'a> {
                 machine.step(body, self.operands.as_slice(), &mut self.outputs);
             }
             Work::Actuator(column) => {
-                let value = self.operands[0];
-                self.outputs[0] = value;
-                column[job as usize] = value;
+                column[job as usize] = self.operands[0];
             }
         }
         self.ran = true;

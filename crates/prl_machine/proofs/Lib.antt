@@ -1,0 +1,7 @@
+mod Operands
+mod PortReads
+mod Working
+mod Keeping
+mod Opening
+mod Given
+mod TaskNames

@@ -1,0 +1,4 @@
+pub mod Workers
+pub mod Opening
+pub mod Stores
+pub mod Kept
