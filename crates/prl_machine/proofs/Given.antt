@@ -2,7 +2,7 @@
 use Rattle.std.proofs.Common.{◌≡◌, ◌+◌, ◌<◌, ◌≤◌, ◌↔◌, ℕ, Bool, List, length, get_or, take, Option, Some, refl, sym, ◌∙◌, ap, subst, arith}
 use Rattle.std.specs.Prelude.{slice_get, pos, unwrap_or}
 use Rattle.std.proofs.lemmas.List.{length-take-le}
-use Rattle.std.proofs.lemmas.Option.{slice_get-get_or}
+use Rattle.std.proofs.lemmas.Option.{slice_get-get_or, slice_get_read}
 use Rattle.prl_base.specs.Values.{type_of}
 use Rattle.prl_base.specs.declared.values.Value.{Value}
 use Rattle.prl_base.specs.declared.values.Value.TheVariants as values
@@ -19,7 +19,7 @@ use Rattle.prl_values.specs.JobValues.{value_on, reads_of_job, body_of_task}
 use Rattle.prl_machine.specs.declared.workers.Work.{Work}
 use Rattle.prl_machine.specs.declared.workers.Work.TheVariants as works
 use Rattle.prl_machine.specs.declared.workers.Worker.{Worker}
-use Rattle.prl_machine.specs.Cores.{CoreView, constants, values_of, AreOutputs, IsMachineOf}
+use Rattle.prl_machine.specs.Cores.{CoreView, constants, values_of, AreOutputs, IsMachineOf, IsNoNode}
 use Rattle.prl_machine.specs.code.Kept.{IsWork, once, IsWorker, IsKept}
 use Rattle.prl_machine.proofs.PortReads.{read_at_port}
 
@@ -75,3 +75,25 @@ module _ (core : CoreView) (halves : List Value) (workers : List Worker) (kept :
         steps = ap (λ (m : MachineState). m.steps) is ∙ count;
         registers = ap (λ (m : MachineState). m.registers) is ∙ ap (registers_before body (reads_of_job core.plan.graph (values_of core) i)) count;
       }
+
+  -- the work of a task that is read
+  pub work_at : (i : ℕ) → i < length core.plan.graph.tasks → (worker : Worker) → worker ≡ get_or workers i worker → (work : Work) → worker.work ≡ work →
+      (slice_get workers i ≡ Some worker)
+      × IsWork core.plan core.bodies core.horizon.until (values_of core) i (get_or core.state.ended i 0 + once worker.ran) work
+  work_at i inside worker is work its =
+      let at = slice_get_read workers (length workers) i worker refl (let l = kept.tasks.tasks in omega (arith, l, inside)) is in (
+        at,
+        subst (λ (w : Work). IsWork core.plan core.bodies core.horizon.until (values_of core) i (get_or core.state.ended i 0 + once worker.ran) w) its (kept.tasks.each i worker at).work,
+      )
+
+pub sensor_no_node : (core : CoreView) (i k : ℕ) → (task_at core.plan.graph i).kind ≡ kinds.Sensor k → IsNoNode core i
+sensor_no_node core i k is other node = absurd (let e : kinds.Sensor k ≡ kinds.Node other = sym is ∙ node in cc)
+
+pub actuator_no_node : (core : CoreView) (i k : ℕ) → (task_at core.plan.graph i).kind ≡ kinds.Actuator k → IsNoNode core i
+actuator_no_node core i k is other node = absurd (let e : kinds.Actuator k ≡ kinds.Node other = sym is ∙ node in cc)
+
+pub sensor_no_actuator : (core : CoreView) (i k other : ℕ) → (task_at core.plan.graph i).kind ≡ kinds.Sensor k → (task_at core.plan.graph i).kind ≡ kinds.Actuator other → ⊥
+sensor_no_actuator core i k other is drives = absurd (let e : kinds.Sensor k ≡ kinds.Actuator other = sym is ∙ drives in cc)
+
+pub node_no_actuator : (core : CoreView) (i k other : ℕ) → (task_at core.plan.graph i).kind ≡ kinds.Node k → (task_at core.plan.graph i).kind ≡ kinds.Actuator other → ⊥
+node_no_actuator core i k other is drives = absurd (let e : kinds.Node k ≡ kinds.Actuator other = sym is ∙ drives in cc)

@@ -48,25 +48,11 @@ use Rattle.prl_machine.specs.declared.workers.Worker.{Worker}
 use Rattle.prl_machine.specs.Cores.{CoreView, constants, values_of, IsRead, IsReadConst, IsSightOf, IsSightOfRead}
 use Rattle.prl_machine.specs.code.Workers.{outs_of, HasTaken, HasBegun}
 use Rattle.prl_machine.specs.code.Stores.{CanTake, CanBegin, CanGive, CanRead, CanServe, Takes, DoesRead, Gives, Ends, Serves}
+use Rattle.prl_machine.specs.code.Laws.{HasCoreLaws}
 use Rattle.prl_machine.specs.code.Kept.{IsWork, HasGiven, IsWorker, AreWorkers, AreHalves, IsKept}
 use Rattle.prl_machine.proofs.Operands.{Reads}
 use Rattle.prl_machine.proofs.PortReads.{read_at_port, edge_has_port}
 use Rattle.prl_machine.proofs.Working.{HasLaws, low_passed, port_there, ready_to_take, operand_taken, ready_to_begin, body_run, instance_given, job_ended}
-
--- the laws that the machine rests on
-pub record HasCoreLaws (core : CoreView) : Type 0 where
-  pub facts : HasPlanFacts (constants core)
-  pub ports : (i n place port : ℕ) → IsAtPort port (get_or (actions_of core.plan i n) place actions.End) → operands_before (actions_of core.plan i n) place ≡ port
-  pub small : (i : ℕ) → i < length core.plan.graph.tasks → (constants core).jobs i ≤ MAX_JOBS
-  pub counted : (i n : ℕ) → i < length core.plan.graph.tasks → 0 < (task_at core.plan.graph i).clock.period →
-      IsHorizonJob core.plan.graph core.horizon.until i n ↔ (n < job_count (task_at core.plan.graph i) core.horizon.until)
-  pub halves : (s : ExecState) → IsTagged (constants core) s → (cell : ℕ) → get_or s.tags (high cell) 0 ≤ get_or s.tags (low cell) 0
-  pub values : AreJobValues core.plan.graph core.bodies core.rows core.horizon.until (values_of core)
-  pub reads : (i n : ℕ) → IsHorizonJob core.plan.graph core.horizon.until i n →
-      map type_of (reads_of_job core.plan.graph (values_of core) i n) ≡ port_types core.plan.graph.edges i
-  pub registers : (i n : ℕ) → IsHorizonJob core.plan.graph core.horizon.until i n → (body : CheckedBody) →
-      body_of_task core.bodies (task_at core.plan.graph i) ≡ Some body → FitsTask core.plan.graph i body →
-      map type_of (registers_before body (reads_of_job core.plan.graph (values_of core) i) n) ≡ register_types body
 
 worker_there : (workers : List Worker) (i : ℕ) → i < length workers → (worker : Worker) × (slice_get workers i ≡ Some worker)
 worker_there workers i inside =
@@ -201,7 +187,7 @@ module _ (core : CoreView) (halves : List Value) (workers : List Worker) (kept :
       read_fits : IsActionOf core.plan task.0 (get_or core.state.ended task.0 0) (actions.Read port edge m slot)
       read_fits = fits_action (actions.Read port edge m slot) is
 
-      reads_there : ReadsAt (constants core) task.0 (get_or core.state.ended task.0 0) (get_or core.state.places task.0 0) m slot.0
+      abbrev reads_there : ReadsAt (constants core) task.0 (get_or core.state.ended task.0 0) (get_or core.state.places task.0 0) m slot.0
       reads_there = record { job = is_job; action = (port, edge, is) }
 
       pub finds : get_or core.state.tags slot.0 0 ≡ m + 1
@@ -340,9 +326,9 @@ module _ (core : CoreView) (halves : List Value) (workers : List Worker) (kept :
           takes.worker (fit takes.worker takes.its) place_reads place_whole port place_port value its (no_sensor task.0 e inside to) takes.next takes.takes))
 
     -- an action that does not read
-    module _ (action : Action) (is : next_action (constants core) core.state task.0 ≡ action) (no : Reads action → ⊥) where
+    module _ (action : Action) (is : next_action (constants core) core.state task.0 ≡ action) (never : Reads action → ⊥) where
       place_no : Reads (get_or (actions_of core.plan task.0 (get_or core.state.ended task.0 0)) (get_or core.state.places task.0 0) actions.End) → ⊥
-      place_no reads = no (subst Reads is reads)
+      place_no reads = never (subst Reads is reads)
 
       pub can_begin : CanBegin core.rows workers task.0 (get_or core.state.ended task.0 0)
       can_begin = record {
@@ -356,7 +342,7 @@ module _ (core : CoreView) (halves : List Value) (workers : List Worker) (kept :
       write_fits : IsActionOf core.plan task.0 (get_or core.state.ended task.0 0) (actions.Write edge m slot)
       write_fits = fits_action (actions.Write edge m slot) is
 
-      writes_there : WritesAt (constants core) task.0 (get_or core.state.ended task.0 0) (get_or core.state.places task.0 0) m slot.0
+      abbrev writes_there : WritesAt (constants core) task.0 (get_or core.state.ended task.0 0) (get_or core.state.places task.0 0) m slot.0
       writes_there = record { job = is_job; action = (edge, is) }
 
       pub write_inside : slot.0 < length halves
@@ -368,14 +354,14 @@ module _ (core : CoreView) (halves : List Value) (workers : List Worker) (kept :
       no_write_reads : Reads (actions.Write edge m slot) → ⊥
       no_write_reads reads = reads
 
-      abbrev IsPort : Producer → Type 0
+      abbrev pub IsPort : Producer → Type 0
       IsPort from = (source : TaskNo) × (out : ℕ) × (from ≡ producers.Port source out) × (source.0 ≡ task.0)
 
       comes_from : (from : Producer) → ComesFrom from task.0 → IsPort from
       comes_from (producers.Port source out) comes = (source, out, refl, comes)
       comes_from (producers.Constant value) comes = absurd comes
 
-      port_of_edge : IsPort (edge_at core.plan.graph edge.0).from
+      pub port_of_edge : IsPort (edge_at core.plan.graph edge.0).from
       port_of_edge = comes_from (edge_at core.plan.graph edge.0).from write_fits.1
 
       source_is : IsSource core.plan.graph (edge_at core.plan.graph edge.0) (edge_fact edge.0 write_fits.0).clocks.0 (producers.Port port_of_edge.0 port_of_edge.1)
@@ -395,12 +381,15 @@ module _ (core : CoreView) (halves : List Value) (workers : List Worker) (kept :
       out_inside steps (works.Actuator column) fits =
           absurd (let f : false ≡ true = sym source_is.1 ∙ ap (λ (j : ℕ). is_actuator (task_at core.plan.graph j).kind) port_of_edge.3 ∙ ap is_actuator fits.0.1 in cc)
 
-      pub can_give : CanGive core.rows workers task.0 (get_or core.state.ended task.0 0) port_of_edge.1
-      can_give = record {
-        begins = can_begin (actions.Write edge m slot) is no_write_reads;
-        room = (fit worker.0 worker.1).room;
-        inside = out_inside _ worker.0.work (fit worker.0 worker.1).work;
+      give_from : CanBegin core.rows workers task.0 (get_or core.state.ended task.0 0) → CanGive core.rows workers task.0 (get_or core.state.ended task.0 0) port_of_edge.1
+      give_from begins = record {
+        begins = begins;
+        room = (fit begins.worker begins.its).room;
+        inside = out_inside _ begins.worker.work (fit begins.worker begins.its).work;
       }
+
+      pub can_give : CanGive core.rows workers task.0 (get_or core.state.ended task.0 0) port_of_edge.1
+      can_give = give_from (can_begin (actions.Write edge m slot) is no_write_reads)
 
       outputs_are : (outputs : List Value) (steps : ℕ) (work : Work) → IsWork core.plan core.bodies core.horizon.until (values_of core) task.0 steps work →
           HasGiven (values_of core) task.0 (get_or core.state.ended task.0 0) outputs work → outputs ≡ values_of core task.0 (get_or core.state.ended task.0 0)

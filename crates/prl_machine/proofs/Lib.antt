@@ -5,3 +5,4 @@ mod Keeping
 mod Opening
 mod Given
 mod TaskNames
+mod Stored

@@ -28,15 +28,24 @@ abbrev at : List Action → ℕ → Action
 at xs p = get_or xs p actions.End
 
 operands_append : (xs ys : List Action) → operands_in (xs ++ ys) ≡ operands_in xs + operands_in ys
-operands_append [] ys = refl
+operands_append [] ys = omega arith
 operands_append (x ∷ xs) ys = (let e = operands_append xs ys in omega (arith, e))
+
+take_none : (n : ℕ) → ◌≡◌ {A = List Action} (take n []) []
+take_none zero = refl
+take_none (suc n) = refl
+
+operands_after : (xs : List Action) (p : ℕ) → operands_in (take (suc p) xs) ≡ operands_in (take p xs) + completes (get_or xs p actions.End)
+operands_after [] p =
+    let rest = ap operands_in (take_none p) in
+    let past : completes (get_or [] p actions.End) ≡ 0 = refl in
+    omega (arith, rest, past)
+operands_after (x ∷ xs) zero = omega arith
+operands_after (x ∷ xs) (suc p) = (let e = operands_after xs p in omega (arith, e))
 
 -- one action more
 pub operands_next : (xs : List Action) (p : ℕ) → operands_in (take (p + 1) xs) ≡ operands_in (take p xs) + completes (get_or xs p actions.End)
-operands_next [] zero = refl
-operands_next [] (suc p) = refl
-operands_next (x ∷ xs) zero = omega arith
-operands_next (x ∷ xs) (suc p) = (let e = operands_next xs p in omega (arith, e))
+operands_next xs p = (let more : p + 1 ≡ suc p = omega arith in ap (λ (k : ℕ). operands_in (take k xs)) more ∙ operands_after xs p)
 
 -- of a list that completes one operand with its last action, and of another one after it
 both_operands : (first rest : List Action) (ports p : ℕ) → ((k : ℕ) → k < length first → operands_in (take k first) ≡ 0) → operands_in first ≡ 1 →
@@ -106,7 +115,7 @@ module _ (plan : PlanView) (i n : ℕ) where
   -- and fewer before the last of them
   pub part_of_reads : (e : ℕ) (edges : List Edge) (p : ℕ) → p < length (reads_of plan i n e edges) →
       operands_in (take p (reads_of plan i n e edges)) < length (port_types edges i)
-  part_of_reads e [] p below = absurd (omega (arith, below))
+  part_of_reads e [] p = λ below. absurd (omega (arith, below))
   part_of_reads e (edge ∷ edges) p =
       elim (cases_eq edge.to.0 i) [
         | inl here ↦
@@ -122,7 +131,7 @@ module _ (plan : PlanView) (i n : ℕ) where
       ]
 
   reads_read : (e : ℕ) (edges : List Edge) (p : ℕ) → p < length (reads_of plan i n e edges) → Reads (at (reads_of plan i n e edges) p)
-  reads_read e [] p below = absurd (omega (arith, below))
+  reads_read e [] p = λ below. absurd (omega (arith, below))
   reads_read e (edge ∷ edges) p =
       elim (cases_eq edge.to.0 i) [
         | inl here ↦
@@ -136,8 +145,7 @@ module _ (plan : PlanView) (i n : ℕ) where
       ]
 
   writing_none : (e : ℕ) (from : Producer) (p : ℕ) → Reads (at (writing plan i n e from) p) → ⊥
-  writing_none e (producers.Constant value) zero is = is
-  writing_none e (producers.Constant value) (suc p) is = is
+  writing_none e (producers.Constant value) p = λ is. is
   writing_none e (producers.Port task out) p = go (eqb task.0 i) (is_some (place_on plan e n)) p
     where
       go : (a b : Bool) (p : ℕ) → Reads (at (cond a (cond b (both_writes plan e n) []) []) p) → ⊥
@@ -182,10 +190,10 @@ module _ (plan : PlanView) (i n : ℕ) where
 
   -- what does not read stands after them
   pub other_is_late : (p : ℕ) → (Reads (at (actions_of plan i n) p) → ⊥) → length (reads_of plan i n 0 plan.graph.edges) ≤ p
-  other_is_late p no =
+  other_is_late p never =
       elim (cases_lt p (length (reads_of plan i n 0 plan.graph.edges))) [
         | inl early ↦
-            absurd (no (subst Reads (sym (ap (λ (xs : List Action). at xs p) split
+            absurd (never (subst Reads (sym (ap (λ (xs : List Action). at xs p) split
             ∙ get_or_append_left (reads_of plan i n 0 plan.graph.edges) (writes_of plan i n 0 plan.graph.edges ++ actions.End ∷ []) actions.End p early))
             (reads_read 0 plan.graph.edges p early)))
         | inr late ↦ late

@@ -13,11 +13,12 @@ use Rattle.prl_values.specs.JobValues.{JobValues, read_on, reads_over}
 -- as many values as ports
 pub reads_counted : (v : JobValues) (edges : List Edge) (i n : ℕ) → length (reads_over v edges i n) ≡ length (port_types edges i)
 reads_counted v [] i n = refl
-reads_counted v (edge ∷ edges) i n = go (eqb edge.to.0 i)
+reads_counted v (edge ∷ edges) i n = go (reads_counted v edges i n) (eqb edge.to.0 i)
   where
-    go : (b : Bool) → length (cond b (read_on v edge n ∷ reads_over v edges i n) (reads_over v edges i n)) ≡ length (cond b (edge.ty ∷ port_types edges i) (port_types edges i))
-    go true = ap suc (reads_counted v edges i n)
-    go false = reads_counted v edges i n
+    go : length (reads_over v edges i n) ≡ length (port_types edges i) → (b : Bool) →
+        length (cond b (read_on v edge n ∷ reads_over v edges i n) (reads_over v edges i n)) ≡ length (cond b (edge.ty ∷ port_types edges i) (port_types edges i))
+    go rest true = ap suc rest
+    go rest false = rest
 
 module _ (v : JobValues) (i n : ℕ) where
   -- each edge to the task, from port q on, has its value at its port

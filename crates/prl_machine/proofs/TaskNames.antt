@@ -1,11 +1,14 @@
 -- The word of a node task's name.
-use Rattle.std.proofs.Common.{◌≡◌, ◌++◌, ◌+◌, ℕ, Bool, true, false, List, [], ◌∷◌, length, refl, sym, ◌∙◌, arith, ap, subst, cond, eqb}
+use Rattle.std.proofs.Common.{◌≡◌, ◌++◌, ◌+◌, ◌<◌, ◌≤◌, get_or, ℕ, suc, Bool, true, false, List, [], ◌∷◌, length, refl, sym, ◌∙◌, arith, ap, subst, cond, eqb}
 use Rattle.std.specs.List.{list_all}
 use Rattle.std.proofs.lemmas.Bool.{and_parts, false≢true, eqb-true}
+use Rattle.std.proofs.lemmas.List.{get_or_default}
 use Rattle.prl_base.specs.Names.{IsName, is_word_byte, is_word_start}
 use Rattle.prl_plan.specs.declared.graphs.Edge.{Edge}
 use Rattle.prl_plan.specs.declared.graphs.Kind.{Kind}
 use Rattle.prl_plan.specs.declared.graphs.Kind.TheVariants as kinds
+use Rattle.prl_plan.specs.declared.graphs.Task.{Task}
+use Rattle.prl_plan.specs.Jobs.{no_task}
 use Rattle.prl_plan.specs.Graphs.{IsTaskName}
 use Rattle.prl_values.specs.Fitting.{port_types}
 use Rattle.prl_values.specs.JobValues.{word_of}
@@ -47,9 +50,9 @@ node_word kind k name is named =
 pub ports_push : (edges : List Edge) (edge : Edge) (i : ℕ) → length (port_types (edges ++ edge ∷ []) i) ≡ length (port_types edges i) + cond (eqb edge.to.0 i) 1 0
 ports_push [] edge i = go (eqb edge.to.0 i)
   where
-    go : (b : Bool) → ◌≡◌ {A = ℕ} (length (cond b (edge.ty ∷ []) [])) (cond b 1 0)
-    go true = refl
-    go false = refl
+    go : (b : Bool) → length (cond b (edge.ty ∷ []) []) ≡ length (port_types [] i) + cond b 1 0
+    go true = omega arith
+    go false = omega arith
 ports_push (x ∷ edges) edge i = go (ports_push edges edge i) (eqb x.to.0 i)
   where
     go : length (port_types (edges ++ edge ∷ []) i) ≡ length (port_types edges i) + cond (eqb edge.to.0 i) 1 0 → (b : Bool) →
@@ -57,3 +60,16 @@ ports_push (x ∷ edges) edge i = go (ports_push edges edge i) (eqb x.to.0 i)
         ≡ length (cond b (x.ty ∷ port_types edges i) (port_types edges i)) + cond (eqb edge.to.0 i) 1 0
     go rest true = omega (arith, rest)
     go rest false = rest
+
+-- at most as many ports as edges
+pub ports_within : (edges : List Edge) (i : ℕ) → length (port_types edges i) ≤ length edges
+ports_within [] i = omega arith
+ports_within (x ∷ edges) i = go (ports_within edges i) (eqb x.to.0 i)
+  where
+    go : length (port_types edges i) ≤ length edges → (b : Bool) → length (cond b (x.ty ∷ port_types edges i) (port_types edges i)) ≤ suc (length edges)
+    go rest true = omega (arith, rest)
+    go rest false = omega (arith, rest)
+
+-- a task of a graph, as it is read
+pub task_read : (items tasks : List Task) (i : ℕ) (task : Task) → items ≡ tasks → i < length tasks → task ≡ get_or items i task → task ≡ get_or tasks i no_task
+task_read items tasks i task same inside is = is ∙ ap (λ (xs : List Task). get_or xs i task) same ∙ get_or_default tasks i task no_task inside

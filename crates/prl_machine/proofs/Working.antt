@@ -31,7 +31,7 @@ use Rattle.prl_machine.proofs.Operands.{Reads, operands_next, whole_reads, read_
 use Rattle.prl_machine.proofs.PortReads.{reads_counted, same_lists}
 
 pub false_is_not_true : (b : Bool) → b ≡ false → b ≡ true → ⊥
-pub false_is_not_true b no yes = absurd (let e : false ≡ true = sym no ∙ yes in cc)
+false_is_not_true b off on = absurd (let e : false ≡ true = sym off ∙ on in cc)
 
 pub before_run : (mark p : ℕ) → p < mark → leb mark p ≡ false
 before_run mark p below = go (leb mark p) refl
@@ -128,6 +128,7 @@ module _ (plan : PlanView) (bodies : List CheckedBody) (rows : Rows) (until : �
       let state : machine ≡ record { registers = registers_before body.now (reads_of_job plan.graph v i) n; steps = n } = is.2 in
       let registers : machine.registers ≡ registers_before body.now (reads_of_job plan.graph v i) n = ap (λ (m : MachineState). m.registers) state in
       let steps : machine.steps ≡ n = ap (λ (m : MachineState). m.steps) state in
+      let next : suc n ≡ n + 1 = omega arith in
       let step = ap (λ (xs : List Value). body_step body.now xs machine.registers) whole
       ∙ ap (λ (xs : List Value). body_step body.now (reads_of_job plan.graph v i n) xs) registers in
       subst (λ (w : Work). HasDone outputs w) (sym runs.0) (
@@ -139,7 +140,8 @@ module _ (plan : PlanView) (bodies : List CheckedBody) (rows : Rows) (until : �
           is.0,
           is.1,
           ap (λ s. record { registers = s.registers; steps = machine.steps + 1 }) step
-              ∙ ap (λ (k : ℕ). record { registers = registers_before body.now (reads_of_job plan.graph v i) (n + 1); steps = k + 1 }) steps,
+              ∙ ap (λ (k : ℕ). record { registers = registers_before body.now (reads_of_job plan.graph v i) (suc n); steps = k + 1 }) steps
+              ∙ ap (λ (k : ℕ). record { registers = registers_before body.now (reads_of_job plan.graph v i) k; steps = n + 1 }) next,
         ),
       )
   run_done (works.Actuator column) after operands outputs is whole runs =
@@ -202,8 +204,8 @@ module _ (plan : PlanView) (bodies : List CheckedBody) (rows : Rows) (until : �
         unrun (omega (arith, early)) ∙ sym (before_run (place_of_run plan i n) (p + 1) (omega (arith, early, least)))
 
     now_work : worker.ran ≡ false → IsWork plan bodies until v i n worker.work
-    now_work no =
-        same_work plan bodies until v i (n + once worker.ran) n worker.work worker.work (let o : once worker.ran ≡ 0 = ap once no in omega (arith, o)) refl fit.work
+    now_work unrun =
+        same_work plan bodies until v i (n + once worker.ran) n worker.work worker.work (let o : once worker.ran ≡ 0 = ap once unrun in omega (arith, o)) refl fit.work
 
     -- a read of a low half
     pub low_passed : Reads (get_or (actions_of plan i n) p actions.End) → completes (get_or (actions_of plan i n) p actions.End) ≡ 0 →
@@ -292,10 +294,10 @@ module _ (plan : PlanView) (bodies : List CheckedBody) (rows : Rows) (until : �
               }
 
     -- a write or an end
-    module _ (no : Reads (get_or (actions_of plan i n) p actions.End) → ⊥)
+    module _ (never : Reads (get_or (actions_of plan i n) p actions.End) → ⊥)
         (some : (k : ℕ) → (task_at plan.graph i).kind ≡ kinds.Actuator k → 0 < length (port_types plan.graph.edges i)) where
       late : length (reads_of plan i n 0 plan.graph.edges) ≤ p
-      late = other_is_late plan i n p no
+      late = other_is_late plan i n p never
 
       -- where the body has not run there is nothing to read
       nothing_read : worker.ran ≡ false → (length (reads_of plan i n 0 plan.graph.edges) ≡ 0) × (p ≡ 0)

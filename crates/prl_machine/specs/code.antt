@@ -2,3 +2,4 @@ pub mod Workers
 pub mod Opening
 pub mod Stores
 pub mod Kept
+pub mod Laws

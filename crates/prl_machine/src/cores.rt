@@ -8,6 +8,7 @@ ghost use Rattle.prl_values.specs.Fitting.{HaveTaskBodies, HaveTypedRows};
 ghost use Rattle.prl_core.specs.Tracks.{IsNext};
 ghost use Rattle.prl_core.specs.Machine.{IsOfPlan, Drives};
 
+use crate::laws::machine_laws;
 use crate::stores::Store;
 use crate::workers::Work;
 use crate::{Illegal, Seen, Unfinished};
@@ -15,10 +16,7 @@ use prl_base::{TaskNo, Value};
 use prl_body::{Bodies, Machine};
 use prl_core::Track;
 use prl_flow::Sensors;
-use prl_plan::{
-    Event, Horizon, Kind, Plan, actions_are_as_defined, horizons_are_small, plan_facts, plan_is_one,
-};
-use prl_values::{job_values_are_typed, job_values_exist};
+use prl_plan::{Event, Horizon, Kind, Plan, plan_facts, plan_is_one};
 use std::alloc::{AllocError, Global};
 use std::marker::Model;
 
@@ -88,7 +86,7 @@ impl<'a> Core<'a> {
             × (self.exit.now ≡ record self.entry.now { state = after_event (constants self.entry.now) self.entry.now.state Event.Tick })) }
         ensures err { IfErr result (λ e. FirstBroken (constants self.entry.now) self.entry.now.state Event.Tick e.rule × (self.exit.now ≡ self.entry.now)) }
     {
-        plan_facts(self.plan, self.horizon);
+        machine_laws();
         let tick = self.track.tick()?;
         Ok(Seen::Ticked(tick))
     }
@@ -100,11 +98,7 @@ impl<'a> Core<'a> {
             × (self.exit.now ≡ record self.entry.now { state = after_event (constants self.entry.now) self.entry.now.state (Event.Act task) })) }
         ensures err { IfErr result (λ e. FirstBroken (constants self.entry.now) self.entry.now.state (Event.Act task) e.rule × (self.exit.now ≡ self.entry.now)) }
     {
-        plan_facts(self.plan, self.horizon);
-        actions_are_as_defined();
-        horizons_are_small();
-        job_values_exist();
-        job_values_are_typed();
+        machine_laws();
         let acted = self.track.act(task)?;
         Ok(self.store.serve(self.plan, self.sensors, task, acted))
     }
@@ -157,9 +151,7 @@ impl<'a> Core<'a> {
         requires { (i : ℕ) × Drives self.now.plan i actuator }
         ensures { (i : ℕ) × Drives self.entry.now.plan i actuator × AreOutputs self.entry.now i result.now }
     {
-        plan_facts(self.plan, self.horizon);
-        job_values_exist();
-        job_values_are_typed();
+        machine_laws();
         let i = self.task_of(actuator);
         let ended = self.track.ended(TaskNo(i as u32)) as usize;
         match &self.store.workers[i].work {

@@ -3,6 +3,7 @@
 #![tactic(auto)]
 
 mod cores;
+mod laws;
 mod ports;
 mod stores;
 mod task_bodies;

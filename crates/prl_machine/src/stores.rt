@@ -43,6 +43,7 @@ fn work_of<'a>(
     requires bodies { HaveTaskBodies plan.now.graph bodies.now }
     ensures { IfOk result (λ made. IsWorkOf plan.now bodies.now horizon.until i.0 made.0 × (made.1 ≡ outs_of made.0)) }
 {
+    plan_is_one(plan);
     let task = &plan.graph().tasks.as_slice()[i.0 as usize];
     match task.kind {
         Kind::Sensor(k) => Ok((Work::Sensor(k), 1)),
@@ -71,6 +72,7 @@ fn worker_of<'a>(
     requires bodies { HaveTaskBodies plan.now.graph bodies.now }
     ensures { IfOk result (IsNewWorker plan.now bodies.now horizon.until i.0) }
 {
+    plan_is_one(plan);
     let ports = ports_of(plan.graph().edges.as_slice(), i.0);
     let operands = vec![in alloc; Value::Int(0); ports]?;
     let (work, outs) = work_of(alloc, plan, bodies, horizon, i)?;

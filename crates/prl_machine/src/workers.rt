@@ -1,6 +1,6 @@
 //! Workers: what each task of a machine works with.
 
-ghost use Rattle.std.specs.Prelude.{◌≡◌, ◌+◌, ◌<◌, ◌^◌, length, map, slice_set, slice_get, Some};
+ghost use Rattle.std.specs.Prelude.{◌≡◌, ◌+◌, ◌<◌, false, length, map, slice_set, slice_get, Some};
 ghost use Rattle.prl_machine.specs.code.Workers.{IsReady, HasRun, HasTaken, HasBegun, HasEnded};
 
 use prl_base::Value;
@@ -36,16 +36,14 @@ impl<'a> Worker<'a> {
         requires { IsReady sensors.now job self.old.operands.items self.old }
         ensures { HasRun sensors.now job self.old.operands.items self.old self.new }
     {
+        self.ran = true;
         match &mut self.work {
             Work::Sensor(k) => self.outputs[0] = sensors.value(*k, job),
             Work::Node { body, machine } => {
                 machine.step(body, self.operands.as_slice(), &mut self.outputs);
             }
-            Work::Actuator(column) => {
-                column[job as usize] = self.operands[0];
-            }
+            Work::Actuator(column) => column[job as usize] = self.operands[0],
         }
-        self.ran = true;
     }
 
     /// The open job completes the operand of a port; with its last one the body runs.
@@ -62,7 +60,7 @@ impl<'a> Worker<'a> {
 
     /// Runs the body of the open job, where it has not run.
     pub(crate) fn begin(&mut self, sensors: &Sensors, job: u64)
-        requires { self.old.ran ≡ Bool.false → IsReady sensors.now job self.old.operands.items self.old }
+        requires { self.old.ran ≡ false → IsReady sensors.now job self.old.operands.items self.old }
         ensures { HasBegun sensors.now job self.old self.new }
     {
         if !self.ran {
