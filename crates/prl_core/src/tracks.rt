@@ -355,6 +355,15 @@ impl<'a> Track<'a> {
         self.ended[task.0 as usize]
     }
 
+    /// How many jobs of a task have ended: the number of its next one. Takes no memory.
+    pub fn ended(&self, task: TaskNo) -> u64
+        requires { task.0 < length self.now.plan.graph.tasks }
+        ensures { result ≡ first_unfinished self.entry.now.state task.0 }
+    {
+        plan_facts(self.plan, self.horizon);
+        self.ended[task.0 as usize]
+    }
+
     /// Where the next action of the task stands, and what it is.
     fn stop_of(&self, task: TaskNo, job: u64) -> Stop
         requires allowed { KeepsLegal (run_of self.now) self.now.state (Event.Act task) }

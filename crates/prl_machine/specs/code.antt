@@ -1,0 +1,5 @@
+pub mod Workers
+pub mod Opening
+pub mod Stores
+pub mod Kept
+pub mod Laws

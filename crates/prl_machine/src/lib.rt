@@ -1,0 +1,14 @@
+//! The pure machine of an executive, over every plan and with bodies: it does one event at a time, refuses each event that
+//! breaks a rule, and tells what it saw. It stands on plans, on tracks, on bodies and on the rows of sensors.
+#![tactic(auto)]
+
+mod cores;
+mod laws;
+mod ports;
+mod stores;
+mod task_bodies;
+mod workers;
+
+pub use cores::Core;
+pub use prl_core::{Illegal, Seen, Unfinished};
+pub use prl_plan::{Event, Rule};
