@@ -17,10 +17,9 @@ use Rattle.prl_plan.proofs.RoundPeriods.{task_is}
 use Rattle.prl_core.proofs.Places.{slice_get_take}
 use Rattle.prl_values.specs.JobValues.{value_on, reads_of_job, body_of_task}
 use Rattle.prl_machine.specs.declared.workers.Work.{Work}
-use Rattle.prl_machine.specs.declared.workers.Work.TheVariants as works
 use Rattle.prl_machine.specs.declared.workers.Worker.{Worker}
-use Rattle.prl_machine.specs.Cores.{CoreView, constants, values_of, AreOutputs, IsMachineOf, IsNoNode}
-use Rattle.prl_machine.specs.code.Kept.{IsWork, once, IsWorker, IsKept}
+use Rattle.prl_machine.specs.Cores.{CoreView, values_of, AreOutputs, IsMachineOf, IsNoNode}
+use Rattle.prl_machine.specs.code.Kept.{IsWork, once, IsKept}
 use Rattle.prl_machine.proofs.PortReads.{read_at_port}
 
 module _ (core : CoreView) (halves : List Value) (workers : List Worker) (kept : IsKept core halves workers) where

@@ -1,52 +1,44 @@
 -- The machine keeps what it has, event by event, and tells what it finds.
-use Rattle.std.proofs.Common.{◌≡◌, ◌≢◌, ◌+◌, ◌*◌, ◌/◌, ◌%◌, ◌-◌, ◌<◌, ◌≤◌, ◌⊎◌, ◌^◌, ◌↔◌, ℕ, zero, suc, Bool, true, false, List, [], ◌∷◌, length, map, get_or, set, Option, Some, inl, inr, refl, sym, ◌∙◌, ap, subst, arith, get_or-set_other}
+use Rattle.std.proofs.Common.{◌≡◌, ◌≢◌, ◌+◌, ◌/◌, ◌%◌, ◌-◌, ◌<◌, ℕ, zero, suc, true, false, List, length, get_or, set, Option, Some, inl, inr, refl, sym, ◌∙◌, ap, subst, arith, get_or-set_other}
 use Rattle.std.specs.Prelude.{slice_get, pos, unwrap_or}
-use Rattle.std.proofs.lemmas.Bool.{cases_lt, cases_eq}
+use Rattle.std.proofs.lemmas.Bool.{cases_eq}
 use Rattle.std.proofs.lemmas.List.{length-set}
 use Rattle.std.proofs.lemmas.Grind.{get_or-set_at}
 use Rattle.std.proofs.lemmas.Option.{slice_get_within, slice_get-get_or, slice_get_cases}
-use Rattle.prl_base.specs.Values.{type_of}
 use Rattle.prl_base.specs.declared.numbers.EdgeNo.{EdgeNo}
 use Rattle.prl_base.specs.declared.numbers.TaskNo.{TaskNo}
 use Rattle.prl_base.specs.declared.values.Value.{Value}
 use Rattle.prl_base.specs.declared.values.Value.TheVariants as values
-use Rattle.prl_body.specs.Bodies.{output_types, register_types}
+use Rattle.prl_body.specs.Bodies.{output_types}
 use Rattle.prl_body.specs.declared.bodies.CheckedBody.{CheckedBody}
-use Rattle.prl_flow.specs.Applications.{registers_before}
 use Rattle.prl_plan.specs.declared.events.Action.{Action}
 use Rattle.prl_plan.specs.declared.events.Action.TheVariants as actions
 use Rattle.prl_plan.specs.declared.events.Event.TheVariants as events
 use Rattle.prl_plan.specs.declared.events.SlotNo.{SlotNo}
-use Rattle.prl_plan.specs.declared.graphs.Edge.{Edge}
-use Rattle.prl_plan.specs.declared.graphs.Kind.{Kind}
 use Rattle.prl_plan.specs.declared.graphs.Kind.TheVariants as kinds
 use Rattle.prl_plan.specs.declared.graphs.Producer.{Producer}
 use Rattle.prl_plan.specs.declared.graphs.Producer.TheVariants as producers
-use Rattle.prl_plan.specs.declared.limits.TheConstants.{MAX_JOBS}
-use Rattle.prl_plan.specs.declared.walks.Operand.{Operand}
 use Rattle.prl_plan.specs.declared.walks.Operand.TheVariants as operands
-use Rattle.prl_plan.specs.Facts.{HasPlanFacts, IsJob, ReadsAt, WritesAt, Provides}
+use Rattle.prl_plan.specs.Facts.{IsJob, ReadsAt, WritesAt}
 use Rattle.prl_plan.specs.Graphs.{IsEdge, IsSource, is_sensor, is_actuator}
-use Rattle.prl_plan.specs.Jobs.{task_at, job_count, IsHorizonJob}
-use Rattle.prl_plan.specs.Operands.{operand_of}
-use Rattle.prl_plan.specs.Plans.{PlanView, edge_at, no_edge, cell_of, low, high, actions_of, completes, operands_before, IsAtPort, IsActionOf, IsHigh, IsHalfOf, low_of}
+use Rattle.prl_plan.specs.Jobs.{task_at, IsHorizonJob}
+use Rattle.prl_plan.specs.Plans.{edge_at, no_edge, cell_of, low, high, actions_of, completes, operands_before, IsAtPort, IsActionOf, IsHigh, low_of}
 use Rattle.prl_plan.specs.Precedence.{ComesFrom}
-use Rattle.prl_plan.specs.Rules.{MayTick, HasJob, KeepsLegal, FindsTag, first_unfinished}
-use Rattle.prl_plan.specs.Runs.{ExecState, action_at, next_action, moved, after_action}
-use Rattle.prl_plan.specs.States.{IsTagged, IsSound}
+use Rattle.prl_plan.specs.Rules.{MayTick, HasJob, KeepsLegal, FindsTag}
+use Rattle.prl_plan.specs.Runs.{action_at, next_action, moved, after_action}
+use Rattle.prl_plan.specs.States.{IsSound}
 use Rattle.prl_plan.proofs.RoundPeriods.{task_is}
-use Rattle.prl_plan.proofs.StateLaws.{gated_event_keeps_sound, legal_event_is_gated, legal_read_finds_tag, write_finds_half_free, action_is_as_defined, low_is_even, high_is_odd}
+use Rattle.prl_plan.proofs.StateLaws.{gated_event_keeps_sound, legal_event_is_gated, legal_read_finds_tag, write_finds_half_free, action_is_as_defined, low_is_even}
 use Rattle.prl_core.specs.declared.seen.Seen.{Seen}
-use Rattle.prl_core.specs.declared.seen.Seen.TheVariants as sights
-use Rattle.prl_core.specs.Machine.{cell_no, sight_of_write}
+use Rattle.prl_core.specs.Machine.{cell_no}
 use Rattle.prl_core.proofs.Places.{slice_get_set_same, slice_get_set_other}
 use Rattle.prl_values.specs.Fitting.{FitsTask, HasOutput, port_types}
-use Rattle.prl_values.specs.JobValues.{AreJobValues, value_from, value_on, read_on, reads_of_job, body_of_task}
+use Rattle.prl_values.specs.JobValues.{value_from, value_on, reads_of_job}
 use Rattle.prl_machine.specs.declared.workers.Work.{Work}
 use Rattle.prl_machine.specs.declared.workers.Work.TheVariants as works
 use Rattle.prl_machine.specs.declared.workers.Worker.{Worker}
 use Rattle.prl_machine.specs.Cores.{CoreView, constants, values_of, IsRead, IsReadConst, IsSightOf, IsSightOfRead}
-use Rattle.prl_machine.specs.code.Workers.{outs_of, HasTaken, HasBegun}
+use Rattle.prl_machine.specs.code.Workers.{outs_of}
 use Rattle.prl_machine.specs.code.Stores.{CanTake, CanBegin, CanGive, CanRead, CanServe, Takes, DoesRead, Gives, Ends, Serves}
 use Rattle.prl_machine.specs.code.Laws.{HasCoreLaws}
 use Rattle.prl_machine.specs.code.Kept.{IsWork, HasGiven, IsWorker, AreWorkers, AreHalves, IsKept}

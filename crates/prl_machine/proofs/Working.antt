@@ -1,14 +1,13 @@
 -- The worker of the task that acts: what its actions need, and what they leave.
-use Rattle.std.proofs.Common.{◌≡◌, ◌≢◌, ◌+◌, ◌<◌, ◌≤◌, ◌⊎◌, ◌^◌, ℕ, zero, suc, Bool, true, false, cond, leb, List, [], ◌∷◌, length, map, get_or, set, take, Option, Some, inl, inr, refl, sym, ◌∙◌, ap, subst, arith}
-use Rattle.std.specs.Prelude.{slice_get, max, pos, unwrap_or}
+use Rattle.std.proofs.Common.{◌≡◌, ◌≢◌, ◌+◌, ◌<◌, ◌≤◌, ◌⊎◌, ◌^◌, ℕ, zero, suc, Bool, true, false, leb, List, [], ◌∷◌, length, map, get_or, set, Option, Some, inl, inr, refl, sym, ◌∙◌, ap, subst, arith}
+use Rattle.std.specs.Prelude.{slice_get, max}
 use Rattle.std.proofs.lemmas.Bool.{cases_lt, cases_eq, le-leb, leb-true, leb-false}
 use Rattle.std.proofs.lemmas.List.{length-set, length-map, get_or_past}
-use Rattle.std.proofs.lemmas.Option.{slice_get_within, slice_get_cases}
+use Rattle.std.proofs.lemmas.Option.{slice_get_within}
 use Rattle.prl_base.specs.Values.{type_of}
 use Rattle.prl_base.specs.declared.values.Value.{Value}
-use Rattle.prl_base.specs.declared.values.Value.TheVariants as values
 use Rattle.prl_body.specs.Machines.{MachineState}
-use Rattle.prl_body.specs.Bodies.{body_step, input_types, output_types, register_types}
+use Rattle.prl_body.specs.Bodies.{body_step, register_types}
 use Rattle.prl_body.specs.declared.bodies.CheckedBody.{CheckedBody}
 use Rattle.prl_flow.specs.Applications.{registers_before}
 use Rattle.prl_flow.specs.Rows.{Rows, rows_of}
@@ -20,7 +19,7 @@ use Rattle.prl_plan.specs.Jobs.{task_at, job_count, IsHorizonJob}
 use Rattle.prl_plan.specs.Plans.{PlanView, reads_of, actions_of, completes, operands_in, operands_before}
 use Rattle.prl_core.proofs.Places.{slice_get_set_same, slice_get_set_other}
 use Rattle.prl_values.specs.BodyRuns.{place_of_run}
-use Rattle.prl_values.specs.Fitting.{FitsTask, HaveTypedRows, port_types}
+use Rattle.prl_values.specs.Fitting.{FitsTask, port_types}
 use Rattle.prl_values.specs.JobValues.{JobValues, gives, given, at_most_one, step_outputs, reads_of_job, body_of_task}
 use Rattle.prl_machine.specs.declared.workers.Work.{Work}
 use Rattle.prl_machine.specs.declared.workers.Work.TheVariants as works
@@ -120,8 +119,8 @@ module _ (plan : PlanView) (bodies : List CheckedBody) (rows : Rows) (until : �
       subst (λ (w : Work). HasDone outputs w) (sym runs.0) (
         ap length runs.1.2,
         runs.1.2 ∙ sym (laws.values
-        ∙ ap (λ (x : Kind). gives x rows (body_of_task bodies (task_at plan.graph i)) (reads_of_job plan.graph v i) n) is
-        ∙ ap at_most_one runs.1.1),
+            ∙ ap (λ (x : Kind). gives x rows (body_of_task bodies (task_at plan.graph i)) (reads_of_job plan.graph v i) n) is
+            ∙ ap at_most_one runs.1.1),
         is,
       )
   run_done (works.Node body machine) after operands outputs is whole runs =
@@ -134,8 +133,8 @@ module _ (plan : PlanView) (bodies : List CheckedBody) (rows : Rows) (until : �
       subst (λ (w : Work). HasDone outputs w) (sym runs.0) (
         sym (length-map outputs type_of) ∙ ap length runs.2,
         runs.1 ∙ ap (λ s. s.outputs) step ∙ sym (laws.values
-        ∙ ap (λ (x : Kind). gives x rows (body_of_task bodies (task_at plan.graph i)) (reads_of_job plan.graph v i) n) is.0.1
-        ∙ ap (λ (b : Option CheckedBody). step_outputs b (reads_of_job plan.graph v i) n) is.1),
+            ∙ ap (λ (x : Kind). gives x rows (body_of_task bodies (task_at plan.graph i)) (reads_of_job plan.graph v i) n) is.0.1
+            ∙ ap (λ (b : Option CheckedBody). step_outputs b (reads_of_job plan.graph v i) n) is.1),
         (
           is.0,
           is.1,

@@ -1,5 +1,5 @@
 -- What stands before the first event.
-use Rattle.std.specs.Prelude.{◌≡◌, ◌<◌, ℕ, false, List, length, Some, slice_get}
+use Rattle.std.specs.Prelude.{◌≡◌, ℕ, false, List, length, Some, slice_get}
 use Rattle.prl_body.specs.Bodies.{first_values}
 use Rattle.prl_body.specs.declared.bodies.CheckedBody.{CheckedBody}
 use Rattle.prl_plan.specs.declared.graphs.Kind.TheVariants as kinds

@@ -1,4 +1,3 @@
-use Rattle.std.proofs.Common.{◌≡◌}
 use Rattle.prl_plan.specs.Horizons.{constants_of}
 use Rattle.prl_machine.specs.Cores.{values_of}
 use Rattle.prl_machine.proofs.laws.machine_laws.Goals as goal

@@ -1,4 +1,4 @@
-use Rattle.std.proofs.Common.{◌≡◌, ◌+◌, ◌<◌, ◌≤◌, ◌++◌, ℕ, length, [], ◌∷◌, List, take, eqb, cond, sym, ap, ◌∙◌, arith}
+use Rattle.std.proofs.Common.{◌≡◌, ◌<◌, ◌++◌, ℕ, length, [], ◌∷◌, List, take, cond, sym, ap, ◌∙◌, arith}
 use Rattle.std.proofs.lemmas.List.{take_more, length-take-le}
 use Rattle.prl_plan.specs.declared.graphs.Edge.{Edge}
 use Rattle.prl_plan.proofs.UsedLaws.{test_same, test_differs}
@@ -25,7 +25,7 @@ loop-edge-preserved c =
     let whole = ap (λ (xs : List Edge). length (port_types xs c.args.i))
     (more ∙ ap (λ (e : Edge). take c.loop-edge.edge-index c.args.edges.now ++ e ∷ []) (sym c.edge-item.is)) in
     elim c.if-edge-i.branch [
-      then-edge-i w ↦
+      | then-edge-i w ↦
           (let count = w.count-is in let one = ap {B = ℕ} (λ b. cond b 1 0) (test_same c.edge-item.result.to.0 c.args.i w.if-edge-i.true) in
           omega (arith, is, push, whole, count, one))
       | else-edge-i w ↦

@@ -1,11 +1,9 @@
-use Rattle.std.proofs.Common.{◌≡◌, ◌<◌, ℕ, List, Some, length, get_or, sym, ap, subst, ◌∙◌}
+use Rattle.std.proofs.Common.{◌≡◌, ℕ, List, sym, ap, subst, ◌∙◌}
 use Rattle.prl_base.specs.Names.{IsName}
 use Rattle.prl_body.specs.Bodies.{body_named}
-use Rattle.prl_body.specs.declared.bodies.CheckedBody.{CheckedBody}
-use Rattle.prl_plan.specs.declared.graphs.Kind.TheVariants as kinds
 use Rattle.prl_plan.specs.declared.graphs.Task.{Task}
 use Rattle.prl_plan.specs.Graphs.{IsTask}
-use Rattle.prl_plan.specs.Jobs.{no_task, task_at}
+use Rattle.prl_plan.specs.Jobs.{task_at}
 use Rattle.prl_plan.proofs.RoundPeriods.{task_is}
 use Rattle.prl_values.specs.JobValues.{word_of}
 use Rattle.prl_machine.proofs.TaskNames.{node_word, task_read}

@@ -62,7 +62,7 @@ invariant_of-self-2 c =
       c.self.invariant.0 ∙ sym (ap (λ (t : TrackView). t.plan) ok.3),
       c.self.invariant.1 ∙ sym (ap (λ (t : TrackView). t.horizon) ok.3),
       subst (λ (t : TrackView). IsKept (record { plan = t.plan; bodies = c.self.inside.bodies.now; rows = c.self.inside.sensors.now; horizon = t.horizon; state = t.state })
-      c.serve.new.self.halves.items c.serve.new.self.workers.items) (sym ok.3)
+          c.serve.new.self.halves.items c.serve.new.self.workers.items) (sym ok.3)
           (subst (λ (a : Action). IsKept (record core { state = after_action core.state c.args.task.0 a }) c.serve.new.self.halves.items c.serve.new.self.workers.items) ok.2 done.0),
     )
 

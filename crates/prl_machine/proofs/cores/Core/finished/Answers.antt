@@ -1,4 +1,4 @@
-use Rattle.std.proofs.Common.{◌≡◌, MatchResult, subst}
+use Rattle.std.proofs.Common.{MatchResult, subst}
 use Rattle.prl_plan.specs.Rules.{IsComplete, IsFirstUnfinished}
 use Rattle.prl_machine.specs.Cores.{CoreView, constants}
 use Rattle.prl_machine.proofs.cores.Core.finished.Goals as goal

@@ -1,6 +1,4 @@
-use Rattle.std.proofs.Common.{◌≡◌, ◌<◌, ℕ, length, refl, sym, ◌∙◌, ap, subst, arith}
-use Rattle.std.proofs.lemmas.Option.{slice_get_read}
-use Rattle.prl_plan.specs.declared.graphs.Kind.TheVariants as kinds
+use Rattle.std.proofs.Common.{◌≡◌, ◌<◌, length, sym, subst}
 use Rattle.prl_machine.specs.Cores.{CoreView, IsMachineOf, IsNoNode}
 use Rattle.prl_machine.specs.code.Kept.{IsKept}
 use Rattle.prl_machine.proofs.Given.{work_at, machine_is_of, sensor_no_node, actuator_no_node}

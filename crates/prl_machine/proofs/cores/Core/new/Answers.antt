@@ -1,4 +1,4 @@
-use Rattle.std.proofs.Common.{◌≡◌, sym, ap, subst}
+use Rattle.std.proofs.Common.{sym, ap, subst}
 use Rattle.prl_core.specs.Tracks.{TrackView}
 use Rattle.prl_machine.specs.code.Kept.{IsKept}
 use Rattle.prl_machine.proofs.Opening.{opened_kept}
@@ -10,7 +10,7 @@ invariant_of-result c =
       sym (ap (λ (t : TrackView). t.plan) opens),
       sym (ap (λ (t : TrackView). t.horizon) opens),
       subst (λ (t : TrackView). IsKept (record { plan = t.plan; bodies = c.args.bodies.now; rows = c.args.sensors.now; horizon = t.horizon; state = t.state })
-      c.in_ok-store.store.halves.items c.in_ok-store.store.workers.items) (sym opens)
+          c.in_ok-store.store.halves.items c.in_ok-store.store.workers.items) (sym opens)
           (opened_kept c.args.plan.now c.args.bodies.now c.args.sensors.now c.args.horizon c.plan_is_one.ensures c.plan_facts.ensures c.requires.horizon c.requires.bodies c.requires.rows
           c.in_ok-store.store.halves.items c.in_ok-store.store.workers.items c.in_ok-store.ensures.halves c.in_ok-store.ensures.workers),
     )

@@ -1,4 +1,4 @@
-use Rattle.std.proofs.Common.{◌≡◌, subst}
+use Rattle.std.proofs.Common.{subst}
 use Rattle.prl_core.specs.Tracks.{IsNext}
 use Rattle.prl_machine.specs.Cores.{CoreView, constants}
 use Rattle.prl_machine.proofs.cores.Core.next.Goals as goal

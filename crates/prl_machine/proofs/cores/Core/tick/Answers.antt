@@ -1,4 +1,4 @@
-use Rattle.std.proofs.Common.{◌≡◌, sym, ◌∙◌, ap, subst}
+use Rattle.std.proofs.Common.{sym, ◌∙◌, ap, subst}
 use Rattle.std.proofs.lemmas.Result.{err_from_is_err_and}
 use Rattle.prl_plan.specs.declared.events.Event.TheVariants as events
 use Rattle.prl_plan.specs.Rules.{FirstBroken}
@@ -32,6 +32,6 @@ invariant_of-self-2 c =
       c.self.invariant.0 ∙ sym (ap (λ (t : TrackView). t.plan) ok.2),
       c.self.invariant.1 ∙ sym (ap (λ (t : TrackView). t.horizon) ok.2),
       subst (λ (t : TrackView). IsKept (record { plan = t.plan; bodies = c.self.inside.bodies.now; rows = c.self.inside.sensors.now; horizon = t.horizon; state = t.state })
-      c.self.inside.store.halves.items c.self.inside.store.workers.items) (sym ok.2)
+          c.self.inside.store.halves.items c.self.inside.store.workers.items) (sym ok.2)
           (tick_kept core c.self.inside.store.halves.items c.self.inside.store.workers.items kept laws ok.0),
     )

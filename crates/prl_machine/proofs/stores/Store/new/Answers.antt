@@ -1,5 +1,4 @@
-use Rattle.std.proofs.Common.{◌≡◌, ◌+◌, List, [], ◌∷◌, length, length-append, ap, arith}
-use Rattle.prl_machine.specs.declared.workers.Worker.{Worker}
+use Rattle.std.proofs.Common.{[], ◌∷◌, length, length-append, ap, arith}
 use Rattle.prl_machine.specs.code.Opening.{IsNewWorker}
 use Rattle.prl_machine.proofs.Stored.{workers_more}
 use Rattle.prl_machine.proofs.stores.Store.new.Goals as goal

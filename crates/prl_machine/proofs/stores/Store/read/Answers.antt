@@ -1,4 +1,4 @@
-use Rattle.std.proofs.Common.{◌≡◌, ◌%◌, ℕ, ap}
+use Rattle.std.proofs.Common.{◌%◌, ℕ, ap}
 use Rattle.prl_core.specs.declared.seen.Seen.TheVariants as sights
 use Rattle.prl_machine.proofs.Stored.{taken_from, high_read}
 use Rattle.prl_machine.proofs.stores.Store.read.Goals as goal

@@ -1,4 +1,4 @@
-use Rattle.std.proofs.Common.{◌≡◌, refl}
+use Rattle.std.proofs.Common.{refl}
 use Rattle.prl_machine.proofs.Stored.{worker_read}
 use Rattle.prl_machine.proofs.stores.Store.take.Goals as goal
 

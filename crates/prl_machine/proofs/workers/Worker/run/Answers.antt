@@ -1,4 +1,4 @@
-use Rattle.std.proofs.Common.{◌≡◌, ◌<◌, length, refl, sym, ◌∙◌, ap, subst}
+use Rattle.std.proofs.Common.{length, refl, sym, ◌∙◌, ap, subst}
 use Rattle.std.specs.Vec.{with_item}
 use Rattle.std.proofs.lemmas.Option.{slice_get_read}
 use Rattle.prl_machine.specs.declared.workers.Work.{Work}
@@ -14,8 +14,7 @@ returns-in-Actuator c =
       ran = refl;
       taken = refl;
       runs = subst (λ (w : Work). RunsTo c.args.sensors.now c.args.job c.args.self.now.operands.items c.args.self.now.outputs.items w
-      (works.Actuator (with_item c.in-Actuator.column c.args.job c.index.result.now))) (sym c.in-Actuator.is)
-          (
+          (works.Actuator (with_item c.in-Actuator.column c.args.job c.index.result.now))) (sym c.in-Actuator.is) (
             with_item c.in-Actuator.column c.args.job c.index.result.now,
             c.index.result.now,
             slice_get_read c.args.self.now.operands.items (length c.args.self.now.operands.items) 0 c.index.result.now refl can.1 c.index.ensures,
