@@ -12,3 +12,4 @@ mod SeatSteps
 mod Opens
 mod Telling
 mod Caught
+mod RunFacts

@@ -1,10 +1,19 @@
-//! Laws of halves and words, as functions that do nothing: the contract of each is the law.
+//! Laws of halves and words, and of what jobs read and give over a run, as functions that do
+//! nothing: the contract of each is the law.
 
 ghost use Rattle.std.specs.Prelude.{◌≡◌, ◌/◌, ◌%◌, ◌^◌, ◌<◌, ℕ};
 ghost use Rattle.prl_base.specs.Values.{type_of, FitsValue, IsOfType};
 ghost use Rattle.prl_base.specs.declared.values.Ty.{Ty};
 ghost use Rattle.prl_base.specs.declared.values.Value.{Value};
+ghost use Rattle.prl_plan.specs.Plans.{IsPlan};
+ghost use Rattle.prl_values.specs.Fitting.{HaveTaskBodies, HaveTypedRows};
+ghost use Rattle.prl_board.specs.declared.views.Constants.{Constants};
 ghost use Rattle.prl_board.specs.Halves.{AreHalves, high_half, low_half, tagged, value_of_halves};
+ghost use Rattle.prl_board.specs.Known.{run_of, values_of};
+ghost use Rattle.prl_board.specs.RunValues.{HasValueFacts};
+
+use prl_plan::{actions_are_as_defined, horizon_jobs_are_counted};
+use prl_values::{job_values_are_typed, job_values_exist};
 
 /// The halves of a value give it back, and so does a value its halves.
 pub fn halves_are_exact()
@@ -24,3 +33,16 @@ pub fn words_are_exact()
         (tagged tag half / 2 ^ 32 ≡ tag) × (tagged tag half % 2 ^ 32 ≡ half) }
     ensures packed { (word : ℕ) → tagged (word / 2 ^ 32) (word % 2 ^ 32) ≡ word }
 {}
+
+/// The values by instance of a plan hang together with its actions: where each node task has a body
+/// that fits it and the rows have their types, each read completes the operand of its port, an
+/// instance that is read has the type of its edge, and a body runs after all reads of its job.
+pub fn run_values_keep_facts()
+    ensures { (k : Constants) → IsPlan k.plan → HaveTaskBodies k.plan.graph k.bodies →
+        HaveTypedRows k.plan.graph k.horizon.until k.sensors → HasValueFacts (run_of k) (values_of k) }
+{
+    horizon_jobs_are_counted();
+    actions_are_as_defined();
+    job_values_exist();
+    job_values_are_typed();
+}

@@ -8,7 +8,7 @@ mod steps;
 mod tagged;
 mod views;
 
-pub use laws::{halves_are_exact, words_are_exact};
+pub use laws::{halves_are_exact, run_values_keep_facts, words_are_exact};
 pub use steps::{
     gated_read_is_never_overrun, join_takes_all_parts, load_of_done_is_kept,
     load_of_half_is_a_read, load_of_now_opens_a_job, load_of_stop_is_kept,
