@@ -1,0 +1,2 @@
+-- what it is to replay a schedule
+pub mod Replays
