@@ -21,7 +21,7 @@ returns-else-eq c = λ plan is.
     let made = c.in_ok-plan.ensures in
     let text = text_of_planned c.args.text.now c.in_ok-plan.plan plan c.plan_is_unique.ensures.plan made.0 (made.1 ∙ c.in_ok-graph.ensures) is in
     let same : bytes_eq c.in_ok-again.again.items c.args.text.now ≡ true =
-    (bytes_tell c.in_ok-again.again.items c.args.text.now).then (sym c.in_ok-again.ensures.printed ∙ text) in
+    (bytes_tell c.in_ok-again.again.items c.args.text.now).then (sym c.in_ok-again.ensures.read_back.printed ∙ text) in
     let differ : bytes_eq c.in_ok-again.again.items c.args.text.now ≡ false = search rules in
     absurd (false≢true (sym differ ∙ same))
 
@@ -30,6 +30,6 @@ returns-then-eq c =
     let yes : bytes_eq c.in_ok-again.again.items c.args.text.now ≡ true = search rules in
     record {
       planned = c.in_ok-plan.ensures.0;
-      held = c.in_ok-again.ensures.held;
-      printed = c.in_ok-again.ensures.printed ∙ (bytes_tell c.in_ok-again.again.items c.args.text.now).so yes;
+      held = c.in_ok-again.ensures.read_back.held;
+      printed = c.in_ok-again.ensures.read_back.printed ∙ (bytes_tell c.in_ok-again.again.items c.args.text.now).so yes;
     }
