@@ -1,18 +1,21 @@
 -- What the table asks of each kind of step is what the rule grants.
-use Rattle.std.proofs.Common.{◌≡◌, ℕ, zero, suc, ◌+◌, ◌-◌, ◌/◌, ◌%◌, ◌^◌, ◌<◌, ◌≤◌, ◌≢◌, List, [], ◌∷◌, ◌++◌, get_or, set, refl, sym, ap, ◌∙◌, subst, arith, Bool, true, false, cond, eqb, Option, Some, None}
+use Rattle.std.proofs.Common.{◌≡◌, ℕ, zero, suc, ◌+◌, ◌-◌, ◌/◌, ◌%◌, ◌^◌, ◌<◌, ◌≤◌, ◌≢◌, List, [], ◌∷◌, ◌++◌, length, get_or, set, refl, sym, ap, ◌∙◌, subst, arith, Bool, true, false, cond, eqb, Option, Some, None}
 use Rattle.std.proofs.lemmas.List.{set-get_or}
 use mathlib.Core.Option.{some, some-injective, some-ne-none}
 use lib.ListN.{get_elem?}
-use Rattle.atomic_table.specs.Table.{State, Me, Allows, keeps}
+use Rattle.atomic_table.specs.Table.{State, Me, Allows, Splits, keeps}
 use Rattle.prl_base.specs.declared.numbers.EdgeNo.{EdgeNo}
 use Rattle.prl_plan.specs.declared.events.Action.TheVariants as actions
 use Rattle.prl_plan.specs.declared.events.Event.{Event}
 use Rattle.prl_plan.specs.Facts.{ReadsAt}
 use Rattle.prl_board.specs.declared.views.Constants.{Constants}
+use Rattle.prl_board.specs.declared.views.TaskPart.{TaskPart}
 use Rattle.prl_board.specs.declared.views.View.{View}
 use Rattle.prl_board.specs.Agreement.{Witness}
 use Rattle.prl_board.specs.Known.{run_of, values_of}
 use Rattle.prl_board.specs.Rule.{Agreed, AgreesWith}
+use Rattle.prl_board.specs.Steps.{given_to, only_part, without_part}
+use Rattle.prl_board.proofs.SeatSteps.{split_keeps}
 
 -- words, views and the list of events agree, with the seat's view
 abbrev pub Grants : Constants → ℕ → Me (Unit {0}) View → ℕ → (ℕ → ℕ) → (ℕ → View) → (ℕ → View → Type 0) → Type 0
@@ -40,3 +43,9 @@ load_allowed k slots id me word next told grants =
         let r = grants w es words views a at in
         let same : words ≡ set words word (get_or words word 0) = sym (set-get_or words word 0) in
         (r.0, r.1, subst (λ (ws : List ℕ). AgreesWith k (run_of k) (values_of k) r.0 r.1 ws (set views id (next (get_or words word 0)))) same r.2, r.3))
+
+-- a seat that has the part of a task may be split
+pub split_allowed : (k : Constants) (id i : ℕ) (view : View) (p : TaskPart) → get_elem? view.tasks i ≡ some (Some p) →
+    Splits {S = Unit {0}} (Agreed k) id view (without_part i view) (only_part i view)
+split_allowed k id i view p has s holds at =
+    (given_to i (length s.views) holds.0, holds.1, split_keeps k (run_of k) (values_of k) holds.0 holds.1 s.words s.views id i view p holds.2 at has)

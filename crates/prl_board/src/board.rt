@@ -1,6 +1,6 @@
 //! The board: the table that threads share, with what its run is about, and each kind of step.
 
-ghost use Rattle.std.specs.Prelude.{◌≡◌, ◌+◌, ◌/◌, ◌^◌, ◌<◌, ◌≤◌, ℕ, false, slice_index, Some};
+ghost use Rattle.std.specs.Prelude.{◌≡◌, ◌+◌, ◌/◌, ◌^◌, ◌<◌, ◌≤◌, ℕ, [], false, replicate, slice_index, IfOk, Some};
 ghost use mathlib.Core.Option.{some};
 ghost use lib.ListN.{get_elem?};
 ghost use Rattle.atomic_table.specs.Table.{Allows};
@@ -15,17 +15,22 @@ ghost use Rattle.prl_board.specs.declared.views.View.{View};
 ghost use Rattle.prl_board.specs.Agreement.{slot_word, stop_word, word_count, IsOverrun};
 ghost use Rattle.prl_board.specs.Boards.{BoardView, ClockStopTold, EndTold, HalfTold, IsAt, LookTold, NowTold, RaiseTold, StopTold, TickTold, WriteTold, part_at, part_of};
 ghost use Rattle.prl_board.specs.RunValues.{word_of};
-ghost use Rattle.prl_board.specs.Known.{run_of, values_of};
-ghost use Rattle.prl_board.specs.Rule.{Agreed, StandsAt};
+ghost use Rattle.prl_plan.specs.Horizons.{IsHorizon};
+ghost use Rattle.prl_values.specs.Fitting.{HaveTaskBodies, HaveTypedRows};
+ghost use Rattle.prl_board.specs.declared.views.TaskPart.{TaskPart};
+ghost use Rattle.prl_board.specs.Known.{known, run_of, values_of};
+ghost use Rattle.prl_board.specs.Rule.{Agreed, StandsAt, all_parts};
+ghost use Rattle.prl_board.specs.Steps.{only_part, without_part};
 
-use crate::laws::plan_laws;
+use crate::laws::{plan_laws, run_values_keep_facts};
+use crate::steps::rule_holds_at_the_opening;
 use crate::views::{About, Gate, Running, View};
-use atomic_table::{Play, Table};
+use atomic_table::{Play, Split, Table};
 use prl_base::TaskNo;
 use prl_body::Bodies;
 use prl_flow::Sensors;
-use prl_plan::{Horizon, Plan, SlotNo, plan_facts};
-use std::alloc::Global;
+use prl_plan::{Horizon, Plan, SlotNo, plan_facts, plan_is_one};
+use std::alloc::{AllocError, Global};
 use std::marker::{Brand, Model, PhantomData};
 
 /// A seat of the table.
@@ -52,6 +57,29 @@ impl<J: Telling> Play<(), View> for Tells<J> {
     ghost use Rattle.std.specs.Prelude.{◌≡◌};
 
     ghost then = { λ step me found after. J.told me.0 found after.0 × (after.1 ≡ me.1) };
+}
+
+/// Names the task whose part goes to a new seat. Each call picks it.
+pub(crate) trait Parting {
+    ghost use Rattle.std.specs.Prelude.{ℕ};
+
+    ghost task: { ℕ };
+}
+
+impl Parting for Brand {
+    ghost task = { 0 };
+}
+
+struct Parts<J> {
+    of: PhantomData<J>,
+}
+
+impl<J: Parting> Split<View> for Parts<J> {
+    ghost use Rattle.prl_board.specs.Steps.{only_part, without_part};
+
+    ghost left = { without_part J.task };
+
+    ghost right = { only_part J.task };
 }
 
 /// The board of a run: a plan with its bodies and the rows of its sensors, a horizon, a gate, and the
@@ -81,7 +109,75 @@ impl<'a> Model for Board<'a> {
         (known b.table.shared.key.plan.now b.table.shared.key.horizon b.table.shared.key.gate b.table.shared.key.sensors.now b.table.shared.key.bodies.now) b.table.shared.table_id.words };
 }
 
+/// So many zeros.
+fn zeros(alloc: Global, count: usize) -> Result<Vec<u64>, AllocError>
+    ensures { IfOk result (λ v. v.items ≡ replicate count 0) }
+{
+    vec![in alloc; 0; count]
+}
+
 impl<'a> Board<'a> {
+    /// The board of a run at its opening, with the one seat that has all parts.
+    pub(crate) fn open(
+        alloc: Global,
+        plan: &'a Plan,
+        bodies: &'a Bodies,
+        sensors: &'a Sensors,
+        horizon: Horizon,
+        gate: Gate,
+    ) -> Result<(Board<'a>, Seat), AllocError>
+        requires horizon { IsHorizon plan.now horizon }
+        requires bodies { HaveTaskBodies plan.now.graph bodies.now }
+        requires rows { HaveTypedRows plan.now.graph horizon.until sensors.now }
+        ensures { IfOk result (λ r. (r.0.known ≡ known plan.now horizon gate sensors.now bodies.now) × (r.1.table_id ≡ r.0.table)
+            × (r.1.me ≡ (all_parts (known plan.now horizon gate sensors.now bodies.now), []))) }
+    {
+        plan_facts(plan, horizon);
+        plan_is_one(plan);
+        run_values_keep_facts();
+        rule_holds_at_the_opening();
+        let count = 2 + plan.graph().tasks.len() + 2 * plan.total() as usize;
+        let words = zeros(alloc, count)?;
+        let about = About {
+            plan,
+            sensors,
+            bodies,
+            horizon,
+            gate,
+        };
+        let (table, seat) = Table::of_words(alloc, words.as_slice(), &about)?;
+        let board = Board {
+            plan,
+            bodies,
+            sensors,
+            horizon,
+            gate,
+            table,
+        };
+        Ok((board, seat))
+    }
+
+    /// The part of a task goes to a new seat.
+    fn split_as<J: Parting>(&self, seat: &mut Seat, task: u32) -> Seat
+        requires task { J.task ≡ task }
+        requires table { seat.old.table_id ≡ self.now.table }
+        requires part { (p : TaskPart) × (get_elem? seat.old.me.0.tasks task ≡ some (Some p)) }
+        ensures rest { (seat.new.table_id ≡ seat.old.table_id) × (seat.new.id ≡ seat.old.id) × (seat.new.me ≡ (without_part task seat.old.me.0, seat.old.me.1)) }
+        ensures part { (result.table_id ≡ seat.old.table_id) × (result.me ≡ (only_part task seat.old.me.0, [])) }
+    {
+        self.table.shared.split_seat::<Parts<J>>(seat)
+    }
+
+    /// The part of a task goes to a new seat.
+    pub(crate) fn split(&self, seat: &mut Seat, task: TaskNo) -> Seat
+        requires table { seat.old.table_id ≡ self.now.table }
+        requires part { (p : TaskPart) × (get_elem? seat.old.me.0.tasks task.0 ≡ some (Some p)) }
+        ensures rest { (seat.new.table_id ≡ seat.old.table_id) × (seat.new.id ≡ seat.old.id) × (seat.new.me ≡ (without_part task.0 seat.old.me.0, seat.old.me.1)) }
+        ensures part { (result.table_id ≡ seat.old.table_id) × (result.me ≡ (only_part task.0 seat.old.me.0, [])) }
+    {
+        self.split_as::<Brand>(seat, task.0)
+    }
+
     /// A load by the seat of a task that stands at this place.
     fn load<J: Telling>(&self, seat: &mut Seat, task: u32, place: u32, word: usize) -> u64
         requires table { seat.old.table_id ≡ self.now.table }
