@@ -19,7 +19,7 @@ use Rattle.prl_board.specs.RunValues.{RunValues}
 use Rattle.prl_board.specs.Agreement.{Witness, Shows, AgreesTask}
 use Rattle.prl_board.specs.Rule.{AgreesWith, reached}
 use Rattle.prl_board.specs.Steps.{with_part, taken, values_with, stand_moved, moved_on, AreConstants, caught_up, acts}
-use Rattle.prl_board.proofs.PlanLaws.{PlanLaws}
+use Rattle.prl_board.specs.code.PlanLaws.{PlanLaws}
 use Rattle.prl_board.proofs.ValueSteps.{grows_by_one, values_move}
 use Rattle.prl_board.proofs.Reading.{const_no_read, const_no_high, not_raised}
 use Rattle.prl_board.proofs.Keeps.{moves_keep}

@@ -17,7 +17,7 @@ use Rattle.prl_board.specs.RunValues.{RunValues, word_of}
 use Rattle.prl_board.specs.Agreement.{done_word, slot_word, stop_word, Witness, AgreesTask, IsOverrun}
 use Rattle.prl_board.specs.Rule.{AgreesWith, HasPart, StandsAt, reached}
 use Rattle.prl_board.specs.Steps.{HasRead, acts, caught_up, done_counted, half_loaded, half_stored, moved_on, part_raised, raised_by, stop_loaded, with_part}
-use Rattle.prl_board.proofs.PlanLaws.{PlanLaws}
+use Rattle.prl_board.specs.code.PlanLaws.{PlanLaws}
 use Rattle.prl_board.proofs.Catching.{set_found, catch_up, settled}
 use Rattle.prl_board.proofs.HalfSteps.{load_half_keeps, no_later_loaded, store_half_keeps, value_loaded}
 use Rattle.prl_board.proofs.JobSteps.{store_done_keeps}
@@ -51,6 +51,11 @@ module _ (k : Constants) (c : RunConstants) (v : RunValues) where
 
     agrees : AgreesTask c v w.raised (reached c (es ++ acts i count)) i (caught_up c v i count p)
     agrees = ((caught.each_view id (with_part i (caught_up c v i count p) u) seat).task i (caught_up c v i count p) part).2
+
+    pub inside_law : (port : ℕ) (e : EdgeNo) (m h : ℕ) → StandsAt c i (caught_up c v i count p).stand (actions.Read port e m (record { 0 = h })) → h < c.slots
+    inside_law port e m h at =
+        a.facts.read_cell i (caught_up c v i count p).stand.ended (caught_up c v i count p).stand.place m h
+        (record { job = record { task = agrees.stand.task; job = agrees.stand.job at.opened }; action = (port, e, at.next) })
 
     pub load_half_law : (port : ℕ) (e : EdgeNo) (m h : ℕ) → StandsAt c i (caught_up c v i count p).stand (actions.Read port e m (record { 0 = h })) →
         AgreesWith k c v w (es ++ (acts i count ++ (cond (eqb (get_or words (slot_word c h) 0 / 2 ^ 32) (m + 1)) (acts i 1) []))) words

@@ -18,7 +18,7 @@ use Rattle.prl_board.specs.RunValues.{RunValues}
 use Rattle.prl_board.specs.Agreement.{now_word, done_word, slot_word, stop_word, Witness, Shows, AgreesTask, AgreesClock, AgreesView, IsStop}
 use Rattle.prl_board.specs.Rule.{AgreesWith, reached}
 use Rattle.prl_board.specs.Steps.{with_clock, ticked, looked}
-use Rattle.prl_board.proofs.PlanLaws.{PlanLaws}
+use Rattle.prl_board.specs.code.PlanLaws.{PlanLaws}
 use Rattle.prl_board.proofs.Keeps.{IsLater, keeps_state, keeps_event, task_later, other_view}
 
 module _ (k : Constants) (c : RunConstants) (v : RunValues) where

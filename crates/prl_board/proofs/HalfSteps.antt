@@ -26,7 +26,7 @@ use Rattle.prl_board.specs.Agreement.{done_word, slot_word, stop_word, Witness, 
 use Rattle.prl_board.specs.Rule.{AgreesWith, reached}
 use Rattle.prl_board.specs.Steps.{with_part, taken, values_with, half_taken, half_missed, half_loaded, half_stored}
 use Rattle.prl_board.proofs.Exact.{unpacked, whole_again}
-use Rattle.prl_board.proofs.PlanLaws.{PlanLaws}
+use Rattle.prl_board.specs.code.PlanLaws.{PlanLaws}
 use Rattle.prl_board.proofs.ValueSteps.{grows_by_none, grows_by_one, values_move}
 use Rattle.prl_board.proofs.Reading.{before_high, write_no_read, write_no_high, same_read, not_raised}
 use Rattle.prl_board.proofs.Keeps.{keeps_state, view_with, next_of, moves_keep}

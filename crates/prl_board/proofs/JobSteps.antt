@@ -20,7 +20,7 @@ use Rattle.prl_board.specs.RunValues.{RunValues}
 use Rattle.prl_board.specs.Agreement.{now_word, done_word, slot_word, stop_word, Witness, Shows, AgreesTask, IsStop}
 use Rattle.prl_board.specs.Rule.{AgreesWith, reached}
 use Rattle.prl_board.specs.Steps.{with_part, done_counted, now_loaded}
-use Rattle.prl_board.proofs.PlanLaws.{PlanLaws}
+use Rattle.prl_board.specs.code.PlanLaws.{PlanLaws}
 use Rattle.prl_board.proofs.ValueSteps.{values_end}
 use Rattle.prl_board.proofs.Reading.{end_no_read, no_high_first}
 use Rattle.prl_board.proofs.Keeps.{IsLater, keeps_state, keeps_event, view_with, next_of, task_later, clock_later, other_view}

@@ -21,7 +21,7 @@ use Rattle.prl_board.specs.RunValues.{RunValues}
 use Rattle.prl_board.specs.Agreement.{Witness, Shows, AgreesStanding, AgreesHalf, AgreesValues, AgreesTask, AgreesClock, AgreesView}
 use Rattle.prl_board.specs.Rule.{AgreesWith, reached}
 use Rattle.prl_board.specs.Steps.{with_part, stand_moved}
-use Rattle.prl_board.proofs.PlanLaws.{PlanLaws}
+use Rattle.prl_board.specs.code.PlanLaws.{PlanLaws}
 
 -- a state is s or later, and no task but i stands elsewhere in it
 pub record IsLater (i : ℕ) (s later : ExecState) : Type 0 where

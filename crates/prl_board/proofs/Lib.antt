@@ -1,5 +1,6 @@
+-- For the crates above: a board may be shared.
+pub mod Crossing
 mod Exact
-mod PlanLaws
 mod ValueSteps
 mod Keeps
 mod Reading
@@ -13,3 +14,5 @@ mod Opens
 mod Telling
 mod Caught
 mod RunFacts
+mod Allowed
+mod Granted

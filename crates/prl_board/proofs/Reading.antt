@@ -27,6 +27,11 @@ same_read port e m h port' e' m' h' is =
     let same : here ≡ there = cc in
     (cc, ap (λ (x : SlotNo). x.0) same)
 
+pub whole_read : (port : ℕ) (e : EdgeNo) (m h port' : ℕ) (e' : EdgeNo) (m' h' : ℕ) →
+    actions.Read port e m (record { 0 = h }) ≡ actions.Read port' e' m' (record { 0 = h' }) → (e ≡ e') × (m ≡ m') × (h ≡ h')
+whole_read port e m h port' e' m' h' is =
+    let both = same_read port e m h port' e' m' h' is in (cc, both.0, both.1)
+
 -- a part that cannot have raised has not
 pub not_raised : (b : Bool) → (b ≡ true → ⊥) → b ≡ false
 not_raised true never = absurd (never refl_true)

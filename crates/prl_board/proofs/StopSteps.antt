@@ -17,7 +17,7 @@ use Rattle.prl_board.specs.RunValues.{RunValues}
 use Rattle.prl_board.specs.Agreement.{done_word, slot_word, stop_word, Witness, AgreesTask, AgreesClock, IsOverrun, IsStop, IsToldStop}
 use Rattle.prl_board.specs.Rule.{AgreesWith, reached}
 use Rattle.prl_board.specs.Steps.{with_part, with_clock, part_raised, stop_loaded, clock_stop_loaded, raised_by}
-use Rattle.prl_board.proofs.PlanLaws.{PlanLaws}
+use Rattle.prl_board.specs.code.PlanLaws.{PlanLaws}
 use Rattle.prl_board.proofs.Keeps.{keeps_state, view_with, next_of}
 use Rattle.prl_board.proofs.ClockSteps.{clock_with}
 

@@ -21,7 +21,7 @@ use Rattle.prl_board.specs.declared.views.View.{View}
 use Rattle.prl_board.specs.RunValues.{RunValues, word_of}
 use Rattle.prl_board.specs.Agreement.{now_word, done_word, slot_word, Witness, AgreesTask, AgreesClock}
 use Rattle.prl_board.specs.Rule.{AgreesWith, reached}
-use Rattle.prl_board.proofs.PlanLaws.{PlanLaws}
+use Rattle.prl_board.specs.code.PlanLaws.{PlanLaws}
 use Rattle.prl_board.proofs.HalfSteps.{loaded_tag}
 
 -- `now` stays within the end

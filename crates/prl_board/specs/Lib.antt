@@ -10,3 +10,7 @@ pub mod Known
 pub mod Rule
 -- what each kind of step does to a view
 pub mod Steps
+-- what is seen of a board, and what its steps tell
+pub mod Boards
+-- what private functions say to one another
+pub mod code

@@ -11,8 +11,12 @@ ghost use Rattle.prl_board.specs.declared.views.Constants.{Constants};
 ghost use Rattle.prl_board.specs.Halves.{AreHalves, high_half, low_half, tagged, value_of_halves};
 ghost use Rattle.prl_board.specs.Known.{run_of, values_of};
 ghost use Rattle.prl_board.specs.RunValues.{HasValueFacts};
+ghost use Rattle.prl_board.specs.code.PlanLaws.{PlanLaws};
 
-use prl_plan::{actions_are_as_defined, horizon_jobs_are_counted};
+use prl_plan::{
+    actions_are_as_defined, free_events_keep_tags, free_list_leaves_tags, gated_list_keeps_halves,
+    horizon_jobs_are_counted, run_of_two_lists, tag_is_of_the_latest_instance,
+};
 use prl_values::{job_values_are_typed, job_values_exist};
 
 /// The halves of a value give it back, and so does a value its halves.
@@ -45,4 +49,15 @@ pub fn run_values_keep_facts()
     actions_are_as_defined();
     job_values_exist();
     job_values_are_typed();
+}
+
+/// The laws of plans on which the steps rest.
+pub(crate) fn plan_laws()
+    ensures { PlanLaws }
+{
+    run_of_two_lists();
+    free_events_keep_tags();
+    gated_list_keeps_halves();
+    tag_is_of_the_latest_instance();
+    free_list_leaves_tags();
 }

@@ -25,10 +25,7 @@ ghost use Rattle.prl_board.specs.Known.{run_of, values_of};
 ghost use Rattle.prl_board.specs.Rule.{Agreed, AgreesWith, HasClock, HasPart, StandsAt, all_parts, first_view, first_witness, reached};
 ghost use Rattle.prl_board.specs.Steps.{HasRead, acts, caught_up, clock_stop_loaded, done_counted, given_to, half_loaded, half_stored, joined, looked, now_loaded, only_part, part_raised, raised_by, spent, stop_loaded, taken_in, ticked, with_clock, with_part, without_part};
 
-use prl_plan::{
-    free_events_keep_tags, free_list_leaves_tags, gated_list_keeps_halves, run_of_two_lists,
-    tag_is_of_the_latest_instance,
-};
+use crate::laws::plan_laws;
 
 /// At the opening every word is 0, and the one seat has all parts.
 pub fn rule_holds_at_the_opening()
@@ -94,11 +91,7 @@ pub fn load_of_half_is_a_read()
         AgreesWith k c v w es words views → HasPart views id i view p → IsWriter c i h → h < c.slots →
         slice_index words (slot_word c h) ≡ word_of v h (last_tag c i h p.stand.ended p.stand.place) }
 {
-    run_of_two_lists();
-    free_events_keep_tags();
-    gated_list_keeps_halves();
-    tag_is_of_the_latest_instance();
-    free_list_leaves_tags();
+    plan_laws();
 }
 
 /// On a gated board no load of a half finds a later tag than the wanted one.
@@ -109,9 +102,7 @@ pub fn gated_read_is_never_overrun()
         StandsAt c i (caught_up c v i count p).stand (actions.Read port e m (record { 0 = h })) →
         slice_index words (slot_word c h) / 2 ^ 32 ≤ m + 1 }
 {
-    run_of_two_lists();
-    free_events_keep_tags();
-    gated_list_keeps_halves();
+    plan_laws();
 }
 
 /// A store of a half, of an instance of 64 bits, is the write of this half. It replaces nothing, or
@@ -131,9 +122,7 @@ pub fn store_of_half_is_a_write()
         (j n place l : ℕ) → ReadsAt c j n place l h → slice_index words (slot_word c h) / 2 ^ 32 ≡ l + 1 →
         c.deadline j n ≤ p.stand.now }
 {
-    run_of_two_lists();
-    free_events_keep_tags();
-    gated_list_keeps_halves();
+    plan_laws();
 }
 
 /// A store of a done word is the end of the open job.
@@ -145,9 +134,7 @@ pub fn store_of_done_is_an_end()
         AgreesWith k c v w (es ++ (acts i count ++ acts i 1)) (slice_set words (done_word i) (p.stand.ended + 1))
         (slice_set views id (with_part i (done_counted v i (caught_up c v i count p)) view)) }
 {
-    run_of_two_lists();
-    free_events_keep_tags();
-    gated_list_keeps_halves();
+    plan_laws();
 }
 
 /// A store of `now` is a tick: before the end, and on a gated board where each horizon job that is
@@ -160,9 +147,7 @@ pub fn store_of_now_is_a_tick()
         AgreesWith k c v w (es ++ events.Tick ∷ []) (slice_set words now_word (r.now + 1))
         (slice_set views id (with_clock (ticked r) view)) }
 {
-    run_of_two_lists();
-    free_events_keep_tags();
-    gated_list_keeps_halves();
+    plan_laws();
 }
 
 /// A load of a done word is no event. What it finds is the number of the task's ended jobs, where
@@ -193,9 +178,7 @@ pub fn raise_is_no_event()
         AgreesWith k c v w es words views → k.gate ≡ gates.Gated → HasPart views id i view p →
         HasRead c i p count → IsOverrun c i (caught_up c v i count p).stand p.kept → ⊥ }
 {
-    run_of_two_lists();
-    free_events_keep_tags();
-    gated_list_keeps_halves();
+    plan_laws();
 }
 
 /// A load of the stop word is no event. It finds 0 on a gated board, never 0 where the view has a
@@ -223,9 +206,7 @@ pub fn load_of_stop_is_kept()
         slice_index words (stop_word c) ≢ 0 →
         (j : ℕ) × (j < c.tasks) × (slice_index words (stop_word c) ≡ j + 1) × (w.raised j ≡ true) }
 {
-    run_of_two_lists();
-    free_events_keep_tags();
-    gated_list_keeps_halves();
+    plan_laws();
 }
 
 /// A split is no event: the part of a task goes to a new seat.
@@ -297,7 +278,5 @@ pub fn parts_agree_with_one_state()
         k.gate ≡ gates.Gated → IsJob c i n → c.deadline i n ≤ slice_index words now_word →
         n < slice_index words (done_word i) }
 {
-    run_of_two_lists();
-    free_events_keep_tags();
-    gated_list_keeps_halves();
+    plan_laws();
 }

@@ -1,17 +1,11 @@
-use Rattle.prl_board.proofs.PlanLaws.{PlanLaws}
+use Rattle.prl_board.specs.code.PlanLaws.{PlanLaws}
 use Rattle.prl_board.proofs.Caught.{load_stop_law}
 use Rattle.prl_board.proofs.StopSteps.{clock_stop_keeps, stop_not_none, stop_gated, stop_names}
 use Rattle.prl_board.proofs.steps.load_of_stop_is_kept.Goals as goal
 
 pub returns : goal.returns
 returns c =
-    let laws : PlanLaws = record {
-      state = c.run_of_two_lists.ensures.state;
-      gated = c.run_of_two_lists.ensures.gated;
-      free = c.run_of_two_lists.ensures.free;
-      tagged = c.free_events_keep_tags.ensures.list;
-      held = c.gated_list_keeps_halves.ensures.halves;
-    } in record {
+    let laws : PlanLaws = c.plan_laws.ensures in record {
       keeps = λ k run v w es words views id i count view p a has read. load_stop_law k run v laws w es words views id i count view p a has read;
       clock = λ k run v w es words views id view r a has. clock_stop_keeps k run v w es words views id view r a has.seat has.part;
       own = λ k run v w es words views id i view p a has raised. stop_not_none k run v w es words views id i view p a has.seat has.part raised;

@@ -1,16 +1,10 @@
-use Rattle.prl_board.proofs.PlanLaws.{PlanLaws}
+use Rattle.prl_board.specs.code.PlanLaws.{PlanLaws}
 use Rattle.prl_board.proofs.Caught.{raise_law, calm_law}
 use Rattle.prl_board.proofs.steps.raise_is_no_event.Goals as goal
 
 pub returns : goal.returns
 returns c =
-    let laws : PlanLaws = record {
-      state = c.run_of_two_lists.ensures.state;
-      gated = c.run_of_two_lists.ensures.gated;
-      free = c.run_of_two_lists.ensures.free;
-      tagged = c.free_events_keep_tags.ensures.list;
-      held = c.gated_list_keeps_halves.ensures.halves;
-    } in record {
+    let laws : PlanLaws = c.plan_laws.ensures in record {
       keeps = λ k run v w es words views id i count view p a has read over. raise_law k run v laws w es words views id i count view p a has read over;
       gated = λ k run v w es words views id i count view p a gate has read over. calm_law k run v laws w es words views id i count view p a has read gate over;
     }
