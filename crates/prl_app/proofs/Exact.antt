@@ -52,14 +52,14 @@ OneEnd = (g : Given) (list : List Stage) (a b : Option (Stage × Fault)) → Com
 
 module _ (law : OneEnd) (words : List (List ℕ)) (told : Option Folder) (folder : Folder) (known : told ≡ Some folder) where
   one_way : (c d : Command) → command_of words ≡ Some c → command_of words ≡ Some d → (g h : Given) → IsGiven told c g → IsGiven (Some folder) d h
-      → (a b : Option (Stage × Fault)) → Comes g (stages_of c.mode) a → Comes h (stages_of d.mode) b → a ≡ b
+      → (a b : Option (Stage × Fault)) → Comes g (stages_of c) a → Comes h (stages_of d) b → a ≡ b
   one_way c d ac ad g h gg gh a b ca cb =
       let same = some_same (command_of words) c d ac ad in
       let given : IsGiven (Some folder) c g = subst (λ (t : Option Folder). IsGiven t c g) known gg in
       let given : IsGiven (Some folder) d g = subst (λ (x : Command). IsGiven (Some folder) x g) same given in
-      let comes : Comes g (stages_of d.mode) a = subst (λ (x : Command). Comes g (stages_of x.mode) a) same ca in
-      let comes : Comes h (stages_of d.mode) a = subst (λ (x : Given). Comes x (stages_of d.mode) a) (one_given folder d g h given gh) comes in
-      law h (stages_of d.mode) a b comes cb
+      let comes : Comes g (stages_of d) a = subst (λ (x : Command). Comes g (stages_of x) a) same ca in
+      let comes : Comes h (stages_of d) a = subst (λ (x : Given). Comes x (stages_of d) a) (one_given folder d g h given gh) comes in
+      law h (stages_of d) a b comes cb
 
 -- a list with a name more is another one
 one_more : (names : List (List ℕ)) (name : List ℕ) → names ++ (name ∷ []) ≡ names → ⊥

@@ -1,21 +1,18 @@
 -- Main's inputs and outputs: how many there are, their names, types and needs one by one, and what is known of their rows.
-use Rattle.std.proofs.Common.{◌≡◌, ℕ, ◌+◌, ◌<◌, ◌≤◌, List, [], ◌∷◌, ◌++◌, length, map, take, Option, Some, Ok, refl, sym, ap, ◌∙◌, subst, arith, slice_get}
+use Rattle.std.proofs.Common.{◌≡◌, ℕ, ◌+◌, ◌<◌, ◌≤◌, List, [], ◌∷◌, ◌++◌, length, map, take, Some, Ok, sym, ap, ◌∙◌, arith, slice_get}
 use Rattle.std.specs.Option.{option_map}
 use Rattle.std.proofs.lemmas.List.{length-map, length-append, map_more}
-use Rattle.std.proofs.lemmas.Option.{get_or_from_slice_get, slice_get-get_or, slice_get-map, slice_get_within}
+use Rattle.std.proofs.lemmas.Option.{get_or_from_slice_get, slice_get-map, slice_get_within}
 use Rattle.prl_base.specs.Clocks.{IsClock}
-use Rattle.prl_base.specs.Values.{type_of}
 use Rattle.prl_base.specs.declared.numbers.FlowNo.{FlowNo}
 use Rattle.prl_base.specs.declared.operators.Clock.{Clock}
 use Rattle.prl_base.specs.declared.values.Ty.{Ty}
 use Rattle.prl_base.specs.declared.values.Ty.TheVariants as types
-use Rattle.prl_base.specs.declared.values.Value.{Value}
 use Rattle.prl_ast.specs.Trees.{ProgramTree}
 use Rattle.prl_behaviours.specs.Annotations.{Entered, entered, flows_in, right_flows}
 use Rattle.prl_behaviours.specs.Asked.{inputs_of as entered_inputs, outputs_of as entered_outputs}
 use Rattle.prl_expand.specs.Flats.{flow_no}
 use Rattle.prl_expansion.specs.Expanding.{IsExpanded}
-use Rattle.prl_flow.specs.declared.programs.Flow.{Flow}
 use Rattle.prl_flow.specs.Counts.{dates_before}
 use Rattle.prl_flow.specs.Programs.{Device, FlatProgram, IsFlat, name_of}
 use Rattle.prl_flow.specs.Rows.{Rows}

@@ -6,6 +6,9 @@ pub mod Meaning
 pub mod SensorRows
 pub mod Told
 pub mod OneCycle
+pub mod AcceptedLines
+pub mod SmallClocks
+pub mod OnePlan
 pub mod OneEnd
 pub mod Stops
 pub mod Exact

@@ -1,6 +1,5 @@
 -- What a program computes is its one behaviour.
-use Rattle.std.proofs.Common.{◌≡◌, ℕ, List, Option, map, refl, sym, ap, ◌∙◌, subst}
-use Rattle.std.specs.List.{AllByRecursion}
+use Rattle.std.proofs.Common.{◌≡◌, ℕ, List, Option, map, sym, ap, ◌∙◌, subst}
 use Rattle.std.proofs.lemmas.List.Elements.{All-from_recursion}
 use Rattle.prl_base.specs.Clocks.{IsClock}
 use Rattle.prl_base.specs.declared.operators.Clock.{Clock}
@@ -21,7 +20,6 @@ use Rattle.prl_expansion.specs.Expanding.{IsExpanded}
 use Rattle.prl_flow.specs.declared.programs.OutFlow.{OutFlow}
 use Rattle.prl_flow.specs.Actuators.{AreUpTo}
 use Rattle.prl_flow.specs.Flows.{IsUpTo}
-use Rattle.prl_flow.specs.Programs as flats
 use Rattle.prl_flow.specs.Programs.{FlatProgram, IsFlat}
 use Rattle.prl_flow.specs.Rows.{Rows}
 use Rattle.prl_flow.specs.States.{IsSolution, IsTimed, State, flow_at}

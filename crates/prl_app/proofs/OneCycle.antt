@@ -1,5 +1,5 @@
 -- A flat program with cycles is told by one label.
-use Rattle.std.proofs.Common.{◌≡◌, ◌<◌, ◌≤◌, ℕ, true, false, List, Option, Some, sym, ◌∙◌, ap, inl, inr, subst, arith}
+use Rattle.std.proofs.Common.{◌≡◌, ◌<◌, ℕ, true, false, List, Option, Some, ap, inl, inr, subst, arith}
 use Rattle.std.specs.Prelude.{Bool, slice_get}
 use Rattle.std.proofs.lemmas.Bool.{cases_lt}
 use Rattle.prl_flow.specs.declared.programs.Flow.{Flow}

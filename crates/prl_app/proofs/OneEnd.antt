@@ -51,7 +51,8 @@ use Rattle.prl_app.specs.Runs.{too_many, rows_for, sensors_fault}
 use Rattle.prl_app.specs.Built.{IsFormed, HasRelayRows, IsWholeRun, Tells, relay_of, relay_rows_for}
 use Rattle.prl_app.specs.code.Told.{told_parse, told_types, told_clocks, told_body, told_relay, told_sensors}
 use Rattle.prl_app.proofs.OneCycle.{no_label, one_label}
-use Rattle.prl_app.proofs.Told.{grammar_told, types_told, clocks_told, bodies_told, sensors_told, schedule_told}
+use Rattle.prl_app.proofs.OnePlan.{PlanLaws, cells_apart, cells_one, dates_apart, dates_one, graph_apart, graph_one, words_apart, words_one}
+use Rattle.prl_app.proofs.Told.{grammar_told, types_told, clocks_told, bodies_told, sensors_told, schedule_told, same_told, some_some}
 use Rattle.prl_app.specs.Stages.{Holds, Refuses, Comes}
 
 -- the laws of the crates below
@@ -64,6 +65,7 @@ pub record Laws : Type 0 where
   pub formed : (p : ProgramTree) (asked : Option (List ℕ)) (main : ℕ) (types : List Ty) (e : Expansion) → IsInRange p → IsTyped p asked main types
       → IsExpansion p main e → length (flows_in e) ≤ 4096 → IsFlat (flat_of p types main e)
   pub clocks : (p : FlatProgram) → IsFlat p → (one other : Result (List Clock) ClockFault) → IsClockOutcome p one → IsClockOutcome p other → one ≡ other
+  pub plans : PlanLaws
   pub horizon_or_limit : (plan : PlanView) (until : ℕ) (horizon : Horizon) (limit : Limit) → IsHorizon plan horizon → horizon.until ≡ until
       → IsPastLimit plan until limit → ⊥
   pub one_limit : (plan : PlanView) (until : ℕ) (a b : Limit) → IsPastLimit plan until a → IsPastLimit plan until b → a ≡ b
@@ -81,14 +83,6 @@ err_err r a b h k = cc
 
 ok_err : {A F : Type 0} (r : Result A F) (a : A) (b : F) → r ≡ Ok a → r ≡ Err b → ⊥
 ok_err r a b h k = cc
-
-some_some : {A : Type 0} (r : Option A) (a b : A) → r ≡ Some a → r ≡ Some b → a ≡ b
-some_some r a b h k = cc
-
--- faults that are one are told as one
-same_told : {F : Type 0} (told : F → Option Fault) (x y : F) (told_x told_y a b : Fault) → x ≡ y → told x ≡ Some told_x → a ≡ told_x
-    → told y ≡ Some told_y → b ≡ told_y → a ≡ b
-same_told told x y told_x told_y a b same h ha k kb = ha ∙ some_some (told y) told_x told_y (sym (ap told same) ∙ h) k ∙ sym kb
 
 some_none : {A : Type 0} (r : Option A) (a : A) → r ≡ Some a → r ≡ None → ⊥
 some_none r a h k = cc
@@ -268,6 +262,10 @@ module _ (law : Laws) (g : Given) where
       let fault = clock_fault k.2 in
       let at : IsClockOutcome h.0 (Err fault) = subst (λ (x : FlatProgram). IsClockOutcome x (Err fault)) same k.3 in
       ok_err (Ok h.1) h.1 fault refl (law.clocks h.0 (is_flat h.0 h.2.causal.flattened) (Ok h.1) (Err fault) h.2.only at)
+  apart stages.Graph f h k = graph_apart law.plans g one_flat one_clocks h.0 f h.1 k
+  apart stages.Words f h k = words_apart law.plans g one_flat one_clocks h.0 h.1 f h.2 k
+  apart stages.Dates f h k = dates_apart law.plans g one_flat one_clocks h.0 h.1 f h.2 k
+  apart stages.Cells f h k = cells_apart law.plans g one_flat one_clocks h.0 f h.1 k
   apart stages.Bodies f h k =
       let fault = bodies_fault k.3 in
       bodies_apart h.0 fault h.1 (moved_bodies k.0 k.1 h.1.program h.1.main fault k.2 h.1.is_main k.4)
@@ -321,6 +319,10 @@ module _ (law : Laws) (g : Given) where
       let at : IsClockOutcome h.0 (Err y) = subst (λ (p : FlatProgram). IsClockOutcome p (Err y)) same k.3 in
       let faulty = err_err (Err x) x y refl (law.clocks h.0 (is_flat h.0 h.1.flattened) (Err x) (Err y) h.3 at) in
       same_told told_clocks x y (faults.Clocks h.2) (faults.Clocks k.2) a b faulty (clocks_told h.2) h.4 (clocks_told k.2) k.4
+  one stages.Graph a b h k = graph_one law.plans g one_flat one_clocks a b h k
+  one stages.Words a b h k = words_one law.plans g one_flat one_clocks a b h k
+  one stages.Dates a b h k = dates_one law.plans g one_flat one_clocks a b h k
+  one stages.Cells a b h k = cells_one law.plans g one_flat one_clocks a b h k
   one stages.Bodies a b h k =
       let x = bodies_fault h.3 in
       let y = bodies_fault k.3 in

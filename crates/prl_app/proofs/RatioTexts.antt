@@ -1,5 +1,5 @@
 -- Ratios that are written part by part.
-use Rattle.std.proofs.Common.{◌≡◌, ◌++◌, ◌==◌, ℕ, Bool, true, false, List, [], ◌∷◌, sym, ap, ◌∙◌, refl, codes, decimal, if◌then◌else◌}
+use Rattle.std.proofs.Common.{◌≡◌, ◌++◌, ◌==◌, ℕ, Bool, true, false, List, [], ◌∷◌, sym, ap, ◌∙◌, codes, decimal, if◌then◌else◌}
 use Rattle.std.specs.List.{concat}
 use Rattle.std.specs.Fmt.{signed_decimal}
 use Rattle.std.proofs.lemmas.List.{append_assoc, append-nil}

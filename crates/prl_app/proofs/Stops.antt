@@ -1,6 +1,6 @@
 -- Stops of stages, of lists of stages and of files.
 use Rattle.std.proofs.Common.{◌≡◌, ◌≢◌, ◌++◌, ℕ, List, [], ◌∷◌, Option, Some, None, Result, Ok, Err, refl, sym, ap, ◌∙◌, inl, inr, subst, arith}
-use Rattle.std.specs.Prelude.{IfOk, IfErr}
+use Rattle.std.specs.Prelude.{IfOk, IfErr, is_some}
 use Rattle.prl_ast.specs.Trees.{ProgramTree}
 use Rattle.prl_io.specs.Views.{FolderView}
 use Rattle.prl_syntax.specs.declared.parsing.ParseFault.{ParseFault}
@@ -24,6 +24,17 @@ use Rattle.prl_causal.specs.declared.causality.CausalFault.TheVariants as causal
 use Rattle.prl_clock.specs.Outcomes.{IsClockFault}
 use Rattle.prl_clock.specs.declared.calculus.ClockFault.{ClockFault}
 use Rattle.prl_clock.specs.declared.calculus.ClockFault.TheVariants as clocking
+use Rattle.prl_graph.specs.TaskGraphs.{IsGraphFault}
+use Rattle.prl_graph.specs.declared.faults.GraphFault.{GraphFault}
+use Rattle.prl_graph.specs.declared.faults.GraphFault.TheVariants as graphing
+use Rattle.prl_words.specs.GraphWords.{IsWordFault}
+use Rattle.prl_words.specs.declared.graphs.WordFault.{WordFault}
+use Rattle.prl_words.specs.declared.graphs.WordFault.TheVariants as wording
+use Rattle.prl_buffers.specs.CellFaults.{IsCellFault}
+use Rattle.prl_buffers.specs.declared.tables.CellFault.{CellFault}
+use Rattle.prl_buffers.specs.declared.tables.CellFault.TheVariants as celling
+use Rattle.prl_plan.specs.declared.graphs.TaskGraph.{TaskGraph}
+use Rattle.prl_plan.specs.declared.tables.Window.{Window}
 use Rattle.prl_evaluation.specs.Evaluations.{IsFlowFault}
 use Rattle.prl_evaluation.specs.declared.evaluation.FlowFault.{FlowFault}
 use Rattle.prl_evaluation.specs.declared.evaluation.FlowFault.TheVariants as flow_faults
@@ -37,6 +48,7 @@ use Rattle.prl_app.specs.declared.faults.Part.TheVariants as parts
 use Rattle.prl_app.specs.declared.faults.GrammarRefusal.TheVariants as bad_grammar
 use Rattle.prl_app.specs.declared.faults.TypesRefusal.TheVariants as bad_types
 use Rattle.prl_app.specs.declared.faults.ClocksRefusal.TheVariants as bad_clocks
+use Rattle.prl_app.specs.declared.faults.GraphRefusal.TheVariants as bad_graph
 use Rattle.prl_app.specs.declared.faults.BodiesRefusal.TheVariants as bad_bodies
 use Rattle.prl_app.specs.declared.faults.SensorsRefusal.TheVariants as bad_rows
 use Rattle.prl_app.specs.declared.faults.Fault.{Fault}
@@ -50,11 +62,12 @@ use Rattle.prl_arguments.specs.declared.arguments.Command.{Command}
 use Rattle.prl_app.specs.Given.{Folder, Given, IsContent, IsGiven, content_of, text_of, file_of, read_as}
 use Rattle.prl_app.specs.Parts.{IsProgram, IsMain, RefusesBodies}
 use Rattle.prl_app.specs.Flattened.{IsFlattened, IsCausal, HasClocks}
+use Rattle.prl_app.specs.Planned.{HasDates, HasGraph}
 use Rattle.prl_app.specs.Runs.{rows_for}
 use Rattle.prl_app.specs.Built.{HasRelayRows, IsFormed, relay_of, relay_rows_for}
 use Rattle.prl_app.specs.Stages.{Comes, files, stages_after}
 use Rattle.prl_app.specs.code.Stops.{given_of, StopsAt, StopsBy, StopsIn, AllHold, IsFileStop, IsStopOfFiles, IsAnswerStop}
-use Rattle.prl_app.specs.code.Told.{stop_of, told_parse, told_types, told_expand, told_causal, told_clocks, told_body, told_sensors, told_flow, told_relay}
+use Rattle.prl_app.specs.code.Told.{stop_of, told_parse, told_types, told_expand, told_causal, told_clocks, told_graph, told_words, told_cells, told_body, told_sensors, told_flow, told_relay}
 use Rattle.prl_app.proofs.Told.{schedule_refusal}
 
 -- the grammar refuses
@@ -113,6 +126,29 @@ clocks_stop g flat (clocking.NotWhole label period start) stop h e is =
     subst (StopsAt g stages.Clocks) (sym is) (refl, (flat, h, bad_clocks.NotWhole label period start, e, refl))
 clocks_stop g flat clocking.Memory stop h e is = subst (StopsAt g stages.Clocks) (sym is) tt
 
+-- there is no task graph
+pub graph_stop : (g : Given) (flat : FlatProgram) (clocks : List Clock) (fault : GraphFault) (stop : Stop) → HasClocks g flat clocks
+    → IsGraphFault flat clocks fault → stop ≡ stop_of stages.Graph (told_graph fault) → StopsAt g stages.Graph stop
+graph_stop g flat clocks (graphing.DueOnNonTask label) stop h e is =
+    subst (StopsAt g stages.Graph) (sym is) (refl, (flat, clocks, h, bad_graph.DueOnNonTask label, e, refl))
+graph_stop g flat clocks (graphing.DueRange flow due period) stop h e is =
+    subst (StopsAt g stages.Graph) (sym is) (refl, (flat, clocks, h, bad_graph.DueRange flow due period, e, refl))
+graph_stop g flat clocks (graphing.Limit limit) stop h e is =
+    subst (StopsAt g stages.Graph) (sym is) (refl, (flat, clocks, h, bad_graph.Limit limit, e, refl))
+graph_stop g flat clocks graphing.Memory stop h e is = subst (StopsAt g stages.Graph) (sym is) tt
+
+-- the words have too many constants
+pub words_stop : (g : Given) (graph : TaskGraph) (fault : WordFault) (stop : Stop) → HasGraph g graph → IsWordFault graph fault
+    → stop ≡ stop_of stages.Words (told_words fault) → StopsAt g stages.Words stop
+words_stop g graph (wording.Limit limit) stop h e is = subst (StopsAt g stages.Words) (sym is) (refl, (graph, h, limit, e, refl))
+words_stop g graph wording.Memory stop h e is = subst (StopsAt g stages.Words) (sym is) tt
+
+-- there are too many cells
+pub cells_stop : (g : Given) (graph : TaskGraph) (windows : List (List Window)) (fault : CellFault) (stop : Stop) → HasDates g graph windows
+    → IsCellFault graph windows fault → stop ≡ stop_of stages.Cells (told_cells fault) → StopsAt g stages.Cells stop
+cells_stop g graph windows (celling.Limit limit) stop h e is = subst (StopsAt g stages.Cells) (sym is) (refl, (graph, windows, h, limit, e, refl))
+cells_stop g graph windows celling.Memory stop h e is = subst (StopsAt g stages.Cells) (sym is) tt
+
 -- rows refuse
 pub rows_stop : (g : Given) (p : FlatProgram) (clocks : List Clock) (fault : SensorFault) (stop : Stop) → HasClocks g p clocks
     → (fault ≢ sensor_faults.Memory → rows_for g p clocks ≡ Err fault)
@@ -163,6 +199,19 @@ stops_unread : (g : Given) (list : List Stage) (part : Part) → StopsIn g list 
 stops_unread g [] part h = h
 stops_unread g (s ∷ rest) part h = elim h [ inl k ↦ k | inr k ↦ stops_unread g rest part k.1 ]
 
+-- a stop of the first of two lists, or of the second after all of the first hold, is one of both
+pub stops_first : (g : Given) (first rest : List Stage) (stop : Stop) → StopsIn g first stop → StopsIn g (first ++ rest) stop
+stops_first g [] rest stop h = absurd h
+stops_first g (s ∷ first) rest stop h = elim h [ inl k ↦ inl k | inr k ↦ inr (k.0, stops_first g first rest stop k.1) ]
+
+pub stops_rest : (g : Given) (first rest : List Stage) (stop : Stop) → AllHold g first → StopsIn g rest stop → StopsIn g (first ++ rest) stop
+stops_rest g [] rest stop h k = k
+stops_rest g (s ∷ first) rest stop h k = inr (h.0, stops_rest g first rest stop h.1 k)
+
+pub both_hold : (g : Given) (first rest : List Stage) → AllHold g first → AllHold g rest → AllHold g (first ++ rest)
+both_hold g [] rest h k = k
+both_hold g (s ∷ first) rest h k = (h.0, both_hold g first rest h.1 k)
+
 pub hold_comes : (g : Given) (list : List Stage) → AllHold g list → Comes g list None
 hold_comes g [] h = refl
 hold_comes g (s ∷ rest) h = inl (h.0, hold_comes g rest h.1)
@@ -185,17 +234,17 @@ files_hold c t = ((t.program.items, refl), ((t.bodies.items, refl), ((t.sensors.
 
 -- the stages after the files stop
 pub answer_stop : (old new : FolderView) (c : Command) (t : Texts) (stop : Stop) → IsGiven old.folder c (given_of c t)
-    → new.failed ≡ old.failed → StopsIn (given_of c t) (stages_after c.mode) stop → IsAnswerStop old new c stop
-answer_stop old new c t (stops.Unread part) h none k = absurd (stops_unread (given_of c t) (stages_after c.mode) part k)
+    → new.failed ≡ old.failed → StopsIn (given_of c t) (stages_after c.mode (is_some c.bodies)) stop → IsAnswerStop old new c stop
+answer_stop old new c t (stops.Unread part) h none k = absurd (stops_unread (given_of c t) (stages_after c.mode (is_some c.bodies)) part k)
 answer_stop old new c t (stops.Refused stage fault) h none k =
-    ((given_of c t, h, after_holds (given_of c t) files (stages_after c.mode) (Some (stage, fault)) (files_hold c t) (stops_comes (given_of c t) (stages_after c.mode) stage fault k)), none)
+    ((given_of c t, h, after_holds (given_of c t) files (stages_after c.mode (is_some c.bodies)) (Some (stage, fault)) (files_hold c t) (stops_comes (given_of c t) (stages_after c.mode (is_some c.bodies)) stage fault k)), none)
 answer_stop old new c t stops.Memory h none k = none
 
 -- the files stop
 pub files_stop : (old new : FolderView) (c : Command) (stop : Stop) → IsStopOfFiles old new c stop → IsAnswerStop old new c stop
 files_stop old new c (stops.Unread part) h = h
 files_stop old new c (stops.Refused stage fault) h =
-    ((h.0.0, h.0.1, first_refused h.0.0 files (stages_after c.mode) (stage, fault) h.0.2), h.1)
+    ((h.0.0, h.0.1, first_refused h.0.0 files (stages_after c.mode (is_some c.bodies)) (stage, fault) h.0.2), h.1)
 files_stop old new c stops.Memory h = h
 
 -- each file gives something

@@ -1,5 +1,5 @@
 -- Refusals and the faults of the crates below that they tell.
-use Rattle.std.proofs.Common.{◌≡◌, Some, None, refl, sym}
+use Rattle.std.proofs.Common.{◌≡◌, Option, Some, None, refl, sym, ap, ◌∙◌}
 use Rattle.prl_chains.specs.declared.chains.Chain.{Chain}
 use Rattle.prl_relays.specs.declared.relays.RelayFault.{RelayFault}
 use Rattle.prl_relays.specs.declared.relays.RelayFault.TheVariants as relays
@@ -9,6 +9,8 @@ use Rattle.prl_app.specs.declared.faults.TypesRefusal.{TypesRefusal}
 use Rattle.prl_app.specs.declared.faults.TypesRefusal.TheVariants as bad_types
 use Rattle.prl_app.specs.declared.faults.ClocksRefusal.{ClocksRefusal}
 use Rattle.prl_app.specs.declared.faults.ClocksRefusal.TheVariants as bad_clocks
+use Rattle.prl_app.specs.declared.faults.GraphRefusal.{GraphRefusal}
+use Rattle.prl_app.specs.declared.faults.GraphRefusal.TheVariants as bad_graph
 use Rattle.prl_app.specs.declared.faults.BodiesRefusal.{BodiesRefusal}
 use Rattle.prl_app.specs.declared.faults.BodiesRefusal.TheVariants as bad_bodies
 use Rattle.prl_app.specs.declared.faults.SensorsRefusal.{SensorsRefusal}
@@ -19,9 +21,10 @@ use Rattle.prl_app.specs.declared.faults.Fault.{Fault}
 use Rattle.prl_app.specs.declared.faults.Fault.TheVariants as faults
 use Rattle.prl_app.specs.Parts.{grammar_fault, types_fault, bodies_fault}
 use Rattle.prl_app.specs.Flattened.{clock_fault}
+use Rattle.prl_app.specs.Planned.{graph_fault}
 use Rattle.prl_app.specs.Runs.{sensors_fault}
 use Rattle.prl_app.specs.Built.{Tells, device_name}
-use Rattle.prl_app.specs.code.Told.{told_parse, told_types, told_clocks, told_body, told_sensors, told_relay}
+use Rattle.prl_app.specs.code.Told.{told_parse, told_types, told_clocks, told_graph, told_body, told_sensors, told_relay}
 
 -- the fault of a refusal is told as that refusal
 pub grammar_told : (r : GrammarRefusal) → told_parse (grammar_fault r) ≡ Some (faults.Grammar r)
@@ -45,6 +48,11 @@ clocks_told (bad_clocks.Mismatch at) = refl
 clocks_told (bad_clocks.Limit limit) = refl
 clocks_told (bad_clocks.Free label) = refl
 clocks_told (bad_clocks.NotWhole label period start) = refl
+
+pub graph_told : (r : GraphRefusal) → told_graph (graph_fault r) ≡ Some (faults.Graph r)
+graph_told (bad_graph.DueOnNonTask label) = refl
+graph_told (bad_graph.DueRange flow due period) = refl
+graph_told (bad_graph.Limit limit) = refl
 
 pub bodies_told : (r : BodiesRefusal) → told_body (bodies_fault r) ≡ Some (faults.Bodies r)
 bodies_told (bad_bodies.Syntax at) = refl
@@ -84,3 +92,11 @@ schedule_refusal c (relays.Unfinished task job) fault e = (
   sym (the (faults.Schedule (bad_schedule.Unfinished (device_name c task.0) job)) fault e),
 )
 schedule_refusal c relays.Memory fault e = absurd (none_some fault e)
+
+pub some_some : {A : Type 0} (r : Option A) (a b : A) → r ≡ Some a → r ≡ Some b → a ≡ b
+some_some r a b h k = cc
+
+-- faults that are one are told as one
+pub same_told : {F : Type 0} (told : F → Option Fault) (x y : F) (told_x told_y a b : Fault) → x ≡ y → told x ≡ Some told_x → a ≡ told_x
+    → told y ≡ Some told_y → b ≡ told_y → a ≡ b
+same_told told x y told_x told_y a b same h ha k kb = ha ∙ some_some (told y) told_x told_y (sym (ap told same) ∙ h) k ∙ sym kb

@@ -28,7 +28,11 @@ status_of_stage stages.Types = 1
 status_of_stage stages.Expansion = 1
 status_of_stage stages.Causality = 1
 status_of_stage stages.Clocks = 1
+status_of_stage stages.Graph = 1
+status_of_stage stages.Words = 1
 status_of_stage stages.Bodies = 1
+status_of_stage stages.Dates = 1
+status_of_stage stages.Cells = 1
 status_of_stage stages.Form = 1
 status_of_stage stages.Timing = 1
 status_of_stage stages.Horizon = 1
@@ -51,7 +55,7 @@ pub record Means (words : List (List ℕ)) (told : Option Folder) (text : List �
   pub asked : command_of words ≡ Some command
   pub given : Given
   pub is_given : IsGiven told command given
-  pub comes : Comes given (stages_of command.mode) None
+  pub comes : Comes given (stages_of command) None
   pub meant : IsText given command.mode text
 
 -- the command of the words comes to this stage, which refuses with this fault
@@ -60,7 +64,7 @@ pub record IsRefused (words : List (List ℕ)) (told : Option Folder) (stage : S
   pub asked : command_of words ≡ Some command
   pub given : Given
   pub is_given : IsGiven told command given
-  pub comes : Comes given (stages_of command.mode) (Some (stage, fault))
+  pub comes : Comes given (stages_of command) (Some (stage, fault))
 
 -- the reading of this file of the command failed, and no other
 pub record IsUnread (words : List (List ℕ)) (old new : FolderView) (part : Part) : Type 0 where
@@ -113,7 +117,7 @@ abbrev pub IsExact : List (List ℕ) → Outside → Outside → Ending → Type
 IsExact words old new ending =
     (folder : Folder) → old.files.folder ≡ Some folder → (command : Command) → command_of words ≡ Some command →
     (given : Given) → IsGiven (Some folder) command given → (end : Option (Stage × Fault)) →
-    Comes given (stages_of command.mode) end → NoFault old new end →
+    Comes given (stages_of command) end → NoFault old new end →
     (ending ≡ ending_of end) ⊎ (ending ≡ endings.Stopped stops.Memory)
 
 -- All that a call of the command with these words says, between two moments. `Done` is status 0, and each other ending

@@ -1,7 +1,7 @@
 -- The line on err that tells how a call ended.
-use Rattle.std.specs.Prelude.{ℕ, List, [], ◌∷◌, Option, Some, None, unwrap_or, codes}
+use Rattle.std.specs.Prelude.{ℕ, ℤ, List, [], ◌∷◌, Option, Some, None, unwrap_or, codes}
 use Rattle.std.specs.List.{concat}
-use Rattle.std.specs.Fmt.{decimal}
+use Rattle.std.specs.Fmt.{decimal, signed_decimal}
 use Rattle.prl_base.specs.Limits.{what_text}
 use Rattle.prl_base.specs.declared.limits.Limit.{Limit}
 use Rattle.prl_base.specs.Ratios.{Fraction}
@@ -17,6 +17,10 @@ use Rattle.prl_app.specs.declared.faults.TypesRefusal.{TypesRefusal}
 use Rattle.prl_app.specs.declared.faults.TypesRefusal.TheVariants as bad_types
 use Rattle.prl_app.specs.declared.faults.ClocksRefusal.{ClocksRefusal}
 use Rattle.prl_app.specs.declared.faults.ClocksRefusal.TheVariants as bad_clocks
+use Rattle.prl_app.specs.declared.faults.GraphRefusal.{GraphRefusal}
+use Rattle.prl_app.specs.declared.faults.GraphRefusal.TheVariants as bad_graph
+use Rattle.prl_app.specs.declared.faults.DatesRefusal.{DatesRefusal}
+use Rattle.prl_app.specs.declared.faults.DatesRefusal.TheVariants as bad_dates
 use Rattle.prl_app.specs.declared.faults.BodiesRefusal.{BodiesRefusal}
 use Rattle.prl_app.specs.declared.faults.BodiesRefusal.TheVariants as bad_bodies
 use Rattle.prl_app.specs.declared.faults.SensorsRefusal.{SensorsRefusal}
@@ -81,6 +85,29 @@ clocks_line (bad_clocks.Limit limit) = limit_line limit
 clocks_line (bad_clocks.Free label) = named_line (codes "41 clock free ") label
 clocks_line (bad_clocks.NotWhole label period start) = not_whole_line label period start
 
+abbrev pub due_range_line : List ℕ → ℕ → ℕ → List ℕ
+due_range_line label due period =
+    concat (codes "51 due range " ∷ label ∷ codes " due " ∷ decimal due ∷ codes " period " ∷ decimal period ∷ codes "\n" ∷ [])
+
+abbrev pub graph_line : GraphRefusal → List ℕ
+graph_line (bad_graph.DueOnNonTask label) = named_line (codes "50 due on non-task ") label
+graph_line (bad_graph.DueRange flow due period) = due_range_line flow due period
+graph_line (bad_graph.Limit limit) = limit_line limit
+
+abbrev pub narrow_line : List ℕ → ℤ → ℤ → ℤ → List ℕ
+narrow_line name job needs has =
+    concat (
+    codes "60 narrow " ∷ name ∷ codes " " ∷ signed_decimal job ∷ codes " needs " ∷ signed_decimal needs ∷ codes " has "
+    ∷ signed_decimal has ∷ codes "\n" ∷ []
+    )
+
+abbrev pub loop_line : List ℕ → ℤ → List ℕ
+loop_line name job = concat (codes "61 loop " ∷ name ∷ codes " " ∷ signed_decimal job ∷ codes "\n" ∷ [])
+
+abbrev pub dates_line : DatesRefusal → List ℕ
+dates_line (bad_dates.Narrow name job needs has) = narrow_line name job needs has
+dates_line (bad_dates.Loop name job) = loop_line name job
+
 abbrev pub bodies_line : BodiesRefusal → List ℕ
 bodies_line (bad_bodies.Syntax at) = placed_line (codes "23 body syntax at ") at
 bodies_line (bad_bodies.Limit limit) = limit_line limit
@@ -118,6 +145,8 @@ line_of_fault command (faults.Grammar refusal) = grammar_line refusal
 line_of_fault command (faults.Types refusal) = types_line refusal
 line_of_fault command (faults.Cycle label) = named_line (codes "30 cycle ") label
 line_of_fault command (faults.Clocks refusal) = clocks_line refusal
+line_of_fault command (faults.Graph refusal) = graph_line refusal
+line_of_fault command (faults.Dates refusal) = dates_line refusal
 line_of_fault command (faults.Bodies refusal) = bodies_line refusal
 line_of_fault command faults.NotBuilt = named_line (codes "9 not built ") (file_name command parts.Program)
 line_of_fault command (faults.Sensors refusal) = sensors_line refusal

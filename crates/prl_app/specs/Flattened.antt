@@ -1,5 +1,5 @@
 -- The flat program of a program, that it has no cycle, and its clocks; and why there are none.
-use Rattle.std.specs.Prelude.{◌≡◌, ℕ, List, Ok, Err}
+use Rattle.std.specs.Prelude.{◌≡◌, ℕ, List, Err}
 use Rattle.prl_base.specs.declared.limits.Limit.{Limit}
 use Rattle.prl_base.specs.declared.operators.Clock.{Clock}
 use Rattle.prl_ast.specs.Trees.{ProgramTree}

@@ -6,6 +6,8 @@ pub mod Parts
 pub mod Flattened
 -- The rows of the sensors, the values, and the text of what is computed.
 pub mod Runs
+-- The plan of a program, and what is written of it.
+pub mod Planned
 -- Scaffolding: the programs and plans that replays are built for so far.
 pub mod Built
 -- The stages, and the modes as lists of them.

@@ -1,5 +1,5 @@
 -- The stages of the command in the order of refusals, and the modes as lists of them.
-use Rattle.std.specs.Prelude.{◌≡◌, ◌⊎◌, ℕ, List, [], ◌∷◌, ◌++◌, Option, Some, None, Ok, Err}
+use Rattle.std.specs.Prelude.{◌≡◌, ◌⊎◌, ℕ, Bool, true, false, List, [], ◌∷◌, ◌++◌, Option, Some, None, is_some, Ok, Err}
 use Rattle.prl_ast.specs.Trees.{ProgramTree}
 use Rattle.prl_syntax.specs.Parsing.{IsParsed}
 use Rattle.prl_types.specs.Typing.{IsFault}
@@ -9,7 +9,12 @@ use Rattle.prl_base.specs.declared.operators.Clock.{Clock}
 use Rattle.prl_flow.specs.Programs.{FlatProgram}
 use Rattle.prl_flow.specs.Rows.{Rows}
 use Rattle.prl_chains.specs.declared.chains.Chain.{Chain}
+use Rattle.prl_plan.specs.declared.graphs.TaskGraph.{TaskGraph}
 use Rattle.prl_plan.specs.declared.horizons.Horizon.{Horizon}
+use Rattle.prl_plan.specs.declared.tables.Window.{Window}
+use Rattle.prl_plan.specs.declared.words.Word.{Word}
+use Rattle.prl_plan.specs.Plans.{PlanView}
+use Rattle.prl_plantext.specs.PlanTexts.{plan_text}
 use Rattle.prl_print.specs.Printing.{printed}
 use Rattle.prl_app.specs.declared.faults.Part.TheVariants as parts
 use Rattle.prl_app.specs.declared.faults.GrammarRefusal.{GrammarRefusal}
@@ -19,11 +24,13 @@ use Rattle.prl_app.specs.declared.faults.Fault.{Fault}
 use Rattle.prl_app.specs.declared.faults.Fault.TheVariants as faults
 use Rattle.prl_app.specs.declared.stages.Stage.{Stage}
 use Rattle.prl_app.specs.declared.stages.Stage.TheVariants as stages
+use Rattle.prl_arguments.specs.declared.arguments.Command.{Command}
 use Rattle.prl_arguments.specs.declared.arguments.Mode.{Mode}
 use Rattle.prl_arguments.specs.declared.arguments.Mode.TheVariants as modes
 use Rattle.prl_app.specs.Given.{Given, content_of, text_of}
 use Rattle.prl_app.specs.Parts.{IsProgram, IsMain, AreBodies, RefusesBodies, grammar_fault, types_fault, bodies_fault}
 use Rattle.prl_app.specs.Flattened.{IsFlattened, IsCausal, HasClocks, RefusesExpansion, RefusesCausality, RefusesClocks}
+use Rattle.prl_app.specs.Planned.{HasGraph, HasWords, HasDates, HasPlan, RefusesGraph, RefusesWords, RefusesDates, RefusesCells, accepted_line}
 use Rattle.prl_app.specs.Built.{IsFormed, IsTimely, HasHorizon, HasRelayRows, relay_of, IsWholeRun, RefusesForm, RefusesTiming, RefusesHorizon, RefusesRelayRows, RefusesSchedule}
 use Rattle.prl_relays.specs.Relays.{IsReplayText}
 use Rattle.prl_app.specs.Runs.{HasRows, HasFewValues, IsFlowsText, RefusesRows, RefusesValues}
@@ -36,7 +43,11 @@ Holds g stages.Types = (p : ProgramTree) × (main : ℕ) × IsMain g p main
 Holds g stages.Expansion = (flat : FlatProgram) × IsFlattened g flat
 Holds g stages.Causality = (flat : FlatProgram) × IsCausal g flat
 Holds g stages.Clocks = (flat : FlatProgram) × (clocks : List Clock) × HasClocks g flat clocks
+Holds g stages.Graph = (graph : TaskGraph) × HasGraph g graph
+Holds g stages.Words = (graph : TaskGraph) × (words : List Word) × HasWords g graph words
 Holds g stages.Bodies = (trees : List BodyTree) × AreBodies g trees
+Holds g stages.Dates = (graph : TaskGraph) × (windows : List (List Window)) × HasDates g graph windows
+Holds g stages.Cells = (plan : PlanView) × HasPlan g plan
 Holds g stages.Form = (c : Chain) × IsFormed g c
 Holds g stages.Timing = (c : Chain) × IsTimely g c
 Holds g stages.Horizon = (c : Chain) × (h : Horizon) × HasHorizon g c h
@@ -55,9 +66,13 @@ Refuses g stages.Types fault =
 Refuses g stages.Expansion fault = RefusesExpansion g fault
 Refuses g stages.Causality fault = RefusesCausality g fault
 Refuses g stages.Clocks fault = RefusesClocks g fault
+Refuses g stages.Graph fault = RefusesGraph g fault
+Refuses g stages.Words fault = RefusesWords g fault
 Refuses g stages.Bodies fault =
     (p : ProgramTree) × (main : ℕ) × IsMain g p main × (refusal : BodiesRefusal)
     × RefusesBodies p main (text_of g parts.Bodies) (bodies_fault refusal) × (fault ≡ faults.Bodies refusal)
+Refuses g stages.Dates fault = RefusesDates g fault
+Refuses g stages.Cells fault = RefusesCells g fault
 Refuses g stages.Form fault = RefusesForm g fault
 Refuses g stages.Timing fault = RefusesTiming g fault
 Refuses g stages.Horizon fault = RefusesHorizon g fault
@@ -90,20 +105,39 @@ files =
 abbrev pub front : List Stage
 front = stages.Grammar ∷ stages.Types ∷ stages.Expansion ∷ stages.Causality ∷ stages.Clocks ∷ []
 
--- the stages of a mode after the files
-abbrev pub stages_after : Mode → List Stage
-stages_after modes.Print = stages.Grammar ∷ []
-stages_after modes.Flows = front ++ stages.Bodies ∷ stages.Rows ∷ stages.Values ∷ []
-stages_after modes.Replay =
-    stages.Grammar ∷ stages.Types ∷ stages.Bodies ∷ stages.Form ∷ stages.Timing ∷ stages.Horizon ∷ stages.RelayRows ∷ stages.Schedule ∷ []
+-- what modes that plan a program have in common after this: the task graph with its words; and then its dates and cells
+abbrev pub graphed : List Stage
+graphed = stages.Graph ∷ stages.Words ∷ []
 
--- the stages of a mode
-abbrev pub stages_of : Mode → List Stage
-stages_of mode = files ++ stages_after mode
+abbrev pub planned : List Stage
+planned = stages.Dates ∷ stages.Cells ∷ []
+
+-- scaffolding: the stages of a replay, after those that all programs have
+abbrev pub relayed : List Stage
+relayed = stages.Form ∷ stages.Timing ∷ stages.Horizon ∷ stages.RelayRows ∷ stages.Schedule ∷ []
+
+-- the bodies, in a mode that looks at them only where they are named
+abbrev pub named_bodies : Bool → List Stage
+named_bodies true = stages.Bodies ∷ []
+named_bodies false = []
+
+-- the stages of a mode after the files, where bodies are named or not
+abbrev pub stages_after : Mode → Bool → List Stage
+stages_after modes.Print bodies = stages.Grammar ∷ []
+stages_after modes.Plan bodies = front ++ graphed ++ planned
+stages_after modes.Check bodies = front ++ graphed ++ named_bodies bodies ++ planned
+stages_after modes.Flows bodies = front ++ stages.Bodies ∷ stages.Rows ∷ stages.Values ∷ []
+stages_after modes.Replay bodies = front ++ graphed ++ (stages.Bodies ∷ []) ++ planned ++ relayed
+
+-- the stages of a command
+abbrev pub stages_of : Command → List Stage
+stages_of c = files ++ stages_after c.mode (is_some c.bodies)
 
 -- the text that a mode means where its stages hold
 abbrev pub IsText : Given → Mode → List ℕ → Type 0
 IsText g modes.Print text = (p : ProgramTree) × IsProgram g p × (text ≡ printed p)
+IsText g modes.Plan text = (plan : PlanView) × HasPlan g plan × (text ≡ plan_text plan)
+IsText g modes.Check text = (plan : PlanView) × HasPlan g plan × (text ≡ accepted_line plan)
 IsText g modes.Flows text = IsFlowsText g text
 IsText g modes.Replay text =
     (c : Chain) × (values : List Value) × HasRelayRows g c values

@@ -63,6 +63,35 @@ pub enum ClocksRefusal {
     },
 }
 
+/// Why a program has no task graph, as `GraphFault` of `prl_graph` has it. A due is the relative deadline that a flow notes.
+#[derive(Debug, Drop)]
+pub enum GraphRefusal {
+    /// A flow with a due that binds no task.
+    DueOnNonTask(Label),
+    /// A flow whose due is not between 1 and its period, in ticks.
+    DueRange { flow: Label, due: u32, period: u64 },
+    /// A count of tasks, edges, ticks or jobs is past its limit.
+    Limit(Limit),
+}
+
+/// Why the jobs of a task graph have no encoded dates, as `DateFault` of `prl_dates` has it, with the name of the task for its
+/// number. Jobs count from 0, and dates are in ticks.
+#[derive(Debug, Drop)]
+pub enum DatesRefusal {
+    /// A chain of jobs that ends in this one ends at `needs` at the earliest, after its deadline `has`.
+    Narrow {
+        name: Label,
+        job: i64,
+        needs: i64,
+        has: i64,
+    },
+    /// The chains of jobs that end in this one need longer the more jobs they have.
+    Loop {
+        name: Label,
+        job: i64,
+    },
+}
+
 /// Why the bodies of imported nodes are refused, as `BodyFault` of `prl_body` has it.
 #[derive(Debug, Drop)]
 pub enum BodiesRefusal {
@@ -123,6 +152,10 @@ pub enum Fault {
     Cycle(Label),
     /// The flows have no clocks.
     Clocks(ClocksRefusal),
+    /// The program has no task graph.
+    Graph(GraphRefusal),
+    /// The jobs of the program have no encoded dates.
+    Dates(DatesRefusal),
     /// The program is not of the form that replays are built for so far.
     NotBuilt,
     /// The rows of the sensors are not right, or too few.

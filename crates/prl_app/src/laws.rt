@@ -11,9 +11,13 @@ use crate::stages::Stage;
 use prl_body::each_list_of_bodies_has_an_outcome;
 use prl_bodytext::each_text_has_one_outcome as bodies_outcome;
 use prl_clock::outcomes_are_unique;
+use prl_dates::faults_tell_of_narrow_chains;
 use prl_expand::{expansions_are_unique, flats_are_well_formed};
+use prl_graph::graphs_end_one_way;
 use prl_names::right_names_stand_for_something;
-use prl_plan::horizons_end_one_way;
+use prl_plan::{
+    horizons_end_one_way, plan_is_unique, room_leaves_no_narrow_chain, words_begin_with_constants,
+};
 use prl_print::programs_are_in_range;
 use prl_relays::{replays_end_one_way, whole_runs_are_replayed};
 use prl_syntax::each_text_has_one_outcome as programs_outcome;
@@ -31,6 +35,11 @@ pub fn stages_end_one_way()
     expansions_are_unique();
     flats_are_well_formed();
     outcomes_are_unique();
+    graphs_end_one_way();
+    words_begin_with_constants();
+    faults_tell_of_narrow_chains();
+    room_leaves_no_narrow_chain();
+    plan_is_unique();
     horizons_end_one_way();
     replays_end_one_way();
     whole_runs_are_replayed();

@@ -9,6 +9,7 @@ mod flattened;
 mod laws;
 mod lines;
 mod pipeline;
+mod planned;
 mod programs;
 mod reading;
 mod runs;
@@ -17,8 +18,8 @@ mod top;
 
 pub use endings::Ending;
 pub use faults::{
-    BodiesRefusal, ClocksRefusal, Fault, GrammarRefusal, Part, ScheduleRefusal, SensorsRefusal,
-    TypesRefusal,
+    BodiesRefusal, ClocksRefusal, DatesRefusal, Fault, GrammarRefusal, GraphRefusal, Part,
+    ScheduleRefusal, SensorsRefusal, TypesRefusal,
 };
 pub use laws::{front_is_decided, stages_come_to_an_end, stages_end_one_way};
 pub use prl_arguments::{ArgumentsFault, Command, Mode, Setting, read_arguments};

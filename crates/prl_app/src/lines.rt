@@ -2,14 +2,14 @@
 
 ghost use Rattle.std.specs.Prelude.{◌≡◌, ◌<◌, ◌≤◌, [], unwrap_or, OnErr};
 ghost use Rattle.prl_io.specs.Growth.{IsWritten};
-ghost use Rattle.prl_app.specs.ErrorLines.{file_name, named_line, placed_line, grammar_line, mismatch_line, type_free_line, types_line, limit_line, bodies_line, short_line, sensors_line, not_whole_line, clocks_line, illegal_line, unfinished_line, schedule_line, line_of_fault, line_of_stop, line_of};
+ghost use Rattle.prl_app.specs.ErrorLines.{file_name, named_line, placed_line, grammar_line, mismatch_line, type_free_line, types_line, limit_line, bodies_line, short_line, sensors_line, not_whole_line, clocks_line, due_range_line, graph_line, narrow_line, loop_line, dates_line, illegal_line, unfinished_line, schedule_line, line_of_fault, line_of_stop, line_of};
 ghost use Rattle.prl_app.specs.Endings.{IsTold};
 ghost use Rattle.prl_app.specs.code.Ratios.{unless_whole};
 
 use crate::endings::Ending;
 use crate::faults::{
-    BodiesRefusal, ClocksRefusal, Fault, GrammarRefusal, Part, ScheduleRefusal, SensorsRefusal,
-    TypesRefusal,
+    BodiesRefusal, ClocksRefusal, DatesRefusal, Fault, GrammarRefusal, GraphRefusal, Part,
+    ScheduleRefusal, SensorsRefusal, TypesRefusal,
 };
 use crate::stages::Stop;
 use itoa::Buffer;
@@ -250,6 +250,100 @@ fn write_clocks<E: Sink>(err: &mut E, fault: &ClocksRefusal) -> Result<(), Faile
     }
 }
 
+/// Writes the line of a due that is out of its range.
+fn write_due_range<E: Sink>(err: &mut E, label: &[u8], due: u32, period: u64) -> Result<(), Failed>
+    ensures grown { IsWritten (E.seen err.old).written (E.seen err.new).written (due_range_line label.now due period) result }
+    ensures counted { (E.seen err.old).faults ≤ (E.seen err.new).faults }
+    ensures failed { OnErr result ((E.seen err.old).faults < (E.seen err.new).faults) }
+{
+    let mut first = Buffer::new();
+    let mut second = Buffer::new();
+    let due = first.format(due).as_bytes();
+    let period = second.format(period).as_bytes();
+    let front = b"51 due range ".as_slice();
+    let middle = b" due ".as_slice();
+    let before = b" period ".as_slice();
+    let end = b"\n".as_slice();
+    write_pieces(err, &[front, label, middle, due, before, period, end])
+}
+
+/// Writes the line of a program without a task graph.
+fn write_graph<E: Sink>(err: &mut E, fault: &GraphRefusal) -> Result<(), Failed>
+    ensures grown { IsWritten (E.seen err.old).written (E.seen err.new).written (graph_line fault.now) result }
+    ensures counted { (E.seen err.old).faults ≤ (E.seen err.new).faults }
+    ensures failed { OnErr result ((E.seen err.old).faults < (E.seen err.new).faults) }
+{
+    match fault {
+        GraphRefusal::DueOnNonTask(label) => {
+            write_two(err, b"50 due on non-task ", label.bytes())
+        }
+        GraphRefusal::DueRange { flow, due, period } => {
+            write_due_range(err, flow.bytes(), *due, *period)
+        }
+        GraphRefusal::Limit(limit) => write_limit(err, *limit),
+    }
+}
+
+/// Writes the line of a job that has too little time.
+fn write_narrow<E: Sink>(
+    err: &mut E,
+    name: &[u8],
+    job: i64,
+    needs: i64,
+    has: i64,
+) -> Result<(), Failed>
+    ensures grown { IsWritten (E.seen err.old).written (E.seen err.new).written (narrow_line name.now job needs has) result }
+    ensures counted { (E.seen err.old).faults ≤ (E.seen err.new).faults }
+    ensures failed { OnErr result ((E.seen err.old).faults < (E.seen err.new).faults) }
+{
+    let mut first = Buffer::new();
+    let mut second = Buffer::new();
+    let mut third = Buffer::new();
+    let job = first.format(job).as_bytes();
+    let needs = second.format(needs).as_bytes();
+    let has = third.format(has).as_bytes();
+    let front = b"60 narrow ".as_slice();
+    let blank = b" ".as_slice();
+    let needing = b" needs ".as_slice();
+    let having = b" has ".as_slice();
+    let end = b"\n".as_slice();
+    write_pieces(
+        err,
+        &[front, name, blank, job, needing, needs, having, has, end],
+    )
+}
+
+/// Writes the line of a job whose chains need longer the more jobs they have.
+fn write_loop<E: Sink>(err: &mut E, name: &[u8], job: i64) -> Result<(), Failed>
+    ensures grown { IsWritten (E.seen err.old).written (E.seen err.new).written (loop_line name.now job) result }
+    ensures counted { (E.seen err.old).faults ≤ (E.seen err.new).faults }
+    ensures failed { OnErr result ((E.seen err.old).faults < (E.seen err.new).faults) }
+{
+    let mut buffer = Buffer::new();
+    let job = buffer.format(job).as_bytes();
+    let front = b"61 loop ".as_slice();
+    let blank = b" ".as_slice();
+    let end = b"\n".as_slice();
+    write_pieces(err, &[front, name, blank, job, end])
+}
+
+/// Writes the line of jobs without encoded dates.
+fn write_dates<E: Sink>(err: &mut E, fault: &DatesRefusal) -> Result<(), Failed>
+    ensures grown { IsWritten (E.seen err.old).written (E.seen err.new).written (dates_line fault.now) result }
+    ensures counted { (E.seen err.old).faults ≤ (E.seen err.new).faults }
+    ensures failed { OnErr result ((E.seen err.old).faults < (E.seen err.new).faults) }
+{
+    match fault {
+        DatesRefusal::Narrow {
+            name,
+            job,
+            needs,
+            has,
+        } => write_narrow(err, name.bytes(), *job, *needs, *has),
+        DatesRefusal::Loop { name, job } => write_loop(err, name.bytes(), *job),
+    }
+}
+
 /// Writes the line of a fault of bodies.
 fn write_bodies<E: Sink>(err: &mut E, fault: &BodiesRefusal) -> Result<(), Failed>
     ensures grown { IsWritten (E.seen err.old).written (E.seen err.new).written (bodies_line fault.now) result }
@@ -320,6 +414,8 @@ fn write_fault<E: Sink>(err: &mut E, command: &Option<Command>, fault: &Fault) -
         Fault::Types(fault) => write_types(err, fault),
         Fault::Cycle(label) => write_two(err, b"30 cycle ", label.bytes()),
         Fault::Clocks(fault) => write_clocks(err, fault),
+        Fault::Graph(fault) => write_graph(err, fault),
+        Fault::Dates(fault) => write_dates(err, fault),
         Fault::Bodies(fault) => write_bodies(err, fault),
         Fault::NotBuilt => write_two(err, b"9 not built ", file_name(command, Part::Program)),
         Fault::Sensors(fault) => write_sensors(err, fault),

@@ -18,8 +18,16 @@ pub enum Stage {
     Causality,
     /// The clocks of flows.
     Clocks,
+    /// The task graph, with its dues and limits.
+    Graph,
+    /// The limit on the constants of dependency words.
+    Words,
     /// The bodies of imported nodes.
     Bodies,
+    /// The encoded dates of jobs.
+    Dates,
+    /// The limit on buffer cells.
+    Cells,
     /// The rows of the sensors.
     Rows,
     /// The limit of values.

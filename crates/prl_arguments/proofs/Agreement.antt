@@ -41,6 +41,18 @@ found modes.Print settings.Sensors = (refl, refl)
 found modes.Print settings.Schedule = (refl, refl)
 found modes.Print settings.Node = (refl, refl)
 found modes.Print settings.Until = (refl, refl)
+found modes.Plan settings.Program = (refl, refl)
+found modes.Plan settings.Bodies = (refl, refl)
+found modes.Plan settings.Sensors = (refl, refl)
+found modes.Plan settings.Schedule = (refl, refl)
+found modes.Plan settings.Node = (refl, refl)
+found modes.Plan settings.Until = (refl, refl)
+found modes.Check settings.Program = (refl, refl)
+found modes.Check settings.Bodies = (refl, refl)
+found modes.Check settings.Sensors = (refl, refl)
+found modes.Check settings.Schedule = (refl, refl)
+found modes.Check settings.Node = (refl, refl)
+found modes.Check settings.Until = (refl, refl)
 found modes.Flows settings.Program = (refl, refl)
 found modes.Flows settings.Bodies = (refl, refl)
 found modes.Flows settings.Sensors = (refl, refl)
@@ -67,6 +79,8 @@ NoDefaults (a ∷ c) = (a.defaults ≡ []) × NoDefaults c
 
 no_defaults : (mode : Mode) → NoDefaults (rules mode)
 no_defaults modes.Print = (refl, tt)
+no_defaults modes.Plan = (refl, (refl, tt))
+no_defaults modes.Check = (refl, (refl, (refl, tt)))
 no_defaults modes.Flows = (refl, (refl, (refl, (refl, (refl, tt)))))
 no_defaults modes.Replay = (refl, (refl, (refl, (refl, (refl, (refl, tt))))))
 
@@ -100,6 +114,8 @@ lacks mode given = list_any (λ s. needs mode s && not (given s)) all_settings
 
 required : (mode : Mode) (rows : List Row) → list_any (λ a. a.required && not (is_given a.id rows)) (rules mode) ≡ lacks mode (λ s. is_given (name_of s) rows)
 required modes.Print rows = refl
+required modes.Plan rows = refl
+required modes.Check rows = refl
 required modes.Flows rows = refl
 required modes.Replay rows = refl
 
@@ -250,6 +266,8 @@ by_stop c words (Some p) = refl
 
 walk_is : (mode : Mode) (name : Text) (words : List Text) → faults_of mode (name ∷ words) ≡ total (rules mode) (walk_from nothing_held) words
 walk_is modes.Print name words = by_stop (rules modes.Print) words (walk (rules modes.Print) [] nothing_held words).stopped
+walk_is modes.Plan name words = by_stop (rules modes.Plan) words (walk (rules modes.Plan) [] nothing_held words).stopped
+walk_is modes.Check name words = by_stop (rules modes.Check) words (walk (rules modes.Check) [] nothing_held words).stopped
 walk_is modes.Flows name words = by_stop (rules modes.Flows) words (walk (rules modes.Flows) [] nothing_held words).stopped
 walk_is modes.Replay name words = by_stop (rules modes.Replay) words (walk (rules modes.Replay) [] nothing_held words).stopped
 

@@ -14,7 +14,9 @@ use Rattle.prl_arguments.specs.declared.arguments.Command.{Command}
 -- the mode of a name
 abbrev pub mode_named : List ℕ → Option Mode
 mode_named name =
-    if bytes_eq name (codes "flows") then Some modes.Flows
+    if bytes_eq name (codes "check") then Some modes.Check
+    else if bytes_eq name (codes "flows") then Some modes.Flows
+    else if bytes_eq name (codes "plan") then Some modes.Plan
     else if bytes_eq name (codes "print") then Some modes.Print
     else if bytes_eq name (codes "replay") then Some modes.Replay
     else None
@@ -23,6 +25,10 @@ mode_named name =
 abbrev pub needs : Mode → Setting → Bool
 needs modes.Print settings.Program = true
 needs modes.Print other = false
+needs modes.Plan settings.Program = true
+needs modes.Plan other = false
+needs modes.Check settings.Program = true
+needs modes.Check other = false
 needs modes.Flows settings.Program = true
 needs modes.Flows settings.Sensors = true
 needs modes.Flows settings.Until = true
@@ -35,6 +41,11 @@ needs modes.Replay other = false
 
 abbrev pub may : Mode → Setting → Bool
 may modes.Print other = false
+may modes.Plan settings.Node = true
+may modes.Plan other = false
+may modes.Check settings.Bodies = true
+may modes.Check settings.Node = true
+may modes.Check other = false
 may modes.Flows settings.Bodies = true
 may modes.Flows settings.Node = true
 may modes.Flows other = false

@@ -16,8 +16,12 @@ pub const MAX_UNTIL: u32 = 2_147_483_647;
 /// What the command is to do.
 #[derive(Clone, Copy, Debug, PartialEq, Eq)]
 pub enum Mode {
+    /// Says that the program has a plan, and how large it is.
+    Check,
     /// Writes the flows of the actuators.
     Flows,
+    /// Writes the program's plan.
+    Plan,
     /// Writes the program in its printed form.
     Print,
     /// Replays a schedule: writes what the jobs read, and the flows of the actuators.
@@ -113,8 +117,12 @@ static SETTINGS: [Setting; 6] = [
 fn mode_named(name: &[u8]) -> Option<Mode>
     ensures { result ≡ mode_named name.now }
 {
-    if name == b"flows".as_slice() {
+    if name == b"check".as_slice() {
+        Some(Mode::Check)
+    } else if name == b"flows".as_slice() {
         Some(Mode::Flows)
+    } else if name == b"plan".as_slice() {
+        Some(Mode::Plan)
     } else if name == b"print".as_slice() {
         Some(Mode::Print)
     } else if name == b"replay".as_slice() {
@@ -129,8 +137,8 @@ pub(crate) fn needs(mode: Mode, setting: Setting) -> bool
     ensures { result ≡ needs mode setting }
 {
     match (mode, setting) {
-        (Mode::Print, Setting::Program) => true,
-        (Mode::Print, _) => false,
+        (Mode::Print | Mode::Plan | Mode::Check, Setting::Program) => true,
+        (Mode::Print | Mode::Plan | Mode::Check, _) => false,
         (Mode::Flows, Setting::Program | Setting::Sensors | Setting::Until) => true,
         (Mode::Flows, _) => false,
         (Mode::Replay, Setting::Program | Setting::Sensors | Setting::Schedule | Setting::Until) =>
@@ -145,8 +153,10 @@ pub(crate) fn may(mode: Mode, setting: Setting) -> bool
 {
     match (mode, setting) {
         (Mode::Print, _) => false,
-        (Mode::Flows | Mode::Replay, Setting::Bodies | Setting::Node) => true,
-        (Mode::Flows | Mode::Replay, _) => false,
+        (Mode::Plan, Setting::Node) => true,
+        (Mode::Plan, _) => false,
+        (Mode::Check | Mode::Flows | Mode::Replay, Setting::Bodies | Setting::Node) => true,
+        (Mode::Check | Mode::Flows | Mode::Replay, _) => false,
     }
 }
 

@@ -15,4 +15,6 @@ mod Checked
 mod CheckedEdges
 mod CheckedGraphs
 mod NoPlan
+-- for the crates above: as many constants and cells as there are, whatever words and cells are listed
+pub mod Counts
 mod OneText

@@ -18,7 +18,9 @@ fn name_of(label: &Option<Label>) -> &[u8] {
 /// A command: its mode, its program, bodies, sensors, schedule and node, and its date.
 fn summary(alloc: Global, command: &Command) -> Result<Vec<u8>, Fail> {
     let mode = match command.mode {
+        Mode::Check => b"check".as_slice(),
         Mode::Flows => b"flows".as_slice(),
+        Mode::Plan => b"plan".as_slice(),
         Mode::Print => b"print".as_slice(),
         Mode::Replay => b"replay".as_slice(),
     };
@@ -89,6 +91,10 @@ fn both_spellings_in_any_order(rt: HostRuntime) -> Result<(), Fail> {
                 "replay --bodies b --schedule=s --node=n --program p --until 7 --sensors i",
                 "replay p b i s n 7",
             ),
+            ("plan --program p", "plan p - - - - 0"),
+            ("plan --node=n --program p", "plan p - - - n 0"),
+            ("check --program p", "check p - - - - 0"),
+            ("check --bodies b --program=p --node n", "check p b - - n 0"),
             ("print --program a=b", "print a=b - - - - 0"),
             ("print --program==", "print = - - - - 0"),
             ("print --program=a=b", "print a=b - - - - 0"),
@@ -120,8 +126,6 @@ fn words_that_are_no_command(rt: HostRuntime) -> Result<(), Fail> {
             ("print --program p help", "refused"),
             ("print --program p q", "refused"),
             ("print q --program p", "refused"),
-            ("check --program p", "refused"),
-            ("plan --program p", "refused"),
             ("run --program p --sensors i --until 60", "refused"),
             (
                 "run --program p --workers 0 --sensors i --until 60",
@@ -151,6 +155,12 @@ fn options_of_the_modes(rt: HostRuntime) -> Result<(), Fail> {
                 "refused",
             ),
             ("replay --program p --sensors i --until 60", "refused"),
+            ("plan --node n", "refused"),
+            ("plan --program p --bodies b", "refused"),
+            ("plan --program p --until 3", "refused"),
+            ("check --bodies b", "refused"),
+            ("check --program p --sensors i", "refused"),
+            ("check --program p --until 3", "refused"),
             ("print --program p --until 3", "refused"),
             ("print --program p --node n", "refused"),
             ("print --program p --bodies b", "refused"),

@@ -1,4 +1,4 @@
-//! Mode `flows` on the flight controller, against rows that an independent program computed.
+//! The flight controller: mode `flows` against rows, and `check` against counts, that independent programs computed.
 
 use crate::lines::{check, files};
 use samples::{AUTOPILOT, AUTOPILOT_ACTUATORS, AUTOPILOT_BODIES, AUTOPILOT_SENSORS};
@@ -26,4 +26,24 @@ fn flight_controller(rt: HostRuntime) -> Result<(), Fail> {
     ];
     let files = files(alloc, &entries, &[])?;
     check(&rt, alloc, &line, files, (0, AUTOPILOT_ACTUATORS, ""))
+}
+
+#[test]
+fn plan_of_the_flight_controller(rt: HostRuntime) -> Result<(), Fail> {
+    let alloc = rt.alloc();
+    let entries = [
+        ("autopilot.prl", AUTOPILOT),
+        ("autopilot.bod", AUTOPILOT_BODIES),
+    ];
+    let line = [
+        "prelude",
+        "check",
+        "--program",
+        "autopilot.prl",
+        "--bodies",
+        "autopilot.bod",
+    ];
+    let files = files(alloc, &entries, &[])?;
+    let accepted = "accepted tasks 23 edges 36 hyperperiod 1000 cells 42\n";
+    check(&rt, alloc, &line, files, (0, accepted, ""))
 }

@@ -17,3 +17,5 @@ mod fronts;
 mod lines;
 #[cfg(test)]
 mod outside;
+#[cfg(test)]
+mod plans;

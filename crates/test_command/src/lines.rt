@@ -92,7 +92,7 @@ pub fn check(
 ) -> Result<(), Fail> {
     let words = words(alloc, line)?;
     let mut files = files;
-    let mut out = MemSink::new(alloc, 4000, 1000, Vec::new(alloc))?;
+    let mut out = MemSink::new(alloc, 10_000, 1000, Vec::new(alloc))?;
     let mut err = MemSink::new(alloc, 1000, 1000, Vec::new(alloc))?;
     let status = prelude_alone(alloc, &words, &mut files, &mut out, &mut err).ok_or("no status")?;
     assert_eq!(rt; status.code, told.0);

@@ -62,12 +62,12 @@ IsStopOfFiles old new c stops.Memory = new.failed ≡ old.failed
 -- a command comes to no refusal, and its mode means this text
 abbrev pub IsAnswer : Option Folder → Command → List ℕ → Type 0
 IsAnswer told c text =
-    (g : Given) × IsGiven told c g × Comes g (stages_of c.mode) None × IsText g c.mode text
+    (g : Given) × IsGiven told c g × Comes g (stages_of c) None × IsText g c.mode text
 
 -- a command comes to a refusal, a reading failed, or memory ran out
 abbrev pub IsAnswerStop : FolderView → FolderView → Command → Stop → Type 0
 IsAnswerStop old new c (stops.Unread part) =
     (name : List ℕ) × (file_of c part ≡ Some name) × (new.failed ≡ old.failed ++ (name ∷ []))
 IsAnswerStop old new c (stops.Refused stage fault) =
-    ((g : Given) × IsGiven old.folder c g × Comes g (stages_of c.mode) (Some (stage, fault))) × (new.failed ≡ old.failed)
+    ((g : Given) × IsGiven old.folder c g × Comes g (stages_of c) (Some (stage, fault))) × (new.failed ≡ old.failed)
 IsAnswerStop old new c stops.Memory = new.failed ≡ old.failed

@@ -12,6 +12,12 @@ use Rattle.prl_causal.specs.declared.causality.CausalFault.{CausalFault}
 use Rattle.prl_causal.specs.declared.causality.CausalFault.TheVariants as causality
 use Rattle.prl_clock.specs.declared.calculus.ClockFault.{ClockFault}
 use Rattle.prl_clock.specs.declared.calculus.ClockFault.TheVariants as clocking
+use Rattle.prl_graph.specs.declared.faults.GraphFault.{GraphFault}
+use Rattle.prl_graph.specs.declared.faults.GraphFault.TheVariants as graphing
+use Rattle.prl_words.specs.declared.graphs.WordFault.{WordFault}
+use Rattle.prl_words.specs.declared.graphs.WordFault.TheVariants as wording
+use Rattle.prl_buffers.specs.declared.tables.CellFault.{CellFault}
+use Rattle.prl_buffers.specs.declared.tables.CellFault.TheVariants as celling
 use Rattle.prl_evaluation.specs.declared.evaluation.FlowFault.{FlowFault}
 use Rattle.prl_evaluation.specs.declared.evaluation.FlowFault.TheVariants as flows
 use Rattle.prl_chains.specs.declared.chains.Chain.{Chain}
@@ -22,6 +28,7 @@ use Rattle.prl_sensors.specs.declared.faults.SensorFault.TheVariants as sensors
 use Rattle.prl_app.specs.declared.faults.GrammarRefusal.TheVariants as bad_grammar
 use Rattle.prl_app.specs.declared.faults.TypesRefusal.TheVariants as bad_types
 use Rattle.prl_app.specs.declared.faults.ClocksRefusal.TheVariants as bad_clocks
+use Rattle.prl_app.specs.declared.faults.GraphRefusal.TheVariants as bad_graph
 use Rattle.prl_app.specs.declared.faults.BodiesRefusal.TheVariants as bad_bodies
 use Rattle.prl_app.specs.declared.faults.SensorsRefusal.TheVariants as bad_rows
 use Rattle.prl_app.specs.declared.faults.ScheduleRefusal.TheVariants as bad_schedule
@@ -69,6 +76,20 @@ told_clocks (clocking.Limit limit) = Some (faults.Clocks (bad_clocks.Limit limit
 told_clocks (clocking.Free label) = Some (faults.Clocks (bad_clocks.Free label))
 told_clocks (clocking.NotWhole label period start) = Some (faults.Clocks (bad_clocks.NotWhole label period start))
 told_clocks clocking.Memory = None
+
+abbrev pub told_graph : GraphFault → Option Fault
+told_graph (graphing.DueOnNonTask label) = Some (faults.Graph (bad_graph.DueOnNonTask label))
+told_graph (graphing.DueRange flow due period) = Some (faults.Graph (bad_graph.DueRange flow due period))
+told_graph (graphing.Limit limit) = Some (faults.Graph (bad_graph.Limit limit))
+told_graph graphing.Memory = None
+
+abbrev pub told_words : WordFault → Option Fault
+told_words (wording.Limit limit) = Some (faults.Limit limit)
+told_words wording.Memory = None
+
+abbrev pub told_cells : CellFault → Option Fault
+told_cells (celling.Limit limit) = Some (faults.Limit limit)
+told_cells celling.Memory = None
 
 abbrev pub told_body : BodyFault → Option Fault
 told_body (body_faults.Syntax at) = Some (faults.Bodies (bad_bodies.Syntax at))

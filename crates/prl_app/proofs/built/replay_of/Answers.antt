@@ -1,4 +1,4 @@
-use Rattle.std.proofs.Common.{◌≡◌, ◌≢◌, ◌∙◌, ℕ, List, Some, None, sym, ap, subst}
+use Rattle.std.proofs.Common.{◌≡◌, ◌≢◌, ◌∙◌, ℕ, Some, None, sym, ap, subst}
 use Rattle.prl_flow.specs.Rows.{rows_of}
 use Rattle.prl_relays.specs.Relays.{IsRelayFault}
 use Rattle.prl_relays.specs.declared.relays.RelayFault.TheVariants as relays

@@ -10,6 +10,17 @@ returns c = one_end (record {
   expansions = c.expansions_are_unique.ensures;
   formed = c.flats_are_well_formed.ensures;
   clocks = c.outcomes_are_unique.ensures;
+  plans = record {
+    one_graph = c.graphs_end_one_way.ensures.one_graph;
+    one_fault = c.graphs_end_one_way.ensures.one_fault;
+    not_both = c.graphs_end_one_way.ensures.not_both;
+    first = c.words_begin_with_constants.ensures.first;
+    one_first = c.words_begin_with_constants.ensures.one;
+    narrow = c.faults_tell_of_narrow_chains.ensures.fault;
+    room = c.faults_tell_of_narrow_chains.ensures.room;
+    best = c.room_leaves_no_narrow_chain.ensures.best;
+    dates = c.plan_is_unique.ensures.dates;
+  };
   horizon_or_limit = c.horizons_end_one_way.ensures.not_both;
   one_limit = c.horizons_end_one_way.ensures.one_limit;
   replay_or_fault = c.replays_end_one_way.ensures.not_both;

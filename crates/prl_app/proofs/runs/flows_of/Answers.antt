@@ -5,7 +5,6 @@ use Rattle.prl_flow.specs.Actuators.{AreUpTo, actuator_text}
 use Rattle.prl_flow.specs.Applications.{HaveBodies}
 use Rattle.prl_flow.specs.Programs.{FlatProgram}
 use Rattle.prl_flow.specs.States.{Timed}
-use Rattle.prl_app.specs.Given.{Given}
 use Rattle.prl_app.specs.code.Stops.{given_of}
 use Rattle.prl_app.proofs.Inputs.{few_outputs}
 use Rattle.prl_app.proofs.Meaning.{Laws, one, outs, up_to}

@@ -9,7 +9,9 @@ use Rattle.prl_arguments.specs.code.Options.{app_of_mode, faults_of, is_taken}
 use Rattle.prl_arguments.proofs.options.are_options_of.Goals as goal
 
 simple : (mode : Mode) → is_simple_and_free (app_of_mode mode) ≡ true
+simple modes.Check = refl
 simple modes.Flows = refl
+simple modes.Plan = refl
 simple modes.Print = refl
 simple modes.Replay = refl
 
