@@ -16,3 +16,4 @@ mod Caught
 mod RunFacts
 mod Allowed
 mod Granted
+mod Unseen

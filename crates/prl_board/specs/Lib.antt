@@ -12,5 +12,7 @@ pub mod Rule
 pub mod Steps
 -- what is seen of a board, and what its steps tell
 pub mod Boards
+-- what is seen of the clock's seat
+pub mod ClockSeats
 -- what private functions say to one another
 pub mod code

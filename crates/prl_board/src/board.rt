@@ -8,12 +8,15 @@ ghost use Rattle.prl_base.specs.Values.{FitsValue};
 ghost use Rattle.prl_base.specs.declared.numbers.EdgeNo.{EdgeNo};
 ghost use Rattle.prl_plan.specs.declared.events.Action.TheVariants as actions;
 ghost use Rattle.prl_plan.specs.declared.events.SlotNo.{SlotNo};
+ghost use Rattle.std.specs.Bool.{OnTrue, OnFalse};
 ghost use Rattle.prl_plan.specs.Facts.{HasPlanFacts, IsJob};
+ghost use Rattle.prl_plan.specs.Runs.{action_at};
+ghost use Rattle.prl_board.specs.ClockSeats.{NamesTask};
 ghost use Rattle.prl_board.specs.declared.views.ClockPart.{ClockPart};
 ghost use Rattle.prl_board.specs.declared.views.Gate.TheVariants as gates;
 ghost use Rattle.prl_board.specs.declared.views.View.{View};
 ghost use Rattle.prl_board.specs.Agreement.{slot_word, stop_word, word_count, IsOverrun};
-ghost use Rattle.prl_board.specs.Boards.{BoardView, ClockStopTold, EndTold, HalfTold, IsAt, LookTold, NowTold, RaiseTold, StopTold, TickTold, WriteTold, part_at, part_of};
+ghost use Rattle.prl_board.specs.Boards.{ClockStopTold, EndTold, HalfTold, IsAt, IsStopFor, LookTold, NowTold, RaiseTold, StopTold, TickTold, WriteTold, part_at, part_of};
 ghost use Rattle.prl_board.specs.RunValues.{word_of};
 ghost use Rattle.prl_plan.specs.Horizons.{IsHorizon};
 ghost use Rattle.prl_values.specs.Fitting.{HaveTaskBodies, HaveTypedRows};
@@ -29,7 +32,7 @@ use atomic_table::{Play, Split, Table};
 use prl_base::TaskNo;
 use prl_body::Bodies;
 use prl_flow::Sensors;
-use prl_plan::{Horizon, Plan, SlotNo, plan_facts, plan_is_one};
+use prl_plan::{Action, Horizon, Plan, SlotNo, plan_facts, plan_is_one};
 use std::alloc::{AllocError, Global};
 use std::marker::{Brand, Model, PhantomData};
 
@@ -202,6 +205,88 @@ impl<'a> Board<'a> {
     {
         let _ = (task, place);
         self.table.shared.store::<Tells<J>>(seat, word, value);
+    }
+
+    /// How many tasks the plan has.
+    pub(crate) fn tasks(&self) -> u32
+        ensures { result ≡ (run_of self.now.known).tasks }
+    {
+        plan_facts(self.plan, self.horizon);
+        self.plan.graph().tasks.len() as u32
+    }
+
+    /// The end of the horizon.
+    pub(crate) fn end(&self) -> u64
+        ensures { result ≡ (run_of self.now.known).end }
+    {
+        self.horizon.end
+    }
+
+    /// Whether the clock waits for the jobs that are due.
+    pub(crate) fn is_gated(&self) -> bool
+        ensures yes { OnTrue result (self.now.known.gate ≡ gates.Gated) }
+        ensures no { OnFalse result (self.now.known.gate ≡ gates.Gated → ⊥) }
+    {
+        match self.gate {
+            Gate::Gated => true,
+            Gate::Free => false,
+        }
+    }
+
+    /// How many jobs of the horizon a task has.
+    pub(crate) fn jobs_of(&self, task: TaskNo) -> u64
+        requires { task.0 < (run_of self.now.known).tasks }
+        ensures { result ≡ (run_of self.now.known).jobs task.0 }
+    {
+        self.horizon.jobs_of(self.plan, task)
+    }
+
+    /// The encoded release of a horizon job.
+    pub(crate) fn release(&self, task: TaskNo, job: u64) -> u64
+        requires { IsJob (run_of self.now.known) task.0 job }
+        ensures { result ≡ (run_of self.now.known).release task.0 job }
+    {
+        plan_facts(self.plan, self.horizon);
+        self.plan.release(task, job)
+    }
+
+    /// The encoded deadline of a horizon job.
+    pub(crate) fn deadline(&self, task: TaskNo, job: u64) -> u64
+        requires { IsJob (run_of self.now.known) task.0 job }
+        ensures at { result ≡ (run_of self.now.known).deadline task.0 job }
+        ensures positive { 1 ≤ result }
+    {
+        plan_facts(self.plan, self.horizon);
+        self.plan.deadline(task, job)
+    }
+
+    /// The action at this place of a horizon job.
+    pub(crate) fn action(&self, task: TaskNo, job: u64, place: u32) -> Action
+        requires { IsJob (run_of self.now.known) task.0 job }
+        ensures { result ≡ action_at (run_of self.now.known) task.0 job place }
+    {
+        plan_facts(self.plan, self.horizon);
+        self.plan.action(task, job, place)
+    }
+
+    /// What the jobs of the run keep.
+    pub(crate) fn keeps_facts(&self)
+        ensures { HasPlanFacts (run_of self.now.known) }
+    {
+        plan_facts(self.plan, self.horizon);
+    }
+
+    /// The task that a stop word names.
+    pub(crate) fn task_named(&self, word: u64) -> Option<TaskNo>
+        requires { (before : View) × IsStopFor self.now.known before word }
+        ensures { NamesTask word result }
+    {
+        plan_facts(self.plan, self.horizon);
+        if word == 0 {
+            None
+        } else {
+            Some(TaskNo((word - 1) as u32))
+        }
     }
 
     /// The word of a half.

@@ -1,0 +1,33 @@
+-- Jobs that are due and have not been seen to end.
+use Rattle.std.proofs.Common.{◌≡◌, ℕ, ◌+◌, ◌-◌, ◌<◌, ◌≤◌, false, nat_le, nat_lt, get_or, inl, inr, arith, sym, ap, ◌∙◌, subst}
+use Rattle.std.proofs.lemmas.Bool.{cases_order}
+use Rattle.std.proofs.lemmas.Bool.Decides.{nat_tests}
+use Rattle.prl_plan.specs.Runs.{RunConstants}
+use Rattle.prl_plan.specs.Facts.{HasPlanFacts, IsJob}
+use Rattle.prl_board.specs.declared.views.Constants.{Constants}
+use Rattle.prl_board.specs.declared.views.ClockPart.{ClockPart}
+use Rattle.prl_board.specs.ClockSeats.{IsUnseen}
+use Rattle.prl_board.specs.Known.{run_of}
+
+-- a later job of a task is not due earlier
+pub deadlines_rise : (c : RunConstants) → HasPlanFacts c → (i m n : ℕ) → IsJob c i n → m ≤ n → c.deadline i m ≤ c.deadline i n
+deadlines_rise c facts i m n job before =
+    elim (cases_order m n) [
+      | inl same ↦ (let e : c.deadline i m ≡ c.deadline i n = ap (c.deadline i) same in omega (arith, e))
+      | inr apart ↦
+          (elim apart [
+            | inl earlier ↦ (let a = facts.apart i m n job earlier in let w = facts.window i n job in omega (arith, a, w))
+            | inr later ↦ absurd (omega (arith, before, later))
+          ])
+    ]
+
+-- where the first job that has not been seen to end is not due, none is
+pub none_due : (k : Constants) → HasPlanFacts (run_of k) → (r : ClockPart) (i look : ℕ) → get_or r.looks i 0 ≡ look → r.now + 1 < (run_of k).deadline i look → (n : ℕ) → IsUnseen k r i n → ⊥
+none_due k facts r i look same early n u =
+    let seen = u.unseen in let due = u.due in
+    let rise = deadlines_rise (run_of k) facts i look n u.job (omega (arith, seen, same)) in omega (arith, rise, due, early)
+
+-- and where all have been seen to end
+pub none_left : (k : Constants) (r : ClockPart) (i look : ℕ) → get_or r.looks i 0 ≡ look → (run_of k).jobs i ≤ look → (n : ℕ) → IsUnseen k r i n → ⊥
+none_left k r i look same all n u =
+    let seen = u.unseen in let job = u.job.job in omega (arith, seen, job, same, all)

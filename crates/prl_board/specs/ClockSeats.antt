@@ -1,0 +1,66 @@
+-- What is seen of the clock's seat, and what its ticks answer.
+use Rattle.std.specs.Prelude.{◌≡◌, ◌≢◌, ◌+◌, ◌<◌, ◌≤◌, ℕ, List, length, slice_index, Option, Some, None}
+use Rattle.atomic_table.specs.Seated.{TableId}
+use Rattle.prl_base.specs.declared.numbers.TaskNo.{TaskNo}
+use Rattle.prl_plan.specs.Facts.{IsJob}
+use Rattle.prl_board.specs.declared.views.Constants.{Constants}
+use Rattle.prl_board.specs.declared.views.Gate.TheVariants as gates
+use Rattle.prl_board.specs.declared.views.ClockPart.{ClockPart}
+use Rattle.prl_board.specs.declared.views.View.{View}
+use Rattle.prl_board.specs.declared.clocks.Ticked.{Ticked}
+use Rattle.prl_board.specs.declared.clocks.Ticked.TheVariants as ticks
+use Rattle.prl_board.specs.Boards.{BoardView, ClockStopTold, TickTold}
+use Rattle.prl_board.specs.Known.{run_of}
+
+-- its table, its number there, and its view
+pub record ClockSeatView : Type 0 where
+  pub table : TableId
+  pub id : ℕ
+  pub view : View
+
+-- The seat belongs to the board: both are of one table, its view has the constants of the board's run, and this part of the clock.
+pub record IsClockOf (b : BoardView) (s : ClockSeatView) (r : ClockPart) : Type 0 where
+  pub table : s.table ≡ b.table
+  pub known : s.view.constants ≡ Some b.known
+  pub part : s.view.clock ≡ Some r
+
+-- job n of task i is one of the horizon that is due by the next tick, and has not been seen to end
+pub record IsUnseen (k : Constants) (r : ClockPart) (i n : ℕ) : Type 0 where
+  pub job : IsJob (run_of k) i n
+  pub due : (run_of k).deadline i n ≤ r.now + 1
+  pub unseen : slice_index r.looks i ≤ n
+
+-- it is the first such job of the lowest task that has one
+pub record IsBehind (k : Constants) (r : ClockPart) (i n : ℕ) : Type 0 where
+  pub job : IsUnseen k r i n
+  pub first : (m : ℕ) → IsUnseen k r i m → n ≤ m
+  pub lowest : (j m : ℕ) → IsUnseen k r j m → i ≤ j
+
+-- no job is such
+abbrev pub IsAllSeen : Constants → ClockPart → Type 0
+IsAllSeen k r = (i n : ℕ) → IsUnseen k r i n → ⊥
+
+-- what a tick answers: on a gated board it waits for what is due
+abbrev pub AnswersTick : Constants → ClockPart → ClockSeatView → ClockSeatView → Ticked → Type 0
+AnswersTick k r before after (ticks.Now now) =
+    (now ≡ r.now + 1) × (r.now < (run_of k).end) × (k.gate ≡ gates.Gated → IsAllSeen k r) × TickTold r before.view after.view
+AnswersTick k r before after (ticks.Behind task job) =
+    (k.gate ≡ gates.Gated) × (r.now < (run_of k).end) × IsBehind k r task.0 job × (after ≡ before)
+AnswersTick k r before after ticks.End = (r.now ≡ (run_of k).end) × (after ≡ before)
+
+-- what a load of the stop word answers: none where it is 0, else the task that it names
+abbrev pub NamesTask : ℕ → Option TaskNo → Type 0
+NamesTask word (Some task) = word ≡ task.0 + 1
+NamesTask word None = word ≡ 0
+
+-- after a load of the stop word by the clock's seat
+pub record AnswersStop (k : Constants) (r : ClockPart) (before after : ClockSeatView) (answer : Option TaskNo) : Type 0 where
+  pub word : ℕ
+  pub told : ClockStopTold k r before.view word after.view
+  pub names : NamesTask word answer
+
+-- what the seat has beside its view is what the view says of the clock
+pub record IsClockData (view : View) (now : ℕ) (looks : List ℕ) : Type 0 where
+  pub same : (r : ClockPart) → view.clock ≡ Some r → (r.now ≡ now) × (r.looks ≡ looks)
+  pub within : (k : Constants) → view.constants ≡ Some k → now ≤ (run_of k).end
+  pub wide : (k : Constants) → view.constants ≡ Some k → length looks ≡ (run_of k).tasks
