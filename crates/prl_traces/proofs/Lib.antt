@@ -1,3 +1,5 @@
 mod Runs
 mod Actuators
 mod Ends
+mod OneEnd
+mod Traces

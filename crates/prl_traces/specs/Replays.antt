@@ -86,3 +86,9 @@ IsReplayFault core text fault =
 abbrev pub schedule_fault : ScheduleFault → ReplayFault
 schedule_fault (lines.Syntax line) = faults.Syntax line
 schedule_fault lines.Memory = faults.Memory
+
+-- the text lists events that are legal and complete
+abbrev pub IsWholeText : CoreView → List ℕ → Type 0
+IsWholeText core text =
+    (events : List Event) × (schedule_of (task_names core.plan) text ≡ Ok events) × IsLegal (constants core) core.state events
+    × IsComplete (constants core) (after_all core events).state
