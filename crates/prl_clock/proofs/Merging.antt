@@ -1,5 +1,5 @@
 -- Constraints one more: who stands where then.
-use Rattle.std.proofs.Common.{◌≡◌, ◌≢◌, ◌≤◌, ◌<◌, ◌⊎◌, inl, inr, ℕ, List, length, Some, sym, ap, ◌∙◌, subst, arith}
+use Rattle.std.proofs.Common.{◌≡◌, ◌≢◌, ◌≤◌, ◌<◌, ◌⊎◌, inl, inr, ℕ, List, length, Option, Some, None, refl, sym, ap, ◌∙◌, subst, arith}
 use Rattle.std.proofs.Math.ListN.{get_or-eq_default}
 use Rattle.std.proofs.lemmas.Bool.{cases_lt}
 use Rattle.prl_clock.specs.declared.timings.Timing.{Timing}
@@ -44,7 +44,24 @@ timed_everywhere root clock old new len within timed x =
           let a : standing_at old x ≡ alone x = beyond old x above in
           let b : standing_at new x ≡ alone x = beyond new x (omega arith) in
           let r : root_at old x ≡ x = ap (λ (s : Standing). s.root) a in
-          record { timed = λ e. absurd (omega (arith, r, e, above, within)); kept = λ _. b ∙ sym a }
+          record { timed = λ e _. absurd (omega (arith, r, e, above, within)); had = λ _ _. b ∙ sym a; kept = λ _. b ∙ sym a }
+    ]
+
+-- there is a clock or none
+pub clock_or_none : (o : Option Timing) → (o ≡ None) ⊎ ((t : Timing) × (o ≡ Some t))
+clock_or_none None = inl refl
+clock_or_none (Some t) = inr (t, refl)
+
+-- a flow over the root gets a clock, or stays as it is
+timed_or_same : (root : ℕ) (clock : Timing) (old new : Standing) → IsTimed root clock old new
+    → ((old.root ≡ root) × (old.clock ≡ None)) ⊎ (new ≡ old)
+timed_or_same root clock old new t =
+    elim (decide old.root root) [
+      | inr n ↦ inr (t.kept n)
+      | inl e ↦ elim (clock_or_none old.clock) [
+        | inl none ↦ inl (e, none)
+        | inr some ↦ inr (t.had some.0 some.1)
+      ]
     ]
 
 -- Clocks for all flows over `r`.
@@ -53,28 +70,28 @@ module _ (cs : List Placed) (old new : List Standing) (r : ℕ) (clock : Timing)
     (timed : (x : ℕ) → IsTimed r clock (standing_at old x) (standing_at new x)) where
   same_over : (x : ℕ) → ((standing_at new x).over ≡ (standing_at old x).over) × (root_at new x ≡ root_at old x)
   same_over x =
-      elim (decide (root_at old x) r) [
-        | inl e ↦ let t = (timed x).timed e in (ap (λ (s : Standing). s.over) t.1.0, ap (λ (s : Standing). s.root) t.1.0)
-        | inr n ↦ let k = (timed x).kept n in (ap (λ (s : Standing). s.over) k, ap (λ (s : Standing). s.root) k)
+      elim (timed_or_same r clock _ _ (timed x)) [
+        | inl e ↦ let t = (timed x).timed e.0 e.1 in (ap (λ (s : Standing). s.over) t.1.0, ap (λ (s : Standing). s.root) t.1.0)
+        | inr k ↦ (ap (λ (s : Standing). s.over) k, ap (λ (s : Standing). s.root) k)
       ]
 
   new_clock : (x : ℕ) (t : Timing) → (standing_at new x).clock ≡ Some t → IsSmallTiming t × ((s : Assignment) → MeetsAll s cs → IsOver t (s.flow x) (tick s))
   new_clock x t is =
-      elim (decide (root_at old x) r) [
+      elim (timed_or_same r clock _ _ (timed x)) [
         | inl e ↦
-            let u = (timed x).timed e in
+            let u = (timed x).timed e.0 e.1 in
             let same : t ≡ u.0 = some_same (sym is ∙ ap (λ (s : Standing). s.clock) u.1.0) in
             let P : Timing → Type 0 = λ v. IsSmallTiming v × ((s : Assignment) → MeetsAll s cs → IsOver v (s.flow x) (tick s)) in
             subst P (sym same) (
               u.1.2,
               λ s m.
                   let root : IsOver (standing_at old x).over (s.flow x) (s.flow r) =
-                  let Q : ℕ → Type 0 = λ y. IsOver (standing_at old x).over (s.flow x) (s.flow y) in subst Q e (open_.standings.over s m x) in
+                  let Q : ℕ → Type 0 = λ y. IsOver (standing_at old x).over (s.flow x) (s.flow y) in subst Q e.0 (open_.standings.over s m x) in
                   composed_of (standing_at old x).over clock u.0 (small_parts _ (open_.standings.small x)) (small_parts _ small) (small_parts _ u.1.2)
                   (s.flow x) (s.flow r) (tick s) (s.positive x) (s.positive r) s.some root (over s m) u.1.1,
             )
-        | inr n ↦
-            let k : (standing_at old x).clock ≡ Some t = sym (ap (λ (s : Standing). s.clock) ((timed x).kept n)) ∙ is in
+        | inr same ↦
+            let k : (standing_at old x).clock ≡ Some t = sym (ap (λ (s : Standing). s.clock) same) ∙ is in
             (open_.standings.small_clock x t k, λ s m. open_.standings.clock s m x t k)
       ]
     where
@@ -83,11 +100,14 @@ module _ (cs : List Placed) (old new : List Standing) (r : ℕ) (clock : Timing)
 
   has_clock : (x : ℕ) → (root_at old x ≡ r) ⊎ HasClock old x → HasClock new x
   has_clock x h =
-      elim (decide (root_at old x) r) [
-        | inl e ↦ let u = (timed x).timed e in (u.0, ap (λ (s : Standing). s.clock) u.1.0)
-        | inr n ↦ elim h [
-          | inl e ↦ absurd (n e)
-          | inr c ↦ (c.0, ap (λ (s : Standing). s.clock) ((timed x).kept n) ∙ c.1)
+      elim (timed_or_same r clock _ _ (timed x)) [
+        | inl e ↦ let u = (timed x).timed e.0 e.1 in (u.0, ap (λ (s : Standing). s.clock) u.1.0)
+        | inr same ↦ elim h [
+          | inl e ↦ elim (clock_or_none (standing_at old x).clock) [
+            | inl none ↦ let u = (timed x).timed e none in (u.0, ap (λ (s : Standing). s.clock) u.1.0)
+            | inr c ↦ (c.0, ap (λ (s : Standing). s.clock) same ∙ c.1)
+          ]
+          | inr c ↦ (c.0, ap (λ (s : Standing). s.clock) same ∙ c.1)
         ]
       ]
 

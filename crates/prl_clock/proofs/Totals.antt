@@ -1,5 +1,5 @@
 -- Each step of the calculus has an answer, with no call that takes memory.
-use Rattle.std.proofs.Common.{◌≡◌, ◌≢◌, ◌≤◌, ◌<◌, ◌+◌, ◌-◌, ◌*◌, ◌∷◌, ◌⊎◌, inl, inr, ℕ, zero, suc, ℤ, pos, negsuc, neg_ℤ, nat_abs, ◌*ℤ◌, ◌+ℤ◌, List, [], length, get_or, Some, refl, sym, ap, ◌∙◌, subst, arith}
+use Rattle.std.proofs.Common.{◌≡◌, ◌≢◌, ◌≤◌, ◌<◌, ◌+◌, ◌-◌, ◌*◌, ◌∷◌, ◌⊎◌, inl, inr, ℕ, zero, suc, ℤ, pos, negsuc, neg_ℤ, nat_abs, ◌*ℤ◌, ◌+ℤ◌, List, [], length, get_or, Option, Some, None, refl, sym, ap, ◌∙◌, subst, arith}
 use Rattle.std.specs.Int.{IsGcd}
 use Rattle.std.proofs.lemmas.Bool.{cases_lt}
 use Rattle.std.proofs.lemmas.Nat.Gcd.{IsGcd-from_zero, IsGcd-swap, IsGcd-from_sub}
@@ -14,7 +14,7 @@ use Rattle.prl_clock.specs.code.Rates.{IsReducedTiming, IsTimingPast}
 use Rattle.prl_clock.specs.code.Standings.{AreMoved, AreTimed, IsMoved, IsTimed, IsOnePast, alone, standing_at}
 use Rattle.prl_clock.proofs.Algebra.{positive}
 use Rattle.prl_clock.proofs.Loops.{same_within}
-use Rattle.prl_clock.proofs.Merging.{decide}
+use Rattle.prl_clock.proofs.Merging.{clock_or_none, decide}
 use Rattle.prl_clock.proofs.Terms.{quotient_product, sum_back, composed_only, past_composed, only, past_form, past_small}
 
 divisor : (most a b : ℕ) → a + b ≤ most → (g : ℕ) × IsGcd a b g
@@ -189,12 +189,21 @@ module _ (st : List Standing) (parts : (x : ℕ) → HasParts (standing_at st x)
         | inr q ↦ let k = q.2 (alone q.0) in inr (record { flow = q.0; within = q.1; is = k.0; past = k.1 })
       ]
     where
+      none_some : {o : Option Timing} {t : Timing} → o ≡ None → o ≡ Some t → ⊥
+      none_some a b = cc
+
       one : (s : Standing) → HasParts s.over → ((t : Standing) × IsTimed root clock s t) ⊎ ((s.root ≡ root) × IsComposedPast s.over clock)
       one s dp =
           elim (decide s.root root) [
-            | inr n ↦ inl (s, record { timed = λ e. absurd (n e); kept = λ _. refl })
-            | inl e ↦ elim (composed_total s.over clock dp dc) [
-              | inl r ↦ inl (record { root = s.root; over = s.over; clock = Some r.0 }, record { timed = λ _. (r.0, (refl, r.1, r.2)); kept = λ n. absurd (n e) })
-              | inr past ↦ inr (e, past)
+            | inr n ↦ inl (s, record { timed = λ e _. absurd (n e); had = λ _ _. refl; kept = λ _. refl })
+            | inl e ↦ elim (clock_or_none s.clock) [
+              | inr some ↦ inl (s, record { timed = λ _ none. absurd (none_some none some.1); had = λ _ _. refl; kept = λ _. refl })
+              | inl none ↦ elim (composed_total s.over clock dp dc) [
+                | inl r ↦ inl (
+                  record { root = s.root; over = s.over; clock = Some r.0 },
+                  record { timed = λ _ _. (r.0, (refl, r.1, r.2)); had = λ _ some. absurd (none_some none some); kept = λ n. absurd (n e) },
+                )
+                | inr past ↦ inr (e, past)
+              ]
             ]
           ]

@@ -36,12 +36,12 @@ fn moved(standing: Standing, high: u32, low: u32, shift: &Timing) -> Result<Stan
     })
 }
 
-/// A flow with its clock, where it stands over `root` and that has this clock.
+/// A flow with its clock, where it has none yet, stands over `root` and that has this clock.
 fn timed(standing: Standing, root: u32, clock: &Timing) -> Result<Standing, Past>
     ensures timed { IfOk result (IsTimed root clock.now standing) }
     ensures past { OnErr result ((standing.root ≡ root) × IsComposedPast standing.over clock.now) }
 {
-    if standing.root != root {
+    if standing.root != root || standing.clock.is_some() {
         return Ok(standing);
     }
     Ok(Standing {
@@ -62,7 +62,7 @@ pub fn move_all(standings: &mut [Standing], high: u32, low: u32, shift: &Timing)
     Ok(())
 }
 
-/// Gives each flow over `root` its clock, from that of `root`.
+/// Gives each flow over `root` that has no clock yet its clock, from that of `root`.
 pub fn time_all(standings: &mut [Standing], root: u32, clock: &Timing) -> Result<(), Past>
     ensures timed { OnOk result (AreTimed root clock.now standings.old standings.new) }
     ensures past { OnErr result (IsOnePast root clock.now standings.old) }

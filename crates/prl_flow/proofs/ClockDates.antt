@@ -1,8 +1,8 @@
 -- Dates of clocks, and the values of flows at them.
 use Rattle.std.proofs.Common.{◌≡◌, ◌+◌, ◌-◌, ◌*◌, ◌/◌, ◌<◌, ◌≤◌, ◌↔◌, ℕ, zero, suc, List, length, slice_get, refl, sym, ◌∙◌, ap, arith, inl, inr, nat_abs}
-use Rattle.std.proofs.Math.Nat.{le-div_iff_mul-le, mul-le-mul_right, mul-div_cancel, mul-div-mul_right, mul-le-mul_left, mul_comm, mul_assoc, mul-add, le_of_mul-le-mul_left, div-mul-le_self, div-lt_iff_lt-mul, zero-mul}
+use Rattle.std.proofs.Math.Nat.{le-div_iff_mul-le, mul-div_cancel, mul-div-mul_right, mul-le-mul_left, mul_comm, mul_assoc, mul-add, le_of_mul-le-mul_left}
 use Rattle.std.proofs.lemmas.Bool.{cases_lt, lt-leb, le-leb, ne_eqb, eq-eqb}
-use Rattle.prl_base.specs.Clocks.{IsClock, date_at, IsDate}
+use Rattle.prl_base.specs.Clocks.{IsClock, date_at}
 use Rattle.prl_base.specs.declared.operators.Clock.{Clock}
 use Rattle.prl_base.specs.declared.operators.Op.{Op}
 use Rattle.prl_base.specs.declared.operators.Op.TheVariants as operators
@@ -10,8 +10,7 @@ use Rattle.prl_base.specs.declared.values.Value.{Value}
 use Rattle.prl_flow.specs.Counts.{dates_before}
 use Rattle.prl_base.specs.Operators.{IsResultClock}
 use Rattle.prl_flow.specs.Flows.{IsUpTo, value_at, delay, value_of_operator, OperatorByDate}
-use Rattle.prl_flow.proofs.Lists.{same_from_elements}
-use Rattle.prl_flow.specs.Instances.{instance_of_operator, AreFirst, HasEnough, IsDenominated}
+use Rattle.prl_flow.specs.Instances.{instance_of_operator, AreFirst, IsDenominated}
 
 -- a quotient that is rounded up
 pub below_ceiling : (d t k : ℕ) → 1 ≤ t → (k < (d + t - 1) / t) ↔ (k * t < d)
@@ -121,50 +120,6 @@ pub dates_before_within : (until : ℕ) (c : Clock) (bound : ℕ) → IsClock c 
 dates_before_within until c bound clock within =
     count_le (dates_before until c) bound (λ j below. within j ((dates_before_number until c j clock).0 below))
 
-cons_within : (x : Clock) (values : List Value) (y : Clock) (until : ℕ) → y.period ≡ x.period → y.start + x.period ≡ x.start → IsUpTo until x values
-    → (j : ℕ) → date_at y j < until → j < length values + 1
-cons_within x values y until period start up_to zero before = omega arith
-cons_within x values y until period start up_to (suc i) before =
-    let same : date_at x i ≡ date_at y (suc i) = rw (period, ← start) (omega arith) in
-    let below : i < length values = (up_to i).1 (rw same before) in
-    omega arith
-
-positive_factor : (k p q : ℕ) → k * p ≡ q → 1 ≤ q → 1 ≤ k
-positive_factor zero p q same positive = let e : q ≡ 0 = sym same ∙ zero-mul p in absurd (omega arith)
-positive_factor (suc k) p q same positive = omega arith
-
--- a flow up to a date is long enough for what an operator makes of it up to that date
-pub HasEnough_from_IsUpTo : (op : Op) (x : Clock) (values : List Value) (y : Clock) (until : ℕ) → IsClock x → IsClock y → IsResultClock op x y → IsDenominated op
-    → IsUpTo until x values → HasEnough op values (dates_before until y)
-HasEnough_from_IsUpTo (operators.Fby c) x values y until xs ys (period, start) fits up_to =
-    dates_before_within until y (length values + 1) ys (λ j before.
-    let same : date_at x j ≡ date_at y j = rw (period, start) refl in
-    let below : j < length values = (up_to j).1 (rw same before) in
-    omega arith)
-HasEnough_from_IsUpTo (operators.Cons c) x values y until xs ys (period, start) fits up_to =
-    dates_before_within until y (length values + 1) ys (cons_within x values y until period start up_to)
-HasEnough_from_IsUpTo operators.Tail x values y until xs ys (period, start) fits up_to =
-    dates_before_within until y (length values - 1) ys (λ j before.
-    let same : date_at x (j + 1) ≡ date_at y j = rw (period, start) (omega arith) in
-    let below : j + 1 < length values = (up_to (j + 1)).1 (rw same before) in
-    omega arith)
-HasEnough_from_IsUpTo (operators.Up k) x values y until xs ys (period, start) fits up_to =
-    let positive : 1 ≤ k = positive_factor k y.period x.period period xs in (
-      positive,
-      dates_before_within until y (length values * k) ys (λ j before.
-          let down : j / k * k * y.period ≤ j * y.period = mul-le-mul_right y.period (div-mul-le_self j k) in
-          let number : j / k * x.period ≡ j / k * k * y.period = rw (← period) (sym (mul_assoc (j / k) k y.period)) in
-          let below : j / k < length values = (up_to (j / k)).1 (omega arith) in
-          (div-lt_iff_lt-mul positive).0 below),
-    )
-HasEnough_from_IsUpTo (operators.Down k) x values y until xs ys (period, start) fits up_to = λ j below.
-    let turned : k * j * x.period ≡ j * (k * x.period) = ap (λ n. n * x.period) (mul_comm k j) ∙ mul_assoc j k x.period in
-    let same : date_at x (k * j) ≡ date_at y j = rw (period, start) (ap (λ n. x.start + n) turned) in
-    (up_to (k * j)).1 (rw same ((dates_before_number until y j ys).0 below))
-HasEnough_from_IsUpTo (operators.Shift q) x values y until xs ys (period, start) fits up_to =
-    let order : x.start ≤ y.start = le_of_mul-le-mul_left {k = q.den} (omega arith) fits in
-    dates_before_within until y (length values) ys (λ j before. (up_to j).1 (rw (← period) (omega arith)))
-
 -- The first instances of an operator are its flow by date.
 pub OperatorByDate_from_instances : (op : Op) (x : Clock) (values : List Value) (y : Clock) (results : List Value) (until : ℕ)
     → IsClock x → IsClock y → IsResultClock op x y → IsDenominated op
@@ -178,10 +133,3 @@ OperatorByDate_from_instances op x values y results until xs ys clock fits first
       ∙ first.each k ((dates_before_number until y k ys).1 number)
       ∙ sym (ap (value_of_operator op x values y.start) same ∙ value_of_operator_date op x values y k xs ys clock fits);
 }
-
--- two flows on one clock, up to one date, that have the same value at each date are one flow
-pub same_by_date : (until : ℕ) (c : Clock) (xs ys : List Value) → IsClock c → IsUpTo until c xs → IsUpTo until c ys
-    → ((t : ℕ) → IsDate c t → t < until → value_at c xs t ≡ value_at c ys t) → xs ≡ ys
-same_by_date until c xs ys clock x_up_to y_up_to each =
-    same_from_elements xs ys (length_from_IsUpTo until c xs clock x_up_to ∙ sym (length_from_IsUpTo until c ys clock y_up_to)) (λ k below.
-    sym (value_at_date c xs k clock) ∙ each (date_at c k) (k, refl) ((x_up_to k).0 below) ∙ value_at_date c ys k clock)

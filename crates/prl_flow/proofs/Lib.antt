@@ -1,8 +1,3 @@
-pub mod Placed
-pub mod Types
-pub mod Solved
-pub mod Ahead
-pub mod Progressed
 pub mod Examples
 -- for the crates above: the elements of lists by their numbers, dates of clocks with the values of flows at them, and applications
 pub mod Lists

@@ -8,6 +8,4 @@ pub mod States
 pub mod Uses
 pub mod Actuators
 pub mod Counts
-pub mod Faults
 pub mod Instances
-pub mod Progress

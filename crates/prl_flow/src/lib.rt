@@ -1,16 +1,12 @@
 //! Flat programs: lists of flows, each a sensor's, a copy, a constant, an operator on another flow or an
-//! output of an applied import. What their flows are is defined by date (`specs/`), and `evaluate` computes
-//! them by instance. It stands on `prl_base` and on the bodies of `prl_body`.
+//! output of an applied import. What their flows are is defined by date (`specs/`). It stands on `prl_base`
+//! and on the bodies of `prl_body`.
 #![tactic(auto)]
 
-mod applications;
 mod dates;
-mod evaluation;
-mod instances;
 mod programs;
 mod rows;
 
 pub use dates::dates_before;
-pub use evaluation::{FlowFault, FlowTable, evaluate};
 pub use programs::{App, Arg, Clocks, Def, Flat, Flow, OutFlow};
 pub use rows::Sensors;

@@ -1,6 +1,6 @@
 //! The rows of the sensors.
 
-ghost use Rattle.std.specs.Prelude.{◌≡◌, ◌<◌, ◌≤◌, length, take, slice_get, Some};
+ghost use Rattle.std.specs.Prelude.{◌≡◌, ◌<◌, length, slice_get, Some};
 ghost use Rattle.prl_flow.specs.Rows.{rows_of};
 
 use prl_base::{Seq, Value};
@@ -44,17 +44,6 @@ impl Sensors {
         ensures { result.now ≡ rows_of self.now sensor }
     {
         self.rows[sensor as usize].as_slice()
-    }
-
-    /// The first `count` rows of the sensor.
-    pub(crate) fn first(&self, sensor: u32, count: usize) -> &[Value]
-        requires { count ≤ length (rows_of self.now sensor) }
-        ensures { result.now ≡ take count (rows_of self.now sensor) }
-    {
-        match self.rows.get(sensor as usize) {
-            Some(rows) => &rows.as_slice()[..count],
-            None => &[],
-        }
     }
 
     /// The value of the sensor's instance `m`.

@@ -76,7 +76,7 @@ step_same body a b n same =
     ∙ ap (λ (r : List Value). (body_step body (b n) r).outputs) (registers_same body a b n (λ m below. same m (omega (arith, below))))
 
 -- a body of a name is one of the bodies
-named_typed : (bodies : List CheckedBody) (name : List ℕ) (b : CheckedBody) → AllByRecursion IsWellTyped bodies → body_named bodies name ≡ Some b → IsWellTyped b
+pub named_typed : (bodies : List CheckedBody) (name : List ℕ) (b : CheckedBody) → AllByRecursion IsWellTyped bodies → body_named bodies name ≡ Some b → IsWellTyped b
 named_typed [] name b all named = cc
 named_typed (x ∷ bodies) name b all named =
     elim (bytes_eq x.name name) as (λ t. cond t (Some x) (body_named bodies name) ≡ Some b → IsWellTyped b) [

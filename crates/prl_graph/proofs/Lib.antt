@@ -14,6 +14,7 @@ mod Order
 mod Ways
 mod PortReads
 mod JobValues
+mod Fitting
 mod WellFormed
 mod Whole
 mod OneGraph

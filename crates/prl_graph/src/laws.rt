@@ -3,20 +3,23 @@
 ghost use Rattle.std.specs.Prelude.{◌≡◌, ◌<◌, ◌⊎◌, ℕ, List, Some, slice_get};
 ghost use Rattle.std.specs.List.{AllByRecursion};
 ghost use Rattle.prl_base.specs.Clocks.{date_at};
+ghost use Rattle.prl_base.specs.Values.{type_of};
+ghost use Rattle.prl_base.specs.declared.numbers.FlowNo.{FlowNo};
 ghost use Rattle.prl_base.specs.declared.operators.Clock.{Clock};
 ghost use Rattle.prl_base.specs.declared.values.Value.{Value};
 ghost use Rattle.prl_body.specs.declared.bodies.CheckedBody.{CheckedBody};
 ghost use Rattle.prl_body.specs.Bodies.{IsWellTyped};
 ghost use Rattle.prl_flow.specs.declared.programs.App.{App};
 ghost use Rattle.prl_flow.specs.Applications.{HaveBodies, registers_before, values_at};
-ghost use Rattle.prl_flow.specs.Programs.{FlatProgram, IsFlat};
-ghost use Rattle.prl_flow.specs.Rows.{Rows};
-ghost use Rattle.prl_flow.specs.Solutions.{AreClocks, Solves, argument_flows, clock_of};
+ghost use Rattle.prl_flow.specs.Programs.{FlatProgram, HasType, IsFlat};
+ghost use Rattle.prl_flow.specs.Rows.{Rows, rows_of};
+ghost use Rattle.prl_flow.specs.Solutions.{AreClocks, HasRows, Solves, argument_flows, clock_of};
 ghost use Rattle.prl_flow.specs.Uses.{HasNoCycle};
 ghost use Rattle.prl_plan.specs.declared.graphs.Edge.{Edge};
 ghost use Rattle.prl_plan.specs.declared.graphs.TaskGraph.{TaskGraph};
 ghost use Rattle.prl_plan.specs.Graphs.{IsWellFormed};
 ghost use Rattle.prl_plan.specs.Operands.{operand_of};
+ghost use Rattle.prl_values.specs.Fitting.{HaveTaskBodies, HaveTypedRows};
 ghost use Rattle.prl_values.specs.JobValues.{AreJobValues, reads_of_job, value_on};
 ghost use Rattle.prl_graph.specs.declared.faults.GraphFault.{GraphFault};
 ghost use Rattle.prl_graph.specs.Edges.{IsEdgeOf};
@@ -56,6 +59,18 @@ pub fn solutions_give_job_values()
         (k n : ℕ) (app : App) (body : CheckedBody) → slice_get p.apps k ≡ Some app → date_at (application_clock clocks app) n < until →
         registers_before body (reads_of_job graph (values_on_dates p clocks flows graph) (node_no p k)) n
         ≡ registers_before body (values_at (application_clock clocks app) (argument_flows flows app)) n }
+{}
+
+/// Bodies that fit the applications fit the tasks of the graph, and rows of the types of main's inputs, one for each date, serve
+/// the tasks of its sensors.
+pub fn bodies_and_rows_serve_tasks()
+    ensures bodies { (p : FlatProgram) (clocks : List Clock) (bodies : List CheckedBody) (graph : TaskGraph) →
+        IsFlat p → IsGraphOf p clocks graph → HaveBodies p bodies → AllByRecursion IsWellTyped bodies → HaveTaskBodies graph bodies }
+    ensures rows { (p : FlatProgram) (clocks : List Clock) (rows : Rows) (until : ℕ) (graph : TaskGraph) →
+        IsFlat p → IsGraphOf p clocks graph → HasRows p clocks rows until →
+        ((k : ℕ) (flow : FlowNo) → slice_get p.ins k ≡ Some flow → (n : ℕ) (v : Value) → slice_get (rows_of rows k) n ≡ Some v →
+        HasType p (type_of v) flow) →
+        HaveTypedRows graph until rows }
 {}
 
 /// Each flat program with clocks and without a cycle has one task graph, or one fault, and not both.

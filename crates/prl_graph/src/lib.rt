@@ -14,4 +14,6 @@ mod tasks;
 
 pub use faults::GraphFault;
 pub use graphs::graph;
-pub use laws::{edge_gives_operand, graphs_end_one_way, solutions_give_job_values};
+pub use laws::{
+    bodies_and_rows_serve_tasks, edge_gives_operand, graphs_end_one_way, solutions_give_job_values,
+};

@@ -14,9 +14,9 @@ ghost use Rattle.prl_machine.specs.Cores.{CoreView, constants, Tells, AreOutputs
 ghost use Rattle.prl_machine.specs.code.Laws.{HasCoreLaws};
 
 use prl_plan::{
-    actions_are_as_defined, free_events_keep_tags, horizon_jobs_are_counted, horizons_are_small,
-    plans_keep_facts,
+    actions_are_as_defined, free_events_keep_tags, horizon_jobs_are_counted, plans_keep_facts,
 };
+use prl_ranges::horizons_are_small;
 use prl_values::{job_values_are_typed, job_values_exist};
 
 /// The laws of plans, of their states and of values by instance, over what is seen of a machine.

@@ -20,6 +20,8 @@ pub mod WalkNumbers
 pub mod NotLater
 pub mod Floors
 pub mod ChainLaws
+pub mod PlanNumbers
+pub mod PartsOfSums
 -- For this crate alone.
 mod Halves
 mod Ports
@@ -41,11 +43,8 @@ mod Examples
 mod WorkedGraphs
 mod WorkedPlan
 mod TableMade
-mod PlanNumbers
 mod DateOrder
 mod OnePlan
-mod WordPeriods
-mod SmallHorizons
 mod PlaceLaws
 mod PlanParts
 mod ActionLists

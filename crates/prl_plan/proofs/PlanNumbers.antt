@@ -1,7 +1,7 @@
 -- The numbers of a graph and of its plans fit.
 use Rattle.std.proofs.Common.{◌≡◌, ◌+◌, ◌*◌, ◌<◌, ◌≤◌, ◌^◌, ℕ, List, [], ◌∷◌, length, subst, arith}
-use Rattle.std.specs.Prelude.{ℤ, pos, ◌≤ℤ◌, nat_abs}
-use Rattle.std.proofs.Math.Nat.{mul-le-mul_left, mul-le-mul_right}
+use Rattle.std.specs.Prelude.{ℤ, pos, ◌≤ℤ◌}
+use Rattle.std.proofs.Math.Nat.{mul-le-mul_left}
 use Rattle.std.proofs.lemmas.Int.{ints}
 use Rattle.std.proofs.lemmas.Option.{slice_get-get_or}
 use Rattle.prl_base.specs.declared.operators.Clock.{Clock}
@@ -13,11 +13,10 @@ use Rattle.prl_plan.specs.declared.walks.Operand.TheVariants as operands
 use Rattle.prl_plan.specs.Jobs.{task_at, deadline_of, IsHorizonJob}
 use Rattle.prl_plan.specs.Graphs.{IsWellFormed, IsEdge, IsTask, TakeClock}
 use Rattle.prl_plan.specs.Operands.{walk, operand_of}
-use Rattle.prl_plan.specs.Ranges.{PrecedingFits}
 use Rattle.prl_plan.specs.Dates.{AreEncodedDates, window_at, encoded_deadline}
 use Rattle.prl_plan.specs.Plans.{PlanView, HaveRoom, IsPlan, edge_at, no_edge, release_at, deadline_at}
 use Rattle.prl_plan.proofs.WalkLaws.{walked_back, operand_walks}
-use Rattle.prl_plan.proofs.WalkNumbers.{preceding_fits, divisor_within}
+use Rattle.prl_plan.proofs.WalkNumbers.{divisor_within}
 use Rattle.prl_plan.proofs.RoundPeriods.{task_is}
 
 times_more : (n p : ℕ) → 1 ≤ p → n ≤ n * p
@@ -29,24 +28,8 @@ first_period hyper [] producer consumer takes = subst (λ (c : Clock). 1 ≤ c.p
 first_period hyper (op ∷ ops) producer consumer takes = first_period hyper ops producer takes.2.0 takes.2.2
 
 module _ (graph : TaskGraph) (good : IsWellFormed graph) where
-  edge_fact : (e : ℕ) → e < length graph.edges → IsEdge graph (edge_at graph e)
+  pub edge_fact : (e : ℕ) → e < length graph.edges → IsEdge graph (edge_at graph e)
   edge_fact e inside = good.edges e (edge_at graph e) (slice_get-get_or graph.edges e no_edge inside)
-
-  -- fewer than 2^32 operators, each of at most a hyperperiod
-  operators_small : (e : ℕ) → e < length graph.edges → length (edge_at graph e).ops * graph.hyper ≤ 2 ^ 32 * 10000000
-  operators_small e inside =
-      let few = (edge_fact e inside).few in
-      let a : length (edge_at graph e).ops * graph.hyper ≤ 2 ^ 32 * graph.hyper = mul-le-mul_right graph.hyper (omega (arith, few)) in
-      let b : 2 ^ 32 * graph.hyper ≤ 2 ^ 32 * 10000000 = mul-le-mul_left (2 ^ 32) good.few_ticks in
-      omega (arith, a, b)
-
-  pub preceding_small : (e : ℕ) (n : ℤ) → e < length graph.edges → nat_abs n * (task_at graph (edge_at graph e).to.0).clock.period ≤ 2 ^ 62 →
-      PrecedingFits (edge_at graph e).ops n
-  preceding_small e n inside small =
-      let is = edge_fact e inside in
-      let ops = operators_small e inside in
-      preceding_fits graph.hyper (edge_at graph e).ops is.clocks.0 (task_at graph (edge_at graph e).to.0).clock good.hyper is.clocks.3 n
-      (2 ^ 62) small (omega (arith, ops))
 
   -- what job n reads has no higher number than the date of the job
   pub walked_within : (e n m : ℕ) → e < length graph.edges → walk (edge_at graph e).ops n ≡ operands.From m →

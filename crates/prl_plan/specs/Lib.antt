@@ -3,6 +3,7 @@ pub mod Operands
 pub mod Jobs
 pub mod Precedence
 pub mod Graphs
+pub mod Representable
 pub mod Dates
 pub mod Chains
 pub mod Cells

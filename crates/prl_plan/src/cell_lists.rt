@@ -171,11 +171,7 @@ impl Cells {
         requires { sum self.now.counts < 2 ^ 32 }
         ensures { result ≡ sum self.now.counts }
     {
-        let mut cells = 0;
-        for count in self.counts.as_slice() {
-            cells += *count;
-        }
-        cells
+        self.counts.as_slice().iter().sum()
     }
 }
 
@@ -184,9 +180,5 @@ fn total(numbers: &[u64]) -> u64
     requires { sum numbers.now < 2 ^ 64 }
     ensures { result ≡ sum numbers.now }
 {
-    let mut sum = 0;
-    for number in numbers {
-        sum += *number;
-    }
-    sum
+    numbers.iter().sum()
 }

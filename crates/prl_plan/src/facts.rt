@@ -1,6 +1,6 @@
 //! What holds of plans, as functions that do nothing: the contract of each is the fact.
 
-ghost use Rattle.std.specs.Prelude.{◌≡◌, ◌+◌, ◌*◌, ◌<◌, ◌≤◌, ◌↔◌, ℕ, ℤ, pos, ◌+ℤ◌, ◌≤ℤ◌, ◌<ℤ◌, List, length, IsSome, slice_get, slice_index_or};
+ghost use Rattle.std.specs.Prelude.{◌≡◌, ◌+◌, ◌*◌, ◌<◌, ◌≤◌, ◌^◌, ◌↔◌, ℕ, ℤ, pos, ◌+ℤ◌, ◌≤ℤ◌, ◌<ℤ◌, List, length, IsSome, slice_get, slice_index_or};
 ghost use Rattle.prl_base.specs.Values.{IsOfType};
 ghost use Rattle.prl_base.specs.declared.operators.Op.{Op};
 ghost use Rattle.prl_base.specs.declared.values.Value.{Value};
@@ -23,7 +23,7 @@ ghost use Rattle.prl_plan.specs.FirstReaders.{IsFirstReader};
 ghost use Rattle.prl_plan.specs.Repeats.{IsShortestRepeat};
 ghost use Rattle.prl_plan.specs.Words.{IsWordOf};
 ghost use Rattle.prl_plan.specs.Jobs.{Job, task_at, release_of, job_count, IsHorizonJob};
-ghost use Rattle.prl_plan.specs.Plans.{PlanView, HaveRoom, AreShortWindows, IsPlan, edge_at, place_on, cell_of, IsHalfOf, reading, actions_of, reads_before, operands_before, IsAtPort, IsActionOf};
+ghost use Rattle.prl_plan.specs.Plans.{PlanView, HaveRoom, AreShortWindows, IsPlan, edge_at, release_at, deadline_at, place_on, cell_of, IsHalfOf, reading, actions_of, reads_before, operands_before, IsAtPort, IsActionOf};
 ghost use Rattle.prl_plan.specs.Facts.{HasPlanFacts};
 ghost use Rattle.prl_plan.specs.JobTables.{TableRow, IsJobTable, job_table};
 ghost use Rattle.prl_plan.specs.Horizons.{IsHorizon, constants_of};
@@ -191,4 +191,15 @@ pub fn encoded_dates_keep_order()
     ensures deadlines { (plan : PlanView) → IsPlan plan → (before after : Job) → Precedes plan.graph before after →
         (encoded_deadline plan.graph plan.windows before.task before.number +ℤ pos (task_at plan.graph after.task).wcet)
         ≤ℤ encoded_deadline plan.graph plan.windows after.task after.number }
+{}
+
+/// What a job reads has no higher number than its encoded release. The dates of a horizon job are below 2^33 and its number
+/// is below 2^32.
+pub fn look_ups_fit()
+    ensures operand { (plan : PlanView) → IsPlan plan → (e n m : ℕ) →
+        e < length plan.graph.edges → operand_of (edge_at plan.graph e) n ≡ operands.From m →
+        m ≤ release_at plan (edge_at plan.graph e).to.0 n }
+    ensures horizon { (plan : PlanView) → IsPlan plan → (until i n : ℕ) → until < 2 ^ 32 →
+        IsHorizonJob plan.graph until i n →
+        (release_at plan i n < 2 ^ 33) × (deadline_at plan i n < 2 ^ 33) × (n < 2 ^ 32) }
 {}

@@ -12,7 +12,6 @@ mod horizons;
 mod job_actions;
 mod laws;
 mod limits;
-mod numbers;
 mod plans;
 mod repeats;
 mod tables;
@@ -25,9 +24,10 @@ pub use events::{Action, Event, Rule, SlotNo};
 pub use facts::{
     actions_are_as_defined, constants_are_of_their_type, encoded_dates_keep_order,
     encoded_dates_repeat, encoded_dates_rise, horizon_jobs_are_counted, hyperperiod_shows_all_jobs,
-    operands_are_of_horizon_jobs, operands_precede, operands_stand_earlier, plan_facts,
-    plan_has_one_job_table, plan_is_one, plan_is_unique, plans_keep_facts, precedence_is_not_later,
-    precedence_repeats_and_rises, room_leaves_no_narrow_chain, words_begin_with_constants,
+    look_ups_fit, operands_are_of_horizon_jobs, operands_precede, operands_stand_earlier,
+    plan_facts, plan_has_one_job_table, plan_is_one, plan_is_unique, plans_keep_facts,
+    precedence_is_not_later, precedence_repeats_and_rises, room_leaves_no_narrow_chain,
+    words_begin_with_constants,
 };
 pub use graphs::{Edge, Kind, Producer, Task, TaskGraph};
 pub use horizons::Horizon;
@@ -40,10 +40,6 @@ pub use laws::{
 };
 pub use limits::{
     MAX_CELLS, MAX_EDGES, MAX_EVENTS, MAX_HYPER, MAX_JOBS, MAX_PERIOD_JOBS, MAX_PREFIX, MAX_TASKS,
-};
-pub use numbers::{
-    horizons_are_small, look_ups_fit, walk_numbers_fit, windows_are_within_dues,
-    words_repeat_by_hyperperiod,
 };
 pub use plans::Plan;
 pub use repeats::shortest_repeat;

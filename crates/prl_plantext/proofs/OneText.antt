@@ -5,7 +5,6 @@ use Rattle.prl_plan.specs.Plans.{IsPlan, PlanView}
 use Rattle.prl_plan.specs.declared.graphs.TaskGraph.{TaskGraph}
 use Rattle.prl_plantext.specs.PlanTexts.{plan_text}
 use Rattle.prl_plantext.specs.ReadTexts.{IsTextFault, IsTextOf}
-use Rattle.prl_plantext.specs.Representable.{IsRepresentable}
 use Rattle.prl_plantext.specs.code.Graphs.{graph_of}
 use Rattle.prl_plantext.specs.code.Planned.{IsGraphFault}
 use Rattle.prl_plantext.specs.declared.plans.PlanFault.{PlanFault}
@@ -13,27 +12,23 @@ use Rattle.prl_plantext.specs.declared.plans.PlanFault.TheVariants as faults
 use Rattle.prl_plantext.proofs.RoundTrip.{text_tells_graph}
 
 -- the graph that the text of a plan is read to is the plan's
-pub graph_of_text : (text : List ℕ) (plan : PlanView) → IsRepresentable plan.graph → IsTextOf plan text → plan.graph ≡ graph_of text
-graph_of_text text plan held is = sym (text_tells_graph plan is.0 held) ∙ ap graph_of is.1
+pub graph_of_text : (text : List ℕ) (plan : PlanView) → IsTextOf plan text → plan.graph ≡ graph_of text
+graph_of_text text plan is = sym (text_tells_graph plan is.planned is.held) ∙ ap graph_of is.printed
 
-pub well_formed_of_text : (text : List ℕ) (plan : PlanView) (graph : TaskGraph) → graph ≡ graph_of text → IsRepresentable plan.graph → IsTextOf plan text →
-    IsWellFormed graph
-well_formed_of_text text plan graph read held is = subst IsWellFormed (graph_of_text text plan held is ∙ sym read) is.0.graph
+pub well_formed_of_text : (text : List ℕ) (plan : PlanView) (graph : TaskGraph) → graph ≡ graph_of text → IsTextOf plan text → IsWellFormed graph
+well_formed_of_text text plan graph read is = subst IsWellFormed (graph_of_text text plan is ∙ sym read) is.planned.graph
 
 abbrev OnePlan : Type 0
 OnePlan = (a b : PlanView) → IsPlan a → IsPlan b → a.graph ≡ b.graph → a ≡ b
 
-pub one_plan_of_text : (text : List ℕ) (a b : PlanView) → OnePlan → IsRepresentable a.graph → IsRepresentable b.graph → IsTextOf a text → IsTextOf b text → a ≡ b
-one_plan_of_text text a b one held_a held_b is_a is_b =
-    one a b is_a.0 is_b.0 (graph_of_text text a held_a is_a ∙ sym (graph_of_text text b held_b is_b))
+pub one_plan_of_text : (text : List ℕ) (a b : PlanView) → OnePlan → IsTextOf a text → IsTextOf b text → a ≡ b
+one_plan_of_text text a b one is_a is_b = one a b is_a.planned is_b.planned (graph_of_text text a is_a ∙ sym (graph_of_text text b is_b))
 
 -- the plan of the graph that a text is read to has the text, or no plan has
-pub text_of_planned : (text : List ℕ) (made plan : PlanView) → OnePlan → IsPlan made → made.graph ≡ graph_of text → IsRepresentable plan.graph → IsTextOf plan text →
-    plan_text made ≡ text
-text_of_planned text made plan one planned read held is =
-    ap plan_text (one made plan planned is.0 (read ∙ sym (graph_of_text text plan held is))) ∙ is.1
+pub text_of_planned : (text : List ℕ) (made plan : PlanView) → OnePlan → IsPlan made → made.graph ≡ graph_of text → IsTextOf plan text → plan_text made ≡ text
+text_of_planned text made plan one planned read is = ap plan_text (one made plan planned is.planned (read ∙ sym (graph_of_text text plan is))) ∙ is.printed
 
 -- where no plan has the graph, none has the text
 pub text_refused : (text : List ℕ) (graph : TaskGraph) (fault : PlanFault) → graph ≡ graph_of text → IsGraphFault graph fault → IsTextFault text fault
-text_refused text graph faults.NotPlan read refused = λ plan held is. refused plan is.0 (graph_of_text text plan held is ∙ sym read)
+text_refused text graph faults.NotPlan read refused = λ plan is. refused plan is.planned (graph_of_text text plan is ∙ sym read)
 text_refused text graph faults.Memory read refused = tt

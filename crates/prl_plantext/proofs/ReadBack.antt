@@ -21,7 +21,7 @@ use Rattle.prl_plan.specs.declared.graphs.Producer.{Producer}
 use Rattle.prl_plan.specs.declared.graphs.Producer.TheVariants as producers
 use Rattle.prl_plan.specs.declared.graphs.Task.{Task}
 use Rattle.prl_plantext.specs.PlanTexts.{edge_words, kind_text, operator_words, operators_words, pair_text, producer_words, task_words}
-use Rattle.prl_plantext.specs.Representable.{HasSmallShift}
+use Rattle.prl_plan.specs.Representable.{HasSmallShift}
 use Rattle.prl_plantext.specs.code.Graphs.{after, after_producer, before, count_named, edge_after, edge_in, first_of, fraction_in, fraction_or_none, is_reduced, is_small_fraction, kind_named, number_in, operators_in, producer_in, rest_of, small_in, task_in, type_in, value_in}
 use Rattle.prl_plantext.proofs.Bytes.{decimal_lacks, lacks_append, lacks_cons}
 use Rattle.prl_plantext.proofs.Cuts.{after_at, after_none, before_at, before_none}

@@ -4,7 +4,6 @@ ghost use Rattle.std.specs.Prelude.{◌≡◌, ℕ, List, MatchResult};
 ghost use Rattle.prl_plan.specs.Graphs.{IsWellFormed};
 ghost use Rattle.prl_plan.specs.Plans.{PlanView, IsPlan};
 ghost use Rattle.prl_plantext.specs.ReadTexts.{IsTextFault, IsTextOf};
-ghost use Rattle.prl_plantext.specs.Representable.{IsRepresentable};
 ghost use Rattle.prl_plantext.specs.code.Planned.{IsGraphFault};
 
 use crate::checking::is_well_formed;
@@ -114,7 +113,7 @@ pub fn read_plan(alloc: Global, text: &[u8]) -> Result<Plan, PlanFault>
 
 /// A text is that of one plan at most.
 pub fn text_is_of_one_plan()
-    ensures { (text : List ℕ) (a b : PlanView) → IsRepresentable a.graph → IsRepresentable b.graph → IsTextOf a text → IsTextOf b text → a ≡ b }
+    ensures { (text : List ℕ) (a b : PlanView) → IsTextOf a text → IsTextOf b text → a ≡ b }
 {
     plan_is_unique();
 }

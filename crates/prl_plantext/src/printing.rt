@@ -5,11 +5,13 @@ ghost use Rattle.std.specs.List.{flat_map};
 ghost use Rattle.prl_base.specs.Texts.{type_text, value_text};
 ghost use Rattle.prl_plan.specs.Plans.{edge_at};
 ghost use Rattle.prl_plantext.specs.PlanTexts.{after_blank, cells_line_words, dates_words, edge_words, kind_text, line, numbered, operator_words, operators_words, pair_text, plan_text, producer_words, task_words, window_text, word_words};
+ghost use Rattle.prl_plantext.specs.ReadTexts.{IsTextOf};
 
 use prl_base::{
     Clock, EdgeNo, Op, TaskNo, Ty, Value, push_number, push_ratio, push_type, push_value,
 };
 use prl_plan::{Edge, Kind, Plan, Producer, Task, Window, Word};
+use prl_ranges::graph_is_representable;
 use std::alloc::{AllocError, Global};
 
 /// The name of a kind of task, as it is written.
@@ -291,11 +293,14 @@ fn push_all_cells(text: &mut Vec<u8>, plan: &Plan) -> Result<(), AllocError>
     Ok(())
 }
 
-/// The text of a plan: its hyperperiod, its tasks, their dates, its edges, their words and their cells, a line each.
+/// The text of a plan: its hyperperiod, its tasks, their dates, its edges, their words and their cells, a line each. It is
+/// read back as this plan.
 pub fn plan_text(alloc: Global, plan: &Plan) -> Result<Vec<u8>, AllocError>
-    ensures { IfOk result (λ text. text.items ≡ plan_text plan.now) }
+    ensures text { IfOk result (λ text. text.items ≡ plan_text plan.now) }
+    ensures read_back { IfOk result (λ text. IsTextOf plan.now text.items) }
 {
     let graph = plan.graph();
+    graph_is_representable(graph);
     let mut text = Vec::new(alloc);
     text.extend_from_slice(b"plan 1\nhyperperiod ")?;
     push_number(&mut text, graph.hyper)?;

@@ -67,9 +67,11 @@ pub record IsMoved (high low : ℕ) (shift : Timing) (old new : Standing) : Type
   pub moved : old.root ≡ high → (new.root ≡ low) × IsComposed old.over shift new.over × IsSmallTiming new.over × (new.clock ≡ old.clock)
   pub kept : old.root ≢ high → new ≡ old
 
--- each flow over `root` gets its clock, where `clock` is that of `root`
+-- each flow over `root` without a clock gets its clock, where `clock` is that of `root`
 pub record IsTimed (root : ℕ) (clock : Timing) (old new : Standing) : Type 0 where
-  pub timed : old.root ≡ root → (t : Timing) × ((new ≡ record { root = old.root; over = old.over; clock = Some t }) × IsComposed old.over clock t × IsSmallTiming t)
+  pub timed : old.root ≡ root → old.clock ≡ None
+      → (t : Timing) × ((new ≡ record { root = old.root; over = old.over; clock = Some t }) × IsComposed old.over clock t × IsSmallTiming t)
+  pub had : (t : Timing) → old.clock ≡ Some t → new ≡ old
   pub kept : old.root ≢ root → new ≡ old
 
 abbrev pub AreMoved : ℕ → ℕ → Timing → List Standing → List Standing → Type 0

@@ -1,4 +1,4 @@
-use Rattle.std.proofs.Common.{◌≡◌, ◌+◌, ◌<◌, ◌≤◌, ℕ, arith}
+use Rattle.std.proofs.Common.{arith}
 use Rattle.prl_plan.proofs.ShortestRepeats.{least_repeat, whole_repeat}
 use Rattle.prl_plan.proofs.repeats.shortest_repeat.Goals as goal
 

@@ -2,7 +2,7 @@ use Rattle.std.proofs.Common.{rules, ◌≡◌, ◌+◌, ◌*◌, ◌<◌, ◌^�
 use Rattle.prl_plan.specs.Horizons.{sum_below}
 use Rattle.prl_plan.specs.Jobs.{task_at, job_count}
 use Rattle.prl_plan.specs.Plans.{actions_of}
-use Rattle.prl_plan.proofs.SmallHorizons.{part_of_sum}
+use Rattle.prl_plan.proofs.PartsOfSums.{part_of_sum}
 use Rattle.prl_plan.proofs.plans.Plan.all_actions.Goals as goal
 
 pub actions_of_task-count-requires-clause-jobs : goal.actions_of_task-count-requires-clause-jobs

@@ -1,0 +1,33 @@
+use Rattle.std.proofs.Common.{arith, ◌≡◌, ◌+◌, ◌<◌, ℕ, refl, sym, ap, subst, ◌∙◌, Some}
+use Rattle.atomic_table.specs.Table.{Allows}
+use Rattle.prl_base.specs.declared.numbers.EdgeNo.{EdgeNo}
+use Rattle.prl_plan.specs.declared.events.Action.TheVariants as actions
+use Rattle.prl_plan.specs.Facts.{HasPlanFacts}
+use Rattle.prl_board.specs.declared.views.Constants.{Constants}
+use Rattle.prl_board.specs.declared.views.ClockPart.{ClockPart}
+use Rattle.prl_board.specs.Agreement.{now_word, done_word, slot_word, stop_word}
+use Rattle.prl_board.specs.RunValues.{word_of}
+use Rattle.prl_board.specs.Boards.{BoardView, ClockStopTold, EndTold, HalfTold, LookTold, RaiseTold, StopTold, TickTold, WriteTold, part_at, part_of}
+use Rattle.prl_board.specs.Known.{known, run_of, values_of}
+use Rattle.prl_board.specs.Rule.{Agreed, StandsAt}
+use Rattle.prl_board.specs.Steps.{clock_stop_loaded, done_counted, half_loaded, half_stored, looked, part_raised, stop_loaded, ticked, with_clock, with_part}
+use Rattle.prl_board.proofs.Allowed.{allowed, load_allowed}
+use Rattle.prl_board.proofs.Granted.{grants_any_half, grants_write, grants_end, grants_raise, grants_stop, grants_any_look, grants_any_tick, grants_any_clock_stop}
+use Rattle.prl_board.proofs.board.Board.store_half.Goals as goal
+
+pub store-requires : goal.store-requires
+store-requires c =
+    let s = c.requires.stands in
+    let same : known c.self.inside.plan.now c.self.inside.horizon c.self.inside.gate c.self.inside.sensors.now c.self.inside.bodies.now ≡ c.args.self.now.known = ap (λ (d : BoardView). d.known) c.self.view_is in
+    let facts : HasPlanFacts (run_of c.args.self.now.known) = subst (λ (k : Constants). HasPlanFacts (run_of k)) same c.plan_facts.ensures in
+    let inside : c.args.slot.0 < (run_of c.args.self.now.known).slots =
+    facts.write_cell c.args.task.0 (part_at c.args.self.now.known c.args.task.0 c.args.place c.args.seat.now.me.0).stand.ended (part_at c.args.self.now.known c.args.task.0 c.args.place c.args.seat.now.me.0).stand.place s.1 c.args.slot.0 (record { job = c.requires.job; action = (s.0, s.2.next) }) in
+    let word = c.word_of_half-at.ensures in record {
+      table = c.requires.table;
+      word = omega (arith, inside, word);
+      allows = λ slots. subst (λ (z : ℕ × ℕ). Allows (Agreed c.args.self.now.known) slots c.args.seat.now.id c.args.seat.now.me z.0 (λ n. z.1) (λ n m. WriteTold c.args.self.now.known c.args.task.0 c.args.place c.args.seat.now.me.0 m.0 × (m.1 ≡ c.args.seat.now.me.1))) (λ x. (sym word x, sym s.3 x))
+          (allowed c.args.self.now.known slots c.args.seat.now.id c.args.seat.now.me (slot_word (run_of c.args.self.now.known) c.args.slot.0) (λ n. word_of (values_of c.args.self.now.known) c.args.slot.0 (s.1 + 1))
+          (λ n. with_part c.args.task.0 (half_stored (run_of c.args.self.now.known) (values_of c.args.self.now.known) c.args.task.0 (part_at c.args.self.now.known c.args.task.0 c.args.place c.args.seat.now.me.0)) c.args.seat.now.me.0)
+          (λ n after. WriteTold c.args.self.now.known c.args.task.0 c.args.place c.args.seat.now.me.0 after)
+          (grants_write c.args.self.now.known c.plan_laws.ensures c.args.seat.now.id c.args.seat.now.me c.args.task.0 c.args.place c.requires.at s.0 s.1 c.args.slot.0 s.2 s.4));
+    }

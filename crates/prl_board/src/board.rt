@@ -1,0 +1,358 @@
+//! The board: the table that threads share, with what its run is about, and each kind of step.
+
+ghost use Rattle.std.specs.Prelude.{◌≡◌, ◌+◌, ◌/◌, ◌^◌, ◌<◌, ◌≤◌, ℕ, [], false, replicate, slice_index, IfOk, Some};
+ghost use mathlib.Core.Option.{some};
+ghost use lib.ListN.{get_elem?};
+ghost use Rattle.atomic_table.specs.Table.{Allows};
+ghost use Rattle.prl_base.specs.Values.{FitsValue};
+ghost use Rattle.prl_base.specs.declared.numbers.EdgeNo.{EdgeNo};
+ghost use Rattle.prl_plan.specs.declared.events.Action.TheVariants as actions;
+ghost use Rattle.prl_plan.specs.declared.events.SlotNo.{SlotNo};
+ghost use Rattle.prl_plan.specs.Facts.{HasPlanFacts, IsJob};
+ghost use Rattle.prl_board.specs.declared.views.ClockPart.{ClockPart};
+ghost use Rattle.prl_board.specs.declared.views.Gate.TheVariants as gates;
+ghost use Rattle.prl_board.specs.declared.views.View.{View};
+ghost use Rattle.prl_board.specs.Agreement.{slot_word, stop_word, word_count, IsOverrun};
+ghost use Rattle.prl_board.specs.Boards.{BoardView, ClockStopTold, EndTold, HalfTold, IsAt, LookTold, NowTold, RaiseTold, StopTold, TickTold, WriteTold, part_at, part_of};
+ghost use Rattle.prl_board.specs.RunValues.{word_of};
+ghost use Rattle.prl_plan.specs.Horizons.{IsHorizon};
+ghost use Rattle.prl_values.specs.Fitting.{HaveTaskBodies, HaveTypedRows};
+ghost use Rattle.prl_board.specs.declared.views.TaskPart.{TaskPart};
+ghost use Rattle.prl_board.specs.Known.{known, run_of, values_of};
+ghost use Rattle.prl_board.specs.Rule.{Agreed, StandsAt, all_parts};
+ghost use Rattle.prl_board.specs.Steps.{only_part, without_part};
+
+use crate::laws::{plan_laws, run_values_keep_facts};
+use crate::steps::rule_holds_at_the_opening;
+use crate::views::{About, Gate, Running, View};
+use atomic_table::{Play, Split, Table};
+use prl_base::TaskNo;
+use prl_body::Bodies;
+use prl_flow::Sensors;
+use prl_plan::{Horizon, Plan, SlotNo, plan_facts, plan_is_one};
+use std::alloc::{AllocError, Global};
+use std::marker::{Brand, Model, PhantomData};
+
+/// A seat of the table.
+pub(crate) type Seat = atomic_table::Seat<(), View>;
+
+/// Says what a step tells its seat, by the view before, the word that is found and the view after.
+/// Each call picks it.
+pub(crate) trait Telling {
+    ghost use Rattle.std.specs.Prelude.{ℕ};
+    ghost use Rattle.prl_board.specs.declared.views.View.{View};
+
+    ghost told: { View → ℕ → View → Type 0 };
+}
+
+impl Telling for Brand {
+    ghost told = { λ before found after. Unit {0} };
+}
+
+struct Tells<J> {
+    of: PhantomData<J>,
+}
+
+impl<J: Telling> Play<(), View> for Tells<J> {
+    ghost use Rattle.std.specs.Prelude.{◌≡◌};
+
+    ghost then = { λ step me found after. J.told me.0 found after.0 × (after.1 ≡ me.1) };
+}
+
+/// Names the task whose part goes to a new seat. Each call picks it.
+pub(crate) trait Parting {
+    ghost use Rattle.std.specs.Prelude.{ℕ};
+
+    ghost task: { ℕ };
+}
+
+impl Parting for Brand {
+    ghost task = { 0 };
+}
+
+struct Parts<J> {
+    of: PhantomData<J>,
+}
+
+impl<J: Parting> Split<View> for Parts<J> {
+    ghost use Rattle.prl_board.specs.Steps.{only_part, without_part};
+
+    ghost left = { without_part J.task };
+
+    ghost right = { only_part J.task };
+}
+
+/// The board of a run: a plan with its bodies and the rows of its sensors, a horizon, a gate, and the
+/// words that all its seats share. Contracts see a `BoardView`.
+pub struct Board<'a> {
+    plan: &'a Plan,
+    bodies: &'a Bodies,
+    sensors: &'a Sensors,
+    horizon: Horizon,
+    gate: Gate,
+    table: Table<(), View, About<'a>, Running, Global>,
+}
+
+impl<'a> Model for Board<'a> {
+    ghost use Rattle.prl_board.specs.Boards.{BoardView, IsBoard};
+    ghost use Rattle.prl_board.specs.Known.{known};
+    ghost use Rattle.prl_body.specs.contracts.codes.Code as code;
+    ghost use Rattle.std.specs.Coded.{codes};
+
+    ghost Value = { BoardView };
+
+    ghost coded = { Prim.hlevel (codes, code.the_row.coded) };
+
+    ghost view = { λ b. record { known = known b.plan.now b.horizon b.gate b.sensors.now b.bodies.now; table = b.table.shared.table_id } };
+
+    ghost invariant = { λ b. IsBoard (known b.plan.now b.horizon b.gate b.sensors.now b.bodies.now)
+        (known b.table.shared.key.plan.now b.table.shared.key.horizon b.table.shared.key.gate b.table.shared.key.sensors.now b.table.shared.key.bodies.now) b.table.shared.table_id.words };
+}
+
+/// So many zeros.
+fn zeros(alloc: Global, count: usize) -> Result<Vec<u64>, AllocError>
+    ensures { IfOk result (λ v. v.items ≡ replicate count 0) }
+{
+    vec![in alloc; 0; count]
+}
+
+impl<'a> Board<'a> {
+    /// The board of a run at its opening, with the one seat that has all parts.
+    pub(crate) fn open(
+        alloc: Global,
+        plan: &'a Plan,
+        bodies: &'a Bodies,
+        sensors: &'a Sensors,
+        horizon: Horizon,
+        gate: Gate,
+    ) -> Result<(Board<'a>, Seat), AllocError>
+        requires horizon { IsHorizon plan.now horizon }
+        requires bodies { HaveTaskBodies plan.now.graph bodies.now }
+        requires rows { HaveTypedRows plan.now.graph horizon.until sensors.now }
+        ensures { IfOk result (λ r. (r.0.known ≡ known plan.now horizon gate sensors.now bodies.now) × (r.1.table_id ≡ r.0.table)
+            × (r.1.me ≡ (all_parts (known plan.now horizon gate sensors.now bodies.now), []))) }
+    {
+        plan_facts(plan, horizon);
+        plan_is_one(plan);
+        run_values_keep_facts();
+        rule_holds_at_the_opening();
+        let count = 2 + plan.graph().tasks.len() + 2 * plan.total() as usize;
+        let words = zeros(alloc, count)?;
+        let about = About {
+            plan,
+            sensors,
+            bodies,
+            horizon,
+            gate,
+        };
+        let (table, seat) = Table::of_words(alloc, words.as_slice(), &about)?;
+        let board = Board {
+            plan,
+            bodies,
+            sensors,
+            horizon,
+            gate,
+            table,
+        };
+        Ok((board, seat))
+    }
+
+    /// The part of a task goes to a new seat.
+    fn split_as<J: Parting>(&self, seat: &mut Seat, task: u32) -> Seat
+        requires task { J.task ≡ task }
+        requires table { seat.old.table_id ≡ self.now.table }
+        requires part { (p : TaskPart) × (get_elem? seat.old.me.0.tasks task ≡ some (Some p)) }
+        ensures rest { (seat.new.table_id ≡ seat.old.table_id) × (seat.new.id ≡ seat.old.id) × (seat.new.me ≡ (without_part task seat.old.me.0, seat.old.me.1)) }
+        ensures part { (result.table_id ≡ seat.old.table_id) × (result.me ≡ (only_part task seat.old.me.0, [])) }
+    {
+        self.table.shared.split_seat::<Parts<J>>(seat)
+    }
+
+    /// The part of a task goes to a new seat.
+    pub(crate) fn split(&self, seat: &mut Seat, task: TaskNo) -> Seat
+        requires table { seat.old.table_id ≡ self.now.table }
+        requires part { (p : TaskPart) × (get_elem? seat.old.me.0.tasks task.0 ≡ some (Some p)) }
+        ensures rest { (seat.new.table_id ≡ seat.old.table_id) × (seat.new.id ≡ seat.old.id) × (seat.new.me ≡ (without_part task.0 seat.old.me.0, seat.old.me.1)) }
+        ensures part { (result.table_id ≡ seat.old.table_id) × (result.me ≡ (only_part task.0 seat.old.me.0, [])) }
+    {
+        self.split_as::<Brand>(seat, task.0)
+    }
+
+    /// A load by the seat of a task that stands at this place.
+    fn load<J: Telling>(&self, seat: &mut Seat, task: u32, place: u32, word: usize) -> u64
+        requires table { seat.old.table_id ≡ self.now.table }
+        requires word { word < word_count (run_of self.now.known) }
+        requires allows { (slots : ℕ) → Allows (Agreed self.now.known) slots seat.old.id seat.old.me word (λ n. n)
+            (λ n m. J.told seat.old.me.0 n m.0 × (m.1 ≡ seat.old.me.1)) }
+        ensures same { (seat.new.table_id ≡ seat.old.table_id) × (seat.new.id ≡ seat.old.id) × (seat.new.me.1 ≡ seat.old.me.1) }
+        ensures told { J.told seat.old.me.0 result seat.new.me.0 }
+    {
+        let _ = (task, place);
+        self.table.shared.load::<Tells<J>>(seat, word)
+    }
+
+    /// A store by the seat of a task that stands at this place.
+    fn store<J: Telling>(&self, seat: &mut Seat, task: u32, place: u32, word: usize, value: u64)
+        requires table { seat.old.table_id ≡ self.now.table }
+        requires word { word < word_count (run_of self.now.known) }
+        requires allows { (slots : ℕ) → Allows (Agreed self.now.known) slots seat.old.id seat.old.me word (λ _. value)
+            (λ _ m. J.told seat.old.me.0 value m.0 × (m.1 ≡ seat.old.me.1)) }
+        ensures same { (seat.new.table_id ≡ seat.old.table_id) × (seat.new.id ≡ seat.old.id) × (seat.new.me.1 ≡ seat.old.me.1) }
+        ensures told { J.told seat.old.me.0 value seat.new.me.0 }
+    {
+        let _ = (task, place);
+        self.table.shared.store::<Tells<J>>(seat, word, value);
+    }
+
+    /// The word of a half.
+    fn word_of_half(&self, slot: SlotNo) -> usize
+        ensures { result ≡ slot_word (run_of self.now.known) slot.0 }
+    {
+        plan_facts(self.plan, self.horizon);
+        1 + self.plan.graph().tasks.len() + slot.0 as usize
+    }
+
+    /// The stop word.
+    fn word_of_stop(&self) -> usize
+        ensures { result ≡ stop_word (run_of self.now.known) }
+    {
+        plan_facts(self.plan, self.horizon);
+        1 + self.plan.graph().tasks.len() + 2 * self.plan.total() as usize
+    }
+
+    /// Loads `now` for a task of which no job is open.
+    pub(crate) fn load_now(&self, seat: &mut Seat, task: TaskNo) -> u64
+        requires table { seat.old.table_id ≡ self.now.table }
+        requires part { get_elem? seat.old.me.0.tasks task.0 ≡ some (Some (part_of task.0 seat.old.me.0)) }
+        requires shut { (part_of task.0 seat.old.me.0).stand.is_open ≡ false }
+        ensures same { (seat.new.table_id ≡ seat.old.table_id) × (seat.new.id ≡ seat.old.id) × (seat.new.me.1 ≡ seat.old.me.1) }
+        ensures told { NowTold self.now.known task.0 seat.old.me.0 result seat.new.me.0 }
+    {
+        plan_laws();
+        self.load::<Brand>(seat, task.0, 0, 0)
+    }
+
+    /// Loads a half for a task that stands at its read.
+    pub(crate) fn load_half(&self, seat: &mut Seat, task: TaskNo, place: u32, slot: SlotNo) -> u64
+        requires table { seat.old.table_id ≡ self.now.table }
+        requires at { IsAt self.now.known task.0 place seat.old.me.0 }
+        requires job { IsJob (run_of self.now.known) task.0 (part_at self.now.known task.0 place seat.old.me.0).stand.ended }
+        requires stands { (port : ℕ) × (e : EdgeNo) × (m : ℕ) ×
+            StandsAt (run_of self.now.known) task.0 (part_at self.now.known task.0 place seat.old.me.0).stand (actions.Read port e m slot) }
+        ensures same { (seat.new.table_id ≡ seat.old.table_id) × (seat.new.id ≡ seat.old.id) × (seat.new.me.1 ≡ seat.old.me.1) }
+        ensures told { (port : ℕ) (e : EdgeNo) (m : ℕ) →
+            StandsAt (run_of self.now.known) task.0 (part_at self.now.known task.0 place seat.old.me.0).stand (actions.Read port e m slot) →
+            HalfTold self.now.known task.0 place e.0 m slot.0 seat.old.me.0 result seat.new.me.0 }
+    {
+        plan_facts(self.plan, self.horizon);
+        plan_laws();
+        let word = self.word_of_half(slot);
+        self.load::<Brand>(seat, task.0, place, word)
+    }
+
+    /// Stores a half's word for a task that stands at its write.
+    pub(crate) fn store_half(
+        &self,
+        seat: &mut Seat,
+        task: TaskNo,
+        place: u32,
+        slot: SlotNo,
+        word: u64,
+    )
+        requires table { seat.old.table_id ≡ self.now.table }
+        requires at { IsAt self.now.known task.0 place seat.old.me.0 }
+        requires job { IsJob (run_of self.now.known) task.0 (part_at self.now.known task.0 place seat.old.me.0).stand.ended }
+        requires stands { (e : EdgeNo) × (m : ℕ) ×
+            StandsAt (run_of self.now.known) task.0 (part_at self.now.known task.0 place seat.old.me.0).stand (actions.Write e m slot) ×
+            (word ≡ word_of (values_of self.now.known) slot.0 (m + 1)) × FitsValue ((values_of self.now.known).stored (slot.0 / 2) m) }
+        ensures same { (seat.new.table_id ≡ seat.old.table_id) × (seat.new.id ≡ seat.old.id) × (seat.new.me.1 ≡ seat.old.me.1) }
+        ensures told { WriteTold self.now.known task.0 place seat.old.me.0 seat.new.me.0 }
+    {
+        plan_facts(self.plan, self.horizon);
+        plan_laws();
+        let at = self.word_of_half(slot);
+        self.store::<Brand>(seat, task.0, place, at, word);
+    }
+
+    /// Stores the number of its ended jobs for a task whose job stands at its end.
+    pub(crate) fn store_done(&self, seat: &mut Seat, task: TaskNo, place: u32, ended: u64)
+        requires table { seat.old.table_id ≡ self.now.table }
+        requires at { IsAt self.now.known task.0 place seat.old.me.0 }
+        requires job { IsJob (run_of self.now.known) task.0 (part_at self.now.known task.0 place seat.old.me.0).stand.ended }
+        requires ended { ended ≡ (part_of task.0 seat.old.me.0).stand.ended + 1 }
+        requires stands { StandsAt (run_of self.now.known) task.0 (part_at self.now.known task.0 place seat.old.me.0).stand actions.End }
+        ensures same { (seat.new.table_id ≡ seat.old.table_id) × (seat.new.id ≡ seat.old.id) × (seat.new.me.1 ≡ seat.old.me.1) }
+        ensures told { EndTold self.now.known task.0 place seat.old.me.0 seat.new.me.0 }
+    {
+        plan_laws();
+        self.store::<Brand>(seat, task.0, place, 1 + task.0 as usize, ended);
+    }
+
+    /// Stores the number after that of a task in the stop word.
+    pub(crate) fn raise(&self, seat: &mut Seat, task: TaskNo, place: u32)
+        requires table { seat.old.table_id ≡ self.now.table }
+        requires at { IsAt self.now.known task.0 place seat.old.me.0 }
+        requires over { IsOverrun (run_of self.now.known) task.0 (part_at self.now.known task.0 place seat.old.me.0).stand (part_of task.0 seat.old.me.0).kept }
+        ensures same { (seat.new.table_id ≡ seat.old.table_id) × (seat.new.id ≡ seat.old.id) × (seat.new.me.1 ≡ seat.old.me.1) }
+        ensures told { RaiseTold self.now.known task.0 place seat.old.me.0 seat.new.me.0 }
+    {
+        plan_laws();
+        let word = self.word_of_stop();
+        self.store::<Brand>(seat, task.0, place, word, u64::from(task.0) + 1);
+    }
+
+    /// Loads the stop word for a task.
+    pub(crate) fn load_stop(&self, seat: &mut Seat, task: TaskNo, place: u32) -> u64
+        requires table { seat.old.table_id ≡ self.now.table }
+        requires at { IsAt self.now.known task.0 place seat.old.me.0 }
+        ensures same { (seat.new.table_id ≡ seat.old.table_id) × (seat.new.id ≡ seat.old.id) × (seat.new.me.1 ≡ seat.old.me.1) }
+        ensures told { StopTold self.now.known task.0 place seat.old.me.0 result seat.new.me.0 }
+    {
+        plan_laws();
+        let word = self.word_of_stop();
+        self.load::<Brand>(seat, task.0, place, word)
+    }
+
+    /// Loads a task's done word for the clock.
+    pub(crate) fn load_done(&self, seat: &mut Seat, task: TaskNo) -> u64
+        requires table { seat.old.table_id ≡ self.now.table }
+        requires clock { (r : ClockPart) × (seat.old.me.0.clock ≡ Some r) }
+        requires task { task.0 < (run_of self.now.known).tasks }
+        ensures same { (seat.new.table_id ≡ seat.old.table_id) × (seat.new.id ≡ seat.old.id) × (seat.new.me.1 ≡ seat.old.me.1) }
+        ensures told { (r : ClockPart) → seat.old.me.0.clock ≡ Some r → LookTold self.now.known task.0 r seat.old.me.0 result seat.new.me.0 }
+    {
+        plan_laws();
+        self.load::<Brand>(seat, task.0, 0, 1 + task.0 as usize)
+    }
+
+    /// Stores the next `now` for the clock.
+    pub(crate) fn store_now(&self, seat: &mut Seat, next: u64)
+        requires table { seat.old.table_id ≡ self.now.table }
+        requires clock { (r : ClockPart) × (seat.old.me.0.clock ≡ Some r) × (next ≡ r.now + 1) × (r.now < (run_of self.now.known).end) ×
+            (self.now.known.gate ≡ gates.Gated → (i n : ℕ) → IsJob (run_of self.now.known) i n → (run_of self.now.known).deadline i n ≤ r.now + 1 → n < slice_index r.looks i) }
+        ensures same { (seat.new.table_id ≡ seat.old.table_id) × (seat.new.id ≡ seat.old.id) × (seat.new.me.1 ≡ seat.old.me.1) }
+        ensures told { (r : ClockPart) → seat.old.me.0.clock ≡ Some r → TickTold r seat.old.me.0 seat.new.me.0 }
+    {
+        plan_laws();
+        self.store::<Brand>(seat, 0, 0, 0, next);
+    }
+
+    /// Loads the stop word for the clock.
+    pub(crate) fn load_clock_stop(&self, seat: &mut Seat) -> u64
+        requires table { seat.old.table_id ≡ self.now.table }
+        requires clock { (r : ClockPart) × (seat.old.me.0.clock ≡ Some r) }
+        ensures same { (seat.new.table_id ≡ seat.old.table_id) × (seat.new.id ≡ seat.old.id) × (seat.new.me.1 ≡ seat.old.me.1) }
+        ensures told { (r : ClockPart) → seat.old.me.0.clock ≡ Some r → ClockStopTold self.now.known r seat.old.me.0 result seat.new.me.0 }
+    {
+        plan_laws();
+        let word = self.word_of_stop();
+        self.load::<Brand>(seat, 0, 0, word)
+    }
+}
+
+/// A board may be shared among threads.
+fn boards_are_shared() {
+    is_shared::<Board>();
+}
+
+fn is_shared<T: Sync>() {}

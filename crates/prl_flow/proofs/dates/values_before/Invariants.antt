@@ -1,8 +1,0 @@
-use Rattle.std.proofs.Common.{◌≡◌, ◌≤◌, ◌*◌, take}
-use Rattle.std.specs.Prelude.{sum_by}
-use Rattle.prl_flow.specs.Counts.{dates_before}
-use Rattle.prl_flow.proofs.dates.values_before.Given as goal
-
-abbrev pub invariant-loop-clock : goal.invariant-loop-clock
-invariant-loop-clock l =
-    (l.values ≡ sum_by (dates_before l.until) (take l.clock-index l.clocks)) × (l.values ≤ l.clock-index * 2147483648)

@@ -1,0 +1,12 @@
+-- A sum is no less than each of its parts.
+use Rattle.std.proofs.Common.{◌≡◌, ◌<◌, ◌≤◌, ℕ, zero, suc, inl, inr, ap, arith}
+use Rattle.std.proofs.lemmas.Bool.{cases_lt}
+use Rattle.prl_plan.specs.Horizons.{sum_below}
+
+pub part_of_sum : (f : ℕ → ℕ) (n i : ℕ) → i < n → f i ≤ sum_below f n
+part_of_sum f zero i below = absurd (omega (arith, below))
+part_of_sum f (suc n) i below =
+    elim (cases_lt i n) [
+      | inl less ↦ (let rest = part_of_sum f n i less in omega (arith, rest))
+      | inr past ↦ (let same : i ≡ n = omega (arith, below, past) in let e : f i ≡ f n = ap f same in omega (arith, e))
+    ]

@@ -1,5 +1,0 @@
-use Rattle.prl_plan.proofs.PlanNumbers.{operand_within, horizon_dates}
-use Rattle.prl_plan.proofs.numbers.look_ups_fit.Goals as goal
-
-pub returns : goal.returns
-returns c = record { operand = operand_within; horizon = horizon_dates }

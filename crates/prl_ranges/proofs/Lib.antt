@@ -1,0 +1,4 @@
+mod PrecedingNumbers
+mod WordPeriods
+mod HorizonNumbers
+mod FirstItems
