@@ -28,8 +28,7 @@ use Rattle.prl_core.specs.declared.seen.Seen.TheVariants as sights
 use Rattle.prl_core.specs.Machine.{cell_no, sight_of_write}
 use Rattle.prl_machine.specs.Cores.{CoreView, constants, Tells, IsSightOf, IsSightOfRead}
 use Rattle.prl_replay.specs.ReadTexts.{ReadsOfTasks}
-use Rattle.prl_replay.specs.Replays.{is_read}
-use Rattle.prl_traces.specs.Replays.{after, after_all, TellsAll, IsReplay, IsFlowOf, AddsFlow, AreFlowsBelow}
+use Rattle.prl_traces.specs.Replays.{is_read, after, after_all, TellsAll, IsReplay, IsFlowOf, AddsFlow, AreFlowsBelow}
 
 read_seen : (core : CoreView) (task : TaskNo) (n port : ℕ) (edge : EdgeNo) (m : ℕ) (cell : CellNo) (half : ℕ) (seen : Seen) → task.0 < length core.plan.graph.tasks →
     IsSightOfRead core task n port edge m cell half seen → ReadsOfTasks (length core.plan.graph.tasks) seen

@@ -15,8 +15,7 @@ use Rattle.prl_plan.proofs.StateLaws.{gated_event_keeps_sound, legal_event_is_ga
 use Rattle.prl_core.specs.declared.seen.Seen.{Seen}
 use Rattle.prl_core.specs.Machine.{Drives}
 use Rattle.prl_machine.specs.Cores.{CoreView, constants, Tells, AreOutputs}
-use Rattle.prl_replay.specs.Replays.{is_read}
-use Rattle.prl_traces.specs.Replays.{after, after_all, TellsAll, AddsFlow, AreFlowsBelow, IsTrace}
+use Rattle.prl_traces.specs.Replays.{is_read, after, after_all, TellsAll, AddsFlow, AreFlowsBelow, IsTrace}
 
 module _ (core : CoreView) (facts : HasPlanFacts (constants core))
     (tells : (s : ExecState) → IsSound (constants core) s → (event : Event) → KeepsLegal (constants core) s event → (seen : Seen) × Tells (record core { state = s }) event seen)

@@ -17,8 +17,7 @@ ghost use Rattle.prl_traces.specs.declared.faults.ReplayFault.{ReplayFault as An
 ghost use Rattle.prl_traces.specs.Replays.{IsTrace, IsReplayFault, IsWholeText};
 
 use prl_machine::legal_events_tell;
-use prl_plan::plans_keep_facts;
-use prl_replay::events_end_one_way;
+use prl_plan::{events_are_decided, plans_keep_facts};
 
 /// A text comes to one end: its events are legal and complete, or there is one first fault.
 pub fn replays_end_one_way()
@@ -26,7 +25,7 @@ pub fn replays_end_one_way()
     ensures not_both { (core : CoreView) (text : List ℕ) (fault : AnyFault) → IsWholeText core text → IsReplayFault core text fault → ⊥ }
     ensures one_fault { (core : CoreView) (text : List ℕ) (a b : AnyFault) → IsReplayFault core text a → IsReplayFault core text b → a ≡ b }
 {
-    events_end_one_way();
+    events_are_decided();
 }
 
 /// Each legal and complete list of events has a replay: something is told of each event, and the actuators' flows are there.

@@ -2,25 +2,10 @@ use Rattle.prl_traces.proofs.OneEnd.{whole_or_fault, whole_has_no_fault, one_fau
 use Rattle.prl_traces.proofs.laws.replays_end_one_way.Goals as goal
 
 pub returns-clause-end : goal.returns-clause-end
-returns-clause-end c =
-    whole_or_fault (record {
-      end = c.events_end_one_way.ensures.end;
-      not_both = c.events_end_one_way.ensures.not_both;
-      one_fault = c.events_end_one_way.ensures.one_fault;
-    })
+returns-clause-end c = whole_or_fault (record { rules = c.events_are_decided.ensures.rules; complete = c.events_are_decided.ensures.complete })
 
 pub returns-clause-not_both : goal.returns-clause-not_both
-returns-clause-not_both c =
-    whole_has_no_fault (record {
-      end = c.events_end_one_way.ensures.end;
-      not_both = c.events_end_one_way.ensures.not_both;
-      one_fault = c.events_end_one_way.ensures.one_fault;
-    })
+returns-clause-not_both c = whole_has_no_fault
 
 pub returns-clause-one_fault : goal.returns-clause-one_fault
-returns-clause-one_fault c =
-    one_fault (record {
-      end = c.events_end_one_way.ensures.end;
-      not_both = c.events_end_one_way.ensures.not_both;
-      one_fault = c.events_end_one_way.ensures.one_fault;
-    })
+returns-clause-one_fault c = one_fault
