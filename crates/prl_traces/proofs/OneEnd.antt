@@ -1,6 +1,5 @@
 -- A text is whole, or has one first fault.
 use Rattle.std.proofs.Common.{◌≡◌, ◌⊎◌, ◌+◌, ◌∙◌, ℕ, suc, List, [], ◌∷◌, Option, Some, None, Result, Ok, Err, inl, inr, refl, ap, subst, arith}
-use Rattle.std.specs.Prelude.{slice_get, take}
 use Rattle.prl_base.specs.Lines.{lines_of}
 use Rattle.prl_base.specs.Reading.{◌>>=◌}
 use Rattle.prl_base.specs.declared.numbers.TaskNo.{TaskNo}
@@ -11,7 +10,7 @@ use Rattle.prl_plan.specs.Rules.{IsLegal, KeepsLegal, IsComplete, FirstBroken, I
 use Rattle.prl_machine.specs.Cores.{CoreView, constants}
 use Rattle.prl_replay.specs.declared.schedules.ScheduleFault.{ScheduleFault}
 use Rattle.prl_replay.specs.declared.schedules.ScheduleFault.TheVariants as lines
-use Rattle.prl_replay.specs.Schedules.{event_of, without_return, or_line, last_line, events_from, schedule_of}
+use Rattle.prl_replay.specs.Schedules.{event_of, without_return, or_line, events_from, schedule_of}
 use Rattle.prl_replay.specs.ScheduleTexts.{task_names}
 use Rattle.prl_traces.specs.declared.faults.ReplayFault.{ReplayFault}
 use Rattle.prl_traces.specs.declared.faults.ReplayFault.TheVariants as faults
