@@ -44,6 +44,7 @@ use Rattle.prl_machine.specs.code.Laws.{HasCoreLaws}
 use Rattle.prl_machine.specs.code.Kept.{IsWork, HasGiven, IsWorker, AreWorkers, AreHalves, IsKept}
 use Rattle.prl_machine.proofs.Operands.{Reads}
 use Rattle.prl_machine.proofs.PortReads.{read_at_port, edge_has_port}
+use Rattle.prl_machine.proofs.Telling.{horizon_job, fits_action, constant_on, finds, whole_read}
 use Rattle.prl_machine.proofs.Working.{HasLaws, low_passed, port_there, ready_to_take, operand_taken, ready_to_begin, body_run, instance_given, job_ended}
 
 worker_there : (workers : List Worker) (i : ℕ) → i < length workers → (worker : Worker) × (slice_get workers i ≡ Some worker)
@@ -59,9 +60,6 @@ value_there halves k inside =
       | inl there ↦ (there.0, there.2)
       | inr past ↦ absurd (let p = past.0 in omega (arith, p, inside))
     ]
-
-same_value : (a b : Option Value) (x y : Value) → a ≡ Some x → b ≡ Some y → a ≡ b → x ≡ y
-same_value a b x y p q e = (let f : Some x ≡ Some y = sym p ∙ e ∙ q in cc)
 
 module _ (core : CoreView) (halves : List Value) (workers : List Worker) (kept : IsKept core halves workers) (laws : HasCoreLaws core) where
   pub tick_kept : MayTick (constants core) core.state → IsKept (record core { state = record core.state { now = core.state.now + 1 } }) halves workers
@@ -109,24 +107,22 @@ module _ (core : CoreView) (halves : List Value) (workers : List Worker) (kept :
     in_ended : task.0 < length core.state.ended
     in_ended = (let l = kept.sound.tagged.ended in let t = has.task in omega (arith, l, t))
 
-    horizon_job : IsHorizonJob core.plan.graph core.horizon.until task.0 (get_or core.state.ended task.0 0)
-    horizon_job =
-        let period = (task_is core.plan.graph kept.plan.graph task.0 has.task).period in
-        (laws.counted task.0 (get_or core.state.ended task.0 0) has.task (omega (arith, period.0))).1 has.job
+    its_job : IsHorizonJob core.plan.graph core.horizon.until task.0 (get_or core.state.ended task.0 0)
+    its_job = horizon_job core kept.plan kept.sound laws task keeps
 
     job_laws : HasLaws core.plan core.bodies core.rows core.horizon.until (values_of core) task.0 (get_or core.state.ended task.0 0)
     job_laws = record {
-      job = horizon_job;
+      job = its_job;
       counted = has.job;
       small = (let few = laws.small task.0 has.task in let below = has.job in omega (arith, few, below));
-      values = laws.values.each task.0 (get_or core.state.ended task.0 0) horizon_job;
-      reads = laws.reads task.0 (get_or core.state.ended task.0 0) horizon_job;
-      registers = laws.registers task.0 (get_or core.state.ended task.0 0) horizon_job;
+      values = laws.values.each task.0 (get_or core.state.ended task.0 0) its_job;
+      reads = laws.reads task.0 (get_or core.state.ended task.0 0) its_job;
+      registers = laws.registers task.0 (get_or core.state.ended task.0 0) its_job;
       fits = λ k kind body named.
           (let have = kept.bodies.each task.0 k has.task kind in
           let same : have.0 ≡ body = (let e : Some have.0 ≡ Some body = sym have.1 ∙ named in cc) in
           subst (λ (b : CheckedBody). FitsTask core.plan.graph task.0 b) same have.2);
-      row = λ k kind. (let row = kept.rows.each task.0 k (get_or core.state.ended task.0 0) kind horizon_job in (row.0, row.1));
+      row = λ k kind. (let row = kept.rows.each task.0 k (get_or core.state.ended task.0 0) kind its_job in (row.0, row.1));
     }
 
     worker : (w : Worker) × (slice_get workers task.0 ≡ Some w)
@@ -151,22 +147,14 @@ module _ (core : CoreView) (halves : List Value) (workers : List Worker) (kept :
         read_at_port (values_of core) task.0 (get_or core.state.ended task.0 0) core.plan.graph.edges kept.plan.graph.order e (edge_at core.plan.graph e) (edge_stands e inside) to
         ∙ ap (λ (o : Option Value). Some (unwrap_or o (values.Int (pos 0)))) is
 
-    fits_action : (action : Action) → next_action (constants core) core.state task.0 ≡ action → IsActionOf core.plan task.0 (get_or core.state.ended task.0 0) action
-    fits_action action is =
-        subst (λ (a : Action). IsActionOf core.plan task.0 (get_or core.state.ended task.0 0) a) is
-        (action_is_as_defined core.plan task.0 (get_or core.state.ended task.0 0) (get_or core.state.places task.0 0))
+    fits_next : (action : Action) → next_action (constants core) core.state task.0 ≡ action → IsActionOf core.plan task.0 (get_or core.state.ended task.0 0) action
+    fits_next = fits_action core kept.plan kept.sound laws task keeps
 
     sound_after : (action : Action) → next_action (constants core) core.state task.0 ≡ action → IsSound (constants core) (after_action core.state task.0 action)
     sound_after action is =
         subst (λ (a : Action). IsSound (constants core) (after_action core.state task.0 a)) is
         (gated_event_keeps_sound (constants core) laws.facts core.state kept.sound (events.Act task)
         (legal_event_is_gated (constants core) laws.facts core.state kept.sound (events.Act task) keeps))
-
-    -- the value on the edge of a constant
-    constant_on : (port : ℕ) (value : Value) → next_action (constants core) core.state task.0 ≡ actions.ReadConst port value → IsReadConst core task (get_or core.state.ended task.0 0) port value
-    constant_on port value is =
-        let fits = fits_action (actions.ReadConst port value) is in
-        record { edge = fits.0; inside = fits.1; consumer = fits.2; stands = fits.3; operand = fits.4 }
 
     const_value : (port : ℕ) (value : Value) → IsReadConst core task (get_or core.state.ended task.0 0) port value →
         slice_get (reads_of_job core.plan.graph (values_of core) task.0 (get_or core.state.ended task.0 0)) port ≡ Some value
@@ -177,13 +165,13 @@ module _ (core : CoreView) (halves : List Value) (workers : List Worker) (kept :
 
     module _ (port : ℕ) (edge : EdgeNo) (m : ℕ) (slot : SlotNo) (is : next_action (constants core) core.state task.0 ≡ actions.Read port edge m slot) where
       read_fits : IsActionOf core.plan task.0 (get_or core.state.ended task.0 0) (actions.Read port edge m slot)
-      read_fits = fits_action (actions.Read port edge m slot) is
+      read_fits = fits_next (actions.Read port edge m slot) is
 
       abbrev reads_there : ReadsAt (constants core) task.0 (get_or core.state.ended task.0 0) (get_or core.state.places task.0 0) m slot.0
       reads_there = record { job = is_job; action = (port, edge, is) }
 
-      pub finds : get_or core.state.tags slot.0 0 ≡ m + 1
-      finds = subst (FindsTag core.state) is (legal_read_finds_tag (constants core) laws.facts core.state kept.sound task keeps)
+      found : get_or core.state.tags slot.0 0 ≡ m + 1
+      found = finds core kept.plan kept.sound laws task keeps port edge m slot is
 
       pub read_inside : slot.0 < length halves
       read_inside =
@@ -199,7 +187,7 @@ module _ (core : CoreView) (halves : List Value) (workers : List Worker) (kept :
           let writes : WritesAt (constants core) from.0 from.1 from.2 m slot.0 = from.3.writes in
           let one : edge ≡ writes.action.0 =
           laws.facts.edge task.0 (get_or core.state.ended task.0 0) (get_or core.state.places task.0 0) m from.0 from.1 from.2 m slot.0 reads_there writes in
-          let stored = kept.cells.stored from.0 from.1 from.2 m slot.0 writes finds in
+          let stored = kept.cells.stored from.0 from.1 from.2 m slot.0 writes found in
           ap (value_from (values_of core) (edge_at core.plan.graph edge.0).from) read_fits.3
           ∙ ap (λ (e : EdgeNo). value_from (values_of core) (edge_at core.plan.graph e.0).from (operands.From m)) one
           ∙ sym stored ∙ there
@@ -210,43 +198,9 @@ module _ (core : CoreView) (halves : List Value) (workers : List Worker) (kept :
           ap (slice_get (reads_of_job core.plan.graph (values_of core) task.0 (get_or core.state.ended task.0 0))) (sym read_fits.2)
           ∙ value_at_port edge.0 read_fits.0 read_fits.1 value (half_is value there)
 
-      -- at a high half, it is that of the instance's cell, and the low half holds the instance too
-      high_there : (half : ℕ) → slot.0 % 2 ≡ suc half → slot.0 ≡ high (cell_of core.plan edge.0 m)
-      high_there half odd = elim read_fits.4 [
-        | inl at_low ↦ absurd (let z = low_is_even (cell_of core.plan edge.0 m) in let s : slot.0 % 2 ≡ low (cell_of core.plan edge.0 m) % 2 = ap (λ (x : ℕ). x % 2) at_low in omega (arith, z, s, odd))
-        | inr at_high ↦ at_high
-      ]
-
-      low_there : (half : ℕ) → slot.0 % 2 ≡ suc half → get_or core.state.tags (low (cell_of core.plan edge.0 m)) 0 ≡ m + 1
-      low_there half odd =
-          let at_high = high_there half odd in
-          let is_high : IsHigh (action_at (constants core) task.0 (get_or core.state.ended task.0 0) (get_or core.state.places task.0 0)) =
-          subst IsHigh (sym is) (cell_of core.plan edge.0 m, at_high) in
-          let before = laws.facts.paired task.0 (get_or core.state.ended task.0 0) (get_or core.state.places task.0 0) is_job is_high in
-          let low_slot : slot.0 - 1 ≡ low (cell_of core.plan edge.0 m) = omega (arith, at_high) in
-          let its : action_at (constants core) task.0 (get_or core.state.ended task.0 0) before.0 ≡ actions.Read port edge m (record { 0 = low (cell_of core.plan edge.0 m) }) =
-          before.2 ∙ ap low_of is ∙ ap (λ (x : ℕ). actions.Read port edge m (record { 0 = x })) low_slot in
-          let above = kept.sound.held task.0 (get_or core.state.ended task.0 0) before.0 m (low (cell_of core.plan edge.0 m))
-          (record { job = is_job; action = (port, edge, its) }) has in
-          let pair = laws.halves core.state kept.sound.tagged (cell_of core.plan edge.0 m) in
-          let here : get_or core.state.tags (high (cell_of core.plan edge.0 m)) 0 ≡ m + 1 = ap (λ (x : ℕ). get_or core.state.tags x 0) (sym at_high) ∙ finds in
-          omega (arith, above, pair, here)
-
-      pub whole_read : (half : ℕ) → slot.0 % 2 ≡ suc half → (value : Value) → slice_get halves slot.0 ≡ Some value →
+      pub whole_sight : (half : ℕ) → slot.0 % 2 ≡ suc half → (value : Value) → slice_get halves slot.0 ≡ Some value →
           IsRead core task (get_or core.state.ended task.0 0) port edge m (cell_no slot) value
-      whole_read half odd value there =
-          let at_high = high_there half odd in
-          let cell : slot.0 / 2 ≡ cell_of core.plan edge.0 m = omega (arith, at_high) in
-          record {
-            inside = read_fits.0;
-            consumer = read_fits.1;
-            stands = read_fits.2;
-            operand = read_fits.3;
-            place = cell;
-            low_half = ap (λ (x : ℕ). get_or core.state.tags (low x) 0) cell ∙ low_there half odd;
-            high_half = ap (λ (x : ℕ). get_or core.state.tags (high x) 0) cell ∙ ap (λ (x : ℕ). get_or core.state.tags x 0) (sym at_high) ∙ finds;
-            told = half_is value there;
-          }
+      whole_sight half odd value there = whole_read core kept.plan kept.sound laws task keeps port edge m slot is half odd value (half_is value there)
 
     -- reading leaves the halves
     moved_halves : AreHalves core.plan (constants core) (values_of core) (moved core.state task.0) halves
@@ -332,7 +286,7 @@ module _ (core : CoreView) (halves : List Value) (workers : List Worker) (kept :
 
     module _ (edge : EdgeNo) (m : ℕ) (slot : SlotNo) (is : next_action (constants core) core.state task.0 ≡ actions.Write edge m slot) where
       write_fits : IsActionOf core.plan task.0 (get_or core.state.ended task.0 0) (actions.Write edge m slot)
-      write_fits = fits_action (actions.Write edge m slot) is
+      write_fits = fits_next (actions.Write edge m slot) is
 
       abbrev writes_there : WritesAt (constants core) task.0 (get_or core.state.ended task.0 0) (get_or core.state.places task.0 0) m slot.0
       writes_there = record { job = is_job; action = (edge, is) }
@@ -547,7 +501,7 @@ module _ (core : CoreView) (halves : List Value) (workers : List Worker) (kept :
       after_act (actions.Read port edge m slot) is halves' workers' (same_halves halves' same)
           (taken (actions.Read port edge m slot) is tt (high_completes half odd) port refl does.0 edge.0 (read_fits port edge m slot is).0 (read_fits port edge m slot is).1
           (read_value port edge m slot is does.0 does.1) workers' does.2),
-      (does.0, does.3, whole_read port edge m slot is half odd does.0 does.1),
+      (does.0, does.3, whole_sight port edge m slot is half odd does.0 does.1),
     )
       where
         high_completes : (half : ℕ) → slot.0 % 2 ≡ suc half → slot.0 % 2 ≡ 1
@@ -557,14 +511,14 @@ module _ (core : CoreView) (halves : List Value) (workers : List Worker) (kept :
         Serves core.plan.graph core.rows task (get_or core.state.ended task.0 0) halves halves' workers workers' action seen →
         IsKept (record core { state = after_action core.state task.0 action }) halves' workers' × IsSightOf core task (get_or core.state.ended task.0 0) action seen
     act_kept (actions.ReadConst port value) is halves' workers' seen serves =
-        let reads = constant_on port value is in (
+        let reads = constant_on core kept.plan kept.sound laws task keeps port value is in (
           after_act (actions.ReadConst port value) is halves' workers' (same_halves halves' serves.0)
               (taken (actions.ReadConst port value) is tt refl port refl value reads.edge reads.inside reads.consumer (const_value port value reads) workers' serves.1),
           (serves.2, reads),
         )
     act_kept (actions.Read port edge m slot) is halves' workers' seen serves =
         let done = read_served port edge m slot is halves' workers' seen serves.0 (slot.0 % 2) refl serves.1 in
-        (done.0, (finds port edge m slot is, done.1))
+        (done.0, (found port edge m slot is, done.1))
     act_kept (actions.Write edge m slot) is halves' workers' seen serves =
         let done = wrote edge m slot is halves' workers' serves.0.0 serves.0.1 serves.0.2 serves.0.3 in (
           after_act (actions.Write edge m slot) is halves' workers' done.0 done.1,
@@ -595,7 +549,7 @@ module _ (core : CoreView) (halves : List Value) (workers : List Worker) (kept :
     pub can_act : (action : Action) → next_action (constants core) core.state task.0 ≡ action →
         CanServe core.plan.graph core.rows halves workers task.0 (get_or core.state.ended task.0 0) action
     can_act (actions.ReadConst port value) is =
-        let reads = constant_on port value is in
+        let reads = constant_on core kept.plan kept.sound laws task keeps port value is in
         can_take (actions.ReadConst port value) is tt refl port refl value reads.edge reads.inside reads.consumer (const_value port value reads)
     can_act (actions.Read port edge m slot) is = (read_inside port edge m slot is, can_read port edge m slot is (slot.0 % 2) refl)
     can_act (actions.Write edge m slot) is = (

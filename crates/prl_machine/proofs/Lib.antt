@@ -1,6 +1,7 @@
 mod Operands
 mod PortReads
 mod Working
+mod Telling
 mod Keeping
 mod Opening
 mod Given

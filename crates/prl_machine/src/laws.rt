@@ -1,9 +1,16 @@
-//! What a machine rests on, as a function that does nothing.
+//! Laws of machines, as functions that do nothing: the contract of each is the law.
 
+ghost use Rattle.std.specs.Prelude.{ℕ, List};
+ghost use Rattle.prl_base.specs.declared.values.Value.{Value};
+ghost use Rattle.prl_core.specs.declared.seen.Seen.{Seen};
+ghost use Rattle.prl_core.specs.Machine.{Drives};
+ghost use Rattle.prl_plan.specs.declared.events.Event.{Event};
 ghost use Rattle.prl_plan.specs.Horizons.{IsHorizon};
 ghost use Rattle.prl_plan.specs.Plans.{IsPlan};
+ghost use Rattle.prl_plan.specs.Rules.{KeepsLegal};
+ghost use Rattle.prl_plan.specs.States.{IsSound};
 ghost use Rattle.prl_values.specs.Fitting.{HaveTaskBodies, HaveTypedRows};
-ghost use Rattle.prl_machine.specs.Cores.{CoreView};
+ghost use Rattle.prl_machine.specs.Cores.{CoreView, constants, Tells, AreOutputs};
 ghost use Rattle.prl_machine.specs.code.Laws.{HasCoreLaws};
 
 use prl_plan::{
@@ -24,4 +31,17 @@ pub(crate) fn machine_laws()
     free_events_keep_tags();
     job_values_exist();
     job_values_are_typed();
+}
+
+/// In each sound state of a run something is told of each event that keeps the rules, and what the ended jobs of an actuator's
+/// task have read is there, by instance.
+pub fn legal_events_tell()
+    ensures told { (core : CoreView) → IsPlan core.plan → IsHorizon core.plan core.horizon → HaveTaskBodies core.plan.graph core.bodies →
+        HaveTypedRows core.plan.graph core.horizon.until core.rows → IsSound (constants core) core.state →
+        (event : Event) → KeepsLegal (constants core) core.state event → (seen : Seen) × Tells core event seen }
+    ensures outputs { (core : CoreView) → IsPlan core.plan → IsHorizon core.plan core.horizon → HaveTaskBodies core.plan.graph core.bodies →
+        HaveTypedRows core.plan.graph core.horizon.until core.rows → IsSound (constants core) core.state →
+        (i k : ℕ) → Drives core.plan i k → (values : List Value) × AreOutputs core i values }
+{
+    machine_laws();
 }

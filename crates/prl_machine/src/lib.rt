@@ -10,5 +10,6 @@ mod task_bodies;
 mod workers;
 
 pub use cores::Core;
+pub use laws::legal_events_tell;
 pub use prl_core::{Illegal, Seen, Unfinished};
 pub use prl_plan::{Event, Rule};

@@ -7,7 +7,7 @@ use Rattle.prl_plan.specs.declared.graphs.Kind.{Kind}
 use Rattle.prl_plan.specs.declared.graphs.Kind.TheVariants as kinds
 use Rattle.prl_plan.specs.declared.graphs.Task.{Task}
 use Rattle.prl_plan.specs.Graphs.{AreNumbered, IsTaskName}
-use Rattle.prl_plan.specs.Jobs.{no_task, task_at}
+use Rattle.prl_plan.specs.Jobs.{no_task}
 use Rattle.prl_plan.specs.Plans.{PlanView, IsPlan}
 use Rattle.prl_core.specs.Machine.{Drives}
 

@@ -1,5 +1,5 @@
 -- What holds of a whole run: its reads are of the plan's tasks, and its flows are up to the horizon's date.
-use Rattle.std.proofs.Common.{◌≡◌, ◌+◌, ◌*◌, ◌<◌, ◌≤◌, ◌%◌, ◌^◌, ◌++◌, ◌↔◌, ℕ, zero, suc, List, [], ◌∷◌, length, get_or, inl, inr, refl, sym, ◌∙◌, ap, subst, arith}
+use Rattle.std.proofs.Common.{◌≡◌, ◌<◌, ◌≤◌, ◌%◌, ◌^◌, ◌++◌, ◌↔◌, ℕ, zero, suc, List, [], ◌∷◌, length, get_or, inl, inr, sym, ◌∙◌, subst, arith}
 use Rattle.std.specs.Prelude.{All, filter}
 use Rattle.std.proofs.lemmas.Bool.{cases_lt}
 use Rattle.std.proofs.lemmas.Int.{ints}
@@ -24,12 +24,10 @@ use Rattle.prl_plan.specs.Rules.{IsLegal, IsComplete, KeepsLegal, first_unfinish
 use Rattle.prl_plan.specs.Runs.{next_action}
 use Rattle.prl_plan.proofs.RoundPeriods.{task_is}
 use Rattle.prl_core.specs.declared.seen.Seen.{Seen}
-use Rattle.prl_core.specs.declared.seen.Seen.TheVariants as sights
 use Rattle.prl_core.specs.Machine.{cell_no, sight_of_write}
 use Rattle.prl_machine.specs.Cores.{CoreView, constants, Tells, IsSightOf, IsSightOfRead}
 use Rattle.prl_replay.specs.ReadTexts.{ReadsOfTasks}
-use Rattle.prl_replay.specs.Replays.{is_read}
-use Rattle.prl_traces.specs.Replays.{after, after_all, TellsAll, IsReplay, IsFlowOf, AddsFlow, AreFlowsBelow}
+use Rattle.prl_traces.specs.Replays.{is_read, after, TellsAll, IsReplay, IsFlowOf, AddsFlow, AreFlowsBelow}
 
 read_seen : (core : CoreView) (task : TaskNo) (n port : ℕ) (edge : EdgeNo) (m : ℕ) (cell : CellNo) (half : ℕ) (seen : Seen) → task.0 < length core.plan.graph.tasks →
     IsSightOfRead core task n port edge m cell half seen → ReadsOfTasks (length core.plan.graph.tasks) seen

@@ -1,3 +1,6 @@
 mod Runs
 mod Actuators
 mod Ends
+mod Legality
+mod OneEnd
+mod Traces

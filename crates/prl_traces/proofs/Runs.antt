@@ -7,8 +7,7 @@ use Rattle.prl_plan.specs.Runs.{RunConstants, ExecState, after_event, after_even
 use Rattle.prl_plan.specs.Rules.{IsLegal, KeepsLegal}
 use Rattle.prl_core.specs.declared.seen.Seen.{Seen}
 use Rattle.prl_machine.specs.Cores.{CoreView, constants, Tells}
-use Rattle.prl_replay.specs.Replays.{is_read}
-use Rattle.prl_traces.specs.Replays.{after, after_all, TellsAll}
+use Rattle.prl_traces.specs.Replays.{is_read, after, after_all, TellsAll}
 
 pub after_events_push : (c : RunConstants) (s : ExecState) (events : List Event) (event : Event)
     → after_events c s (events ++ event ∷ []) ≡ after_event c (after_events c s events) event

@@ -1,5 +1,5 @@
 -- What it is to replay a schedule.
-use Rattle.std.specs.Prelude.{◌≡◌, ◌≢◌, ◌+◌, ◌++◌, ℕ, zero, suc, List, [], ◌∷◌, take, filter, Ok, Err, Some, length, slice_get}
+use Rattle.std.specs.Prelude.{◌≡◌, ◌≢◌, ◌+◌, ◌++◌, ℕ, zero, suc, Bool, true, false, List, [], ◌∷◌, take, filter, Ok, Err, Some, length, slice_get}
 use Rattle.prl_flow.specs.declared.programs.OutFlow.{OutFlow}
 use Rattle.prl_plan.specs.declared.events.Event.{Event}
 use Rattle.prl_plan.specs.declared.graphs.Kind.{Kind}
@@ -8,14 +8,23 @@ use Rattle.prl_plan.specs.Jobs.{task_at}
 use Rattle.prl_plan.specs.Rules.{IsLegal, IsComplete, FirstBroken, IsFirstUnfinished}
 use Rattle.prl_plan.specs.Runs.{after_event, after_events}
 use Rattle.prl_core.specs.declared.seen.Seen.{Seen}
+use Rattle.prl_core.specs.declared.seen.Seen.TheVariants as sights
 use Rattle.prl_machine.specs.Cores.{CoreView, constants, Tells, AreOutputs}
 use Rattle.prl_replay.specs.declared.schedules.ScheduleFault.{ScheduleFault}
 use Rattle.prl_replay.specs.declared.schedules.ScheduleFault.TheVariants as lines
-use Rattle.prl_replay.specs.Replays.{is_read}
 use Rattle.prl_replay.specs.Schedules.{schedule_of}
 use Rattle.prl_replay.specs.ScheduleTexts.{task_names}
 use Rattle.prl_traces.specs.declared.faults.ReplayFault.{ReplayFault}
 use Rattle.prl_traces.specs.declared.faults.ReplayFault.TheVariants as faults
+
+-- a job read an instance or took a constant
+abbrev pub is_read : Seen → Bool
+is_read (sights.Ticked tick) = false
+is_read (sights.Read task job port edge instance cell value) = true
+is_read (sights.ReadConst task job port value) = true
+is_read (sights.Half task job edge cell) = false
+is_read (sights.Wrote task job edge cell) = false
+is_read (sights.Ended task job) = false
 
 -- the machine after an event
 abbrev pub after : CoreView → Event → CoreView
@@ -86,3 +95,9 @@ IsReplayFault core text fault =
 abbrev pub schedule_fault : ScheduleFault → ReplayFault
 schedule_fault (lines.Syntax line) = faults.Syntax line
 schedule_fault lines.Memory = faults.Memory
+
+-- the text lists events that are legal and complete
+abbrev pub IsWholeText : CoreView → List ℕ → Type 0
+IsWholeText core text =
+    (events : List Event) × (schedule_of (task_names core.plan) text ≡ Ok events) × IsLegal (constants core) core.state events
+    × IsComplete (constants core) (after_all core events).state

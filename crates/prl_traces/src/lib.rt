@@ -4,9 +4,11 @@
 
 mod faults;
 mod flows;
+mod laws;
 mod replays;
 mod texts;
 
 pub use faults::ReplayFault;
+pub use laws::{replays_end_one_way, whole_lists_are_replayed};
 pub use replays::{Trace, replay};
 pub use texts::trace_text;

@@ -9,11 +9,10 @@ ghost use Rattle.prl_values.specs.Fitting.{HaveTaskBodies, HaveTypedRows};
 ghost use Rattle.prl_core.specs.Machine.{IsOfPlan};
 ghost use Rattle.prl_machine.specs.Cores.{opened};
 ghost use Rattle.prl_replay.specs.ReadTexts.{ReadsOfTasks};
-ghost use Rattle.prl_replay.specs.Replays.{is_read};
 ghost use Rattle.prl_replay.specs.ScheduleTexts.{task_names};
 ghost use Rattle.prl_replay.specs.Schedules.{schedule_of};
 ghost use Rattle.prl_traces.specs.declared.faults.ReplayFault.TheVariants as faults;
-ghost use Rattle.prl_traces.specs.Replays.{after_all, IsReplay, FailsWith, IsTrace, IsReplayFault};
+ghost use Rattle.prl_traces.specs.Replays.{is_read, after_all, IsReplay, FailsWith, IsTrace, IsReplayFault};
 
 use crate::ReplayFault;
 use crate::flows::flows_of;

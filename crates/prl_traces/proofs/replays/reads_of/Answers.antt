@@ -1,4 +1,4 @@
-use Rattle.std.proofs.Common.{◌≡◌, ◌+◌, ◌<◌, List, Result, Err, length, get_or, take, refl, sym, subst, ◌∙◌, ap, arith, vec_items}
+use Rattle.std.proofs.Common.{◌+◌, ◌<◌, List, length, get_or, take, refl, subst, ◌∙◌, ap, arith, vec_items}
 use Rattle.std.proofs.lemmas.Option.{slice_get-get_or}
 use Rattle.std.proofs.lemmas.List.{take_more, take_all}
 use Rattle.prl_plan.specs.declared.events.Event.{Event}

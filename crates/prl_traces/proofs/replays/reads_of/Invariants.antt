@@ -3,8 +3,7 @@ use Rattle.std.specs.Prelude.{filter}
 use Rattle.prl_plan.specs.Rules.{IsLegal}
 use Rattle.prl_core.specs.declared.seen.Seen.{Seen}
 use Rattle.prl_machine.specs.Cores.{constants}
-use Rattle.prl_replay.specs.Replays.{is_read}
-use Rattle.prl_traces.specs.Replays.{after_all, TellsAll}
+use Rattle.prl_traces.specs.Replays.{is_read, after_all, TellsAll}
 use Rattle.prl_traces.proofs.replays.reads_of.Given as goal
 
 -- the events so far kept the rules, and what they told

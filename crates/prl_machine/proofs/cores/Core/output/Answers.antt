@@ -73,7 +73,7 @@ returns c =
     let drives : Drives core.plan c.task_of-i.result c.args.actuator = subst (λ (v : CoreView). Drives v.plan c.task_of-i.result c.args.actuator) (sym seen) c.task_of-i.ensures in
     let its = work_at core c.self.inside.store.halves.items c.self.inside.store.workers.items kept c.task_of-i.result drives.0 c.index.result.now c.index.ensures _ c.in-Actuator.is in
     let steps : ℕ = get_or core.state.ended c.task_of-i.result 0 + once c.index.result.now.ran in
-    let whole = column_is_output core c.self.inside.store.halves.items c.self.inside.store.workers.items kept c.task_of-i.result c.args.actuator drives.0 drives.1 c.in-Actuator.column.items
+    let whole = column_is_output core kept.plan kept.sound c.task_of-i.result c.args.actuator drives.0 drives.1 c.in-Actuator.column.items
     (get_or core.state.ended c.task_of-i.result 0 + once c.index.result.now.ran) (omega arith) its.1.1 its.1.2 laws.counted laws.edges in (
       c.task_of-i.result,
       c.task_of-i.ensures,
