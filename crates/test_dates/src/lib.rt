@@ -3,8 +3,11 @@
 
 #[cfg(test)]
 mod dates;
+#[cfg(test)]
 mod graphs;
+#[cfg(test)]
 mod lanes;
+#[cfg(test)]
 mod later;
 #[cfg(test)]
 mod lookups;

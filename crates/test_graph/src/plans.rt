@@ -249,7 +249,7 @@ edge 0 from const 5 to 0.0 type int period 10 ops fby 7
 word 0 prefix 1 7 repeat 0 step 1 1
 cells 0 none
 "
-        .as_slice()
+            .as_slice()
     );
     let text = text_of(rt.alloc(), CONSTANT_ARGUMENT)?;
     assert!(rt;

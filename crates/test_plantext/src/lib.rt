@@ -3,4 +3,5 @@
 
 #[cfg(test)]
 mod plans;
+#[cfg(test)]
 mod texts;
