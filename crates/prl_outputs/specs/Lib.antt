@@ -1,0 +1,2 @@
+-- The flows of main's outputs.
+pub mod Outputs
