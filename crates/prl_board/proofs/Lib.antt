@@ -17,3 +17,4 @@ mod RunFacts
 mod Allowed
 mod Granted
 mod Unseen
+mod Following

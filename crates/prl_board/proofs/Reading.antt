@@ -18,6 +18,16 @@ const_no_read port value port' e m h is = cc
 pub end_no_read : (port : ℕ) (e : EdgeNo) (m : ℕ) (h : SlotNo) → actions.End ≡ actions.Read port e m h → ⊥
 end_no_read port e m h is = cc
 
+-- the end of a job is none of the others
+pub const_no_end : (port : ℕ) (value : Value) → actions.ReadConst port value ≡ actions.End → ⊥
+const_no_end port value is = cc
+
+pub read_no_end : (port : ℕ) (e : EdgeNo) (m : ℕ) (h : SlotNo) → actions.Read port e m h ≡ actions.End → ⊥
+read_no_end port e m h is = cc
+
+pub write_no_end : (e : EdgeNo) (m : ℕ) (h : SlotNo) → actions.Write e m h ≡ actions.End → ⊥
+write_no_end e m h is = cc
+
 -- one read is of one instance, and of one half
 pub same_read : (port : ℕ) (e : EdgeNo) (m h port' : ℕ) (e' : EdgeNo) (m' h' : ℕ) →
     actions.Read port e m (record { 0 = h }) ≡ actions.Read port' e' m' (record { 0 = h' }) → (m ≡ m') × (h ≡ h')

@@ -12,6 +12,8 @@ pub mod Rule
 pub mod Steps
 -- what is seen of a board, and what its steps tell
 pub mod Boards
+-- what is seen of a task's seat of the table
+pub mod JobSeats
 -- what is seen of the clock's seat
 pub mod ClockSeats
 -- what private functions say to one another

@@ -32,7 +32,7 @@ use atomic_table::{Play, Split, Table};
 use prl_base::TaskNo;
 use prl_body::Bodies;
 use prl_flow::Sensors;
-use prl_plan::{Action, Horizon, Plan, SlotNo, plan_facts, plan_is_one};
+use prl_plan::{Action, Horizon, Plan, SlotNo, horizons_are_small, plan_facts, plan_is_one};
 use std::alloc::{AllocError, Global};
 use std::marker::{Brand, Model, PhantomData};
 
@@ -267,6 +267,26 @@ impl<'a> Board<'a> {
     {
         plan_facts(self.plan, self.horizon);
         self.plan.action(task, job, place)
+    }
+
+    /// The place after that of an action which does not end its job.
+    pub(crate) fn place_after(&self, task: TaskNo, job: u64, place: u32) -> u32
+        requires job { IsJob (run_of self.now.known) task.0 job }
+        requires more { action_at (run_of self.now.known) task.0 job place ≡ actions.End → ⊥ }
+        ensures { result ≡ place + 1 }
+    {
+        self.keeps_facts();
+        place + 1
+    }
+
+    /// The number after that of a horizon job, which is the tag of its instance.
+    pub(crate) fn tag_of(&self, task: TaskNo, job: u64) -> u32
+        requires { IsJob (run_of self.now.known) task.0 job }
+        ensures { result ≡ job + 1 }
+    {
+        plan_facts(self.plan, self.horizon);
+        horizons_are_small();
+        (job + 1) as u32
     }
 
     /// What the jobs of the run keep.

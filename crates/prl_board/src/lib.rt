@@ -5,6 +5,7 @@
 
 mod board;
 mod clocks;
+mod jobs;
 mod laws;
 mod steps;
 mod tagged;
@@ -12,6 +13,7 @@ mod views;
 
 pub use board::Board;
 pub use clocks::{ClockSeat, Ticked};
+pub use jobs::{Release, Stage};
 pub use laws::{halves_are_exact, run_values_keep_facts, words_are_exact};
 pub use steps::{
     gated_read_is_never_overrun, join_takes_all_parts, load_of_done_is_kept,
