@@ -40,9 +40,9 @@ pub load_allowed : (k : Constants) (slots id : ℕ) (me : Me (Unit {0}) View) (w
     GrantsLoad k id me word next told → Allows (Agreed k) slots id me word (λ n. n) (λ n m. told n m.0 × (m.1 ≡ me.1))
 load_allowed k slots id me word next told grants =
     allowed k slots id me word (λ n. n) next told (λ w es words views a at.
-        let r = grants w es words views a at in
-        let same : words ≡ set words word (get_or words word 0) = sym (set-get_or words word 0) in
-        (r.0, r.1, subst (λ (ws : List ℕ). AgreesWith k (run_of k) (values_of k) r.0 r.1 ws (set views id (next (get_or words word 0)))) same r.2, r.3))
+    let r = grants w es words views a at in
+    let same : words ≡ set words word (get_or words word 0) = sym (set-get_or words word 0) in
+    (r.0, r.1, subst (λ (ws : List ℕ). AgreesWith k (run_of k) (values_of k) r.0 r.1 ws (set views id (next (get_or words word 0)))) same r.2, r.3))
 
 -- a seat that has the part of a task may be split
 pub split_allowed : (k : Constants) (id i : ℕ) (view : View) (p : TaskPart) → get_elem? view.tasks i ≡ some (Some p) →

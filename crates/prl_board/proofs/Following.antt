@@ -117,9 +117,11 @@ module _ (k : Constants) (i : ℕ) where
   pub open_follows : (view after : View) (job place n : ℕ) → Follows k view i job place stages.Idle → NowTold k i view n after → (run_of k).release i job ≤ n →
       Follows k after i job place (stages.At (action_at (run_of k) i job 0))
   open_follows view after job place n f told released =
-      now_follows view after job place n (stages.At (action_at (run_of k) i job 0)) f told
-      (both_tests (nat_lt job ((run_of k).jobs i)) (nat_le ((run_of k).release i job) n) (lt_yes job ((run_of k).jobs i) f.shown.1) (le_yes ((run_of k).release i job) n released), f.shown.1,
-      ap (action_at (run_of k) i job) f.shown.2)
+      now_follows view after job place n (stages.At (action_at (run_of k) i job 0)) f told (
+        both_tests (nat_lt job ((run_of k).jobs i)) (nat_le ((run_of k).release i job) n) (lt_yes job ((run_of k).jobs i) f.shown.1) (le_yes ((run_of k).release i job) n released),
+        f.shown.1,
+        ap (action_at (run_of k) i job) f.shown.2,
+      )
 
   -- after a load of a half
   pub found_follows : (view after : View) (job place word e m h : ℕ) (action : Action) → Follows k view i job place (stages.At action) → HalfTold k i place e m h view word after →

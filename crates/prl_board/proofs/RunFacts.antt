@@ -169,7 +169,7 @@ module _ (k : Constants) (plan : IsPlan k.plan)
     (ends : (i n place : ℕ) → get_or (actions_of k.plan i n) place actions.End ≡ actions.End → length (actions_of k.plan i n) ≤ place + 1)
     (jobs : AreJobValues k.plan.graph k.bodies k.sensors k.horizon.until (job_values_of k))
     (typed : (e n : ℕ) → e < length k.plan.graph.edges → IsHorizonJob k.plan.graph k.horizon.until (edge_at k.plan.graph e).to.0 n →
-        (value : Value) × (value_on (job_values_of k) (edge_at k.plan.graph e) n ≡ Some value) × (type_of value ≡ (edge_at k.plan.graph e).ty)) where
+    (value : Value) × (value_on (job_values_of k) (edge_at k.plan.graph e) n ≡ Some value) × (type_of value ≡ (edge_at k.plan.graph e).ty)) where
   edge_is : (e : ℕ) → e < length k.plan.graph.edges → slice_get k.plan.graph.edges e ≡ Some (edge_at k.plan.graph e)
   edge_is e inside = slice_get-get_or k.plan.graph.edges e no_edge inside
 
@@ -201,8 +201,7 @@ module _ (k : Constants) (plan : IsPlan k.plan)
   value_of_read e n m inside job reads =
       let t = typed e n inside job in
       let same : value_from (job_values_of k) (edge_at k.plan.graph e).from (operands.From m) ≡ Some t.0 =
-      ap (λ (o : Operand). value_from (job_values_of k) (edge_at k.plan.graph e).from o) (sym reads) ∙ t.1 in
-      (
+      ap (λ (o : Operand). value_from (job_values_of k) (edge_at k.plan.graph e).from o) (sym reads) ∙ t.1 in (
         ap (λ (o : Option Value). type_of (unwrap_or o (values.Int (pos 0)))) same ∙ t.2,
         ap (λ (o : Operand). unwrap_or (value_from (job_values_of k) (edge_at k.plan.graph e).from o) (values.Int (pos 0))) reads,
       )

@@ -19,10 +19,7 @@ pub enum Ticked {
     Now(u64),
     /// A job of the horizon is due by the next tick and has not been seen to end: the first one of
     /// the lowest task that has one.
-    Behind {
-        task: TaskNo,
-        job: u64,
-    },
+    Behind { task: TaskNo, job: u64 },
     /// The clock is at the end of the horizon.
     End,
 }

@@ -22,14 +22,9 @@ use std::marker::Model;
 #[derive(Clone, Copy, Debug, PartialEq, Eq)]
 pub enum Release {
     /// This job of the task is open now.
-    Open {
-        job: u64,
-    },
+    Open { job: u64 },
     /// The next job is released at `at`, which is later than the `now` that was loaded.
-    Early {
-        now: u64,
-        at: u64,
-    },
+    Early { now: u64, at: u64 },
     /// No horizon job of the task is left.
     Over,
 }

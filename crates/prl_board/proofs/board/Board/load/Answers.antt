@@ -15,5 +15,5 @@ load-requires g c =
       c.requires.table ∙ sym (ap (λ (d : BoardView). d.table) c.self.view_is),
       omega (arith, sized, count, inside),
       subst (λ (k : Constants). Allows (Agreed k) c.self.inside.table.shared.table_id.slots c.args.seat.now.id c.args.seat.now.me c.args.word (λ n. n) (λ n m. g.J.Telling.told c.args.seat.now.me.0 n m.0 × (m.1 ≡ c.args.seat.now.me.1))) (sym (c.self.invariant.keyed ∙ same))
-      (c.requires.allows c.self.inside.table.shared.table_id.slots),
+          (c.requires.allows c.self.inside.table.shared.table_id.slots),
     )

@@ -14,6 +14,6 @@ split_seat-requires g c =
       omega (arith, sized),
       subst (λ (z : ℕ). Splits (Agreed (known c.self.inside.table.shared.key.plan.now c.self.inside.table.shared.key.horizon c.self.inside.table.shared.key.gate c.self.inside.table.shared.key.sensors.now c.self.inside.table.shared.key.bodies.now))
           c.args.seat.now.id c.args.seat.now.me.0 (without_part z c.args.seat.now.me.0) (only_part z c.args.seat.now.me.0)) (sym c.requires.task)
-      (split_allowed (known c.self.inside.table.shared.key.plan.now c.self.inside.table.shared.key.horizon c.self.inside.table.shared.key.gate c.self.inside.table.shared.key.sensors.now c.self.inside.table.shared.key.bodies.now)
+          (split_allowed (known c.self.inside.table.shared.key.plan.now c.self.inside.table.shared.key.horizon c.self.inside.table.shared.key.gate c.self.inside.table.shared.key.sensors.now c.self.inside.table.shared.key.bodies.now)
           c.args.seat.now.id c.args.task c.args.seat.now.me.0 c.requires.part.0 c.requires.part.1),
     )

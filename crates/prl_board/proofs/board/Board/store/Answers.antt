@@ -15,5 +15,5 @@ store-requires g c =
       c.requires.table ∙ sym (ap (λ (d : BoardView). d.table) c.self.view_is),
       omega (arith, sized, count, inside),
       subst (λ (k : Constants). Allows (Agreed k) c.self.inside.table.shared.table_id.slots c.args.seat.now.id c.args.seat.now.me c.args.word (λ n. c.args.value) (λ n m. g.J.Telling.told c.args.seat.now.me.0 c.args.value m.0 × (m.1 ≡ c.args.seat.now.me.1))) (sym (c.self.invariant.keyed ∙ same))
-      (c.requires.allows c.self.inside.table.shared.table_id.slots),
+          (c.requires.allows c.self.inside.table.shared.table_id.slots),
     )

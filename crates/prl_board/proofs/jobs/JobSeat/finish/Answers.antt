@@ -46,9 +46,9 @@ invariant_of-self c =
     let ended : c.from-ended.result ≡ c.self.inside.job + 1 = c.from-ended.ensures ∙ c.tag_of.ensures in (
       c.store_done.ensures.same.2 ∙ c.self.invariant.0,
       known_once c.store_done.new.seat.me.0 c.args.board.now.known (λ k. HasPartOf c.self.inside.task.0 c.store_done.new.seat.me.0 → Follows k c.store_done.new.seat.me.0 c.self.inside.task.0 c.from-ended.result 0 c.stage_before-self-inside.result) (ap (λ (v : View). v.constants) c.store_done.ensures.told ∙ known)
-      (λ has. subst (λ (z : ℕ). Follows c.args.board.now.known c.store_done.new.seat.me.0 c.self.inside.task.0 z 0 c.stage_before-self-inside.result) (sym ended)
-      (end_follows c.args.board.now.known c.self.inside.task.0 c.self.inside.seat.me.0 c.store_done.new.seat.me.0 c.self.inside.job c.self.inside.place actions.End c.stage_before-self-inside.result follows c.store_done.ensures.told
-      (subst (λ (z : ℕ). IsStage (run_of c.args.board.now.known) c.self.inside.task.0 z 0 false c.stage_before-self-inside.result) ended c.stage_before-self-inside.ensures))),
+          (λ has. subst (λ (z : ℕ). Follows c.args.board.now.known c.store_done.new.seat.me.0 c.self.inside.task.0 z 0 c.stage_before-self-inside.result) (sym ended)
+          (end_follows c.args.board.now.known c.self.inside.task.0 c.self.inside.seat.me.0 c.store_done.new.seat.me.0 c.self.inside.job c.self.inside.place actions.End c.stage_before-self-inside.result follows c.store_done.ensures.told
+          (subst (λ (z : ℕ). IsStage (run_of c.args.board.now.known) c.self.inside.task.0 z 0 false c.stage_before-self-inside.result) ended c.stage_before-self-inside.ensures))),
     )
 
 pub returns-clause-seat : goal.returns-clause-seat

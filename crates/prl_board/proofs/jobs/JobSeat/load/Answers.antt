@@ -52,12 +52,11 @@ invariant_of-self c =
     let follows : Follows c.args.board.now.known c.self.inside.seat.me.0 c.self.inside.task.0 c.self.inside.job c.self.inside.place (stages.At (actions.Read c.requires.reads.0 c.requires.reads.1 c.args.instance c.args.slot)) =
     subst (λ (z : Stage). Follows c.args.board.now.known c.self.inside.seat.me.0 c.self.inside.task.0 c.self.inside.job c.self.inside.place z) stage (c.self.invariant.1 c.args.board.now.known known part) in
     let stands = stands_at c.args.board.now.known c.self.inside.task.0 c.self.inside.seat.me.0 c.self.inside.job c.self.inside.place (actions.Read c.requires.reads.0 c.requires.reads.1 c.args.instance c.args.slot) follows in
-    let told : HalfTold c.args.board.now.known c.self.inside.task.0 c.self.inside.place c.requires.reads.1.0 c.args.instance c.args.slot.0 c.self.inside.seat.me.0 c.load_half-word.result c.load_half-word.new.seat.me.0 = c.load_half-word.ensures.told c.requires.reads.0 c.requires.reads.1 c.args.instance stands in
-    (
+    let told : HalfTold c.args.board.now.known c.self.inside.task.0 c.self.inside.place c.requires.reads.1.0 c.args.instance c.args.slot.0 c.self.inside.seat.me.0 c.load_half-word.result c.load_half-word.new.seat.me.0 = c.load_half-word.ensures.told c.requires.reads.0 c.requires.reads.1 c.args.instance stands in (
       c.load_half-word.ensures.same.2 ∙ c.self.invariant.0,
       known_once c.load_half-word.new.seat.me.0 c.args.board.now.known (λ k. HasPartOf c.self.inside.task.0 c.load_half-word.new.seat.me.0 → Follows k c.load_half-word.new.seat.me.0 c.self.inside.task.0 c.self.inside.job c.self.inside.place c.self.inside.stage) (ap (λ (v : View). v.constants) told.view ∙ known)
-      (λ has. subst (λ (z : Stage). Follows c.args.board.now.known c.load_half-word.new.seat.me.0 c.self.inside.task.0 c.self.inside.job c.self.inside.place z) (sym stage)
-      (missed_follows c.args.board.now.known c.self.inside.task.0 c.self.inside.seat.me.0 c.load_half-word.new.seat.me.0 c.self.inside.job c.self.inside.place c.load_half-word.result c.requires.reads.1.0 c.args.instance c.args.slot.0 (actions.Read c.requires.reads.0 c.requires.reads.1 c.args.instance c.args.slot) follows told c.if-is_other.ensures.yes)),
+          (λ has. subst (λ (z : Stage). Follows c.args.board.now.known c.load_half-word.new.seat.me.0 c.self.inside.task.0 c.self.inside.job c.self.inside.place z) (sym stage)
+          (missed_follows c.args.board.now.known c.self.inside.task.0 c.self.inside.seat.me.0 c.load_half-word.new.seat.me.0 c.self.inside.job c.self.inside.place c.load_half-word.result c.requires.reads.1.0 c.args.instance c.args.slot.0 (actions.Read c.requires.reads.0 c.requires.reads.1 c.args.instance c.args.slot) follows told c.if-is_other.ensures.yes)),
     )
 
 pub invariant_of-self-2 : goal.invariant_of-self-2
@@ -70,12 +69,11 @@ invariant_of-self-2 c =
     let stands = stands_at c.args.board.now.known c.self.inside.task.0 c.self.inside.seat.me.0 c.self.inside.job c.self.inside.place (actions.Read c.requires.reads.0 c.requires.reads.1 c.args.instance c.args.slot) follows in
     let told : HalfTold c.args.board.now.known c.self.inside.task.0 c.self.inside.place c.requires.reads.1.0 c.args.instance c.args.slot.0 c.self.inside.seat.me.0 c.load_half-word.result c.load_half-word.new.seat.me.0 = c.load_half-word.ensures.told c.requires.reads.0 c.requires.reads.1 c.args.instance stands in
     let place : c.place_after-self-inside.result ≡ c.self.inside.place + 1 = c.place_after-self-inside.ensures in
-    let action : c.action.result ≡ action_at (run_of c.args.board.now.known) c.self.inside.task.0 c.self.inside.job (c.self.inside.place + 1) = c.action.ensures ∙ ap (action_at (run_of c.args.board.now.known) c.self.inside.task.0 c.self.inside.job) place in
-    (
+    let action : c.action.result ≡ action_at (run_of c.args.board.now.known) c.self.inside.task.0 c.self.inside.job (c.self.inside.place + 1) = c.action.ensures ∙ ap (action_at (run_of c.args.board.now.known) c.self.inside.task.0 c.self.inside.job) place in (
       c.load_half-word.ensures.same.2 ∙ c.self.invariant.0,
       known_once c.load_half-word.new.seat.me.0 c.args.board.now.known (λ k. HasPartOf c.self.inside.task.0 c.load_half-word.new.seat.me.0 → Follows k c.load_half-word.new.seat.me.0 c.self.inside.task.0 c.self.inside.job c.place_after-self-inside.result (stages.At c.action.result)) (ap (λ (v : View). v.constants) told.view ∙ known)
-      (λ has. subst (λ (z : ℕ × Action). Follows c.args.board.now.known c.load_half-word.new.seat.me.0 c.self.inside.task.0 c.self.inside.job z.0 (stages.At z.1)) (λ x. (sym place x, sym action x))
-      (found_follows c.args.board.now.known c.self.inside.task.0 c.self.inside.seat.me.0 c.load_half-word.new.seat.me.0 c.self.inside.job c.self.inside.place c.load_half-word.result c.requires.reads.1.0 c.args.instance c.args.slot.0 (actions.Read c.requires.reads.0 c.requires.reads.1 c.args.instance c.args.slot) follows told c.if-is_other.ensures.no)),
+          (λ has. subst (λ (z : ℕ × Action). Follows c.args.board.now.known c.load_half-word.new.seat.me.0 c.self.inside.task.0 c.self.inside.job z.0 (stages.At z.1)) (λ x. (sym place x, sym action x))
+          (found_follows c.args.board.now.known c.self.inside.task.0 c.self.inside.seat.me.0 c.load_half-word.new.seat.me.0 c.self.inside.job c.self.inside.place c.load_half-word.result c.requires.reads.1.0 c.args.instance c.args.slot.0 (actions.Read c.requires.reads.0 c.requires.reads.1 c.args.instance c.args.slot) follows told c.if-is_other.ensures.no)),
     )
 
 pub returns-then-is_other-clause-seat : goal.returns-then-is_other-clause-seat

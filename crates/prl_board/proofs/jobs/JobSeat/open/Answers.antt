@@ -44,9 +44,9 @@ invariant_of-self c =
     let test = c.if-now-at.true in let at = c.release-at.ensures in (
       c.load_now-now.ensures.same.2 ∙ c.self.invariant.0,
       known_once c.load_now-now.new.seat.me.0 c.args.board.now.known (λ k. HasPartOf c.self.inside.task.0 c.load_now-now.new.seat.me.0 → Follows k c.load_now-now.new.seat.me.0 c.self.inside.task.0 c.self.inside.job c.self.inside.place c.self.inside.stage)
-      (ap (λ (v : View). v.constants) c.load_now-now.ensures.told.view ∙ known)
-      (λ has. subst (λ (z : Stage). Follows c.args.board.now.known c.load_now-now.new.seat.me.0 c.self.inside.task.0 c.self.inside.job c.self.inside.place z) (sym idle)
-      (early_follows c.args.board.now.known c.self.inside.task.0 c.self.inside.seat.me.0 c.load_now-now.new.seat.me.0 c.self.inside.job c.self.inside.place c.load_now-now.result follows c.load_now-now.ensures.told (omega (arith, test, at)))),
+          (ap (λ (v : View). v.constants) c.load_now-now.ensures.told.view ∙ known)
+          (λ has. subst (λ (z : Stage). Follows c.args.board.now.known c.load_now-now.new.seat.me.0 c.self.inside.task.0 c.self.inside.job c.self.inside.place z) (sym idle)
+          (early_follows c.args.board.now.known c.self.inside.task.0 c.self.inside.seat.me.0 c.load_now-now.new.seat.me.0 c.self.inside.job c.self.inside.place c.load_now-now.result follows c.load_now-now.ensures.told (omega (arith, test, at)))),
     )
 
 pub returns-then-now-at-clause-seat : goal.returns-then-now-at-clause-seat
@@ -69,9 +69,9 @@ invariant_of-self-2 c =
     let test = c.if-now-at.false in let at = c.release-at.ensures in (
       c.load_now-now.ensures.same.2 ∙ c.self.invariant.0,
       known_once c.load_now-now.new.seat.me.0 c.args.board.now.known (λ k. HasPartOf c.self.inside.task.0 c.load_now-now.new.seat.me.0 → Follows k c.load_now-now.new.seat.me.0 c.self.inside.task.0 c.self.inside.job c.self.inside.place (stages.At c.action.result))
-      (ap (λ (v : View). v.constants) c.load_now-now.ensures.told.view ∙ known)
-      (λ has. subst (λ (x : Action). Follows c.args.board.now.known c.load_now-now.new.seat.me.0 c.self.inside.task.0 c.self.inside.job c.self.inside.place (stages.At x)) (sym c.action.ensures)
-      (open_follows c.args.board.now.known c.self.inside.task.0 c.self.inside.seat.me.0 c.load_now-now.new.seat.me.0 c.self.inside.job c.self.inside.place c.load_now-now.result follows c.load_now-now.ensures.told (omega (arith, test, at)))),
+          (ap (λ (v : View). v.constants) c.load_now-now.ensures.told.view ∙ known)
+          (λ has. subst (λ (x : Action). Follows c.args.board.now.known c.load_now-now.new.seat.me.0 c.self.inside.task.0 c.self.inside.job c.self.inside.place (stages.At x)) (sym c.action.ensures)
+          (open_follows c.args.board.now.known c.self.inside.task.0 c.self.inside.seat.me.0 c.load_now-now.new.seat.me.0 c.self.inside.job c.self.inside.place c.load_now-now.result follows c.load_now-now.ensures.told (omega (arith, test, at)))),
     )
 
 pub returns-clause-seat : goal.returns-clause-seat

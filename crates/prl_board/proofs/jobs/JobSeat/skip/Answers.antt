@@ -34,10 +34,9 @@ invariant_of-self c =
     let follows : Follows c.args.board.now.known c.self.inside.seat.me.0 c.self.inside.task.0 c.self.inside.job c.self.inside.place (stages.At (actions.ReadConst c.requires.reads.0 c.requires.reads.1)) =
     subst (λ (z : Stage). Follows c.args.board.now.known c.self.inside.seat.me.0 c.self.inside.task.0 c.self.inside.job c.self.inside.place z) stage (c.self.invariant.1 c.args.board.now.known known part) in
     let place : c.place_after-self-inside.result ≡ c.self.inside.place + 1 = c.place_after-self-inside.ensures in
-    let action : c.action.result ≡ action_at (run_of c.args.board.now.known) c.self.inside.task.0 c.self.inside.job (c.self.inside.place + 1) = c.action.ensures ∙ ap (action_at (run_of c.args.board.now.known) c.self.inside.task.0 c.self.inside.job) place in
-    (
+    let action : c.action.result ≡ action_at (run_of c.args.board.now.known) c.self.inside.task.0 c.self.inside.job (c.self.inside.place + 1) = c.action.ensures ∙ ap (action_at (run_of c.args.board.now.known) c.self.inside.task.0 c.self.inside.job) place in (
       c.self.invariant.0,
       known_once c.self.inside.seat.me.0 c.args.board.now.known (λ k. HasPartOf c.self.inside.task.0 c.self.inside.seat.me.0 → Follows k c.self.inside.seat.me.0 c.self.inside.task.0 c.self.inside.job c.place_after-self-inside.result (stages.At c.action.result)) known
-      (λ has. subst (λ (z : ℕ × Action). Follows c.args.board.now.known c.self.inside.seat.me.0 c.self.inside.task.0 c.self.inside.job z.0 (stages.At z.1)) (λ x. (sym place x, sym action x))
-      (const_follows c.args.board.now.known c.self.inside.task.0 c.self.inside.seat.me.0 c.self.inside.job c.self.inside.place c.requires.reads.0 c.requires.reads.1 follows)),
+          (λ has. subst (λ (z : ℕ × Action). Follows c.args.board.now.known c.self.inside.seat.me.0 c.self.inside.task.0 c.self.inside.job z.0 (stages.At z.1)) (λ x. (sym place x, sym action x))
+          (const_follows c.args.board.now.known c.self.inside.task.0 c.self.inside.seat.me.0 c.self.inside.job c.self.inside.place c.requires.reads.0 c.requires.reads.1 follows)),
     )
