@@ -32,7 +32,8 @@ use atomic_table::{Play, Split, Table};
 use prl_base::TaskNo;
 use prl_body::Bodies;
 use prl_flow::Sensors;
-use prl_plan::{Action, Horizon, Plan, SlotNo, horizons_are_small, plan_facts, plan_is_one};
+use prl_plan::{Action, Horizon, Plan, SlotNo, plan_facts, plan_is_one};
+use prl_ranges::horizons_are_small;
 use std::alloc::{AllocError, Global};
 use std::marker::{Brand, Model, PhantomData};
 
