@@ -65,6 +65,12 @@ found modes.Replay settings.Sensors = (refl, refl)
 found modes.Replay settings.Schedule = (refl, refl)
 found modes.Replay settings.Node = (refl, refl)
 found modes.Replay settings.Until = (refl, refl)
+found modes.Schedule settings.Program = (refl, refl)
+found modes.Schedule settings.Bodies = (refl, refl)
+found modes.Schedule settings.Sensors = (refl, refl)
+found modes.Schedule settings.Schedule = (refl, refl)
+found modes.Schedule settings.Node = (refl, refl)
+found modes.Schedule settings.Until = (refl, refl)
 
 by_long : (mode : Mode) (s : Setting) → arg_by_long (rules mode) (name_of s) ≡ rule_if (has mode s) mode s
 by_long mode s = (found mode s).0
@@ -83,6 +89,7 @@ no_defaults modes.Plan = (refl, (refl, tt))
 no_defaults modes.Check = (refl, (refl, (refl, tt)))
 no_defaults modes.Flows = (refl, (refl, (refl, (refl, (refl, tt)))))
 no_defaults modes.Replay = (refl, (refl, (refl, (refl, (refl, (refl, tt))))))
+no_defaults modes.Schedule = (refl, (refl, (refl, tt)))
 
 no_default : (a : Rule) (rows : List Row) → a.defaults ≡ [] → with_default rows a ≡ rows
 no_default a rows e = elim (has_row a.id rows) as (λ b. (if b then rows else default_rows a.id (reading_by a) a.defaults rows) ≡ rows) [
@@ -118,6 +125,7 @@ required modes.Plan rows = refl
 required modes.Check rows = refl
 required modes.Flows rows = refl
 required modes.Replay rows = refl
+required modes.Schedule rows = refl
 
 tail_is : (mode : Mode) (rows : List Row) → tail (rules mode) rows ≡ check_kinds false false (lacks mode (λ s. is_given (name_of s) rows))
 tail_is mode rows =
@@ -270,6 +278,7 @@ walk_is modes.Plan name words = by_stop (rules modes.Plan) words (walk (rules mo
 walk_is modes.Check name words = by_stop (rules modes.Check) words (walk (rules modes.Check) [] nothing_held words).stopped
 walk_is modes.Flows name words = by_stop (rules modes.Flows) words (walk (rules modes.Flows) [] nothing_held words).stopped
 walk_is modes.Replay name words = by_stop (rules modes.Replay) words (walk (rules modes.Replay) [] nothing_held words).stopped
+walk_is modes.Schedule name words = by_stop (rules modes.Schedule) words (walk (rules modes.Schedule) [] nothing_held words).stopped
 
 -- the options of the words are the mode's
 abbrev Allowed : Mode → Values → Type 0

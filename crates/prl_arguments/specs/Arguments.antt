@@ -19,6 +19,7 @@ mode_named name =
     else if bytes_eq name (codes "plan") then Some modes.Plan
     else if bytes_eq name (codes "print") then Some modes.Print
     else if bytes_eq name (codes "replay") then Some modes.Replay
+    else if bytes_eq name (codes "schedule") then Some modes.Schedule
     else None
 
 -- the options that a mode needs, and those that it may have
@@ -38,6 +39,9 @@ needs modes.Replay settings.Sensors = true
 needs modes.Replay settings.Schedule = true
 needs modes.Replay settings.Until = true
 needs modes.Replay other = false
+needs modes.Schedule settings.Program = true
+needs modes.Schedule settings.Until = true
+needs modes.Schedule other = false
 
 abbrev pub may : Mode → Setting → Bool
 may modes.Print other = false
@@ -52,6 +56,8 @@ may modes.Flows other = false
 may modes.Replay settings.Bodies = true
 may modes.Replay settings.Node = true
 may modes.Replay other = false
+may modes.Schedule settings.Node = true
+may modes.Schedule other = false
 
 abbrev pub all_settings : List Setting
 all_settings =

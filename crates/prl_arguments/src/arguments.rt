@@ -26,6 +26,8 @@ pub enum Mode {
     Print,
     /// Replays a schedule: writes what the jobs read, and the flows of the actuators.
     Replay,
+    /// Writes a schedule of the program's plan.
+    Schedule,
 }
 
 /// What an option of the command line gives.
@@ -127,6 +129,8 @@ fn mode_named(name: &[u8]) -> Option<Mode>
         Some(Mode::Print)
     } else if name == b"replay".as_slice() {
         Some(Mode::Replay)
+    } else if name == b"schedule".as_slice() {
+        Some(Mode::Schedule)
     } else {
         None
     }
@@ -144,6 +148,8 @@ pub(crate) fn needs(mode: Mode, setting: Setting) -> bool
         (Mode::Replay, Setting::Program | Setting::Sensors | Setting::Schedule | Setting::Until) =>
             true,
         (Mode::Replay, _) => false,
+        (Mode::Schedule, Setting::Program | Setting::Until) => true,
+        (Mode::Schedule, _) => false,
     }
 }
 
@@ -153,8 +159,8 @@ pub(crate) fn may(mode: Mode, setting: Setting) -> bool
 {
     match (mode, setting) {
         (Mode::Print, _) => false,
-        (Mode::Plan, Setting::Node) => true,
-        (Mode::Plan, _) => false,
+        (Mode::Plan | Mode::Schedule, Setting::Node) => true,
+        (Mode::Plan | Mode::Schedule, _) => false,
         (Mode::Check | Mode::Flows | Mode::Replay, Setting::Bodies | Setting::Node) => true,
         (Mode::Check | Mode::Flows | Mode::Replay, _) => false,
     }

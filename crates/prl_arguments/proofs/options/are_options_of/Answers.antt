@@ -14,6 +14,7 @@ simple modes.Flows = refl
 simple modes.Plan = refl
 simple modes.Print = refl
 simple modes.Replay = refl
+simple modes.Schedule = refl
 
 mapped : {A : Type 0} (f : A → List ℕ) (words : List A) → map f (drop 1 words) ≡ drop 1 (map f words)
 mapped f [] = refl
