@@ -27,7 +27,7 @@ use Rattle.prl_solutions.specs.Conditions.{clocks_in, values_in}
 use Rattle.prl_solutions.specs.Uniqueness.{ExactlyOne}
 use Rattle.prl_types.specs.Typing.{IsTyped}
 use Rattle.prl_app.specs.Runs.{named_flows}
-use Rattle.prl_app.specs.code.Outs.{out_flows}
+use Rattle.prl_outputs.specs.Outputs.{out_flows}
 use Rattle.prl_app.proofs.Outputs.{outs_named, outputs_all, outputs_counted, outputs_marked, named_up_to}
 
 -- the laws of the crates below
@@ -59,6 +59,11 @@ module _ (law : Laws) (p : ProgramTree) (asked : Option (List ℕ)) (main : ℕ)
   -- exactly one behaviour satisfies the program
   pub one : ExactlyOne (Satisfies p main bodies rows until)
   one = record { one = found.0; is = found.1; only = only_one }
+
+  -- its flows are those of the solution
+  pub state_is : state_in one.one ≡ solution.state
+  unfolding one
+  state_is = found.2
 
   outputs : outputs_of found.0 ≡ map (flow_at solution.state) (outputs_of expanded.expansion)
   outputs =

@@ -1,9 +1,6 @@
 -- A list of stages comes to one end.
-use Rattle.std.proofs.Common.{◌≡◌, ◌<◌, ◌≤◌, ℕ, length, true, false, List, [], ◌∷◌, Option, Some, None, Result, Ok, Err, refl, sym, ap, ◌∙◌, inl, inr, subst, arith}
-use Rattle.std.specs.Prelude.{Bool, IsTrue}
-use Rattle.prl_base.specs.declared.limits.Limit.{Limit}
+use Rattle.std.proofs.Common.{◌≡◌, ◌<◌, ◌≤◌, ℕ, length, List, [], ◌∷◌, Option, Some, Result, Ok, Err, refl, sym, ap, ◌∙◌, inl, inr, subst, arith}
 use Rattle.prl_base.specs.declared.values.Ty.{Ty}
-use Rattle.prl_base.specs.declared.values.Value.{Value}
 use Rattle.prl_ast.specs.Trees.{ProgramTree}
 use Rattle.prl_syntax.specs.declared.parsing.ParseFault.{ParseFault}
 use Rattle.prl_syntax.specs.Parsing.{IsParsed as IsParsedProgram, IsProgramOf}
@@ -14,8 +11,6 @@ use Rattle.prl_body.specs.Checks.{BodyTree, checked}
 use Rattle.prl_body.specs.Texts.{TextTree}
 use Rattle.prl_bodytext.specs.Parsing.{IsParsed}
 use Rattle.prl_names.specs.Uses.{used_imports}
-use Rattle.prl_chains.specs.declared.chains.Chain.{Chain}
-use Rattle.prl_chains.specs.Chains.{chain_of}
 use Rattle.prl_base.specs.declared.operators.Clock.{Clock}
 use Rattle.prl_ast.specs.InRange.{IsInRange}
 use Rattle.prl_behaviours.specs.Annotations.{flows_in}
@@ -28,16 +23,6 @@ use Rattle.prl_flow.specs.Programs.{FlatProgram, IsFlat}
 use Rattle.prl_flow.specs.Rows.{Rows}
 use Rattle.prl_flow.specs.Uses.{IsCycleLabel}
 use Rattle.prl_flow.specs.Counts.{values_before}
-use Rattle.prl_plan.specs.declared.events.Event.{Event}
-use Rattle.prl_plan.specs.declared.horizons.Horizon.{Horizon}
-use Rattle.prl_plan.specs.Horizons.{IsHorizon, IsPastLimit}
-use Rattle.prl_plan.specs.Plans.{PlanView}
-use Rattle.prl_plan.specs.Rules.{IsLegal, IsComplete}
-use Rattle.prl_core.specs.Machine.{constants}
-use Rattle.prl_replay.specs.Schedules.{schedule_of}
-use Rattle.prl_replay.specs.Replays.{after_all}
-use Rattle.prl_relays.specs.declared.relays.RelayFault.{RelayFault}
-use Rattle.prl_relays.specs.Relays.{Relay, machine, is_in_time, relay_plan, task_names, IsReady, IsHorizonOf, IsReplayText, IsRelayFault}
 use Rattle.prl_sensors.specs.declared.faults.SensorFault.{SensorFault}
 use Rattle.prl_app.specs.declared.faults.Part.TheVariants as parts
 use Rattle.prl_app.specs.declared.faults.Fault.{Fault}
@@ -48,11 +33,11 @@ use Rattle.prl_app.specs.Given.{Given, content_of, text_of}
 use Rattle.prl_app.specs.Parts.{IsProgram, IsMain, AreBodies, RefusesBodies, grammar_fault, types_fault, bodies_fault}
 use Rattle.prl_app.specs.Flattened.{IsFlattened, HasClocks, clock_fault}
 use Rattle.prl_app.specs.Runs.{too_many, rows_for, sensors_fault}
-use Rattle.prl_app.specs.Built.{IsFormed, HasRelayRows, IsWholeRun, Tells, relay_of, relay_rows_for}
-use Rattle.prl_app.specs.code.Told.{told_parse, told_types, told_clocks, told_body, told_relay, told_sensors}
+use Rattle.prl_app.specs.code.Told.{told_parse, told_types, told_clocks, told_body, told_sensors}
 use Rattle.prl_app.proofs.OneCycle.{no_label, one_label}
-use Rattle.prl_app.proofs.OnePlan.{PlanLaws, cells_apart, cells_one, dates_apart, dates_one, graph_apart, graph_one, words_apart, words_one}
-use Rattle.prl_app.proofs.Told.{grammar_told, types_told, clocks_told, bodies_told, sensors_told, schedule_told, same_told, some_some}
+use Rattle.prl_app.proofs.OnePlan.{PlanLaws, cells_apart, cells_one, dates_apart, dates_one, graph_apart, graph_one, one_graph, words_apart, words_one}
+use Rattle.prl_app.proofs.OneRun.{RunLaws, horizon_apart, horizon_one, schedule_apart, schedule_one}
+use Rattle.prl_app.proofs.Told.{grammar_told, types_told, clocks_told, bodies_told, sensors_told, same_told}
 use Rattle.prl_app.specs.Stages.{Holds, Refuses, Comes}
 
 -- the laws of the crates below
@@ -66,14 +51,7 @@ pub record Laws : Type 0 where
       → IsExpansion p main e → length (flows_in e) ≤ 4096 → IsFlat (flat_of p types main e)
   pub clocks : (p : FlatProgram) → IsFlat p → (one other : Result (List Clock) ClockFault) → IsClockOutcome p one → IsClockOutcome p other → one ≡ other
   pub plans : PlanLaws
-  pub horizon_or_limit : (plan : PlanView) (until : ℕ) (horizon : Horizon) (limit : Limit) → IsHorizon plan horizon → horizon.until ≡ until
-      → IsPastLimit plan until limit → ⊥
-  pub one_limit : (plan : PlanView) (until : ℕ) (a b : Limit) → IsPastLimit plan until a → IsPastLimit plan until b → a ≡ b
-  pub replay_or_fault : (r : Relay) (schedule text : List ℕ) (fault : RelayFault) → IsReplayText r schedule text → IsRelayFault r schedule fault → ⊥
-  pub one_fault : (r : Relay) (schedule : List ℕ) (a b : RelayFault) → IsRelayFault r schedule a → IsRelayFault r schedule b → a ≡ b
-  pub whole_run : (r : Relay) (horizon : Horizon) (schedule : List ℕ) (events : List Event) → IsReady r → IsHorizonOf r horizon
-      → schedule_of (task_names r.chain) schedule ≡ Ok events → IsLegal (constants (machine r horizon)) (machine r horizon).state events
-      → IsComplete (constants (machine r horizon)) (after_all (machine r horizon) events).state → (text : List ℕ) × IsReplayText r schedule text
+  pub runs : RunLaws
 
 ok_ok : {A F : Type 0} (r : Result A F) (a b : A) → r ≡ Ok a → r ≡ Ok b → a ≡ b
 ok_ok r a b h k = cc
@@ -83,12 +61,6 @@ err_err r a b h k = cc
 
 ok_err : {A F : Type 0} (r : Result A F) (a : A) (b : F) → r ≡ Ok a → r ≡ Err b → ⊥
 ok_err r a b h k = cc
-
-some_none : {A : Type 0} (r : Option A) (a : A) → r ≡ Some a → r ≡ None → ⊥
-some_none r a h k = cc
-
-true_false : (b : Bool) → b ≡ true → b ≡ false → ⊥
-true_false b h k = cc
 
 abbrev failed : TypeFault → Result (ℕ × List Ty) TypeFault
 failed fault = Err fault
@@ -120,10 +92,10 @@ module _ (law : Laws) (g : Given) where
   one_node p a b s t h k =
       ok_main (a, s) (b, t) (law.one p g.node (Ok (a, s)) (Ok (b, t)) h k)
 
-  one_program : (p q : ProgramTree) → IsProgram g p → IsProgram g q → p ≡ q
+  pub one_program : (p q : ProgramTree) → IsProgram g p → IsProgram g q → p ≡ q
   one_program p q h k = ok_ok (Ok p) p q refl (law.programs (text_of g parts.Program) (Ok p) (Ok q) h.written k.written)
 
-  one_main : (p : ProgramTree) (main : ℕ) (q : ProgramTree) (other : ℕ) → IsMain g p main → IsMain g q other → main ≡ other
+  pub one_main : (p : ProgramTree) (main : ℕ) (q : ProgramTree) (other : ℕ) → IsMain g p main → IsMain g q other → main ≡ other
   one_main p main q other h k =
       let same = one_program q p k.program h.program in
       let typed : IsTyped p g.node other k.types = subst (λ (x : ProgramTree). IsTyped x g.node other k.types) same k.typed in
@@ -144,7 +116,7 @@ module _ (law : Laws) (g : Given) where
       let here : IsExpansion p main b = subst (λ (x : ℕ). IsExpansion p x b) (one_main q other p main k h) at in
       law.expansions p main a b is here
 
-  one_flat : (a b : FlatProgram) → IsFlattened g a → IsFlattened g b → a ≡ b
+  pub one_flat : (a b : FlatProgram) → IsFlattened g a → IsFlattened g b → a ≡ b
   one_flat a b h k =
       let programs = one_program h.program k.program h.is_main.program k.is_main.program in
       let mains = one_main h.program h.main k.program k.main h.is_main k.is_main in
@@ -157,13 +129,13 @@ module _ (law : Laws) (g : Given) where
       ∙ ap (λ (x : Expansion). flat_of k.program k.is_main.types k.main x) expansions)
       ∙ sym k.expanded.flat_is
 
-  is_flat : (flat : FlatProgram) → IsFlattened g flat → IsFlat flat
+  pub is_flat : (flat : FlatProgram) → IsFlattened g flat → IsFlat flat
   is_flat flat h =
       let range = law.ranges (text_of g parts.Program) h.program h.is_main.program.written in
       subst IsFlat (sym h.expanded.flat_is)
       (law.formed h.program g.node h.main h.is_main.types h.expanded.expansion range h.is_main.typed h.expanded.is h.expanded.few)
 
-  one_clocks : (p q : FlatProgram) (a b : List Clock) → HasClocks g p a → HasClocks g q b → a ≡ b
+  pub one_clocks : (p q : FlatProgram) (a b : List Clock) → HasClocks g p a → HasClocks g q b → a ≡ b
   one_clocks p q a b h k =
       let same = one_flat q p k.causal.flattened h.causal.flattened in
       let only : AreOnlyClocks p b = subst (λ (x : FlatProgram). AreOnlyClocks x b) same k.only in
@@ -205,36 +177,6 @@ module _ (law : Laws) (g : Given) where
     ]
   ]
 
-  one_chain : (a b : Chain) → IsFormed g a → IsFormed g b → a ≡ b
-  one_chain a b h k =
-      let same = one_program k.program h.program k.is_program h.is_program in
-      some_some (chain_of h.program) a b h.formed (subst (λ (x : ProgramTree). chain_of x ≡ Some b) same k.formed)
-
-  values_in : (rows : Result Rows SensorFault) (xs ys : List Value) → rows ≡ Ok (xs ∷ []) → rows ≡ Ok (ys ∷ []) → xs ≡ ys
-  values_in rows xs ys h k = cc
-
-  one_rows : (a b : Chain) (xs ys : List Value) → HasRelayRows g a xs → HasRelayRows g b ys → xs ≡ ys
-  one_rows a b xs ys h k =
-      let same = one_chain b a k.formed h.formed in
-      values_in (relay_rows_for g a) xs ys h.rows (subst (λ (c : Chain). relay_rows_for g c ≡ Ok (ys ∷ [])) same k.rows)
-
-  -- a fault of the schedule for one chain and its rows is one for any
-  moved_fault : (a b : Chain) (xs ys : List Value) (cause : RelayFault) → HasRelayRows g a xs → HasRelayRows g b ys
-      → IsRelayFault (relay_of g a xs) (text_of g parts.Schedule) cause → IsRelayFault (relay_of g b ys) (text_of g parts.Schedule) cause
-  moved_fault a b xs ys cause h k fault =
-      let at = subst (λ (vs : List Value). IsRelayFault (relay_of g a vs) (text_of g parts.Schedule) cause) (one_rows a b xs ys h k) fault in
-      subst (λ (c : Chain). IsRelayFault (relay_of g c ys) (text_of g parts.Schedule) cause) (one_chain a b h.formed k.formed) at
-
-  timely_true : (c : Chain) → is_in_time c ≡ true → IsTrue (is_in_time c)
-  timely_true c e = rw e refl
-
-  -- a whole run has a text
-  whole_text : (c : Chain) (values : List Value) (h : Horizon) → IsWholeRun g c values h → (text : List ℕ) × IsReplayText (relay_of g c values) (text_of g parts.Schedule) text
-  whole_text c values h w =
-      law.whole_run (relay_of g c values) h (text_of g parts.Schedule) w.events
-      (record { chain = w.has_horizon.timely.formed.is_chain; in_time = timely_true c w.has_horizon.timely.timely; values = w.rows.each })
-      w.has_horizon.horizon w.written w.legal w.complete
-
   moved_rows : (p q : FlatProgram) (a b : List Clock) (r : Result Rows SensorFault) → HasClocks g p a → HasClocks g q b → rows_for g p a ≡ r → rows_for g q b ≡ r
   moved_rows p q a b r h k e =
       let at : rows_for g q a ≡ r = subst (λ (x : FlatProgram). rows_for g x a ≡ r) (one_flat p q h.causal.flattened k.causal.flattened) e in
@@ -269,27 +211,12 @@ module _ (law : Laws) (g : Given) where
   apart stages.Bodies f h k =
       let fault = bodies_fault k.3 in
       bodies_apart h.0 fault h.1 (moved_bodies k.0 k.1 h.1.program h.1.main fault k.2 h.1.is_main k.4)
-  apart stages.Form f h k =
-      let same = one_program k.0 h.1.program k.1 h.1.is_program in
-      some_none (chain_of h.1.program) h.0 h.1.formed (subst (λ (p : ProgramTree). chain_of p ≡ None) same k.2)
-  apart stages.Timing f h k =
-      let late : is_in_time h.0 ≡ false = subst (λ (c : Chain). is_in_time c ≡ false) (one_chain k.0 h.0 k.1 h.1.formed) k.2 in
-      true_false (is_in_time h.0) h.1.timely late
-  apart stages.Horizon f h k =
-      let same = one_chain k.0 h.0 k.1.formed h.2.timely.formed in
-      law.horizon_or_limit (relay_plan h.0) g.until h.1 k.2 h.2.horizon.0 h.2.horizon.1 (subst (λ (c : Chain). IsPastLimit (relay_plan c) g.until k.2) same k.3)
-  apart stages.RelayRows f h k =
-      let fault = sensors_fault k.2 in
-      let at = subst (λ (c : Chain). relay_rows_for g c ≡ Err fault) (one_chain k.0 h.0 k.1 h.2.formed) k.3 in
-      ok_err (relay_rows_for g h.0) (h.1 ∷ []) fault h.2.rows at
+  apart stages.Horizon f h k = horizon_apart law.runs g (one_graph law.plans g one_flat one_clocks) h.0 h.1 f h.2 k
   apart stages.Rows f h k =
       let fault = sensors_fault k.3 in
       let at = moved_rows k.0 h.0 k.1 h.1 (Err fault) k.2 h.3.clocked k.4 in
       ok_err (rows_for g h.0 h.1) h.2 fault h.3.read at
-  apart stages.Schedule f h k =
-      let text = whole_text h.0 h.1 h.2 h.3 in
-      let fault = moved_fault k.0 h.0 k.1 h.1 k.3 k.2 h.3.rows k.4 in
-      law.replay_or_fault (relay_of g h.0 h.1) (text_of g parts.Schedule) text.0 k.3 text.1 fault
+  apart stages.Schedule f h k = schedule_apart law.runs g (one_graph law.plans g one_flat one_clocks) h.0 h.1 f h.2 k
   apart stages.Values f h k =
       let few = h.3 in
       let many = subst (λ (clocks : List Clock). MAX_VALUES < values_before g.until clocks) (one_clocks k.0 h.0 k.1 h.1 k.2 h.2) k.3 in omega (arith, few, many)
@@ -328,29 +255,13 @@ module _ (law : Laws) (g : Given) where
       let y = bodies_fault k.3 in
       let at = moved_bodies k.0 k.1 h.0 h.1 y k.2 h.2 k.4 in
       same_told told_body x y (faults.Bodies h.3) (faults.Bodies k.3) a b (one_body_fault h.0 h.1 x y h.4 at) (bodies_told h.3) h.5 (bodies_told k.3) k.5
-  one stages.Form a b h k = h.3 ∙ sym k.3
-  one stages.Timing a b h k = h.3 ∙ sym k.3
-  one stages.Horizon a b h k =
-      let same = one_chain k.0 h.0 k.1.formed h.1.formed in
-      let limit = subst (λ (c : Chain). IsPastLimit (relay_plan c) g.until k.2) same k.3 in
-      h.4 ∙ ap faults.Limit (law.one_limit (relay_plan h.0) g.until h.2 k.2 h.3 limit) ∙ sym k.4
-  one stages.RelayRows a b h k =
-      let x = sensors_fault h.2 in
-      let y = sensors_fault k.2 in
-      let at = subst (λ (c : Chain). relay_rows_for g c ≡ Err y) (one_chain k.0 h.0 k.1 h.1) k.3 in
-      same_told told_sensors x y (faults.Sensors h.2) (faults.Sensors k.2) a b (err_err (relay_rows_for g h.0) x y h.3 at) (sensors_told h.2) h.4 (sensors_told k.2) k.4
+  one stages.Horizon a b h k = horizon_one law.runs g (one_graph law.plans g one_flat one_clocks) a b h k
   one stages.Rows a b h k =
       let x = sensors_fault h.3 in
       let y = sensors_fault k.3 in
       let at = moved_rows k.0 h.0 k.1 h.1 (Err y) k.2 h.2 k.4 in
       same_told told_sensors x y (faults.Sensors h.3) (faults.Sensors k.3) a b (err_err (rows_for g h.0 h.1) x y h.4 at) (sensors_told h.3) h.5 (sensors_told k.3) k.5
-  one stages.Schedule a b h k =
-      let fault = moved_fault k.0 h.0 k.1 h.1 k.3 k.2 h.2 k.4 in
-      let same = law.one_fault (relay_of g h.0 h.1) (text_of g parts.Schedule) h.3 k.3 h.4 fault in
-      let chains = one_chain h.0 k.0 h.2.formed k.2.formed in
-      let here = subst (λ (c : Chain). Tells c h.5 h.3) chains h.6 in
-      same_told (told_relay k.0) h.3 k.3 (faults.Schedule h.5) (faults.Schedule k.5) a b same
-      (schedule_told k.0 h.5 h.3 here) h.7 (schedule_told k.0 k.5 k.3 k.6) k.7
+  one stages.Schedule a b h k = schedule_one law.runs g (one_graph law.plans g one_flat one_clocks) a b h k
   one stages.Values a b h k =
       h.4 ∙ ap (λ (clocks : List Clock). too_many (values_before g.until clocks)) (one_clocks h.0 k.0 h.1 k.1 h.2 k.2) ∙ sym k.4
 

@@ -121,7 +121,7 @@ module _ (graph : TaskGraph) where
 
 module _ (law : PlanLaws) (g : Given) (one_flat : (a b : FlatProgram) → IsFlattened g a → IsFlattened g b → a ≡ b)
     (one_clocks : (p q : FlatProgram) (a b : List Clock) → HasClocks g p a → HasClocks g q b → a ≡ b) where
-  one_graph : (a b : TaskGraph) → HasGraph g a → HasGraph g b → a ≡ b
+  pub one_graph : (a b : TaskGraph) → HasGraph g a → HasGraph g b → a ≡ b
   one_graph a b h k =
       let flats = one_flat k.flat h.flat k.clocked.causal.flattened h.clocked.causal.flattened in
       let clocks = one_clocks k.flat h.flat k.clocks h.clocks k.clocked h.clocked in

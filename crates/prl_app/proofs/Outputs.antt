@@ -20,7 +20,7 @@ use Rattle.prl_flow.specs.Solutions.{clock_of, values_of}
 use Rattle.prl_flow.specs.States.{IsTimed, State, Timed, flow_at}
 use Rattle.prl_solutions.specs.Conditions.{clocks_in, values_in}
 use Rattle.prl_app.specs.Runs.{named_flows}
-use Rattle.prl_app.specs.code.Outs.{out_flows}
+use Rattle.prl_outputs.specs.Outputs.{out_flows}
 
 -- the first that is left of a list stands at its number, and those after it are left after it
 first_left : {A : Type 0} (xs : List A) (k : ℕ) (d x : A) (rest : List A) → drop k xs ≡ x ∷ rest → slice_index_or xs k d ≡ x

@@ -12,7 +12,6 @@ use Rattle.prl_types.specs.Typing.{FailsWith}
 use Rattle.prl_body.specs.declared.faults.BodyFault.{BodyFault}
 use Rattle.prl_body.specs.declared.faults.BodyFault.TheVariants as body_faults
 use Rattle.prl_base.specs.declared.operators.Clock.{Clock}
-use Rattle.prl_base.specs.declared.values.Value.{Value}
 use Rattle.prl_flow.specs.Counts.{values_before}
 use Rattle.prl_flow.specs.Programs.{FlatProgram}
 use Rattle.prl_expansion.specs.Expanding.{IsExpandFault}
@@ -38,9 +37,6 @@ use Rattle.prl_plan.specs.declared.tables.Window.{Window}
 use Rattle.prl_evaluation.specs.Evaluations.{IsFlowFault}
 use Rattle.prl_evaluation.specs.declared.evaluation.FlowFault.{FlowFault}
 use Rattle.prl_evaluation.specs.declared.evaluation.FlowFault.TheVariants as flow_faults
-use Rattle.prl_chains.specs.declared.chains.Chain.{Chain}
-use Rattle.prl_relays.specs.Relays.{IsRelayFault}
-use Rattle.prl_relays.specs.declared.relays.RelayFault.{RelayFault}
 use Rattle.prl_sensors.specs.declared.faults.SensorFault.{SensorFault}
 use Rattle.prl_sensors.specs.declared.faults.SensorFault.TheVariants as sensor_faults
 use Rattle.prl_app.specs.declared.faults.Part.{Part}
@@ -64,11 +60,9 @@ use Rattle.prl_app.specs.Parts.{IsProgram, IsMain, RefusesBodies}
 use Rattle.prl_app.specs.Flattened.{IsFlattened, IsCausal, HasClocks}
 use Rattle.prl_app.specs.Planned.{HasDates, HasGraph}
 use Rattle.prl_app.specs.Runs.{rows_for}
-use Rattle.prl_app.specs.Built.{HasRelayRows, IsFormed, relay_of, relay_rows_for}
 use Rattle.prl_app.specs.Stages.{Comes, files, stages_after}
-use Rattle.prl_app.specs.code.Stops.{given_of, StopsAt, StopsBy, StopsIn, AllHold, IsFileStop, IsStopOfFiles, IsAnswerStop}
-use Rattle.prl_app.specs.code.Told.{stop_of, told_parse, told_types, told_expand, told_causal, told_clocks, told_graph, told_words, told_cells, told_body, told_sensors, told_flow, told_relay}
-use Rattle.prl_app.proofs.Told.{schedule_refusal}
+use Rattle.prl_app.specs.code.Stops.{given_of, StopsAt, StopsIn, AllHold, IsFileStop, IsStopOfFiles, IsAnswerStop}
+use Rattle.prl_app.specs.code.Told.{stop_of, told_parse, told_types, told_expand, told_causal, told_clocks, told_graph, told_words, told_cells, told_body, told_sensors, told_flow}
 
 -- the grammar refuses
 pub grammar_stop : (g : Given) (fault : ParseFault) (stop : Stop) → (fault ≢ parsing.Memory → IsParsed (text_of g parts.Program) (Err fault))
@@ -160,31 +154,12 @@ rows_stop g p clocks (sensor_faults.Value number) stop h e is = subst (StopsAt g
 rows_stop g p clocks (sensor_faults.Short name have need) stop h e is = subst (StopsAt g stages.Rows) (sym is) (refl, (p, clocks, h, bad_rows.Short name have need, e (λ k. cc), refl))
 rows_stop g p clocks sensor_faults.Memory stop h e is = subst (StopsAt g stages.Rows) (sym is) tt
 
-pub relay_rows_stop : (g : Given) (c : Chain) (fault : SensorFault) (stop : Stop) → IsFormed g c
-    → (fault ≢ sensor_faults.Memory → relay_rows_for g c ≡ Err fault)
-    → stop ≡ stop_of stages.RelayRows (told_sensors fault) → StopsAt g stages.RelayRows stop
-relay_rows_stop g c (sensor_faults.Row number) stop h e is = subst (StopsAt g stages.RelayRows) (sym is) (refl, (c, h, bad_rows.Row number, e (λ k. cc), refl))
-relay_rows_stop g c (sensor_faults.NoSensor number) stop h e is = subst (StopsAt g stages.RelayRows) (sym is) (refl, (c, h, bad_rows.NoSensor number, e (λ k. cc), refl))
-relay_rows_stop g c (sensor_faults.Order number) stop h e is = subst (StopsAt g stages.RelayRows) (sym is) (refl, (c, h, bad_rows.Order number, e (λ k. cc), refl))
-relay_rows_stop g c (sensor_faults.Value number) stop h e is = subst (StopsAt g stages.RelayRows) (sym is) (refl, (c, h, bad_rows.Value number, e (λ k. cc), refl))
-relay_rows_stop g c (sensor_faults.Short name have need) stop h e is = subst (StopsAt g stages.RelayRows) (sym is) (refl, (c, h, bad_rows.Short name have need, e (λ k. cc), refl))
-relay_rows_stop g c sensor_faults.Memory stop h e is = subst (StopsAt g stages.RelayRows) (sym is) tt
-
 -- the flows have too many values
 pub values_stop : (g : Given) (p : FlatProgram) (clocks : List Clock) (fault : FlowFault) (stop : Stop) → HasClocks g p clocks
     → IsFlowFault (values_before g.until clocks) fault → stop ≡ stop_of stages.Values (told_flow fault) → StopsAt g stages.Values stop
 values_stop g p clocks (flow_faults.Limit limit) stop h e is =
     subst (StopsAt g stages.Values) (sym is) (refl, (p, clocks, h, e.1, ap faults.Limit e.0))
 values_stop g p clocks flow_faults.Memory stop h e is = subst (StopsAt g stages.Values) (sym is) tt
-
--- the schedule refuses
-pub schedule_stop : (g : Given) (c : Chain) (values : List Value) (cause : RelayFault) (stop : Stop) → HasRelayRows g c values
-    → ((told : Fault) → told_relay c cause ≡ Some told → IsRelayFault (relay_of g c values) (text_of g parts.Schedule) cause)
-    → StopsBy stages.Schedule (λ told. told_relay c cause ≡ Some told) stop → StopsAt g stages.Schedule stop
-schedule_stop g c values cause (stops.Unread part) h e is = is
-schedule_stop g c values cause (stops.Refused stage fault) h e is =
-    let r = schedule_refusal c cause fault is.1 in (is.0, (c, values, h, cause, e fault is.1, r.0, r.1, r.2))
-schedule_stop g c values cause stops.Memory h e is = is
 
 -- a stop of a list is a refusal of it
 pub stops_comes : (g : Given) (list : List Stage) (stage : Stage) (fault : Fault) → StopsIn g list (stops.Refused stage fault) → Comes g list (Some (stage, fault))

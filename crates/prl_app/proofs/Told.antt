@@ -1,8 +1,5 @@
 -- Refusals and the faults of the crates below that they tell.
-use Rattle.std.proofs.Common.{◌≡◌, Option, Some, None, refl, sym, ap, ◌∙◌}
-use Rattle.prl_chains.specs.declared.chains.Chain.{Chain}
-use Rattle.prl_relays.specs.declared.relays.RelayFault.{RelayFault}
-use Rattle.prl_relays.specs.declared.relays.RelayFault.TheVariants as relays
+use Rattle.std.proofs.Common.{◌≡◌, Option, Some, refl, sym, ap, ◌∙◌}
 use Rattle.prl_app.specs.declared.faults.GrammarRefusal.{GrammarRefusal}
 use Rattle.prl_app.specs.declared.faults.GrammarRefusal.TheVariants as bad_grammar
 use Rattle.prl_app.specs.declared.faults.TypesRefusal.{TypesRefusal}
@@ -15,16 +12,13 @@ use Rattle.prl_app.specs.declared.faults.BodiesRefusal.{BodiesRefusal}
 use Rattle.prl_app.specs.declared.faults.BodiesRefusal.TheVariants as bad_bodies
 use Rattle.prl_app.specs.declared.faults.SensorsRefusal.{SensorsRefusal}
 use Rattle.prl_app.specs.declared.faults.SensorsRefusal.TheVariants as bad_rows
-use Rattle.prl_app.specs.declared.faults.ScheduleRefusal.{ScheduleRefusal}
-use Rattle.prl_app.specs.declared.faults.ScheduleRefusal.TheVariants as bad_schedule
 use Rattle.prl_app.specs.declared.faults.Fault.{Fault}
 use Rattle.prl_app.specs.declared.faults.Fault.TheVariants as faults
 use Rattle.prl_app.specs.Parts.{grammar_fault, types_fault, bodies_fault}
 use Rattle.prl_app.specs.Flattened.{clock_fault}
 use Rattle.prl_app.specs.Planned.{graph_fault}
 use Rattle.prl_app.specs.Runs.{sensors_fault}
-use Rattle.prl_app.specs.Built.{Tells, device_name}
-use Rattle.prl_app.specs.code.Told.{told_parse, told_types, told_clocks, told_graph, told_body, told_sensors, told_relay}
+use Rattle.prl_app.specs.code.Told.{told_parse, told_types, told_clocks, told_graph, told_body, told_sensors}
 
 -- the fault of a refusal is told as that refusal
 pub grammar_told : (r : GrammarRefusal) → told_parse (grammar_fault r) ≡ Some (faults.Grammar r)
@@ -68,30 +62,6 @@ sensors_told (bad_rows.NoSensor number) = refl
 sensors_told (bad_rows.Order number) = refl
 sensors_told (bad_rows.Value number) = refl
 sensors_told (bad_rows.Short name have need) = refl
-
-pub schedule_told : (c : Chain) (r : ScheduleRefusal) (cause : RelayFault) → Tells c r cause → told_relay c cause ≡ Some (faults.Schedule r)
-schedule_told c (bad_schedule.Syntax line) cause h = rw h refl
-schedule_told c (bad_schedule.Illegal line rule) cause h = rw h refl
-schedule_told c (bad_schedule.Unfinished name job) cause h = rw (h.1, h.2) refl
-
-the : {A : Type 0} (a b : A) → Some a ≡ Some b → a ≡ b
-the a b e = cc
-
-none_some : {A : Type 0} (a : A) → None ≡ Some a → ⊥
-none_some a e = cc
-
--- a fault of a schedule that is told has a refusal
-pub schedule_refusal : (c : Chain) (cause : RelayFault) (fault : Fault) → told_relay c cause ≡ Some fault
-    → (r : ScheduleRefusal) × Tells c r cause × (fault ≡ faults.Schedule r)
-schedule_refusal c (relays.Syntax line) fault e = (bad_schedule.Syntax line, refl, sym (the (faults.Schedule (bad_schedule.Syntax line)) fault e))
-schedule_refusal c (relays.Illegal line rule) fault e =
-    (bad_schedule.Illegal line rule, refl, sym (the (faults.Schedule (bad_schedule.Illegal line rule)) fault e))
-schedule_refusal c (relays.Unfinished task job) fault e = (
-  bad_schedule.Unfinished (device_name c task.0) job,
-  (task, refl, refl),
-  sym (the (faults.Schedule (bad_schedule.Unfinished (device_name c task.0) job)) fault e),
-)
-schedule_refusal c relays.Memory fault e = absurd (none_some fault e)
 
 pub some_some : {A : Type 0} (r : Option A) (a b : A) → r ≡ Some a → r ≡ Some b → a ≡ b
 some_some r a b h k = cc

@@ -28,7 +28,6 @@ use Rattle.prl_app.specs.declared.faults.SensorsRefusal.TheVariants as bad_rows
 use Rattle.prl_app.specs.declared.faults.ScheduleRefusal.{ScheduleRefusal}
 use Rattle.prl_app.specs.declared.faults.ScheduleRefusal.TheVariants as bad_schedule
 use Rattle.prl_app.specs.declared.faults.Part.{Part}
-use Rattle.prl_app.specs.declared.faults.Part.TheVariants as parts
 use Rattle.prl_app.specs.declared.faults.Fault.{Fault}
 use Rattle.prl_app.specs.declared.faults.Fault.TheVariants as faults
 use Rattle.prl_app.specs.declared.stages.Stop.{Stop}
@@ -148,7 +147,6 @@ line_of_fault command (faults.Clocks refusal) = clocks_line refusal
 line_of_fault command (faults.Graph refusal) = graph_line refusal
 line_of_fault command (faults.Dates refusal) = dates_line refusal
 line_of_fault command (faults.Bodies refusal) = bodies_line refusal
-line_of_fault command faults.NotBuilt = named_line (codes "9 not built ") (file_name command parts.Program)
 line_of_fault command (faults.Sensors refusal) = sensors_line refusal
 line_of_fault command (faults.Limit limit) = limit_line limit
 line_of_fault command (faults.Schedule refusal) = schedule_line refusal

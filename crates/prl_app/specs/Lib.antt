@@ -8,8 +8,10 @@ pub mod Flattened
 pub mod Runs
 -- The plan of a program, and what is written of it.
 pub mod Planned
--- Scaffolding: the programs and plans that replays are built for so far.
-pub mod Built
+-- The horizon of a plan, and the schedule that is written for it.
+pub mod Scheduled
+-- Which schedules are refused, and the text of a replay.
+pub mod Replayed
 -- The stages, and the modes as lists of them.
 pub mod Stages
 -- The lines on err.

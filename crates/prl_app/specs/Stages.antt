@@ -4,11 +4,9 @@ use Rattle.prl_ast.specs.Trees.{ProgramTree}
 use Rattle.prl_syntax.specs.Parsing.{IsParsed}
 use Rattle.prl_types.specs.Typing.{IsFault}
 use Rattle.prl_body.specs.Checks.{BodyTree}
-use Rattle.prl_base.specs.declared.values.Value.{Value}
 use Rattle.prl_base.specs.declared.operators.Clock.{Clock}
 use Rattle.prl_flow.specs.Programs.{FlatProgram}
 use Rattle.prl_flow.specs.Rows.{Rows}
-use Rattle.prl_chains.specs.declared.chains.Chain.{Chain}
 use Rattle.prl_plan.specs.declared.graphs.TaskGraph.{TaskGraph}
 use Rattle.prl_plan.specs.declared.horizons.Horizon.{Horizon}
 use Rattle.prl_plan.specs.declared.tables.Window.{Window}
@@ -31,9 +29,9 @@ use Rattle.prl_app.specs.Given.{Given, content_of, text_of}
 use Rattle.prl_app.specs.Parts.{IsProgram, IsMain, AreBodies, RefusesBodies, grammar_fault, types_fault, bodies_fault}
 use Rattle.prl_app.specs.Flattened.{IsFlattened, IsCausal, HasClocks, RefusesExpansion, RefusesCausality, RefusesClocks}
 use Rattle.prl_app.specs.Planned.{HasGraph, HasWords, HasDates, HasPlan, RefusesGraph, RefusesWords, RefusesDates, RefusesCells, accepted_line}
-use Rattle.prl_app.specs.Built.{IsFormed, IsTimely, HasHorizon, HasRelayRows, relay_of, IsWholeRun, RefusesForm, RefusesTiming, RefusesHorizon, RefusesRelayRows, RefusesSchedule}
-use Rattle.prl_relays.specs.Relays.{IsReplayText}
+use Rattle.prl_app.specs.Replayed.{IsReplayText, IsWholeRun, RefusesSchedule}
 use Rattle.prl_app.specs.Runs.{HasRows, HasFewValues, IsFlowsText, RefusesRows, RefusesValues}
+use Rattle.prl_app.specs.Scheduled.{HasHorizon, IsScheduleText, RefusesHorizon}
 
 -- a stage finds what it looks for
 abbrev pub Holds : Given → Stage → Type 0
@@ -48,12 +46,9 @@ Holds g stages.Words = (graph : TaskGraph) × (words : List Word) × HasWords g 
 Holds g stages.Bodies = (trees : List BodyTree) × AreBodies g trees
 Holds g stages.Dates = (graph : TaskGraph) × (windows : List (List Window)) × HasDates g graph windows
 Holds g stages.Cells = (plan : PlanView) × HasPlan g plan
-Holds g stages.Form = (c : Chain) × IsFormed g c
-Holds g stages.Timing = (c : Chain) × IsTimely g c
-Holds g stages.Horizon = (c : Chain) × (h : Horizon) × HasHorizon g c h
-Holds g stages.RelayRows = (c : Chain) × (values : List Value) × HasRelayRows g c values
+Holds g stages.Horizon = (plan : PlanView) × (horizon : Horizon) × HasHorizon g plan horizon
 Holds g stages.Rows = (flat : FlatProgram) × (clocks : List Clock) × (rows : Rows) × HasRows g flat clocks rows
-Holds g stages.Schedule = (c : Chain) × (values : List Value) × (h : Horizon) × IsWholeRun g c values h
+Holds g stages.Schedule = (plan : PlanView) × (horizon : Horizon) × IsWholeRun g plan horizon
 Holds g stages.Values = HasFewValues g
 
 -- a stage refuses with a fault, where the stages that it stands on hold
@@ -73,10 +68,7 @@ Refuses g stages.Bodies fault =
     × RefusesBodies p main (text_of g parts.Bodies) (bodies_fault refusal) × (fault ≡ faults.Bodies refusal)
 Refuses g stages.Dates fault = RefusesDates g fault
 Refuses g stages.Cells fault = RefusesCells g fault
-Refuses g stages.Form fault = RefusesForm g fault
-Refuses g stages.Timing fault = RefusesTiming g fault
 Refuses g stages.Horizon fault = RefusesHorizon g fault
-Refuses g stages.RelayRows fault = RefusesRelayRows g fault
 Refuses g stages.Rows fault = RefusesRows g fault
 Refuses g stages.Schedule fault = RefusesSchedule g fault
 Refuses g stages.Values fault = RefusesValues g fault
@@ -112,14 +104,14 @@ graphed = stages.Graph ∷ stages.Words ∷ []
 abbrev pub planned : List Stage
 planned = stages.Dates ∷ stages.Cells ∷ []
 
--- scaffolding: the stages of a replay, after those that all programs have
-abbrev pub relayed : List Stage
-relayed = stages.Form ∷ stages.Timing ∷ stages.Horizon ∷ stages.RelayRows ∷ stages.Schedule ∷ []
-
 -- the bodies, in a mode that looks at them only where they are named
 abbrev pub named_bodies : Bool → List Stage
 named_bodies true = stages.Bodies ∷ []
 named_bodies false = []
+
+-- what a replay has after the clocks
+abbrev pub executed : List Stage
+executed = graphed ++ (stages.Bodies ∷ []) ++ planned ++ stages.Horizon ∷ stages.Rows ∷ stages.Schedule ∷ []
 
 -- the stages of a mode after the files, where bodies are named or not
 abbrev pub stages_after : Mode → Bool → List Stage
@@ -127,7 +119,8 @@ stages_after modes.Print bodies = stages.Grammar ∷ []
 stages_after modes.Plan bodies = front ++ graphed ++ planned
 stages_after modes.Check bodies = front ++ graphed ++ named_bodies bodies ++ planned
 stages_after modes.Flows bodies = front ++ stages.Bodies ∷ stages.Rows ∷ stages.Values ∷ []
-stages_after modes.Replay bodies = front ++ graphed ++ (stages.Bodies ∷ []) ++ planned ++ relayed
+stages_after modes.Schedule bodies = front ++ graphed ++ planned ++ (stages.Horizon ∷ [])
+stages_after modes.Replay bodies = front ++ executed
 
 -- the stages of a command
 abbrev pub stages_of : Command → List Stage
@@ -139,6 +132,5 @@ IsText g modes.Print text = (p : ProgramTree) × IsProgram g p × (text ≡ prin
 IsText g modes.Plan text = (plan : PlanView) × HasPlan g plan × (text ≡ plan_text plan)
 IsText g modes.Check text = (plan : PlanView) × HasPlan g plan × (text ≡ accepted_line plan)
 IsText g modes.Flows text = IsFlowsText g text
-IsText g modes.Replay text =
-    (c : Chain) × (values : List Value) × HasRelayRows g c values
-    × IsReplayText (relay_of g c values) (text_of g parts.Schedule) text
+IsText g modes.Schedule text = IsScheduleText g text
+IsText g modes.Replay text = IsReplayText g text

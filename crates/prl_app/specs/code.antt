@@ -1,5 +1,4 @@
 pub mod Told
 pub mod Stops
 pub mod Performed
-pub mod Outs
 pub mod Ratios

@@ -26,8 +26,8 @@ fn status_of_stage(stage: Stage) -> u8
         Stage::Grammar | Stage::Types | Stage::Bodies => 1,
         Stage::Expansion | Stage::Causality | Stage::Clocks => 1,
         Stage::Graph | Stage::Words | Stage::Dates | Stage::Cells => 1,
-        Stage::Form | Stage::Timing | Stage::Horizon => 1,
-        Stage::Rows | Stage::RelayRows => 9,
+        Stage::Horizon => 1,
+        Stage::Rows => 9,
         Stage::Schedule => 8,
         Stage::Values => 1,
     }

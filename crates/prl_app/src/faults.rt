@@ -132,7 +132,7 @@ pub enum ScheduleRefusal {
     /// The event of this line is the first that breaks a rule, and this is the first rule that it breaks.
     Illegal { line: u64, rule: Rule },
     /// No event breaks a rule, but this job of the task has not ended.
-    Unfinished { name: Name, job: u64 },
+    Unfinished { name: Label, job: u64 },
 }
 
 /// Why a stage refuses.
@@ -156,8 +156,6 @@ pub enum Fault {
     Graph(GraphRefusal),
     /// The jobs of the program have no encoded dates.
     Dates(DatesRefusal),
-    /// The program is not of the form that replays are built for so far.
-    NotBuilt,
     /// The rows of the sensors are not right, or too few.
     Sensors(SensorsRefusal),
     /// A count is past its limit.

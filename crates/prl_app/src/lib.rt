@@ -2,7 +2,6 @@
 //! calls `prelude` and `prelude_alone` stand on the public clauses of the crates below.
 #![tactic(auto)]
 
-mod built;
 mod endings;
 mod faults;
 mod flattened;
@@ -12,7 +11,9 @@ mod pipeline;
 mod planned;
 mod programs;
 mod reading;
+mod replayed;
 mod runs;
+mod scheduled;
 mod stages;
 mod top;
 
@@ -21,7 +22,10 @@ pub use faults::{
     BodiesRefusal, ClocksRefusal, DatesRefusal, Fault, GrammarRefusal, GraphRefusal, Part,
     ScheduleRefusal, SensorsRefusal, TypesRefusal,
 };
-pub use laws::{front_is_decided, stages_come_to_an_end, stages_end_one_way};
+pub use laws::{
+    front_is_decided, plans_have_schedules, stages_come_to_an_end, stages_end_one_way,
+    whole_schedules_are_replayed,
+};
 pub use prl_arguments::{ArgumentsFault, Command, Mode, Setting, read_arguments};
 pub use reading::Texts;
 pub use runs::Run;

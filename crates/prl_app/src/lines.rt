@@ -417,7 +417,6 @@ fn write_fault<E: Sink>(err: &mut E, command: &Option<Command>, fault: &Fault) -
         Fault::Graph(fault) => write_graph(err, fault),
         Fault::Dates(fault) => write_dates(err, fault),
         Fault::Bodies(fault) => write_bodies(err, fault),
-        Fault::NotBuilt => write_two(err, b"9 not built ", file_name(command, Part::Program)),
         Fault::Sensors(fault) => write_sensors(err, fault),
         Fault::Limit(limit) => write_limit(err, *limit),
         Fault::Schedule(fault) => write_schedule(err, fault),

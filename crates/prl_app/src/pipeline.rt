@@ -2,26 +2,32 @@
 
 ghost use Rattle.std.specs.Prelude.{◌≡◌, ◌<◌, ◌≤◌, ◌^◌, IfOk, IfErr, is_some, length};
 ghost use Rattle.prl_ast.specs.Trees.{program_tree};
+ghost use Rattle.prl_expansion.specs.Expanding.{IsExpanded};
+ghost use Rattle.prl_flow.specs.Uses.{IsOrder};
+ghost use Rattle.prl_types.specs.Typing.{IsTyped};
 ghost use Rattle.prl_app.specs.Flattened.{HasClocks};
 ghost use Rattle.prl_app.specs.Parts.{IsMain, IsProgram};
 ghost use Rattle.prl_app.specs.Planned.{HasPlan, HasWords};
-ghost use Rattle.prl_app.specs.Stages.{front, graphed, named_bodies, planned, relayed, stages_after, IsText};
+ghost use Rattle.prl_app.specs.Stages.{front, graphed, named_bodies, planned, executed, stages_after, IsText};
 ghost use Rattle.prl_app.specs.code.Stops.{given_of, AllHold, StopsIn, IsAnswer, IsAnswerStop};
 
-use crate::built::{check_timing, form, plan, read_relay_rows, replay_of};
 use crate::flattened::{clocked, flattened, ordered};
 use crate::planned::{accepted, make_dates, make_graph, make_plan, make_words};
 use crate::programs::{check_types, read_bodies, read_program};
 use crate::reading::{MAX_BODIES, MAX_PROGRAM, Texts, read_texts};
+use crate::replayed::replay_of;
 use crate::runs::{Run, flows_of, read_rows};
+use crate::scheduled::{dispatched, make_horizon};
 use crate::stages::Stop;
 use prl_arguments::{Command, Mode};
 use prl_ast::Program;
+use prl_causal::Order;
 use prl_flow::{Clocks, Flat};
 use prl_io::Files;
 use prl_plan::{Plan, TaskGraph, Words};
 use prl_plantext::plan_text;
 use prl_print::print;
+use prl_types::Typed;
 use std::alloc::Global;
 
 /// Mode `print`.
@@ -188,23 +194,55 @@ fn flows_text(alloc: Global, command: &Command, texts: &Texts) -> Result<Vec<u8>
     flows_of(alloc, command, texts, &typed, &run)
 }
 
-/// Scaffolding: the stages of a replay, after those that all programs have.
-fn relayed_text(
+/// Mode `schedule`.
+fn scheduled_text(alloc: Global, command: &Command, texts: &Texts) -> Result<Vec<u8>, Stop>
+    requires program { length texts.now.program.items ≤ MAX_PROGRAM }
+    ensures text { IfOk result (λ text. IsText (given_of command.now texts.now) Mode.Schedule text.items) }
+    ensures holds { IfOk result (λ _. AllHold (given_of command.now texts.now) (stages_after Mode.Schedule (is_some command.now.bodies))) }
+    ensures stop { IfErr result (StopsIn (given_of command.now texts.now) (stages_after Mode.Schedule (is_some command.now.bodies))) }
+{
+    let front = read_front(alloc, command, texts)?;
+    let made = make_graphed(alloc, command, texts, &front)?;
+    let plan = make_planned(alloc, command, texts, made)?;
+    let horizon = make_horizon(command, texts, &plan)?;
+    Ok(dispatched(alloc, command, texts, &plan, horizon)?)
+}
+
+/// What mode `replay` has after the clocks of the flows.
+fn executed_text(
     alloc: Global,
     command: &Command,
     texts: &Texts,
-    program: &Program,
+    typed: &Typed<'_>,
+    flat: Flat,
+    clocks: Clocks,
+    order: Order,
 ) -> Result<Vec<u8>, Stop>
-    requires { IsProgram (given_of command.now texts.now) (program_tree program.now) }
+    requires bodies { length texts.now.bodies.items ≤ MAX_BODIES }
+    requires main { IsMain (given_of command.now texts.now) (program_tree typed.now.program) typed.now.main }
+    requires typed { IsTyped (program_tree typed.now.program) (given_of command.now texts.now).node typed.now.main typed.now.types }
+    requires expanded { IsExpanded (program_tree typed.now.program) typed.now.main typed.now.types flat }
+    requires order { IsOrder flat order.flows }
+    requires clocks { HasClocks (given_of command.now texts.now) flat clocks.of }
     ensures text { IfOk result (λ text. IsText (given_of command.now texts.now) Mode.Replay text.items) }
-    ensures holds { IfOk result (λ _. AllHold (given_of command.now texts.now) relayed) }
-    ensures stop { IfErr result (StopsIn (given_of command.now texts.now) relayed) }
+    ensures holds { IfOk result (λ _. AllHold (given_of command.now texts.now) executed) }
+    ensures stop { IfErr result (StopsIn (given_of command.now texts.now) executed) }
 {
-    let copies = form(alloc, command, texts, program)?;
-    check_timing(command, texts, &copies)?;
-    let planned = plan(alloc, command, texts, &copies)?;
-    let sensors = read_relay_rows(alloc, command, texts, &copies)?;
-    replay_of(alloc, command, texts, &copies, planned, &sensors)
+    let graph = make_graph(alloc, command, texts, &flat, &clocks)?;
+    let words = make_words(alloc, command, texts, &graph)?;
+    let bodies = read_bodies(alloc, command, texts, typed.program(), typed.main())?;
+    let dates = make_dates(alloc, command, texts, &graph)?;
+    let plan = make_plan(alloc, command, texts, graph, words, dates)?;
+    let horizon = make_horizon(command, texts, &plan)?;
+    let sensors = read_rows(alloc, command, texts, &flat, &clocks)?;
+    let run = Run {
+        flat,
+        clocks,
+        order,
+        bodies,
+        sensors,
+    };
+    replay_of(alloc, command, texts, typed, &run, &plan, horizon)
 }
 
 /// Mode `replay`.
@@ -215,11 +253,12 @@ fn replayed_text(alloc: Global, command: &Command, texts: &Texts) -> Result<Vec<
     ensures holds { IfOk result (λ _. AllHold (given_of command.now texts.now) (stages_after Mode.Replay (is_some command.now.bodies))) }
     ensures stop { IfErr result (StopsIn (given_of command.now texts.now) (stages_after Mode.Replay (is_some command.now.bodies))) }
 {
-    let front = read_front(alloc, command, texts)?;
-    let made = make_graphed(alloc, command, texts, &front)?;
-    let _bodies = read_bodies(alloc, command, texts, &front.program, front.main)?;
-    let _plan = make_planned(alloc, command, texts, made)?;
-    relayed_text(alloc, command, texts, &front.program)
+    let program = read_program(alloc, command, texts)?;
+    let typed = check_types(alloc, command, texts, &program)?;
+    let flat = flattened(alloc, command, texts, &typed)?;
+    let order = ordered(alloc, command, texts, &flat)?;
+    let clocks = clocked(alloc, command, texts, &flat)?;
+    executed_text(alloc, command, texts, &typed, flat, clocks, order)
 }
 
 /// The text of the mode of the command.
@@ -236,6 +275,7 @@ fn mode_text(alloc: Global, command: &Command, texts: &Texts) -> Result<Vec<u8>,
         Mode::Plan => planned_text(alloc, command, texts),
         Mode::Check => accepted_text(alloc, command, texts),
         Mode::Flows => flows_text(alloc, command, texts),
+        Mode::Schedule => scheduled_text(alloc, command, texts),
         Mode::Replay => replayed_text(alloc, command, texts),
     }
 }

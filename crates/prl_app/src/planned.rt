@@ -3,6 +3,7 @@
 
 ghost use Rattle.std.specs.Prelude.{◌≡◌, ◌<◌, Some, IfOk, IfErr, IfSome, length};
 ghost use Rattle.prl_dates.specs.Faults.{IsDateFault};
+ghost use Rattle.prl_graph.specs.TaskGraphs.{IsGraphOf};
 ghost use Rattle.prl_plan.specs.Jobs.{task_at};
 ghost use Rattle.prl_app.specs.Flattened.{HasClocks};
 ghost use Rattle.prl_app.specs.Planned.{HasGraph, HasWords, HasDates, HasPlan, accepted_line, dates_refusal};
@@ -81,6 +82,7 @@ pub fn make_graph(
     clocks: &Clocks,
 ) -> Result<TaskGraph, Stop>
     requires { HasClocks (given_of command.now texts.now) flat.now clocks.now.of }
+    ensures graph { IfOk result (IsGraphOf flat.now clocks.now.of) }
     ensures found { IfOk result (HasGraph (given_of command.now texts.now)) }
     ensures holds { IfOk result (λ _. Holds (given_of command.now texts.now) Stage.Graph) }
     ensures stop { IfErr result (StopsAt (given_of command.now texts.now) Stage.Graph) }
@@ -104,7 +106,7 @@ pub fn make_words(
 }
 
 /// The name of a task.
-fn task_name(alloc: Global, graph: &TaskGraph, task: TaskNo) -> Result<Label, AllocError>
+pub fn task_name(alloc: Global, graph: &TaskGraph, task: TaskNo) -> Result<Label, AllocError>
     requires { task.0 < length graph.now.tasks }
     ensures { IfOk result (λ name. name ≡ (task_at graph.now task.0).name) }
 {
@@ -171,6 +173,7 @@ pub fn make_plan(
 ) -> Result<Plan, Stop>
     requires words { HasWords (given_of command.now texts.now) graph words.of }
     requires dates { HasDates (given_of command.now texts.now) graph dates }
+    ensures graph { IfOk result (λ plan. plan.graph ≡ graph) }
     ensures found { IfOk result (HasPlan (given_of command.now texts.now)) }
     ensures holds { IfOk result (λ _. Holds (given_of command.now texts.now) Stage.Cells) }
     ensures stop { IfErr result (StopsAt (given_of command.now texts.now) Stage.Cells) }

@@ -15,6 +15,7 @@ ghost use Rattle.prl_flow.specs.Programs.{IsFlat};
 ghost use Rattle.prl_flow.specs.Solutions.{AreClocks, HasRows as HaveRows};
 ghost use Rattle.prl_flow.specs.Uses.{IsOrder};
 ghost use Rattle.prl_names.specs.Uses.{used_imports};
+ghost use Rattle.prl_outputs.specs.Outputs.{out_flow, out_flows};
 ghost use Rattle.prl_sensors.specs.SensorRows.{sensors_of};
 ghost use Rattle.prl_solutions.specs.Conditions.{AreTypedRows};
 ghost use Rattle.prl_types.specs.Typing.{IsTyped};
@@ -22,7 +23,6 @@ ghost use Rattle.prl_app.specs.Flattened.{HasClocks};
 ghost use Rattle.prl_app.specs.Parts.{AreBodies, IsMain};
 ghost use Rattle.prl_app.specs.Runs.{inputs_of, needs_of, type_of_flow, HasRows};
 ghost use Rattle.prl_app.specs.Stages.{Holds, IsText};
-ghost use Rattle.prl_app.specs.code.Outs.{out_flow, out_flows};
 ghost use Rattle.prl_app.specs.code.Stops.{given_of, StopsAt};
 ghost use Rattle.prl_app.specs.code.Told.{stop_of, told_sensors};
 
@@ -42,9 +42,9 @@ use prl_sensors::{SensorFault, actuator_text, read_sensors, rows_are_typed_and_e
 use prl_types::Typed;
 use std::alloc::{AllocError, Global};
 
-/// The stop of this stage that a fault of rows is.
-pub fn rows_stop(stage: Stage, fault: SensorFault) -> Stop
-    ensures { result ≡ stop_of stage (told_sensors fault) }
+/// The stop that a fault of rows is.
+fn rows_stop(fault: SensorFault) -> Stop
+    ensures { result ≡ stop_of Stage.Rows (told_sensors fault) }
 {
     let refusal = match fault {
         SensorFault::Row(number) => SensorsRefusal::Row(number),
@@ -54,7 +54,7 @@ pub fn rows_stop(stage: Stage, fault: SensorFault) -> Stop
         SensorFault::Short { name, have, need } => SensorsRefusal::Short { name, have, need },
         SensorFault::Memory => return Stop::Memory,
     };
-    Stop::Refused(stage, Fault::Sensors(refusal))
+    Stop::Refused(Stage::Rows, Fault::Sensors(refusal))
 }
 
 impl From<FlowFault> for Stop {
@@ -176,7 +176,7 @@ pub fn read_rows(
 {
     match rows_of_text(alloc, &texts.sensors, flat, clocks, command.until) {
         Ok(sensors) => Ok(sensors),
-        Err(fault) => Err(rows_stop(Stage::Rows, fault)),
+        Err(fault) => Err(rows_stop(fault)),
     }
 }
 

@@ -32,14 +32,8 @@ pub enum Stage {
     Rows,
     /// The limit of values.
     Values,
-    /// Scaffolding: the form of programs that replays are built for.
-    Form,
-    /// Scaffolding: the form of programs that have a plan.
-    Timing,
-    /// The horizon of the plan.
+    /// The limits on the horizon of the plan.
     Horizon,
-    /// Scaffolding: the rows of the one sensor of a replay.
-    RelayRows,
     /// The events of the schedule.
     Schedule,
 }

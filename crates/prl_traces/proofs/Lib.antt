@@ -1,6 +1,7 @@
 mod Runs
 mod Actuators
-mod Ends
+-- for the crates above: what holds of a whole run at its end
+pub mod Ends
 mod Legality
 mod OneEnd
 mod Traces

@@ -1,6 +1,8 @@
 -- What private functions say of stops.
-use Rattle.std.specs.Prelude.{◌≡◌, ◌++◌, ◌⊎◌, ℕ, List, [], ◌∷◌, Option, Some, None, Ok, Err}
+use Rattle.std.specs.Prelude.{◌≡◌, ◌++◌, ◌<◌, ◌⊎◌, ℕ, List, [], ◌∷◌, Option, Some, None, Ok, Err}
 use Rattle.prl_io.specs.Views.{FolderView}
+use Rattle.prl_traces.specs.declared.faults.ReplayFault.{ReplayFault}
+use Rattle.prl_traces.specs.declared.faults.ReplayFault.TheVariants as causes
 use Rattle.prl_app.specs.declared.reading.Texts.{Texts}
 use Rattle.prl_app.specs.declared.faults.Fault.{Fault}
 use Rattle.prl_app.specs.declared.stages.Stage.{Stage}
@@ -32,6 +34,13 @@ StopsBy stage cause stops.Memory = Unit {0}
 -- the stage refuses, or memory ran out
 abbrev pub StopsAt : Given → Stage → Stop → Type 0
 StopsAt g stage = StopsBy stage (Refuses g stage)
+
+-- an unfinished job is of one of so many tasks
+abbrev pub IsOfTask : ℕ → ReplayFault → Type 0
+IsOfTask tasks (causes.Syntax line) = Unit {0}
+IsOfTask tasks (causes.Illegal line rule) = Unit {0}
+IsOfTask tasks (causes.Unfinished task job) = task.0 < tasks
+IsOfTask tasks causes.Memory = Unit {0}
 
 -- a stage of the list refuses, or memory ran out
 abbrev pub StopsIn : Given → List Stage → Stop → Type 0

@@ -20,9 +20,6 @@ use Rattle.prl_buffers.specs.declared.tables.CellFault.{CellFault}
 use Rattle.prl_buffers.specs.declared.tables.CellFault.TheVariants as celling
 use Rattle.prl_evaluation.specs.declared.evaluation.FlowFault.{FlowFault}
 use Rattle.prl_evaluation.specs.declared.evaluation.FlowFault.TheVariants as flows
-use Rattle.prl_chains.specs.declared.chains.Chain.{Chain}
-use Rattle.prl_relays.specs.declared.relays.RelayFault.{RelayFault}
-use Rattle.prl_relays.specs.declared.relays.RelayFault.TheVariants as relays
 use Rattle.prl_sensors.specs.declared.faults.SensorFault.{SensorFault}
 use Rattle.prl_sensors.specs.declared.faults.SensorFault.TheVariants as sensors
 use Rattle.prl_app.specs.declared.faults.GrammarRefusal.TheVariants as bad_grammar
@@ -31,13 +28,11 @@ use Rattle.prl_app.specs.declared.faults.ClocksRefusal.TheVariants as bad_clocks
 use Rattle.prl_app.specs.declared.faults.GraphRefusal.TheVariants as bad_graph
 use Rattle.prl_app.specs.declared.faults.BodiesRefusal.TheVariants as bad_bodies
 use Rattle.prl_app.specs.declared.faults.SensorsRefusal.TheVariants as bad_rows
-use Rattle.prl_app.specs.declared.faults.ScheduleRefusal.TheVariants as bad_schedule
 use Rattle.prl_app.specs.declared.faults.Fault.{Fault}
 use Rattle.prl_app.specs.declared.faults.Fault.TheVariants as faults
 use Rattle.prl_app.specs.declared.stages.Stage.{Stage}
 use Rattle.prl_app.specs.declared.stages.Stop.{Stop}
 use Rattle.prl_app.specs.declared.stages.Stop.TheVariants as stops
-use Rattle.prl_app.specs.Built.{device_name}
 
 -- the stop that a fault of a stage is
 abbrev pub stop_of : Stage → Option Fault → Stop
@@ -107,12 +102,6 @@ told_sensors (sensors.Order number) = Some (faults.Sensors (bad_rows.Order numbe
 told_sensors (sensors.Value number) = Some (faults.Sensors (bad_rows.Value number))
 told_sensors (sensors.Short name have need) = Some (faults.Sensors (bad_rows.Short name have need))
 told_sensors sensors.Memory = None
-
-abbrev pub told_relay : Chain → RelayFault → Option Fault
-told_relay c (relays.Syntax line) = Some (faults.Schedule (bad_schedule.Syntax line))
-told_relay c (relays.Illegal line rule) = Some (faults.Schedule (bad_schedule.Illegal line rule))
-told_relay c (relays.Unfinished task job) = Some (faults.Schedule (bad_schedule.Unfinished (device_name c task.0) job))
-told_relay c relays.Memory = None
 
 abbrev pub told_flow : FlowFault → Option Fault
 told_flow (flows.Limit limit) = Some (faults.Limit limit)

@@ -21,9 +21,12 @@ returns c = one_end (record {
     best = c.room_leaves_no_narrow_chain.ensures.best;
     dates = c.plan_is_unique.ensures.dates;
   };
-  horizon_or_limit = c.horizons_end_one_way.ensures.not_both;
-  one_limit = c.horizons_end_one_way.ensures.one_limit;
-  replay_or_fault = c.replays_end_one_way.ensures.not_both;
-  one_fault = c.replays_end_one_way.ensures.one_fault;
-  whole_run = c.whole_runs_are_replayed.ensures;
+  runs = record {
+    plan = c.plan_is_unique.ensures.plan;
+    one_horizon = c.horizons_end_one_way.ensures.one_horizon;
+    horizon_or_limit = c.horizons_end_one_way.ensures.not_both;
+    one_limit = c.horizons_end_one_way.ensures.one_limit;
+    whole_or_fault = c.replays_end_one_way.ensures.not_both;
+    one_fault = c.replays_end_one_way.ensures.one_fault;
+  };
 })

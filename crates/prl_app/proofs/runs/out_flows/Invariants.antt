@@ -1,5 +1,5 @@
 use Rattle.std.proofs.Common.{◌≡◌, ◌++◌, drop, vec_items}
-use Rattle.prl_app.specs.code.Outs.{out_flows}
+use Rattle.prl_outputs.specs.Outputs.{out_flows}
 use Rattle.prl_app.proofs.runs.out_flows.Given as goal
 
 -- the flows so far and those of the outputs that are left are those of all outputs
