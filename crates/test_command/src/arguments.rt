@@ -23,6 +23,7 @@ fn summary(alloc: Global, command: &Command) -> Result<Vec<u8>, Fail> {
         Mode::Plan => b"plan".as_slice(),
         Mode::Print => b"print".as_slice(),
         Mode::Replay => b"replay".as_slice(),
+        Mode::Schedule => b"schedule".as_slice(),
     };
     let mut text = Vec::from_slice(alloc, mode)?;
     let names = [
@@ -91,6 +92,11 @@ fn both_spellings_in_any_order(rt: HostRuntime) -> Result<(), Fail> {
                 "replay --bodies b --schedule=s --node=n --program p --until 7 --sensors i",
                 "replay p b i s n 7",
             ),
+            ("schedule --until 7 --program=p", "schedule p - - - - 7"),
+            (
+                "schedule --node n --program p --until=7",
+                "schedule p - - - n 7",
+            ),
             ("plan --program p", "plan p - - - - 0"),
             ("plan --node=n --program p", "plan p - - - n 0"),
             ("check --program p", "check p - - - - 0"),
@@ -155,6 +161,10 @@ fn options_of_the_modes(rt: HostRuntime) -> Result<(), Fail> {
                 "refused",
             ),
             ("replay --program p --sensors i --until 60", "refused"),
+            ("schedule --program p", "refused"),
+            ("schedule --until 60", "refused"),
+            ("schedule --program p --until 60 --bodies b", "refused"),
+            ("schedule --program p --until 60 --sensors i", "refused"),
             ("plan --node n", "refused"),
             ("plan --program p --bodies b", "refused"),
             ("plan --program p --until 3", "refused"),

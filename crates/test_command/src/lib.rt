@@ -19,3 +19,5 @@ mod lines;
 mod outside;
 #[cfg(test)]
 mod plans;
+#[cfg(test)]
+mod replays;

@@ -100,3 +100,20 @@ pub fn check(
     assert_eq!(rt; err.bytes(), told.2.as_bytes());
     Ok(())
 }
+
+/// What a command line on these files writes to `out`, at status 0.
+pub fn out_of(
+    rt: &impl Abort,
+    alloc: Global,
+    line: &[&str],
+    files: MemFiles,
+) -> Result<Vec<u8>, Fail> {
+    let words = words(alloc, line)?;
+    let mut files = files;
+    let mut out = MemSink::new(alloc, 1_000_000, 100_000, Vec::new(alloc))?;
+    let mut err = MemSink::new(alloc, 1000, 1000, Vec::new(alloc))?;
+    let status = prelude_alone(alloc, &words, &mut files, &mut out, &mut err).ok_or("no status")?;
+    assert_eq!(rt; status.code, 0);
+    assert_eq!(rt; err.bytes(), b"".as_slice());
+    Ok(Vec::from_slice(alloc, out.bytes())?)
+}

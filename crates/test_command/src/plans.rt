@@ -462,7 +462,7 @@ const REPLAY: [&str; 12] = [
     "60",
 ];
 
-/// Whatever the form of the program, its plan and its bodies are looked at before it.
+/// The plan and the bodies are looked at before the rows, and these before the schedule.
 #[test]
 fn replays_begin_with_a_plan(rt: HostRuntime) -> Result<(), Fail> {
     let alloc = rt.alloc();
@@ -471,7 +471,7 @@ fn replays_begin_with_a_plan(rt: HostRuntime) -> Result<(), Fail> {
         (10, b"".as_slice(), (1, "", "20 body missing F\n")),
         (28, b"".as_slice(), (1, "", "20 body missing F\n")),
         (28, SAMPLING_BODIES, narrow),
-        (10, SAMPLING_BODIES, (1, "", "9 not built p.prl\n")),
+        (10, SAMPLING_BODIES, (9, "", "84 short i 0 6\n")),
     ];
     for (wcet, bodies, told) in cases {
         let text = sampling_with(alloc, wcet)?;
