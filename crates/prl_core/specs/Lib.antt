@@ -1,11 +1,8 @@
 -- tracks: the state without values
 pub mod Tracks
+-- what is left of a run, as a number
 pub mod Lefts
-pub mod Devices
-pub mod Values
+-- events of a plan, and what is told of the halves of cells
 pub mod Machine
-pub mod Columns
-pub mod Inside
-pub mod Tests
 -- what private functions say to one another
 pub mod code

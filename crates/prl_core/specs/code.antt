@@ -1,4 +1,5 @@
 pub mod Firsts
-pub mod Routes
 pub mod Nexts
+pub mod Routes
+pub mod Tests
 pub mod Tracks

@@ -7,7 +7,7 @@ ghost use Rattle.prl_plan.specs.declared.events.Action.TheVariants as actions;
 ghost use Rattle.prl_plan.specs.Horizons.{IsHorizon, constants_of};
 ghost use Rattle.prl_plan.specs.Rules.{first_unfinished, IsComplete, IsFirstUnfinished, KeepsLegal, FirstBroken};
 ghost use Rattle.prl_plan.specs.Runs.{opening, moved, next_action, after_action, after_event};
-ghost use Rattle.prl_core.specs.Tests.{Overtakes, IsNotEarlier, IsDueFirst, IsInTime};
+ghost use Rattle.prl_core.specs.code.Tests.{Overtakes, IsNotEarlier, IsDueFirst, IsInTime};
 ghost use Rattle.prl_core.specs.code.Firsts.{IsFirstAt, IsFirstOf, AreFirsts};
 ghost use Rattle.prl_core.specs.code.Routes.{IsAt, IsReading};
 ghost use Rattle.prl_core.specs.code.Nexts.{IsChoice};

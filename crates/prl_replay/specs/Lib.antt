@@ -1,5 +1,4 @@
 pub mod Schedules
-pub mod Replays
 pub mod Dispatches
 pub mod ScheduleTexts
 pub mod ReadTexts

@@ -1,4 +1,4 @@
-//! Schedules and their replay: the events that a text lists are done one by one on the machine of a plan. It
+//! Schedules: texts that list events a line each, the dispatched list of a plan, and the lines of what its jobs read. It
 //! stands on `prl_plan` and `prl_core`.
 #![tactic(auto)]
 
@@ -6,13 +6,11 @@ mod dispatches;
 mod laws;
 mod numbers;
 mod read_texts;
-mod replays;
 mod schedule_texts;
 mod schedules;
 
 pub use dispatches::dispatch;
-pub use laws::{events_end_one_way, plans_are_dispatched};
+pub use laws::plans_are_dispatched;
 pub use read_texts::reads_text;
-pub use replays::{ReplayFault, replay};
 pub use schedule_texts::schedule_text;
 pub use schedules::{ScheduleFault, read_schedule};

@@ -1,6 +1,6 @@
 use Rattle.std.proofs.Common.{◌<◌, ℕ}
 use Rattle.prl_core.specs.Tracks.{run_of}
-use Rattle.prl_core.specs.Tests.{IsInTime}
+use Rattle.prl_core.specs.code.Tests.{IsInTime}
 use Rattle.prl_core.proofs.tracks.Track.has_due.Given as goal
 
 -- the tasks so far are in time

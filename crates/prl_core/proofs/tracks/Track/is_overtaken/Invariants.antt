@@ -1,6 +1,6 @@
 use Rattle.std.proofs.Common.{◌<◌, ℕ}
 use Rattle.prl_core.specs.Tracks.{run_of}
-use Rattle.prl_core.specs.Tests.{IsNotEarlier}
+use Rattle.prl_core.specs.code.Tests.{IsNotEarlier}
 use Rattle.prl_core.proofs.tracks.Track.is_overtaken.Given as goal
 
 -- the tasks so far stay after

@@ -1,8 +1,0 @@
-use Rattle.std.proofs.Common.{◌<◌, ℕ}
-use Rattle.prl_core.specs.Machine.{constants}
-use Rattle.prl_core.specs.Tests.{IsInTime}
-use Rattle.prl_core.proofs.cores.Core.has_due.Given as goal
-
--- the tasks so far are in time
-abbrev pub invariant-loop-j : goal.invariant-loop-j
-invariant-loop-j l = (j : ℕ) → j < l.j → IsInTime (constants l.self) l.self.state j

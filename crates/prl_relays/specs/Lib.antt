@@ -1,3 +1,0 @@
-pub mod TwoTasks
-pub mod Reads
-pub mod Relays
