@@ -4,13 +4,11 @@ use Rattle.csv.specs.Machine.{Read, field_after, fields_after, is_end, ends_at_e
 use Rattle.csv.specs.Reading.{Reached, ReadRecord, default_config, reader_state, records_from, records_next, took_first}
 use Rattle.csv.specs.declared.reader.Reader.{Reader}
 use Rattle.csv.proofs.ReadFacts.{rows-end, rows-more}
+use Rattle.prl_sensors.proofs.Firsts.{some_is}
 use Rattle.prl_sensors.specs.code.Left.{HasLeft, Reads}
 use Rattle.csv.specs.declared.parser.Config.{Config}
 use Rattle.csv.specs.declared.parser.State.{State}
 use Rattle.csv.specs.declared.parser.State.TheVariants as st
-
-some_is : {A : Type 0} (x y : A) → Some x ≡ Some y → x ≡ y
-some_is x y e = cc
 
 -- what is left after a record is shorter, or there is nothing left
 abbrev IsShorter : List ℕ → Read → Type 0

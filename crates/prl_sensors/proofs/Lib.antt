@@ -1,5 +1,6 @@
 pub mod DueRows
 pub mod RowDates
 pub mod LeftRecords
+pub mod Firsts
 pub mod RowsRead
 pub mod TypedRows

@@ -1,18 +1,8 @@
 -- Rows record by record.
-use Rattle.std.proofs.Common.{◌≡◌, ◌<◌, ℕ, ◌+◌, List, [], ◌∷◌, length, Option, Some, None, Ok, Err, refl, sym, subst, rules}
-use Rattle.std.specs.Option.{IfSome}
-use Rattle.std.proofs.lemmas.Option.{slice_get_within}
-use Rattle.std.specs.List.{slice_get}
+use Rattle.std.proofs.Common.{◌≡◌, ℕ, ◌+◌, List, [], ◌∷◌, Ok, Err, refl}
 use Rattle.prl_flow.specs.Rows.{Rows}
-use Rattle.prl_names.specs.Lookups.{index_of}
 use Rattle.prl_sensors.specs.SensorRows.{Inputs, with_record, with_records}
 use Rattle.prl_sensors.specs.declared.faults.SensorFault.{SensorFault}
-
--- an index of a name is one of the list
-pub within : (names : List (List ℕ)) (name : List ℕ) (count : ℕ) (found : Option ℕ) → found ≡ index_of names name → count ≡ length names
-    → ((index : ℕ) → index_of names name ≡ Some index → slice_get names index ≡ Some name) → IfSome found (λ k. k < count)
-within names name count None is same has = search rules
-within names name count (Some k) is same has = subst (λ n. k < n) (sym same) (slice_get_within names k name (has k (sym is)))
 
 -- the rows after one more record
 pub one_more : (inputs : Inputs) (number : ℕ) (rows more : Rows) (fields : List (List ℕ)) (left rest : List (List (List ℕ)))

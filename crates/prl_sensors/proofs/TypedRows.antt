@@ -18,6 +18,7 @@ use Rattle.prl_base.specs.declared.values.Value.{Value}
 use Rattle.prl_base.specs.declared.values.Value.TheVariants as values
 use Rattle.prl_flow.specs.Rows.{Rows, rows_of}
 use Rattle.prl_names.specs.Lookups.{index_of}
+use Rattle.prl_sensors.proofs.Firsts.{some_is}
 use Rattle.prl_sensors.specs.Facts.{AreRowsFor}
 use Rattle.prl_sensors.specs.SensorRows.{Inputs, is_header, no_rows, records_of, sensors_of, short_of, three, truth_of, type_at, unless_short, value_of, with_fields, with_read, with_record, with_records, with_row, with_value}
 use Rattle.prl_sensors.specs.declared.faults.SensorFault.{SensorFault}
@@ -27,9 +28,6 @@ use Rattle.prl_sensors.specs.declared.faults.SensorFault.TheVariants as faults
 record AreTyped (inputs : Inputs) (rows : Rows) : Type 0 where
   lists : length rows ≡ length inputs.names
   types : (k n : ℕ) (value : Value) → slice_get (rows_of rows k) n ≡ Some value → IsOfType (type_at inputs.types k) value
-
-some_is : {A : Type 0} (x y : A) → Some x ≡ Some y → x ≡ y
-some_is x y e = cc
 
 ok_is : {A E : Type 0} (x y : A) → ◌≡◌ {A = Result A E} (Ok x) (Ok y) → x ≡ y
 ok_is {A} {E} x y e = cc

@@ -5,6 +5,7 @@
 mod actuators;
 mod ends;
 mod faults;
+mod finders;
 mod laws;
 mod records;
 mod rows;

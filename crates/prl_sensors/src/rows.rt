@@ -7,34 +7,19 @@ ghost use Rattle.csv.specs.Records.{fields_of};
 ghost use Rattle.prl_base.specs.Decimals.{integer_of};
 ghost use Rattle.prl_base.specs.Reading.{GivesBut};
 ghost use Rattle.prl_base.specs.declared.values.Value.TheVariants as values;
-ghost use Rattle.prl_names.specs.Tables.{AreIndices, found};
 ghost use Rattle.prl_sensors.specs.SensorRows.{is_header, no_rows, records_of, sensors_of, short_of, truth_of, unless_short, value_of, with_record, with_records, with_row, with_value};
 
 use crate::faults::SensorFault;
+use crate::finders::Finder;
 use crate::records::{Fields, read_record, reader_of, three};
 use csv::ByteRecord;
 use itoa::Buffer;
-use prl_base::{Name, Seq, Span, Ty, Value, integer_of};
+use prl_base::{Name, Seq, Ty, Value, integer_of};
 use prl_flow::Sensors;
-use prl_names::{Indices, Mention, found, index_has_the_name, indices};
 use std::alloc::{AllocError, Global};
 
 /// The fewest bytes of a row beside its name: two commas, an instance, a value and a line end.
 const LEAST_ROW: usize = 5;
-
-/// A table of the inputs by their names.
-fn table_of(alloc: Global, names: &[Name]) -> Result<Indices<'_>, AllocError>
-    ensures { IfOk result (λ table. AreIndices table names.now) }
-{
-    let mut mentions = Vec::with_capacity(alloc, names.len())?;
-    for name in names {
-        mentions.push(Mention {
-            name,
-            at: Span { at: 0, len: 0 },
-        })?;
-    }
-    indices(alloc, mentions.as_slice())
-}
 
 /// Room for the rows that an input needs, but for no more than a text of this length can hold.
 fn room_for(name: &Name, need: u64, len: usize) -> usize
@@ -165,18 +150,18 @@ fn push_row(
 /// The row that the record of this number is, unless it is the header.
 #[tactic(auto, unfolding(crate::specs::SensorRows::with_record))]
 fn push_record(
-    table: &Indices<'_>,
+    finder: &mut Finder<'_>,
     types: &[Ty],
     number: u64,
     rows: &mut Vec<Vec<Value>>,
     fields: &ByteRecord,
 ) -> Result<(), SensorFault>
     requires types { length types.now ≡ length rows.old.items }
-    requires table { (name : List ℕ) → IfSome (found table.now name) (λ k. k < length rows.old.items) }
-    ensures exact { (names : List (List ℕ)) → AreIndices table.now names →
-        GivesBut SensorFault.Memory (λ _. map vec_items rows.new.items) result
-        (with_record (record { names = names; types = types.now }) number (map vec_items rows.old.items) (fields_of fields.now)) }
+    requires names { length finder.old ≡ length rows.old.items }
+    ensures exact { GivesBut SensorFault.Memory (λ _. map vec_items rows.new.items) result
+        (with_record (record { names = finder.old; types = types.now }) number (map vec_items rows.old.items) (fields_of fields.now)) }
     ensures lists { length rows.new.items ≡ length rows.old.items }
+    ensures same { finder.new ≡ finder.old }
 {
     let row = three(fields);
     if number == 1 && is_header(row) {
@@ -185,7 +170,7 @@ fn push_record(
     match row {
         None => Err(SensorFault::Row(number)),
         Some((name, instance, value)) => {
-            push_row(types, number, rows, found(table, name), instance, value)
+            push_row(types, number, rows, finder.find(name), instance, value)
         }
     }
 }
@@ -204,8 +189,7 @@ fn read_rows(
     ensures exact { GivesBut SensorFault.Memory (λ rows. map vec_items rows.items) result
         (with_records (record { names = names.now; types = types.now }) 1 (no_rows names.now) (records_of text.now)) }
 {
-    index_has_the_name();
-    let table = table_of(alloc, names)?;
+    let mut finder = Finder::new(alloc, names)?;
     let mut rows = rows;
     let mut reader = reader_of(alloc, text);
     let mut fields = ByteRecord::new(alloc);
@@ -213,7 +197,7 @@ fn read_rows(
         if !read_record(&mut reader, &mut fields)? {
             return Ok(rows);
         }
-        push_record(&table, types, number, &mut rows, &fields)?;
+        push_record(&mut finder, types, number, &mut rows, &fields)?;
     }
     Err(SensorFault::Memory)
 }

@@ -1,9 +1,8 @@
-use Rattle.std.proofs.Common.{◌≡◌, ◌<◌, ◌++◌, ◌∷◌, ℕ, List, [], length, map, Some, slice_get, slice_index_or, take, refl, sym, ◌∙◌, add-one, ap, subst, arith}
-use Rattle.std.specs.List.{Contains, flat_map}
-use Rattle.std.proofs.lemmas.List.{length-map, take_all}
+use Rattle.std.proofs.Common.{◌≡◌, ◌++◌, ℕ, List, length, slice_get, slice_index_or, take, refl, sym, ◌∙◌, ap, subst}
+use Rattle.std.specs.List.{flat_map}
+use Rattle.std.proofs.lemmas.List.{take_all}
 use Rattle.std.proofs.lemmas.Option.{slice_get_read}
 use Rattle.prl_base.specs.Clocks.{IsClock}
-use Rattle.prl_calendar.specs.Calendars.{HasDate}
 use Rattle.prl_flow.specs.Actuators.{row_at, row_text}
 use Rattle.prl_flow.specs.declared.programs.OutFlow.{OutFlow}
 use Rattle.prl_sensors.proofs.DueRows.{dated, due_place, due_rows, due_within, row_of, rows_more}

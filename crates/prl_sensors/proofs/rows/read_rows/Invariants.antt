@@ -7,6 +7,7 @@ use Rattle.prl_sensors.proofs.rows.read_rows.Given as goal
 abbrev pub invariant-loop-number : goal.invariant-loop-number
 invariant-loop-number l =
     (length l.rows.items ≡ length l.names)
+    × (l.finder ≡ l.names)
     × (left : List (List (List ℕ))) × HasLeft l.reader left
     × (with_records (record { names = l.names; types = l.types }) l.number (map vec_items l.rows.items) left
     ≡ with_records (record { names = l.names; types = l.types }) 1 (no_rows l.names) (records_of l.text))
