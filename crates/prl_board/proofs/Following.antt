@@ -1,5 +1,5 @@
 -- A seat follows its view after each step.
-use Rattle.std.proofs.Common.{◌≡◌, ℕ, zero, suc, ◌+◌, ◌-◌, ◌/◌, ◌^◌, ◌<◌, ◌≤◌, ◌&&◌, nat_lt, nat_le, cond, eqb, eq-eqb, ne_eqb, List, [], ◌∷◌, length, get_or, set, refl, sym, ap, ◌∙◌, subst, inl, inr, arith, Bool, true, false, Option, Some, None}
+use Rattle.std.proofs.Common.{◌≡◌, ℕ, zero, suc, ◌+◌, ◌-◌, ◌/◌, ◌^◌, ◌<◌, ◌≤◌, ◌&&◌, nat_lt, nat_le, cond, eq-eqb, ne_eqb, List, [], ◌∷◌, length, get_or, set, refl, sym, ap, ◌∙◌, subst, inl, inr, arith, Bool, true, false, Option, Some, None}
 use Rattle.std.proofs.lemmas.Bool.{cases_lt}
 use Rattle.std.proofs.lemmas.Bool.Decides.{nat_tests}
 use mathlib.Core.Option.{some, some-injective, some-ne-none}
@@ -12,17 +12,19 @@ use Rattle.prl_plan.specs.Runs.{RunConstants, action_at}
 use Rattle.prl_board.specs.declared.jobs.Stage.{Stage}
 use Rattle.prl_board.specs.declared.jobs.Stage.TheVariants as stages
 use Rattle.prl_board.specs.declared.views.Constants.{Constants}
+use Rattle.prl_board.specs.declared.views.Standing.{Standing}
 use Rattle.prl_board.specs.declared.views.TaskPart.{TaskPart}
 use Rattle.prl_board.specs.declared.views.View.{View}
 use Rattle.prl_board.specs.RunValues.{RunValues}
 use Rattle.prl_board.specs.Known.{run_of, values_of}
-use Rattle.prl_board.specs.Rule.{StandsAt}
-use Rattle.prl_board.specs.Steps.{HasRead, caught_up, done_counted, half_loaded, half_missed, half_stored, half_taken, moved_on, now_loaded, with_part}
+use Rattle.prl_board.specs.Rule.{StandsAt, first_part}
+use Rattle.prl_board.specs.Steps.{caught_up, done_counted, half_loaded, half_missed, half_stored, half_taken, moved_on, now_loaded, with_part}
 use Rattle.prl_board.specs.Boards.{EndTold, HalfTold, IsAt, NowTold, WriteTold, part_at, part_of, part_or}
 use Rattle.prl_board.specs.JobSeats.{Follows, IsStage}
+use Rattle.prl_board.specs.Openings.{HasFirstPart}
 use Rattle.prl_board.proofs.Catching.{caught_open, set_found}
 
-part_there : (ps : List (Option TaskPart)) (i : ℕ) (p : TaskPart) → get_elem? ps i ≡ some (Some p) → get_or ps i None ≡ Some p
+pub part_there : (ps : List (Option TaskPart)) (i : ℕ) (p : TaskPart) → get_elem? ps i ≡ some (Some p) → get_or ps i None ≡ Some p
 part_there [] i p e = absurd (some-ne-none (Some p) (sym e))
 part_there (q ∷ ps) zero p e = some-injective q (Some p) e
 part_there (q ∷ ps) (suc i) p e = part_there ps i p e
@@ -61,6 +63,26 @@ module _ (k : Constants) (i : ℕ) where
         ended = ap (λ (r : TaskPart). r.stand.ended) same ∙ ended;
         stands = ap (λ (r : TaskPart). r.stand.place) same ∙ at;
         shown = subst (λ (r : TaskPart). IsStage (run_of k) i job place r.stand.is_open stage) (sym same) is;
+      }
+
+  -- a seat at the opening
+  pub first_follows : (view : View) (stage : Stage) → HasFirstPart k i view → i < (run_of k).tasks → IsStage (run_of k) i 0 0 false stage → Follows k view i 0 0 stage
+  first_follows view stage first task is =
+      let mine : part_of i view ≡ first_part ((values_of k).registers i 0) = ap part_or (part_there view.tasks i (first_part ((values_of k).registers i 0)) first.part) in
+      let place : (part_of i view).stand.place ≡ 0 = ap (λ (r : TaskPart). r.stand.place) mine in
+      let none : 0 - (part_of i view).stand.place ≡ 0 = omega (arith, place) in
+      let same : part_at k i 0 view ≡ first_part ((values_of k).registers i 0) = (λ h. caught_up (run_of k) (values_of k) i (none h) (mine h)) in
+      record {
+        at = record {
+          known = first.known;
+          part = first.part ∙ ap (λ (r : TaskPart). some (Some r)) (sym mine);
+          past = omega (arith, place);
+          read = record { opened = λ some_. absurd (omega (arith, some_, place)); constants = λ j below. absurd (omega (arith, below, place)) };
+        };
+        task = task;
+        ended = ap (λ (r : TaskPart). r.stand.ended) same;
+        stands = ap (λ (r : TaskPart). r.stand.place) same;
+        shown = subst (λ (r : TaskPart). IsStage (run_of k) i 0 0 r.stand.is_open stage) (sym same) is;
       }
 
   -- whether a job is open is as it was before constants were read
@@ -140,6 +162,14 @@ module _ (k : Constants) (i : ℕ) where
       ap (λ (b : Bool). cond b (half_taken (run_of k) (values_of k) i h word (part_at k i place view)) (half_missed h word (part_at k i place view))) (ne_eqb (word / 2 ^ 32) (m + 1) other) in
       subst (λ (v : View). Follows k v i job place (stages.At action)) (sym (told.view ∙ ap (λ (q : TaskPart). with_part i q view) missed))
       (follows_fresh view (part_of i view) (half_missed h word (part_at k i place view)) job place (stages.At action) f.at.known f.at.part f.task f.ended f.stands f.shown)
+
+  -- after a step that leaves the task where it is
+  pub stays_follows : (view after : View) (job place : ℕ) (stage : Stage) (q : TaskPart) → Follows k view i job place stage → after ≡ with_part i q view →
+      q.stand ≡ (part_at k i place view).stand → Follows k after i job place stage
+  stays_follows view after job place stage q f told same =
+      subst (λ (v : View). Follows k v i job place stage) (sym told)
+      (follows_fresh view (part_of i view) q job place stage f.at.known f.at.part f.task (ap (λ (x : Standing). x.ended) same ∙ f.ended) (ap (λ (x : Standing). x.place) same ∙ f.stands)
+      (subst (λ (x : Standing). IsStage (run_of k) i job place x.is_open stage) (sym same) f.shown))
 
   -- after a store of a half
   pub write_follows : (view after : View) (job place : ℕ) (action : Action) → Follows k view i job place (stages.At action) → WriteTold k i place view after →

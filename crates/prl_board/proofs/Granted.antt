@@ -1,21 +1,17 @@
 -- The rule grants each kind of step, and what the step tells.
-use Rattle.std.proofs.Common.{◌≡◌, ℕ, zero, suc, ◌+◌, ◌-◌, ◌/◌, ◌%◌, ◌^◌, ◌<◌, ◌≤◌, ◌≢◌, List, [], ◌∷◌, ◌++◌, get_or, set, refl, sym, ap, ◌∙◌, subst, arith, Bool, true, false, cond, eqb, Option, Some, None}
-use mathlib.Core.Option.{some, some-injective, some-ne-none}
+use Rattle.std.proofs.Common.{◌≡◌, ℕ, ◌+◌, ◌-◌, ◌/◌, ◌^◌, ◌<◌, ◌≤◌, List, [], ◌∷◌, ◌++◌, get_or, refl, sym, ◌∙◌, subst, false, cond, eqb, Some}
+use mathlib.Core.Option.{some}
 use lib.ListN.{get_elem?}
 use Rattle.atomic_table.specs.Table.{Me}
 use Rattle.prl_base.specs.Values.{FitsValue}
 use Rattle.prl_base.specs.declared.numbers.EdgeNo.{EdgeNo}
-use Rattle.prl_plan.specs.declared.events.Action.{Action}
 use Rattle.prl_plan.specs.declared.events.Action.TheVariants as actions
 use Rattle.prl_plan.specs.declared.events.Event.{Event}
 use Rattle.prl_plan.specs.declared.events.Event.TheVariants as events
-use Rattle.prl_plan.specs.declared.events.SlotNo.{SlotNo}
-use Rattle.prl_plan.specs.Facts.{IsJob, ReadsAt}
-use Rattle.prl_plan.specs.Runs.{action_at}
+use Rattle.prl_plan.specs.Facts.{IsJob}
 use Rattle.prl_board.specs.declared.views.Constants.{Constants}
 use Rattle.prl_board.specs.declared.views.Gate.TheVariants as gates
 use Rattle.prl_board.specs.declared.views.ClockPart.{ClockPart}
-use Rattle.prl_board.specs.declared.views.TaskPart.{TaskPart}
 use Rattle.prl_board.specs.declared.views.View.{View}
 use Rattle.prl_board.specs.RunValues.{word_of}
 use Rattle.prl_board.specs.Agreement.{now_word, done_word, slot_word, stop_word, IsOverrun, Witness}
@@ -25,7 +21,7 @@ use Rattle.prl_board.specs.Steps.{acts, clock_stop_loaded, done_counted, half_lo
 use Rattle.prl_board.specs.Boards.{ClockStopTold, EndTold, HalfTold, IsAt, IsStopFor, LookTold, NowTold, RaiseTold, StopTold, TickTold, WriteTold, part_at, part_of}
 use Rattle.prl_board.specs.code.PlanLaws.{PlanLaws}
 use Rattle.prl_board.proofs.Allowed.{Grants, GrantsLoad}
-use Rattle.prl_board.proofs.Caught.{calm_law, gated_law, inside_law, load_half_law, load_stop_law, raise_law, store_done_law, store_half_law, value_law}
+use Rattle.prl_board.proofs.Caught.{gated_law, inside_law, load_half_law, load_stop_law, raise_law, store_done_law, store_half_law, value_law}
 use Rattle.prl_board.proofs.ClockSteps.{look_finds_own, look_keeps, now_is_own, tick_keeps}
 use Rattle.prl_board.proofs.HalfSteps.{fits_loaded, found_loaded, half_of_loaded}
 use Rattle.prl_board.proofs.JobSteps.{load_now_keeps, load_now_tells}

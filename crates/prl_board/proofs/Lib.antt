@@ -18,3 +18,10 @@ mod Allowed
 mod Granted
 mod Unseen
 mod Following
+mod Opened
+mod Lows
+mod TaskPlaces
+mod Worked
+mod ClockAfter
+mod SeatReads
+mod Begun

@@ -1,5 +1,5 @@
 -- The values of a run hang together.
-use Rattle.std.proofs.Common.{◌≡◌, ℕ, zero, suc, ◌+◌, ◌-◌, ◌*◌, ◌/◌, ◌%◌, ◌<◌, ◌≤◌, ◌⊎◌, List, [], ◌∷◌, ◌++◌, length, length-append, get_or, take, sum, refl, sym, ap, ◌∙◌, subst, inl, inr, ⊎_elim, arith, Bool, true, false, cond, eqb, max, Option, Some, None, pos}
+use Rattle.std.proofs.Common.{◌≡◌, ℕ, zero, suc, ◌+◌, ◌-◌, ◌/◌, ◌%◌, ◌<◌, ◌≤◌, List, [], ◌∷◌, ◌++◌, length, length-append, get_or, take, sum, refl, sym, ap, ◌∙◌, subst, inl, inr, arith, Bool, true, false, cond, eqb, max, Option, Some, None, pos}
 use Rattle.std.proofs.Math.Nat.{mod-lt}
 use Rattle.std.proofs.lemmas.Bool.{cases_eq}
 use Rattle.std.proofs.lemmas.Bool.Decides.{nat_tests}
@@ -12,7 +12,6 @@ use Rattle.prl_base.specs.declared.numbers.EdgeNo.{EdgeNo}
 use Rattle.prl_base.specs.declared.values.Value.{Value}
 use Rattle.prl_base.specs.declared.values.Value.TheVariants as values
 use Rattle.prl_body.specs.declared.bodies.CheckedBody.{CheckedBody}
-use Rattle.prl_body.specs.Bodies.{Stepped}
 use Rattle.prl_plan.specs.declared.events.Action.{Action}
 use Rattle.prl_plan.specs.declared.events.Action.TheVariants as actions
 use Rattle.prl_plan.specs.declared.events.SlotNo.{SlotNo}
@@ -30,8 +29,7 @@ use Rattle.prl_plan.specs.Facts.{IsJob}
 use Rattle.prl_plan.specs.Graphs.{AreInOrder, PortsFollow}
 use Rattle.prl_plan.specs.Jobs.{task_at, IsHorizonJob}
 use Rattle.prl_plan.specs.Operands.{operand_of, operand_from, walk}
-use Rattle.prl_plan.specs.Plans.{PlanView, IsPlan, IsActionOf, IsAtPort, IsHalfOf, actions_of, cell_of, completes, edge_at, no_edge, operands_before, operands_in, place_on, reading, reads_of, writes_of}
-use Rattle.prl_plan.specs.Runs.{action_at}
+use Rattle.prl_plan.specs.Plans.{PlanView, IsPlan, IsActionOf, IsAtPort, IsHalfOf, actions_of, cell_of, edge_at, no_edge, operands_before, operands_in, place_on, reading, reads_of, writes_of}
 use Rattle.prl_values.specs.BodyRuns.{place_of_run}
 use Rattle.prl_values.specs.JobValues.{JobValues, AreJobValues, body_of_task, gives, read_on, reads_of_job, reads_over, value_from, value_on}
 use Rattle.prl_board.specs.declared.views.Constants.{Constants}

@@ -1,7 +1,6 @@
 -- Jobs that are due and have not been seen to end.
-use Rattle.std.proofs.Common.{◌≡◌, ℕ, ◌+◌, ◌-◌, ◌<◌, ◌≤◌, false, nat_le, nat_lt, get_or, inl, inr, arith, sym, ap, ◌∙◌, subst}
+use Rattle.std.proofs.Common.{◌≡◌, ℕ, ◌+◌, ◌<◌, ◌≤◌, get_or, inl, inr, arith, ap}
 use Rattle.std.proofs.lemmas.Bool.{cases_order}
-use Rattle.std.proofs.lemmas.Bool.Decides.{nat_tests}
 use Rattle.prl_plan.specs.Runs.{RunConstants}
 use Rattle.prl_plan.specs.Facts.{HasPlanFacts, IsJob}
 use Rattle.prl_board.specs.declared.views.Constants.{Constants}

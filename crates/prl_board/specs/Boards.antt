@@ -4,8 +4,6 @@ use mathlib.Core.Option.{some}
 use lib.ListN.{get_elem?}
 use Rattle.atomic_table.specs.Seated.{TableId}
 use Rattle.prl_base.specs.Values.{FitsValue}
-use Rattle.prl_base.specs.declared.numbers.EdgeNo.{EdgeNo}
-use Rattle.prl_plan.specs.declared.events.Action.TheVariants as actions
 use Rattle.prl_plan.specs.Facts.{WritesAt}
 use Rattle.prl_plan.specs.Horizons.{IsHorizon}
 use Rattle.prl_plan.specs.LastTags.{IsWriter, last_tag}
@@ -19,7 +17,7 @@ use Rattle.prl_board.specs.Halves.{value_of_halves}
 use Rattle.prl_board.specs.RunValues.{half_of, word_of}
 use Rattle.prl_board.specs.Agreement.{word_count}
 use Rattle.prl_board.specs.Known.{run_of, values_of}
-use Rattle.prl_board.specs.Rule.{StandsAt, first_part}
+use Rattle.prl_board.specs.Rule.{first_part}
 use Rattle.prl_board.specs.Steps.{HasRead, caught_up, done_counted, half_loaded, half_stored, looked, now_loaded, part_raised, stop_loaded, clock_stop_loaded, ticked, with_clock, with_part}
 
 -- what a board is about, and which table it has

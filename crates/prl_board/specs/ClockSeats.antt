@@ -1,5 +1,5 @@
 -- What is seen of the clock's seat, and what its ticks answer.
-use Rattle.std.specs.Prelude.{◌≡◌, ◌≢◌, ◌+◌, ◌<◌, ◌≤◌, ℕ, List, length, slice_index, Option, Some, None}
+use Rattle.std.specs.Prelude.{◌≡◌, ◌+◌, ◌<◌, ◌≤◌, ℕ, List, length, slice_index, Option, Some, None}
 use Rattle.atomic_table.specs.Seated.{TableId}
 use Rattle.prl_base.specs.declared.numbers.TaskNo.{TaskNo}
 use Rattle.prl_plan.specs.Facts.{IsJob}

@@ -1,12 +1,10 @@
 -- What is seen of a task's seat of the table with where its job stands, and what its steps answer.
-use Rattle.std.specs.Prelude.{◌≡◌, ◌+◌, ◌<◌, ◌≤◌, ◌/◌, ◌^◌, ◌==◌, if◌then◌else◌, ℕ, Bool, true, false, Some}
+use Rattle.std.specs.Prelude.{◌≡◌, ◌+◌, ◌<◌, ◌≤◌, ◌/◌, ◌^◌, ℕ, Bool, true, false, Some}
 use mathlib.Core.Option.{some}
 use lib.ListN.{get_elem?}
 use Rattle.atomic_table.specs.Seated.{TableId}
 use Rattle.prl_base.specs.declared.numbers.EdgeNo.{EdgeNo}
 use Rattle.prl_base.specs.declared.numbers.TaskNo.{TaskNo}
-use Rattle.prl_plan.specs.declared.events.Action.{Action}
-use Rattle.prl_plan.specs.declared.events.Action.TheVariants as actions
 use Rattle.prl_plan.specs.declared.events.SlotNo.{SlotNo}
 use Rattle.prl_plan.specs.Runs.{RunConstants, action_at}
 use Rattle.prl_board.specs.declared.views.Constants.{Constants}
@@ -15,7 +13,7 @@ use Rattle.prl_board.specs.declared.jobs.Stage.{Stage}
 use Rattle.prl_board.specs.declared.jobs.Stage.TheVariants as stages
 use Rattle.prl_board.specs.declared.jobs.Release.{Release}
 use Rattle.prl_board.specs.declared.jobs.Release.TheVariants as releases
-use Rattle.prl_board.specs.Boards.{BoardView, EndTold, HalfTold, IsAt, NowTold, WriteTold, part_at, part_of}
+use Rattle.prl_board.specs.Boards.{BoardView, EndTold, HalfTold, IsAt, NowTold, part_at, part_of}
 use Rattle.prl_board.specs.Known.{run_of}
 
 -- its table, its number there and its view; the task, how many of its jobs have ended, and the place and the stage of the next one

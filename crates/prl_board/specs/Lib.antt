@@ -14,7 +14,11 @@ pub mod Steps
 pub mod Boards
 -- what is seen of a task's seat of the table
 pub mod JobSeats
+-- where a task's seat stands, and what its reads answer
+pub mod TaskSeats
 -- what is seen of the clock's seat
 pub mod ClockSeats
+-- what stands at the opening
+pub mod Openings
 -- what private functions say to one another
 pub mod code

@@ -1,2 +1,3 @@
 -- What private functions say to one another.
 pub mod PlanLaws
+pub mod Lows

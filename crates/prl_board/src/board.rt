@@ -1,15 +1,15 @@
 //! The board: the table that threads share, with what its run is about, and each kind of step.
 
-ghost use Rattle.std.specs.Prelude.{◌≡◌, ◌+◌, ◌/◌, ◌^◌, ◌<◌, ◌≤◌, ℕ, [], false, replicate, slice_index, IfOk, Some};
+ghost use Rattle.std.specs.Prelude.{◌≡◌, ◌+◌, ◌/◌, ◌^◌, ◌<◌, ◌≤◌, ℕ, [], false, length, replicate, slice_index, IfOk, Some};
 ghost use mathlib.Core.Option.{some};
 ghost use lib.ListN.{get_elem?};
 ghost use Rattle.atomic_table.specs.Table.{Allows};
 ghost use Rattle.prl_base.specs.Values.{FitsValue};
-ghost use Rattle.prl_base.specs.declared.numbers.EdgeNo.{EdgeNo};
+ghost use Rattle.prl_base.specs.declared.numbers.EdgeNo.{EdgeNo as AnyEdge};
 ghost use Rattle.prl_plan.specs.declared.events.Action.TheVariants as actions;
-ghost use Rattle.prl_plan.specs.declared.events.SlotNo.{SlotNo};
+ghost use Rattle.prl_plan.specs.declared.events.SlotNo.{SlotNo as AnySlot};
 ghost use Rattle.std.specs.Bool.{OnTrue, OnFalse};
-ghost use Rattle.prl_plan.specs.Facts.{HasPlanFacts, IsJob};
+ghost use Rattle.prl_plan.specs.Facts.{HasPlanFacts, IsJob, ReadsAt};
 ghost use Rattle.prl_plan.specs.Runs.{action_at};
 ghost use Rattle.prl_board.specs.ClockSeats.{NamesTask};
 ghost use Rattle.prl_board.specs.declared.views.ClockPart.{ClockPart};
@@ -17,9 +17,13 @@ ghost use Rattle.prl_board.specs.declared.views.Gate.TheVariants as gates;
 ghost use Rattle.prl_board.specs.declared.views.View.{View};
 ghost use Rattle.prl_board.specs.Agreement.{slot_word, stop_word, word_count, IsOverrun};
 ghost use Rattle.prl_board.specs.Boards.{ClockStopTold, EndTold, HalfTold, IsAt, IsStopFor, LookTold, NowTold, RaiseTold, StopTold, TickTold, WriteTold, part_at, part_of};
-ghost use Rattle.prl_board.specs.RunValues.{word_of};
+ghost use Rattle.prl_board.specs.RunValues.{HasValueFacts, word_of};
 ghost use Rattle.prl_plan.specs.Horizons.{IsHorizon};
+ghost use Rattle.prl_plan.specs.declared.graphs.Producer.TheVariants as producers;
+ghost use Rattle.prl_plan.specs.Plans.{edge_at};
 ghost use Rattle.prl_values.specs.Fitting.{HaveTaskBodies, HaveTypedRows};
+ghost use Rattle.prl_workers.specs.Workers.{HaveWorkLaws, IsNewWorker};
+ghost use Rattle.prl_base.specs.declared.numbers.TaskNo.{TaskNo as AnyTask};
 ghost use Rattle.prl_board.specs.declared.views.TaskPart.{TaskPart};
 ghost use Rattle.prl_board.specs.Known.{known, run_of, values_of};
 ghost use Rattle.prl_board.specs.Rule.{Agreed, StandsAt, all_parts};
@@ -29,11 +33,14 @@ use crate::laws::{plan_laws, run_values_keep_facts};
 use crate::steps::rule_holds_at_the_opening;
 use crate::views::{About, Gate, Running, View};
 use atomic_table::{Play, Split, Table};
-use prl_base::TaskNo;
+use prl_base::{EdgeNo, TaskNo, Ty};
 use prl_body::Bodies;
 use prl_flow::Sensors;
-use prl_plan::{Action, Horizon, Plan, SlotNo, plan_facts, plan_is_one};
+use prl_plan::{
+    Action, Horizon, Plan, Producer, SlotNo, actions_are_as_defined, plan_facts, plan_is_one,
+};
 use prl_ranges::horizons_are_small;
+use prl_workers::{Worker, jobs_have_work_laws};
 use std::alloc::{AllocError, Global};
 use std::marker::{Brand, Model, PhantomData};
 
@@ -88,6 +95,7 @@ impl<J: Parting> Split<View> for Parts<J> {
 
 /// The board of a run: a plan with its bodies and the rows of its sensors, a horizon, a gate, and the
 /// words that all its seats share. Contracts see a `BoardView`.
+#[derive(Drop)]
 pub struct Board<'a> {
     plan: &'a Plan,
     bodies: &'a Bodies,
@@ -114,7 +122,7 @@ impl<'a> Model for Board<'a> {
 }
 
 /// So many zeros.
-fn zeros(alloc: Global, count: usize) -> Result<Vec<u64>, AllocError>
+pub(crate) fn zeros(alloc: Global, count: usize) -> Result<Vec<u64>, AllocError>
     ensures { IfOk result (λ v. v.items ≡ replicate count 0) }
 {
     vec![in alloc; 0; count]
@@ -290,6 +298,71 @@ impl<'a> Board<'a> {
         (job + 1) as u32
     }
 
+    /// The number after that of an instance that a horizon job reads, which is its tag.
+    pub(crate) fn tag_read(&self, instance: u64) -> u32
+        requires { (i n place slot : ℕ) × ReadsAt (run_of self.now.known) i n place instance slot }
+        ensures { result ≡ instance + 1 }
+    {
+        plan_facts(self.plan, self.horizon);
+        horizons_are_small();
+        (instance + 1) as u32
+    }
+
+    /// The type of an edge.
+    pub(crate) fn type_of(&self, edge: EdgeNo) -> Ty
+        requires { (i n place port m : ℕ) × (slot : AnySlot) × (action_at (run_of self.now.known) i n place ≡ actions.Read port edge m slot) }
+        ensures { result ≡ (values_of self.now.known).types edge.0 }
+    {
+        actions_are_as_defined();
+        self.plan.graph().edges.as_slice()[edge.0 as usize].ty
+    }
+
+    /// The rows of the sensors.
+    pub(crate) fn sensors(&self) -> &Sensors
+        ensures { result.now ≡ self.now.known.sensors }
+    {
+        self.sensors
+    }
+
+    /// The bodies.
+    pub(crate) fn bodies(&self) -> &Bodies
+        ensures { result.now ≡ self.now.known.bodies }
+    {
+        self.bodies
+    }
+
+    /// The worker of a task before its first job.
+    pub(crate) fn worker(&self, alloc: Global, task: TaskNo) -> Result<Worker, AllocError>
+        requires { task.0 < (run_of self.now.known).tasks }
+        ensures { IfOk result (IsNewWorker self.now.known.plan self.now.known.bodies self.now.known.horizon.until task.0) }
+    {
+        Worker::new(alloc, self.plan, self.bodies, self.horizon, task)
+    }
+
+    /// The output of its task that an edge comes from.
+    pub(crate) fn output_of(&self, edge: EdgeNo) -> u32
+        requires edge { edge.0 < length self.now.known.plan.graph.edges }
+        requires port { (task : AnyTask) × (out : ℕ) × ((edge_at self.now.known.plan.graph edge.0).from ≡ producers.Port task out) }
+        ensures { (task : AnyTask) × ((edge_at self.now.known.plan.graph edge.0).from ≡ producers.Port task result) }
+    {
+        match self.plan.graph().edges.as_slice()[edge.0 as usize].from {
+            Producer::Port { out, .. } => out,
+            Producer::Constant(_) => unreachable!(),
+        }
+    }
+
+    /// What the jobs of the run keep, what they read and give, and what their workers rest on.
+    pub(crate) fn keeps_values(&self)
+        ensures facts { HasPlanFacts (run_of self.now.known) }
+        ensures values { HasValueFacts (run_of self.now.known) (values_of self.now.known) }
+        ensures work { HaveWorkLaws self.now.known.plan self.now.known.horizon self.now.known.bodies self.now.known.sensors }
+    {
+        plan_facts(self.plan, self.horizon);
+        plan_is_one(self.plan);
+        run_values_keep_facts();
+        jobs_have_work_laws();
+    }
+
     /// What the jobs of the run keep.
     pub(crate) fn keeps_facts(&self)
         ensures { HasPlanFacts (run_of self.now.known) }
@@ -343,10 +416,10 @@ impl<'a> Board<'a> {
         requires table { seat.old.table_id ≡ self.now.table }
         requires at { IsAt self.now.known task.0 place seat.old.me.0 }
         requires job { IsJob (run_of self.now.known) task.0 (part_at self.now.known task.0 place seat.old.me.0).stand.ended }
-        requires stands { (port : ℕ) × (e : EdgeNo) × (m : ℕ) ×
+        requires stands { (port : ℕ) × (e : AnyEdge) × (m : ℕ) ×
             StandsAt (run_of self.now.known) task.0 (part_at self.now.known task.0 place seat.old.me.0).stand (actions.Read port e m slot) }
         ensures same { (seat.new.table_id ≡ seat.old.table_id) × (seat.new.id ≡ seat.old.id) × (seat.new.me.1 ≡ seat.old.me.1) }
-        ensures told { (port : ℕ) (e : EdgeNo) (m : ℕ) →
+        ensures told { (port : ℕ) (e : AnyEdge) (m : ℕ) →
             StandsAt (run_of self.now.known) task.0 (part_at self.now.known task.0 place seat.old.me.0).stand (actions.Read port e m slot) →
             HalfTold self.now.known task.0 place e.0 m slot.0 seat.old.me.0 result seat.new.me.0 }
     {
@@ -368,7 +441,7 @@ impl<'a> Board<'a> {
         requires table { seat.old.table_id ≡ self.now.table }
         requires at { IsAt self.now.known task.0 place seat.old.me.0 }
         requires job { IsJob (run_of self.now.known) task.0 (part_at self.now.known task.0 place seat.old.me.0).stand.ended }
-        requires stands { (e : EdgeNo) × (m : ℕ) ×
+        requires stands { (e : AnyEdge) × (m : ℕ) ×
             StandsAt (run_of self.now.known) task.0 (part_at self.now.known task.0 place seat.old.me.0).stand (actions.Write e m slot) ×
             (word ≡ word_of (values_of self.now.known) slot.0 (m + 1)) × FitsValue ((values_of self.now.known).stored (slot.0 / 2) m) }
         ensures same { (seat.new.table_id ≡ seat.old.table_id) × (seat.new.id ≡ seat.old.id) × (seat.new.me.1 ≡ seat.old.me.1) }

@@ -1,11 +1,13 @@
 //! The clock's seat.
 
-ghost use Rattle.std.specs.Prelude.{◌≡◌, ◌+◌, ◌<◌, ◌≤◌, ℕ, slice_index, MatchOption, Some};
+ghost use Rattle.std.specs.Prelude.{◌≡◌, ◌+◌, ◌<◌, ◌≤◌, ℕ, [], replicate, slice_index, MatchOption, Some};
 ghost use Rattle.prl_plan.specs.Facts.{IsJob};
 ghost use Rattle.prl_board.specs.declared.views.ClockPart.{ClockPart};
+ghost use Rattle.prl_board.specs.declared.views.Constants.{Constants};
 ghost use Rattle.prl_board.specs.declared.views.Gate.TheVariants as gates;
 ghost use Rattle.prl_board.specs.Boards.{LookTold};
 ghost use Rattle.prl_board.specs.ClockSeats.{AnswersStop, AnswersTick, IsAllSeen, IsBehind, IsClockOf, IsUnseen};
+ghost use Rattle.prl_board.specs.Openings.{IsFirstClock};
 ghost use Rattle.prl_board.specs.Known.{run_of};
 
 use crate::board::{Board, Seat};
@@ -25,6 +27,7 @@ pub enum Ticked {
 }
 
 /// The seat of the clock. Contracts see a `ClockSeatView`.
+#[derive(Drop)]
 pub struct ClockSeat {
     seat: Seat,
     now: u64,
@@ -48,6 +51,19 @@ impl Model for ClockSeat {
 }
 
 impl ClockSeat {
+    /// The clock's seat at the opening: nothing has been looked at.
+    pub(crate) fn first(seat: Seat, looks: Vec<u64>) -> ClockSeat
+        requires part { (k : Constants) × IsFirstClock k seat.me.0 × (looks.items ≡ replicate (run_of k).tasks 0) }
+        requires slots { seat.me.1 ≡ [] }
+        ensures { (result.table ≡ seat.table_id) × (result.id ≡ seat.id) × (result.view ≡ seat.me.0) }
+    {
+        ClockSeat {
+            seat,
+            now: 0,
+            looks,
+        }
+    }
+
     /// The clock's `now`.
     pub fn now(&self) -> u64
         ensures { (r : ClockPart) → self.entry.now.view.clock ≡ Some r → result ≡ r.now }
@@ -59,6 +75,7 @@ impl ClockSeat {
     pub fn look(&mut self, board: &Board, task: TaskNo) -> u64
         requires seat { (r : ClockPart) × IsClockOf board.now self.old r }
         requires task { task.0 < (run_of board.now.known).tasks }
+        ensures seat { (r : ClockPart) × IsClockOf board.now self.new r }
         ensures same { (self.new.table ≡ self.old.table) × (self.new.id ≡ self.old.id) }
         ensures told { (r : ClockPart) → IsClockOf board.now self.old r → LookTold board.now.known task.0 r self.old.view result self.new.view }
     {
@@ -102,6 +119,7 @@ impl ClockSeat {
     /// it grows in any case. Takes no memory.
     pub fn tick(&mut self, board: &Board) -> Ticked
         requires { (r : ClockPart) × IsClockOf board.now self.old r }
+        ensures seat { (r : ClockPart) × IsClockOf board.now self.new r }
         ensures same { (self.new.table ≡ self.old.table) × (self.new.id ≡ self.old.id) }
         ensures answer { (r : ClockPart) → IsClockOf board.now self.old r → AnswersTick board.now.known r self.old self.new result }
     {
@@ -121,6 +139,7 @@ impl ClockSeat {
     /// The task whose stop was raised, if there is one. Takes no memory.
     pub fn stopped(&mut self, board: &Board) -> Option<TaskNo>
         requires { (r : ClockPart) × IsClockOf board.now self.old r }
+        ensures seat { (r : ClockPart) × IsClockOf board.now self.new r }
         ensures same { (self.new.table ≡ self.old.table) × (self.new.id ≡ self.old.id) }
         ensures answer { (r : ClockPart) → IsClockOf board.now self.old r → AnswersStop board.now.known r self.old self.new result }
     {

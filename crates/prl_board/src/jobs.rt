@@ -1,14 +1,17 @@
 //! A task's seat of the table, with where its job stands.
 
-ghost use Rattle.std.specs.Prelude.{◌≡◌, ◌+◌, ◌/◌, ◌^◌, ◌<◌, ℕ, false};
+ghost use Rattle.std.specs.Prelude.{◌≡◌, ◌+◌, ◌/◌, ◌^◌, ◌<◌, ℕ, [], false, Some};
 ghost use Rattle.std.specs.Bool.{OnTrue, OnFalse};
 ghost use Rattle.prl_base.specs.Values.{FitsValue};
 ghost use Rattle.prl_base.specs.declared.numbers.EdgeNo.{EdgeNo};
 ghost use Rattle.prl_base.specs.declared.values.Value.{Value};
 ghost use Rattle.prl_plan.specs.declared.events.Action.TheVariants as actions;
 ghost use Rattle.prl_board.specs.declared.jobs.Stage.TheVariants as stages;
-ghost use Rattle.prl_board.specs.Boards.{WriteTold};
-ghost use Rattle.prl_board.specs.JobSeats.{AnswersRelease, Ends, GoesOn, IsSameSeat, IsSeatOf, IsShut, IsStage, LoadsHalf};
+ghost use Rattle.prl_board.specs.Boards.{RaiseTold, WriteTold};
+ghost use Rattle.prl_board.specs.declared.views.Constants.{Constants};
+ghost use Rattle.prl_board.specs.JobSeats.{AnswersRelease, Ends, Follows, GoesOn, HasPartOf, IsSameSeat, IsSeatOf, IsShut, IsStage, LoadsHalf, StaysAt};
+ghost use Rattle.prl_board.specs.Openings.{HasFirstPart, IsFirstSeat};
+ghost use Rattle.prl_board.specs.TaskSeats.{MayRaise, TellsStop};
 ghost use Rattle.prl_board.specs.Known.{run_of, values_of};
 ghost use Rattle.prl_board.specs.RunValues.{half_of};
 
@@ -41,6 +44,7 @@ pub enum Stage {
 }
 
 /// A task's seat of the table, with where its job stands. Contracts see a `JobSeatView`.
+#[derive(Drop)]
 pub(crate) struct JobSeat {
     seat: Seat,
     task: TaskNo,
@@ -87,6 +91,53 @@ fn stage_before(board: &Board, task: TaskNo, job: u64) -> Stage
 }
 
 impl JobSeat {
+    /// The seat of a task at the opening: its first job has not begun.
+    pub(crate) fn first(board: &Board, seat: Seat, task: TaskNo) -> JobSeat
+        requires table { seat.table_id ≡ board.now.table }
+        requires task { task.0 < (run_of board.now.known).tasks }
+        requires part { HasFirstPart board.now.known task.0 seat.me.0 × (seat.me.1 ≡ []) }
+        ensures seat { IsSeatOf board.now result }
+        ensures first { IsFirstSeat board.now.known task result }
+    {
+        let stage = stage_before(board, task, 0);
+        JobSeat {
+            seat,
+            task,
+            job: 0,
+            place: 0,
+            stage,
+        }
+    }
+
+    /// The seat stands as its view says.
+    pub(crate) fn stands(&self)
+        ensures { (k : Constants) → self.entry.now.view.constants ≡ Some k → HasPartOf self.entry.now.task.0 self.entry.now.view →
+            Follows k self.entry.now.view self.entry.now.task.0 self.entry.now.job self.entry.now.place self.entry.now.stage }
+    {
+        let _ = &self.seat;
+    }
+
+    /// The task.
+    pub(crate) fn task(&self) -> TaskNo
+        ensures { result ≡ self.now.task }
+    {
+        self.task
+    }
+
+    /// How many of its jobs have ended.
+    pub(crate) fn job(&self) -> u64
+        ensures { result ≡ self.now.job }
+    {
+        self.job
+    }
+
+    /// How far it is.
+    pub(crate) fn stage(&self) -> Stage
+        ensures { result ≡ self.now.stage }
+    {
+        self.stage
+    }
+
     /// Loads `now`. The next job, which is one of the horizon, opens where it is released.
     fn open(&mut self, board: &Board) -> Release
         requires seat { IsSeatOf board.now self.old }
@@ -94,6 +145,7 @@ impl JobSeat {
         ensures seat { IsSeatOf board.now self.new }
         ensures same { IsSameSeat self.old self.new }
         ensures answer { AnswersRelease board.now.known self.old self.new result }
+        ensures place { self.new.place ≡ self.old.place }
     {
         let at = board.release(self.task, self.job);
         let now = board.load_now(&mut self.seat, self.task);
@@ -111,6 +163,7 @@ impl JobSeat {
         ensures seat { IsSeatOf board.now self.new }
         ensures same { IsSameSeat self.old self.new }
         ensures answer { AnswersRelease board.now.known self.old self.new result }
+        ensures place { self.new.place ≡ self.old.place }
     {
         match self.stage {
             Stage::Over => Release::Over,
@@ -174,11 +227,36 @@ impl JobSeat {
         ensures seat { IsSeatOf board.now self.new }
         ensures same { IsSameSeat self.old self.new }
         ensures told { Ends board.now.known self.old self.new }
+        ensures place { self.new.place ≡ 0 }
     {
         let ended = u64::from(board.tag_of(self.task, self.job));
         board.store_done(&mut self.seat, self.task, self.place, ended);
         self.job = ended;
         self.place = 0;
         self.stage = stage_before(board, self.task, ended);
+    }
+
+    /// Raises the stop, where the half that was loaded last holds a later instance than the wanted one.
+    pub(crate) fn raise(&mut self, board: &Board)
+        requires seat { IsSeatOf board.now self.old }
+        requires over { MayRaise board.now.known self.old }
+        ensures seat { IsSeatOf board.now self.new }
+        ensures same { IsSameSeat self.old self.new }
+        ensures told { RaiseTold board.now.known self.old.task.0 self.old.place self.old.view self.new.view }
+        ensures stays { StaysAt self.old self.new }
+    {
+        board.raise(&mut self.seat, self.task, self.place);
+    }
+
+    /// The task whose stop was raised, if there is one.
+    pub(crate) fn stopped(&mut self, board: &Board) -> Option<TaskNo>
+        requires seat { IsSeatOf board.now self.old }
+        ensures seat { IsSeatOf board.now self.new }
+        ensures same { IsSameSeat self.old self.new }
+        ensures answer { TellsStop board.now.known self.old self.new result }
+        ensures stays { StaysAt self.old self.new }
+    {
+        let word = board.load_stop(&mut self.seat, self.task, self.place);
+        board.task_named(word)
     }
 }

@@ -7,6 +7,8 @@ mod board;
 mod clocks;
 mod jobs;
 mod laws;
+mod openings;
+mod seats;
 mod steps;
 mod tagged;
 mod views;
@@ -15,6 +17,8 @@ pub use board::Board;
 pub use clocks::{ClockSeat, Ticked};
 pub use jobs::{Release, Stage};
 pub use laws::{halves_are_exact, run_values_keep_facts, words_are_exact};
+pub use openings::open_board;
+pub use seats::{Got, Half, Place, TaskSeat, Wrote};
 pub use steps::{
     gated_read_is_never_overrun, join_takes_all_parts, load_of_done_is_kept,
     load_of_half_is_a_read, load_of_now_opens_a_job, load_of_stop_is_kept,

@@ -1,6 +1,7 @@
 //! The two halves of a value, and the words that carry them: each with the tag of its instance.
 
 ghost use Rattle.std.specs.Prelude.{◌≡◌, ◌/◌, ◌%◌, ◌^◌};
+ghost use Rattle.prl_base.specs.Values.{FitsValue};
 ghost use Rattle.prl_board.specs.Halves.{AreHalves, high_half, low_half, tagged, value_of_halves};
 
 use prl_base::{Ty, Value};
@@ -8,7 +9,8 @@ use prl_base::{Ty, Value};
 /// The low and the high half of a value. Those of an integer are the 32 low and the 32 high bits of
 /// its two's complement. `false` has 0 and 0, and `true` has 1 and 0.
 pub fn halves(value: Value) -> (u32, u32)
-    ensures { (result.0 ≡ low_half value) × (result.1 ≡ high_half value) }
+    ensures halves { (result.0 ≡ low_half value) × (result.1 ≡ high_half value) }
+    ensures fits { FitsValue value }
 {
     let bits = match value {
         Value::Int(number) => number.cast_unsigned(),

@@ -1,8 +1,8 @@
-use Rattle.std.proofs.Common.{◌≡◌, ◌<◌, ◌≤◌, ℕ, arith}
+use Rattle.std.proofs.Common.{arith}
 use Rattle.std.proofs.lemmas.Option.{slice_get-get_or}
 use Rattle.prl_plan.specs.Graphs.{IsTask}
 use Rattle.prl_plan.specs.Jobs.{no_task, task_at}
-use Rattle.prl_board.specs.Known.{job_values_of, run_of}
+use Rattle.prl_board.specs.Known.{job_values_of}
 use Rattle.prl_board.proofs.RunFacts.{run_values_facts}
 use Rattle.prl_board.proofs.laws.run_values_keep_facts.Goals as goal
 

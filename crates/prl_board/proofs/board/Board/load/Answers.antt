@@ -1,4 +1,4 @@
-use Rattle.std.proofs.Common.{arith, ◌≡◌, ◌<◌, ℕ, sym, ap, subst, ◌∙◌}
+use Rattle.std.proofs.Common.{arith, ◌≡◌, sym, ap, subst, ◌∙◌}
 use Rattle.atomic_table.specs.Table.{Allows}
 use Rattle.prl_board.specs.declared.views.Constants.{Constants}
 use Rattle.prl_board.specs.Agreement.{word_count}

@@ -1,4 +1,4 @@
-use Rattle.std.proofs.Common.{arith, ◌≡◌, ◌<◌, ℕ}
+use Rattle.std.proofs.Common.{arith}
 use Rattle.prl_board.specs.Agreement.{now_word}
 use Rattle.prl_board.specs.Boards.{NowTold, part_of}
 use Rattle.prl_board.specs.Known.{run_of}

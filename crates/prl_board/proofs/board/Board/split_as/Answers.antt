@@ -1,4 +1,4 @@
-use Rattle.std.proofs.Common.{arith, ◌<◌, ℕ, sym, ap, subst, ◌∙◌}
+use Rattle.std.proofs.Common.{arith, ℕ, sym, ap, subst, ◌∙◌}
 use Rattle.atomic_table.specs.Table.{Splits}
 use Rattle.prl_board.specs.Boards.{BoardView}
 use Rattle.prl_board.specs.Known.{known}

@@ -1,4 +1,4 @@
-use Rattle.std.proofs.Common.{arith, ◌+◌, ◌≤◌, ◌≢◌, ℕ, subst}
+use Rattle.std.proofs.Common.{arith, ℕ, subst}
 use mathlib.Core.Logic.{dite}
 use native.Mathlib.Decide.{ℕ_discrete}
 use Rattle.prl_board.specs.ClockSeats.{IsUnseen}

@@ -3,7 +3,6 @@ use Rattle.prl_plan.specs.declared.events.Action.{Action}
 use Rattle.prl_plan.specs.Runs.{action_at}
 use Rattle.prl_board.specs.declared.jobs.Stage.{Stage}
 use Rattle.prl_board.specs.declared.jobs.Stage.TheVariants as stages
-use Rattle.prl_board.specs.declared.views.Constants.{Constants}
 use Rattle.prl_board.specs.declared.views.View.{View}
 use Rattle.prl_board.specs.Boards.{NowTold, part_of}
 use Rattle.prl_board.specs.JobSeats.{Follows, HasPartOf, JobSeatView}

@@ -1,20 +1,17 @@
-use Rattle.std.proofs.Common.{arith, ◌≡◌, ◌+◌, ◌*◌, ◌/◌, ◌^◌, ◌<◌, ◌≤◌, ℕ, suc, refl, sym, ap, subst, ◌∙◌, Some, false}
-use Rattle.prl_base.specs.declared.numbers.EdgeNo.{EdgeNo}
+use Rattle.std.proofs.Common.{arith, ◌≡◌, ◌+◌, ℕ, suc, sym, ap, subst, ◌∙◌, Some}
 use Rattle.prl_plan.specs.declared.events.Action.{Action}
 use Rattle.prl_plan.specs.declared.events.Action.TheVariants as actions
 use Rattle.prl_plan.specs.Runs.{action_at}
 use Rattle.prl_board.specs.declared.jobs.Stage.{Stage}
 use Rattle.prl_board.specs.declared.jobs.Stage.TheVariants as stages
-use Rattle.prl_board.specs.declared.views.Constants.{Constants}
 use Rattle.prl_board.specs.declared.views.View.{View}
 use Rattle.prl_board.specs.Halves.{tagged}
-use Rattle.prl_board.specs.Boards.{HalfTold, part_at, part_of}
-use Rattle.prl_board.specs.JobSeats.{Follows, HasPartOf, IsStage, JobSeatView, LoadsHalf}
+use Rattle.prl_board.specs.Boards.{part_at}
+use Rattle.prl_board.specs.JobSeats.{Follows, HasPartOf, JobSeatView}
 use Rattle.prl_board.specs.Known.{run_of, values_of}
-use Rattle.prl_board.specs.RunValues.{half_of, word_of}
-use Rattle.prl_board.specs.Steps.{done_counted, half_loaded, half_stored}
-use Rattle.prl_board.proofs.Following.{const_follows, end_follows, ended_is, found_follows, is_job, known_once, missed_follows, part_after, stands_at, write_follows}
-use Rattle.prl_board.proofs.Reading.{const_no_end, read_no_end, write_no_end}
+use Rattle.prl_board.specs.RunValues.{word_of}
+use Rattle.prl_board.specs.Steps.{half_stored}
+use Rattle.prl_board.proofs.Following.{is_job, known_once, part_after, stands_at, write_follows}
 use Rattle.prl_board.proofs.jobs.JobSeat.store.Goals as goal
 
 pub store_half-requires-clause-stands : goal.store_half-requires-clause-stands

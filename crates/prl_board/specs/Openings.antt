@@ -1,0 +1,51 @@
+-- What stands at the opening of a board.
+use Rattle.std.specs.Prelude.{◌≡◌, ◌<◌, ◌≤◌, ℕ, List, length, replicate, false, Some, slice_get}
+use mathlib.Core.Option.{some}
+use lib.ListN.{get_elem?}
+use Rattle.prl_base.specs.declared.numbers.TaskNo.{TaskNo}
+use Rattle.prl_plan.specs.Runs.{RunConstants}
+use Rattle.prl_board.specs.declared.views.ClockPart.{ClockPart}
+use Rattle.prl_board.specs.declared.views.Constants.{Constants}
+use Rattle.prl_board.specs.declared.views.View.{View}
+use Rattle.prl_board.specs.Boards.{BoardView}
+use Rattle.prl_board.specs.ClockSeats.{ClockSeatView, IsClockOf}
+use Rattle.prl_board.specs.JobSeats.{IsSeatOf, IsStage, JobSeatView}
+use Rattle.prl_board.specs.Known.{run_of, values_of}
+use Rattle.prl_board.specs.Rule.{first_part}
+
+-- the part of the clock at the opening
+abbrev pub first_clock : RunConstants → ClockPart
+first_clock c = record { now = 0; looks = replicate c.tasks 0; count = 0; stop = 0 }
+
+-- in the view, which has the constants of the run, the clock is as it was at the opening
+pub record IsFirstClock (k : Constants) (view : View) : Type 0 where
+  pub known : view.constants ≡ Some k
+  pub part : view.clock ≡ Some (first_clock (run_of k))
+
+-- in the view, which has the constants of the run, task i is as it was at the opening
+pub record HasFirstPart (k : Constants) (i : ℕ) (view : View) : Type 0 where
+  pub known : view.constants ≡ Some k
+  pub part : get_elem? view.tasks i ≡ some (Some (first_part ((values_of k).registers i 0)))
+
+-- it is the seat of the task at the opening: no job has begun
+pub record IsFirstSeat (k : Constants) (i : TaskNo) (s : JobSeatView) : Type 0 where
+  pub part : HasFirstPart k i.0 s.view
+  pub task : s.task ≡ i
+  pub job : s.job ≡ 0
+  pub place : s.place ≡ 0
+  pub stage : IsStage (run_of k) i.0 0 0 false s.stage
+
+-- the seats are those of the tasks, in their order, at the opening
+pub record AreFirstSeats (b : BoardView) (seats : List JobSeatView) : Type 0 where
+  pub tasks : length seats ≡ (run_of b.known).tasks
+  pub each : (i : ℕ) (seat : JobSeatView) → slice_get seats i ≡ Some seat → IsSeatOf b seat × IsFirstSeat b.known (record { 0 = i }) seat
+
+-- the seat is the clock's at the opening
+abbrev pub IsFirstClockOf : BoardView → ClockSeatView → Type 0
+IsFirstClockOf b seat = IsClockOf b seat (first_clock (run_of b.known))
+
+-- the view has the parts of the clock and of all tasks from task i on, as they were at the opening
+pub record AreLeft (k : Constants) (i : ℕ) (view : View) : Type 0 where
+  pub wide : length view.tasks ≡ (run_of k).tasks
+  pub clock : IsFirstClock k view
+  pub tasks : (j : ℕ) → i ≤ j → j < (run_of k).tasks → HasFirstPart k j view

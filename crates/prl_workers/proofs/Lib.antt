@@ -1,0 +1,7 @@
+-- For the crates above: lemmas over public definitions.
+pub mod Operands
+pub mod PortReads
+pub mod Working
+pub mod Serving
+-- For this crate alone.
+mod TaskNames

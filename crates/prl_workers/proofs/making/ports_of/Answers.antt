@@ -1,0 +1,34 @@
+use Rattle.std.proofs.Common.{◌≡◌, ◌<◌, ◌++◌, ℕ, length, [], ◌∷◌, List, take, cond, sym, ap, ◌∙◌, arith}
+use Rattle.std.proofs.lemmas.List.{take_more, length-take-le}
+use Rattle.prl_plan.specs.declared.graphs.Edge.{Edge}
+use Rattle.prl_plan.proofs.UsedLaws.{test_same, test_differs}
+use Rattle.prl_values.specs.Fitting.{port_types}
+use Rattle.prl_workers.proofs.TaskNames.{ports_push, ports_within}
+use Rattle.prl_workers.proofs.making.ports_of.Goals as goal
+use Rattle.prl_workers.proofs.making.ports_of.Goals.{then-edge-i, else-edge-i}
+
+pub overflow_add-count : goal.overflow_add-count
+overflow_add-count c =
+    let bound = ports_within (take c.loop-edge.edge-index c.args.edges.now) c.args.i in
+    let l = length-take-le c.loop-edge.edge-index c.args.edges.now c.loop-edge.auto.edge-index-end in
+    let below : c.loop-edge.edge-index < length c.args.edges.now = c.loop-edge-test.true in
+    let is : c.loop-edge.count ≡ length (port_types (take c.loop-edge.edge-index c.args.edges.now) c.args.i) = c.loop-edge.invariant in
+    let few = c.requires in
+    omega (arith, bound, l, below, is, few)
+
+pub loop-edge-preserved : goal.loop-edge-preserved
+loop-edge-preserved c =
+    let below : c.loop-edge.edge-index < length c.args.edges.now = c.loop-edge-test.true in
+    let more = take_more c.args.edges.now c.loop-edge.edge-index c.edge-item.result below in
+    let is : c.loop-edge.count ≡ length (port_types (take c.loop-edge.edge-index c.args.edges.now) c.args.i) = c.loop-edge.invariant in
+    let push = ports_push (take c.loop-edge.edge-index c.args.edges.now) c.edge-item.result c.args.i in
+    let whole = ap (λ (xs : List Edge). length (port_types xs c.args.i))
+    (more ∙ ap (λ (e : Edge). take c.loop-edge.edge-index c.args.edges.now ++ e ∷ []) (sym c.edge-item.is)) in
+    elim c.if-edge-i.branch [
+      | then-edge-i w ↦
+          (let count = w.count-is in let one = ap {B = ℕ} (λ b. cond b 1 0) (test_same c.edge-item.result.to.0 c.args.i w.if-edge-i.true) in
+          omega (arith, is, push, whole, count, one))
+      | else-edge-i w ↦
+          (let count = w.count-is in let none = ap {B = ℕ} (λ b. cond b 1 0) (test_differs c.edge-item.result.to.0 c.args.i w.if-edge-i.false) in
+          omega (arith, is, push, whole, count, none))
+    ]

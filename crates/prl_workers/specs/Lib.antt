@@ -1,0 +1,2 @@
+-- what a worker keeps, asks for and does
+pub mod Workers
