@@ -37,7 +37,7 @@ fn above(alloc: Global, plan: &Plan, scale: Scale, shapes: &[Shape]) -> Result<V
     requires span { 0 < scale.span }
 {
     let mut text = Vec::new(alloc);
-    push_details(&mut text, plan, shapes)?;
+    push_details(&mut text, plan, scale, shapes)?;
     push_arrows(&mut text, plan, scale)?;
     push(&mut text, "</svg>\n")?;
     Ok(text)
