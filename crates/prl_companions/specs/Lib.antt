@@ -1,0 +1,6 @@
+-- the words of a command line
+pub mod Pairs
+-- how a call ends
+pub mod Endings
+-- the files that are read
+pub mod Files

@@ -1,0 +1,10 @@
+-- lines and columns
+pub mod Places
+-- the kinds of lines
+pub mod Kinds
+-- where a name stands in a program
+pub mod Names
+-- the byte that a line speaks of
+pub mod Spots
+-- what is written
+pub mod Explanations

@@ -1,0 +1,222 @@
+//! The explanation of a line: the place of its fault, the line of the source with a mark, and what is wrong there.
+
+ghost use Rattle.std.specs.Prelude.{◌≡◌, ◌++◌, ◌≤◌, ◌<◌, ◌^◌, drop, map, IfOk, IfErr, OnOk, length};
+ghost use Rattle.std.specs.Option.{option_map};
+ghost use Rattle.std.specs.String.{string_bytes};
+ghost use Rattle.prl_explain.specs.Explanations.{Answers, IsByFile, IsExplanation, IsOfKind, IsStop, IsStopOfFile, marked, most_of, most_told, name_of, option_of, part_of, place_text, sentence_text, shown_text};
+
+use crate::kinds::{Kind, Part, Target, argument_of, kind_of};
+use crate::places::{line_front, line_rest, place_of, push_lead};
+use crate::spots::spot_of;
+use crate::table::kinds;
+use prl_base::push_number;
+use prl_companions::{Stop, after_name, are_pairs, finish, read_named, value_of};
+use prl_io::{Files, Sink};
+use std::alloc::{AllocError, Global};
+
+/// The most bytes of a program or of bodies.
+pub const MAX_PROGRAM: u64 = 1_048_576;
+
+/// The most bytes of sensor rows.
+pub const MAX_SENSORS: u64 = 33_554_432;
+
+/// The most bytes of a schedule.
+pub const MAX_SCHEDULE: u64 = 83_886_080;
+
+/// The form of the words.
+const FORM: &str =
+    "prelude_explain [--program FILE] [--bodies FILE] [--sensors FILE] [--schedule FILE]";
+
+/// Why there is no explanation.
+const NO_LINE: &str = "standard input is not one line of prelude";
+
+/// The options of the words.
+static OPTIONS: [&[u8]; 4] = [b"--program", b"--bodies", b"--sensors", b"--schedule"];
+
+/// The file in which a place is told.
+fn part_of(target: Target) -> Option<Part>
+    ensures { result ≡ part_of target }
+{
+    match target {
+        Target::Nowhere => None,
+        Target::Byte(part) => Some(part),
+        Target::Line(part) => Some(part),
+        Target::Word | Target::Task | Target::Flow | Target::Variable => Some(Part::Program),
+    }
+}
+
+/// The option that names a file.
+fn option_of(part: Part) -> &'static [u8]
+    ensures { result.now ≡ option_of part }
+{
+    match part {
+        Part::Program => b"--program",
+        Part::Bodies => b"--bodies",
+        Part::Sensors => b"--sensors",
+        Part::Schedule => b"--schedule",
+    }
+}
+
+/// The most bytes that a file may have.
+fn most_of(part: Part) -> u64
+    ensures { result ≡ most_of part }
+{
+    match part {
+        Part::Program => MAX_PROGRAM,
+        Part::Bodies => MAX_PROGRAM,
+        Part::Sensors => MAX_SENSORS,
+        Part::Schedule => MAX_SCHEDULE,
+    }
+}
+
+/// Appends the place of a byte of a file: the file's name, the line and the column.
+fn push_place(text: &mut Vec<u8>, name: &[u8], source: &[u8], at: usize) -> Result<(), AllocError>
+    requires { at ≤ length source.now }
+    ensures { OnOk result (text.new.items ≡ text.old.items ++ place_text name.now source.now at) }
+{
+    let place = place_of(source, at);
+    text.extend_from_slice(name)?;
+    text.push(b':')?;
+    push_number(text, place.line)?;
+    text.push(b':')?;
+    push_number(text, place.column)?;
+    text.push(b'\n')?;
+    Ok(())
+}
+
+/// Appends the line in which a byte of a file stands, and below it a mark under the byte.
+fn push_marked(text: &mut Vec<u8>, source: &[u8], at: usize) -> Result<(), AllocError>
+    requires { at ≤ length source.now }
+    ensures { OnOk result (text.new.items ≡ text.old.items ++ marked source.now at) }
+{
+    let front = line_front(source, at);
+    text.extend_from_slice(front)?;
+    text.extend_from_slice(line_rest(source, at))?;
+    text.push(b'\n')?;
+    push_lead(text, front)?;
+    text.extend_from_slice(b"^\n")
+}
+
+/// The explanation with the place of a byte of a file.
+fn with_place(
+    alloc: Global,
+    name: &[u8],
+    source: &[u8],
+    at: usize,
+    sentence: &str,
+) -> Result<Vec<u8>, AllocError>
+    requires { at ≤ length source.now }
+    ensures { IfOk result (λ text. text.items ≡ shown_text name.now source.now at sentence.now) }
+{
+    let mut text = Vec::new(alloc);
+    push_place(&mut text, name, source, at)?;
+    push_marked(&mut text, source, at)?;
+    text.extend_from_slice(sentence.as_bytes())?;
+    text.push(b'\n')?;
+    Ok(text)
+}
+
+/// The explanation without a place.
+fn without_place(alloc: Global, sentence: &str) -> Result<Vec<u8>, AllocError>
+    ensures { IfOk result (λ text. text.items ≡ sentence_text sentence.now) }
+{
+    let mut text = Vec::new(alloc);
+    text.extend_from_slice(sentence.as_bytes())?;
+    text.push(b'\n')?;
+    Ok(text)
+}
+
+/// The name of the file in which a place is told, where the words have one.
+fn name_of<'a>(target: Target, words: &'a [String]) -> Option<&'a [u8]>
+    ensures { option_map (λ name. name.now) result ≡ name_of target (map string_bytes words.now) }
+{
+    match part_of(target) {
+        None => None,
+        Some(part) => value_of(option_of(part), words),
+    }
+}
+
+/// The most bytes of the file in which a place is told.
+fn most_told(target: Target) -> u64
+    ensures exact { result ≡ most_told target }
+    ensures small { result < 2 ^ 32 }
+{
+    match part_of(target) {
+        None => 0,
+        Some(part) => most_of(part),
+    }
+}
+
+/// The explanation of a line of a kind by a file.
+fn by_file(
+    alloc: Global,
+    kind: &Kind,
+    line: &[u8],
+    name: &[u8],
+    source: &[u8],
+) -> Result<Vec<u8>, AllocError>
+    requires { length source.now < 2 ^ 32 }
+    ensures { IfOk result (λ text. IsByFile kind.now line.now name.now source.now text.items) }
+{
+    match spot_of(alloc, source, kind.target, argument_of(kind, line))? {
+        None => without_place(alloc, kind.sentence),
+        Some(at) => with_place(alloc, name, source, at, kind.sentence),
+    }
+}
+
+/// The explanation of a line of a kind.
+fn of_kind<F: Files>(
+    alloc: Global,
+    words: &[String],
+    kind: &Kind,
+    line: &[u8],
+    files: &mut F,
+) -> Result<Vec<u8>, Stop>
+    ensures text { IfOk result (λ text. IsOfKind (F.seen files.old).folder (map string_bytes words.now) kind.now line.now text.items) }
+    ensures stop { IfErr result (IsStopOfFile (F.seen files.old) (F.seen files.new) (map string_bytes words.now)) }
+    ensures kept { (F.seen files.new).folder ≡ (F.seen files.old).folder }
+{
+    let Some(name) = name_of(kind.target, words) else {
+        return Ok(without_place(alloc, kind.sentence)?);
+    };
+    let source = read_named(alloc, files, name, most_told(kind.target))?;
+    Ok(by_file(alloc, kind, line, name, &source)?)
+}
+
+/// The explanation of a line.
+fn explanation<F: Files>(
+    alloc: Global,
+    words: &[String],
+    line: &[u8],
+    files: &mut F,
+) -> Result<Vec<u8>, Stop>
+    ensures text { IfOk result (λ text. IsExplanation (F.seen files.old).folder (map string_bytes words.now) line.now text.items) }
+    ensures stop { IfErr result (IsStop (F.seen files.old) (F.seen files.new) (map string_bytes words.now)) }
+    ensures kept { (F.seen files.new).folder ≡ (F.seen files.old).folder }
+{
+    if !are_pairs(&OPTIONS, words) {
+        return Err(Stop::Words(FORM));
+    }
+    match kind_of(kinds(), line) {
+        None => Err(Stop::Refused(NO_LINE)),
+        Some(kind) => of_kind(alloc, words, kind, line, files),
+    }
+}
+
+/// Explains a line that `prelude` wrote on `err`: the explanation goes to `out`, and at every status but 0 one line goes to
+/// `err`. The first word is the program's own name, which is passed over.
+pub fn explain<F: Files, S: Sink, E: Sink>(
+    alloc: Global,
+    words: &[String],
+    line: &[u8],
+    files: &mut F,
+    out: &mut S,
+    err: &mut E,
+) -> u8
+    ensures { Answers (drop 1 (map string_bytes words.now)) line.now
+        (F.seen files.old) (F.seen files.new) (S.seen out.old) (S.seen out.new)
+        (E.seen err.old) (E.seen err.new) result }
+{
+    let outcome = explanation(alloc, after_name(words), line, files);
+    finish(out, err, &outcome)
+}

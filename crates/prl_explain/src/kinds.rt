@@ -1,0 +1,88 @@
+//! The kinds of lines that `prelude` writes on `err`.
+
+ghost use Rattle.std.specs.Prelude.{◌≡◌, IfSome};
+ghost use Rattle.std.specs.List.{before_first};
+ghost use Rattle.prl_explain.specs.Kinds.{argument_of, is_gap, is_line_of, IsLineOf};
+
+use prl_base::line_len;
+
+/// The files that a line may speak of.
+#[derive(Clone, Copy, Debug, PartialEq, Eq)]
+pub enum Part {
+    Program,
+    Bodies,
+    Sensors,
+    Schedule,
+}
+
+/// How a line tells the place of its fault.
+#[derive(Clone, Copy, Debug, PartialEq, Eq)]
+pub enum Target {
+    /// It tells no place.
+    Nowhere,
+    /// By the index of a byte of the file.
+    Byte(Part),
+    /// By the number of a line of the file.
+    Line(Part),
+    /// By a name that the program has.
+    Word,
+    /// By the name of a node, a sensor or an actuator, or of the task of one: an import is followed by `@` and a number.
+    Task,
+    /// By the name of a flow: a name of main, or `NODE#N.NAME`.
+    Flow,
+    /// By `NODE.NAME`.
+    Variable,
+}
+
+/// What lines of a kind begin and end with, how they tell the place, and what is wrong there.
+#[derive(Clone, Copy, Debug)]
+pub struct Kind {
+    pub front: &'static str,
+    pub tail: &'static str,
+    pub target: Target,
+    pub sentence: &'static str,
+}
+
+/// Whether the text is one line of the kind.
+fn is_line_of(kind: &Kind, line: &[u8]) -> bool
+    ensures { result ≡ is_line_of kind.now line.now }
+{
+    line.starts_with(kind.front.as_bytes()) && line.ends_with(kind.tail.as_bytes())
+}
+
+/// The first of the kinds whose line the text is.
+pub(crate) fn kind_of<'a>(kinds: &'a [Kind], line: &[u8]) -> Option<&'a Kind>
+    ensures { IfSome result (λ kind. IsLineOf kind.now line.now) }
+{
+    if line_len(line) + 1 != line.len() {
+        return None;
+    }
+    for kind in kinds {
+        if is_line_of(kind, line) {
+            return Some(kind);
+        }
+    }
+    None
+}
+
+/// The first word after the front of a line.
+pub(crate) fn argument_of<'a>(kind: &Kind, line: &'a [u8]) -> &'a [u8]
+    ensures { result.now ≡ argument_of kind.now line.now }
+{
+    match line.strip_prefix(kind.front.as_bytes()) {
+        None => &[],
+        Some(rest) => word_of(rest),
+    }
+}
+
+/// What stands before the first blank or line feed.
+fn word_of(text: &[u8]) -> &[u8]
+    ensures { result.now ≡ before_first is_gap text.now }
+{
+    for (i, byte) in text.iter().enumerate() {
+        if *byte == b' ' || *byte == b'\n' {
+            return &text[..i];
+        }
+    }
+    text
+}

@@ -1,0 +1,19 @@
+use Rattle.std.proofs.Common.{◌≡◌, ◌++◌, ◌-◌, ◌+◌, ◌%◌, ℕ, List, codes, refl, rules, append_assoc}
+use Rattle.prl_picture.specs.declared.windows.TheConstants.{COLOURS, GAP}
+use Rattle.prl_picture.specs.Windows.{attribute_text, row_of}
+use Rattle.prl_picture.proofs.windows.push_window.Goals as goal
+
+-- five texts, appended one after another
+five : (t t1 t2 t3 t4 t5 a b c d e : List ℕ) → t1 ≡ t ++ a → t2 ≡ t1 ++ b → t3 ≡ t2 ++ c → t4 ≡ t3 ++ d → t5 ≡ t4 ++ e
+    → t5 ≡ t ++ (a ++ b ++ c ++ d ++ e)
+five t t1 t2 t3 t4 t5 a b c d e p1 p2 p3 p4 p5 = rw (p5, p4, p3, p2, p1) (simp append_assoc refl)
+
+pub returns : goal.returns
+returns c =
+    let shape = c.args.shape.now in
+    let s1 : c.push_attribute.new.text.items ≡ c.args.text.now.items ++ attribute_text (codes "<rect class=\"w t") (shape.task % COLOURS) = search rules in
+    let s2 : c.push_attribute-2.new.text.items ≡ c.push_attribute.new.text.items ++ attribute_text (codes "\" x=\"") shape.left = search rules in
+    let s3 : c.push_attribute-3.new.text.items ≡ c.push_attribute-2.new.text.items ++ attribute_text (codes "\" y=\"") (row_of shape.task + GAP) = search rules in
+    let s4 : c.push_attribute-4.new.text.items ≡ c.push_attribute-3.new.text.items ++ attribute_text (codes "\" width=\"") (shape.right - shape.left) = search rules in
+    let s5 : c.extend_from_slice.new.self.items ≡ c.push_attribute-4.new.text.items ++ codes "\" height=\"200\"/>\n" = c.in_ok-extend_from_slice.ensures.items in
+    five c.args.text.now.items _ _ _ _ _ _ _ _ _ _ s1 s2 s3 s4 s5

@@ -1,0 +1,8 @@
+use Rattle.std.proofs.Common.{◌≡◌, take}
+use Rattle.std.specs.List.{flat_map}
+use Rattle.prl_picture.specs.Windows.{window_text}
+use Rattle.prl_picture.proofs.windows.windows.Given as goal
+
+-- the windows of the jobs that were passed
+abbrev pub invariant-loop-shape : goal.invariant-loop-shape
+invariant-loop-shape l = l.text.items ≡ flat_map window_text (take l.shape-index l.shapes)

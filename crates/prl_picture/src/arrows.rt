@@ -1,0 +1,117 @@
+//! The precedences among the jobs of a picture, as arrows.
+
+ghost use Rattle.std.specs.Prelude.{◌≡◌, ◌<◌, ◌≤◌, ◌^◌, length};
+ghost use Rattle.prl_plan.specs.Jobs.{job_count, task_at};
+ghost use Rattle.prl_plan.specs.Plans.{edge_at};
+
+use crate::frames::push;
+use crate::look_ups::{edge_of, job_count, operand_of};
+use crate::scales::Scale;
+use crate::shapes::{Shape, shape_of};
+use crate::windows::{push_attribute, row_of};
+use prl_base::{EdgeNo, Op, TaskNo};
+use prl_plan::{Edge, Operand, Plan, Producer, plan_is_one};
+use std::alloc::AllocError;
+
+/// Whether a delay lies on an edge: an operator that puts initial values before a flow.
+fn is_delayed(edge: &Edge) -> bool {
+    for op in edge.ops.as_slice() {
+        match op {
+            Op::Fby(_) => return true,
+            Op::Cons(_) => return true,
+            Op::Tail => {}
+            Op::Up(_) => {}
+            Op::Down(_) => {}
+            Op::Shift(_) => {}
+        }
+    }
+    false
+}
+
+/// Appends an arrow from the bar of one job to the window of another.
+fn push_arrow(
+    text: &mut Vec<u8>,
+    delayed: bool,
+    before: &Shape,
+    after: &Shape,
+) -> Result<(), AllocError> {
+    let start = before.bar.min(before.right);
+    push(
+        text,
+        if delayed {
+            "<path class=\"a d\" d=\""
+        } else {
+            "<path class=\"a\" d=\""
+        },
+    )?;
+    push_attribute(text, "M", start)?;
+    push_attribute(text, " ", row_of(before.task) + 220)?;
+    push_attribute(text, "C", start.saturating_add(160))?;
+    push_attribute(text, " ", row_of(before.task) + 220)?;
+    push_attribute(text, " ", after.left.saturating_sub(160))?;
+    push_attribute(text, " ", row_of(after.task) + 150)?;
+    push_attribute(text, " ", after.left)?;
+    push_attribute(text, " ", row_of(after.task) + 150)?;
+    push(text, "\"/>\n")
+}
+
+/// Appends an arrow from the job that gives what job `n` of the consumer reads on an edge, where both are drawn.
+fn push_reading(
+    text: &mut Vec<u8>,
+    plan: &Plan,
+    scale: Scale,
+    e: EdgeNo,
+    n: u64,
+) -> Result<(), AllocError>
+    requires edge { e.0 < length plan.now.graph.edges }
+    requires until { scale.until < 2 ^ 32 }
+    requires from { scale.from ≤ scale.until }
+    requires span { 0 < scale.span }
+    requires job { n < job_count (task_at plan.now.graph (edge_at plan.now.graph e.0).to.0) scale.until }
+{
+    let edge = edge_of(plan, e);
+    let Producer::Port { task, .. } = edge.from else {
+        return Ok(());
+    };
+    let Operand::From(m) = operand_of(plan, e, n, scale.until) else {
+        return Ok(());
+    };
+    if task.0 as usize >= plan.graph().tasks.len()
+        || m < job_count(plan, task, scale.from)
+        || m >= job_count(plan, task, scale.until)
+    {
+        return Ok(());
+    }
+    let before = shape_of(plan, scale, task, m);
+    let after = shape_of(plan, scale, edge.to, n);
+    push_arrow(text, is_delayed(edge), &before, &after)
+}
+
+/// Appends the arrows of an edge.
+fn push_edge(text: &mut Vec<u8>, plan: &Plan, scale: Scale, e: EdgeNo) -> Result<(), AllocError>
+    requires edge { e.0 < length plan.now.graph.edges }
+    requires until { scale.until < 2 ^ 32 }
+    requires from { scale.from ≤ scale.until }
+    requires span { 0 < scale.span }
+{
+    let to = edge_of(plan, e).to;
+    let first = job_count(plan, to, scale.from);
+    let last = job_count(plan, to, scale.until);
+    for n in first..last {
+        push_reading(text, plan, scale, e, n)?;
+    }
+    Ok(())
+}
+
+/// Appends the arrows of all edges.
+pub(crate) fn push_arrows(text: &mut Vec<u8>, plan: &Plan, scale: Scale) -> Result<(), AllocError>
+    requires until { scale.until < 2 ^ 32 }
+    requires from { scale.from ≤ scale.until }
+    requires span { 0 < scale.span }
+{
+    plan_is_one(plan);
+    for e in 0..plan.graph().edges.len() {
+        push_edge(text, plan, scale, EdgeNo(e as u32))?;
+    }
+    Ok(())
+}

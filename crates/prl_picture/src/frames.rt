@@ -1,0 +1,222 @@
+//! What stands around the windows of a picture: its head, the ticks, and the names of the tasks.
+
+ghost use Rattle.std.specs.Prelude.{◌<◌, ◌^◌};
+
+use crate::scales::{LEFT, Scale, WIDTH, x_of};
+use crate::windows::{TOP, push_attribute, row_of};
+use prl_plan::{Plan, plan_is_one};
+use std::alloc::AllocError;
+
+/// How wide a picture is, in tenths of a pixel.
+const WHOLE: u64 = 12_000;
+
+/// How wide a name may be.
+const NAME_WIDTH: u64 = 1_450;
+
+/// How many bytes of a name fit without being narrowed.
+const NAME_BYTES: usize = 20;
+
+/// How many ticks have a number, at most.
+const LABELS: u64 = 20;
+
+/// How far numbers of ticks may lie apart.
+static STEPS: [u64; 31] = [
+    1,
+    2,
+    5,
+    10,
+    20,
+    50,
+    100,
+    200,
+    500,
+    1_000,
+    2_000,
+    5_000,
+    10_000,
+    20_000,
+    50_000,
+    100_000,
+    200_000,
+    500_000,
+    1_000_000,
+    2_000_000,
+    5_000_000,
+    10_000_000,
+    20_000_000,
+    50_000_000,
+    100_000_000,
+    200_000_000,
+    500_000_000,
+    1_000_000_000,
+    2_000_000_000,
+    5_000_000_000,
+    10_000_000_000,
+];
+
+/// How things look. Colours are those that most eyes tell apart.
+const STYLE: &str = "<style>text{font-family:sans-serif;font-size:120px;fill:#222}\
+    .k{font-size:100px;fill:#666}.x{font-size:100px;fill:#444;text-anchor:middle}\
+    .j{font-size:100px;fill:#222}.g{stroke:#ddd;stroke-width:8;fill:none}\
+    .l{stroke:#bbb;stroke-width:10;fill:none}.o{stroke:#222;stroke-width:14;fill:none}\
+    .a{stroke:#555;stroke-width:9;fill:none;marker-end:url(#p)}.d{stroke-dasharray:50 40}\
+    .w{fill-opacity:.35;stroke:#444;stroke-width:8}.h{fill-opacity:0}\
+    .t0{fill:#E69F00}.t1{fill:#56B4E9}.t2{fill:#009E73}.t3{fill:#F0E442}\
+    .t4{fill:#0072B2}.t5{fill:#D55E00}.t6{fill:#CC79A7}.t7{fill:#999999}</style>\n\
+    <defs><marker id=\"p\" viewBox=\"0 0 10 10\" refX=\"9\" refY=\"5\" markerWidth=\"90\" \
+    markerHeight=\"90\" markerUnits=\"userSpaceOnUse\" orient=\"auto\">\
+    <path d=\"M0 1L10 5L0 9z\" fill=\"#555\"/></marker></defs>\n\
+    <rect width=\"100%\" height=\"100%\" fill=\"#fff\"/>\n";
+
+/// What the signs mean.
+const LEGEND: &str = "<rect class=\"w t7\" x=\"1600\" y=\"330\" width=\"300\" height=\"160\"/>\
+    <text x=\"1960\" y=\"455\">window: encoded release to encoded deadline</text>\
+    <rect class=\"t7\" x=\"4900\" y=\"410\" width=\"300\" height=\"80\"/>\
+    <text x=\"5260\" y=\"455\">WCET</text>\
+    <path class=\"o\" d=\"M5900 320v180\"/>\
+    <text x=\"5960\" y=\"455\">own release or deadline, where another</text>\
+    <path class=\"a\" d=\"M8400 415h320\"/><text x=\"8780\" y=\"455\">precedes</text>\
+    <path class=\"a d\" d=\"M9500 415h320\"/><text x=\"9880\" y=\"455\">after a delay</text>\n";
+
+/// Appends a text.
+pub(crate) fn push(text: &mut Vec<u8>, piece: &str) -> Result<(), AllocError> {
+    text.extend_from_slice(piece.as_bytes())
+}
+
+/// How high a picture of so many tasks is.
+fn height_of(tasks: u32) -> u64 {
+    row_of(tasks) + 200
+}
+
+/// Appends what a picture begins with.
+fn push_opening(text: &mut Vec<u8>, height: u64) -> Result<(), AllocError> {
+    push(
+        text,
+        "<svg xmlns=\"http://www.w3.org/2000/svg\" width=\"1200\"",
+    )?;
+    push_attribute(text, " height=\"", height / 10)?;
+    push_attribute(text, "\" viewBox=\"0 0 ", WHOLE)?;
+    push_attribute(text, " ", height)?;
+    push(text, "\">\n")?;
+    push(text, STYLE)?;
+    push(text, LEGEND)
+}
+
+/// Appends the line that says what is drawn, and how many jobs are not.
+fn push_title(
+    text: &mut Vec<u8>,
+    plan: &Plan,
+    scale: Scale,
+    left_out: u64,
+) -> Result<(), AllocError> {
+    push_attribute(
+        text,
+        "<text x=\"100\" y=\"190\">hyperperiod ",
+        plan.graph().hyper,
+    )?;
+    push_attribute(
+        text,
+        " ticks; jobs that are released from tick ",
+        scale.from,
+    )?;
+    push_attribute(text, " on and before tick ", scale.until)?;
+    if left_out > 0 {
+        push_attribute(text, "; ", left_out)?;
+        push(text, " later jobs of the range are not drawn")?;
+    }
+    push(text, "</text>\n")
+}
+
+/// How far the numbers of ticks lie apart.
+fn step_of(span: u64) -> u64
+    ensures { 0 < result }
+{
+    for step in STEPS {
+        if step > 0 && span / step < LABELS {
+            return step;
+        }
+    }
+    span.max(1)
+}
+
+/// Appends a line at a tick, and its number.
+fn push_tick(text: &mut Vec<u8>, x: u64, tick: u64, bottom: u64) -> Result<(), AllocError> {
+    push_attribute(text, "<path class=\"g\" d=\"M", x)?;
+    push_attribute(text, " ", TOP)?;
+    push_attribute(text, "V", bottom)?;
+    push_attribute(text, "\"/><text class=\"x\" x=\"", x)?;
+    push_attribute(text, "\" y=\"", TOP - 60)?;
+    push_attribute(text, "\">", tick)?;
+    push(text, "</text>\n")
+}
+
+/// Appends lines at some ticks, and their numbers.
+fn push_ticks(text: &mut Vec<u8>, scale: Scale, bottom: u64) -> Result<(), AllocError>
+    requires from { scale.from < 2 ^ 32 }
+    requires span { (0 < scale.span) × (scale.span < 2 ^ 33) }
+{
+    let step = step_of(scale.span);
+    let end = scale.from + scale.span;
+    let first = scale.from.div_ceil(step);
+    for k in first..end / step + 1 {
+        let tick = k * step;
+        push_tick(text, x_of(scale, tick), tick, bottom)?;
+    }
+    Ok(())
+}
+
+/// Appends the name of a task, its period and its WCET, and a line above its row.
+fn push_name(
+    text: &mut Vec<u8>,
+    name: &[u8],
+    y: u64,
+    period: u64,
+    wcet: u32,
+) -> Result<(), AllocError>
+    requires { y < 2 ^ 42 }
+{
+    push_attribute(text, "<path class=\"l\" d=\"M100 ", y)?;
+    push_attribute(text, "H", LEFT + WIDTH + 200)?;
+    push_attribute(text, "\"/><text x=\"100\" y=\"", y + 190)?;
+    if name.len() > NAME_BYTES {
+        push_attribute(
+            text,
+            "\" lengthAdjust=\"spacingAndGlyphs\" textLength=\"",
+            NAME_WIDTH,
+        )?;
+    }
+    push(text, "\">")?;
+    text.extend_from_slice(name)?;
+    push_attribute(text, "</text><text class=\"k\" x=\"100\" y=\"", y + 320)?;
+    push_attribute(text, "\">period ", period)?;
+    push_attribute(text, ", wcet ", u64::from(wcet))?;
+    push(text, "</text>\n")
+}
+
+/// Appends the names of the tasks.
+fn push_names(text: &mut Vec<u8>, plan: &Plan) -> Result<(), AllocError> {
+    plan_is_one(plan);
+    for (i, task) in plan.graph().tasks.as_slice().iter().enumerate() {
+        let y = row_of(i as u32);
+        push_name(text, task.name.bytes(), y, task.clock.period, task.wcet)?;
+    }
+    Ok(())
+}
+
+/// Appends what stands below the windows of a picture.
+pub(crate) fn push_head(
+    text: &mut Vec<u8>,
+    plan: &Plan,
+    scale: Scale,
+    left_out: u64,
+) -> Result<(), AllocError>
+    requires from { scale.from < 2 ^ 32 }
+    requires span { (0 < scale.span) × (scale.span < 2 ^ 33) }
+{
+    plan_is_one(plan);
+    let tasks = plan.graph().tasks.len() as u32;
+    push_opening(text, height_of(tasks))?;
+    push_title(text, plan, scale, left_out)?;
+    push_ticks(text, scale, row_of(tasks))?;
+    push_names(text, plan)
+}

@@ -1,0 +1,17 @@
+//! Pictures of plans: the jobs of a range of ticks, where a scale puts their dates, drawn as SVG. It stands on `prl_plan`,
+//! `prl_plantext`, `prl_io` and `prl_companions`.
+#![tactic(auto)]
+
+mod arrows;
+mod details;
+mod frames;
+mod look_ups;
+mod pictures;
+mod ranges;
+mod scales;
+mod shapes;
+mod windows;
+
+pub use pictures::{draw, picture_of};
+pub use scales::{LEFT, Scale, WIDTH, x_of};
+pub use shapes::{Shape, shapes_of};

@@ -1,0 +1,30 @@
+//! Where a tick stands in a picture.
+
+ghost use Rattle.std.specs.Prelude.{◌≡◌, ◌<◌, ◌^◌};
+ghost use Rattle.prl_picture.specs.Scales.{x_of};
+
+/// Where the first tick stands, in tenths of a pixel.
+pub const LEFT: u64 = 1_600;
+
+/// How wide all ticks are together, in tenths of a pixel.
+pub const WIDTH: u64 = 10_000;
+
+/// What ticks are drawn, and how wide.
+#[derive(Clone, Copy, Debug, PartialEq, Eq)]
+pub struct Scale {
+    /// The first tick.
+    pub from: u64,
+    /// The jobs that are released at this tick or later are not drawn.
+    pub until: u64,
+    /// How many ticks the width stands for.
+    pub span: u64,
+}
+
+/// Where a tick stands, in tenths of a pixel: a tick before the first one stands where that does.
+pub fn x_of(scale: Scale, tick: u64) -> u64
+    requires tick { tick < 2 ^ 34 }
+    requires span { 0 < scale.span }
+    ensures { result ≡ x_of scale tick }
+{
+    LEFT + tick.saturating_sub(scale.from) * WIDTH / scale.span
+}

@@ -1,0 +1,93 @@
+//! The jobs that a picture shows, and where they stand in it.
+
+ghost use Rattle.std.specs.Prelude.{◌≡◌, ◌++◌, ◌<◌, ◌≤◌, ◌^◌, IfOk, OnOk, length};
+ghost use Rattle.prl_plan.specs.Jobs.{job_count, task_at};
+ghost use Rattle.prl_picture.specs.Shapes.{shape_of, shapes_of, shapes_of_task};
+
+use crate::look_ups::{deadline_of, job_count, own_release, release_of, task_of};
+use crate::scales::{Scale, x_of};
+use prl_base::TaskNo;
+use prl_plan::{Plan, plan_is_one};
+use std::alloc::{AllocError, Global};
+
+/// A job, its dates in ticks, and where they stand.
+#[derive(Clone, Copy, Debug, PartialEq, Eq)]
+pub struct Shape {
+    pub task: u32,
+    pub job: u64,
+    /// The encoded release.
+    pub release: u64,
+    /// The encoded deadline.
+    pub deadline: u64,
+    /// Where the window begins: at the encoded release.
+    pub left: u64,
+    /// Where the window ends: at the encoded deadline.
+    pub right: u64,
+    /// Where the bar of the WCET ends that begins at the encoded release.
+    pub bar: u64,
+    /// Where the job's own release stands.
+    pub own_left: u64,
+    /// Where the job's own deadline stands.
+    pub own_right: u64,
+}
+
+/// A job of the picture.
+pub(crate) fn shape_of(plan: &Plan, scale: Scale, i: TaskNo, n: u64) -> Shape
+    requires task { i.0 < length plan.now.graph.tasks }
+    requires until { scale.until < 2 ^ 32 }
+    requires span { 0 < scale.span }
+    requires job { n < job_count (task_at plan.now.graph i.0) scale.until }
+    ensures { result ≡ shape_of plan.now scale i.0 n }
+{
+    let task = task_of(plan, i);
+    let own = own_release(plan, i, n, scale.until);
+    let release = release_of(plan, i, n, scale.until);
+    let deadline = deadline_of(plan, i, n, scale.until);
+    Shape {
+        task: i.0,
+        job: n,
+        release,
+        deadline,
+        left: x_of(scale, release),
+        right: x_of(scale, deadline),
+        bar: x_of(scale, release + u64::from(task.wcet)),
+        own_left: x_of(scale, own),
+        own_right: x_of(scale, own + task.due),
+    }
+}
+
+/// Appends the jobs of a task that are released from the first tick on and before the last.
+fn push_jobs(
+    shapes: &mut Vec<Shape>,
+    plan: &Plan,
+    scale: Scale,
+    i: TaskNo,
+) -> Result<(), AllocError>
+    requires task { i.0 < length plan.now.graph.tasks }
+    requires until { scale.until < 2 ^ 32 }
+    requires span { 0 < scale.span }
+    requires order { scale.from ≤ scale.until }
+    ensures { OnOk result (shapes.new.items ≡ shapes.old.items ++ shapes_of_task plan.now scale i.0) }
+{
+    let first = job_count(plan, i, scale.from);
+    let last = job_count(plan, i, scale.until);
+    for n in first..last {
+        shapes.push(shape_of(plan, scale, i, n))?;
+    }
+    Ok(())
+}
+
+/// The jobs of the plan that are released from the first tick on and before the last, task after task, in order.
+pub fn shapes_of(alloc: Global, plan: &Plan, scale: Scale) -> Result<Vec<Shape>, AllocError>
+    requires until { scale.until < 2 ^ 32 }
+    requires span { 0 < scale.span }
+    requires order { scale.from ≤ scale.until }
+    ensures { IfOk result (λ shapes. shapes.items ≡ shapes_of plan.now scale) }
+{
+    plan_is_one(plan);
+    let mut shapes = Vec::new(alloc);
+    for i in 0..plan.graph().tasks.len() {
+        push_jobs(&mut shapes, plan, scale, TaskNo(i as u32))?;
+    }
+    Ok(shapes)
+}
