@@ -175,15 +175,32 @@ fn sampling_schedule(alloc: Global) -> Result<String, Fail> {
     Ok(text)
 }
 
-/// The sampling program with rows and a schedule.
-fn sampling_with(alloc: Global, rows: &str, schedule: &str) -> Result<MemFiles, Fail> {
+/// A program with its bodies, rows and a schedule.
+fn replay_files(
+    alloc: Global,
+    program: &[u8],
+    bodies: &[u8],
+    rows: &[u8],
+    schedule: &[u8],
+) -> Result<MemFiles, Fail> {
     let entries = [
-        ("p.prl", SAMPLING),
-        ("b.bod", SAMPLING_BODIES),
-        ("i.csv", rows.as_bytes()),
-        ("s.txt", schedule.as_bytes()),
+        ("p.prl", program),
+        ("b.bod", bodies),
+        ("i.csv", rows),
+        ("s.txt", schedule),
     ];
     files(alloc, &entries, &[])
+}
+
+/// The sampling program with rows and a schedule.
+fn sampling_with(alloc: Global, rows: &str, schedule: &str) -> Result<MemFiles, Fail> {
+    replay_files(
+        alloc,
+        SAMPLING,
+        SAMPLING_BODIES,
+        rows.as_bytes(),
+        schedule.as_bytes(),
+    )
 }
 
 #[test]
@@ -236,13 +253,8 @@ fn check_replay(
     told: Told<'_>,
 ) -> Result<(), Fail> {
     let text = program(alloc, "i")?;
-    let entries = [
-        ("p.prl", text.as_str().as_bytes()),
-        ("b.bod", b"".as_slice()),
-        ("i.csv", b"i,0,1\ni,1,2\n".as_slice()),
-        ("s.txt", schedule.as_bytes()),
-    ];
-    let files = files(alloc, &entries, &[])?;
+    let rows = b"i,0,1\ni,1,2\n";
+    let files = replay_files(alloc, text.as_bytes(), b"", rows, schedule.as_bytes())?;
     check(rt, alloc, &replay_line(until), files, told)
 }
 
@@ -300,13 +312,13 @@ fn schedules(rt: HostRuntime) -> Result<(), Fail> {
 
 /// The flight controller with this schedule.
 fn autopilot(alloc: Global, schedule: &[u8]) -> Result<MemFiles, Fail> {
-    let entries = [
-        ("p.prl", AUTOPILOT),
-        ("b.bod", AUTOPILOT_BODIES),
-        ("i.csv", AUTOPILOT_SENSORS),
-        ("s.txt", schedule),
-    ];
-    files(alloc, &entries, &[])
+    replay_files(
+        alloc,
+        AUTOPILOT,
+        AUTOPILOT_BODIES,
+        AUTOPILOT_SENSORS,
+        schedule,
+    )
 }
 
 /// Its schedule is replayed, and the actuators get the rows that an independent program computed.
