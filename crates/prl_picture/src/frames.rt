@@ -60,7 +60,7 @@ const STYLE: &str = "<style>text{font-family:sans-serif;font-size:120px;fill:#22
     .j{font-size:100px;fill:#222}.g{stroke:#ddd;stroke-width:8;fill:none}\
     .l{stroke:#bbb;stroke-width:10;fill:none}.o{stroke:#222;stroke-width:14;fill:none}\
     .a{stroke:#555;stroke-width:9;fill:none;marker-end:url(#p)}.d{stroke-dasharray:50 40}\
-    .w{fill-opacity:.35;stroke:#444;stroke-width:8}.h{fill-opacity:0}\
+    .w{fill-opacity:.35;stroke:#444;stroke-width:8}.h{fill-opacity:0}.s{stroke:#222;stroke-width:6}\
     .t0{fill:#E69F00}.t1{fill:#56B4E9}.t2{fill:#009E73}.t3{fill:#F0E442}\
     .t4{fill:#0072B2}.t5{fill:#D55E00}.t6{fill:#CC79A7}.t7{fill:#999999}</style>\n\
     <defs><marker id=\"p\" viewBox=\"0 0 10 10\" refX=\"9\" refY=\"5\" markerWidth=\"90\" \

@@ -1,7 +1,8 @@
 //! Pictures of plans: the jobs of a range of ticks, where a scale puts their dates, drawn as SVG. It stands on `prl_plan`,
-//! `prl_plantext`, `prl_io` and `prl_companions`.
+//! `prl_plantext`, `prl_replay`, `prl_io` and `prl_companions`.
 #![tactic(auto)]
 
+mod acts;
 mod arrows;
 mod details;
 mod frames;

@@ -4,6 +4,7 @@ ghost use Rattle.std.specs.Prelude.{◌≡◌, ◌++◌, ◌<◌, ◌≤◌, ◌
 ghost use Rattle.std.specs.String.{string_bytes};
 ghost use Rattle.prl_picture.specs.Pictures.{Answers, IsDrawn, IsPicture, IsPictureOf};
 
+use crate::acts::push_acts;
 use crate::arrows::push_arrows;
 use crate::details::push_details;
 use crate::frames::{push, push_head};
@@ -14,29 +15,43 @@ use crate::windows::windows;
 use prl_base::decimal_of;
 use prl_companions::{Stop, after_name, are_pairs, finish, read_named, value_of};
 use prl_io::{Files, Sink};
-use prl_plan::Plan;
+use prl_plan::{Event, Plan};
 use prl_plantext::{PlanFault, read_plan};
+use prl_replay::{ScheduleFault, read_schedule};
 use std::alloc::{AllocError, Global};
 
 /// The most bytes of a plan's text.
 pub const MAX_PLAN: u64 = 33_554_432;
 
+/// The most bytes of a schedule.
+pub const MAX_SCHEDULE: u64 = 83_886_080;
+
 /// The form of the words.
-const FORM: &str = "prelude_picture --plan FILE [--from TICK] [--until TICK]";
+const FORM: &str = "prelude_picture --plan FILE [--schedule FILE] [--from TICK] [--until TICK]";
 
 /// Why there is no picture.
 const NO_PLAN: &str = "the file is not the text of a plan";
 
+/// Why there is no picture of a schedule.
+const NO_SCHEDULE: &str = "the file is not a schedule of the tasks of the plan";
+
 /// The options of the words.
-static OPTIONS: [&[u8]; 3] = [b"--plan", b"--from", b"--until"];
+static OPTIONS: [&[u8]; 4] = [b"--plan", b"--schedule", b"--from", b"--until"];
 
 /// What is drawn over the windows.
-fn above(alloc: Global, plan: &Plan, scale: Scale, shapes: &[Shape]) -> Result<Vec<u8>, AllocError>
+fn above(
+    alloc: Global,
+    plan: &Plan,
+    scale: Scale,
+    shapes: &[Shape],
+    events: &[Event],
+) -> Result<Vec<u8>, AllocError>
     requires until { scale.until < 2 ^ 32 }
     requires from { scale.from ≤ scale.until }
-    requires span { 0 < scale.span }
+    requires span { (0 < scale.span) × (scale.span < 2 ^ 33) }
 {
     let mut text = Vec::new(alloc);
+    push_acts(alloc, &mut text, plan, scale, events)?;
     push_details(&mut text, plan, scale, shapes)?;
     push_arrows(&mut text, plan, scale)?;
     push(&mut text, "</svg>\n")?;
@@ -63,12 +78,13 @@ fn joined(alloc: Global, first: &[u8], second: &[u8], third: &[u8]) -> Result<Ve
     Ok(text)
 }
 
-/// The picture of the jobs of a plan.
+/// The picture of the jobs of a plan, and of what a schedule does.
 pub fn picture_of(
     alloc: Global,
     plan: &Plan,
     scale: Scale,
     left_out: u64,
+    events: &[Event],
 ) -> Result<Vec<u8>, AllocError>
     requires until { scale.until < 2 ^ 32 }
     requires from { scale.from ≤ scale.until }
@@ -78,7 +94,7 @@ pub fn picture_of(
     let shapes = shapes_of(alloc, plan, scale)?;
     let first = below(alloc, plan, scale, left_out)?;
     let second = windows(alloc, &shapes)?;
-    let third = above(alloc, plan, scale, &shapes)?;
+    let third = above(alloc, plan, scale, &shapes, events)?;
     joined(alloc, &first, &second, &third)
 }
 
@@ -97,7 +113,7 @@ fn tick_of(word: Option<&[u8]>, other: u64) -> Option<u64>
 }
 
 /// The picture of a plan over the range that the words ask for.
-fn drawn(alloc: Global, words: &[String], plan: &Plan) -> Result<Vec<u8>, Stop>
+fn drawn(alloc: Global, words: &[String], plan: &Plan, events: &[Event]) -> Result<Vec<u8>, Stop>
     ensures { IfOk result (λ text. IsDrawn plan.now text.items) }
 {
     let Some(from) = tick_of(value_of(b"--from", words), 0) else {
@@ -112,7 +128,34 @@ fn drawn(alloc: Global, words: &[String], plan: &Plan) -> Result<Vec<u8>, Stop>
     }
     let scale = scale_of(plan, from, until);
     let more = left_out(plan, scale.until, until);
-    Ok(picture_of(alloc, plan, scale, more)?)
+    Ok(picture_of(alloc, plan, scale, more, events)?)
+}
+
+/// The events of a schedule of the plan.
+fn events_of(alloc: Global, source: &[u8], plan: &Plan) -> Result<Vec<Event>, Stop> {
+    match read_schedule(alloc, source, plan) {
+        Ok(events) => Ok(events),
+        Err(ScheduleFault::Syntax(_)) => Err(Stop::Refused(NO_SCHEDULE)),
+        Err(ScheduleFault::Memory) => Err(Stop::Memory),
+    }
+}
+
+/// The picture of a plan, and of a schedule where the words name one.
+fn with_schedule<F: Files>(
+    alloc: Global,
+    words: &[String],
+    files: &mut F,
+    plan: &Plan,
+) -> Result<Vec<u8>, Stop>
+    ensures text { IfOk result (λ text. IsDrawn plan.now text.items) }
+    ensures kept { (F.seen files.new).folder ≡ (F.seen files.old).folder }
+{
+    let Some(name) = value_of(b"--schedule", words) else {
+        return drawn(alloc, words, plan, &[]);
+    };
+    let source = read_named(alloc, files, name, MAX_SCHEDULE)?;
+    let events = events_of(alloc, &source, plan)?;
+    drawn(alloc, words, plan, &events)
 }
 
 /// The picture that the words ask for.
@@ -128,7 +171,7 @@ fn picture<F: Files>(alloc: Global, words: &[String], files: &mut F) -> Result<V
     };
     let source = read_named(alloc, files, name, MAX_PLAN)?;
     match read_plan(alloc, &source) {
-        Ok(plan) => drawn(alloc, words, &plan),
+        Ok(plan) => with_schedule(alloc, words, files, &plan),
         Err(PlanFault::NotPlan) => Err(Stop::Refused(NO_PLAN)),
         Err(PlanFault::Memory) => Err(Stop::Memory),
     }
