@@ -1,0 +1,22 @@
+-- The events of a legal list are of the plan's tasks.
+use Rattle.std.proofs.Common.{List, [], ◌∷◌}
+use Rattle.std.specs.Prelude.{All}
+use Rattle.std.proofs.lemmas.List.Elements.{All-nil, All-cons}
+use Rattle.prl_core.specs.Machine.{IsOfPlan}
+use Rattle.prl_plan.specs.declared.events.Event.{Event}
+use Rattle.prl_plan.specs.declared.events.Event.TheVariants as events
+use Rattle.prl_plan.specs.declared.horizons.Horizon.{Horizon}
+use Rattle.prl_plan.specs.Horizons.{constants_of}
+use Rattle.prl_plan.specs.Plans.{PlanView}
+use Rattle.prl_plan.specs.Rules.{IsLegal, KeepsLegal}
+use Rattle.prl_plan.specs.Runs.{ExecState, after_event}
+
+module _ (plan : PlanView) (horizon : Horizon) where
+  one_of_plan : (s : ExecState) (event : Event) → KeepsLegal (constants_of plan horizon) s event → IsOfPlan plan event
+  one_of_plan s events.Tick keeps = tt
+  one_of_plan s (events.Act task) keeps = keeps.0.task
+
+  pub legal_of_plan : (s : ExecState) (list : List Event) → IsLegal (constants_of plan horizon) s list → All (IsOfPlan plan) list
+  legal_of_plan s [] legal = All-nil (IsOfPlan plan)
+  legal_of_plan s (event ∷ list) legal =
+      All-cons (IsOfPlan plan) event list (one_of_plan s event legal.0) (legal_of_plan (after_event (constants_of plan horizon) s event) list legal.1)
