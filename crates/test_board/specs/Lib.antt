@@ -1,0 +1,2 @@
+-- a worked graph and the rows of its sensor
+pub mod Pairs
