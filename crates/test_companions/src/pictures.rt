@@ -41,7 +41,8 @@ const WINDOWS: &str = "<rect class=\"w t0\" x=\"1600\" y=\"1060\" width=\"2333\"
     <rect class=\"w t3\" x=\"5933\" y=\"2320\" width=\"2333\" height=\"200\"/>\n\
     <rect class=\"w t3\" x=\"9266\" y=\"2320\" width=\"2334\" height=\"200\"/>\n";
 
-const USAGE: &str = "usage: prelude_picture --plan FILE [--from TICK] [--until TICK]\n";
+const USAGE: &str = "usage: prelude_picture --plan FILE [--schedule FILE] [--from TICK] \
+                     [--until TICK]\n";
 
 const NO_PLAN: &str = "refused: the file is not the text of a plan\n";
 
