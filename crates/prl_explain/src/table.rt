@@ -3,7 +3,7 @@
 use crate::kinds::{Kind, Part, Target};
 
 /// All kinds of lines.
-static KINDS: [Kind; 58] = [
+static KINDS: [Kind; 57] = [
     Kind {
         front: "usage: prelude MODE --OPTION VALUE ..",
         tail: "\n",
@@ -50,9 +50,9 @@ static KINDS: [Kind; 58] = [
         front: "overrun ",
         tail: "\n",
         target: Target::Task,
-        sentence: "A job of this task read a buffer before the value that it needs was there, or \
-            after it was replaced: the run did not keep to its plan. A job took longer \
-            than its wcet, or the processor was given away.",
+        sentence: "A value that a job of this task asked for was already replaced by a later \
+            one: under the free clock a job came too late. Run under the gated clock, or see \
+            that each job ends by its encoded deadline.",
     },
     Kind {
         front: "1 bad token at ",
@@ -173,12 +173,6 @@ static KINDS: [Kind; 58] = [
         sentence: "The flows have more than 4000000 values before `--until`. Ask for fewer ticks.",
     },
     Kind {
-        front: "9 not built ",
-        tail: "\n",
-        target: Target::Nowhere,
-        sentence: "The program is right, but this mode cannot take its form yet.",
-    },
-    Kind {
         front: "10 unknown ",
         tail: "\n",
         target: Target::Word,
@@ -258,7 +252,8 @@ static KINDS: [Kind; 58] = [
         front: "22 body type at ",
         tail: "\n",
         target: Target::Byte(Part::Bodies),
-        sentence: "An integer stands where a Boolean is needed, or the other way round.",
+        sentence: "An integer stands where a Boolean is needed, or the other way round. Change \
+            the expression, or the type that the import declares.",
     },
     Kind {
         front: "23 body syntax at ",
@@ -279,7 +274,7 @@ static KINDS: [Kind; 58] = [
         tail: "\n",
         target: Target::Flow,
         sentence: "This flow needs its own value of the same instant. Delay it somewhere around \
-            the loop, by `fby`, `::` with a longer period, or a later phase.",
+            the loop, as `0 fby x` does.",
     },
     Kind {
         front: "40 clock mismatch at ",
@@ -319,9 +314,9 @@ static KINDS: [Kind; 58] = [
         front: "60 narrow ",
         tail: "\n",
         target: Target::Task,
-        sentence: "The jobs that this one waits for, and itself, need more time than there is \
-            between their release and its deadline. Allow a later deadline, make a wcet \
-            smaller, or put a delay between them.",
+        sentence: "This job can end at the date after `needs` at the earliest, and has to end \
+            at the date after `has`: it takes too long, with the jobs that it waits for. Allow \
+            a later deadline, make a wcet smaller, or put a delay between them.",
     },
     Kind {
         front: "61 loop ",
@@ -370,7 +365,8 @@ static KINDS: [Kind; 58] = [
         front: "72 unfinished ",
         tail: "\n",
         target: Target::Task,
-        sentence: "The schedule ends before this job does. Add the acts that are missing.",
+        sentence: "The schedule ends before this job does, whose number counts from 0. Add the \
+            acts that are missing.",
     },
     Kind {
         front: "80 row ",
@@ -382,8 +378,8 @@ static KINDS: [Kind; 58] = [
         front: "81 no sensor ",
         tail: "\n",
         target: Target::Line(Part::Sensors),
-        sentence: "The program has no sensor of the name in this row. Mend the name, or take the \
-            row out.",
+        sentence: "The main node has no input of the name in this row. Mend the name, or take \
+            the row out.",
     },
     Kind {
         front: "82 order ",

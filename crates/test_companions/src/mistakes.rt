@@ -200,7 +200,7 @@ fn mistakes_of_types_and_clocks(rt: HostRuntime) -> Result<(), Fail> {
                  \x20 var vf, vs;\n\
                  \x20     ^\n\
                  This flow needs its own value of the same instant. Delay it somewhere around the loop, \
-                 by `fby`, `::` with a longer period, or a later phase.\n",
+                 as `0 fby x` does.\n",
             ),
             (
                 8,
@@ -268,9 +268,9 @@ fn mistakes_of_dates(rt: HostRuntime) -> Result<(), Fail> {
                 "s.prl:2:15\n\
                  imported node S(i: int) returns (o: int) wcet 40;\n\
                  \x20             ^\n\
-                 The jobs that this one waits for, and itself, need more time than there is between \
-                 their release and its deadline. Allow a later deadline, make a wcet smaller, or put a \
-                 delay between them.\n",
+                 This job can end at the date after `needs` at the earliest, and has to end at the date after \
+                 `has`: it takes too long, with the jobs that it waits for. Allow a later deadline, make a \
+                 wcet smaller, or put a delay between them.\n",
             ),
             (
                 8,
@@ -289,7 +289,8 @@ fn mistakes_of_dates(rt: HostRuntime) -> Result<(), Fail> {
                 "s.prl:3:8\n\
                  sensor i wcet 1;\n\
                  \x20      ^\n\
-                 The schedule ends before this job does. Add the acts that are missing.\n",
+                 The schedule ends before this job does, whose number counts from 0. Add the acts that are \
+                 missing.\n",
             ),
             (
                 3,
@@ -328,7 +329,8 @@ fn mistakes_of_bodies(rt: HostRuntime) -> Result<(), Fail> {
                 "s.bod:2:16\n\
                  body S { o = 2 and i; }\n\
                  \x20              ^\n\
-                 An integer stands where a Boolean is needed, or the other way round.\n",
+                 An integer stands where a Boolean is needed, or the other way round. Change the \
+                 expression, or the type that the import declares.\n",
             ),
             (
                 "body F { o = i + j; p = i; }\nbody S { o = 2 * ; }\n",
@@ -374,7 +376,7 @@ fn mistakes_of_rows(rt: HostRuntime) -> Result<(), Fail> {
                 "s.csv:3:1\n\
                  k,2,3\n\
                  ^\n\
-                 The program has no sensor of the name in this row. Mend the name, or take the row out.\n",
+                 The main node has no input of the name in this row. Mend the name, or take the row out.\n",
             ),
             (
                 "i,0,1\ni,2,2\ni,2,3\n",
@@ -582,11 +584,6 @@ fn lines_without_a_place(rt: HostRuntime) -> Result<(), Fail> {
                 "",
                 "4 limit values found 1000001\n",
                 "The flows have more than 4000000 values before `--until`. Ask for fewer ticks.\n",
-            ),
-            (
-                "",
-                "9 not built s.prl\n",
-                "The program is right, but this mode cannot take its form yet.\n",
             ),
         ],
     )
