@@ -1,0 +1,2 @@
+-- what the checks of rows keep
+pub mod Devices
