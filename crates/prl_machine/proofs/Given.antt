@@ -25,7 +25,7 @@ use Rattle.prl_machine.specs.declared.workers.Worker.{Worker}
 use Rattle.prl_machine.specs.Cores.{CoreView, constants, values_of, AreOutputs, IsMachineOf, IsNoNode}
 use Rattle.prl_machine.specs.code.Kept.{IsWork, once, IsKept}
 use Rattle.prl_machine.specs.code.Laws.{HasCoreLaws}
-use Rattle.prl_machine.proofs.PortReads.{read_at_port}
+use Rattle.prl_workers.proofs.PortReads.{read_at_port}
 
 module _ (core : CoreView) (is_plan : IsPlan core.plan) (sound : IsSound (constants core) core.state) where
   -- the column of an actuator task up to its ended jobs

@@ -42,8 +42,8 @@ use Rattle.prl_machine.specs.code.Workers.{outs_of}
 use Rattle.prl_machine.specs.code.Stores.{CanTake, CanBegin, CanGive, CanRead, CanServe, Takes, DoesRead, Gives, Ends, Serves}
 use Rattle.prl_machine.specs.code.Laws.{HasCoreLaws}
 use Rattle.prl_machine.specs.code.Kept.{IsWork, HasGiven, IsWorker, AreWorkers, AreHalves, IsKept}
-use Rattle.prl_machine.proofs.Operands.{Reads}
-use Rattle.prl_machine.proofs.PortReads.{read_at_port, edge_has_port}
+use Rattle.prl_workers.proofs.Operands.{Reads}
+use Rattle.prl_workers.proofs.PortReads.{read_at_port, edge_has_port}
 use Rattle.prl_machine.proofs.Telling.{horizon_job, fits_action, constant_on, finds, whole_read}
 use Rattle.prl_machine.proofs.Working.{HasLaws, low_passed, port_there, ready_to_take, operand_taken, ready_to_begin, body_run, instance_given, job_ended}
 

@@ -1,9 +1,6 @@
-mod Operands
-mod PortReads
 mod Working
 mod Telling
 mod Keeping
 mod Opening
 mod Given
-mod TaskNames
 mod Stored

@@ -26,8 +26,8 @@ use Rattle.prl_machine.specs.declared.workers.Work.TheVariants as works
 use Rattle.prl_machine.specs.declared.workers.Worker.{Worker}
 use Rattle.prl_machine.specs.code.Workers.{outs_of, CanRun, IsReady, RunsTo, HasRun, HasKept, HasTaken, HasBegun, HasEnded}
 use Rattle.prl_machine.specs.code.Kept.{IsWork, HasGiven, once, IsWorker}
-use Rattle.prl_machine.proofs.Operands.{Reads, operands_next, whole_reads, read_is_early, other_is_late, port_inside, last_operand, earlier_operand}
-use Rattle.prl_machine.proofs.PortReads.{reads_counted, same_lists}
+use Rattle.prl_workers.proofs.Operands.{Reads, operands_next, whole_reads, read_is_early, other_is_late, port_inside, last_operand, earlier_operand}
+use Rattle.prl_workers.proofs.PortReads.{reads_counted, same_lists}
 
 pub false_is_not_true : (b : Bool) → b ≡ false → b ≡ true → ⊥
 false_is_not_true b off on = absurd (let e : false ≡ true = sym off ∙ on in cc)

@@ -1,7 +1,6 @@
 -- For the crates above: lemmas over public definitions.
 pub mod Operands
 pub mod PortReads
+pub mod TaskNames
 pub mod Working
 pub mod Serving
--- For this crate alone.
-mod TaskNames

@@ -3,7 +3,7 @@ use Rattle.std.proofs.lemmas.List.{take_more, length-take-le}
 use Rattle.prl_plan.specs.declared.graphs.Edge.{Edge}
 use Rattle.prl_plan.proofs.UsedLaws.{test_same, test_differs}
 use Rattle.prl_values.specs.Fitting.{port_types}
-use Rattle.prl_machine.proofs.TaskNames.{ports_push, ports_within}
+use Rattle.prl_workers.proofs.TaskNames.{ports_push, ports_within}
 use Rattle.prl_machine.proofs.ports.ports_of.Goals as goal
 use Rattle.prl_machine.proofs.ports.ports_of.Goals.{then-edge-i, else-edge-i}
 

@@ -6,7 +6,7 @@ use Rattle.prl_plan.specs.Graphs.{IsTask}
 use Rattle.prl_plan.specs.Jobs.{task_at}
 use Rattle.prl_plan.proofs.RoundPeriods.{task_is}
 use Rattle.prl_values.specs.JobValues.{word_of}
-use Rattle.prl_machine.proofs.TaskNames.{node_word, task_read}
+use Rattle.prl_workers.proofs.TaskNames.{node_word, task_read}
 use Rattle.prl_machine.proofs.stores.work_of.Goals as goal
 
 pub body_of-requires-clause-word : goal.body_of-requires-clause-word
