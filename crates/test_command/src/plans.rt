@@ -3,7 +3,10 @@
 
 use crate::lines::{Told, check, files, flows_line, program};
 use prl_io::MemFiles;
-use samples::{SAMPLING, SAMPLING_BODIES};
+use samples::{
+    CIRCLE, HELD_PLAN, JUST_ROOM_PLAN, LATER_PLAN, SAMPLING, SAMPLING_BODIES, SAMPLING_PLAN,
+    TWO_LANES_PLAN,
+};
 use std::alloc::Global;
 use std::process::Abort;
 use std::test::Fail;
@@ -22,80 +25,6 @@ const CHECK_BODIES: [&str; 6] = [
     "--bodies",
     "b.bod",
 ];
-
-/// The plan of the sampling program.
-const SAMPLING_PLAN: &str = "plan 1
-hyperperiod 30
-task 0 i sensor period 10 start 0 due 10 wcet 1
-task 1 F@0 node period 10 start 0 due 10 wcet 2
-task 2 S@1 node period 30 start 0 due 30 wcet 10
-task 3 o actuator period 10 start 0 due 10 wcet 1
-dates 0 0:7
-dates 1 1:9
-dates 2 3:30
-dates 3 3:10
-edge 0 from 0.0 to 1.0 type int period 10 ops none
-edge 1 from 2.0 to 1.1 type int period 30 ops up 3 fby 0
-edge 2 from 1.1 to 2.0 type int period 10 ops down 3
-edge 3 from 1.0 to 3.0 type int period 10 ops none
-word 0 prefix 0 repeat 0 step 1 1
-word 1 prefix 3 0 0 0 repeat 0 0 0 step 3 1
-word 2 prefix 0 repeat 0 step 1 3
-word 3 prefix 0 repeat 0 step 1 1
-cells 0 base 0 count 1
-cells 1 base 1 count 2
-cells 2 base 3 count 1
-cells 3 base 4 count 1
-";
-
-/// The plan of the sampling program whose slow node takes 27 ticks, which is all the time that it has.
-const JUST_ROOM: &str = "plan 1
-hyperperiod 30
-task 0 i sensor period 10 start 0 due 10 wcet 1
-task 1 F@0 node period 10 start 0 due 10 wcet 2
-task 2 S@1 node period 30 start 0 due 30 wcet 27
-task 3 o actuator period 10 start 0 due 10 wcet 1
-dates 0 0:1 0:7 0:7
-dates 1 1:3 1:9 1:9
-dates 2 3:30
-dates 3 3:10
-edge 0 from 0.0 to 1.0 type int period 10 ops none
-edge 1 from 2.0 to 1.1 type int period 30 ops up 3 fby 0
-edge 2 from 1.1 to 2.0 type int period 10 ops down 3
-edge 3 from 1.0 to 3.0 type int period 10 ops none
-word 0 prefix 0 repeat 0 step 1 1
-word 1 prefix 3 0 0 0 repeat 0 0 0 step 3 1
-word 2 prefix 0 repeat 0 step 1 3
-word 3 prefix 0 repeat 0 step 1 1
-cells 0 base 0 count 1
-cells 1 base 1 count 2
-cells 2 base 3 count 1
-cells 3 base 4 count 1
-";
-
-/// The plan of a sensor that is held for three of its values.
-const HELD: &str = "plan 1
-hyperperiod 30
-task 0 i sensor period 10 start 0 due 10 wcet 1
-task 1 o actuator period 10 start 0 due 10 wcet 1
-dates 0 0:9 0:10 0:10
-dates 1 1:10 0:10 0:10
-edge 0 from 0.0 to 1.0 type int period 10 ops up 3 down 3
-word 0 prefix 0 repeat 0 0 0 step 3 3
-cells 0 base 0 count 1
-";
-
-/// The plan of a sensor that is seen a period and a half later.
-const LATER: &str = "plan 1
-hyperperiod 10
-task 0 i sensor period 10 start 0 due 10 wcet 1
-task 1 o actuator period 10 start 15 due 10 wcet 1
-dates 0 0:10
-dates 1 0:10
-edge 0 from 0.0 to 1.0 type int period 10 ops shift 3/2
-word 0 prefix 0 repeat 0 step 1 1
-cells 0 base 0 count 3
-";
 
 /// The plan of a sensor that is seen a thousand periods later.
 const MUCH_LATER: &str = "plan 1
@@ -157,7 +86,7 @@ fn plans_of_the_sampling_program(rt: HostRuntime) -> Result<(), Fail> {
     let narrow = "60 narrow S@1 0 needs 31 has 30\n";
     let cases = [
         (10, (0, SAMPLING_PLAN, "")),
-        (27, (0, JUST_ROOM, "")),
+        (27, (0, JUST_ROOM_PLAN, "")),
         (28, (1, "", narrow)),
     ];
     for (wcet, told) in cases {
@@ -171,8 +100,8 @@ fn plans_of_the_sampling_program(rt: HostRuntime) -> Result<(), Fail> {
 fn plans_of_operators(rt: HostRuntime) -> Result<(), Fail> {
     let alloc = rt.alloc();
     let cases = [
-        ("i /^ 3 *^ 3", (0, HELD, "")),
-        ("i ~> 3/2", (0, LATER, "")),
+        ("i /^ 3 *^ 3", (0, HELD_PLAN, "")),
+        ("i ~> 3/2", (0, LATER_PLAN, "")),
         ("i ~> 1000", (0, MUCH_LATER, "")),
         ("i ~> 5000", (1, "", "4 limit cells found 5001\n")),
         ("9 :: i", (1, "", "42 not whole o period 10 start -10\n")),
@@ -315,30 +244,18 @@ fn lanes_and_their_hyperperiod(rt: HostRuntime) -> Result<(), Fail> {
     Ok(())
 }
 
-/// The plan of two lanes of one period, whose sensors take 2 ticks.
-const TWO_LANES: &str = "plan 1
-hyperperiod 4
-task 0 a sensor period 4 start 0 due 4 wcet 2
-task 1 b sensor period 4 start 0 due 4 wcet 2
-task 2 o actuator period 4 start 0 due 4 wcet 1
-task 3 p actuator period 4 start 0 due 4 wcet 1
-dates 0 0:3
-dates 1 0:3
-dates 2 2:4
-dates 3 2:4
-edge 0 from 0.0 to 2.0 type int period 4 ops none
-edge 1 from 1.0 to 3.0 type int period 4 ops none
-word 0 prefix 0 repeat 0 step 1 1
-word 1 prefix 0 repeat 0 step 1 1
-cells 0 base 0 count 1
-cells 1 base 1 count 1
-";
-
 #[test]
 fn plan_of_two_lanes(rt: HostRuntime) -> Result<(), Fail> {
     let alloc = rt.alloc();
     let text = two_lanes(alloc, 4, 4, 2)?;
-    tells(&rt, alloc, &PLAN, text.as_bytes(), b"", (0, TWO_LANES, ""))
+    tells(
+        &rt,
+        alloc,
+        &PLAN,
+        text.as_bytes(),
+        b"",
+        (0, TWO_LANES_PLAN, ""),
+    )
 }
 
 /// The two lanes whose jobs in a hyperperiod are too many, with rows for two and three dates.
@@ -361,20 +278,7 @@ fn flows_need_no_plan(rt: HostRuntime) -> Result<(), Fail> {
     )
 }
 
-/// Two tasks in a circle, each of which reads the other half a period earlier: each turn needs 12 ticks of 10.
-const CIRCLE: &[u8] = b"imported node A(x: int) returns (y: int) wcet 6;
-imported node G(x: int) returns (y: int) wcet 6;
-actuator o wcet 1;
-node main () returns (o: rate (10, 0))
-  var x, y;
-let
-  o = x;
-  x = A(0 :: (y ~> 1/2));
-  y = G(x ~> 1/2);
-tel
-";
-
-/// The same beside a lane of period 1000.
+/// The circle of two tasks beside a lane of period 1000.
 const CIRCLE_AND_LANE: &[u8] = b"imported node A(x: int) returns (y: int) wcet 6;
 imported node G(x: int) returns (y: int) wcet 6;
 sensor i wcet 1;

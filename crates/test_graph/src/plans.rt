@@ -9,7 +9,7 @@ use prl_dates::{DateFault, encode};
 use prl_plan::{Plan, TaskGraph};
 use prl_plantext::{plan_text, read_plan};
 use prl_words::{WordFault, words};
-use samples::SAMPLING;
+use samples::{CIRCLE, SAMPLING, SAMPLING_PLAN};
 use std::alloc::Global;
 use std::test::Fail;
 
@@ -85,34 +85,10 @@ fn with(alloc: Global, text: &[u8], part: &[u8], other: &[u8]) -> Result<Vec<u8>
     Err("no such part".into())
 }
 
-const SAMPLING_PLAN: &[u8] = b"plan 1
-hyperperiod 30
-task 0 i sensor period 10 start 0 due 10 wcet 1
-task 1 F@0 node period 10 start 0 due 10 wcet 2
-task 2 S@1 node period 30 start 0 due 30 wcet 10
-task 3 o actuator period 10 start 0 due 10 wcet 1
-dates 0 0:7
-dates 1 1:9
-dates 2 3:30
-dates 3 3:10
-edge 0 from 0.0 to 1.0 type int period 10 ops none
-edge 1 from 2.0 to 1.1 type int period 30 ops up 3 fby 0
-edge 2 from 1.1 to 2.0 type int period 10 ops down 3
-edge 3 from 1.0 to 3.0 type int period 10 ops none
-word 0 prefix 0 repeat 0 step 1 1
-word 1 prefix 3 0 0 0 repeat 0 0 0 step 3 1
-word 2 prefix 0 repeat 0 step 1 3
-word 3 prefix 0 repeat 0 step 1 1
-cells 0 base 0 count 1
-cells 1 base 1 count 2
-cells 2 base 3 count 1
-cells 3 base 4 count 1
-";
-
 #[test]
 fn the_sampling_program_has_a_plan(rt: HostRuntime) -> Result<(), Fail> {
     let text = text_of(rt.alloc(), SAMPLING)?;
-    assert_eq!(rt; text.as_slice(), SAMPLING_PLAN);
+    assert_eq!(rt; text.as_slice(), SAMPLING_PLAN.as_bytes());
     Ok(())
 }
 
@@ -330,18 +306,6 @@ fn lanes_are_planned_each_for_itself(rt: HostRuntime) -> Result<(), Fail> {
     );
     Ok(())
 }
-
-const CIRCLE: &[u8] = b"imported node A(x: int) returns (y: int) wcet 6;
-imported node G(x: int) returns (y: int) wcet 6;
-actuator o wcet 1;
-node main () returns (o: rate (10, 0))
-  var x, y;
-let
-  o = x;
-  x = A(0 :: (y ~> 1/2));
-  y = G(x ~> 1/2);
-tel
-";
 
 const CIRCLE_BESIDE: &[u8] = b"imported node A(x: int) returns (y: int) wcet 6;
 imported node G(x: int) returns (y: int) wcet 6;

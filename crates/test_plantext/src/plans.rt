@@ -1,8 +1,9 @@
 //! Plans of texts, and their texts.
 
-use crate::texts::{CONSTANT, HELD, JUST_ROOM, LATER, NO_ROOM, SAMPLING, TWO_LANES, WRONG_CLOCK};
+use crate::texts::{CONSTANT, WRONG_CLOCK};
 use prl_base::push_number;
 use prl_plantext::{PlanFault, plan_text, read_plan};
+use samples::{HELD_PLAN, JUST_ROOM_PLAN, LATER_PLAN, SAMPLING_PLAN, TWO_LANES_PLAN};
 use std::alloc::{AllocError, Global};
 use std::test::Fail;
 
@@ -53,11 +54,11 @@ fn is_refused_with(alloc: Global, text: &[u8], part: &[u8], other: &[u8]) -> boo
 
 #[test]
 fn texts_of_plans_are_read(rt: HostRuntime) -> Result<(), Fail> {
-    assert!(rt; is_read(rt.alloc(), SAMPLING));
-    assert!(rt; is_read(rt.alloc(), JUST_ROOM));
-    assert!(rt; is_read(rt.alloc(), HELD));
-    assert!(rt; is_read(rt.alloc(), LATER));
-    assert!(rt; is_read(rt.alloc(), TWO_LANES));
+    assert!(rt; is_read(rt.alloc(), SAMPLING_PLAN.as_bytes()));
+    assert!(rt; is_read(rt.alloc(), JUST_ROOM_PLAN.as_bytes()));
+    assert!(rt; is_read(rt.alloc(), HELD_PLAN.as_bytes()));
+    assert!(rt; is_read(rt.alloc(), LATER_PLAN.as_bytes()));
+    assert!(rt; is_read(rt.alloc(), TWO_LANES_PLAN.as_bytes()));
     assert!(rt; is_read(rt.alloc(), CONSTANT));
     Ok(())
 }
@@ -70,7 +71,7 @@ fn another_plan_is_refused(rt: HostRuntime) -> Result<(), Fail> {
     assert!(rt;
         is_refused_with(
             alloc,
-            SAMPLING,
+            SAMPLING_PLAN.as_bytes(),
             b"cells 1 base 1 count 2",
             b"cells 1 base 1 count 3"
         )
@@ -78,14 +79,35 @@ fn another_plan_is_refused(rt: HostRuntime) -> Result<(), Fail> {
     assert!(rt;
         is_refused_with(
             alloc,
-            SAMPLING,
+            SAMPLING_PLAN.as_bytes(),
             b"word 1 prefix 3 0 0 0 repeat 0 0 0 step 3 1",
             b"word 1 prefix 0 repeat 0 step 1 1",
         )
     );
-    assert!(rt; is_refused_with(alloc, SAMPLING, b"dates 0 0:7", b"dates 0 0:8"));
-    assert!(rt; is_refused_with(alloc, SAMPLING, b"dates 0 0:7", b"dates 0 0:7 0:7"));
-    assert!(rt; is_refused_with(alloc, SAMPLING, b"hyperperiod 30", b"hyperperiod 030"));
+    assert!(rt;
+        is_refused_with(
+            alloc,
+            SAMPLING_PLAN.as_bytes(),
+            b"dates 0 0:7",
+            b"dates 0 0:8"
+        )
+    );
+    assert!(rt;
+        is_refused_with(
+            alloc,
+            SAMPLING_PLAN.as_bytes(),
+            b"dates 0 0:7",
+            b"dates 0 0:7 0:7"
+        )
+    );
+    assert!(rt;
+        is_refused_with(
+            alloc,
+            SAMPLING_PLAN.as_bytes(),
+            b"hyperperiod 30",
+            b"hyperperiod 030"
+        )
+    );
     Ok(())
 }
 
@@ -95,10 +117,17 @@ fn other_texts_are_refused(rt: HostRuntime) -> Result<(), Fail> {
     let last = b"cells 3 base 4 count 1\n";
     assert!(rt; is_refused(alloc, b""));
     assert!(rt; is_refused(alloc, b"plan 1\n"));
-    assert!(rt; is_refused(alloc, &SAMPLING[..SAMPLING.len() - 1]));
-    assert!(rt; is_refused_with(alloc, SAMPLING, last, b"cells 3 base 4 count 1\n\n"));
-    assert!(rt; is_refused_with(alloc, SAMPLING, last, b""));
-    assert!(rt; is_refused_with(alloc, SAMPLING, b"due 10", b"due  10"));
+    assert!(rt; is_refused(alloc, &SAMPLING_PLAN.as_bytes()[..SAMPLING_PLAN.len() - 1]));
+    assert!(rt;
+        is_refused_with(
+            alloc,
+            SAMPLING_PLAN.as_bytes(),
+            last,
+            b"cells 3 base 4 count 1\n\n"
+        )
+    );
+    assert!(rt; is_refused_with(alloc, SAMPLING_PLAN.as_bytes(), last, b""));
+    assert!(rt; is_refused_with(alloc, SAMPLING_PLAN.as_bytes(), b"due 10", b"due  10"));
     Ok(())
 }
 
@@ -107,19 +136,33 @@ fn other_texts_are_refused(rt: HostRuntime) -> Result<(), Fail> {
 #[test]
 fn graphs_of_no_plan_are_refused(rt: HostRuntime) -> Result<(), Fail> {
     let alloc = rt.alloc();
-    assert!(rt; is_refused(alloc, NO_ROOM));
+    assert!(rt; is_refused_with(alloc, JUST_ROOM_PLAN.as_bytes(), b"wcet 27", b"wcet 28"));
     assert!(rt; is_refused(alloc, WRONG_CLOCK));
-    assert!(rt; is_refused_with(alloc, HELD, b"hyperperiod 30", b"hyperperiod 30000000"));
-    assert!(rt; is_refused_with(alloc, HELD, b"hyperperiod 30", b"hyperperiod 35"));
     assert!(rt;
         is_refused_with(
             alloc,
-            HELD,
+            HELD_PLAN.as_bytes(),
+            b"hyperperiod 30",
+            b"hyperperiod 30000000"
+        )
+    );
+    assert!(rt;
+        is_refused_with(
+            alloc,
+            HELD_PLAN.as_bytes(),
+            b"hyperperiod 30",
+            b"hyperperiod 35"
+        )
+    );
+    assert!(rt;
+        is_refused_with(
+            alloc,
+            HELD_PLAN.as_bytes(),
             b"hyperperiod 30",
             b"hyperperiod 18446744073709551646"
         )
     );
-    assert!(rt; is_refused_with(alloc, TWO_LANES, b"task 1 b ", b"task 1 a "));
+    assert!(rt; is_refused_with(alloc, TWO_LANES_PLAN.as_bytes(), b"task 1 b ", b"task 1 a "));
     Ok(())
 }
 

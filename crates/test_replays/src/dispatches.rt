@@ -2,8 +2,9 @@
 
 ghost use Rattle.std.specs.Prelude.{IfOk};
 
-use crate::texts::{COPIED, LATE, SAMPLING, horizon_of, plan_of};
+use crate::texts::{COPIED, LATE, horizon_of, plan_of};
 use prl_replay::{dispatch, schedule_text};
+use samples::SAMPLING_PLAN;
 use std::alloc::Global;
 use std::test::Fail;
 
@@ -32,7 +33,7 @@ fn count_of(text: &[u8], line: &[u8]) -> usize {
 
 #[test]
 fn the_sampling_program_is_dispatched(rt: HostRuntime) -> Result<(), Fail> {
-    let text = text_of(rt.alloc(), SAMPLING, 60)?;
+    let text = text_of(rt.alloc(), SAMPLING_PLAN.as_bytes(), 60)?;
     let counts = [
         (b"tick".as_slice(), 53),
         (b"act i".as_slice(), 18),
