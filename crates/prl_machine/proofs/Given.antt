@@ -1,6 +1,6 @@
 -- What the machine's columns and machines are by instance.
-use Rattle.std.proofs.Common.{◌≡◌, ◌+◌, ◌<◌, ◌≤◌, ◌↔◌, ◌++◌, ℕ, zero, suc, Bool, List, [], ◌∷◌, length, length-append, inl, inr, get_or, take, Option, Some, refl, sym, ◌∙◌, ap, subst, arith}
-use Rattle.std.specs.Prelude.{slice_get, pos, unwrap_or}
+use Rattle.std.proofs.Common.{◌≡◌, ◌+◌, ◌<◌, ◌≤◌, ◌↔◌, ◌++◌, ℕ, zero, suc, Bool, List, [], ◌∷◌, length, length-append, inl, inr, get_or, take, Option, Some, None, refl, sym, ◌∙◌, ap, subst, arith}
+use Rattle.std.specs.Prelude.{slice_get, pos, unwrap_or, MatchOption}
 use Rattle.std.proofs.lemmas.Bool.{cases_eq}
 use Rattle.std.proofs.lemmas.List.{length-take-le}
 use Rattle.std.proofs.lemmas.Option.{slice_get-get_or, slice_get_read}
@@ -20,10 +20,12 @@ use Rattle.prl_plan.specs.States.{IsSound}
 use Rattle.prl_plan.proofs.RoundPeriods.{task_is}
 use Rattle.prl_core.proofs.Places.{slice_get_take}
 use Rattle.prl_values.specs.JobValues.{value_on, read_on, reads_of_job, body_of_task}
-use Rattle.prl_machine.specs.declared.workers.Work.{Work}
-use Rattle.prl_machine.specs.declared.workers.Worker.{Worker}
+use Rattle.prl_workers.specs.declared.workers.Work.{Work}
+use Rattle.prl_workers.specs.declared.workers.Work.TheVariants as works
+use Rattle.prl_workers.specs.declared.workers.Worker.{Worker}
+use Rattle.prl_workers.specs.Workers.{HasMachine, HasNoMachine, IsWork, once}
 use Rattle.prl_machine.specs.Cores.{CoreView, constants, values_of, AreOutputs, IsMachineOf, IsNoNode}
-use Rattle.prl_machine.specs.code.Kept.{IsWork, once, IsKept}
+use Rattle.prl_machine.specs.code.Kept.{IsKept}
 use Rattle.prl_machine.specs.code.Laws.{HasCoreLaws}
 use Rattle.prl_workers.proofs.PortReads.{read_at_port}
 
@@ -103,7 +105,7 @@ outputs_there core is_plan sound laws i k inside kind =
 
 module _ (core : CoreView) (halves : List Value) (workers : List Worker) (kept : IsKept core halves workers) where
   -- the machine of a node task after its steps
-  pub machine_is_of : (i : ℕ) (worker : Worker) → slice_get workers i ≡ Some worker → (body : CheckedBody) (machine : MachineState) →
+  machine_is_of : (i : ℕ) (worker : Worker) → slice_get workers i ≡ Some worker → (body : CheckedBody) (machine : MachineState) →
       ((k : ℕ) × ((task_at core.plan.graph i).kind ≡ kinds.Node k)) → body_of_task core.bodies (task_at core.plan.graph i) ≡ Some body →
       machine ≡ record {
         registers = registers_before body (reads_of_job core.plan.graph (values_of core) i) (get_or core.state.ended i 0 + once worker.ran);
@@ -130,10 +132,10 @@ module _ (core : CoreView) (halves : List Value) (workers : List Worker) (kept :
         subst (λ (w : Work). IsWork core.plan core.bodies core.horizon.until (values_of core) i (get_or core.state.ended i 0 + once worker.ran) w) its (kept.tasks.each i worker at).work,
       )
 
-pub sensor_no_node : (core : CoreView) (i k : ℕ) → (task_at core.plan.graph i).kind ≡ kinds.Sensor k → IsNoNode core i
+sensor_no_node : (core : CoreView) (i k : ℕ) → (task_at core.plan.graph i).kind ≡ kinds.Sensor k → IsNoNode core i
 sensor_no_node core i k is other node = absurd (let e : kinds.Sensor k ≡ kinds.Node other = sym is ∙ node in cc)
 
-pub actuator_no_node : (core : CoreView) (i k : ℕ) → (task_at core.plan.graph i).kind ≡ kinds.Actuator k → IsNoNode core i
+actuator_no_node : (core : CoreView) (i k : ℕ) → (task_at core.plan.graph i).kind ≡ kinds.Actuator k → IsNoNode core i
 actuator_no_node core i k is other node = absurd (let e : kinds.Actuator k ≡ kinds.Node other = sym is ∙ node in cc)
 
 pub sensor_no_actuator : (core : CoreView) (i k other : ℕ) → (task_at core.plan.graph i).kind ≡ kinds.Sensor k → (task_at core.plan.graph i).kind ≡ kinds.Actuator other → ⊥
@@ -141,3 +143,24 @@ sensor_no_actuator core i k other is drives = absurd (let e : kinds.Sensor k ≡
 
 pub node_no_actuator : (core : CoreView) (i k other : ℕ) → (task_at core.plan.graph i).kind ≡ kinds.Node k → (task_at core.plan.graph i).kind ≡ kinds.Actuator other → ⊥
 node_no_actuator core i k other is drives = absurd (let e : kinds.Node k ≡ kinds.Actuator other = sym is ∙ drives in cc)
+
+-- what follows from each case of an option
+pub match_mono : {A : Type 0} (P Q : Type 0) (R S : A → Type 0) (o : Option A) → (P → Q) → ((a : A) → R a → S a) → MatchOption o P R → MatchOption o Q S
+match_mono P Q R S None none some h = none h
+match_mono P Q R S (Some a) none some h = some a h
+
+module _ (core : CoreView) (halves : List Value) (workers : List Worker) (kept : IsKept core halves workers) (i : ℕ) (worker : Worker) (at : slice_get workers i ≡ Some worker) where
+  -- the machine of a worker is its task's
+  pub machine_told : (work : Work) → IsWork core.plan core.bodies core.horizon.until (values_of core) i (get_or core.state.ended i 0 + once worker.ran) work →
+      (machine : MachineState) → HasMachine work machine → IsMachineOf core i machine
+  machine_told (works.Sensor k) is machine has = absurd has
+  machine_told (works.Node word own) is machine has =
+      machine_is_of core halves workers kept i worker at is.2.0 machine is.0 is.2.1 (has ∙ is.2.2)
+  machine_told (works.Actuator column) is machine has = absurd has
+
+  -- a worker without one is that of no node task
+  pub no_machine_told : (work : Work) → IsWork core.plan core.bodies core.horizon.until (values_of core) i (get_or core.state.ended i 0 + once worker.ran) work →
+      HasNoMachine work → IsNoNode core i
+  no_machine_told (works.Sensor k) is none = sensor_no_node core i k is
+  no_machine_told (works.Node word own) is none = absurd none
+  no_machine_told (works.Actuator column) is none = actuator_no_node core i is.0.0 is.0.1

@@ -15,7 +15,6 @@ use Rattle.prl_plan.specs.declared.events.Action.{Action}
 use Rattle.prl_plan.specs.declared.events.Action.TheVariants as actions
 use Rattle.prl_plan.specs.declared.events.Event.TheVariants as events
 use Rattle.prl_plan.specs.declared.events.SlotNo.{SlotNo}
-use Rattle.prl_plan.specs.declared.graphs.Kind.TheVariants as kinds
 use Rattle.prl_plan.specs.declared.graphs.Producer.{Producer}
 use Rattle.prl_plan.specs.declared.graphs.Producer.TheVariants as producers
 use Rattle.prl_plan.specs.declared.walks.Operand.TheVariants as operands
@@ -34,18 +33,16 @@ use Rattle.prl_core.specs.Machine.{cell_no}
 use Rattle.prl_core.proofs.Places.{slice_get_set_same, slice_get_set_other}
 use Rattle.prl_values.specs.Fitting.{FitsTask, HasOutput, port_types}
 use Rattle.prl_values.specs.JobValues.{value_from, value_on, reads_of_job}
-use Rattle.prl_machine.specs.declared.workers.Work.{Work}
-use Rattle.prl_machine.specs.declared.workers.Work.TheVariants as works
-use Rattle.prl_machine.specs.declared.workers.Worker.{Worker}
+use Rattle.prl_workers.specs.declared.workers.Worker.{Worker}
+use Rattle.prl_workers.specs.Workers.{HasBegun, IsWorker}
 use Rattle.prl_machine.specs.Cores.{CoreView, constants, values_of, IsRead, IsReadConst, IsSightOf, IsSightOfRead}
-use Rattle.prl_machine.specs.code.Workers.{outs_of}
 use Rattle.prl_machine.specs.code.Stores.{CanTake, CanBegin, CanGive, CanRead, CanServe, Takes, DoesRead, Gives, Ends, Serves}
 use Rattle.prl_machine.specs.code.Laws.{HasCoreLaws}
-use Rattle.prl_machine.specs.code.Kept.{IsWork, HasGiven, IsWorker, AreWorkers, AreHalves, IsKept}
+use Rattle.prl_machine.specs.code.Kept.{AreWorkers, AreHalves, IsKept}
 use Rattle.prl_workers.proofs.Operands.{Reads}
-use Rattle.prl_workers.proofs.PortReads.{read_at_port, edge_has_port}
-use Rattle.prl_machine.proofs.Telling.{horizon_job, fits_action, constant_on, finds, whole_read}
-use Rattle.prl_machine.proofs.Working.{HasLaws, low_passed, port_there, ready_to_take, operand_taken, ready_to_begin, body_run, instance_given, job_ended}
+use Rattle.prl_workers.proofs.PortReads.{read_at_port}
+use Rattle.prl_workers.proofs.Serving.{low_read as worker_reads_low, may_take, has_taken, may_begin, has_written, has_ended, port_of_edge, output_there, output_is}
+use Rattle.prl_machine.proofs.Telling.{fits_action, constant_on, finds, whole_read}
 
 worker_there : (workers : List Worker) (i : ℕ) → i < length workers → (worker : Worker) × (slice_get workers i ≡ Some worker)
 worker_there workers i inside =
@@ -76,15 +73,6 @@ module _ (core : CoreView) (halves : List Value) (workers : List Worker) (kept :
   edge_stands : (e : ℕ) → e < length core.plan.graph.edges → slice_get core.plan.graph.edges e ≡ Some (edge_at core.plan.graph e)
   edge_stands e inside = slice_get-get_or core.plan.graph.edges e no_edge inside
 
-  edge_fact : (e : ℕ) → e < length core.plan.graph.edges → IsEdge core.plan.graph (edge_at core.plan.graph e)
-  edge_fact e inside = kept.plan.graph.edges e (edge_at core.plan.graph e) (edge_stands e inside)
-
-  -- an edge to a task is to no sensor task
-  no_sensor : (i e : ℕ) → e < length core.plan.graph.edges → (edge_at core.plan.graph e).to.0 ≡ i → (k : ℕ) → (task_at core.plan.graph i).kind ≡ kinds.Sensor k → ⊥
-  no_sensor i e inside to k kind =
-      absurd (let f : false ≡ true = sym (edge_fact e inside).receives
-      ∙ ap (λ (j : ℕ). is_sensor (task_at core.plan.graph j).kind) to ∙ ap is_sensor kind in cc)
-
   module _ (task : TaskNo) (keeps : KeepsLegal (constants core) core.state (events.Act task)) where
     abbrev i : ℕ
     i = task.0
@@ -107,37 +95,12 @@ module _ (core : CoreView) (halves : List Value) (workers : List Worker) (kept :
     in_ended : task.0 < length core.state.ended
     in_ended = (let l = kept.sound.tagged.ended in let t = has.task in omega (arith, l, t))
 
-    its_job : IsHorizonJob core.plan.graph core.horizon.until task.0 (get_or core.state.ended task.0 0)
-    its_job = horizon_job core kept.plan kept.sound laws task keeps
-
-    job_laws : HasLaws core.plan core.bodies core.rows core.horizon.until (values_of core) task.0 (get_or core.state.ended task.0 0)
-    job_laws = record {
-      job = its_job;
-      counted = has.job;
-      small = (let few = laws.small task.0 has.task in let below = has.job in omega (arith, few, below));
-      values = laws.values.each task.0 (get_or core.state.ended task.0 0) its_job;
-      reads = laws.reads task.0 (get_or core.state.ended task.0 0) its_job;
-      registers = laws.registers task.0 (get_or core.state.ended task.0 0) its_job;
-      fits = λ k kind body named.
-          (let have = kept.bodies.each task.0 k has.task kind in
-          let same : have.0 ≡ body = (let e : Some have.0 ≡ Some body = sym have.1 ∙ named in cc) in
-          subst (λ (b : CheckedBody). FitsTask core.plan.graph task.0 b) same have.2);
-      row = λ k kind. (let row = kept.rows.each task.0 k (get_or core.state.ended task.0 0) kind its_job in (row.0, row.1));
-    }
-
     worker : (w : Worker) × (slice_get workers task.0 ≡ Some w)
     worker = worker_there workers task.0 (let l = kept.tasks.tasks in let t = has.task in omega (arith, l, t))
 
     fit : (w : Worker) → slice_get workers task.0 ≡ Some w →
         IsWorker core.plan core.bodies core.horizon.until (values_of core) task.0 (get_or core.state.ended task.0 0) (get_or core.state.places task.0 0) w
     fit w its = kept.tasks.each task.0 w its
-
-    -- an actuator task has a port
-    has_port : (k : ℕ) → (task_at core.plan.graph task.0).kind ≡ kinds.Actuator k → 0 < length (port_types core.plan.graph.edges task.0)
-    has_port k kind =
-        let one = (kept.plan.graph.actuators task.0 has.task (ap is_actuator kind)).one in
-        let port = edge_has_port (values_of core) task.0 0 core.plan.graph.edges kept.plan.graph.order one.0 one.1 one.2 one.3 in
-        omega (arith, port)
 
     -- what the job reads at a port, from the value on its edge
     value_at_port : (e : ℕ) → e < length core.plan.graph.edges → (edge_at core.plan.graph e).to.0 ≡ task.0 → (value : Value) →
@@ -242,47 +205,31 @@ module _ (core : CoreView) (halves : List Value) (workers : List Worker) (kept :
 
     -- an action that takes an operand
     module _ (action : Action) (is : next_action (constants core) core.state task.0 ≡ action) (reads : Reads action) (whole : completes action ≡ 1)
-        (port : ℕ) (at : IsAtPort port action) (value : Value) (e : ℕ) (inside : e < length core.plan.graph.edges) (to : (edge_at core.plan.graph e).to.0 ≡ task.0)
+        (port : ℕ) (at : IsAtPort port action) (value : Value)
         (its : slice_get (reads_of_job core.plan.graph (values_of core) task.0 (get_or core.state.ended task.0 0)) port ≡ Some value) where
-      place_port : operands_before (actions_of core.plan task.0 (get_or core.state.ended task.0 0)) (get_or core.state.places task.0 0) ≡ port
-      place_port = laws.ports task.0 (get_or core.state.ended task.0 0) (get_or core.state.places task.0 0) port (subst (IsAtPort port) (sym is) at)
+      pub can_take : CanTake core.rows core.bodies workers task.0 (get_or core.state.ended task.0 0) port value
+      can_take =
+          let may = may_take core.plan core.horizon core.bodies core.rows laws.work task.0 (get_or core.state.ended task.0 0) is_job (get_or core.state.places task.0 0)
+          worker.0 (fit worker.0 worker.1) action is reads whole port at value its in
+          record { worker = worker.0; its = worker.1; inside = may.0; ready = may.1 }
 
-      place_reads : Reads (get_or (actions_of core.plan task.0 (get_or core.state.ended task.0 0)) (get_or core.state.places task.0 0) actions.End)
-      place_reads = subst Reads (sym is) reads
-
-      place_whole : completes (get_or (actions_of core.plan task.0 (get_or core.state.ended task.0 0)) (get_or core.state.places task.0 0) actions.End) ≡ 1
-      place_whole = ap completes is ∙ whole
-
-      pub can_take : CanTake core.rows workers task.0 (get_or core.state.ended task.0 0) port value
-      can_take = record {
-        worker = worker.0;
-        its = worker.1;
-        inside = port_there core.plan core.bodies core.rows core.horizon.until (values_of core) task.0 (get_or core.state.ended task.0 0) job_laws (get_or core.state.places task.0 0)
-            worker.0 (fit worker.0 worker.1) place_reads place_whole port place_port value its (no_sensor task.0 e inside to);
-        ready = ready_to_take core.plan core.bodies core.rows core.horizon.until (values_of core) task.0 (get_or core.state.ended task.0 0) job_laws (get_or core.state.places task.0 0)
-            worker.0 (fit worker.0 worker.1) place_reads place_whole port place_port value its (no_sensor task.0 e inside to);
-      }
-
-      pub taken : (workers' : List Worker) → Takes core.rows task.0 (get_or core.state.ended task.0 0) port value workers workers' →
+      pub taken : (workers' : List Worker) → Takes core.rows core.bodies task.0 (get_or core.state.ended task.0 0) port value workers workers' →
           AreWorkers core.plan core.bodies core.horizon.until (values_of core) (moved core.state task.0) workers'
       taken workers' takes =
           subst (λ (ws : List Worker). AreWorkers core.plan core.bodies core.horizon.until (values_of core) (moved core.state task.0) ws) (sym takes.workers)
           (workers_moved core.state.tags takes.next
-          (operand_taken core.plan core.bodies core.rows core.horizon.until (values_of core) task.0 (get_or core.state.ended task.0 0) job_laws (get_or core.state.places task.0 0)
-          takes.worker (fit takes.worker takes.its) place_reads place_whole port place_port value its (no_sensor task.0 e inside to) takes.next takes.takes))
+          (has_taken core.plan core.horizon core.bodies core.rows laws.work task.0 (get_or core.state.ended task.0 0) is_job (get_or core.state.places task.0 0)
+          takes.worker (fit takes.worker takes.its) action is reads whole port at value its takes.next takes.takes))
 
     -- an action that does not read
-    module _ (action : Action) (is : next_action (constants core) core.state task.0 ≡ action) (never : Reads action → ⊥) where
-      place_no : Reads (get_or (actions_of core.plan task.0 (get_or core.state.ended task.0 0)) (get_or core.state.places task.0 0) actions.End) → ⊥
-      place_no reads = never (subst Reads is reads)
-
-      pub can_begin : CanBegin core.rows workers task.0 (get_or core.state.ended task.0 0)
-      can_begin = record {
-        worker = worker.0;
-        its = worker.1;
-        ready = ready_to_begin core.plan core.bodies core.rows core.horizon.until (values_of core) task.0 (get_or core.state.ended task.0 0) job_laws (get_or core.state.places task.0 0)
-            worker.0 (fit worker.0 worker.1) place_no has_port;
-      }
+    can_begin : (action : Action) → next_action (constants core) core.state task.0 ≡ action → (Reads action → ⊥) →
+        CanBegin core.rows core.bodies workers task.0 (get_or core.state.ended task.0 0)
+    can_begin action is never = record {
+      worker = worker.0;
+      its = worker.1;
+      ready = may_begin core.plan core.horizon core.bodies core.rows laws.work task.0 (get_or core.state.ended task.0 0) is_job (get_or core.state.places task.0 0)
+          worker.0 (fit worker.0 worker.1) action is never;
+    }
 
     module _ (edge : EdgeNo) (m : ℕ) (slot : SlotNo) (is : next_action (constants core) core.state task.0 ≡ actions.Write edge m slot) where
       write_fits : IsActionOf core.plan task.0 (get_or core.state.ended task.0 0) (actions.Write edge m slot)
@@ -300,49 +247,46 @@ module _ (core : CoreView) (halves : List Value) (workers : List Worker) (kept :
       no_write_reads : Reads (actions.Write edge m slot) → ⊥
       no_write_reads reads = reads
 
-      abbrev pub IsPort : Producer → Type 0
-      IsPort from = (source : TaskNo) × (out : ℕ) × (from ≡ producers.Port source out) × (source.0 ≡ task.0)
+      -- the edge comes from an output of the task
+      abbrev IsPort : Producer → Type 0
+      IsPort from = (source : TaskNo) × (out : ℕ) × (from ≡ producers.Port source out)
 
-      comes_from : (from : Producer) → ComesFrom from task.0 → IsPort from
-      comes_from (producers.Port source out) comes = (source, out, refl, comes)
-      comes_from (producers.Constant value) comes = absurd comes
+      its_port : (from : Producer) → ComesFrom from task.0 → IsPort from
+      its_port (producers.Port source out) comes = (source, out, refl)
+      its_port (producers.Constant value) comes = absurd comes
 
-      pub port_of_edge : IsPort (edge_at core.plan.graph edge.0).from
-      port_of_edge = comes_from (edge_at core.plan.graph edge.0).from write_fits.1
+      -- that output is there once the body has run, and is the value of the instance on the edge
+      module _ (source : TaskNo) (out : ℕ) (from : (edge_at core.plan.graph edge.0).from ≡ producers.Port source out) (w : Worker) (its : slice_get workers task.0 ≡ Some w)
+          (next : Worker) (has : HasBegun core.rows core.bodies (get_or core.state.ended task.0 0) w next) where
+        same_out : (port_of_edge core.plan core.horizon core.bodies core.rows laws.work task.0 (get_or core.state.ended task.0 0) is_job (get_or core.state.places task.0 0)
+            w (fit w its) edge m slot is next has).1 ≡ out
+        same_out =
+            let served = port_of_edge core.plan core.horizon core.bodies core.rows laws.work task.0 (get_or core.state.ended task.0 0) is_job (get_or core.state.places task.0 0)
+            w (fit w its) edge m slot is next has in
+            let e : producers.Port served.0 served.1 ≡ producers.Port source out = sym served.2 ∙ from in
+            cc
 
-      source_is : IsSource core.plan.graph (edge_at core.plan.graph edge.0) (edge_fact edge.0 write_fits.0).clocks.0 (producers.Port port_of_edge.0 port_of_edge.1)
-      source_is = subst (λ (f : Producer). IsSource core.plan.graph (edge_at core.plan.graph edge.0) (edge_fact edge.0 write_fits.0).clocks.0 f) port_of_edge.2
-          (edge_fact edge.0 write_fits.0).clocks.2
+        out_there : out < length next.outputs.items
+        out_there = subst (λ (k : ℕ). k < length next.outputs.items) same_out
+            (output_there core.plan core.horizon core.bodies core.rows laws.work task.0 (get_or core.state.ended task.0 0) is_job (get_or core.state.places task.0 0)
+            w (fit w its) edge m slot is next has)
 
-      out_inside : (steps : ℕ) (work : Work) → IsWork core.plan core.bodies core.horizon.until (values_of core) task.0 steps work → port_of_edge.1 < outs_of work
-      out_inside steps (works.Sensor k) fits =
-          let none = source_is.2 (ap (λ (j : ℕ). is_sensor (task_at core.plan.graph j).kind) port_of_edge.3 ∙ ap is_sensor fits) in
-          omega (arith, none)
-      out_inside steps (works.Node body machine) fits =
-          let fitting = job_laws.fits fits.0.0 fits.0.1 body.now fits.1 in
-          let output : HasOutput (producers.Port port_of_edge.0 port_of_edge.1) (output_types body.now) (edge_at core.plan.graph edge.0).ty =
-          subst (λ (f : Producer). HasOutput f (output_types body.now) (edge_at core.plan.graph edge.0).ty) port_of_edge.2
-          (fitting.outputs edge.0 (edge_at core.plan.graph edge.0) (edge_stands edge.0 write_fits.0) write_fits.1) in
-          slice_get_within (output_types body.now) port_of_edge.1 (edge_at core.plan.graph edge.0).ty output
-      out_inside steps (works.Actuator column) fits =
-          absurd (let f : false ≡ true = sym source_is.1 ∙ ap (λ (j : ℕ). is_actuator (task_at core.plan.graph j).kind) port_of_edge.3 ∙ ap is_actuator fits.0.1 in cc)
+        out_is : (value : Value) → slice_get next.outputs.items out ≡ Some value → value_from (values_of core) (edge_at core.plan.graph edge.0).from (operands.From m) ≡ Some value
+        out_is value at =
+            (output_is core.plan core.horizon core.bodies core.rows laws.work task.0 (get_or core.state.ended task.0 0) is_job (get_or core.state.places task.0 0)
+            w (fit w its) edge m slot is next has value (ap (slice_get next.outputs.items) same_out ∙ at)).1
 
-      give_from : CanBegin core.rows workers task.0 (get_or core.state.ended task.0 0) → CanGive core.rows workers task.0 (get_or core.state.ended task.0 0) port_of_edge.1
-      give_from begins = record {
-        begins = begins;
-        room = (fit begins.worker begins.its).room;
-        inside = out_inside _ begins.worker.work (fit begins.worker begins.its).work;
-      }
+      abbrev MayGive : ℕ → Type 0
+      MayGive out = CanGive core.rows core.bodies workers task.0 (get_or core.state.ended task.0 0) out
 
-      pub can_give : CanGive core.rows workers task.0 (get_or core.state.ended task.0 0) port_of_edge.1
-      can_give = give_from (can_begin (actions.Write edge m slot) is no_write_reads)
-
-      outputs_are : (outputs : List Value) (steps : ℕ) (work : Work) → IsWork core.plan core.bodies core.horizon.until (values_of core) task.0 steps work →
-          HasGiven (values_of core) task.0 (get_or core.state.ended task.0 0) outputs work → outputs ≡ values_of core task.0 (get_or core.state.ended task.0 0)
-      outputs_are outputs steps (works.Sensor k) fits given = given
-      outputs_are outputs steps (works.Node body machine) fits given = given
-      outputs_are outputs steps (works.Actuator column) fits given =
-          absurd (let f : false ≡ true = sym source_is.1 ∙ ap (λ (j : ℕ). is_actuator (task_at core.plan.graph j).kind) port_of_edge.3 ∙ ap is_actuator fits.0.1 in cc)
+      pub can_give : (source : TaskNo) × (out : ℕ) × ((edge_at core.plan.graph edge.0).from ≡ producers.Port source out) × MayGive out
+      can_give =
+          let port = its_port (edge_at core.plan.graph edge.0).from write_fits.1 in
+          (port.0, port.1, port.2, gives port.0 port.1 port.2 (can_begin (actions.Write edge m slot) is no_write_reads))
+        where
+          gives : (source : TaskNo) (out : ℕ) → (edge_at core.plan.graph edge.0).from ≡ producers.Port source out →
+              CanBegin core.rows core.bodies workers task.0 (get_or core.state.ended task.0 0) → MayGive out
+          gives source out from begins = record { begins = begins; inside = out_there source out from begins.worker begins.its }
 
       -- who writes to this half is this job, on this edge
       one_writer : (j k written l : ℕ) (writes : WritesAt (constants core) j k written l slot.0) → l ≡ m → writes.action.0 ≡ edge
@@ -360,10 +304,9 @@ module _ (core : CoreView) (halves : List Value) (workers : List Worker) (kept :
           sym there ∙ ap (λ (x : ℕ). action_at (constants core) task.0 (get_or core.state.ended task.0 0) x) at ∙ is in
           cc
 
-      written_halves : (out : ℕ) (source : TaskNo) → (edge_at core.plan.graph edge.0).from ≡ producers.Port source out → (outputs : List Value) (value : Value) →
-          outputs ≡ values_of core task.0 (get_or core.state.ended task.0 0) → slice_get outputs out ≡ Some value →
+      written_halves : (value : Value) → value_from (values_of core) (edge_at core.plan.graph edge.0).from (operands.From m) ≡ Some value →
           AreHalves core.plan (constants core) (values_of core) (after_action core.state task.0 (actions.Write edge m slot)) (set halves slot.0 value)
-      written_halves out source from outputs value outputs_is at = record {
+      written_halves value its_value = record {
         slots = length-set halves slot.0 value ∙ kept.cells.slots;
         stored = stored;
       }
@@ -373,17 +316,6 @@ module _ (core : CoreView) (halves : List Value) (workers : List Worker) (kept :
               let l = kept.sound.tagged.tags in
               let c = laws.facts.write_cell task.0 (get_or core.state.ended task.0 0) (get_or core.state.places task.0 0) m slot.0 writes_there in
               omega (arith, l, c)
-
-          same_task : source.0 ≡ task.0
-          same_task = (let e : producers.Port source out ≡ producers.Port port_of_edge.0 port_of_edge.1 = sym from ∙ port_of_edge.2 in
-              let s : source ≡ port_of_edge.0 = cc in ap (λ (t : TaskNo). t.0) s ∙ port_of_edge.3)
-
-          its_value : value_from (values_of core) (edge_at core.plan.graph edge.0).from (operands.From m) ≡ Some value
-          its_value =
-              ap (λ (f : Producer). value_from (values_of core) f (operands.From m)) from
-              ∙ ap (λ (j : ℕ). slice_get (values_of core j m) out) same_task
-              ∙ ap (λ (k : ℕ). slice_get (values_of core task.0 k) out) write_fits.2
-              ∙ ap (λ (xs : List Value). slice_get xs out) (sym outputs_is) ∙ at
 
           stored : (j k written l h : ℕ) (writes : WritesAt (constants core) j k written l h) →
               get_or (set core.state.tags slot.0 (m + 1)) h 0 ≡ l + 1 →
@@ -405,34 +337,27 @@ module _ (core : CoreView) (halves : List Value) (workers : List Worker) (kept :
               ]
 
       pub wrote : (halves' : List Value) (workers' : List Worker) (source : TaskNo) (out : ℕ) → (edge_at core.plan.graph edge.0).from ≡ producers.Port source out →
-          Gives core.rows task.0 (get_or core.state.ended task.0 0) out slot.0 halves halves' workers workers' →
+          Gives core.rows core.bodies task.0 (get_or core.state.ended task.0 0) out slot.0 halves halves' workers workers' →
           AreHalves core.plan (constants core) (values_of core) (after_action core.state task.0 (actions.Write edge m slot)) halves'
           × AreWorkers core.plan core.bodies core.horizon.until (values_of core) (after_action core.state task.0 (actions.Write edge m slot)) workers'
-      wrote halves' workers' source out from gives =
-          let was = fit gives.worker gives.its in
-          let body = body_run core.plan core.bodies core.rows core.horizon.until (values_of core) task.0 (get_or core.state.ended task.0 0) job_laws (get_or core.state.places task.0 0)
-          gives.worker was (place_no (actions.Write edge m slot) is no_write_reads) has_port gives.next gives.begins in
-          let after = instance_given core.plan core.bodies core.rows core.horizon.until (values_of core) task.0 (get_or core.state.ended task.0 0) job_laws (get_or core.state.places task.0 0)
-          gives.worker was (place_no (actions.Write edge m slot) is no_write_reads) has_port gives.next body (ap completes is) in (
-            subst (λ (hs : List Value). AreHalves core.plan (constants core) (values_of core) (after_action core.state task.0 (actions.Write edge m slot)) hs) (sym gives.stored)
-                (written_halves out source from gives.next.outputs.items gives.value
-                (outputs_are gives.next.outputs.items (get_or core.state.ended task.0 0 + 1) gives.next.work body.work body.given) gives.given),
-            subst (λ (ws : List Worker). AreWorkers core.plan core.bodies core.horizon.until (values_of core) (after_action core.state task.0 (actions.Write edge m slot)) ws) (sym gives.workers)
-                (workers_moved (set core.state.tags slot.0 (m + 1)) gives.next after),
-          )
+      wrote halves' workers' source out from gives = (
+        subst (λ (hs : List Value). AreHalves core.plan (constants core) (values_of core) (after_action core.state task.0 (actions.Write edge m slot)) hs) (sym gives.stored)
+            (written_halves gives.value (out_is source out from gives.worker gives.its gives.next gives.begins gives.value gives.given)),
+        subst (λ (ws : List Worker). AreWorkers core.plan core.bodies core.horizon.until (values_of core) (after_action core.state task.0 (actions.Write edge m slot)) ws) (sym gives.workers)
+            (workers_moved (set core.state.tags slot.0 (m + 1)) gives.next
+            (has_written core.plan core.horizon core.bodies core.rows laws.work task.0 (get_or core.state.ended task.0 0) is_job (get_or core.state.places task.0 0)
+            gives.worker (fit gives.worker gives.its) (actions.Write edge m slot) is no_write_reads refl gives.next gives.begins)),
+      )
 
     module _ (is : next_action (constants core) core.state task.0 ≡ actions.End) where
       no_end_reads : Reads actions.End → ⊥
       no_end_reads reads = reads
 
-      pub ended_workers : (workers' : List Worker) → Ends core.rows task.0 (get_or core.state.ended task.0 0) workers workers' →
+      pub ended_workers : (workers' : List Worker) → Ends core.rows core.bodies task.0 (get_or core.state.ended task.0 0) workers workers' →
           AreWorkers core.plan core.bodies core.horizon.until (values_of core) (after_action core.state task.0 actions.End) workers'
       ended_workers workers' ends =
-          let was = fit ends.worker ends.its in
-          let body = body_run core.plan core.bodies core.rows core.horizon.until (values_of core) task.0 (get_or core.state.ended task.0 0) job_laws (get_or core.state.places task.0 0)
-          ends.worker was (place_no actions.End is no_end_reads) has_port ends.begun ends.begins in
-          let after = job_ended core.plan core.bodies core.rows core.horizon.until (values_of core) task.0 (get_or core.state.ended task.0 0) job_laws (get_or core.state.places task.0 0)
-          ends.worker was (place_no actions.End is no_end_reads) has_port ends.begun ends.next body ends.ends in
+          let after = has_ended core.plan core.horizon core.bodies core.rows laws.work task.0 (get_or core.state.ended task.0 0) is_job (get_or core.state.places task.0 0)
+          ends.worker (fit ends.worker ends.its) actions.End is no_end_reads ends.begun ends.next ends.begins ends.ends in
           subst (λ (ws : List Worker). AreWorkers core.plan core.bodies core.horizon.until (values_of core) (after_action core.state task.0 actions.End) ws) (sym ends.workers)
           (workers_after (set core.state.ended task.0 (get_or core.state.ended task.0 0 + 1)) (set core.state.places task.0 0) core.state.tags
           (λ j other. get_or-set_other core.state.ended task.0 j (get_or core.state.ended task.0 0 + 1) 0 other)
@@ -464,8 +389,8 @@ module _ (core : CoreView) (halves : List Value) (workers : List Worker) (kept :
     low_read : (port : ℕ) (edge : EdgeNo) (m : ℕ) (slot : SlotNo) → next_action (constants core) core.state task.0 ≡ actions.Read port edge m slot → slot.0 % 2 ≡ 0 →
         AreWorkers core.plan core.bodies core.horizon.until (values_of core) (moved core.state task.0) workers
     low_read port edge m slot is even =
-        let next = low_passed core.plan core.bodies core.rows core.horizon.until (values_of core) task.0 (get_or core.state.ended task.0 0) job_laws (get_or core.state.places task.0 0)
-        worker.0 (fit worker.0 worker.1) (subst Reads (sym is) tt) (ap completes is ∙ even) in
+        let next = worker_reads_low core.plan core.horizon core.bodies core.rows laws.work task.0 (get_or core.state.ended task.0 0) is_job (get_or core.state.places task.0 0)
+        worker.0 (fit worker.0 worker.1) port edge m slot is even in
         record {
           tasks = kept.tasks.tasks;
           each = λ j w at. elim (cases_eq j task.0) [
@@ -490,7 +415,7 @@ module _ (core : CoreView) (halves : List Value) (workers : List Worker) (kept :
 
     read_served : (port : ℕ) (edge : EdgeNo) (m : ℕ) (slot : SlotNo) → next_action (constants core) core.state task.0 ≡ actions.Read port edge m slot →
         (halves' : List Value) (workers' : List Worker) (seen : Seen) → halves' ≡ halves → (half : ℕ) → slot.0 % 2 ≡ half →
-        DoesRead core.rows halves workers workers' task (get_or core.state.ended task.0 0) port (actions.Read port edge m slot) half seen →
+        DoesRead core.rows core.bodies halves workers workers' task (get_or core.state.ended task.0 0) port (actions.Read port edge m slot) half seen →
         IsKept (record core { state = moved core.state task.0 }) halves' workers' × IsSightOfRead core task (get_or core.state.ended task.0 0) port edge m (cell_no slot) half seen
     read_served port edge m slot is halves' workers' seen same zero even does = (
       after_act (actions.Read port edge m slot) is halves' workers' (same_halves halves' same)
@@ -499,7 +424,7 @@ module _ (core : CoreView) (halves : List Value) (workers : List Worker) (kept :
     )
     read_served port edge m slot is halves' workers' seen same (suc half) odd does = (
       after_act (actions.Read port edge m slot) is halves' workers' (same_halves halves' same)
-          (taken (actions.Read port edge m slot) is tt (high_completes half odd) port refl does.0 edge.0 (read_fits port edge m slot is).0 (read_fits port edge m slot is).1
+          (taken (actions.Read port edge m slot) is tt (high_completes half odd) port refl does.0
           (read_value port edge m slot is does.0 does.1) workers' does.2),
       (does.0, does.3, whole_sight port edge m slot is half odd does.0 does.1),
     )
@@ -508,12 +433,12 @@ module _ (core : CoreView) (halves : List Value) (workers : List Worker) (kept :
         high_completes half odd = omega (arith, odd)
 
     pub act_kept : (action : Action) → next_action (constants core) core.state task.0 ≡ action → (halves' : List Value) (workers' : List Worker) (seen : Seen) →
-        Serves core.plan.graph core.rows task (get_or core.state.ended task.0 0) halves halves' workers workers' action seen →
+        Serves core.plan.graph core.rows core.bodies task (get_or core.state.ended task.0 0) halves halves' workers workers' action seen →
         IsKept (record core { state = after_action core.state task.0 action }) halves' workers' × IsSightOf core task (get_or core.state.ended task.0 0) action seen
     act_kept (actions.ReadConst port value) is halves' workers' seen serves =
         let reads = constant_on core kept.plan kept.sound laws task keeps port value is in (
           after_act (actions.ReadConst port value) is halves' workers' (same_halves halves' serves.0)
-              (taken (actions.ReadConst port value) is tt refl port refl value reads.edge reads.inside reads.consumer (const_value port value reads) workers' serves.1),
+              (taken (actions.ReadConst port value) is tt refl port refl value (const_value port value reads) workers' serves.1),
           (serves.2, reads),
         )
     act_kept (actions.Read port edge m slot) is halves' workers' seen serves =
@@ -536,25 +461,25 @@ module _ (core : CoreView) (halves : List Value) (workers : List Worker) (kept :
     )
 
     can_read : (port : ℕ) (edge : EdgeNo) (m : ℕ) (slot : SlotNo) → next_action (constants core) core.state task.0 ≡ actions.Read port edge m slot →
-        (half : ℕ) → slot.0 % 2 ≡ half → CanRead core.rows halves workers task.0 (get_or core.state.ended task.0 0) port slot.0 half
+        (half : ℕ) → slot.0 % 2 ≡ half → CanRead core.rows core.bodies halves workers task.0 (get_or core.state.ended task.0 0) port slot.0 half
     can_read port edge m slot is zero even = tt
     can_read port edge m slot is (suc half) odd =
         let there = value_there halves slot.0 (read_inside port edge m slot is) in (
           there.0,
           there.1,
-          can_take (actions.Read port edge m slot) is tt (omega (arith, odd)) port refl there.0 edge.0 (read_fits port edge m slot is).0 (read_fits port edge m slot is).1
+          can_take (actions.Read port edge m slot) is tt (omega (arith, odd)) port refl there.0
               (read_value port edge m slot is there.0 there.1),
         )
 
     pub can_act : (action : Action) → next_action (constants core) core.state task.0 ≡ action →
-        CanServe core.plan.graph core.rows halves workers task.0 (get_or core.state.ended task.0 0) action
+        CanServe core.plan.graph core.rows core.bodies halves workers task.0 (get_or core.state.ended task.0 0) action
     can_act (actions.ReadConst port value) is =
         let reads = constant_on core kept.plan kept.sound laws task keeps port value is in
-        can_take (actions.ReadConst port value) is tt refl port refl value reads.edge reads.inside reads.consumer (const_value port value reads)
+        can_take (actions.ReadConst port value) is tt refl port refl value (const_value port value reads)
     can_act (actions.Read port edge m slot) is = (read_inside port edge m slot is, can_read port edge m slot is (slot.0 % 2) refl)
     can_act (actions.Write edge m slot) is = (
       (write_fits edge m slot is).0,
       write_inside edge m slot is,
-      ((port_of_edge edge m slot is).0, (port_of_edge edge m slot is).1, (port_of_edge edge m slot is).2, can_give edge m slot is),
+      can_give edge m slot is,
     )
     can_act actions.End is = can_begin actions.End is (λ reads. reads)

@@ -1,4 +1,3 @@
-mod Working
 mod Telling
 mod Keeping
 mod Opening

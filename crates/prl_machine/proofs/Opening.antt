@@ -1,5 +1,5 @@
 -- The machine before the first event.
-use Rattle.std.proofs.Common.{◌≡◌, ◌+◌, ◌*◌, ℕ, zero, suc, List, length, replicate, get_or, refl, sym, ◌∙◌, ap, subst, arith}
+use Rattle.std.proofs.Common.{◌≡◌, ◌*◌, ℕ, zero, suc, List, length, replicate, get_or, refl, sym, subst, arith}
 use Rattle.std.specs.Prelude.{sum}
 use Rattle.prl_base.specs.declared.values.Value.{Value}
 use Rattle.prl_body.specs.declared.bodies.CheckedBody.{CheckedBody}
@@ -7,42 +7,21 @@ use Rattle.prl_flow.specs.Rows.{Rows}
 use Rattle.prl_plan.specs.declared.horizons.Horizon.{Horizon}
 use Rattle.prl_plan.specs.Facts.{HasPlanFacts}
 use Rattle.prl_plan.specs.Horizons.{IsHorizon, constants_of}
-use Rattle.prl_plan.specs.Plans.{PlanView, IsPlan, reads_of}
+use Rattle.prl_plan.specs.Plans.{PlanView, IsPlan}
 use Rattle.prl_plan.proofs.StateLaws.{opening_is_sound}
-use Rattle.prl_values.specs.BodyRuns.{place_of_run}
 use Rattle.prl_values.specs.Fitting.{HaveTaskBodies, HaveTypedRows}
-use Rattle.prl_values.specs.JobValues.{JobValues}
-use Rattle.prl_machine.specs.declared.workers.Work.{Work}
-use Rattle.prl_machine.specs.declared.workers.Work.TheVariants as works
-use Rattle.prl_machine.specs.declared.workers.Worker.{Worker}
+use Rattle.prl_workers.specs.declared.workers.Worker.{Worker}
+use Rattle.prl_workers.specs.Workers.{IsWorker}
+use Rattle.prl_workers.proofs.Working.{new_worker}
 use Rattle.prl_machine.specs.Cores.{opened, values_of}
-use Rattle.prl_machine.specs.code.Opening.{IsWorkOf, IsNewWorker, AreNewWorkers}
-use Rattle.prl_machine.specs.code.Kept.{IsWork, once, IsWorker, IsKept}
-use Rattle.prl_machine.proofs.Working.{false_is_not_true, before_run, mark_of, same_work}
+use Rattle.prl_machine.specs.code.Stores.{AreNewWorkers}
+use Rattle.prl_machine.specs.code.Kept.{IsKept}
 
 zeros : (n j : ℕ) → ◌≡◌ {A = ℕ} (get_or (replicate n 0) j 0) 0
 zeros zero zero = refl
 zeros zero (suc j) = refl
 zeros (suc n) zero = refl
 zeros (suc n) (suc j) = zeros n j
-
-new_work : (plan : PlanView) (bodies : List CheckedBody) (until : ℕ) (v : JobValues) (i : ℕ) (work : Work) → IsWorkOf plan bodies until i work →
-    IsWork plan bodies until v i 0 work
-new_work plan bodies until v i (works.Sensor k) is = is
-new_work plan bodies until v i (works.Node body machine) is = (is.0, is.1, is.2)
-new_work plan bodies until v i (works.Actuator column) is = (is.0, is.1, λ m below. absurd (omega (arith, below)))
-
-new_worker : (plan : PlanView) (bodies : List CheckedBody) (until : ℕ) (v : JobValues) (i : ℕ) (worker : Worker) → IsNewWorker plan bodies until i worker →
-    IsWorker plan bodies until v i 0 0 worker
-new_worker plan bodies until v i worker is = record {
-  ports = is.ports;
-  taken = λ q below. absurd (omega (arith, below));
-  room = is.room;
-  ran = is.ran ∙ sym (before_run (place_of_run plan i 0) 0 (let m = (mark_of (length (reads_of plan i 0 0 plan.graph.edges))).1 in omega (arith, m)));
-  given = λ yes. absurd (false_is_not_true worker.ran is.ran yes);
-  work = same_work plan bodies until v i 0 (0 + once worker.ran) worker.work worker.work (let o : once worker.ran ≡ 0 = ap once is.ran in omega (arith, o)) refl
-      (new_work plan bodies until v i worker.work is.work);
-}
 
 pub opened_kept : (plan : PlanView) (bodies : List CheckedBody) (rows : Rows) (horizon : Horizon) → IsPlan plan → HasPlanFacts (constants_of plan horizon) →
     IsHorizon plan horizon → HaveTaskBodies plan.graph bodies → HaveTypedRows plan.graph horizon.until rows → (halves : List Value) (workers : List Worker) →

@@ -10,13 +10,13 @@ ghost use Rattle.prl_core.specs.Machine.{IsOfPlan, Drives};
 
 use crate::laws::machine_laws;
 use crate::stores::Store;
-use crate::workers::Work;
 use crate::{Illegal, Seen, Unfinished};
 use prl_base::{TaskNo, Value};
 use prl_body::{Bodies, Machine};
 use prl_core::Track;
 use prl_flow::Sensors;
 use prl_plan::{Event, Horizon, Kind, Plan, plan_facts, plan_is_one};
+use prl_workers::Work;
 use std::alloc::{AllocError, Global};
 use std::marker::Model;
 
@@ -28,7 +28,7 @@ pub struct Core<'a> {
     sensors: &'a Sensors,
     horizon: Horizon,
     track: Track<'a>,
-    store: Store<'a>,
+    store: Store,
 }
 
 impl<'a> Model for Core<'a> {
@@ -100,7 +100,9 @@ impl<'a> Core<'a> {
     {
         machine_laws();
         let acted = self.track.act(task)?;
-        Ok(self.store.serve(self.plan, self.sensors, task, acted))
+        Ok(self
+            .store
+            .serve(self.plan, self.sensors, self.bodies, task, acted))
     }
 
     /// Does one event, and tells what it saw. Where the event breaks a rule the first such rule is answered, and the
@@ -166,10 +168,6 @@ impl<'a> Core<'a> {
         requires { task.0 < length self.now.plan.graph.tasks }
         ensures { MatchOption result (IsNoNode self.entry.now task.0) (λ machine. IsMachineOf self.entry.now task.0 machine.now) }
     {
-        match &self.store.workers[task.0 as usize].work {
-            Work::Node { machine, .. } => Some(machine),
-            Work::Sensor(_) => None,
-            Work::Actuator(_) => None,
-        }
+        self.store.workers[task.0 as usize].machine()
     }
 }

@@ -13,11 +13,9 @@ ghost use Rattle.prl_values.specs.Fitting.{HaveTaskBodies, HaveTypedRows};
 ghost use Rattle.prl_machine.specs.Cores.{CoreView, constants, Tells, AreOutputs};
 ghost use Rattle.prl_machine.specs.code.Laws.{HasCoreLaws};
 
-use prl_plan::{
-    actions_are_as_defined, free_events_keep_tags, horizon_jobs_are_counted, plans_keep_facts,
-};
-use prl_ranges::horizons_are_small;
+use prl_plan::{free_events_keep_tags, horizon_jobs_are_counted, plans_keep_facts};
 use prl_values::{job_values_are_typed, job_values_exist};
+use prl_workers::jobs_have_work_laws;
 
 /// The laws of plans, of their states and of values by instance, over what is seen of a machine.
 pub(crate) fn machine_laws()
@@ -25,8 +23,7 @@ pub(crate) fn machine_laws()
         HaveTypedRows core.plan.graph core.horizon.until core.rows → HasCoreLaws core }
 {
     plans_keep_facts();
-    actions_are_as_defined();
-    horizons_are_small();
+    jobs_have_work_laws();
     horizon_jobs_are_counted();
     free_events_keep_tags();
     job_values_exist();

@@ -1,13 +1,11 @@
 //! The pure machine of an executive, over every plan and with bodies: it does one event at a time, refuses each event that
-//! breaks a rule, and tells what it saw. It stands on plans, on tracks, on bodies and on the rows of sensors.
+//! breaks a rule, and tells what it saw. It stands on plans, on tracks, on bodies, on the
+//! rows of sensors and on the workers of tasks.
 #![tactic(auto)]
 
 mod cores;
 mod laws;
-mod ports;
 mod stores;
-mod task_bodies;
-mod workers;
 
 pub use cores::Core;
 pub use laws::legal_events_tell;

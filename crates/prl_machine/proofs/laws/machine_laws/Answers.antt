@@ -8,12 +8,8 @@ returns c = λ core is_plan is_horizon bodies rows.
     let of = c.job_values_exist.ensures core.plan is_plan core.bodies core.rows core.horizon.until in
     record {
       facts = facts;
-      ports = c.actions_are_as_defined.ensures.ports core.plan is_plan.graph;
-      small = c.horizons_are_small.ensures.jobs core.plan core.horizon is_horizon;
+      work = c.jobs_have_work_laws.ensures core.plan core.horizon core.bodies core.rows is_plan is_horizon bodies rows;
       counted = c.horizon_jobs_are_counted.ensures core.plan.graph core.horizon.until;
       halves = c.free_events_keep_tags.ensures.halves (constants_of core.plan core.horizon) facts;
-      values = of;
-      reads = c.job_values_are_typed.ensures.reads core.plan is_plan core.bodies core.rows core.horizon.until (values_of core) bodies rows of;
-      registers = c.job_values_are_typed.ensures.registers core.plan is_plan core.bodies core.rows core.horizon.until (values_of core) bodies rows of;
       edges = c.job_values_are_typed.ensures.edges core.plan is_plan core.bodies core.rows core.horizon.until (values_of core) bodies rows of;
     })

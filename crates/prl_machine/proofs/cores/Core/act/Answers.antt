@@ -34,9 +34,9 @@ serve-requires c =
     let kept : IsKept core c.self.inside.store.halves.items c.self.inside.store.workers.items = c.self.invariant.2 in
     let laws : HasCoreLaws core = c.machine_laws.ensures core kept.plan kept.horizon kept.bodies kept.rows in
     let ok = c.in_ok-acted.ensures.ok in
-    subst (λ (p : PlanView). CanServe p.graph c.self.inside.sensors.now c.self.inside.store.halves.items c.self.inside.store.workers.items c.args.task.0 c.in_ok-acted.acted.job c.in_ok-acted.acted.action)
+    subst (λ (p : PlanView). CanServe p.graph c.self.inside.sensors.now c.self.inside.bodies.now c.self.inside.store.halves.items c.self.inside.store.workers.items c.args.task.0 c.in_ok-acted.acted.job c.in_ok-acted.acted.action)
     (sym c.self.invariant.0)
-    (subst (λ (n : ℕ). CanServe core.plan.graph core.rows c.self.inside.store.halves.items c.self.inside.store.workers.items c.args.task.0 n c.in_ok-acted.acted.action) (sym ok.1)
+    (subst (λ (n : ℕ). CanServe core.plan.graph core.rows core.bodies c.self.inside.store.halves.items c.self.inside.store.workers.items c.args.task.0 n c.in_ok-acted.acted.action) (sym ok.1)
     (can_act core c.self.inside.store.halves.items c.self.inside.store.workers.items kept laws c.args.task ok.0 c.in_ok-acted.acted.action (sym ok.2)))
 
 pub invariant_of-self-2 : goal.invariant_of-self-2
@@ -51,11 +51,11 @@ invariant_of-self-2 c =
     let kept : IsKept core c.self.inside.store.halves.items c.self.inside.store.workers.items = c.self.invariant.2 in
     let laws : HasCoreLaws core = c.machine_laws.ensures core kept.plan kept.horizon kept.bodies kept.rows in
     let ok = c.in_ok-acted.ensures.ok in
-    let serves : Serves core.plan.graph core.rows c.args.task (get_or core.state.ended c.args.task.0 0) c.self.inside.store.halves.items c.serve.new.self.halves.items
+    let serves : Serves core.plan.graph core.rows core.bodies c.args.task (get_or core.state.ended c.args.task.0 0) c.self.inside.store.halves.items c.serve.new.self.halves.items
     c.self.inside.store.workers.items c.serve.new.self.workers.items c.in_ok-acted.acted.action c.serve.result =
-    subst (λ (p : PlanView). Serves p.graph core.rows c.args.task (get_or core.state.ended c.args.task.0 0) c.self.inside.store.halves.items c.serve.new.self.halves.items
+    subst (λ (p : PlanView). Serves p.graph core.rows core.bodies c.args.task (get_or core.state.ended c.args.task.0 0) c.self.inside.store.halves.items c.serve.new.self.halves.items
     c.self.inside.store.workers.items c.serve.new.self.workers.items c.in_ok-acted.acted.action c.serve.result) c.self.invariant.0
-    (subst (λ (n : ℕ). Serves c.self.inside.plan.now.graph core.rows c.args.task n c.self.inside.store.halves.items c.serve.new.self.halves.items
+    (subst (λ (n : ℕ). Serves c.self.inside.plan.now.graph core.rows core.bodies c.args.task n c.self.inside.store.halves.items c.serve.new.self.halves.items
     c.self.inside.store.workers.items c.serve.new.self.workers.items c.in_ok-acted.acted.action c.serve.result) ok.1 c.serve.ensures) in
     let done = act_kept core c.self.inside.store.halves.items c.self.inside.store.workers.items kept laws c.args.task ok.0 c.in_ok-acted.acted.action (sym ok.2)
     c.serve.new.self.halves.items c.serve.new.self.workers.items c.serve.result serves in (
@@ -79,11 +79,11 @@ returns-clause-ok c =
     let kept : IsKept core c.self.inside.store.halves.items c.self.inside.store.workers.items = c.self.invariant.2 in
     let laws : HasCoreLaws core = c.machine_laws.ensures core kept.plan kept.horizon kept.bodies kept.rows in
     let ok = c.in_ok-acted.ensures.ok in
-    let serves : Serves core.plan.graph core.rows c.args.task (get_or core.state.ended c.args.task.0 0) c.self.inside.store.halves.items c.serve.new.self.halves.items
+    let serves : Serves core.plan.graph core.rows core.bodies c.args.task (get_or core.state.ended c.args.task.0 0) c.self.inside.store.halves.items c.serve.new.self.halves.items
     c.self.inside.store.workers.items c.serve.new.self.workers.items c.in_ok-acted.acted.action c.serve.result =
-    subst (λ (p : PlanView). Serves p.graph core.rows c.args.task (get_or core.state.ended c.args.task.0 0) c.self.inside.store.halves.items c.serve.new.self.halves.items
+    subst (λ (p : PlanView). Serves p.graph core.rows core.bodies c.args.task (get_or core.state.ended c.args.task.0 0) c.self.inside.store.halves.items c.serve.new.self.halves.items
     c.self.inside.store.workers.items c.serve.new.self.workers.items c.in_ok-acted.acted.action c.serve.result) c.self.invariant.0
-    (subst (λ (n : ℕ). Serves c.self.inside.plan.now.graph core.rows c.args.task n c.self.inside.store.halves.items c.serve.new.self.halves.items
+    (subst (λ (n : ℕ). Serves c.self.inside.plan.now.graph core.rows core.bodies c.args.task n c.self.inside.store.halves.items c.serve.new.self.halves.items
     c.self.inside.store.workers.items c.serve.new.self.workers.items c.in_ok-acted.acted.action c.serve.result) ok.1 c.serve.ensures) in
     let done = act_kept core c.self.inside.store.halves.items c.self.inside.store.workers.items kept laws c.args.task ok.0 c.in_ok-acted.acted.action (sym ok.2)
     c.serve.new.self.halves.items c.serve.new.self.workers.items c.serve.result serves in (

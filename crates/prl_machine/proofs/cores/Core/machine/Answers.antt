@@ -1,11 +1,13 @@
-use Rattle.std.proofs.Common.{◌≡◌, ◌<◌, length, sym, subst}
+use Rattle.std.proofs.Common.{◌≡◌, ◌<◌, length, refl, sym, subst}
+use Rattle.std.specs.Prelude.{MatchOption}
+use Rattle.prl_workers.specs.Workers.{HasMachine, HasNoMachine}
 use Rattle.prl_machine.specs.Cores.{CoreView, IsMachineOf, IsNoNode}
 use Rattle.prl_machine.specs.code.Kept.{IsKept}
-use Rattle.prl_machine.proofs.Given.{work_at, machine_is_of, sensor_no_node, actuator_no_node}
+use Rattle.prl_machine.proofs.Given.{work_at, match_mono, machine_told, no_machine_told}
 use Rattle.prl_machine.proofs.cores.Core.machine.Goals as goal
 
-pub returns-in-Node : goal.returns-in-Node
-returns-in-Node c =
+pub returns : goal.returns
+returns c =
     let core : CoreView = record {
       plan = c.self.inside.track.plan;
       bodies = c.self.inside.bodies.now;
@@ -16,36 +18,10 @@ returns-in-Node c =
     let seen : core ≡ c.args.self.now = c.self.view_is in
     let kept : IsKept core c.self.inside.store.halves.items c.self.inside.store.workers.items = c.self.invariant.2 in
     let inside : c.args.task.0 < length core.plan.graph.tasks = subst (λ (v : CoreView). c.args.task.0 < length v.plan.graph.tasks) (sym seen) c.requires in
-    let its = work_at core c.self.inside.store.halves.items c.self.inside.store.workers.items kept c.args.task.0 inside c.index.result.now c.index.ensures _ c.in-Node.is in
-    subst (λ (v : CoreView). IsMachineOf v c.args.task.0 c.in-Node.machine) seen
-    (machine_is_of core c.self.inside.store.halves.items c.self.inside.store.workers.items kept c.args.task.0 c.index.result.now its.0 c.in-Node.body.now c.in-Node.machine its.1.0 its.1.1 its.1.2)
-
-pub returns-in-Sensor : goal.returns-in-Sensor
-returns-in-Sensor c =
-    let core : CoreView = record {
-      plan = c.self.inside.track.plan;
-      bodies = c.self.inside.bodies.now;
-      rows = c.self.inside.sensors.now;
-      horizon = c.self.inside.track.horizon;
-      state = c.self.inside.track.state;
-    } in
-    let seen : core ≡ c.args.self.now = c.self.view_is in
-    let kept : IsKept core c.self.inside.store.halves.items c.self.inside.store.workers.items = c.self.invariant.2 in
-    let inside : c.args.task.0 < length core.plan.graph.tasks = subst (λ (v : CoreView). c.args.task.0 < length v.plan.graph.tasks) (sym seen) c.requires in
-    let its = work_at core c.self.inside.store.halves.items c.self.inside.store.workers.items kept c.args.task.0 inside c.index.result.now c.index.ensures _ c.in-Sensor.is in
-    subst (λ (v : CoreView). IsNoNode v c.args.task.0) seen (sensor_no_node core c.args.task.0 c.in-Sensor.field-0 its.1)
-
-pub returns-in-Actuator : goal.returns-in-Actuator
-returns-in-Actuator c =
-    let core : CoreView = record {
-      plan = c.self.inside.track.plan;
-      bodies = c.self.inside.bodies.now;
-      rows = c.self.inside.sensors.now;
-      horizon = c.self.inside.track.horizon;
-      state = c.self.inside.track.state;
-    } in
-    let seen : core ≡ c.args.self.now = c.self.view_is in
-    let kept : IsKept core c.self.inside.store.halves.items c.self.inside.store.workers.items = c.self.invariant.2 in
-    let inside : c.args.task.0 < length core.plan.graph.tasks = subst (λ (v : CoreView). c.args.task.0 < length v.plan.graph.tasks) (sym seen) c.requires in
-    let its = work_at core c.self.inside.store.halves.items c.self.inside.store.workers.items kept c.args.task.0 inside c.index.result.now c.index.ensures _ c.in-Actuator.is in
-    subst (λ (v : CoreView). IsNoNode v c.args.task.0) seen (actuator_no_node core c.args.task.0 its.1.0.0 its.1.0.1)
+    let its = work_at core c.self.inside.store.halves.items c.self.inside.store.workers.items kept c.args.task.0 inside c.index.result.now c.index.ensures _ refl in
+    subst (λ (v : CoreView). MatchOption c.machine.result (IsNoNode v c.args.task.0) (λ machine. IsMachineOf v c.args.task.0 machine.now)) seen
+    (match_mono (HasNoMachine c.index.result.now.work) (IsNoNode core c.args.task.0) (λ machine. HasMachine c.index.result.now.work machine.now)
+    (λ machine. IsMachineOf core c.args.task.0 machine.now) c.machine.result
+    (no_machine_told core c.self.inside.store.halves.items c.self.inside.store.workers.items kept c.args.task.0 c.index.result.now its.0 c.index.result.now.work its.1)
+    (λ machine has. machine_told core c.self.inside.store.halves.items c.self.inside.store.workers.items kept c.args.task.0 c.index.result.now its.0 c.index.result.now.work its.1 machine.now has)
+    c.machine.ensures)

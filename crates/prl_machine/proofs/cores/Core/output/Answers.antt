@@ -3,7 +3,8 @@ use Rattle.std.proofs.lemmas.List.{length-take-le}
 use Rattle.prl_base.specs.declared.values.Value.{Value}
 use Rattle.prl_core.specs.Machine.{Drives}
 use Rattle.prl_machine.specs.Cores.{CoreView, AreOutputs}
-use Rattle.prl_machine.specs.code.Kept.{IsKept, once}
+use Rattle.prl_workers.specs.Workers.{once}
+use Rattle.prl_machine.specs.code.Kept.{IsKept}
 use Rattle.prl_machine.specs.code.Laws.{HasCoreLaws}
 use Rattle.prl_machine.proofs.Given.{work_at, column_is_output, sensor_no_actuator, node_no_actuator}
 use Rattle.prl_machine.proofs.cores.Core.output.Goals as goal

@@ -1,6 +1,6 @@
 use Rattle.std.proofs.Common.{◌≡◌, ℕ, length, Some, slice_get}
-use Rattle.prl_machine.specs.declared.workers.Worker.{Worker}
-use Rattle.prl_machine.specs.code.Opening.{IsNewWorker}
+use Rattle.prl_workers.specs.declared.workers.Worker.{Worker}
+use Rattle.prl_workers.specs.Workers.{IsNewWorker}
 use Rattle.prl_machine.proofs.stores.Store.new.Given as goal
 
 -- the workers of the tasks so far
