@@ -1,16 +1,14 @@
 -- The machine keeps what it has, event by event, and tells what it finds.
-use Rattle.std.proofs.Common.{◌≡◌, ◌≢◌, ◌+◌, ◌/◌, ◌%◌, ◌-◌, ◌<◌, ℕ, zero, suc, true, false, List, length, get_or, set, Option, Some, inl, inr, refl, sym, ◌∙◌, ap, subst, arith, get_or-set_other}
+use Rattle.std.proofs.Common.{◌≡◌, ◌≢◌, ◌+◌, ◌%◌, ◌<◌, ℕ, zero, suc, List, length, get_or, set, Option, Some, inl, inr, refl, sym, ◌∙◌, ap, subst, arith, get_or-set_other}
 use Rattle.std.specs.Prelude.{slice_get, pos, unwrap_or}
 use Rattle.std.proofs.lemmas.Bool.{cases_eq}
 use Rattle.std.proofs.lemmas.List.{length-set}
 use Rattle.std.proofs.lemmas.Grind.{get_or-set_at}
-use Rattle.std.proofs.lemmas.Option.{slice_get_within, slice_get-get_or, slice_get_cases}
+use Rattle.std.proofs.lemmas.Option.{slice_get-get_or, slice_get_cases}
 use Rattle.prl_base.specs.declared.numbers.EdgeNo.{EdgeNo}
 use Rattle.prl_base.specs.declared.numbers.TaskNo.{TaskNo}
 use Rattle.prl_base.specs.declared.values.Value.{Value}
 use Rattle.prl_base.specs.declared.values.Value.TheVariants as values
-use Rattle.prl_body.specs.Bodies.{output_types}
-use Rattle.prl_body.specs.declared.bodies.CheckedBody.{CheckedBody}
 use Rattle.prl_plan.specs.declared.events.Action.{Action}
 use Rattle.prl_plan.specs.declared.events.Action.TheVariants as actions
 use Rattle.prl_plan.specs.declared.events.Event.TheVariants as events
@@ -19,19 +17,15 @@ use Rattle.prl_plan.specs.declared.graphs.Producer.{Producer}
 use Rattle.prl_plan.specs.declared.graphs.Producer.TheVariants as producers
 use Rattle.prl_plan.specs.declared.walks.Operand.TheVariants as operands
 use Rattle.prl_plan.specs.Facts.{IsJob, ReadsAt, WritesAt}
-use Rattle.prl_plan.specs.Graphs.{IsEdge, IsSource, is_sensor, is_actuator}
-use Rattle.prl_plan.specs.Jobs.{task_at, IsHorizonJob}
-use Rattle.prl_plan.specs.Plans.{edge_at, no_edge, cell_of, low, high, actions_of, completes, operands_before, IsAtPort, IsActionOf, IsHigh, low_of}
+use Rattle.prl_plan.specs.Plans.{edge_at, no_edge, completes, IsAtPort, IsActionOf}
 use Rattle.prl_plan.specs.Precedence.{ComesFrom}
-use Rattle.prl_plan.specs.Rules.{MayTick, HasJob, KeepsLegal, FindsTag}
+use Rattle.prl_plan.specs.Rules.{MayTick, HasJob, KeepsLegal}
 use Rattle.prl_plan.specs.Runs.{action_at, next_action, moved, after_action}
 use Rattle.prl_plan.specs.States.{IsSound}
-use Rattle.prl_plan.proofs.RoundPeriods.{task_is}
-use Rattle.prl_plan.proofs.StateLaws.{gated_event_keeps_sound, legal_event_is_gated, legal_read_finds_tag, write_finds_half_free, action_is_as_defined, low_is_even}
+use Rattle.prl_plan.proofs.StateLaws.{gated_event_keeps_sound, legal_event_is_gated, write_finds_half_free}
 use Rattle.prl_core.specs.declared.seen.Seen.{Seen}
 use Rattle.prl_core.specs.Machine.{cell_no}
 use Rattle.prl_core.proofs.Places.{slice_get_set_same, slice_get_set_other}
-use Rattle.prl_values.specs.Fitting.{FitsTask, HasOutput, port_types}
 use Rattle.prl_values.specs.JobValues.{value_from, value_on, reads_of_job}
 use Rattle.prl_workers.specs.declared.workers.Worker.{Worker}
 use Rattle.prl_workers.specs.Workers.{HasBegun, IsWorker}

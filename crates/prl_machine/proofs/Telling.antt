@@ -1,10 +1,5 @@
 -- What a legal event finds, in a sound state of a plan.
-use Rattle.std.proofs.Common.{◌≡◌, ◌+◌, ◌/◌, ◌%◌, ◌-◌, ◌<◌, ◌≤◌, ◌↔◌, ℕ, zero, suc, List, [], ◌∷◌, ◌++◌, length, get_or, Some, inl, inr, refl, sym, ◌∙◌, ap, subst, arith}
-use Rattle.std.specs.Prelude.{slice_get, pos, unwrap_or}
-use Rattle.std.proofs.lemmas.Bool.{cases_lt}
-use Rattle.std.proofs.lemmas.List.{length-append, get_or-append-add}
-use Rattle.std.proofs.lemmas.Option.{slice_get-get_or}
-use Rattle.prl_base.specs.declared.numbers.CellNo.{CellNo}
+use Rattle.std.proofs.Common.{◌≡◌, ◌+◌, ◌/◌, ◌%◌, ◌-◌, ℕ, zero, suc, get_or, Some, inl, inr, refl, sym, ◌∙◌, ap, subst, arith}
 use Rattle.prl_base.specs.declared.numbers.EdgeNo.{EdgeNo}
 use Rattle.prl_base.specs.declared.numbers.TaskNo.{TaskNo}
 use Rattle.prl_base.specs.declared.values.Value.{Value}
@@ -13,8 +8,8 @@ use Rattle.prl_plan.specs.declared.events.Action.TheVariants as actions
 use Rattle.prl_plan.specs.declared.events.Event.{Event}
 use Rattle.prl_plan.specs.declared.events.Event.TheVariants as events
 use Rattle.prl_plan.specs.declared.events.SlotNo.{SlotNo}
-use Rattle.prl_plan.specs.Facts.{IsJob, ReadsAt}
-use Rattle.prl_plan.specs.Jobs.{task_at, IsHorizonJob}
+use Rattle.prl_plan.specs.Facts.{IsJob}
+use Rattle.prl_plan.specs.Jobs.{IsHorizonJob}
 use Rattle.prl_plan.specs.Plans.{IsPlan, edge_at, cell_of, low, high, IsActionOf, IsHigh, low_of}
 use Rattle.prl_plan.specs.Rules.{HasJob, KeepsLegal, FindsTag}
 use Rattle.prl_plan.specs.Runs.{action_at, next_action}

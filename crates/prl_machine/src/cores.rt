@@ -100,9 +100,10 @@ impl<'a> Core<'a> {
     {
         machine_laws();
         let acted = self.track.act(task)?;
-        Ok(self
-            .store
-            .serve(self.plan, self.sensors, self.bodies, task, acted))
+        Ok(
+            self.store
+                .serve(self.plan, self.sensors, self.bodies, task, acted),
+        )
     }
 
     /// Does one event, and tells what it saw. Where the event breaks a rule the first such rule is answered, and the
