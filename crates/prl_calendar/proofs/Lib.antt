@@ -2,3 +2,4 @@ mod Places
 mod Turning
 mod Chained
 mod Ordered
+mod Queued

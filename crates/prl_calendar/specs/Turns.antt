@@ -1,6 +1,5 @@
 -- The next date of each kind of clocks, with the place of its first clock.
 use Rattle.std.specs.Prelude.{◌≡◌, ◌+◌, ◌-◌, ◌^◌, ◌<◌, ◌≤◌, ◌⊎◌, ◌==◌, ℕ, List, ◌∷◌, length, min, slice_index_or, Bool, nat_eq}
-use Rattle.std.specs.BinaryHeap.{IsHeap}
 use Rattle.std.specs.List.{All, Contains, IsDistinct}
 use Rattle.std.specs.List.Sorted.{IsPermutation}
 use Rattle.std.specs.Ordering.{nat_cmp, ordering_then}
@@ -80,4 +79,3 @@ pub record IsCalendar (clocks : List Clock) (from until : ℕ) (following : List
   pub periods : AreAllClocks clocks
   pub chains : AreFollowing clocks following
   pub told : from < until → AreTurns clocks last from turns
-  pub heap : from < until → IsHeap turn_order turns

@@ -23,7 +23,6 @@ pub struct Calendar<'a> {
 }
 
 impl<'a> Model for Calendar<'a> {
-    ghost use Rattle.std.specs.BinaryHeap.{heap_items};
     ghost use Rattle.prl_calendar.specs.Calendars.{CalendarView};
     ghost use Rattle.prl_calendar.specs.Turns.{IsCalendar};
 
@@ -31,7 +30,7 @@ impl<'a> Model for Calendar<'a> {
 
     ghost view = { λ c. record { clocks = c.clocks.now; from = c.from; until = c.until } };
 
-    ghost invariant = { λ c. IsCalendar c.clocks.now c.from c.until c.following.items (heap_items c.turns) };
+    ghost invariant = { λ c. IsCalendar c.clocks.now c.from c.until c.following.items c.turns };
 }
 
 impl<'a> Calendar<'a> {

@@ -1,5 +1,4 @@
 use Rattle.std.proofs.Common.{ℕ, ◌≡◌, ◌+◌, ◌∙◌, List, [], ◌∷◌, ap, arith, subst, map, take, slice_index, ◌++◌}
-use Rattle.std.specs.BinaryHeap.{heap_items}
 use Rattle.std.specs.List.Sorted.{IsPermutation}
 use Rattle.std.proofs.lemmas.List.{map-append, take_all, take_more}
 use Rattle.std.proofs.lemmas.List.Sorted.{IsPermutation-push_more}
@@ -12,13 +11,11 @@ loop-first-preserved c =
     let f = first_turn c.args.clocks.now in
     let firsts : List ℕ = c.args.firsts.now in
     let k : ℕ = c.loop-first.first-index in
-    let more : map f (take (k + 1) firsts) ≡ map f (take k firsts) ++ f (slice_index firsts k) ∷ [] = ap (map f) (take_more firsts k 0 c.loop-first-test.true) ∙ map-append f (take k firsts) (slice_index firsts k ∷ []) in (
-      c.in_ok-push.ensures.heap_order c.loop-first.invariant.0,
-      rw more (IsPermutation-push_more (map f (take k firsts)) (heap_items c.loop-first.turns) (heap_items c.push.new.self) (f (slice_index firsts k)) c.loop-first.invariant.1 c.in_ok-push.ensures.permutation),
-    )
+    let more : map f (take (k + 1) firsts) ≡ map f (take k firsts) ++ f (slice_index firsts k) ∷ [] = ap (map f) (take_more firsts k 0 c.loop-first-test.true) ∙ map-append f (take k firsts) (slice_index firsts k ∷ []) in
+    rw more (IsPermutation-push_more (map f (take k firsts)) c.loop-first.turns c.push.new.self (f (slice_index firsts k)) c.loop-first.invariant c.in_ok-push.ensures)
 
-pub returns-clause-told : goal.returns-clause-told
-returns-clause-told c =
+pub returns : goal.returns
+returns c =
     let all : take c.loop-first.first-index c.args.firsts.now ≡ c.args.firsts.now = take_all c.loop-first.first-index c.args.firsts.now (omega arith) in
-    first_turns_are c.args.clocks.now c.args.firsts.now (heap_items c.loop-first.turns) c.requires
-    (subst (λ (hs : List ℕ). IsPermutation (map (first_turn c.args.clocks.now) hs) (heap_items c.loop-first.turns)) all c.loop-first.invariant.1)
+    first_turns_are c.args.clocks.now c.args.firsts.now c.loop-first.turns c.requires
+    (subst (λ (hs : List ℕ). IsPermutation (map (first_turn c.args.clocks.now) hs) c.loop-first.turns) all c.loop-first.invariant)
