@@ -14,11 +14,11 @@ use Rattle.prl_body.specs.contracts.program_bodies.Bodies.{the_row}
 use Rattle.prl_plan.proofs.plans.Plan.TheSendSync as plan
 use Rattle.prl_plan.proofs.horizons.Horizon.TheSendSync as horizon
 use Rattle.prl_flow.proofs.rows.Sensors.TheSendSync as sensors
-use Rattle.prl_board.specs.contracts.views.View as View
-use Rattle.prl_board.specs.contracts.views.About as About
-use Rattle.prl_board.specs.contracts.views.Running as Running
-use Rattle.prl_board.specs.contracts.views.RunningTableRuleUnitViewAbout.TheImpl as Rule
-use Rattle.prl_board.proofs.views.Gate.TheSendSync as gate
+use Rattle.prl_rule.specs.contracts.views.View as View
+use Rattle.prl_rule.specs.contracts.views.About as About
+use Rattle.prl_rule.specs.contracts.views.Running as Running
+use Rattle.prl_rule.specs.contracts.views.RunningTableRuleUnitViewAbout.TheImpl as Rule
+use Rattle.prl_rule.proofs.views.Gate.TheSendSync as gate
 use Rattle.prl_board.specs.contracts.board.Board as Board
 
 pub bodies_sync : IsSync the_row

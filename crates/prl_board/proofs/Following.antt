@@ -11,23 +11,18 @@ use Rattle.prl_plan.specs.Facts.{IsJob}
 use Rattle.prl_plan.specs.Runs.{RunConstants, action_at}
 use Rattle.prl_board.specs.declared.jobs.Stage.{Stage}
 use Rattle.prl_board.specs.declared.jobs.Stage.TheVariants as stages
-use Rattle.prl_board.specs.declared.views.Constants.{Constants}
-use Rattle.prl_board.specs.declared.views.Standing.{Standing}
-use Rattle.prl_board.specs.declared.views.TaskPart.{TaskPart}
-use Rattle.prl_board.specs.declared.views.View.{View}
-use Rattle.prl_board.specs.RunValues.{RunValues}
-use Rattle.prl_board.specs.Known.{run_of, values_of}
-use Rattle.prl_board.specs.Rule.{StandsAt, first_part}
-use Rattle.prl_board.specs.Steps.{caught_up, done_counted, half_loaded, half_missed, half_stored, half_taken, moved_on, now_loaded, with_part}
-use Rattle.prl_board.specs.Boards.{EndTold, HalfTold, IsAt, NowTold, WriteTold, part_at, part_of, part_or}
+use Rattle.prl_rule.specs.declared.views.Constants.{Constants}
+use Rattle.prl_rule.specs.declared.views.Standing.{Standing}
+use Rattle.prl_rule.specs.declared.views.TaskPart.{TaskPart}
+use Rattle.prl_rule.specs.declared.views.View.{View}
+use Rattle.prl_rule.specs.RunValues.{RunValues}
+use Rattle.prl_rule.specs.Known.{run_of, values_of}
+use Rattle.prl_rule.specs.Rule.{StandsAt, first_part}
+use Rattle.prl_rule.specs.Steps.{caught_up, done_counted, half_loaded, half_missed, half_stored, half_taken, moved_on, now_loaded, with_part}
+use Rattle.prl_rule.specs.Told.{EndTold, HalfTold, IsAt, NowTold, WriteTold, part_at, part_of, part_or}
 use Rattle.prl_board.specs.JobSeats.{Follows, IsStage}
 use Rattle.prl_board.specs.Openings.{HasFirstPart}
-use Rattle.prl_board.proofs.Catching.{caught_open, set_found}
-
-pub part_there : (ps : List (Option TaskPart)) (i : ℕ) (p : TaskPart) → get_elem? ps i ≡ some (Some p) → get_or ps i None ≡ Some p
-part_there [] i p e = absurd (some-ne-none (Some p) (sym e))
-part_there (q ∷ ps) zero p e = some-injective q (Some p) e
-part_there (q ∷ ps) (suc i) p e = part_there ps i p e
+use Rattle.prl_rule.proofs.Parts.{caught_open, part_there, set_found}
 
 -- the part of a view with this part
 pub part_is : (i : ℕ) (view : View) (p q : TaskPart) → get_elem? view.tasks i ≡ some (Some p) → part_of i (with_part i q view) ≡ q
@@ -87,7 +82,7 @@ module _ (k : Constants) (i : ℕ) where
 
   -- whether a job is open is as it was before constants were read
   pub open_is : (place : ℕ) (view : View) → (part_at k i place view).stand.is_open ≡ (part_of i view).stand.is_open
-  open_is place view = caught_open k (run_of k) (values_of k) i (place - (part_of i view).stand.place) (part_of i view)
+  open_is place view = caught_open (run_of k) (values_of k) i (place - (part_of i view).stand.place) (part_of i view)
 
   -- where no constant was read, the part is that of the view
   first_part_is : (place : ℕ) (view : View) → place ≡ 0 → part_at k i place view ≡ part_of i view

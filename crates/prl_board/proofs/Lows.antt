@@ -14,13 +14,13 @@ use Rattle.prl_board.specs.declared.jobs.Release.{Release}
 use Rattle.prl_board.specs.declared.jobs.Release.TheVariants as releases
 use Rattle.prl_board.specs.declared.jobs.Stage.{Stage}
 use Rattle.prl_board.specs.declared.jobs.Stage.TheVariants as stages
-use Rattle.prl_board.specs.declared.views.Constants.{Constants}
-use Rattle.prl_board.specs.Halves.{AreHalves, high_half, low_half, value_of_halves}
+use Rattle.prl_rule.specs.declared.views.Constants.{Constants}
+use Rattle.prl_rule.specs.Halves.{AreHalves, high_half, low_half, value_of_halves}
 use Rattle.prl_board.specs.JobSeats.{AnswersRelease, IsStage, JobSeatView}
-use Rattle.prl_board.specs.Known.{run_of, values_of}
-use Rattle.prl_board.specs.RunValues.{HasValueFacts, RunValues, half_of, half_with}
+use Rattle.prl_rule.specs.Known.{run_of, values_of}
+use Rattle.prl_rule.specs.RunValues.{HasValueFacts, RunValues, half_of, half_with}
 use Rattle.prl_board.specs.code.Lows.{IsLow}
-use Rattle.prl_board.proofs.Reading.{before_high, const_no_high, no_high_first, same_read, write_no_high}
+use Rattle.prl_rule.proofs.Reading.{before_high, const_no_high, no_high_first, same_read, write_no_high}
 
 same_action : (a b : Action) → stages.At a ≡ stages.At b → a ≡ b
 same_action a b same = cc

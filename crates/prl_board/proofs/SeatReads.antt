@@ -29,15 +29,15 @@ use Rattle.prl_board.specs.declared.jobs.Stage.{Stage}
 use Rattle.prl_board.specs.declared.jobs.Stage.TheVariants as stages
 use Rattle.prl_board.specs.declared.seats.Got.{Got}
 use Rattle.prl_board.specs.declared.seats.Got.TheVariants as gots
-use Rattle.prl_board.specs.declared.views.Constants.{Constants}
-use Rattle.prl_board.specs.declared.views.Gate.TheVariants as gates
-use Rattle.prl_board.specs.declared.views.TaskPart.{TaskPart}
-use Rattle.prl_board.specs.declared.views.View.{View}
-use Rattle.prl_board.specs.Agreement.{IsOverrun}
-use Rattle.prl_board.specs.Boards.{HalfTold, part_at, part_of}
+use Rattle.prl_rule.specs.declared.views.Constants.{Constants}
+use Rattle.prl_rule.specs.declared.views.Gate.TheVariants as gates
+use Rattle.prl_rule.specs.declared.views.TaskPart.{TaskPart}
+use Rattle.prl_rule.specs.declared.views.View.{View}
+use Rattle.prl_rule.specs.Agreement.{IsOverrun}
+use Rattle.prl_rule.specs.Told.{HalfTold, part_at, part_of}
 use Rattle.prl_board.specs.JobSeats.{AnswersRelease, Follows, GoesOn, IsSameSeat, JobSeatView, StaysAt}
-use Rattle.prl_board.specs.Known.{job_values_of, registers_of, run_of, values_of}
-use Rattle.prl_board.specs.Steps.{half_loaded, half_missed, half_taken, with_part}
+use Rattle.prl_rule.specs.Known.{job_values_of, registers_of, run_of, values_of}
+use Rattle.prl_rule.specs.Steps.{half_loaded, half_missed, half_taken, with_part}
 use Rattle.prl_board.specs.TaskSeats.{AnswersHalf, IsMachineOf, IsNoNode, MayRaise, Misses}
 use Rattle.prl_board.specs.code.Lows.{IsLow, Works}
 use Rattle.prl_board.proofs.Following.{fresh_part, part_is}

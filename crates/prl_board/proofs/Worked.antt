@@ -25,11 +25,11 @@ use Rattle.prl_workers.specs.declared.workers.Worker.{Worker}
 use Rattle.prl_workers.specs.Workers.{HasBegun, HasEnded, HasTaken, HaveWorkLaws, IsReady, IsWorker}
 use Rattle.prl_workers.proofs.Operands.{Reads}
 use Rattle.prl_workers.proofs.Serving.{has_ended, has_taken, has_written, low_read, may_begin, may_take, output_is, output_there, port_of_edge}
-use Rattle.prl_board.specs.declared.views.Constants.{Constants}
-use Rattle.prl_board.specs.Known.{edge_in, instance_on, job_values_of, run_of, values_of}
-use Rattle.prl_board.specs.RunValues.{HasValueFacts, half_with}
+use Rattle.prl_rule.specs.declared.views.Constants.{Constants}
+use Rattle.prl_rule.specs.Known.{edge_in, instance_on, job_values_of, run_of, values_of}
+use Rattle.prl_rule.specs.RunValues.{HasValueFacts, half_with}
 use Rattle.prl_board.specs.code.Lows.{Gives}
-use Rattle.prl_board.proofs.RunFacts.{edge_in_range}
+use Rattle.prl_rule.proofs.CellEdges.{edge_in_range}
 
 module _ (k : Constants) (work : HaveWorkLaws k.plan k.horizon k.bodies k.sensors) (facts : HasValueFacts (run_of k) (values_of k))
     (i n p : ℕ) (job : IsJob (run_of k) i n) (worker : Worker)

@@ -3,14 +3,15 @@ use Rattle.std.specs.Prelude.{◌≡◌, ◌+◌, ◌<◌, ◌≤◌, ℕ, List,
 use Rattle.atomic_table.specs.Seated.{TableId}
 use Rattle.prl_base.specs.declared.numbers.TaskNo.{TaskNo}
 use Rattle.prl_plan.specs.Facts.{IsJob}
-use Rattle.prl_board.specs.declared.views.Constants.{Constants}
-use Rattle.prl_board.specs.declared.views.Gate.TheVariants as gates
-use Rattle.prl_board.specs.declared.views.ClockPart.{ClockPart}
-use Rattle.prl_board.specs.declared.views.View.{View}
+use Rattle.prl_rule.specs.declared.views.Constants.{Constants}
+use Rattle.prl_rule.specs.declared.views.Gate.TheVariants as gates
+use Rattle.prl_rule.specs.declared.views.ClockPart.{ClockPart}
+use Rattle.prl_rule.specs.declared.views.View.{View}
 use Rattle.prl_board.specs.declared.clocks.Ticked.{Ticked}
 use Rattle.prl_board.specs.declared.clocks.Ticked.TheVariants as ticks
-use Rattle.prl_board.specs.Boards.{BoardView, ClockStopTold, TickTold}
-use Rattle.prl_board.specs.Known.{run_of}
+use Rattle.prl_board.specs.Boards.{BoardView}
+use Rattle.prl_rule.specs.Told.{ClockStopTold, TickTold}
+use Rattle.prl_rule.specs.Known.{run_of}
 
 -- its table, its number there, and its view
 pub record ClockSeatView : Type 0 where

@@ -7,14 +7,15 @@ use Rattle.prl_base.specs.declared.numbers.EdgeNo.{EdgeNo}
 use Rattle.prl_base.specs.declared.numbers.TaskNo.{TaskNo}
 use Rattle.prl_plan.specs.declared.events.SlotNo.{SlotNo}
 use Rattle.prl_plan.specs.Runs.{RunConstants, action_at}
-use Rattle.prl_board.specs.declared.views.Constants.{Constants}
-use Rattle.prl_board.specs.declared.views.View.{View}
+use Rattle.prl_rule.specs.declared.views.Constants.{Constants}
+use Rattle.prl_rule.specs.declared.views.View.{View}
 use Rattle.prl_board.specs.declared.jobs.Stage.{Stage}
 use Rattle.prl_board.specs.declared.jobs.Stage.TheVariants as stages
 use Rattle.prl_board.specs.declared.jobs.Release.{Release}
 use Rattle.prl_board.specs.declared.jobs.Release.TheVariants as releases
-use Rattle.prl_board.specs.Boards.{BoardView, EndTold, HalfTold, IsAt, NowTold, part_at, part_of}
-use Rattle.prl_board.specs.Known.{run_of}
+use Rattle.prl_board.specs.Boards.{BoardView}
+use Rattle.prl_rule.specs.Told.{EndTold, HalfTold, IsAt, NowTold, part_at, part_of}
+use Rattle.prl_rule.specs.Known.{run_of}
 
 -- its table, its number there and its view; the task, how many of its jobs have ended, and the place and the stage of the next one
 pub record JobSeatView : Type 0 where

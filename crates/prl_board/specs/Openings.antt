@@ -4,14 +4,14 @@ use mathlib.Core.Option.{some}
 use lib.ListN.{get_elem?}
 use Rattle.prl_base.specs.declared.numbers.TaskNo.{TaskNo}
 use Rattle.prl_plan.specs.Runs.{RunConstants}
-use Rattle.prl_board.specs.declared.views.ClockPart.{ClockPart}
-use Rattle.prl_board.specs.declared.views.Constants.{Constants}
-use Rattle.prl_board.specs.declared.views.View.{View}
+use Rattle.prl_rule.specs.declared.views.ClockPart.{ClockPart}
+use Rattle.prl_rule.specs.declared.views.Constants.{Constants}
+use Rattle.prl_rule.specs.declared.views.View.{View}
 use Rattle.prl_board.specs.Boards.{BoardView}
 use Rattle.prl_board.specs.ClockSeats.{ClockSeatView, IsClockOf}
 use Rattle.prl_board.specs.JobSeats.{IsSeatOf, IsStage, JobSeatView}
-use Rattle.prl_board.specs.Known.{run_of, values_of}
-use Rattle.prl_board.specs.Rule.{first_part}
+use Rattle.prl_rule.specs.Known.{run_of, values_of}
+use Rattle.prl_rule.specs.Rule.{first_part}
 
 -- the part of the clock at the opening
 abbrev pub first_clock : RunConstants → ClockPart

@@ -18,13 +18,13 @@ use Rattle.prl_board.specs.declared.seats.Half.TheVariants as halves
 use Rattle.prl_board.specs.declared.seats.Place.{Place}
 use Rattle.prl_board.specs.declared.seats.Place.TheVariants as places
 use Rattle.prl_board.specs.declared.seats.Wrote.{Wrote}
-use Rattle.prl_board.specs.declared.views.Constants.{Constants}
-use Rattle.prl_board.specs.declared.views.Gate.TheVariants as gates
-use Rattle.prl_board.specs.Agreement.{IsOverrun}
-use Rattle.prl_board.specs.Boards.{HalfTold, StopTold, WriteTold, part_at, part_of}
+use Rattle.prl_rule.specs.declared.views.Constants.{Constants}
+use Rattle.prl_rule.specs.declared.views.Gate.TheVariants as gates
+use Rattle.prl_rule.specs.Agreement.{IsOverrun}
+use Rattle.prl_rule.specs.Told.{HalfTold, StopTold, WriteTold, part_at, part_of}
 use Rattle.prl_board.specs.ClockSeats.{NamesTask}
 use Rattle.prl_board.specs.JobSeats.{GoesOn, JobSeatView, StaysAt}
-use Rattle.prl_board.specs.Known.{run_of, values_of}
+use Rattle.prl_rule.specs.Known.{run_of, values_of}
 
 -- which half of its cell a slot is
 abbrev pub half_at : ℕ → Half

@@ -12,26 +12,23 @@ ghost use Rattle.std.specs.Bool.{OnTrue, OnFalse};
 ghost use Rattle.prl_plan.specs.Facts.{HasPlanFacts, IsJob, ReadsAt};
 ghost use Rattle.prl_plan.specs.Runs.{action_at};
 ghost use Rattle.prl_board.specs.ClockSeats.{NamesTask};
-ghost use Rattle.prl_board.specs.declared.views.ClockPart.{ClockPart};
-ghost use Rattle.prl_board.specs.declared.views.Gate.TheVariants as gates;
-ghost use Rattle.prl_board.specs.declared.views.View.{View};
-ghost use Rattle.prl_board.specs.Agreement.{slot_word, stop_word, word_count, IsOverrun};
-ghost use Rattle.prl_board.specs.Boards.{ClockStopTold, EndTold, HalfTold, IsAt, IsStopFor, LookTold, NowTold, RaiseTold, StopTold, TickTold, WriteTold, part_at, part_of};
-ghost use Rattle.prl_board.specs.RunValues.{HasValueFacts, word_of};
+ghost use Rattle.prl_rule.specs.declared.views.ClockPart.{ClockPart};
+ghost use Rattle.prl_rule.specs.declared.views.Gate.TheVariants as gates;
+ghost use Rattle.prl_rule.specs.declared.views.View.{View};
+ghost use Rattle.prl_rule.specs.Agreement.{slot_word, stop_word, word_count, IsOverrun};
+ghost use Rattle.prl_rule.specs.Told.{ClockStopTold, EndTold, HalfTold, IsAt, IsStopFor, LookTold, NowTold, RaiseTold, StopTold, TickTold, WriteTold, part_at, part_of};
+ghost use Rattle.prl_rule.specs.RunValues.{HasValueFacts, word_of};
 ghost use Rattle.prl_plan.specs.Horizons.{IsHorizon};
 ghost use Rattle.prl_plan.specs.declared.graphs.Producer.TheVariants as producers;
 ghost use Rattle.prl_plan.specs.Plans.{edge_at};
 ghost use Rattle.prl_values.specs.Fitting.{HaveTaskBodies, HaveTypedRows};
 ghost use Rattle.prl_workers.specs.Workers.{HaveWorkLaws, IsNewWorker};
 ghost use Rattle.prl_base.specs.declared.numbers.TaskNo.{TaskNo as AnyTask};
-ghost use Rattle.prl_board.specs.declared.views.TaskPart.{TaskPart};
-ghost use Rattle.prl_board.specs.Known.{known, run_of, values_of};
-ghost use Rattle.prl_board.specs.Rule.{Agreed, StandsAt, all_parts};
-ghost use Rattle.prl_board.specs.Steps.{only_part, without_part};
+ghost use Rattle.prl_rule.specs.declared.views.TaskPart.{TaskPart};
+ghost use Rattle.prl_rule.specs.Known.{known, run_of, values_of};
+ghost use Rattle.prl_rule.specs.Rule.{Agreed, StandsAt, all_parts};
+ghost use Rattle.prl_rule.specs.Steps.{only_part, without_part};
 
-use crate::laws::{plan_laws, run_values_keep_facts};
-use crate::steps::rule_holds_at_the_opening;
-use crate::views::{About, Gate, Running, View};
 use atomic_table::{Play, Split, Table};
 use prl_base::{EdgeNo, TaskNo, Ty};
 use prl_body::Bodies;
@@ -40,6 +37,9 @@ use prl_plan::{
     Action, Horizon, Plan, Producer, SlotNo, actions_are_as_defined, plan_facts, plan_is_one,
 };
 use prl_ranges::horizons_are_small;
+use prl_rule::{
+    About, Gate, Running, View, plan_laws, rule_holds_at_the_opening, run_values_keep_facts,
+};
 use prl_workers::{Worker, jobs_have_work_laws};
 use std::alloc::{AllocError, Global};
 use std::marker::{Brand, Model, PhantomData};
@@ -51,7 +51,7 @@ pub(crate) type Seat = atomic_table::Seat<(), View>;
 /// Each call picks it.
 pub(crate) trait Telling {
     ghost use Rattle.std.specs.Prelude.{ℕ};
-    ghost use Rattle.prl_board.specs.declared.views.View.{View};
+    ghost use Rattle.prl_rule.specs.declared.views.View.{View};
 
     ghost told: { View → ℕ → View → Type 0 };
 }
@@ -86,7 +86,7 @@ struct Parts<J> {
 }
 
 impl<J: Parting> Split<View> for Parts<J> {
-    ghost use Rattle.prl_board.specs.Steps.{only_part, without_part};
+    ghost use Rattle.prl_rule.specs.Steps.{only_part, without_part};
 
     ghost left = { without_part J.task };
 
@@ -107,7 +107,7 @@ pub struct Board<'a> {
 
 impl<'a> Model for Board<'a> {
     ghost use Rattle.prl_board.specs.Boards.{BoardView, IsBoard};
-    ghost use Rattle.prl_board.specs.Known.{known};
+    ghost use Rattle.prl_rule.specs.Known.{known};
     ghost use Rattle.prl_body.specs.contracts.codes.Code as code;
     ghost use Rattle.std.specs.Coded.{codes};
 

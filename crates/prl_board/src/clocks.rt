@@ -2,13 +2,13 @@
 
 ghost use Rattle.std.specs.Prelude.{◌≡◌, ◌+◌, ◌<◌, ◌≤◌, ℕ, [], replicate, slice_index, MatchOption, Some};
 ghost use Rattle.prl_plan.specs.Facts.{IsJob};
-ghost use Rattle.prl_board.specs.declared.views.ClockPart.{ClockPart};
-ghost use Rattle.prl_board.specs.declared.views.Constants.{Constants};
-ghost use Rattle.prl_board.specs.declared.views.Gate.TheVariants as gates;
-ghost use Rattle.prl_board.specs.Boards.{LookTold};
+ghost use Rattle.prl_rule.specs.declared.views.ClockPart.{ClockPart};
+ghost use Rattle.prl_rule.specs.declared.views.Constants.{Constants};
+ghost use Rattle.prl_rule.specs.declared.views.Gate.TheVariants as gates;
+ghost use Rattle.prl_rule.specs.Told.{LookTold};
 ghost use Rattle.prl_board.specs.ClockSeats.{AnswersStop, AnswersTick, IsAllSeen, IsBehind, IsClockOf, IsUnseen};
 ghost use Rattle.prl_board.specs.Openings.{IsFirstClock};
-ghost use Rattle.prl_board.specs.Known.{run_of};
+ghost use Rattle.prl_rule.specs.Known.{run_of};
 
 use crate::board::{Board, Seat};
 use prl_base::TaskNo;

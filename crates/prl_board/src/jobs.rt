@@ -7,18 +7,18 @@ ghost use Rattle.prl_base.specs.declared.numbers.EdgeNo.{EdgeNo};
 ghost use Rattle.prl_base.specs.declared.values.Value.{Value};
 ghost use Rattle.prl_plan.specs.declared.events.Action.TheVariants as actions;
 ghost use Rattle.prl_board.specs.declared.jobs.Stage.TheVariants as stages;
-ghost use Rattle.prl_board.specs.Boards.{RaiseTold, WriteTold};
-ghost use Rattle.prl_board.specs.declared.views.Constants.{Constants};
+ghost use Rattle.prl_rule.specs.Told.{RaiseTold, WriteTold};
+ghost use Rattle.prl_rule.specs.declared.views.Constants.{Constants};
 ghost use Rattle.prl_board.specs.JobSeats.{AnswersRelease, Ends, Follows, GoesOn, HasPartOf, IsSameSeat, IsSeatOf, IsShut, IsStage, LoadsHalf, StaysAt};
 ghost use Rattle.prl_board.specs.Openings.{HasFirstPart, IsFirstSeat};
 ghost use Rattle.prl_board.specs.TaskSeats.{MayRaise, TellsStop};
-ghost use Rattle.prl_board.specs.Known.{run_of, values_of};
-ghost use Rattle.prl_board.specs.RunValues.{half_of};
+ghost use Rattle.prl_rule.specs.Known.{run_of, values_of};
+ghost use Rattle.prl_rule.specs.RunValues.{half_of};
 
 use crate::board::{Board, Seat};
-use crate::tagged::{pack, unpack};
 use prl_base::TaskNo;
 use prl_plan::{Action, SlotNo};
+use prl_rule::{pack, unpack};
 use std::marker::Model;
 
 /// What a release answers.
@@ -55,7 +55,7 @@ pub(crate) struct JobSeat {
 
 impl Model for JobSeat {
     ghost use Rattle.std.specs.Prelude.{◌≡◌, [], Some};
-    ghost use Rattle.prl_board.specs.declared.views.Constants.{Constants};
+    ghost use Rattle.prl_rule.specs.declared.views.Constants.{Constants};
     ghost use Rattle.prl_board.specs.JobSeats.{Follows, HasPartOf, JobSeatView};
     ghost use Rattle.prl_body.specs.contracts.codes.Code as code;
     ghost use Rattle.std.specs.Coded.{codes};

@@ -4,17 +4,17 @@ ghost use Rattle.std.specs.Prelude.{◌≡◌, length, IfOk};
 ghost use Rattle.std.specs.Vec.{vec_items};
 ghost use Rattle.prl_plan.specs.Horizons.{IsHorizon};
 ghost use Rattle.prl_values.specs.Fitting.{HaveTaskBodies, HaveTypedRows};
-ghost use Rattle.prl_board.specs.Known.{known, run_of};
+ghost use Rattle.prl_rule.specs.Known.{known, run_of};
 ghost use Rattle.prl_board.specs.Openings.{AreFirstSeats, AreLeft, IsFirstClockOf};
 
 use crate::board::{Board, Seat, zeros};
 use crate::clocks::ClockSeat;
 use crate::seats::TaskSeat;
-use crate::views::Gate;
 use prl_base::TaskNo;
 use prl_body::Bodies;
 use prl_flow::Sensors;
 use prl_plan::{Horizon, Plan};
+use prl_rule::Gate;
 use std::alloc::{AllocError, Global};
 
 /// The seats of all tasks, in the order of tasks, whose parts they take from this one.

@@ -3,22 +3,21 @@
 ghost use Rattle.std.specs.Prelude.{◌≡◌, ◌%◌, ◌<◌, [], IfOk, MatchOption, Some};
 ghost use Rattle.prl_plan.specs.declared.events.Action.TheVariants as actions;
 ghost use Rattle.prl_board.specs.declared.jobs.Stage.TheVariants as stages;
-ghost use Rattle.prl_board.specs.declared.views.Constants.{Constants};
+ghost use Rattle.prl_rule.specs.declared.views.Constants.{Constants};
 ghost use Rattle.prl_workers.specs.Workers.{HasBegun};
 ghost use Rattle.prl_board.specs.code.Lows.{Gives, MayGive};
 ghost use Rattle.prl_board.specs.JobSeats.{AnswersRelease, Ends, Follows, HasPartOf, IsSameSeat, IsSeatOf, StaysAt};
 ghost use Rattle.prl_board.specs.Openings.{HasFirstPart, IsFirstSeat};
-ghost use Rattle.prl_board.specs.Boards.{RaiseTold};
-ghost use Rattle.prl_board.specs.Known.{run_of};
+ghost use Rattle.prl_rule.specs.Told.{RaiseTold};
+ghost use Rattle.prl_rule.specs.Known.{run_of};
 ghost use Rattle.prl_board.specs.TaskSeats.{AnswersAction, AnswersRead, AnswersWrite, IsMachineOf, IsNoNode, MayFinish, MayRaise, MayRead, MayRelease, MayWrite, Misses, ReadsHalf, TellsStop, WritesAction, half_at, place_of};
 
 use crate::board::{Board, Seat};
 use crate::jobs::{JobSeat, Release, Stage};
-use crate::laws::halves_are_exact;
-use crate::tagged::{halves, unpack, whole};
 use prl_base::{CellNo, EdgeNo, TaskNo, Value};
 use prl_body::Machine;
 use prl_plan::{Action, SlotNo};
+use prl_rule::{halves, halves_are_exact, unpack, whole};
 use prl_workers::Worker;
 use std::alloc::{AllocError, Global};
 use std::marker::Model;
@@ -85,7 +84,7 @@ pub struct TaskSeat {
 
 impl Model for TaskSeat {
     ghost use Rattle.std.specs.Prelude.{◌≡◌, Some};
-    ghost use Rattle.prl_board.specs.declared.views.Constants.{Constants};
+    ghost use Rattle.prl_rule.specs.declared.views.Constants.{Constants};
     ghost use Rattle.prl_board.specs.JobSeats.{HasPartOf, JobSeatView};
     ghost use Rattle.prl_board.specs.code.Lows.{IsLow, Works};
     ghost use Rattle.prl_body.specs.contracts.codes.Code as code;

@@ -3,9 +3,9 @@
 ghost use Rattle.std.specs.Prelude.{◌≡◌, ◌≤◌, [], IfSome};
 ghost use Rattle.std.specs.Vec.{vec_items};
 ghost use Rattle.prl_board.specs.ClockSeats.{IsClockOf};
-ghost use Rattle.prl_board.specs.declared.views.ClockPart.{ClockPart};
+ghost use Rattle.prl_rule.specs.declared.views.ClockPart.{ClockPart};
 ghost use Rattle.prl_board.specs.JobSeats.{IsSeatOf};
-ghost use Rattle.prl_board.specs.Known.{run_of};
+ghost use Rattle.prl_rule.specs.Known.{run_of};
 ghost use Rattle.prl_board.specs.Openings.{AreFirstSeats};
 ghost use Rattle.prl_plan.specs.Horizons.{IsHorizon};
 ghost use Rattle.test_board.specs.Pairs.{pair, pair_values};

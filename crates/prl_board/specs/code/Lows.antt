@@ -11,10 +11,10 @@ use Rattle.prl_workers.specs.declared.workers.Worker.{Worker}
 use Rattle.prl_workers.specs.Workers.{IsWorker}
 use Rattle.prl_board.specs.declared.jobs.Stage.{Stage}
 use Rattle.prl_board.specs.declared.jobs.Stage.TheVariants as stages
-use Rattle.prl_board.specs.declared.views.Constants.{Constants}
+use Rattle.prl_rule.specs.declared.views.Constants.{Constants}
 use Rattle.prl_board.specs.JobSeats.{JobSeatView}
-use Rattle.prl_board.specs.Known.{job_values_of, run_of, values_of}
-use Rattle.prl_board.specs.RunValues.{half_of}
+use Rattle.prl_rule.specs.Known.{job_values_of, run_of, values_of}
+use Rattle.prl_rule.specs.RunValues.{half_of}
 
 -- before the high half of a cell is read, it is the low half of the same instance
 abbrev pub IsLow : Constants → Stage → ℕ → Type 0

@@ -1,5 +1,5 @@
 use Rattle.std.proofs.Common.{◌≡◌}
-use Rattle.prl_board.specs.declared.views.ClockPart.{ClockPart}
+use Rattle.prl_rule.specs.declared.views.ClockPart.{ClockPart}
 use Rattle.prl_board.specs.ClockSeats.{IsClockOf}
 use Rattle.prl_board.specs.JobSeats.{IsSeatOf}
 use Rattle.test_board.proofs.boards.play.Given as goal

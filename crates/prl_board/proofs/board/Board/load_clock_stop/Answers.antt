@@ -1,13 +1,13 @@
 use Rattle.std.proofs.Common.{arith, ◌≡◌, ℕ, sym, subst, Some}
 use Rattle.atomic_table.specs.Table.{Allows}
-use Rattle.prl_board.specs.declared.views.ClockPart.{ClockPart}
-use Rattle.prl_board.specs.Agreement.{stop_word}
-use Rattle.prl_board.specs.Boards.{ClockStopTold}
-use Rattle.prl_board.specs.Known.{run_of}
-use Rattle.prl_board.specs.Rule.{Agreed}
-use Rattle.prl_board.specs.Steps.{clock_stop_loaded, with_clock}
-use Rattle.prl_board.proofs.Allowed.{load_allowed}
-use Rattle.prl_board.proofs.Granted.{grants_any_clock_stop}
+use Rattle.prl_rule.specs.declared.views.ClockPart.{ClockPart}
+use Rattle.prl_rule.specs.Agreement.{stop_word}
+use Rattle.prl_rule.specs.Told.{ClockStopTold}
+use Rattle.prl_rule.specs.Known.{run_of}
+use Rattle.prl_rule.specs.Rule.{Agreed}
+use Rattle.prl_rule.specs.Steps.{clock_stop_loaded, with_clock}
+use Rattle.prl_rule.proofs.Allowed.{load_allowed}
+use Rattle.prl_rule.proofs.Granted.{grants_any_clock_stop}
 use Rattle.prl_board.proofs.board.Board.load_clock_stop.Goals as goal
 
 pub load-requires : goal.load-requires

@@ -1,10 +1,10 @@
 use Rattle.std.proofs.Common.{arith, ◌≡◌, Some}
-use Rattle.prl_board.specs.declared.views.ClockPart.{ClockPart}
-use Rattle.prl_board.specs.Agreement.{done_word}
-use Rattle.prl_board.specs.Boards.{LookTold}
-use Rattle.prl_board.specs.Steps.{looked, with_clock}
-use Rattle.prl_board.proofs.Allowed.{load_allowed}
-use Rattle.prl_board.proofs.Granted.{grants_any_look}
+use Rattle.prl_rule.specs.declared.views.ClockPart.{ClockPart}
+use Rattle.prl_rule.specs.Agreement.{done_word}
+use Rattle.prl_rule.specs.Told.{LookTold}
+use Rattle.prl_rule.specs.Steps.{looked, with_clock}
+use Rattle.prl_rule.proofs.Allowed.{load_allowed}
+use Rattle.prl_rule.proofs.Granted.{grants_any_look}
 use Rattle.prl_board.proofs.board.Board.load_done.Goals as goal
 
 pub load-requires : goal.load-requires

@@ -3,14 +3,15 @@ use Rattle.atomic_table.specs.Table.{Allows}
 use Rattle.prl_base.specs.declared.numbers.EdgeNo.{EdgeNo}
 use Rattle.prl_plan.specs.declared.events.Action.TheVariants as actions
 use Rattle.prl_plan.specs.Facts.{HasPlanFacts}
-use Rattle.prl_board.specs.declared.views.Constants.{Constants}
-use Rattle.prl_board.specs.Agreement.{slot_word}
-use Rattle.prl_board.specs.Boards.{BoardView, HalfTold, part_at}
-use Rattle.prl_board.specs.Known.{known, run_of, values_of}
-use Rattle.prl_board.specs.Rule.{Agreed, StandsAt}
-use Rattle.prl_board.specs.Steps.{half_loaded, with_part}
-use Rattle.prl_board.proofs.Allowed.{load_allowed}
-use Rattle.prl_board.proofs.Granted.{grants_any_half}
+use Rattle.prl_rule.specs.declared.views.Constants.{Constants}
+use Rattle.prl_rule.specs.Agreement.{slot_word}
+use Rattle.prl_board.specs.Boards.{BoardView}
+use Rattle.prl_rule.specs.Told.{HalfTold, part_at}
+use Rattle.prl_rule.specs.Known.{known, run_of, values_of}
+use Rattle.prl_rule.specs.Rule.{Agreed, StandsAt}
+use Rattle.prl_rule.specs.Steps.{half_loaded, with_part}
+use Rattle.prl_rule.proofs.Allowed.{load_allowed}
+use Rattle.prl_rule.proofs.Granted.{grants_any_half}
 use Rattle.prl_board.proofs.board.Board.load_half.Goals as goal
 
 pub load-requires : goal.load-requires

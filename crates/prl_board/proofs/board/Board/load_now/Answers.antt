@@ -1,10 +1,10 @@
 use Rattle.std.proofs.Common.{arith}
-use Rattle.prl_board.specs.Agreement.{now_word}
-use Rattle.prl_board.specs.Boards.{NowTold, part_of}
-use Rattle.prl_board.specs.Known.{run_of}
-use Rattle.prl_board.specs.Steps.{now_loaded, with_part}
-use Rattle.prl_board.proofs.Allowed.{load_allowed}
-use Rattle.prl_board.proofs.Granted.{grants_now}
+use Rattle.prl_rule.specs.Agreement.{now_word}
+use Rattle.prl_rule.specs.Told.{NowTold, part_of}
+use Rattle.prl_rule.specs.Known.{run_of}
+use Rattle.prl_rule.specs.Steps.{now_loaded, with_part}
+use Rattle.prl_rule.proofs.Allowed.{load_allowed}
+use Rattle.prl_rule.proofs.Granted.{grants_now}
 use Rattle.prl_board.proofs.board.Board.load_now.Goals as goal
 
 pub load-requires : goal.load-requires

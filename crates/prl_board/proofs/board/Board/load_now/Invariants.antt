@@ -1,4 +1,4 @@
-use Rattle.prl_board.specs.Boards.{NowTold}
+use Rattle.prl_rule.specs.Told.{NowTold}
 use Rattle.prl_board.proofs.board.Board.load_now.Given as goal
 
 abbrev pub ghosts-load : goal.ghosts-load

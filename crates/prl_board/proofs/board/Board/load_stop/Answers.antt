@@ -1,12 +1,12 @@
 use Rattle.std.proofs.Common.{arith, ◌≡◌, ℕ, sym, subst}
 use Rattle.atomic_table.specs.Table.{Allows}
-use Rattle.prl_board.specs.Agreement.{stop_word}
-use Rattle.prl_board.specs.Boards.{StopTold, part_at}
-use Rattle.prl_board.specs.Known.{run_of}
-use Rattle.prl_board.specs.Rule.{Agreed}
-use Rattle.prl_board.specs.Steps.{stop_loaded, with_part}
-use Rattle.prl_board.proofs.Allowed.{load_allowed}
-use Rattle.prl_board.proofs.Granted.{grants_stop}
+use Rattle.prl_rule.specs.Agreement.{stop_word}
+use Rattle.prl_rule.specs.Told.{StopTold, part_at}
+use Rattle.prl_rule.specs.Known.{run_of}
+use Rattle.prl_rule.specs.Rule.{Agreed}
+use Rattle.prl_rule.specs.Steps.{stop_loaded, with_part}
+use Rattle.prl_rule.proofs.Allowed.{load_allowed}
+use Rattle.prl_rule.proofs.Granted.{grants_stop}
 use Rattle.prl_board.proofs.board.Board.load_stop.Goals as goal
 
 pub load-requires : goal.load-requires

@@ -1,4 +1,4 @@
-use Rattle.prl_board.specs.Boards.{StopTold}
+use Rattle.prl_rule.specs.Told.{StopTold}
 use Rattle.prl_board.proofs.board.Board.load_stop.Given as goal
 
 abbrev pub ghosts-load : goal.ghosts-load

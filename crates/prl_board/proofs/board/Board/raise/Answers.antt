@@ -1,12 +1,12 @@
 use Rattle.std.proofs.Common.{arith, ◌≡◌, ◌+◌, ℕ, sym, subst}
 use Rattle.atomic_table.specs.Table.{Allows}
-use Rattle.prl_board.specs.Agreement.{stop_word}
-use Rattle.prl_board.specs.Boards.{RaiseTold, part_at}
-use Rattle.prl_board.specs.Known.{run_of}
-use Rattle.prl_board.specs.Rule.{Agreed}
-use Rattle.prl_board.specs.Steps.{part_raised, with_part}
-use Rattle.prl_board.proofs.Allowed.{allowed}
-use Rattle.prl_board.proofs.Granted.{grants_raise}
+use Rattle.prl_rule.specs.Agreement.{stop_word}
+use Rattle.prl_rule.specs.Told.{RaiseTold, part_at}
+use Rattle.prl_rule.specs.Known.{run_of}
+use Rattle.prl_rule.specs.Rule.{Agreed}
+use Rattle.prl_rule.specs.Steps.{part_raised, with_part}
+use Rattle.prl_rule.proofs.Allowed.{allowed}
+use Rattle.prl_rule.proofs.Granted.{grants_raise}
 use Rattle.prl_board.proofs.board.Board.raise.Goals as goal
 
 pub store-requires : goal.store-requires

@@ -1,4 +1,4 @@
-use Rattle.prl_board.specs.Boards.{RaiseTold}
+use Rattle.prl_rule.specs.Told.{RaiseTold}
 use Rattle.prl_board.proofs.board.Board.raise.Given as goal
 
 abbrev pub ghosts-store : goal.ghosts-store

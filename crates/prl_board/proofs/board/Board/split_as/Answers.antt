@@ -1,10 +1,10 @@
 use Rattle.std.proofs.Common.{arith, ℕ, sym, ap, subst, ◌∙◌}
 use Rattle.atomic_table.specs.Table.{Splits}
 use Rattle.prl_board.specs.Boards.{BoardView}
-use Rattle.prl_board.specs.Known.{known}
-use Rattle.prl_board.specs.Rule.{Agreed}
-use Rattle.prl_board.specs.Steps.{only_part, without_part}
-use Rattle.prl_board.proofs.Allowed.{split_allowed}
+use Rattle.prl_rule.specs.Known.{known}
+use Rattle.prl_rule.specs.Rule.{Agreed}
+use Rattle.prl_rule.specs.Steps.{only_part, without_part}
+use Rattle.prl_rule.proofs.Allowed.{split_allowed}
 use Rattle.prl_board.proofs.board.Board.split_as.Goals as goal
 
 pub split_seat-requires : goal.split_seat-requires

@@ -1,12 +1,12 @@
 use Rattle.std.proofs.Common.{arith, ◌≡◌, ◌+◌, ℕ, sym, subst}
 use Rattle.atomic_table.specs.Table.{Allows}
-use Rattle.prl_board.specs.Agreement.{done_word}
-use Rattle.prl_board.specs.Boards.{EndTold, part_at, part_of}
-use Rattle.prl_board.specs.Known.{values_of}
-use Rattle.prl_board.specs.Rule.{Agreed}
-use Rattle.prl_board.specs.Steps.{done_counted, with_part}
-use Rattle.prl_board.proofs.Allowed.{allowed}
-use Rattle.prl_board.proofs.Granted.{grants_end}
+use Rattle.prl_rule.specs.Agreement.{done_word}
+use Rattle.prl_rule.specs.Told.{EndTold, part_at, part_of}
+use Rattle.prl_rule.specs.Known.{values_of}
+use Rattle.prl_rule.specs.Rule.{Agreed}
+use Rattle.prl_rule.specs.Steps.{done_counted, with_part}
+use Rattle.prl_rule.proofs.Allowed.{allowed}
+use Rattle.prl_rule.proofs.Granted.{grants_end}
 use Rattle.prl_board.proofs.board.Board.store_done.Goals as goal
 
 pub store-requires : goal.store-requires

@@ -1,4 +1,4 @@
-use Rattle.prl_board.specs.Boards.{EndTold}
+use Rattle.prl_rule.specs.Told.{EndTold}
 use Rattle.prl_board.proofs.board.Board.store_done.Given as goal
 
 abbrev pub ghosts-store : goal.ghosts-store

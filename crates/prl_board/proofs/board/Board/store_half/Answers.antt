@@ -1,15 +1,16 @@
 use Rattle.std.proofs.Common.{arith, ◌≡◌, ◌+◌, ◌<◌, ℕ, sym, ap, subst}
 use Rattle.atomic_table.specs.Table.{Allows}
 use Rattle.prl_plan.specs.Facts.{HasPlanFacts}
-use Rattle.prl_board.specs.declared.views.Constants.{Constants}
-use Rattle.prl_board.specs.Agreement.{slot_word}
-use Rattle.prl_board.specs.RunValues.{word_of}
-use Rattle.prl_board.specs.Boards.{BoardView, WriteTold, part_at}
-use Rattle.prl_board.specs.Known.{known, run_of, values_of}
-use Rattle.prl_board.specs.Rule.{Agreed}
-use Rattle.prl_board.specs.Steps.{half_stored, with_part}
-use Rattle.prl_board.proofs.Allowed.{allowed}
-use Rattle.prl_board.proofs.Granted.{grants_write}
+use Rattle.prl_rule.specs.declared.views.Constants.{Constants}
+use Rattle.prl_rule.specs.Agreement.{slot_word}
+use Rattle.prl_rule.specs.RunValues.{word_of}
+use Rattle.prl_board.specs.Boards.{BoardView}
+use Rattle.prl_rule.specs.Told.{WriteTold, part_at}
+use Rattle.prl_rule.specs.Known.{known, run_of, values_of}
+use Rattle.prl_rule.specs.Rule.{Agreed}
+use Rattle.prl_rule.specs.Steps.{half_stored, with_part}
+use Rattle.prl_rule.proofs.Allowed.{allowed}
+use Rattle.prl_rule.proofs.Granted.{grants_write}
 use Rattle.prl_board.proofs.board.Board.store_half.Goals as goal
 
 pub store-requires : goal.store-requires

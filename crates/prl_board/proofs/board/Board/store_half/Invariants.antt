@@ -1,4 +1,4 @@
-use Rattle.prl_board.specs.Boards.{WriteTold}
+use Rattle.prl_rule.specs.Told.{WriteTold}
 use Rattle.prl_board.proofs.board.Board.store_half.Given as goal
 
 abbrev pub ghosts-store : goal.ghosts-store

@@ -1,12 +1,12 @@
 use Rattle.std.proofs.Common.{arith, ◌≡◌, ◌+◌, ℕ, sym, subst, Some}
 use Rattle.atomic_table.specs.Table.{Allows}
-use Rattle.prl_board.specs.declared.views.ClockPart.{ClockPart}
-use Rattle.prl_board.specs.Agreement.{now_word}
-use Rattle.prl_board.specs.Boards.{TickTold}
-use Rattle.prl_board.specs.Rule.{Agreed}
-use Rattle.prl_board.specs.Steps.{ticked, with_clock}
-use Rattle.prl_board.proofs.Allowed.{allowed}
-use Rattle.prl_board.proofs.Granted.{grants_any_tick}
+use Rattle.prl_rule.specs.declared.views.ClockPart.{ClockPart}
+use Rattle.prl_rule.specs.Agreement.{now_word}
+use Rattle.prl_rule.specs.Told.{TickTold}
+use Rattle.prl_rule.specs.Rule.{Agreed}
+use Rattle.prl_rule.specs.Steps.{ticked, with_clock}
+use Rattle.prl_rule.proofs.Allowed.{allowed}
+use Rattle.prl_rule.proofs.Granted.{grants_any_tick}
 use Rattle.prl_board.proofs.board.Board.store_now.Goals as goal
 
 pub store-requires : goal.store-requires

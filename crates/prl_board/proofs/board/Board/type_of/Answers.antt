@@ -5,7 +5,7 @@ use Rattle.prl_plan.specs.declared.graphs.Edge.{Edge}
 use Rattle.prl_plan.specs.declared.graphs.TaskGraph.{TaskGraph}
 use Rattle.prl_plan.specs.Plans.{IsActionOf, PlanView, no_edge}
 use Rattle.prl_board.specs.Boards.{BoardView}
-use Rattle.prl_board.specs.Known.{values_of}
+use Rattle.prl_rule.specs.Known.{values_of}
 use Rattle.prl_board.proofs.board.Board.type_of.Goals as goal
 
 pub returns : goal.returns

@@ -1,5 +1,5 @@
 use Rattle.std.specs.Prelude.{ℕ, ◌≤◌}
-use Rattle.prl_board.specs.declared.views.ClockPart.{ClockPart}
+use Rattle.prl_rule.specs.declared.views.ClockPart.{ClockPart}
 use Rattle.prl_board.specs.ClockSeats.{IsClockOf, IsUnseen}
 use Rattle.prl_board.proofs.clocks.ClockSeat.behind.Given as goal
 

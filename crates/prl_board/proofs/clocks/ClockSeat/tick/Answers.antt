@@ -1,5 +1,5 @@
 use Rattle.std.proofs.Common.{arith, ◌≡◌, refl, ap, ◌∙◌}
-use Rattle.prl_board.specs.declared.views.View.{View}
+use Rattle.prl_rule.specs.declared.views.View.{View}
 use Rattle.prl_board.specs.ClockSeats.{ClockSeatView}
 use Rattle.prl_board.proofs.clocks.ClockSeat.tick.Goals as goal
 

@@ -1,6 +1,6 @@
 use Rattle.std.proofs.Common.{arith, ◌≡◌, ℕ, get_or, length, List, refl, ap, ◌∙◌}
 use Rattle.std.proofs.lemmas.Option.{get_or_from_slice_get, slice_get_read}
-use Rattle.prl_board.specs.declared.views.View.{View}
+use Rattle.prl_rule.specs.declared.views.View.{View}
 use Rattle.prl_board.specs.ClockSeats.{ClockSeatView}
 use Rattle.prl_board.proofs.Unseen.{none_due, none_left}
 use Rattle.prl_board.proofs.clocks.ClockSeat.unseen.Goals.{else-job-jobs_of-via-then-job-jobs_of+else-deadline-self, else-job-jobs_of-via-else-job-jobs_of}

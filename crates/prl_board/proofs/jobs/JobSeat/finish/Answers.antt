@@ -2,11 +2,11 @@ use Rattle.std.proofs.Common.{◌≡◌, ◌+◌, ℕ, sym, ap, subst, ◌∙◌
 use Rattle.prl_plan.specs.declared.events.Action.TheVariants as actions
 use Rattle.prl_board.specs.declared.jobs.Stage.{Stage}
 use Rattle.prl_board.specs.declared.jobs.Stage.TheVariants as stages
-use Rattle.prl_board.specs.declared.views.View.{View}
-use Rattle.prl_board.specs.Boards.{part_at, part_of}
+use Rattle.prl_rule.specs.declared.views.View.{View}
+use Rattle.prl_rule.specs.Told.{part_at, part_of}
 use Rattle.prl_board.specs.JobSeats.{Follows, HasPartOf, IsStage, JobSeatView}
-use Rattle.prl_board.specs.Known.{run_of, values_of}
-use Rattle.prl_board.specs.Steps.{done_counted}
+use Rattle.prl_rule.specs.Known.{run_of, values_of}
+use Rattle.prl_rule.specs.Steps.{done_counted}
 use Rattle.prl_board.proofs.Following.{end_follows, ended_is, known_once, part_after}
 use Rattle.prl_board.proofs.jobs.JobSeat.finish.Goals as goal
 

@@ -4,13 +4,13 @@ use Rattle.prl_plan.specs.declared.events.Action.TheVariants as actions
 use Rattle.prl_plan.specs.Runs.{action_at}
 use Rattle.prl_board.specs.declared.jobs.Stage.{Stage}
 use Rattle.prl_board.specs.declared.jobs.Stage.TheVariants as stages
-use Rattle.prl_board.specs.declared.views.View.{View}
-use Rattle.prl_board.specs.Boards.{HalfTold, part_at}
+use Rattle.prl_rule.specs.declared.views.View.{View}
+use Rattle.prl_rule.specs.Told.{HalfTold, part_at}
 use Rattle.prl_board.specs.JobSeats.{Follows, HasPartOf, JobSeatView, LoadsHalf}
-use Rattle.prl_board.specs.Known.{run_of, values_of}
-use Rattle.prl_board.specs.Steps.{half_loaded}
+use Rattle.prl_rule.specs.Known.{run_of, values_of}
+use Rattle.prl_rule.specs.Steps.{half_loaded}
 use Rattle.prl_board.proofs.Following.{found_follows, known_once, missed_follows, part_after, stands_at}
-use Rattle.prl_board.proofs.Reading.{read_no_end}
+use Rattle.prl_rule.proofs.Reading.{read_no_end}
 use Rattle.prl_board.proofs.jobs.JobSeat.load.Goals as goal
 
 pub load_half-word-requires-clause-at : goal.load_half-word-requires-clause-at

@@ -3,11 +3,11 @@ use Rattle.prl_plan.specs.declared.events.Action.{Action}
 use Rattle.prl_plan.specs.Runs.{action_at}
 use Rattle.prl_board.specs.declared.jobs.Stage.{Stage}
 use Rattle.prl_board.specs.declared.jobs.Stage.TheVariants as stages
-use Rattle.prl_board.specs.declared.views.View.{View}
-use Rattle.prl_board.specs.Boards.{NowTold, part_of}
+use Rattle.prl_rule.specs.declared.views.View.{View}
+use Rattle.prl_rule.specs.Told.{NowTold, part_of}
 use Rattle.prl_board.specs.JobSeats.{Follows, HasPartOf, JobSeatView}
-use Rattle.prl_board.specs.Known.{run_of}
-use Rattle.prl_board.specs.Steps.{now_loaded}
+use Rattle.prl_rule.specs.Known.{run_of}
+use Rattle.prl_rule.specs.Steps.{now_loaded}
 use Rattle.prl_board.proofs.Following.{early_follows, known_once, open_follows, open_is, part_after}
 use Rattle.prl_board.proofs.jobs.JobSeat.open.Goals as goal
 

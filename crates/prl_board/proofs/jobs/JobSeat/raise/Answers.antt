@@ -1,8 +1,8 @@
 use Rattle.std.proofs.Common.{◌≡◌, refl, sym, ap, subst, ◌∙◌, Some}
-use Rattle.prl_board.specs.declared.views.View.{View}
-use Rattle.prl_board.specs.Boards.{part_at}
+use Rattle.prl_rule.specs.declared.views.View.{View}
+use Rattle.prl_rule.specs.Told.{part_at}
 use Rattle.prl_board.specs.JobSeats.{Follows, HasPartOf, JobSeatView}
-use Rattle.prl_board.specs.Steps.{part_raised}
+use Rattle.prl_rule.specs.Steps.{part_raised}
 use Rattle.prl_board.proofs.Following.{known_once, part_after, stays_follows}
 use Rattle.prl_board.proofs.jobs.JobSeat.raise.Goals as goal
 

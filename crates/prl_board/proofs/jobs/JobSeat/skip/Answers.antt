@@ -5,9 +5,9 @@ use Rattle.prl_plan.specs.Runs.{action_at}
 use Rattle.prl_board.specs.declared.jobs.Stage.{Stage}
 use Rattle.prl_board.specs.declared.jobs.Stage.TheVariants as stages
 use Rattle.prl_board.specs.JobSeats.{Follows, HasPartOf, JobSeatView}
-use Rattle.prl_board.specs.Known.{run_of}
+use Rattle.prl_rule.specs.Known.{run_of}
 use Rattle.prl_board.proofs.Following.{const_follows, known_once}
-use Rattle.prl_board.proofs.Reading.{const_no_end}
+use Rattle.prl_rule.proofs.Reading.{const_no_end}
 use Rattle.prl_board.proofs.jobs.JobSeat.skip.Goals as goal
 
 pub place_after-self-inside-requires-clause-more : goal.place_after-self-inside-requires-clause-more

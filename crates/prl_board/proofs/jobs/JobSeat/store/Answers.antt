@@ -4,13 +4,13 @@ use Rattle.prl_plan.specs.declared.events.Action.TheVariants as actions
 use Rattle.prl_plan.specs.Runs.{action_at}
 use Rattle.prl_board.specs.declared.jobs.Stage.{Stage}
 use Rattle.prl_board.specs.declared.jobs.Stage.TheVariants as stages
-use Rattle.prl_board.specs.declared.views.View.{View}
-use Rattle.prl_board.specs.Halves.{tagged}
-use Rattle.prl_board.specs.Boards.{part_at}
+use Rattle.prl_rule.specs.declared.views.View.{View}
+use Rattle.prl_rule.specs.Halves.{tagged}
+use Rattle.prl_rule.specs.Told.{part_at}
 use Rattle.prl_board.specs.JobSeats.{Follows, HasPartOf, JobSeatView}
-use Rattle.prl_board.specs.Known.{run_of, values_of}
-use Rattle.prl_board.specs.RunValues.{word_of}
-use Rattle.prl_board.specs.Steps.{half_stored}
+use Rattle.prl_rule.specs.Known.{run_of, values_of}
+use Rattle.prl_rule.specs.RunValues.{word_of}
+use Rattle.prl_rule.specs.Steps.{half_stored}
 use Rattle.prl_board.proofs.Following.{is_job, known_once, part_after, stands_at, write_follows}
 use Rattle.prl_board.proofs.jobs.JobSeat.store.Goals as goal
 

@@ -3,7 +3,7 @@ use Rattle.prl_plan.specs.declared.events.Action.TheVariants as actions
 use Rattle.prl_plan.specs.Facts.{IsJob}
 use Rattle.prl_board.specs.declared.jobs.Stage.TheVariants as stages
 use Rattle.prl_board.specs.JobSeats.{Follows, HasPartOf, IsStage, JobSeatView}
-use Rattle.prl_board.specs.Known.{run_of}
+use Rattle.prl_rule.specs.Known.{run_of}
 use Rattle.prl_board.specs.TaskSeats.{MayFinish, place_of}
 use Rattle.prl_board.proofs.Following.{known_once}
 use Rattle.prl_board.proofs.Lows.{low_shut}

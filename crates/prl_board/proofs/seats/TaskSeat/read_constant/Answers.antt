@@ -4,7 +4,7 @@ use Rattle.prl_plan.specs.Facts.{IsJob}
 use Rattle.prl_board.specs.declared.jobs.Stage.{Stage}
 use Rattle.prl_board.specs.declared.jobs.Stage.TheVariants as stages
 use Rattle.prl_board.specs.JobSeats.{Follows, HasPartOf, JobSeatView}
-use Rattle.prl_board.specs.Known.{run_of}
+use Rattle.prl_rule.specs.Known.{run_of}
 use Rattle.prl_board.proofs.Following.{known_once}
 use Rattle.prl_board.proofs.Lows.{low_after_const}
 use Rattle.prl_board.proofs.SeatReads.{Keeps, goes_kept}

@@ -5,10 +5,10 @@ use Rattle.prl_plan.specs.Plans.{low}
 use Rattle.prl_board.specs.declared.jobs.Stage.{Stage}
 use Rattle.prl_board.specs.declared.jobs.Stage.TheVariants as stages
 use Rattle.prl_board.specs.declared.seats.Got.TheVariants as gots
-use Rattle.prl_board.specs.Halves.{AreHalves, value_of_halves}
+use Rattle.prl_rule.specs.Halves.{AreHalves, value_of_halves}
 use Rattle.prl_board.specs.JobSeats.{Follows, GoesOn, HasPartOf, JobSeatView, LoadsHalf, StaysAt}
-use Rattle.prl_board.specs.Known.{run_of, values_of}
-use Rattle.prl_board.specs.RunValues.{half_of}
+use Rattle.prl_rule.specs.Known.{run_of, values_of}
+use Rattle.prl_rule.specs.RunValues.{half_of}
 use Rattle.prl_board.specs.TaskSeats.{ReadsHalf}
 use Rattle.prl_board.proofs.Following.{known_once}
 use Rattle.prl_board.proofs.Lows.{cell_of_high, low_after_read, value_of_both}

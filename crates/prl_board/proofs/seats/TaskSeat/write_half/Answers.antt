@@ -7,8 +7,8 @@ use Rattle.prl_plan.specs.Runs.{action_at}
 use Rattle.prl_board.specs.declared.jobs.Stage.{Stage}
 use Rattle.prl_board.specs.declared.jobs.Stage.TheVariants as stages
 use Rattle.prl_board.specs.JobSeats.{Follows, HasPartOf, JobSeatView}
-use Rattle.prl_board.specs.Known.{run_of, values_of}
-use Rattle.prl_board.specs.RunValues.{half_of}
+use Rattle.prl_rule.specs.Known.{run_of, values_of}
+use Rattle.prl_rule.specs.RunValues.{half_of}
 use Rattle.prl_board.specs.code.Lows.{MayGive}
 use Rattle.prl_board.proofs.Following.{known_once}
 use Rattle.prl_board.proofs.Lows.{low_after_write}

@@ -1,5 +1,0 @@
-use Rattle.prl_board.proofs.SeatSteps.{split_keeps}
-use Rattle.prl_board.proofs.steps.split_gives_one_part.Goals as goal
-
-pub returns : goal.returns
-returns c = λ k run v w es words views id i view p a has. split_keeps k run v w es words views id i view p a has.seat has.part
