@@ -23,7 +23,7 @@ use Rattle.prl_syntax.specs.Words.{class_of, declaration_keywords, flow_keywords
 use Rattle.prl_syntax.specs.Lexing.{word_lexeme, kind_lexeme, lexeme_of, lexemes_of}
 use Rattle.prl_grammar.specs.Ranges.{inside_after, is_fault, out_of_range}
 use Rattle.prl_syntax.specs.Ranges.{program_ranges}
-use Rattle.prl_print.proofs.Words.{IsOwnName}
+use Rattle.prl_print.proofs.Own.{IsOwnName}
 use Rattle.prl_print.proofs.Source.{deeper, FineFrom}
 
 -- rows of keywords and symbols that pass a test

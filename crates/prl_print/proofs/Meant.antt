@@ -23,7 +23,7 @@ use Rattle.prl_grammar.specs.Lexemes.{Lexeme}
 use Rattle.prl_grammar.specs.Productions.{written}
 use Rattle.prl_syntax.specs.Grammar.{Grammar, closed, in_parens, maybe_in_parens, Const, Ratio, Name, Names, Rate, Due, Note as NoteText, Item as ItemText, Run, Params, EndedRun, Locals, PortGroup, NextGroup, Ports, Wcet, Import, Device}
 use Rattle.prl_syntax.proofs.Ratios.{divisor_is, positive_divisor, reduced_fits}
-use Rattle.prl_print.proofs.Words.{IsOwnName, IsConstant, IsOwnRatio, IsCount, IsOwnRate, IsOwnMaybe, IsOwnParam, IsOwnPort, IsSome, IsOwnImport, IsOwnDevice}
+use Rattle.prl_print.proofs.Own.{IsOwnName, IsConstant, IsOwnRatio, IsCount, IsOwnRate, IsOwnMaybe, IsOwnParam, IsOwnPort, IsSome, IsOwnImport, IsOwnDevice}
 use Rattle.prl_print.proofs.Source.{Means, m_then, m_give, m_ends, m_any, m_weaken, m_either, m_many, m_list, m_maybe, m_named, m_counted, m_counted_later}
 
 small_high : (n : ℕ) → small n ≤ 2147483647

@@ -19,7 +19,7 @@ use Rattle.prl_syntax.specs.Values.{small, ratio_with}
 use Rattle.prl_syntax.specs.Words.{class_of}
 use Rattle.prl_syntax.specs.Trees.{StemTree, prefixed, tree_from, root_of_name, trees_from, Declared, imported, sensor, actuator, node, with_declared, program_of}
 use Rattle.prl_syntax.specs.Grammar.{maybe_in_parens, Const, Ratio, Postfix, Expr, Exprs, Base, Prefixed, Stem, programs, Left, Sides, Equation, Node, Declaration, Program}
-use Rattle.prl_print.proofs.Words.{IsOwnName, IsOwnMaybe, IsPrefix, IsPostfix, IsOwnTree, IsOwnRoot, AreOwnTrees, IsOwnEquation, IsOwnNode, IsOwnImport, IsOwnDevice, IsSome}
+use Rattle.prl_print.proofs.Own.{IsOwnName, IsOwnMaybe, IsPrefix, IsPostfix, IsOwnTree, IsOwnRoot, AreOwnTrees, IsOwnEquation, IsOwnNode, IsOwnImport, IsOwnDevice, IsSome}
 use Rattle.prl_print.proofs.Source.{The, Number, deeper, FineAt, depth_along, front_at, back_at, depth_append, token_of, Means, m_then, m_give, m_ends, m_any, m_either, m_many, m_named, m_counted, m_first}
 use Rattle.prl_print.proofs.Meant.{constant_means, ratio_means, name_means, names_mean, enclosed_params_mean, maybe_params_mean, locals_mean, import_means, device_means}
 

@@ -1,30 +1,25 @@
 -- A printable program is printed as a text of itself, places aside.
-use Rattle.std.proofs.Common.{◌≡◌, ◌≤◌, ℕ, false, List, [], ◌++◌, map, length, Vec, Global, Result, Ok, Err, IfOk, refl, sym, ap, subst, arith}
+use Rattle.std.proofs.Common.{◌≡◌, ◌≤◌, ◌+◌, ℕ, false, List, [], ◌++◌, map, length, Vec, Global, Result, Ok, Err, IfOk, refl, sym, ap, ◌∙◌, subst, arith}
 use Rattle.std.proofs.lemmas.List.{append-nil, length-map}
 use Rattle.prl_ast.specs.Trees.{ProgramTree}
+use Rattle.prl_lex.specs.Lexing.{tokens_from}
+use Rattle.prl_grammar.specs.Language.{Text}
 use Rattle.prl_grammar.specs.Lexemes.{Lexeme}
+use Rattle.prl_grammar.specs.Ranges.{out_of_range}
+use Rattle.prl_syntax.specs.Grammar.{Program, programs}
+use Rattle.prl_syntax.specs.Ranges.{program_ranges}
 use Rattle.prl_syntax.specs.Lexing.{lexemes_of}
 use Rattle.prl_syntax.specs.Parsing.{IsProgramOf}
 use Rattle.prl_print.specs.Printing.{printed}
 use Rattle.prl_print.specs.Places.{unplaced_node, SamePlacesAside}
 use Rattle.prl_print.specs.RoundTrip.{IsTextOf}
-use Rattle.prl_print.proofs.Scanning.{Scanned, scan_end}
-use Rattle.prl_print.proofs.Fragments.{Plain}
-use Rattle.prl_print.proofs.Words.{program_words, IsPrintable}
+use Rattle.prl_print.proofs.Scans.{scan_end}
+use Rattle.prl_print.proofs.Own.{IsPrintable}
+use Rattle.prl_print.proofs.PrintedParts.{plain}
+use Rattle.prl_print.proofs.PrintedNodes.{program_prints}
 use Rattle.prl_print.proofs.Source.{Fine}
 use Rattle.prl_print.proofs.Limits.{text_fine}
 use Rattle.prl_print.proofs.MeantTrees.{program_means}
-use Rattle.prl_print.proofs.SpelledNodes.{program_spelled}
-use Rattle.prl_print.proofs.ReadableNodes.{program_reads}
-
-scanned : (p : ProgramTree) → IsPrintable p → Scanned false 0 0 [] (printed p) (program_words p)
-scanned p h =
-    let f = program_spelled p h in
-    let all : Plain false 0 (printed p ++ []) (program_words p ++ []) = f.go [] [] tt (record { scan = λ last plain. scan_end false last 0 }) in
-    let P : List ℕ → Type 0 = λ text. Plain false 0 text (program_words p ++ []) in
-    let Q : List Lexeme → Type 0 = λ ks. Plain false 0 (printed p) ks in
-    let whole = subst Q (append-nil (program_words p)) (subst P (append-nil (printed p)) all) in
-    (whole.scan 0 refl).later []
 
 few_nodes : (t p : ProgramTree) → SamePlacesAside t p → length p.nodes ≤ 256 → length t.nodes ≤ 256
 few_nodes t p e h =
@@ -32,12 +27,23 @@ few_nodes t p e h =
     omega (arith, same, length-map t.nodes unplaced_node, length-map p.nodes unplaced_node)
 
 reads_back : (p : ProgramTree) → IsPrintable p → IsTextOf (printed p) p
+unfolding tokens_from
 reads_back p h =
-    let s = scanned p h in
-    let x = (program_reads p h).read (lexemes_of (printed p) s.tokens) s.seen in
+    let text : List ℕ = printed p in
+    let x = (program_prints p h).there 0 in
+    let s = x.lexes.go text [] [] (sym (append-nil text)) tt tt (scan_end (plain 0) (0 + length text) text (omega arith, refl)) in
+    let words : x.words ++ [] ≡ x.words = append-nil x.words in
+    let seen : lexemes_of text s.tokens ≡ x.words = s.seen ∙ words in
+    let P : List Lexeme → Type 0 = Text programs Program x.tree in
     record {
       tree = x.tree;
-      is = record { tokens = s.tokens; lexical = s.are; written = x.text; ranges = s.ranges; nodes = few_nodes x.tree p x.same h.few };
+      is = record {
+        tokens = s.tokens;
+        lexical = ap (tokens_from 0 0 0) (sym (append-nil text)) ∙ s.are.1;
+        written = subst P (sym seen) x.is;
+        ranges = ap (out_of_range program_ranges false 0) s.seen ∙ s.ranges 0 refl;
+        nodes = few_nodes x.tree p x.same h.few;
+      };
       same = x.same;
     }
 

@@ -1,5 +1,5 @@
 -- A printable program is within the ranges and limits of the language.
-use Rattle.std.proofs.Common.{◌≡◌, ◌≤◌, ◌+◌, ◌≤ℤ◌, ℕ, suc, ℤ, pos, negsuc, nat_abs, List, [], ◌∷◌, Option, Some, None, FitsSigned, w64, sym, subst, arith}
+use Rattle.std.proofs.Common.{◌≤◌, ◌+◌, ◌≤ℤ◌, ℕ, pos, negsuc, List, [], ◌∷◌, Option, Some, None, sym, subst, arith}
 use Rattle.std.proofs.lemmas.Int.{ints}
 use Rattle.std.specs.List.{AllByRecursion}
 use Rattle.prl_base.specs.Ratios.{Fraction}
@@ -12,7 +12,7 @@ use Rattle.prl_ast.specs.Trees.{Tree, tree, Root, const, var, apply, group, Tree
 use Rattle.prl_ast.specs.InRange as ranges
 use Rattle.prl_ast.specs.declared.declarations.Import.{Import}
 use Rattle.prl_ast.specs.declared.declarations.Param.{Param}
-use Rattle.prl_print.proofs.Words.{IsConstant, IsOwnRatio, IsOwnRate, IsOwnMaybe, IsOwnParam, IsOwnImport, IsPrefix, IsPostfix, IsOwnTree, IsOwnRoot, AreOwnTrees, IsOwnEquation, IsOwnNode, IsPrintable}
+use Rattle.prl_print.proofs.Own.{IsConstant, IsOwnRatio, IsOwnRate, IsOwnMaybe, IsOwnParam, IsOwnImport, IsPrefix, IsPostfix, IsOwnTree, IsOwnRoot, AreOwnTrees, IsOwnEquation, IsOwnNode, IsPrintable}
 
 all_of : {A : Type 0} (P Q : A → Type 0) → ((x : A) → P x → Q x) → (xs : List A) → AllByRecursion P xs → AllByRecursion Q xs
 all_of P Q f [] h = tt

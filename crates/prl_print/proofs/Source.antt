@@ -9,7 +9,7 @@ use Rattle.prl_syntax.specs.declared.words.Fixed.{Fixed}
 use Rattle.prl_syntax.specs.Words.{class_of}
 use Rattle.prl_grammar.specs.Ranges.{inside_after, is_fault}
 use Rattle.prl_syntax.specs.Ranges.{is_count, in_range, program_ranges}
-use Rattle.prl_print.proofs.Words.{IsOwnName, IsOwnMaybe, IsSome}
+use Rattle.prl_print.proofs.Own.{IsOwnName, IsOwnMaybe, IsSome}
 
 abbrev pub The : Fixed → Span → List Lexeme → Type 0
 The f = Place (class_of f)
