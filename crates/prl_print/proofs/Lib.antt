@@ -10,4 +10,4 @@ pub mod Meant
 pub mod MeantTrees
 pub mod Limits
 pub mod Printable
-pub mod Ranges
+pub mod Fractions

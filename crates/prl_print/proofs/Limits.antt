@@ -24,7 +24,7 @@ use Rattle.prl_syntax.specs.Lexing.{word_lexeme, kind_lexeme, lexeme_of, lexemes
 use Rattle.prl_grammar.specs.Ranges.{inside_after, is_fault, out_of_range}
 use Rattle.prl_syntax.specs.Ranges.{program_ranges}
 use Rattle.prl_print.proofs.Own.{IsOwnName}
-use Rattle.prl_print.proofs.Source.{deeper, FineFrom}
+use Rattle.prl_print.proofs.Source.{deeper, Fine}
 
 -- rows of keywords and symbols that pass a test
 
@@ -232,12 +232,12 @@ in_range_too : (b : Bool) (at : ℕ) (o : Option ℕ) → cond b (Some at) o ≡
 in_range_too true at o e = cc
 in_range_too false at o e = (refl, e)
 
-fine_from : (inside : Bool) (last d : ℕ) (w : List Lexeme) → out_of_range program_ranges inside last w ≡ None → Lexed d w → FineFrom inside last d w
+fine_from : (inside : Bool) (last d : ℕ) (w : List Lexeme) → out_of_range program_ranges inside last w ≡ None → Lexed d w → Fine inside last d w
 unfolding out_of_range
 fine_from inside last d [] e h = tt
 fine_from inside last d (t ∷ ts) e h =
     let parts = in_range_too (is_fault program_ranges inside last t) t.at.at (out_of_range program_ranges (inside_after program_ranges inside t.class) t.class ts) e in
     (parts.0, h.0, h.1, fine_from (inside_after program_ranges inside t.class) t.class (deeper d t.class) ts parts.1 h.2)
 
-pub text_fine : (text : List ℕ) (tokens : List Token) → tokens_from 0 0 0 text ≡ Ok tokens → out_of_range program_ranges false 0 (lexemes_of text tokens) ≡ None → FineFrom false 0 0 (lexemes_of text tokens)
+pub text_fine : (text : List ℕ) (tokens : List Token) → tokens_from 0 0 0 text ≡ Ok tokens → out_of_range program_ranges false 0 (lexemes_of text tokens) ≡ None → Fine false 0 0 (lexemes_of text tokens)
 text_fine text tokens e r = fine_from false 0 0 (lexemes_of text tokens) r (lexed text text 0 0 0 0 tokens refl (omega arith) (omega arith) e)

@@ -1,6 +1,7 @@
 -- A printable program is printed as a text of itself, places aside.
 use Rattle.std.proofs.Common.{◌≡◌, ◌≤◌, ◌+◌, ℕ, false, List, [], ◌++◌, map, length, Vec, Global, Result, Ok, Err, IfOk, refl, sym, ap, ◌∙◌, subst, arith}
 use Rattle.std.proofs.lemmas.List.{append-nil, length-map}
+use Rattle.prl_ast.specs.InRange.{IsInRange}
 use Rattle.prl_ast.specs.Trees.{ProgramTree}
 use Rattle.prl_lex.specs.Lexing.{tokens_from}
 use Rattle.prl_grammar.specs.Language.{Text}
@@ -14,10 +15,9 @@ use Rattle.prl_print.specs.Printing.{printed}
 use Rattle.prl_print.specs.Places.{unplaced_node, SamePlacesAside}
 use Rattle.prl_print.specs.RoundTrip.{IsTextOf}
 use Rattle.prl_print.proofs.Scans.{scan_end}
-use Rattle.prl_print.proofs.Own.{IsPrintable}
+use Rattle.prl_print.proofs.Own.{IsOwnImport, IsOwnNode, AreOwn, all_of}
 use Rattle.prl_print.proofs.PrintedParts.{plain}
 use Rattle.prl_print.proofs.PrintedNodes.{program_prints}
-use Rattle.prl_print.proofs.Source.{Fine}
 use Rattle.prl_print.proofs.Limits.{text_fine}
 use Rattle.prl_print.proofs.MeantTrees.{program_means}
 
@@ -26,9 +26,9 @@ few_nodes t p e h =
     let same : length (map unplaced_node t.nodes) ≡ length (map unplaced_node p.nodes) = ap (λ (q : ProgramTree). length q.nodes) e in
     omega (arith, same, length-map t.nodes unplaced_node, length-map p.nodes unplaced_node)
 
-reads_back : (p : ProgramTree) → IsPrintable p → IsTextOf (printed p) p
+reads_back : (p : ProgramTree) → AreOwn p → length p.nodes ≤ 256 → IsTextOf (printed p) p
 unfolding tokens_from
-reads_back p h =
+reads_back p h few =
     let text : List ℕ = printed p in
     let x = (program_prints p h).there 0 in
     let s = x.lexes.go text [] [] (sym (append-nil text)) tt tt (scan_end (plain 0) (0 + length text) text (omega arith, refl)) in
@@ -42,20 +42,28 @@ reads_back p h =
         lexical = ap (tokens_from 0 0 0) (sym (append-nil text)) ∙ s.are.1;
         written = subst P (sym seen) x.is;
         ranges = ap (out_of_range program_ranges false 0) s.seen ∙ s.ranges 0 refl;
-        nodes = few_nodes x.tree p x.same h.few;
+        nodes = few_nodes x.tree p x.same few;
       };
       same = x.same;
     }
 
-pub printable : (text : List ℕ) (p : ProgramTree) → IsProgramOf text p → IsPrintable p
-printable text p h =
-    let fine : Fine (lexemes_of text h.tokens) = record { depth = 0; at = record { inside = false; last = 0; from = text_fine text h.tokens h.lexical h.ranges } } in
-    let own = program_means.means p (lexemes_of text h.tokens) fine h.written in
-    record { imports = own.imports; sensors = own.sensors; actuators = own.actuators; nodes = own.nodes; few = h.nodes }
+own : (text : List ℕ) (p : ProgramTree) → IsProgramOf text p → AreOwn p
+own text p h = ((program_means false 0).sure p (lexemes_of text h.tokens) (text_fine text h.tokens h.lexical h.ranges) h.written).0
+
+pub in_range : (text : List ℕ) (p : ProgramTree) → IsProgramOf text p → IsInRange p
+in_range text p h =
+    let all = own text p h in
+    record {
+      imports = all_of (λ (i : _) (q : IsOwnImport i). q.range) p.imports all.imports;
+      sensors = all_of (λ d q. (q.0.0, q.1)) p.sensors all.sensors;
+      actuators = all_of (λ d q. (q.0.0, q.1)) p.actuators all.actuators;
+      nodes = all_of (λ (n : _) (q : IsOwnNode n). q.range) p.nodes all.nodes;
+      few = h.nodes;
+    }
 
 -- what is read from the printed text of a program is the program, places aside
 program_reads_back : (p : ProgramTree) (text source : List ℕ) → text ≡ printed p → IsProgramOf source p → IsTextOf text p
-program_reads_back p text source e h = let P : List ℕ → Type 0 = λ t. IsTextOf t p in subst P (sym e) (reads_back p (printable source p h))
+program_reads_back p text source e h = let P : List ℕ → Type 0 = λ t. IsTextOf t p in subst P (sym e) (reads_back p (own source p h) h.nodes)
 
 pub result_reads_back : {E : Type 0} (p : ProgramTree) (r : Result (Vec ℕ Global) E) → IfOk r (λ text. text.items ≡ printed p) → (source : List ℕ) → IsProgramOf source p → IfOk r (λ text. IsTextOf text.items p)
 result_reads_back p (Ok text) e source h = program_reads_back p text.items source e h

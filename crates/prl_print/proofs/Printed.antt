@@ -12,7 +12,7 @@ use Rattle.prl_lex.specs.declared.tokens.Kind.TheVariants as kinds
 use Rattle.prl_lex.specs.Tokens.{is_blank, is_one_byte_symbol, is_two_byte_symbol}
 use Rattle.prl_lex.specs.Lexing.{depth_after}
 use Rattle.prl_grammar.specs.Lexemes.{Lexeme, first_place}
-use Rattle.prl_grammar.specs.Grammars.{One, Then, Give, Either, Many, Named, FromFirst}
+use Rattle.prl_grammar.specs.Grammars.{One, Then, Give, Either, Many, Place, Named, FromFirst}
 use Rattle.prl_grammar.specs.Ranges.{is_fault}
 use Rattle.prl_syntax.specs.declared.words.Fixed.{Fixed}
 use Rattle.prl_syntax.specs.declared.words.Fixed.TheVariants as fixed
@@ -20,7 +20,7 @@ use Rattle.prl_syntax.specs.Words.{class_of, keyword_of, symbol_of}
 use Rattle.prl_syntax.specs.Ranges.{in_range, program_ranges}
 use Rattle.prl_print.proofs.Scans.{Range, constant, below, count, part, range_after, Within, within_range, State, state, state_after, Stops, is_loud, AreBytes, Scan, past, scan_blank, IsToken, scan_token}
 use Rattle.prl_print.proofs.Tokens.{a_word, a_number, a_symbol, word_token, number_token, number_leads, is_mark, goes_on, one_token, two_token}
-use Rattle.prl_print.proofs.Source.{The, Number}
+use Rattle.prl_print.proofs.Source.{Number}
 use Rattle.prl_print.proofs.Own.{IsOwnName}
 
 -- what a part may begin with: anything, no byte of a word, or none where it is empty
@@ -270,6 +270,9 @@ p_many row P of at text each [] all = p_none row refl
 p_many row P of at text each (x ∷ xs) all = p_cons row (λ t ts e f. ap (λ z. z ∷ map of ts) e ∙ ap (λ zs. at x ∷ zs) f) (each x all.0) (p_many row P of at text each xs all.1)
 
 -- tokens
+
+abbrev pub The : Fixed → Span → List Lexeme → Type 0
+The f = Place (class_of f)
 
 p_one : {B : Type 0} {s t : State} {b : Begin} {e : End} {p : List ℕ} (class : ℕ) (f : Lexeme → B) (F : B → Type 0) (k : ℕ → Lexeme) → ((at : ℕ) → (k at).class ≡ class) → ((at : ℕ) → F (f (k at))) → ((at : ℕ) → Lexes at s t b e p (k at ∷ [])) → Prints (Then (One class) (λ t. Give (f t))) F s t b e p
 p_one class f F k is h lexes = p_ends f (record { there = λ at. record { tree = k at; same = h at; words = k at ∷ []; is = record { is = is at; whole = refl }; lexes = lexes at } }) (λ x h. h)

@@ -12,6 +12,7 @@ use Rattle.prl_ast.specs.declared.declarations.Device.{Device}
 use Rattle.prl_ast.specs.declared.declarations.Import.{Import}
 use Rattle.prl_ast.specs.declared.declarations.Placed.{Placed}
 use Rattle.prl_ast.specs.declared.expressions.PlacedOp.{PlacedOp}
+use Rattle.prl_ast.specs.InRange.{IsPrefix, IsPostfix, IsTreeInRange, IsRootInRange, AreTreesInRange}
 use Rattle.prl_ast.specs.Trees.{Tree, tree, Root, const, var, apply, group, Trees, none, more, EquationTree, NodeTree, ProgramTree}
 use Rattle.prl_grammar.specs.Grammars.{Many}
 use Rattle.prl_grammar.specs.Language.{Text, nested}
@@ -24,7 +25,9 @@ use Rattle.prl_print.specs.Places.{nowhere, unplaced_name, unplaced_device, unpl
 use Rattle.prl_print.specs.Printing.{separated, name_of, printed_params, printed_operator, printed_operators, printed_tree, printed_root, printed_trees, printed_others, printed_lefts, printed_equation, printed_locals, printed_node, printed_import, printed_device, printed}
 use Rattle.prl_print.proofs.Printed.{any, tight, maybe_empty, free, word, Prints, p_then, p_next, p_last, p_give, p_ends, p_as, p_left, p_right, p_first, p_bytes, p_any, p_word, p_pad, p_line, words_row, lines_row, p_none, p_cons, p_many, p_name, p_keyword, p_number, p_comma, p_semicolon, p_equals, p_operator}
 use Rattle.prl_print.proofs.PrintedParts.{plain, Writes, small_is, value_prints, ratio_prints, enclosed, perhaps_enclosed, nothing_enclosed, enclosed_params, perhaps_params, locals_print, import_prints, device_prints}
-use Rattle.prl_print.proofs.Own.{IsOwnName, IsPrefix, IsPostfix, IsOwnTree, IsOwnRoot, AreOwnTrees, IsOwnEquation, IsOwnNode, IsOwnImport, IsOwnDevice, IsPrintable, IsSome}
+use Rattle.prl_print.proofs.Meant.{IsSome}
+use Rattle.prl_print.proofs.MeantTrees.{IsOwnDeclared}
+use Rattle.prl_print.proofs.Own.{IsOwnName, IsOwnPlaced, IsFreeTree, IsFreeRoot, AreFreeTrees, IsOwnEquation, IsOwnNode, AreOwn}
 
 abbrev unplaced_op : Op → PlacedOp
 unplaced_op op = record { op = op; at = nowhere }
@@ -106,21 +109,22 @@ application name at args h list = base_stem (apply name at args) (p_left (p_word
 mutual
   unfolding Stem Base
 
-  tree_prints : (d : ℕ) (t : Tree) → IsOwnTree d t → Writes Expr (λ x. unplaced_tree x ≡ unplaced_tree t) d any word (printed_tree t)
-  tree_prints d (tree pre root post at) h = expr_prints pre post root at h.2 (stem_prints pre root h.0 (root_prints d root h.1))
+  tree_prints : (d : ℕ) (t : Tree) → IsTreeInRange d t → IsFreeTree t → Writes Expr (λ x. unplaced_tree x ≡ unplaced_tree t) d any word (printed_tree t)
+  tree_prints d (tree pre root post at) h g = expr_prints pre post root at h.2 (stem_prints pre root h.0 (root_prints d root h.1 g))
 
-  root_prints : (d : ℕ) (r : Root) → IsOwnRoot d r → Writes Stem (λ s. unplaced_stem s ≡ stem_of (unplaced_root r)) d any word (printed_root r)
-  root_prints d (const v) h = p_bytes _ _ (append-nil (value_text v)) (p_right (p_right (p_last (value_prints v h) (λ c e. p_right (p_right (p_give ([], const c) (ap (λ k. stem_of (const k)) e)))))))
-  root_prints d (var name) h = base_stem (var name) (p_bytes _ _ (append-nil name) (p_left (p_last (p_name name h) (λ n e. p_ends {E = Applies name (var name)} (λ a. root_of_name n a) (p_right (p_give None (λ n e. ap var e))) (λ a f. f n e)))))
-  root_prints d (apply name at none) h = application name at none h.0 (nothing_enclosed none Exprs h.1 refl)
-  root_prints d (apply name at (more t ts)) h = application name at (more t ts) h.0 (perhaps_enclosed none Exprs h.1 (exprs_print t ts (tree_prints (d + 1) t h.2.0) (others_print (d + 1) ts h.2.1)))
-  root_prints d (group none) h = absurd h
-  root_prints d (group (more t ts)) h =
-      base_stem (group (more t ts)) (p_right (p_ends group (p_any (p_word (enclosed Exprs h.0 (exprs_print t ts (tree_prints (d + 1) t h.1) (others_print (d + 1) ts h.2))))) (λ xs e. ap group e)))
+  root_prints : (d : ℕ) (r : Root) → IsRootInRange d r → IsFreeRoot r → Writes Stem (λ s. unplaced_stem s ≡ stem_of (unplaced_root r)) d any word (printed_root r)
+  root_prints d (const v) h g = p_bytes _ _ (append-nil (value_text v)) (p_right (p_right (p_last (value_prints v h) (λ c e. p_right (p_right (p_give ([], const c) (ap (λ k. stem_of (const k)) e)))))))
+  root_prints d (var name) h g = base_stem (var name) (p_bytes _ _ (append-nil name) (p_left (p_last (p_name name (h, g)) (λ n e. p_ends {E = Applies name (var name)} (λ a. root_of_name n a) (p_right (p_give None (λ n e. ap var e))) (λ a f. f n e)))))
+  root_prints d (apply name at none) h g = application name at none (h.0, g.0) (nothing_enclosed none Exprs h.1 refl)
+  root_prints d (apply name at (more t ts)) h g =
+      application name at (more t ts) (h.0, g.0) (perhaps_enclosed none Exprs h.1 (exprs_print t ts (tree_prints (d + 1) t h.2.0 g.1.0) (others_print (d + 1) ts h.2.1 g.1.1)))
+  root_prints d (group none) h g = absurd h
+  root_prints d (group (more t ts)) h g =
+      base_stem (group (more t ts)) (p_right (p_ends group (p_any (p_word (enclosed Exprs h.0 (exprs_print t ts (tree_prints (d + 1) t h.1 g.0) (others_print (d + 1) ts h.2 g.1))))) (λ xs e. ap group e)))
 
-  others_print : (d : ℕ) (ts : Trees) → AreOwnTrees d ts → Prints (Many (Text programs (after fixed.Comma Expr))) (λ xs. unplaced_trees (trees_from xs) ≡ unplaced_trees ts) (plain d) (plain d) maybe_empty word (printed_others ts)
-  others_print d none h = p_none words_row refl
-  others_print d (more t ts) h = p_cons words_row (λ x xs e f. cc) (p_then p_comma (λ c _. p_pad (tree_prints d t h.0))) (others_print d ts h.1)
+  others_print : (d : ℕ) (ts : Trees) → AreTreesInRange d ts → AreFreeTrees ts → Prints (Many (Text programs (after fixed.Comma Expr))) (λ xs. unplaced_trees (trees_from xs) ≡ unplaced_trees ts) (plain d) (plain d) maybe_empty word (printed_others ts)
+  others_print d none h g = p_none words_row refl
+  others_print d (more t ts) h g = p_cons words_row (λ x xs e f. cc) (p_then p_comma (λ c _. p_pad (tree_prints d t h.0 g.0))) (others_print d ts h.1 g.1)
 
 -- equations
 
@@ -128,15 +132,15 @@ one_name : {d : ℕ} (n : Placed) → IsOwnName n.name → Writes Name (λ x. un
 unfolding Name
 one_name n h = p_ends (λ n. record { name = n.0; at = n.1 }) (p_name n.name h) (λ x e. cc)
 
-names_print : {d : ℕ} (n : Placed) (ns : List Placed) → AllByRecursion (λ n. IsOwnName n.name) (n ∷ ns) → Writes Names (λ xs. map unplaced_name xs ≡ map unplaced_name (n ∷ ns)) d any word (separated (codes ", ") (map name_of (n ∷ ns)))
+names_print : {d : ℕ} (n : Placed) (ns : List Placed) → AllByRecursion IsOwnPlaced (n ∷ ns) → Writes Names (λ xs. map unplaced_name xs ≡ map unplaced_name (n ∷ ns)) d any word (separated (codes ", ") (map name_of (n ∷ ns)))
 unfolding Names
 names_print n ns h =
     p_bytes _ _ (ap (λ t. n.name ++ t) (sym (flat_map-map (λ other. codes ", " ++ other) name_of ns)))
     (p_last (one_name n h.0) (λ x e. p_ends (λ others. x ∷ others)
-    (p_many words_row (λ n. IsOwnName n.name) unplaced_name unplaced_name (λ y. codes ", " ++ y.name) (λ y own. p_then p_comma (λ c _. p_pad (one_name y own))) ns h.1)
+    (p_many words_row IsOwnPlaced unplaced_name unplaced_name (λ y. codes ", " ++ y.name) (λ y own. p_then p_comma (λ c _. p_pad (one_name y own))) ns h.1)
     (λ others f. cc)))
 
-lefts_print : (ns : List Placed) → AllByRecursion (λ n. IsOwnName n.name) ns → IsSome ns → Writes Left (λ xs. map unplaced_name xs ≡ map unplaced_name ns) 0 any word (printed_lefts ns)
+lefts_print : (ns : List Placed) → AllByRecursion IsOwnPlaced ns → IsSome ns → Writes Left (λ xs. map unplaced_name xs ≡ map unplaced_name ns) 0 any word (printed_lefts ns)
 unfolding Left
 lefts_print [] h some = absurd (omega arith)
 lefts_print (n ∷ []) h some = p_right (p_ends (λ n. n ∷ []) (one_name n h.0) (λ x e. ap (λ y. y ∷ []) e))
@@ -150,7 +154,7 @@ unfolding Equation
 equation_prints q h =
     p_bytes _ _ (equation_text (codes "  ") (printed_lefts q.lefts) (codes " = ") (printed_tree q.right) (codes ";") (codes "\n"))
     (p_any (p_line (λ rest. tt) (p_pad (p_pad (p_ends (λ x. record { lefts = x.1.0; right = x.1.1; at = x.0 })
-    (p_first (p_next (lefts_print q.lefts h.lefts h.some) (λ ls e. p_then (p_pad p_equals) (λ p _. p_next (p_pad (tree_prints 0 q.right h.right)) (λ t f.
+    (p_first (p_next (lefts_print q.lefts h.lefts h.range.some) (λ ls e. p_then (p_pad p_equals) (λ p _. p_next (p_pad (tree_prints 0 q.right h.range.right h.right)) (λ t f.
     p_ends {F = λ (s : List Placed × Tree). (map unplaced_name s.0 ≡ map unplaced_name q.lefts) × (unplaced_tree s.1 ≡ unplaced_tree q.right)} (λ c. (ls, t)) p_semicolon (λ c _. (e, f)))))))
     (λ x e. cc (e.0, e.1)))))))
 
@@ -165,7 +169,7 @@ unfolding Node
 node_prints n h =
     p_bytes _ _ (node_text (codes "node ") n.name (codes "(") (printed_params n.ins) (codes " returns ") (printed_params n.outs) (codes ")") (printed_locals n.locals) (codes "let\n") (flat_map printed_equation n.eqs) (codes "tel\n"))
     (p_next (p_keyword fixed.Node (codes "node") (refl, omega arith) refl refl) (λ k _. p_next (p_pad (p_name n.name h.name)) (λ m e. p_then (perhaps_params n.ins h.ins) (λ ins f.
-    p_next (p_pad (p_keyword fixed.Returns (codes "returns") (refl, omega arith) refl refl)) (λ r _. p_then (p_line (λ rest. tt) (p_pad (enclosed_params n.outs h.outs h.some))) (λ outs g. p_then (locals_print n.locals h.locals) (λ locals i.
+    p_next (p_pad (p_keyword fixed.Returns (codes "returns") (refl, omega arith) refl refl)) (λ r _. p_then (p_line (λ rest. tt) (p_pad (enclosed_params n.outs h.outs h.range.some))) (λ outs g. p_then (locals_print n.locals h.locals) (λ locals i.
     p_then (p_line (λ rest. refl) (p_keyword fixed.Let (codes "let") (refl, omega arith) refl refl)) (λ l _. p_then (p_many lines_row IsOwnEquation unplaced_equation unplaced_equation printed_equation equation_prints n.eqs h.eqs) (λ eqs j.
     p_then (p_line (λ rest. refl) (p_keyword fixed.Tel (codes "tel") (refl, omega arith) refl refl)) (λ t _. p_ends (λ s. record { name = m.0; ins = ins; outs = outs; locals = locals; eqs = eqs; at = m.1 }) (p_right (p_give {F = λ o. Unit {0}} None tt)) (λ s _. cc)))))))))))
 
@@ -182,12 +186,6 @@ printed_declared (imported i) = printed_import i
 printed_declared (sensor d) = printed_device (codes "sensor ") d
 printed_declared (actuator d) = printed_device (codes "actuator ") d
 printed_declared (node n) = printed_node n
-
-abbrev IsOwnDeclared : Declared → Type 0
-IsOwnDeclared (imported i) = IsOwnImport i
-IsOwnDeclared (sensor d) = IsOwnDevice d
-IsOwnDeclared (actuator d) = IsOwnDevice d
-IsOwnDeclared (node n) = IsOwnNode n
 
 declared_prints : (d : Declared) → IsOwnDeclared d → Writes Declaration (λ x. unplaced_declared x ≡ unplaced_declared d) 0 any free (printed_declared d)
 unfolding Declaration
@@ -207,7 +205,7 @@ all_map : {X Y : Type 0} (P : Y → Type 0) (f : X → Y) (xs : List X) → AllB
 all_map P f [] h = tt
 all_map P f (x ∷ xs) h = (h.0, all_map P f xs h.1)
 
-all_own : (p : ProgramTree) → IsPrintable p → AllByRecursion IsOwnDeclared (declarations p)
+all_own : (p : ProgramTree) → AreOwn p → AllByRecursion IsOwnDeclared (declarations p)
 all_own p h =
     all_append IsOwnDeclared (map imported p.imports) _ (all_map IsOwnDeclared imported p.imports h.imports)
     (all_append IsOwnDeclared (map sensor p.sensors) _ (all_map IsOwnDeclared sensor p.sensors h.sensors)
@@ -266,7 +264,7 @@ unplaced_program_of : (ds : List Declared) → unplaced (program_of ds) ≡ prog
 unplaced_program_of [] = refl
 unplaced_program_of (d ∷ ds) = with_unplaced d (program_of ds) ∙ ap (with_declared (unplaced_declared d)) (unplaced_program_of ds)
 
-pub program_prints : (p : ProgramTree) → IsPrintable p → Writes Program (λ x. unplaced x ≡ unplaced p) 0 any free (printed p)
+pub program_prints : (p : ProgramTree) → AreOwn p → Writes Program (λ x. unplaced x ≡ unplaced p) 0 any free (printed p)
 unfolding Program
 program_prints p h =
     p_bytes _ _ (all_printed p) (p_ends program_of (p_many lines_row IsOwnDeclared unplaced_declared unplaced_declared printed_declared declared_prints (declarations p) (all_own p h))

@@ -19,6 +19,8 @@ use Rattle.prl_ast.specs.declared.declarations.Param.{Param}
 use Rattle.prl_ast.specs.declared.declarations.Placed.{Placed}
 use Rattle.prl_ast.specs.declared.declarations.Port.{Port}
 use Rattle.prl_ast.specs.declared.declarations.Rate.{Rate}
+use Rattle.prl_ast.specs.InRange.{IsCount, IsShift, IsRate, IsDue, IfThere}
+use Rattle.prl_base.specs.Values.{FitsValue}
 use Rattle.prl_grammar.specs.Language.{Text}
 use Rattle.prl_grammar.specs.Numbers.{positive, negative}
 use Rattle.prl_syntax.specs.declared.words.Fixed.{Fixed}
@@ -30,9 +32,10 @@ use Rattle.prl_syntax.specs.Grammar.{Grammar, maybe, after, list_of, in_parens, 
 use Rattle.prl_print.specs.Places.{nowhere, unplaced_port, unplaced_param, unplaced_device, unplaced_import}
 use Rattle.prl_print.specs.Printing.{printed_rate, printed_due, part, printed_note, printed_param, printed_params, printed_locals, printed_port, printed_ports, printed_wcet, printed_import, printed_device}
 use Rattle.prl_print.proofs.Scans.{constant, part as a_part, range_after, State, state}
-use Rattle.prl_print.proofs.Printed.{Begin, any, tight, maybe_empty, End, free, word, Prints, p_then, p_next, p_last, p_give, p_ends, p_left, p_right, p_bytes, p_any, p_maybe, p_word, p_pad, p_line, words_row, p_none, p_many, p_name, p_keyword, p_number, p_open, p_close, p_comma, p_semicolon, p_slash, p_colon, p_minus}
-use Rattle.prl_print.proofs.Own.{IsConstant, IsOwnRatio, IsCount, IsOwnRate, IsOwnMaybe, IsOwnParam, IsOwnPort, IsOwnImport, IsOwnDevice, IsOwnName, IsSome}
-use Rattle.prl_print.proofs.Source.{The}
+use Rattle.prl_print.proofs.Printed.{Begin, any, tight, maybe_empty, End, free, word, Prints, p_then, p_next, p_last, p_give, p_ends, p_left, p_right, p_bytes, p_any, p_maybe, p_word, p_pad, p_line, words_row, p_none, p_many, p_name, p_keyword, p_number, p_open, p_close, p_comma, p_semicolon, p_slash, p_colon, p_minus, The}
+use Rattle.prl_print.proofs.Fractions.{natural, reads_itself}
+use Rattle.prl_print.proofs.Meant.{IsSome}
+use Rattle.prl_print.proofs.Own.{IsOwnName, IsOwnParam, IsOwnPort, IsOwnImport, IsOwnDevice}
 
 -- outside of rates, after so many open parentheses
 abbrev pub plain : ℕ → State
@@ -44,28 +47,28 @@ Writes g E d b e text = Prints (Text programs g) E (plain d) (plain d) b e text
 pub small_is : (n : ℕ) → n ≤ 2147483647 → small n ≡ n
 small_is n h = omega arith
 
-pub value_prints : {d : ℕ} (v : Value) → IsConstant v → Writes Const (λ x. x ≡ v) d any word (value_text v)
+pub value_prints : {d : ℕ} (v : Value) → FitsValue v → Writes Const (λ x. x ≡ v) d any word (value_text v)
 unfolding Const
 value_prints (values.Int (pos n)) h =
-    let most : min n MAX_POSITIVE ≡ n = omega arith in
-    p_right (p_right (p_right (p_ends positive (p_number n h) (λ m e. ap positive e ∙ ap (λ k. values.Int (pos k)) most))))
+    let most : min n MAX_POSITIVE ≡ n = omega (arith, h.sfits) in
+    p_right (p_right (p_right (p_ends positive (p_number n (omega (arith, h.sfits))) (λ m e. ap positive e ∙ ap (λ k. values.Int (pos k)) most))))
 value_prints (values.Int (negsuc n)) h =
-    let most : min (suc n) MAX_NEGATIVE ≡ suc n = omega arith in
-    p_right (p_right (p_left (p_any (p_minus negative (suc n) h (ap (λ k. values.Int (neg_ℤ (pos k))) most)))))
+    let most : min (suc n) MAX_NEGATIVE ≡ suc n = omega (arith, h.sfits) in
+    p_right (p_right (p_left (p_any (p_minus negative (suc n) (omega (arith, h.sfits)) (ap (λ k. values.Int (neg_ℤ (pos k))) most)))))
 value_prints (values.Bool true) h = p_left (p_ends (λ p. values.Bool true) (p_keyword fixed.True (codes "true") (refl, omega arith) refl refl) (λ p _. refl))
 value_prints (values.Bool false) h = p_right (p_left (p_ends (λ p. values.Bool false) (p_keyword fixed.False (codes "false") (refl, omega arith) refl refl) (λ p _. refl)))
 
-denominator_prints : {i : Bool} {d : ℕ} (q : Fraction) → IsOwnRatio q → (b : Bool) → (q.den == 1) ≡ b
+denominator_prints : {i : Bool} {d : ℕ} (q : Fraction) → IsShift q → (b : Bool) → (q.den == 1) ≡ b
     → Prints (Text programs (maybe (after fixed.Slash number))) (λ o. ratio_with (nat_abs q.num) o ≡ q) (state i (range_after i 1) d) (state i (range_after i 1) d) maybe_empty word (cond b [] (codes "/" ++ decimal q.den))
-denominator_prints q h true e = p_right (p_give None (ap (ratio_of (nat_abs q.num)) (sym (eqb-true q.den 1 e)) ∙ h.reads))
+denominator_prints q h true e = p_right (p_give None (ap (ratio_of (nat_abs q.num)) (sym (eqb-true q.den 1 e)) ∙ reads_itself q h))
 denominator_prints q h false e =
-    p_left (p_maybe (p_ends Some (p_then p_slash (λ p _. p_number q.den (h.den_low, h.den_high))) (λ (a : ℕ) (f : a ≡ q.den). ap (ratio_of (nat_abs q.num)) f ∙ h.reads)))
+    p_left (p_maybe (p_ends Some (p_then p_slash (λ p _. p_number q.den (h.0.positive, h.0.den))) (λ (a : ℕ) (f : a ≡ q.den). ap (ratio_of (nat_abs q.num)) f ∙ reads_itself q h)))
 
-pub ratio_prints : {i : Bool} {d : ℕ} (q : Fraction) → IsOwnRatio q → Prints (Text programs Ratio) (λ x. x ≡ q) (state i a_part d) (state i (range_after i 1) d) any word (fraction_text q)
+pub ratio_prints : {i : Bool} {d : ℕ} (q : Fraction) → IsShift q → Prints (Text programs Ratio) (λ x. x ≡ q) (state i a_part d) (state i (range_after i 1) d) any word (fraction_text q)
 unfolding Ratio
 ratio_prints q h =
-    p_bytes _ _ (ap (λ z. signed_decimal z ++ cond (q.den == 1) [] (codes "/" ++ decimal q.den)) (sym h.num))
-    (p_last (p_number (nat_abs q.num) h.num_high) (λ n e. p_ends (λ d. ratio_with n d) (denominator_prints q h (q.den == 1) refl) (λ d f. ap (λ k. ratio_with k d) e ∙ f)))
+    p_bytes _ _ (ap (λ z. signed_decimal z ++ cond (q.den == 1) [] (codes "/" ++ decimal q.den)) (natural q.num h.1))
+    (p_last (p_number (nat_abs q.num) h.0.num) (λ n e. p_ends (λ d. ratio_with n d) (denominator_prints q h (q.den == 1) refl) (λ d f. ap (λ k. ratio_with k d) e ∙ f)))
 
 type_prints : {d : ℕ} (ty : Ty) → Writes TypeName (λ x. x ≡ ty) d any word (type_text ty)
 unfolding TypeName
@@ -78,19 +81,19 @@ rate_with period phase = record { period = period; phase = phase }
 five : (a b c d e : List ℕ) → a ++ (b ++ (c ++ (d ++ e))) ≡ a ++ b ++ c ++ d ++ e
 five a b c d e = simp append_assoc
 
-rate_prints : {d : ℕ} → d + 1 ≤ 64 → (r : Rate) → IsOwnRate r → Writes RateText (λ x. x ≡ r) d any word (printed_rate r)
+rate_prints : {d : ℕ} → d + 1 ≤ 64 → (r : Rate) → IsRate r → Writes RateText (λ x. x ≡ r) d any word (printed_rate r)
 unfolding RateText
 rate_prints le r h =
     p_bytes _ _ (five (codes "rate (") (decimal r.period) (codes ", ") (fraction_text r.phase) (codes ")"))
     (p_word (p_next (p_keyword fixed.Rate (codes "rate") (refl, omega arith) refl refl) (λ k _. p_then (p_pad p_open) (λ o _. p_next (p_number r.period h.0) (λ n e. p_then p_comma (λ c _. p_next (p_pad (ratio_prints r.phase h.1)) (λ q f.
     p_ends (λ x. record { period = small n; phase = q }) (p_close le) (λ x _. (let same : rate_with (small n) q ≡ rate_with r.period r.phase = cc (small_is r.period h.0.1) in same)))))))))
 
-due_prints : {d : ℕ} (due : ℕ) → due ≤ 2147483647 → Writes Due (λ x. x ≡ due) d any word (printed_due due)
+due_prints : {d : ℕ} (due : ℕ) → IsDue due → Writes Due (λ x. x ≡ due) d any word (printed_due due)
 unfolding Due
 due_prints due h = p_next (p_keyword fixed.Due (codes "due") (refl, omega arith) refl refl) (λ k _. p_ends small (p_pad (p_number due h)) (λ n e. ap small e ∙ small_is due h))
 
 -- a part of a note, after a blank
-later_part : {X : Type 0} {d : ℕ} (g : Grammar X) (P : X → Type 0) (show : X → List ℕ) → ((x : X) → P x → Writes g (λ y. y ≡ x) d any word (show x)) → (o : Option X) → IsOwnMaybe P o
+later_part : {X : Type 0} {d : ℕ} (g : Grammar X) (P : X → Type 0) (show : X → List ℕ) → ((x : X) → P x → Writes g (λ y. y ≡ x) d any word (show x)) → (o : Option X) → IfThere P o
     → Writes (maybe g) (λ y. y ≡ o) d maybe_empty word (flat_map (λ other. codes " " ++ other) (part show o))
 later_part g P show each None h = p_right (p_give None refl)
 later_part g P show each (Some x) h = p_left (p_ends Some (p_maybe (p_bytes _ _ (sym (append-nil (codes " " ++ show x))) (p_pad (each x h)))) (λ y e. ap Some e))
@@ -105,16 +108,16 @@ IsNote ty rate due o = (n : Placed) → param_of n (note_or o None) ≡ record {
 colon_note : {d : ℕ} (ty : Option Ty) (rate : Option Rate) (due : Option ℕ) (text : List ℕ) → Writes NoteText (λ x. x ≡ note_with ty rate due) d any word text → Writes (maybe (after fixed.Colon NoteText)) (IsNote ty rate due) d maybe_empty word (codes ": " ++ text)
 colon_note ty rate due text note = p_left (p_maybe (p_ends Some (p_colon (λ p. note)) (λ a e n. ap (λ x. param_of n (Some x)) e)))
 
-note_prints : {d : ℕ} → d + 1 ≤ 64 → (ty : Option Ty) (rate : Option Rate) (due : Option ℕ) → IsOwnMaybe IsOwnRate rate → IsOwnMaybe (λ n. n ≤ 2147483647) due
+note_prints : {d : ℕ} → d + 1 ≤ 64 → (ty : Option Ty) (rate : Option Rate) (due : Option ℕ) → IfThere IsRate rate → IfThere IsDue due
     → Writes (maybe (after fixed.Colon NoteText)) (IsNote ty rate due) d maybe_empty word (printed_note (part type_text ty ++ part printed_rate rate ++ part printed_due due))
 unfolding NoteText
 note_prints le None None None r u = p_right (p_give None (λ n. refl))
 note_prints le None None (Some due) r u = colon_note None None (Some due) _ (p_left (p_ends (λ d. note_with None None (Some d)) (p_bytes _ _ (sym (append-nil (printed_due due))) (due_prints due u)) (λ d e. cc)))
 note_prints le None (Some rate) due r u =
-    colon_note None (Some rate) due _ (p_right (p_left (p_last (rate_prints le rate r) (λ x e. p_ends (λ d. note_with None (Some x) d) (later_part Due (λ n. n ≤ 2147483647) printed_due due_prints due u) (λ d f. cc)))))
+    colon_note None (Some rate) due _ (p_right (p_left (p_last (rate_prints le rate r) (λ x e. p_ends (λ d. note_with None (Some x) d) (later_part Due IsDue printed_due due_prints due u) (λ d f. cc)))))
 note_prints le (Some ty) rate due r u =
     colon_note (Some ty) rate due _ (p_right (p_right (p_bytes _ _ (ap (λ t. type_text ty ++ t) (sym (flat_map-append (λ other. codes " " ++ other) (part printed_rate rate) (part printed_due due))))
-    (p_last (type_prints ty) (λ t e. p_last (later_part RateText IsOwnRate printed_rate (rate_prints le) rate r) (λ x f. p_ends (λ d. note_with (Some t) x d) (later_part Due (λ n. n ≤ 2147483647) printed_due due_prints due u) (λ d g. cc)))))))
+    (p_last (type_prints ty) (λ t e. p_last (later_part RateText IsRate printed_rate (rate_prints le) rate r) (λ x f. p_ends (λ d. note_with (Some t) x d) (later_part Due IsDue printed_due due_prints due u) (λ d g. cc)))))))
 
 -- lists
 
@@ -157,7 +160,7 @@ name_prints name h = p_ends (λ n. record { name = n.0; at = n.1 }) (p_name name
 run_prints : {d : ℕ} → d + 1 ≤ 64 → (p : Param) → IsOwnParam p → Writes Run (Means unplaced_param (p ∷ [])) d any word (printed_param p)
 unfolding Run ItemText
 run_prints le p h = p_ends params_of (alone fixed.Comma ItemText (λ i e. ap (λ x. x ∷ []) e)
-    (p_last (name_prints p.name h.name) (λ n e. p_ends {F = λ i. unplaced_param (param_of i.name (note_or i.note None)) ≡ unplaced_param p} (λ x. record { name = n; note = x }) (note_prints le p.ty p.rate p.due h.rate h.due)
+    (p_last (name_prints p.name h.1) (λ n e. p_ends {F = λ i. unplaced_param (param_of i.name (note_or i.note None)) ≡ unplaced_param p} (λ x. record { name = n; note = x }) (note_prints le p.ty p.rate p.due h.0.rate h.0.due)
     (λ x f. ap unplaced_param (f n) ∙ ap (λ name. record { name = name; ty = p.ty; rate = p.rate; due = p.due; at = nowhere }) e))))
     (λ items e. e)
 
@@ -239,8 +242,8 @@ unfolding ImportText
 import_prints i h =
     p_bytes _ _ (import_text (codes "imported node ") i.name (codes "(") (printed_ports i.ins) (codes " returns ") (printed_ports i.outs) (codes ")") (printed_wcet i.wcet))
     (p_next (p_keyword fixed.Imported (codes "imported") (refl, omega arith) refl refl) (λ k _. p_next (p_pad (p_keyword fixed.Node (codes "node") (refl, omega arith) refl refl)) (λ l _. p_next (p_pad (p_name i.name h.name)) (λ n e.
-    p_then (perhaps_ports i.ins h.ins) (λ ins f. p_next (p_pad (p_keyword fixed.Returns (codes "returns") (refl, omega arith) refl refl)) (λ r _. p_then (p_pad (enclosed_ports i.outs h.outs h.some)) (λ outs g.
-    p_ends (λ w. record { name = n.0; ins = ins; outs = outs; wcet = w; at = n.1 }) (wcet_prints i.wcet h.wcet) (λ w j. cc))))))))
+    p_then (perhaps_ports i.ins h.ins) (λ ins f. p_next (p_pad (p_keyword fixed.Returns (codes "returns") (refl, omega arith) refl refl)) (λ r _. p_then (p_pad (enclosed_ports i.outs h.outs h.range.some)) (λ outs g.
+    p_ends (λ w. record { name = n.0; ins = ins; outs = outs; wcet = w; at = n.1 }) (wcet_prints i.wcet h.range.wcet) (λ w j. cc))))))))
 
 pub device_prints : (f : Fixed) (text : List ℕ) → Prints (The f) (λ p. Unit {0}) (plain 0) (plain 0) any word text → (d : Device) → IsOwnDevice d → Writes (DeviceText f) (λ x. unplaced_device x ≡ unplaced_device d) 0 any free (printed_device (text ++ codes " ") d)
 unfolding DeviceText
