@@ -7,7 +7,8 @@ ghost use Rattle.prl_calendar.specs.Calendars.{AreDue};
 ghost use Rattle.prl_flow.specs.Actuators.{AreUpTo, actuator_text, row_at, row_text};
 
 use crate::ends::end_of;
-use prl_base::{Clock, Value, push_number, push_value};
+use crate::lines::push_rest;
+use prl_base::{Clock, Value};
 use prl_calendar::Calendar;
 use prl_flow::OutFlow;
 use std::alloc::{AllocError, Global};
@@ -26,14 +27,7 @@ fn push_row(
     ensures { OnOk result (text.new.items ≡ text.old.items ++ row_text (record { name = name.now; instance = instance; date = date; value = value })) }
 {
     text.extend_from_slice(name)?;
-    text.push(b',')?;
-    push_number(text, instance)?;
-    text.push(b',')?;
-    push_number(text, date)?;
-    text.push(b',')?;
-    push_value(text, value)?;
-    text.push(b'\n')?;
-    Ok(())
+    push_rest(text, instance, date, value)
 }
 
 /// Appends the row of the actuator at one of its dates, if it has a value there.

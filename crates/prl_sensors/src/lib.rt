@@ -7,6 +7,7 @@ mod ends;
 mod faults;
 mod finders;
 mod laws;
+mod lines;
 mod records;
 mod rows;
 
