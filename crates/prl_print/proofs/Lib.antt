@@ -1,13 +1,10 @@
 pub mod Lists
 pub mod Own
-pub mod Scans
 pub mod Tokens
 pub mod Printed
 pub mod PrintedParts
-pub mod PrintedNodes
 pub mod Source
 pub mod Meant
-pub mod MeantTrees
 pub mod Limits
 pub mod Printable
 pub mod Fractions

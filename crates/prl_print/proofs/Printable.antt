@@ -14,12 +14,11 @@ use Rattle.prl_syntax.specs.Parsing.{IsProgramOf}
 use Rattle.prl_print.specs.Printing.{printed}
 use Rattle.prl_print.specs.Places.{unplaced_node, SamePlacesAside}
 use Rattle.prl_print.specs.RoundTrip.{IsTextOf}
-use Rattle.prl_print.proofs.Scans.{scan_end}
+use Rattle.prl_print.proofs.Tokens.{scan_end}
 use Rattle.prl_print.proofs.Own.{IsOwnImport, IsOwnNode, AreOwn, all_of}
-use Rattle.prl_print.proofs.PrintedParts.{plain}
-use Rattle.prl_print.proofs.PrintedNodes.{program_prints}
+use Rattle.prl_print.proofs.PrintedParts.{plain, program_prints}
 use Rattle.prl_print.proofs.Limits.{text_fine}
-use Rattle.prl_print.proofs.MeantTrees.{program_means}
+use Rattle.prl_print.proofs.Meant.{program_means}
 
 few_nodes : (t p : ProgramTree) → SamePlacesAside t p → length p.nodes ≤ 256 → length t.nodes ≤ 256
 few_nodes t p e h =
@@ -41,7 +40,7 @@ reads_back p h few =
         tokens = s.tokens;
         lexical = ap (tokens_from 0 0 0) (sym (append-nil text)) ∙ s.are.1;
         written = subst P (sym seen) x.is;
-        ranges = ap (out_of_range program_ranges false 0) s.seen ∙ s.ranges 0 refl;
+        ranges = ap (out_of_range program_ranges false 0) s.seen ∙ s.ranges 0 (λ n. refl);
         nodes = few_nodes x.tree p x.same few;
       };
       same = x.same;

@@ -1,6 +1,6 @@
 -- Parts of a printed text, which are texts of a grammar wherever they stand in it.
-use Rattle.std.proofs.Common.{◌≡◌, ◌==◌, ◌<◌, ◌≤◌, ◌+◌, ◌^◌, ◌&&◌, ℕ, Bool, true, false, not, codes, decimal, List, [], ◌∷◌, ◌++◌, map, length, drop, Some, None, refl, sym, ap, ◌∙◌, subst, inl, inr, arith, append_assoc, length-append}
-use Rattle.std.proofs.lemmas.Bool.{and_parts, or_parts, false≢true}
+use Rattle.std.proofs.Common.{◌≡◌, ◌==◌, ◌<◌, ◌≤◌, ◌+◌, ◌^◌, ◌&&◌, ℕ, Bool, true, false, leb, not, codes, decimal, List, [], ◌∷◌, ◌++◌, map, length, drop, Some, None, refl, sym, ap, ◌∙◌, subst, inl, inr, arith, append_assoc, length-append}
+use Rattle.std.proofs.lemmas.Bool.{and_from, and_parts, le-leb, or_parts, false≢true}
 use Rattle.std.proofs.lemmas.Bool.Decides.{nat_tests}
 use Rattle.std.proofs.lemmas.List.{append-nil}
 use Rattle.std.specs.List.{flat_map, list_all, AllByRecursion}
@@ -18,8 +18,7 @@ use Rattle.prl_syntax.specs.declared.words.Fixed.{Fixed}
 use Rattle.prl_syntax.specs.declared.words.Fixed.TheVariants as fixed
 use Rattle.prl_syntax.specs.Words.{class_of, keyword_of, symbol_of}
 use Rattle.prl_syntax.specs.Ranges.{in_range, program_ranges}
-use Rattle.prl_print.proofs.Scans.{Range, constant, below, count, part, range_after, Within, within_range, State, state, state_after, Stops, is_loud, AreBytes, Scan, past, scan_blank, IsToken, scan_token}
-use Rattle.prl_print.proofs.Tokens.{a_word, a_number, a_symbol, word_token, number_token, number_leads, is_mark, goes_on, one_token, two_token}
+use Rattle.prl_print.proofs.Tokens.{constant, part, State, state, state_after, Stops, is_loud, AreBytes, Scan, past, scan_blank, IsToken, scan_token, a_word, a_number, a_symbol, word_token, number_token, number_leads, is_mark, goes_on, one_token, two_token}
 use Rattle.prl_print.proofs.Source.{Number}
 use Rattle.prl_print.proofs.Own.{IsOwnName}
 
@@ -98,7 +97,7 @@ blank_lex at s c small blank other = record {
   go = λ whole rest v here fits h scan. scan_blank s at c whole rest v small blank scan;
 }
 
-token_lex : (at : ℕ) (inside : Bool) (r : Range) (d deep n : ℕ) (kind : Kind) (b : Begin) (e : End) (p : List ℕ) (k : Lexeme) → Leads b p → ((rest : List ℕ) → Stops is_loud (p ++ rest)) → (deep ≤ 64 → d ≤ 64) → ((last : ℕ) → range_after inside last ≡ r → is_fault program_ranges inside last k ≡ false)
+token_lex : (at : ℕ) (inside : Bool) (r : ℕ → Bool) (d deep n : ℕ) (kind : Kind) (b : Begin) (e : End) (p : List ℕ) (k : Lexeme) → Leads b p → ((rest : List ℕ) → Stops is_loud (p ++ rest)) → (deep ≤ 64 → d ≤ 64) → ((last : ℕ) → ((n : ℕ) → in_range inside last n ≡ r n) → is_fault program_ranges inside last k ≡ false)
     → ((rest : List ℕ) → AreBytes rest → Fits e rest → deep ≤ 64 → IsToken at d deep kind p rest n k) → Lexes at (state inside r d) (state_after inside k.class deep) b e p (k ∷ [])
 token_lex at inside r d deep n kind b e p k lead calm low range is = record {
   lead = lead;
@@ -185,19 +184,13 @@ p_first one = p_as (λ x w. (first_place w, x)) (λ x w h. h) (λ x w i. (refl, 
 pub p_bytes : {A : Type 0} {W : A → List Lexeme → Type 0} {E : A → Type 0} {s t : State} {b : Begin} {e : End} (a c : List ℕ) → a ≡ c → Prints W E s t b e a → Prints W E s t b e c
 p_bytes {W} {E} {s} {t} {b} {e} a c same one = let P : List ℕ → Type 0 = Prints W E s t b e in subst P same one
 
+-- the same text, in other surroundings, which may begin earlier
+moved : {A : Type 0} {W : A → List Lexeme → Type 0} {E : A → Type 0} {s t : State} {b c : Begin} {e f : End} {a text : List ℕ} (begin : ℕ → ℕ) → ((at : ℕ) (w : List Lexeme) → Lexes (begin at) s t b e a w → Lexes at s t c f text w) → Prints W E s t b e a → Prints W E s t c f text
+moved begin lex one = record { there = λ at. (let x = one.there (begin at) in record { tree = x.tree; same = x.same; words = x.words; is = x.is; lexes = lex at x.words x.lexes }) }
+
 -- less is known of its ends
 less_known : {A : Type 0} {W : A → List Lexeme → Type 0} {E : A → Type 0} {s t : State} {b c : Begin} {e f : End} {a : List ℕ} → (Leads b a → Leads c a) → ((rest : List ℕ) → Fits f rest → Stops is_loud rest → Fits e rest) → Prints W E s t b e a → Prints W E s t c f a
-less_known lead fits one = record {
-  there = λ at.
-      let x = one.there at in
-      record {
-        tree = x.tree;
-        same = x.same;
-        words = x.words;
-        is = x.is;
-        lexes = record { lead = lead x.lexes.lead; calm = x.lexes.calm; go = λ whole rest v here ends h scan. x.lexes.go whole rest v here (fits rest ends h) h scan };
-      };
-}
+less_known lead fits = moved (λ at. at) (λ at w x. record { lead = lead x.lead; calm = x.calm; go = λ whole rest v here ends h scan. x.go whole rest v here (fits rest ends h) h scan })
 
 pub p_any : {A : Type 0} {W : A → List Lexeme → Type 0} {E : A → Type 0} {s t : State} {b : Begin} {e : End} {a : List ℕ} → Prints W E s t b e a → Prints W E s t any e a
 p_any one = less_known (λ l. tt) (λ rest fits h. fits) one
@@ -218,19 +211,12 @@ p_quiet {n} quiet one = less_known (λ l. l) (λ rest fits h. stops rest h) one
 
 -- after a blank, and before a line feed
 pub p_pad : {A : Type 0} {W : A → List Lexeme → Type 0} {E : A → Type 0} {s t : State} {b : Begin} {e : End} {a : List ℕ} → Prints W E s t b e a → Prints W E s t tight e (32 ∷ a)
-p_pad {s} {a} one = record {
-  there = λ at.
-      let x = one.there (at + 1) in
-      record { tree = x.tree; same = x.same; words = x.words; is = x.is; lexes = both_lex (λ h g. front_leads tight (32 ∷ []) a h) (λ l rest fits. tt) (blank_lex at s 32 (omega arith) refl (refl, refl)) x.lexes };
-}
+p_pad {s} {a} = moved (λ at. at + 1) (λ at w x. both_lex (λ h g. front_leads tight (32 ∷ []) a h) (λ l rest fits. tt) (blank_lex at s 32 (omega arith) refl (refl, refl)) x)
 
 pub p_line : {A : Type 0} {W : A → List Lexeme → Type 0} {E : A → Type 0} {s t : State} {b : Begin} {e : End} {a : List ℕ} → ((rest : List ℕ) → Fits e (10 ∷ rest)) → Prints W E s t b e a → Prints W E s t (front b) free (a ++ 10 ∷ [])
-p_line {s} {t} {b} {a} fits one = record {
-  there = λ at.
-      let x = one.there at in
-      let P : List Lexeme → Type 0 = Lexes at s t (front b) free (a ++ 10 ∷ []) in
-      record { tree = x.tree; same = x.same; words = x.words; is = x.is; lexes = subst P (append-nil x.words) (both_lex (λ h g. front_leads b a (10 ∷ []) h) (λ l rest h. fits rest) x.lexes (blank_lex (at + length a) t 10 (omega arith) refl (refl, refl))) };
-}
+p_line {s} {t} {b} {a} fits = moved (λ at. at) (λ at w x.
+    let P : List Lexeme → Type 0 = Lexes at s t (front b) free (a ++ 10 ∷ []) in
+    subst P (append-nil w) (both_lex (λ h g. front_leads b a (10 ∷ []) h) (λ l rest h. fits rest) x (blank_lex (at + length a) t 10 (omega arith) refl (refl, refl))))
 
 -- any number of texts, of trees that mean the same
 
@@ -286,70 +272,70 @@ word_calm (c ∷ cs) rest h =
     calm : (c : ℕ) → is_word_start c ≡ true → is_loud c ≡ false
     calm c h = grind (arith, nat_tests)
 
-pub p_name : {inside : Bool} {r : Range} {d : ℕ} (name : List ℕ) → IsOwnName name → Prints Named (λ n. n.0 ≡ name) (state inside r d) (state_after inside 0 d) any word name
+pub p_name : {inside : Bool} {r : ℕ → Bool} {d : ℕ} (name : List ℕ) → IsOwnName name → Prints Named (λ n. n.0 ≡ name) (state inside r d) (state_after inside 0 d) any word name
 p_name {inside} {r} {d} name h = p_one 0 (λ t. (t.name, t.at)) (λ n. n.0 ≡ name) (a_word None name) (λ at. refl) (λ at. refl)
     (λ at. token_lex at inside r d d 0 kinds.Word any word name (a_word None name at) tt (λ rest. word_calm name rest h.0) (λ le. le) (λ last e. refl) (λ rest bytes fits le. word_token at d name rest None bytes h.0 h.1 fits))
 
-pub p_keyword : {inside : Bool} {r : Range} {d : ℕ} (f : Fixed) (text : List ℕ) → IsName text → keyword_of text ≡ Some f → (class_of f == 1) ≡ false → Prints (The f) (λ p. Unit {0}) (state inside r d) (state_after inside (class_of f) d) any word text
+pub p_keyword : {inside : Bool} {r : ℕ → Bool} {d : ℕ} (f : Fixed) (text : List ℕ) → IsName text → keyword_of text ≡ Some f → (class_of f == 1) ≡ false → Prints (The f) (λ p. Unit {0}) (state inside r d) (state_after inside (class_of f) d) any word text
 p_keyword {inside} {r} {d} f text h key other = p_one (class_of f) (λ t. t.at) (λ p. Unit {0}) (a_word (Some f) text) (λ at. refl) (λ at. tt)
     (λ at. token_lex at inside r d d 0 kinds.Word any word text (a_word (Some f) text at) tt (λ rest. word_calm text rest h) (λ le. le) (λ last e. ap (λ t. t && not (in_range inside last 0)) other) (λ rest bytes fits le. word_token at d text rest (Some f) bytes h key fits))
 
-within_small : (r : Range) (n : ℕ) → Within r n → n < 2 ^ 64
-within_small constant n h = omega arith
-within_small below n h = omega arith
-within_small count n h = omega (arith, h.1)
-within_small part n h = omega arith
-
-pub p_number : {inside : Bool} {r : Range} {d : ℕ} (n : ℕ) → Within r n → Prints Number (λ m. m ≡ n) (state inside r d) (state_after inside 1 d) any word (decimal n)
-p_number {inside} {r} {d} n h = p_one 1 (λ t. t.number) (λ m. m ≡ n) (a_number n (decimal n)) (λ at. refl) (λ at. refl)
-    (λ at. token_lex at inside r d d n kinds.Number any word (decimal n) (a_number n (decimal n) at) tt (λ rest. number_leads is_loud n rest (within_small r n h) calm) (λ le. le) (λ last e. ap not (within_range inside last n r e h))
-    (λ rest bytes fits le. number_token at d n rest bytes (within_small r n h) fits))
+pub p_number : {inside : Bool} {r : ℕ → Bool} {d : ℕ} (n : ℕ) → n < 2 ^ 64 → r n ≡ true → Prints Number (λ m. m ≡ n) (state inside r d) (state_after inside 1 d) any word (decimal n)
+p_number {inside} {r} {d} n small fit = p_one 1 (λ t. t.number) (λ m. m ≡ n) (a_number n (decimal n)) (λ at. refl) (λ at. refl)
+    (λ at. token_lex at inside r d d n kinds.Number any word (decimal n) (a_number n (decimal n) at) tt (λ rest. number_leads is_loud n rest small calm) (λ le. le) (λ last e. ap not (e n ∙ fit))
+    (λ rest bytes fits le. number_token at d n rest bytes small fits))
   where
     calm : (c : ℕ) → 48 ≤ c → c ≤ 57 → is_loud c ≡ false
     calm c low high = grind (arith, nat_tests)
+
+pub p_part : {inside : Bool} {d : ℕ} (n : ℕ) → n ≤ 2147483647 → Prints Number (λ m. m ≡ n) (state inside part d) (state_after inside 1 d) any word (decimal n)
+p_part n le = p_number n (omega arith) (le-leb n 2147483647 le)
+
+pub p_count : {inside : Bool} {d : ℕ} (n : ℕ) → (1 ≤ n) × (n ≤ 2147483647) → Prints Number (λ m. m ≡ n) (state inside (λ n. leb 1 n && leb n 2147483647) d) (state_after inside 1 d) any word (decimal n)
+p_count n h = p_number n (omega (arith, h.1)) (and_from (leb 1 n) (leb n 2147483647) (le-leb 1 n h.0) (le-leb n 2147483647 h.1))
 
 -- a byte that is this symbol
 abbrev IsSign : Fixed → ℕ → Type 0
 IsSign f a = (is_mark a ≡ true) × (is_one_byte_symbol a ≡ true) × (symbol_of (a ∷ []) ≡ f) × ((class_of f == 1) ≡ false) × (is_word_byte a ≡ false) × (is_loud a ≡ false)
 
-p_sign : {inside : Bool} {r : Range} (d deep : ℕ) (f : Fixed) (a : ℕ) → IsSign f a → depth_after d (a ∷ []) ≡ deep → (deep ≤ 64 → d ≤ 64) → Prints (The f) (λ p. Unit {0}) (state inside r d) (state_after inside (class_of f) deep) tight (sign a) (a ∷ [])
+p_sign : {inside : Bool} {r : ℕ → Bool} (d deep : ℕ) (f : Fixed) (a : ℕ) → IsSign f a → depth_after d (a ∷ []) ≡ deep → (deep ≤ 64 → d ≤ 64) → Prints (The f) (λ p. Unit {0}) (state inside r d) (state_after inside (class_of f) deep) tight (sign a) (a ∷ [])
 p_sign {inside} {r} d deep f a is down low = p_one (class_of f) (λ t. t.at) (λ p. Unit {0}) (a_symbol f (a ∷ [])) (λ at. refl) (λ at. tt)
     (λ at. token_lex at inside r d deep 0 kinds.Symbol tight (sign a) (a ∷ []) (a_symbol f (a ∷ []) at) (λ rest. is.4) (λ rest. is.5) low (λ last e. ap (λ t. t && not (in_range inside last 0)) is.3)
     (λ rest bytes fits le. one_token at d deep a rest f bytes is.0 is.1 is.2 fits down le))
 
-pub p_open : {inside : Bool} {r : Range} {d : ℕ} → Prints (The fixed.Open) (λ p. Unit {0}) (state inside r d) (state_after inside 19 (d + 1)) tight free (codes "(")
+pub p_open : {inside : Bool} {r : ℕ → Bool} {d : ℕ} → Prints (The fixed.Open) (λ p. Unit {0}) (state inside r d) (state_after inside 19 (d + 1)) tight free (codes "(")
 p_open {d} = p_quiet (λ c h. (or_parts (c == 42) (c == 94) h).0) (p_sign d (d + 1) fixed.Open 40 (refl, refl, refl, refl, refl, refl) refl (λ le. omega (arith, le)))
 
-pub p_close : {inside : Bool} {r : Range} {d : ℕ} → d + 1 ≤ 64 → Prints (The fixed.Close) (λ p. Unit {0}) (state inside r (d + 1)) (state_after inside 20 d) tight free (codes ")")
+pub p_close : {inside : Bool} {r : ℕ → Bool} {d : ℕ} → d + 1 ≤ 64 → Prints (The fixed.Close) (λ p. Unit {0}) (state inside r (d + 1)) (state_after inside 20 d) tight free (codes ")")
 p_close {d} le = p_quiet (λ c h. refl) (p_sign (d + 1) d fixed.Close 41 (refl, refl, refl, refl, refl, refl) (omega arith) (λ h. le))
 
-pub p_comma : {inside : Bool} {r : Range} {d : ℕ} → Prints (The fixed.Comma) (λ p. Unit {0}) (state inside r d) (state_after inside 21 d) tight free (codes ",")
+pub p_comma : {inside : Bool} {r : ℕ → Bool} {d : ℕ} → Prints (The fixed.Comma) (λ p. Unit {0}) (state inside r d) (state_after inside 21 d) tight free (codes ",")
 p_comma {d} = p_quiet (λ c h. refl) (p_sign d d fixed.Comma 44 (refl, refl, refl, refl, refl, refl) refl (λ le. le))
 
-pub p_semicolon : {inside : Bool} {r : Range} {d : ℕ} → Prints (The fixed.Semicolon) (λ p. Unit {0}) (state inside r d) (state_after inside 22 d) tight free (codes ";")
+pub p_semicolon : {inside : Bool} {r : ℕ → Bool} {d : ℕ} → Prints (The fixed.Semicolon) (λ p. Unit {0}) (state inside r d) (state_after inside 22 d) tight free (codes ";")
 p_semicolon {d} = p_quiet (λ c h. refl) (p_sign d d fixed.Semicolon 59 (refl, refl, refl, refl, refl, refl) refl (λ le. le))
 
-pub p_equals : {inside : Bool} {r : Range} {d : ℕ} → Prints (The fixed.Equals) (λ p. Unit {0}) (state inside r d) (state_after inside 25 d) tight free (codes "=")
+pub p_equals : {inside : Bool} {r : ℕ → Bool} {d : ℕ} → Prints (The fixed.Equals) (λ p. Unit {0}) (state inside r d) (state_after inside 25 d) tight free (codes "=")
 p_equals {d} = p_quiet (λ c h. refl) (p_sign d d fixed.Equals 61 (refl, refl, refl, refl, refl, refl) refl (λ le. le))
 
-pub p_slash : {inside : Bool} {r : Range} {d : ℕ} → Prints (The fixed.Slash) (λ p. Unit {0}) (state inside r d) (state_after inside 27 d) tight free (codes "/")
+pub p_slash : {inside : Bool} {r : ℕ → Bool} {d : ℕ} → Prints (The fixed.Slash) (λ p. Unit {0}) (state inside r d) (state_after inside 27 d) tight free (codes "/")
 p_slash {d} = p_quiet caret (p_sign d d fixed.Slash 47 (refl, refl, refl, refl, refl, refl) refl (λ le. le))
   where
     caret : (c : ℕ) → is_loud c ≡ false → goes_on 47 c ≡ false
     caret c h = grind (arith, nat_tests)
 
 -- before a blank, and before a number
-pub p_colon : {A : Type 0} {V : Span → A → List Lexeme → Type 0} {F : A → Type 0} {inside : Bool} {r : Range} {d : ℕ} {u : State} {b : Begin} {e : End} {a : List ℕ} → ((p : Span) → Prints (V p) F (state_after inside 23 d) u b e a) → Prints (Then (The fixed.Colon) V) F (state inside r d) u tight e (codes ": " ++ a)
+pub p_colon : {A : Type 0} {V : Span → A → List Lexeme → Type 0} {F : A → Type 0} {inside : Bool} {r : ℕ → Bool} {d : ℕ} {u : State} {b : Begin} {e : End} {a : List ℕ} → ((p : Span) → Prints (V p) F (state_after inside 23 d) u b e a) → Prints (Then (The fixed.Colon) V) F (state inside r d) u tight e (codes ": " ++ a)
 p_colon {d} {a} after = p_seq (λ h g. front_leads tight (codes ":") (32 ∷ a) h) (λ l rest fits. refl) (p_sign d d fixed.Colon 58 (refl, refl, refl, refl, refl, refl) refl (λ le. le)) (λ p _. p_pad (after p))
 
 pub p_minus : {B : Type 0} {F : B → Type 0} {d : ℕ} (f : ℕ → B) (n : ℕ) → n ≤ MAX_NEGATIVE → F (f n) → Prints (Then (The fixed.Minus) (λ p. Then Number (λ n. Give (f n)))) F (state false constant d) (state false constant d) tight word (codes "-" ++ decimal n)
-p_minus {F} {d} f n le h = p_seq (λ h g. front_leads tight (codes "-") (decimal n) h) (λ l rest fits. number_leads (goes_on 45) n rest (omega arith) dash) (p_sign d d fixed.Minus 45 (refl, refl, refl, refl, refl, refl) refl (λ le. le)) (λ p _. p_ends f (p_number n le) (λ m e. subst (λ k. F (f k)) (sym e) h))
+p_minus {F} {d} f n le h = p_seq (λ h g. front_leads tight (codes "-") (decimal n) h) (λ l rest fits. number_leads (goes_on 45) n rest (omega arith) dash) (p_sign d d fixed.Minus 45 (refl, refl, refl, refl, refl, refl) refl (λ le. le)) (λ p _. p_ends f (p_number n (omega arith) (le-leb n MAX_NEGATIVE le)) (λ m e. subst (λ k. F (f k)) (sym e) h))
   where
     dash : (c : ℕ) → 48 ≤ c → c ≤ 57 → goes_on 45 c ≡ false
     dash c low high = grind (arith, nat_tests)
 
 -- a symbol of two bytes, after a blank
-pub p_operator : {inside : Bool} {r : Range} {d : ℕ} (f : Fixed) (a b : ℕ) → (is_mark a ≡ true) × (b < 256) × (((a == 45) && (b == 45)) ≡ false) × (((a == 40) && (b == 42)) ≡ false) × (is_two_byte_symbol a b ≡ true) × (symbol_of (a ∷ b ∷ []) ≡ f) × ((class_of f == 1) ≡ false)
+pub p_operator : {inside : Bool} {r : ℕ → Bool} {d : ℕ} (f : Fixed) (a b : ℕ) → (is_mark a ≡ true) × (b < 256) × (((a == 45) && (b == 45)) ≡ false) × (((a == 40) && (b == 42)) ≡ false) × (is_two_byte_symbol a b ≡ true) × (symbol_of (a ∷ b ∷ []) ≡ f) × ((class_of f == 1) ≡ false)
     → Prints (The f) (λ p. Unit {0}) (state inside r d) (state_after inside (class_of f) d) tight free (32 ∷ a ∷ b ∷ [])
 p_operator {inside} {r} {d} f a b is = p_one (class_of f) (λ t. t.at) (λ p. Unit {0}) (λ at. a_symbol f (a ∷ b ∷ []) (at + 1)) (λ at. refl) (λ at. tt) (λ at. record { lead = λ rest. refl; calm = λ rest h. refl; go = go at })
   where
