@@ -9,3 +9,6 @@ mod Worked
 mod ClockAfter
 mod SeatReads
 mod Begun
+mod Joining
+mod Lending
+mod ClosedBoards

@@ -14,9 +14,10 @@ pub record BoardView : Type 0 where
 
 -- the horizon is one of the plan, each node task has a body that fits it and each sensor its rows, and the table has a
 -- word for each use and was told of just this run
-pub record IsBoard (k key : Constants) (words : ℕ) : Type 0 where
+pub record IsBoard (k key : Constants) (words slots : ℕ) : Type 0 where
   pub horizon : IsHorizon k.plan k.horizon
   pub bodies : HaveTaskBodies k.plan.graph k.bodies
   pub rows : HaveTypedRows k.plan.graph k.horizon.until k.sensors
   pub sized : words ≡ word_count (run_of k)
+  pub plain : slots ≡ 0
   pub keyed : key ≡ k

@@ -13,11 +13,13 @@ use Rattle.prl_board.specs.Boards.{BoardView}
 use Rattle.prl_rule.specs.Told.{ClockStopTold, TickTold}
 use Rattle.prl_rule.specs.Known.{run_of}
 
--- its table, its number there, and its view
+-- its table, its number there, and its view; and beside it the clock's `now` and its looks
 pub record ClockSeatView : Type 0 where
   pub table : TableId
   pub id : ℕ
   pub view : View
+  pub now : ℕ
+  pub looks : List ℕ
 
 -- The seat belongs to the board: both are of one table, its view has the constants of the board's run, and this part of the clock.
 pub record IsClockOf (b : BoardView) (s : ClockSeatView) (r : ClockPart) : Type 0 where

@@ -8,5 +8,9 @@ pub mod TaskSeats
 pub mod ClockSeats
 -- what stands at the opening
 pub mod Openings
+-- what is seen of one thread that holds all seats
+pub mod Lones
+-- what a closed board shows
+pub mod Closings
 -- what private functions say to one another
 pub mod code

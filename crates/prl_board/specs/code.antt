@@ -1,2 +1,4 @@
 -- What private functions say to one another.
 pub mod Lows
+pub mod Joining
+pub mod Lent

@@ -27,9 +27,11 @@ ghost use Rattle.prl_base.specs.declared.numbers.TaskNo.{TaskNo as AnyTask};
 ghost use Rattle.prl_rule.specs.declared.views.TaskPart.{TaskPart};
 ghost use Rattle.prl_rule.specs.Known.{known, run_of, values_of};
 ghost use Rattle.prl_rule.specs.Rule.{Agreed, StandsAt, all_parts};
-ghost use Rattle.prl_rule.specs.Steps.{only_part, without_part};
+ghost use Rattle.prl_rule.specs.Steps.{bare, joined, only_part, without_part};
+ghost use Rattle.prl_board.specs.code.Joining.{IsClosing, IsLive, share_part};
+ghost use Rattle.std.specs.Mem.Slots.{slots_items, slots_len, IsFull};
 
-use atomic_table::{Play, Split, Table};
+use atomic_table::{Closed, Join, Play, Split, Table};
 use prl_base::{EdgeNo, TaskNo, Ty};
 use prl_body::Bodies;
 use prl_flow::Sensors;
@@ -38,7 +40,8 @@ use prl_plan::{
 };
 use prl_ranges::horizons_are_small;
 use prl_rule::{
-    About, Gate, Running, View, plan_laws, rule_holds_at_the_opening, run_values_keep_facts,
+    About, Gate, Running, View, bare_seat_may_enter, join_takes_all_parts, plan_laws,
+    rule_holds_at_the_opening, run_values_keep_facts,
 };
 use prl_workers::{Worker, jobs_have_work_laws};
 use std::alloc::{AllocError, Global};
@@ -46,6 +49,9 @@ use std::marker::{Brand, Model, PhantomData};
 
 /// A seat of the table.
 pub(crate) type Seat = atomic_table::Seat<(), View>;
+
+/// The words of a table that no seat steps on any more.
+pub(crate) type Words = Closed<(), Global>;
 
 /// Says what a step tells its seat, by the view before, the word that is found and the view after.
 /// Each call picks it.
@@ -93,6 +99,37 @@ impl<J: Parting> Split<View> for Parts<J> {
     ghost right = { only_part J.task };
 }
 
+/// A look leaves what the seat knows, and tells that a seat with a part is not spent.
+struct Looks;
+
+impl Play<(), View> for Looks {
+    ghost use Rattle.std.specs.Prelude.{◌≡◌};
+    ghost use Rattle.prl_board.specs.code.Joining.{IsLive};
+
+    ghost then = { λ step me found after. (after ≡ me) × IsLive me.0 };
+}
+
+/// A seat enters with no part.
+struct Enters;
+
+impl Play<(), View> for Enters {
+    ghost use Rattle.std.specs.Prelude.{◌≡◌, [], None};
+
+    ghost then = { λ step me found after. (after.0 ≡ record { constants = me.0.constants; tasks = []; clock = None }) × (after.1 ≡ []) };
+}
+
+/// How the parts of two seats come together.
+struct Merges;
+
+impl Join<View> for Merges {
+    ghost use Rattle.prl_rule.specs.Steps.{spent};
+    ghost use Rattle.prl_board.specs.code.Joining.{joined_apart};
+
+    ghost both = { joined_apart };
+
+    ghost spent = { spent };
+}
+
 /// The board of a run: a plan with its bodies and the rows of its sensors, a horizon, a gate, and the
 /// words that all its seats share. Contracts see a `BoardView`.
 #[derive(Drop)]
@@ -118,7 +155,7 @@ impl<'a> Model for Board<'a> {
     ghost view = { λ b. record { known = known b.plan.now b.horizon b.gate b.sensors.now b.bodies.now; table = b.table.shared.table_id } };
 
     ghost invariant = { λ b. IsBoard (known b.plan.now b.horizon b.gate b.sensors.now b.bodies.now)
-        (known b.table.shared.key.plan.now b.table.shared.key.horizon b.table.shared.key.gate b.table.shared.key.sensors.now b.table.shared.key.bodies.now) b.table.shared.table_id.words };
+        (known b.table.shared.key.plan.now b.table.shared.key.horizon b.table.shared.key.gate b.table.shared.key.sensors.now b.table.shared.key.bodies.now) b.table.shared.table_id.words b.table.shared.table_id.slots };
 }
 
 /// So many zeros.
@@ -188,6 +225,48 @@ impl<'a> Board<'a> {
         ensures part { (result.table_id ≡ seat.old.table_id) × (result.me ≡ (only_part task.0 seat.old.me.0, [])) }
     {
         self.split_as::<Brand>(seat, task.0)
+    }
+
+    /// A new seat, which has no part.
+    pub(crate) fn bare(&self) -> Seat
+        ensures { (result.table_id ≡ self.now.table) × (result.me ≡ (bare self.now.known, [])) }
+    {
+        bare_seat_may_enter();
+        let (_, seat) = self.table.shared.load_new_seat::<Enters>(0);
+        seat
+    }
+
+    /// A load that changes nothing.
+    fn look(&self, seat: &mut Seat)
+        requires { seat.old.table_id ≡ self.now.table }
+        ensures same { (seat.new.table_id ≡ seat.old.table_id) × (seat.new.id ≡ seat.old.id) × (seat.new.me ≡ seat.old.me) }
+        ensures live { IsLive seat.old.me.0 }
+    {
+        self.table.shared.load::<Looks>(seat, 0);
+    }
+
+    /// All parts of another seat go to this one, which is not spent. No part stood in both.
+    pub(crate) fn join(&self, seat: &mut Seat, other: Seat)
+        requires tables { (seat.old.table_id ≡ self.now.table) × (other.table_id ≡ self.now.table) }
+        requires slots { other.me.1 ≡ [] }
+        requires known { seat.old.me.0.constants ≡ Some self.now.known }
+        ensures same { (seat.new.table_id ≡ seat.old.table_id) × (seat.new.id ≡ seat.old.id) }
+        ensures view { seat.new.me ≡ (joined seat.old.me.0 other.me.0, seat.old.me.1) }
+        ensures apart { share_part seat.old.me.0 other.me.0 ≡ false }
+    {
+        join_takes_all_parts();
+        self.table.shared.join_seat::<Merges>(seat, other);
+        self.look(seat);
+    }
+
+    /// Takes the words off the table. They agree with what has happened, and so does what this seat knows.
+    pub(crate) fn close(self, seat: Seat) -> Words
+        requires { seat.table_id ≡ self.table }
+        ensures full { IsFull result.words × (slots_len result.words ≡ word_count (run_of self.entry.known)) × (slots_len result.slots ≡ 0) }
+        ensures closing { IsClosing self.entry.known seat.me.0 (slots_items result.words) }
+    {
+        let Board { table, .. } = self;
+        table.close_with(seat)
     }
 
     /// A load by the seat of a task that stands at this place.

@@ -6,13 +6,14 @@ ghost use Rattle.prl_rule.specs.declared.views.ClockPart.{ClockPart};
 ghost use Rattle.prl_rule.specs.declared.views.Constants.{Constants};
 ghost use Rattle.prl_rule.specs.declared.views.Gate.TheVariants as gates;
 ghost use Rattle.prl_rule.specs.Told.{LookTold};
-ghost use Rattle.prl_board.specs.ClockSeats.{AnswersStop, AnswersTick, IsAllSeen, IsBehind, IsClockOf, IsUnseen};
+ghost use Rattle.prl_board.specs.ClockSeats.{AnswersStop, AnswersTick, IsAllSeen, IsBehind, IsClockData, IsClockOf, IsUnseen};
 ghost use Rattle.prl_board.specs.Openings.{IsFirstClock};
 ghost use Rattle.prl_rule.specs.Known.{run_of};
 
 use crate::board::{Board, Seat};
 use prl_base::TaskNo;
 use std::marker::Model;
+use std::mem;
 
 /// What a tick answers.
 #[derive(Clone, Copy, Debug, PartialEq, Eq)]
@@ -45,7 +46,7 @@ impl Model for ClockSeat {
 
     ghost coded = { Prim.hlevel (codes, code.the_row.coded) };
 
-    ghost view = { λ s. record { table = s.seat.table_id; id = s.seat.id; view = s.seat.me.0 } };
+    ghost view = { λ s. record { table = s.seat.table_id; id = s.seat.id; view = s.seat.me.0; now = s.now; looks = s.looks.items } };
 
     ghost invariant = { λ s. (s.seat.me.1 ≡ []) × IsClockData s.seat.me.0 s.now s.looks.items };
 }
@@ -62,6 +63,18 @@ impl ClockSeat {
             now: 0,
             looks,
         }
+    }
+
+    /// Gives its seat of the table away for another one of the same run, which says the same of the clock.
+    pub(crate) fn exchange(&mut self, other: &mut Seat)
+        requires slots { other.old.me.1 ≡ [] }
+        requires run { (k : Constants) → other.old.me.0.constants ≡ Some k → self.old.view.constants ≡ Some k }
+        requires same { (r : ClockPart) → other.old.me.0.clock ≡ Some r → (r.now ≡ self.old.now) × (r.looks ≡ self.old.looks) }
+        ensures given { (other.new.table_id ≡ self.old.table) × (other.new.id ≡ self.old.id) × (other.new.me ≡ (self.old.view, [])) }
+        ensures data { IsClockData self.old.view self.old.now self.old.looks }
+        ensures taken { self.new ≡ record { table = other.old.table_id; id = other.old.id; view = other.old.me.0; now = self.old.now; looks = self.old.looks } }
+    {
+        mem::swap(&mut self.seat, other);
     }
 
     /// The clock's `now`.

@@ -14,12 +14,14 @@ ghost use Rattle.prl_board.specs.Openings.{HasFirstPart, IsFirstSeat};
 ghost use Rattle.prl_board.specs.TaskSeats.{MayRaise, TellsStop};
 ghost use Rattle.prl_rule.specs.Known.{run_of, values_of};
 ghost use Rattle.prl_rule.specs.RunValues.{half_of};
+ghost use Rattle.prl_board.specs.code.Joining.{reseated};
 
 use crate::board::{Board, Seat};
 use prl_base::TaskNo;
 use prl_plan::{Action, SlotNo};
 use prl_rule::{pack, unpack};
 use std::marker::Model;
+use std::mem;
 
 /// What a release answers.
 #[derive(Clone, Copy, Debug, PartialEq, Eq)]
@@ -115,6 +117,17 @@ impl JobSeat {
             Follows k self.entry.now.view self.entry.now.task.0 self.entry.now.job self.entry.now.place self.entry.now.stage }
     {
         let _ = &self.seat;
+    }
+
+    /// Gives its seat of the table away for another one, by which the job stands where it stood.
+    pub(crate) fn exchange(&mut self, other: &mut Seat)
+        requires slots { other.old.me.1 ≡ [] }
+        requires stands { (k : Constants) → other.old.me.0.constants ≡ Some k → HasPartOf self.old.task.0 other.old.me.0 →
+            Follows k other.old.me.0 self.old.task.0 self.old.job self.old.place self.old.stage }
+        ensures given { (other.new.table_id ≡ self.old.table) × (other.new.id ≡ self.old.id) × (other.new.me ≡ (self.old.view, [])) }
+        ensures taken { self.new ≡ reseated other.old.table_id other.old.id other.old.me.0 self.old }
+    {
+        mem::swap(&mut self.seat, other);
     }
 
     /// The task.

@@ -4,20 +4,25 @@
 
 mod board;
 mod clocks;
+mod closing;
 mod jobs;
+mod lone;
 mod openings;
 mod seats;
 
 pub use board::Board;
 pub use clocks::{ClockSeat, Ticked};
+pub use closing::{Closed, close};
 pub use jobs::{Release, Stage};
+pub use lone::{Lone, gather};
 pub use openings::open_board;
 pub use prl_rule::{
     About, ClockPart, Constants, Gate, HeldValues, KeptHalf, KeptStop, Running, Standing, TaskPart,
-    View, gated_read_is_never_overrun, halves, halves_are_exact, join_takes_all_parts,
-    load_of_done_is_kept, load_of_half_is_a_read, load_of_now_opens_a_job, load_of_stop_is_kept,
-    pack, parts_agree_with_one_state, raise_is_no_event, rule_holds_at_the_opening,
-    run_values_keep_facts, spent_seat_may_enter, split_gives_one_part, store_of_done_is_an_end,
-    store_of_half_is_a_write, store_of_now_is_a_tick, unpack, whole, words_are_exact,
+    View, bare_seat_may_enter, gated_read_is_never_overrun, halves, halves_are_exact,
+    join_takes_all_parts, load_of_done_is_kept, load_of_half_is_a_read, load_of_now_opens_a_job,
+    load_of_stop_is_kept, pack, parts_agree_with_one_state, raise_is_no_event,
+    rule_holds_at_the_opening, run_values_keep_facts, spent_seat_may_enter, split_gives_one_part,
+    store_of_done_is_an_end, store_of_half_is_a_write, store_of_now_is_a_tick, unpack, whole,
+    words_are_exact,
 };
 pub use seats::{Got, Half, Place, TaskSeat, Wrote};

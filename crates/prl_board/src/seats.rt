@@ -1,10 +1,12 @@
 //! The seats of tasks: through them callers' own threads run the jobs of a plan.
 
 ghost use Rattle.std.specs.Prelude.{◌≡◌, ◌%◌, ◌<◌, [], IfOk, MatchOption, Some};
+ghost use Rattle.std.specs.Bool.{OnFalse, OnTrue};
 ghost use Rattle.prl_plan.specs.declared.events.Action.TheVariants as actions;
 ghost use Rattle.prl_board.specs.declared.jobs.Stage.TheVariants as stages;
 ghost use Rattle.prl_rule.specs.declared.views.Constants.{Constants};
 ghost use Rattle.prl_workers.specs.Workers.{HasBegun};
+ghost use Rattle.prl_board.specs.code.Joining.{reseated};
 ghost use Rattle.prl_board.specs.code.Lows.{Gives, MayGive};
 ghost use Rattle.prl_board.specs.JobSeats.{AnswersRelease, Ends, Follows, HasPartOf, IsSameSeat, IsSeatOf, StaysAt};
 ghost use Rattle.prl_board.specs.Openings.{HasFirstPart, IsFirstSeat};
@@ -85,7 +87,7 @@ pub struct TaskSeat {
 impl Model for TaskSeat {
     ghost use Rattle.std.specs.Prelude.{◌≡◌, Some};
     ghost use Rattle.prl_rule.specs.declared.views.Constants.{Constants};
-    ghost use Rattle.prl_board.specs.JobSeats.{HasPartOf, JobSeatView};
+    ghost use Rattle.prl_board.specs.JobSeats.{JobSeatView};
     ghost use Rattle.prl_board.specs.code.Lows.{IsLow, Works};
     ghost use Rattle.prl_body.specs.contracts.codes.Code as code;
     ghost use Rattle.std.specs.Coded.{codes};
@@ -96,7 +98,7 @@ impl Model for TaskSeat {
 
     ghost view = { λ s. s.job };
 
-    ghost invariant = { λ s. (k : Constants) → s.job.view.constants ≡ Some k → HasPartOf s.job.task.0 s.job.view → IsLow k s.job.stage s.low × Works k s.job s.worker };
+    ghost invariant = { λ s. (k : Constants) → s.job.view.constants ≡ Some k → IsLow k s.job.stage s.low × Works k s.job s.worker };
 }
 
 /// Which half of its cell a slot is.
@@ -166,6 +168,18 @@ impl TaskSeat {
             low: 0,
             worker,
         })
+    }
+
+    /// Gives its seat of the table away for another one of the same run, by which the job stands where it stood.
+    pub(crate) fn exchange(&mut self, other: &mut Seat)
+        requires slots { other.old.me.1 ≡ [] }
+        requires run { (k : Constants) → other.old.me.0.constants ≡ Some k → self.old.view.constants ≡ Some k }
+        requires stands { (k : Constants) → other.old.me.0.constants ≡ Some k → HasPartOf self.old.task.0 other.old.me.0 →
+            Follows k other.old.me.0 self.old.task.0 self.old.job self.old.place self.old.stage }
+        ensures given { (other.new.table_id ≡ self.old.table) × (other.new.id ≡ self.old.id) × (other.new.me ≡ (self.old.view, [])) }
+        ensures taken { self.new ≡ reseated other.old.table_id other.old.id other.old.me.0 self.old }
+    {
+        self.job.exchange(other);
     }
 
     /// The task.
@@ -363,10 +377,22 @@ impl TaskSeat {
     /// The machine of a node task's body, none where the task is no node task. It has made one step for each ended job, and
     /// one more where the body has run for the open job.
     pub fn machine(&self) -> Option<&Machine>
-        ensures { (k : Constants) → self.entry.now.view.constants ≡ Some k → HasPartOf self.entry.now.task.0 self.entry.now.view →
+        ensures { (k : Constants) → self.entry.now.view.constants ≡ Some k →
             MatchOption result (IsNoNode k self.entry.now.task.0) (λ machine. IsMachineOf k self.entry.now machine.now) }
     {
         self.worker.machine()
+    }
+
+    /// Whether no horizon job of the task is left.
+    pub(crate) fn is_over(&self) -> bool
+        ensures yes { OnTrue result (self.entry.now.stage ≡ stages.Over) }
+        ensures no { OnFalse result (self.entry.now.stage ≡ stages.Over → ⊥) }
+    {
+        match self.job.stage() {
+            Stage::Over => true,
+            Stage::Idle => false,
+            Stage::At(_) => false,
+        }
     }
 
     /// Raises the stop: the board's threads may learn that a read of this task was overrun. Takes no memory.

@@ -13,7 +13,7 @@ use Rattle.prl_rule.specs.RunValues.{RunValues}
 use Rattle.prl_rule.specs.Agreement.{Witness, AgreesTask, AgreesView}
 use Rattle.prl_rule.specs.Rule.{AgreesWith, reached}
 use Rattle.prl_rule.proofs.Parts.{part_there}
-use Rattle.prl_rule.specs.Steps.{without_part, only_part, first_of, merged, joined, spent, given_to, moved_owner, taken_in}
+use Rattle.prl_rule.specs.Steps.{without_part, only_part, first_of, merged, joined, spent, bare, given_to, moved_owner, taken_in}
 
 -- lists that grow by one at their end
 at_grown : {A : Type 0} (l : List A) (a b : A) (j : ℕ) → get_elem? (l ++ a ∷ []) j ≡ some b → (get_elem? l j ≡ some b) ⊎ ((j ≡ length l) × (a ≡ b))
@@ -201,6 +201,28 @@ module _ (k : Constants) (c : RunConstants) (v : RunValues) where
         (λ old. a.each_view j y old)
         (λ new. subst (AgreesView k c v w (reached c es) j) new.1 (spent_agrees w (reached c es) j))
         (at_grown views spent y j e);
+  }
+
+  bare_agrees : (w : Witness) (s : ExecState) (id : ℕ) → AgreesView k c v w s id (bare k)
+  bare_agrees w s id = record {
+    known = λ other e. let z : Some k ≡ Some other = e in cc z;
+    task = λ i p e. absurd (some-ne-none (Some p) (sym e));
+    clock = λ r e. let z : None ≡ Some r = e in absurd (cc z);
+  }
+
+  -- and so does one that has no part
+  pub bare_keeps : (w : Witness) (es : List Event) (words : List ℕ) (views : List View) → AgreesWith k c v w es words views → AgreesWith k c v w es words (views ++ bare k ∷ [])
+  bare_keeps w es words views a = record {
+    facts = a.facts;
+    values = a.values;
+    free = a.free;
+    gated = a.gated;
+    calm = a.calm;
+    shows = a.shows;
+    each_view = λ j y e. ⊎_elim
+        (λ old. a.each_view j y old)
+        (λ new. subst (AgreesView k c v w (reached c es) j) new.1 (bare_agrees w (reached c es) j))
+        (at_grown views (bare k) y j e);
   }
 
   -- no part is lost in a join

@@ -6,6 +6,7 @@ use Rattle.prl_plan.specs.declared.events.Action.TheVariants as actions
 use Rattle.prl_plan.specs.declared.events.Event.{Event}
 use Rattle.prl_plan.specs.declared.events.Event.TheVariants as events
 use Rattle.prl_plan.specs.Runs.{RunConstants, action_at}
+use Rattle.prl_rule.specs.declared.views.Constants.{Constants}
 use Rattle.prl_rule.specs.declared.views.Standing.{Standing}
 use Rattle.prl_rule.specs.declared.views.HeldValues.{HeldValues}
 use Rattle.prl_rule.specs.declared.views.TaskPart.{TaskPart}
@@ -175,6 +176,10 @@ joined view other = record { constants = view.constants; tasks = merged view.tas
 
 abbrev pub spent : View
 spent = record { constants = None; tasks = []; clock = None }
+
+-- a view that has no part, and is not spent
+abbrev pub bare : Constants → View
+bare k = record { constants = Some k; tasks = []; clock = None }
 
 -- the witness after task i has raised
 abbrev pub raised_by : ℕ → Witness → Witness

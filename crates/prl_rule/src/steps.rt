@@ -23,7 +23,7 @@ ghost use Rattle.prl_rule.specs.RunValues.{RunValues, HasValueFacts, half_of, wo
 ghost use Rattle.prl_rule.specs.Agreement.{now_word, done_word, slot_word, stop_word, word_count, AgreesClock, AgreesTask, IsOverrun, Witness};
 ghost use Rattle.prl_rule.specs.Known.{run_of, values_of};
 ghost use Rattle.prl_rule.specs.Rule.{Agreed, AgreesWith, HasClock, HasPart, StandsAt, all_parts, first_view, first_witness, reached};
-ghost use Rattle.prl_rule.specs.Steps.{HasRead, acts, caught_up, clock_stop_loaded, done_counted, given_to, half_loaded, half_stored, joined, looked, now_loaded, only_part, part_raised, raised_by, spent, stop_loaded, taken_in, ticked, with_clock, with_part, without_part};
+ghost use Rattle.prl_rule.specs.Steps.{HasRead, acts, bare, caught_up, clock_stop_loaded, done_counted, given_to, half_loaded, half_stored, joined, looked, now_loaded, only_part, part_raised, raised_by, spent, stop_loaded, taken_in, ticked, with_clock, with_part, without_part};
 
 use crate::laws::plan_laws;
 
@@ -245,6 +245,13 @@ pub fn spent_seat_may_enter()
     ensures { (k : Constants) (c : RunConstants) (v : RunValues) (w : Witness) (es : List Event)
         (words : List ℕ) (views : List View) → AgreesWith k c v w es words views →
         AgreesWith k c v w es words (views ++ spent ∷ []) }
+{}
+
+/// A seat that has the constants of the run and no part enters by a load, which is no event.
+pub fn bare_seat_may_enter()
+    ensures { (k : Constants) (c : RunConstants) (v : RunValues) (w : Witness) (es : List Event)
+        (words : List ℕ) (views : List View) → AgreesWith k c v w es words views →
+        AgreesWith k c v w es words (views ++ bare k ∷ []) }
 {}
 
 /// Words, views and the state of the list of events agree: no part stands in two views, each view

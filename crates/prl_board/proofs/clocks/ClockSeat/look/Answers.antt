@@ -19,6 +19,6 @@ returns-clause-seat c =
     let told = subst (λ (view : View). LookTold c.args.board.now.known c.args.task.0 is.0 view c.load_done-ended.result c.load_done-ended.new.seat.me.0) same
     (c.load_done-ended.ensures.told is.0 (ap (λ (view : View). view.clock) same ∙ is.1.part)) in (
       looked c.args.task.0 c.load_done-ended.result is.0,
-      clock_after c.args.board.now c.args.self.now (record { table = c.load_done-ended.new.seat.table_id; id = c.load_done-ended.new.seat.id; view = c.load_done-ended.new.seat.me.0 })
+      clock_after c.args.board.now c.args.self.now _
           is.0 (looked c.args.task.0 c.load_done-ended.result is.0) is.1 (c.load_done-ended.ensures.same.0 ∙ ap (λ (s : ClockSeatView). s.table) c.self.view_is) told.view,
     )

@@ -13,6 +13,6 @@ returns-clause-seat c =
     let told = subst (λ (view : View). ClockStopTold c.args.board.now.known is.0 view c.load_clock_stop-word.result c.load_clock_stop-word.new.seat.me.0) same
     (c.load_clock_stop-word.ensures.told is.0 (ap (λ (view : View). view.clock) same ∙ is.1.part)) in (
       clock_stop_loaded c.load_clock_stop-word.result is.0,
-      clock_after c.args.board.now c.args.self.now (record { table = c.load_clock_stop-word.new.seat.table_id; id = c.load_clock_stop-word.new.seat.id; view = c.load_clock_stop-word.new.seat.me.0 })
+      clock_after c.args.board.now c.args.self.now _
           is.0 (clock_stop_loaded c.load_clock_stop-word.result is.0) is.1 (c.load_clock_stop-word.ensures.same.0 ∙ ap (λ (s : ClockSeatView). s.table) c.self.view_is) told.view,
     )

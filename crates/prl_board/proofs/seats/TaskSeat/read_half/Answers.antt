@@ -21,7 +21,7 @@ pub invariant_of-self : goal.invariant_of-self
 invariant_of-self c =
     let known : c.self.inside.job.view.constants ≡ Some c.args.board.now.known = ap (λ (v : JobSeatView). v.view.constants) c.self.view_is ∙ c.requires.seat.known in
     let part : HasPartOf c.self.inside.job.task.0 c.self.inside.job.view = subst (λ (v : JobSeatView). HasPartOf v.task.0 v.view) (sym c.self.view_is) c.requires.seat.part in
-    let kept : Keeps c.args.board.now.known c.self.inside.job c.self.inside.low c.self.inside.worker = c.self.invariant c.args.board.now.known known part in
+    let kept : Keeps c.args.board.now.known c.self.inside.job c.self.inside.low c.self.inside.worker = c.self.invariant c.args.board.now.known known in
     let follows : Follows c.args.board.now.known c.self.inside.job.view c.self.inside.job.task.0 c.self.inside.job.job c.self.inside.job.place c.self.inside.job.stage = c.stands.ensures c.args.board.now.known known part in
     let stage : c.self.inside.job.stage ≡ stages.At (actions.Read c.args.port c.args.edge c.args.instance c.args.slot) = ap (λ (v : JobSeatView). v.stage) c.self.view_is ∙ c.requires.reads in
     let reads : Follows c.args.board.now.known c.self.inside.job.view c.self.inside.job.task.0 c.self.inside.job.job c.self.inside.job.place (stages.At (actions.Read c.args.port c.args.edge c.args.instance c.args.slot)) =
@@ -30,14 +30,14 @@ invariant_of-self c =
     let told : LoadsHalf c.args.board.now.known c.args.edge c.args.instance c.args.slot c.self.inside.job c.load-word.new.self c.load-word.result = c.load-word.ensures.told c.args.port c.args.edge stage in
     let wanted : c.tag_read-wanted.result ≡ c.args.instance + 1 = c.tag_read-wanted.ensures in
     let found : c.unpack-found.result.0 ≡ c.load-word.result / 2 ^ 32 = c.unpack-found.ensures.0 in
-    known_once c.load-word.new.self.view c.args.board.now.known (λ k. HasPartOf c.load-word.new.self.task.0 c.load-word.new.self.view → Keeps k c.load-word.new.self c.self.inside.low c.self.inside.worker) c.load-word.ensures.seat.known (λ has. stays_kept c.args.board.now.known c.self.inside.job c.load-word.new.self c.self.inside.low c.self.inside.worker c.load-word.ensures.same
+    known_once c.load-word.new.self.view c.args.board.now.known (λ k. Keeps k c.load-word.new.self c.self.inside.low c.self.inside.worker) c.load-word.ensures.seat.known (stays_kept c.args.board.now.known c.self.inside.job c.load-word.new.self c.self.inside.low c.self.inside.worker c.load-word.ensures.same
     (told.missed (λ tag. c.if-found-wanted.true (found ∙ tag ∙ sym wanted))) kept)
 
 pub returns-then-found-wanted-clause-answer : goal.returns-then-found-wanted-clause-answer
 returns-then-found-wanted-clause-answer c =
     let known : c.self.inside.job.view.constants ≡ Some c.args.board.now.known = ap (λ (v : JobSeatView). v.view.constants) c.self.view_is ∙ c.requires.seat.known in
     let part : HasPartOf c.self.inside.job.task.0 c.self.inside.job.view = subst (λ (v : JobSeatView). HasPartOf v.task.0 v.view) (sym c.self.view_is) c.requires.seat.part in
-    let kept : Keeps c.args.board.now.known c.self.inside.job c.self.inside.low c.self.inside.worker = c.self.invariant c.args.board.now.known known part in
+    let kept : Keeps c.args.board.now.known c.self.inside.job c.self.inside.low c.self.inside.worker = c.self.invariant c.args.board.now.known known in
     let follows : Follows c.args.board.now.known c.self.inside.job.view c.self.inside.job.task.0 c.self.inside.job.job c.self.inside.job.place c.self.inside.job.stage = c.stands.ensures c.args.board.now.known known part in
     let stage : c.self.inside.job.stage ≡ stages.At (actions.Read c.args.port c.args.edge c.args.instance c.args.slot) = ap (λ (v : JobSeatView). v.stage) c.self.view_is ∙ c.requires.reads in
     let reads : Follows c.args.board.now.known c.self.inside.job.view c.self.inside.job.task.0 c.self.inside.job.job c.self.inside.job.place (stages.At (actions.Read c.args.port c.args.edge c.args.instance c.args.slot)) =
@@ -59,7 +59,7 @@ pub invariant_of-self-then-is_low : goal.invariant_of-self-then-is_low
 invariant_of-self-then-is_low c =
     let known : c.self.inside.job.view.constants ≡ Some c.args.board.now.known = ap (λ (v : JobSeatView). v.view.constants) c.self.view_is ∙ c.requires.seat.known in
     let part : HasPartOf c.self.inside.job.task.0 c.self.inside.job.view = subst (λ (v : JobSeatView). HasPartOf v.task.0 v.view) (sym c.self.view_is) c.requires.seat.part in
-    let kept : Keeps c.args.board.now.known c.self.inside.job c.self.inside.low c.self.inside.worker = c.self.invariant c.args.board.now.known known part in
+    let kept : Keeps c.args.board.now.known c.self.inside.job c.self.inside.low c.self.inside.worker = c.self.invariant c.args.board.now.known known in
     let follows : Follows c.args.board.now.known c.self.inside.job.view c.self.inside.job.task.0 c.self.inside.job.job c.self.inside.job.place c.self.inside.job.stage = c.stands.ensures c.args.board.now.known known part in
     let stage : c.self.inside.job.stage ≡ stages.At (actions.Read c.args.port c.args.edge c.args.instance c.args.slot) = ap (λ (v : JobSeatView). v.stage) c.self.view_is ∙ c.requires.reads in
     let reads : Follows c.args.board.now.known c.self.inside.job.view c.self.inside.job.task.0 c.self.inside.job.job c.self.inside.job.place (stages.At (actions.Read c.args.port c.args.edge c.args.instance c.args.slot)) =
@@ -72,7 +72,7 @@ invariant_of-self-then-is_low c =
     let tag : c.load-word.result / 2 ^ 32 ≡ c.args.instance + 1 = sym found ∙ same ∙ wanted in
     let goes : GoesOn c.args.board.now.known c.self.inside.job c.load-word.new.self = told.found tag in
     let half : c.unpack-found.result.1 ≡ half_of (values_of c.args.board.now.known) c.args.slot.0 c.args.instance = c.unpack-found.ensures.1 ∙ (told.told.half tag).0 in
-    known_once c.load-word.new.self.view c.args.board.now.known (λ k. HasPartOf c.load-word.new.self.task.0 c.load-word.new.self.view → Keeps k c.load-word.new.self c.unpack-found.result.1 c.self.inside.worker) c.load-word.ensures.seat.known (λ has. goes_kept c.args.board.now.known c.self.inside.job c.load-word.new.self c.unpack-found.result.1 c.self.inside.worker c.load-word.ensures.same goes
+    known_once c.load-word.new.self.view c.args.board.now.known (λ k. Keeps k c.load-word.new.self c.unpack-found.result.1 c.self.inside.worker) c.load-word.ensures.seat.known (goes_kept c.args.board.now.known c.self.inside.job c.load-word.new.self c.unpack-found.result.1 c.self.inside.worker c.load-word.ensures.same goes
     (low_after_read c.args.board.now.known c.keeps_values.ensures.facts c.self.inside.job.task.0 c.self.inside.job.job job c.unpack-found.result.1 c.self.inside.job.place c.args.port c.args.edge c.args.instance c.args.slot reads.shown.2 (λ even. half))
     (low_taken c.args.board.now.known c.keeps_values.ensures.work c.keeps_values.ensures.values c.self.inside.job.task.0 c.self.inside.job.job c.self.inside.job.place job c.self.inside.worker kept.1 c.args.port c.args.edge c.args.instance c.args.slot reads.shown.2 c.if-is_low.ensures.yes))
 
@@ -80,7 +80,7 @@ pub returns-then-is_low-clause-answer : goal.returns-then-is_low-clause-answer
 returns-then-is_low-clause-answer c =
     let known : c.self.inside.job.view.constants ≡ Some c.args.board.now.known = ap (λ (v : JobSeatView). v.view.constants) c.self.view_is ∙ c.requires.seat.known in
     let part : HasPartOf c.self.inside.job.task.0 c.self.inside.job.view = subst (λ (v : JobSeatView). HasPartOf v.task.0 v.view) (sym c.self.view_is) c.requires.seat.part in
-    let kept : Keeps c.args.board.now.known c.self.inside.job c.self.inside.low c.self.inside.worker = c.self.invariant c.args.board.now.known known part in
+    let kept : Keeps c.args.board.now.known c.self.inside.job c.self.inside.low c.self.inside.worker = c.self.invariant c.args.board.now.known known in
     let follows : Follows c.args.board.now.known c.self.inside.job.view c.self.inside.job.task.0 c.self.inside.job.job c.self.inside.job.place c.self.inside.job.stage = c.stands.ensures c.args.board.now.known known part in
     let stage : c.self.inside.job.stage ≡ stages.At (actions.Read c.args.port c.args.edge c.args.instance c.args.slot) = ap (λ (v : JobSeatView). v.stage) c.self.view_is ∙ c.requires.reads in
     let reads : Follows c.args.board.now.known c.self.inside.job.view c.self.inside.job.task.0 c.self.inside.job.job c.self.inside.job.place (stages.At (actions.Read c.args.port c.args.edge c.args.instance c.args.slot)) =
@@ -103,7 +103,7 @@ pub whole-value-requires : goal.whole-value-requires
 whole-value-requires c =
     let known : c.self.inside.job.view.constants ≡ Some c.args.board.now.known = ap (λ (v : JobSeatView). v.view.constants) c.self.view_is ∙ c.requires.seat.known in
     let part : HasPartOf c.self.inside.job.task.0 c.self.inside.job.view = subst (λ (v : JobSeatView). HasPartOf v.task.0 v.view) (sym c.self.view_is) c.requires.seat.part in
-    let kept : Keeps c.args.board.now.known c.self.inside.job c.self.inside.low c.self.inside.worker = c.self.invariant c.args.board.now.known known part in
+    let kept : Keeps c.args.board.now.known c.self.inside.job c.self.inside.low c.self.inside.worker = c.self.invariant c.args.board.now.known known in
     let follows : Follows c.args.board.now.known c.self.inside.job.view c.self.inside.job.task.0 c.self.inside.job.job c.self.inside.job.place c.self.inside.job.stage = c.stands.ensures c.args.board.now.known known part in
     let stage : c.self.inside.job.stage ≡ stages.At (actions.Read c.args.port c.args.edge c.args.instance c.args.slot) = ap (λ (v : JobSeatView). v.stage) c.self.view_is ∙ c.requires.reads in
     let reads : Follows c.args.board.now.known c.self.inside.job.view c.self.inside.job.task.0 c.self.inside.job.job c.self.inside.job.place (stages.At (actions.Read c.args.port c.args.edge c.args.instance c.args.slot)) =
@@ -127,7 +127,7 @@ pub take-requires-clause-port : goal.take-requires-clause-port
 take-requires-clause-port c =
     let known : c.self.inside.job.view.constants ≡ Some c.args.board.now.known = ap (λ (v : JobSeatView). v.view.constants) c.self.view_is ∙ c.requires.seat.known in
     let part : HasPartOf c.self.inside.job.task.0 c.self.inside.job.view = subst (λ (v : JobSeatView). HasPartOf v.task.0 v.view) (sym c.self.view_is) c.requires.seat.part in
-    let kept : Keeps c.args.board.now.known c.self.inside.job c.self.inside.low c.self.inside.worker = c.self.invariant c.args.board.now.known known part in
+    let kept : Keeps c.args.board.now.known c.self.inside.job c.self.inside.low c.self.inside.worker = c.self.invariant c.args.board.now.known known in
     let follows : Follows c.args.board.now.known c.self.inside.job.view c.self.inside.job.task.0 c.self.inside.job.job c.self.inside.job.place c.self.inside.job.stage = c.stands.ensures c.args.board.now.known known part in
     let stage : c.self.inside.job.stage ≡ stages.At (actions.Read c.args.port c.args.edge c.args.instance c.args.slot) = ap (λ (v : JobSeatView). v.stage) c.self.view_is ∙ c.requires.reads in
     let reads : Follows c.args.board.now.known c.self.inside.job.view c.self.inside.job.task.0 c.self.inside.job.job c.self.inside.job.place (stages.At (actions.Read c.args.port c.args.edge c.args.instance c.args.slot)) =
@@ -151,7 +151,7 @@ pub take-requires-clause-ready : goal.take-requires-clause-ready
 take-requires-clause-ready c =
     let known : c.self.inside.job.view.constants ≡ Some c.args.board.now.known = ap (λ (v : JobSeatView). v.view.constants) c.self.view_is ∙ c.requires.seat.known in
     let part : HasPartOf c.self.inside.job.task.0 c.self.inside.job.view = subst (λ (v : JobSeatView). HasPartOf v.task.0 v.view) (sym c.self.view_is) c.requires.seat.part in
-    let kept : Keeps c.args.board.now.known c.self.inside.job c.self.inside.low c.self.inside.worker = c.self.invariant c.args.board.now.known known part in
+    let kept : Keeps c.args.board.now.known c.self.inside.job c.self.inside.low c.self.inside.worker = c.self.invariant c.args.board.now.known known in
     let follows : Follows c.args.board.now.known c.self.inside.job.view c.self.inside.job.task.0 c.self.inside.job.job c.self.inside.job.place c.self.inside.job.stage = c.stands.ensures c.args.board.now.known known part in
     let stage : c.self.inside.job.stage ≡ stages.At (actions.Read c.args.port c.args.edge c.args.instance c.args.slot) = ap (λ (v : JobSeatView). v.stage) c.self.view_is ∙ c.requires.reads in
     let reads : Follows c.args.board.now.known c.self.inside.job.view c.self.inside.job.task.0 c.self.inside.job.job c.self.inside.job.place (stages.At (actions.Read c.args.port c.args.edge c.args.instance c.args.slot)) =
@@ -177,7 +177,7 @@ pub invariant_of-self-2 : goal.invariant_of-self-2
 invariant_of-self-2 c =
     let known : c.self.inside.job.view.constants ≡ Some c.args.board.now.known = ap (λ (v : JobSeatView). v.view.constants) c.self.view_is ∙ c.requires.seat.known in
     let part : HasPartOf c.self.inside.job.task.0 c.self.inside.job.view = subst (λ (v : JobSeatView). HasPartOf v.task.0 v.view) (sym c.self.view_is) c.requires.seat.part in
-    let kept : Keeps c.args.board.now.known c.self.inside.job c.self.inside.low c.self.inside.worker = c.self.invariant c.args.board.now.known known part in
+    let kept : Keeps c.args.board.now.known c.self.inside.job c.self.inside.low c.self.inside.worker = c.self.invariant c.args.board.now.known known in
     let follows : Follows c.args.board.now.known c.self.inside.job.view c.self.inside.job.task.0 c.self.inside.job.job c.self.inside.job.place c.self.inside.job.stage = c.stands.ensures c.args.board.now.known known part in
     let stage : c.self.inside.job.stage ≡ stages.At (actions.Read c.args.port c.args.edge c.args.instance c.args.slot) = ap (λ (v : JobSeatView). v.stage) c.self.view_is ∙ c.requires.reads in
     let reads : Follows c.args.board.now.known c.self.inside.job.view c.self.inside.job.task.0 c.self.inside.job.job c.self.inside.job.place (stages.At (actions.Read c.args.port c.args.edge c.args.instance c.args.slot)) =
@@ -197,7 +197,7 @@ invariant_of-self-2 c =
     c.args.port c.args.edge c.args.instance c.args.slot job reads.shown.2 odd c.self.inside.low c.unpack-found.result.1 low_kept half (told.told.half tag).1 in
     let value : c.whole-value.result ≡ (values_of c.args.board.now.known).stored (c.args.slot.0 / 2) c.args.instance =
     c.whole-value.ensures ∙ ap (λ t. value_of_halves t c.self.inside.low c.unpack-found.result.1) c.type_of.ensures ∙ both.1 in
-    known_once c.load-word.new.self.view c.args.board.now.known (λ k. HasPartOf c.load-word.new.self.task.0 c.load-word.new.self.view → Keeps k c.load-word.new.self c.self.inside.low c.take.new.self) c.load-word.ensures.seat.known (λ has. goes_kept c.args.board.now.known c.self.inside.job c.load-word.new.self c.self.inside.low c.take.new.self c.load-word.ensures.same goes
+    known_once c.load-word.new.self.view c.args.board.now.known (λ k. Keeps k c.load-word.new.self c.self.inside.low c.take.new.self) c.load-word.ensures.seat.known (goes_kept c.args.board.now.known c.self.inside.job c.load-word.new.self c.self.inside.low c.take.new.self c.load-word.ensures.same goes
     (low_after_read c.args.board.now.known c.keeps_values.ensures.facts c.self.inside.job.task.0 c.self.inside.job.job job c.self.inside.low c.self.inside.job.place c.args.port c.args.edge c.args.instance c.args.slot reads.shown.2 (λ even. absurd (omega (arith, even, odd))))
     (high_taken c.args.board.now.known c.keeps_values.ensures.work c.keeps_values.ensures.values c.self.inside.job.task.0 c.self.inside.job.job c.self.inside.job.place job c.self.inside.worker kept.1 c.args.port c.args.edge c.args.instance c.args.slot reads.shown.2 odd c.take.new.self
     (taken_with c.args.board.now.known.sensors c.sensors.result.now c.args.board.now.known.bodies c.bodies.result.now c.self.inside.job.job c.job.result c.sensors.ensures c.bodies.ensures (c.job.ensures ∙ goes.job) c.args.port ((values_of c.args.board.now.known).stored (c.args.slot.0 / 2) c.args.instance) c.whole-value.result value c.self.inside.worker c.take.new.self c.take.ensures)))
@@ -206,7 +206,7 @@ pub returns-clause-answer : goal.returns-clause-answer
 returns-clause-answer c =
     let known : c.self.inside.job.view.constants ≡ Some c.args.board.now.known = ap (λ (v : JobSeatView). v.view.constants) c.self.view_is ∙ c.requires.seat.known in
     let part : HasPartOf c.self.inside.job.task.0 c.self.inside.job.view = subst (λ (v : JobSeatView). HasPartOf v.task.0 v.view) (sym c.self.view_is) c.requires.seat.part in
-    let kept : Keeps c.args.board.now.known c.self.inside.job c.self.inside.low c.self.inside.worker = c.self.invariant c.args.board.now.known known part in
+    let kept : Keeps c.args.board.now.known c.self.inside.job c.self.inside.low c.self.inside.worker = c.self.invariant c.args.board.now.known known in
     let follows : Follows c.args.board.now.known c.self.inside.job.view c.self.inside.job.task.0 c.self.inside.job.job c.self.inside.job.place c.self.inside.job.stage = c.stands.ensures c.args.board.now.known known part in
     let stage : c.self.inside.job.stage ≡ stages.At (actions.Read c.args.port c.args.edge c.args.instance c.args.slot) = ap (λ (v : JobSeatView). v.stage) c.self.view_is ∙ c.requires.reads in
     let reads : Follows c.args.board.now.known c.self.inside.job.view c.self.inside.job.task.0 c.self.inside.job.job c.self.inside.job.place (stages.At (actions.Read c.args.port c.args.edge c.args.instance c.args.slot)) =

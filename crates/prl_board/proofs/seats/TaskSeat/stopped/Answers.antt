@@ -8,5 +8,5 @@ pub invariant_of-self : goal.invariant_of-self
 invariant_of-self c =
     let known : c.self.inside.job.view.constants ≡ Some c.args.board.now.known = ap (λ (v : JobSeatView). v.view.constants) c.self.view_is ∙ c.requires.seat.known in
     let part : HasPartOf c.self.inside.job.task.0 c.self.inside.job.view = subst (λ (v : JobSeatView). HasPartOf v.task.0 v.view) (sym c.self.view_is) c.requires.seat.part in
-    let kept : Keeps c.args.board.now.known c.self.inside.job c.self.inside.low c.self.inside.worker = c.self.invariant c.args.board.now.known known part in
-    known_once c.stopped.new.self.view c.args.board.now.known (λ k. HasPartOf c.stopped.new.self.task.0 c.stopped.new.self.view → Keeps k c.stopped.new.self c.self.inside.low c.self.inside.worker) c.stopped.ensures.seat.known (λ has. stays_kept c.args.board.now.known c.self.inside.job c.stopped.new.self c.self.inside.low c.self.inside.worker c.stopped.ensures.same c.stopped.ensures.stays kept)
+    let kept : Keeps c.args.board.now.known c.self.inside.job c.self.inside.low c.self.inside.worker = c.self.invariant c.args.board.now.known known in
+    known_once c.stopped.new.self.view c.args.board.now.known (λ k. Keeps k c.stopped.new.self c.self.inside.low c.self.inside.worker) c.stopped.ensures.seat.known (stays_kept c.args.board.now.known c.self.inside.job c.stopped.new.self c.self.inside.low c.self.inside.worker c.stopped.ensures.same c.stopped.ensures.stays kept)

@@ -21,7 +21,7 @@ pub half_given-half-requires : goal.half_given-half-requires
 half_given-half-requires c =
     let known : c.self.inside.job.view.constants ≡ Some c.args.board.now.known = ap (λ (v : JobSeatView). v.view.constants) c.self.view_is ∙ c.requires.seat.known in
     let part : HasPartOf c.self.inside.job.task.0 c.self.inside.job.view = subst (λ (v : JobSeatView). HasPartOf v.task.0 v.view) (sym c.self.view_is) c.requires.seat.part in
-    let kept : Keeps c.args.board.now.known c.self.inside.job c.self.inside.low c.self.inside.worker = c.self.invariant c.args.board.now.known known part in
+    let kept : Keeps c.args.board.now.known c.self.inside.job c.self.inside.low c.self.inside.worker = c.self.invariant c.args.board.now.known known in
     let follows : Follows c.args.board.now.known c.self.inside.job.view c.self.inside.job.task.0 c.self.inside.job.job c.self.inside.job.place c.self.inside.job.stage = c.stands.ensures c.args.board.now.known known part in
     let stage : c.self.inside.job.stage ≡ stages.At (actions.Write c.args.edge c.args.instance c.args.slot) = ap (λ (v : JobSeatView). v.stage) c.self.view_is ∙ c.requires.writes in
     let writes : Follows c.args.board.now.known c.self.inside.job.view c.self.inside.job.task.0 c.self.inside.job.job c.self.inside.job.place (stages.At (actions.Write c.args.edge c.args.instance c.args.slot)) =
@@ -36,7 +36,7 @@ pub store-requires-clause-writes : goal.store-requires-clause-writes
 store-requires-clause-writes c =
     let known : c.self.inside.job.view.constants ≡ Some c.args.board.now.known = ap (λ (v : JobSeatView). v.view.constants) c.self.view_is ∙ c.requires.seat.known in
     let part : HasPartOf c.self.inside.job.task.0 c.self.inside.job.view = subst (λ (v : JobSeatView). HasPartOf v.task.0 v.view) (sym c.self.view_is) c.requires.seat.part in
-    let kept : Keeps c.args.board.now.known c.self.inside.job c.self.inside.low c.self.inside.worker = c.self.invariant c.args.board.now.known known part in
+    let kept : Keeps c.args.board.now.known c.self.inside.job c.self.inside.low c.self.inside.worker = c.self.invariant c.args.board.now.known known in
     let follows : Follows c.args.board.now.known c.self.inside.job.view c.self.inside.job.task.0 c.self.inside.job.job c.self.inside.job.place c.self.inside.job.stage = c.stands.ensures c.args.board.now.known known part in
     let stage : c.self.inside.job.stage ≡ stages.At (actions.Write c.args.edge c.args.instance c.args.slot) = ap (λ (v : JobSeatView). v.stage) c.self.view_is ∙ c.requires.writes in
     let writes : Follows c.args.board.now.known c.self.inside.job.view c.self.inside.job.task.0 c.self.inside.job.job c.self.inside.job.place (stages.At (actions.Write c.args.edge c.args.instance c.args.slot)) =
@@ -52,14 +52,14 @@ pub invariant_of-self : goal.invariant_of-self
 invariant_of-self c =
     let known : c.self.inside.job.view.constants ≡ Some c.args.board.now.known = ap (λ (v : JobSeatView). v.view.constants) c.self.view_is ∙ c.requires.seat.known in
     let part : HasPartOf c.self.inside.job.task.0 c.self.inside.job.view = subst (λ (v : JobSeatView). HasPartOf v.task.0 v.view) (sym c.self.view_is) c.requires.seat.part in
-    let kept : Keeps c.args.board.now.known c.self.inside.job c.self.inside.low c.self.inside.worker = c.self.invariant c.args.board.now.known known part in
+    let kept : Keeps c.args.board.now.known c.self.inside.job c.self.inside.low c.self.inside.worker = c.self.invariant c.args.board.now.known known in
     let follows : Follows c.args.board.now.known c.self.inside.job.view c.self.inside.job.task.0 c.self.inside.job.job c.self.inside.job.place c.self.inside.job.stage = c.stands.ensures c.args.board.now.known known part in
     let stage : c.self.inside.job.stage ≡ stages.At (actions.Write c.args.edge c.args.instance c.args.slot) = ap (λ (v : JobSeatView). v.stage) c.self.view_is ∙ c.requires.writes in
     let writes : Follows c.args.board.now.known c.self.inside.job.view c.self.inside.job.task.0 c.self.inside.job.job c.self.inside.job.place (stages.At (actions.Write c.args.edge c.args.instance c.args.slot)) =
     subst (λ (z : Stage). Follows c.args.board.now.known c.self.inside.job.view c.self.inside.job.task.0 c.self.inside.job.job c.self.inside.job.place z) stage follows in
     let job : IsJob (run_of c.args.board.now.known) c.self.inside.job.task.0 c.self.inside.job.job = record { task = writes.task; job = writes.shown.1 } in
     let own : c.args.instance ≡ c.self.inside.job.job = write_own c.args.board.now.known c.keeps_values.ensures.work c.keeps_values.ensures.values c.self.inside.job.task.0 c.self.inside.job.job c.self.inside.job.place job c.self.inside.worker kept.1 c.args.edge c.args.instance c.args.slot writes.shown.2 in
-    known_once c.store.new.self.view c.args.board.now.known (λ k. HasPartOf c.store.new.self.task.0 c.store.new.self.view → Keeps k c.store.new.self c.self.inside.low c.half_given-half.new.worker) c.store.ensures.seat.known (λ has. goes_kept c.args.board.now.known c.self.inside.job c.store.new.self c.self.inside.low c.half_given-half.new.worker c.store.ensures.same c.store.ensures.next
+    known_once c.store.new.self.view c.args.board.now.known (λ k. Keeps k c.store.new.self c.self.inside.low c.half_given-half.new.worker) c.store.ensures.seat.known (goes_kept c.args.board.now.known c.self.inside.job c.store.new.self c.self.inside.low c.half_given-half.new.worker c.store.ensures.same c.store.ensures.next
     (low_after_write c.args.board.now.known c.keeps_values.ensures.facts c.self.inside.job.task.0 c.self.inside.job.job job c.self.inside.low c.self.inside.job.place c.args.edge c.args.instance c.args.slot writes.shown.2)
     (write_left c.args.board.now.known c.keeps_values.ensures.work c.keeps_values.ensures.values c.self.inside.job.task.0 c.self.inside.job.job c.self.inside.job.place job c.self.inside.worker kept.1 c.args.edge c.args.instance c.args.slot writes.shown.2 c.half_given-half.new.worker
     (begun_with c.args.board.now.known.sensors c.args.board.now.known.sensors c.args.board.now.known.bodies c.args.board.now.known.bodies c.self.inside.job.job c.job.result refl refl c.job.ensures c.self.inside.worker c.half_given-half.new.worker c.half_given-half.ensures.begun)))

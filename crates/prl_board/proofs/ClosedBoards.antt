@@ -1,0 +1,99 @@
+-- What the table says at the end is what a closed board shows.
+use Rattle.std.proofs.Common.{◌≡◌, ◌<◌, ℕ, zero, suc, List, [], ◌∷◌, length, get_or, refl, sym, ◌∙◌, subst, arith, Bool, Some}
+use Rattle.std.proofs.lemmas.Option.{slice_get_within}
+use mathlib.Core.Option.{some, some-injective, some-ne-none}
+use lib.ListN.{get_elem?}
+use Rattle.std.specs.Prelude.{slice_get}
+use Rattle.prl_rule.specs.declared.views.ClockPart.{ClockPart}
+use Rattle.prl_rule.specs.declared.views.Constants.{Constants}
+use Rattle.prl_rule.specs.declared.views.View.{View}
+use Rattle.prl_rule.specs.Told.{part_of}
+use Rattle.prl_plan.specs.Rules.{IsComplete}
+use Rattle.prl_plan.specs.Runs.{ExecState, RunConstants}
+use Rattle.prl_board.specs.declared.jobs.Stage.{Stage}
+use Rattle.prl_board.specs.declared.jobs.Stage.TheVariants as stages
+use Rattle.prl_board.specs.Closings.{IsClosed, IsLastState}
+use Rattle.prl_board.specs.JobSeats.{IsStage, JobSeatView}
+use Rattle.prl_rule.specs.Known.{run_of}
+use Rattle.prl_rule.specs.Rule.{reached}
+use Rattle.prl_board.specs.code.Joining.{IsClosing}
+use Rattle.prl_board.specs.code.Lent.{IsLent, IsSettled}
+use Rattle.prl_rule.specs.PlanLaws.{PlanLaws}
+use Rattle.prl_board.proofs.Lending.{seat_there}
+
+pub closed_from : (k : Constants) → PlanLaws → (view : View) (words : List ℕ) (seats : List JobSeatView) → IsClosing k view words →
+    length seats ≡ (run_of k).tasks → ((i : ℕ) (s : JobSeatView) → slice_get seats i ≡ Some s → IsLent k view i s) →
+    ((i : ℕ) (s : JobSeatView) → slice_get seats i ≡ Some s → IsSettled view i s) → IsClosed k words seats
+closed_from k laws view words seats closing tasks lent settled =
+    let w = closing.0 in
+    let es = closing.1 in
+    let a = closing.4 in
+    let mine = a.each_view closing.3 view closing.5 in
+    let tagged = laws.tagged (run_of k) a.facts es a.free in
+    record {
+      wide = a.shows.wide;
+      tasks = tasks;
+      each = λ i s has.
+          let its = lent i s has in
+          let at = (mine.task i (part_of i view) its.stands.at.part).2.stand in
+          let ended = at.ended in
+          let same = (settled i s has).0 in
+          let count = tagged.counted i its.stands.task in
+          (its.task, omega (arith, ended, same, count), (_, its.stands.shown));
+      last = (
+        reached (run_of k) es,
+        record {
+          events = es;
+          free = a.free;
+          gated = a.gated;
+          state = refl;
+          now = a.shows.now;
+          done = a.shows.done;
+          half = a.shows.slot;
+          each = λ i s has.
+              let its = lent i s has in
+              let at = (mine.task i (part_of i view) its.stands.at.part).2.stand in
+              (sym (settled i s has).0 ∙ at.ended, sym (settled i s has).1 ∙ at.place);
+        },
+      );
+    }
+
+-- a word that is read
+pub word_there : (words : List ℕ) (i n : ℕ) → get_elem? words i ≡ some n → get_or words i 0 ≡ n
+word_there [] i n e = absurd (some-ne-none n (sym e))
+word_there (x ∷ xs) zero n e = some-injective x n e
+word_there (x ∷ xs) (suc i) n e = word_there xs i n e
+
+-- where every seat is over, every horizon job has ended
+pub all_over : (k : Constants) (words : List ℕ) (seats : List JobSeatView) → IsClosed k words seats →
+    ((j : ℕ) (t : JobSeatView) → j < length seats → slice_get seats j ≡ Some t → t.stage ≡ stages.Over) → (s : ExecState) → IsLastState k words seats s → IsComplete (run_of k) s
+all_over k words seats closed over s last j n task job =
+    let tasks = closed.tasks in
+    let seat = seat_there seats j (omega (arith, tasks, task)) in
+    let its = (closed.each j seat.0 seat.1).2 in
+    let shown : IsStage (run_of k) j seat.0.job seat.0.place its.0 stages.Over = subst (IsStage (run_of k) j seat.0.job seat.0.place its.0) (over j seat.0 (omega (arith, tasks, task)) seat.1) its.1 in
+    let all = shown.1 in
+    let count = (last.each j seat.0 seat.1).0 in
+    omega (arith, all, count, job)
+
+stage_left : (c : RunConstants) (i n place : ℕ) (is_open : Bool) (stage : Stage) → IsStage c i n place is_open stage → (stage ≡ stages.Over → ⊥) → n < c.jobs i
+stage_left c i n place is_open stages.Over is left = absurd (left refl)
+stage_left c i n place is_open stages.Idle is left = is.1
+stage_left c i n place is_open (stages.At action) is left = is.1
+
+-- and else not
+pub not_over : (k : Constants) (words : List ℕ) (seats : List JobSeatView) (i : ℕ) (t : JobSeatView) → IsClosed k words seats → slice_get seats i ≡ Some t → (t.stage ≡ stages.Over → ⊥) →
+    (s : ExecState) → IsLastState k words seats s → IsComplete (run_of k) s → ⊥
+not_over k words seats i t closed has left s last complete =
+    let its = (closed.each i t has).2 in
+    let more = stage_left (run_of k) i t.job t.place its.0 t.stage its.1 left in
+    let tasks = closed.tasks in
+    let inside = slice_get_within seats i t has in
+    let done = complete i t.job (omega (arith, tasks, inside)) more in
+    let count = (last.each i t has).0 in
+    omega (arith, done, count)
+
+-- the word of `now` is the clock's
+pub closing_clock : (k : Constants) (view : View) (words : List ℕ) → IsClosing k view words → (r : ClockPart) → view.clock ≡ Some r → get_or words 0 0 ≡ r.now
+closing_clock k view words closing r part =
+    closing.4.shows.now ∙ sym ((closing.4.each_view closing.3 view closing.5).clock r part).2.now

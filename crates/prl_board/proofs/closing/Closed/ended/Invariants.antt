@@ -1,0 +1,8 @@
+use Rattle.std.specs.Prelude.{◌≡◌, ◌<◌, ℕ, Some, slice_get}
+use Rattle.prl_board.specs.declared.jobs.Stage.TheVariants as stages
+use Rattle.prl_board.specs.JobSeats.{JobSeatView}
+use Rattle.prl_board.proofs.closing.Closed.ended.Given as goal
+
+-- the seats so far are over
+abbrev pub invariant-loop-i : goal.invariant-loop-i
+invariant-loop-i l = (j : ℕ) (s : JobSeatView) → j < l.i → slice_get l.self.seats j ≡ Some s → s.stage ≡ stages.Over

@@ -1,0 +1,29 @@
+use Rattle.std.proofs.Common.{◌≡◌, ℕ, get_or, sym, ap, subst, ◌∙◌, vec_items, Some}
+use Rattle.std.specs.Mem.Slots.{slots_items}
+use Rattle.std.specs.Prelude.{slice_get}
+use Rattle.prl_board.specs.Closings.{ClosedView}
+use Rattle.prl_board.specs.JobSeats.{JobSeatView}
+use Rattle.prl_board.specs.Lones.{LoneView}
+use Rattle.prl_board.specs.code.Lent.{IsSettled}
+use Rattle.prl_board.proofs.ClosedBoards.{closed_from, closing_clock}
+use Rattle.prl_board.proofs.lone.Lone.close.Goals as goal
+
+pub new-requires-clause-left : goal.new-requires-clause-left
+new-requires-clause-left c =
+    let known : c.self.inside.whole.me.0.constants ≡ Some c.args.board.known = ap (λ (l : LoneView). l.view.constants) c.self.view_is ∙ c.settle_all.ensures.lone.known in
+    let lent = c.self.invariant.1 c.args.board.known known in
+    let settled = subst (λ (l : LoneView). (i : ℕ) (s : JobSeatView) → slice_get l.seats i ≡ Some s → IsSettled l.view i s) (sym c.self.view_is) c.settle_all.ensures.settled in (
+      c.args.board.known,
+      record {
+        given = lent.ticks.given;
+        closed = closed_from c.args.board.known c.plan_laws.ensures c.self.inside.whole.me.0 (slots_items c.close.result.words) (vec_items c.self.inside.seats) c.close.ensures.closing lent.tasks lent.each settled;
+        sized = c.close.ensures.full.1;
+        lent = λ i s has. (lent.each i s has).given;
+        plan = c.keeps_values.ensures.work.whole;
+      },
+    )
+
+pub returns-clause-clock : goal.returns-clause-clock
+returns-clause-clock c = λ r has.
+    ap (λ (d : ClosedView). get_or d.words 0 0) c.new.ensures
+    ∙ closing_clock c.args.board.known c.self.inside.whole.me.0 (slots_items c.close.result.words) c.close.ensures.closing r (ap (λ (l : LoneView). l.view.clock) c.self.view_is ∙ c.settle_all.ensures.clock ∙ has)

@@ -1,0 +1,166 @@
+//! One thread that holds all seats of a board.
+
+ghost use Rattle.std.specs.Prelude.{◌≡◌, ◌<◌, ℕ, [], length, Some, slice_get, slice_index};
+ghost use Rattle.std.specs.Vec.{vec_items};
+ghost use mathlib.Core.Option.{some};
+ghost use lib.ListN.{get_elem?};
+ghost use Rattle.prl_rule.specs.declared.views.ClockPart.{ClockPart};
+ghost use Rattle.prl_rule.specs.declared.views.Constants.{Constants};
+ghost use Rattle.prl_rule.specs.declared.views.TaskPart.{TaskPart};
+ghost use Rattle.prl_board.specs.ClockSeats.{IsClockOf};
+ghost use Rattle.prl_rule.specs.Agreement.{now_word};
+ghost use Rattle.prl_board.specs.JobSeats.{Follows, IsSeatOf, JobSeatView, StaysAt};
+ghost use Rattle.prl_board.specs.Lones.{AreSeatsOf, IsLoneOf, IsWhole, StandAs};
+ghost use Rattle.prl_rule.specs.Steps.{bare};
+ghost use Rattle.prl_board.specs.code.Lent.{IsLent, IsSettled};
+
+use crate::board::{Board, Seat};
+use crate::clocks::ClockSeat;
+use crate::closing::Closed;
+use crate::seats::TaskSeat;
+use prl_rule::plan_laws;
+use std::marker::Model;
+
+/// One thread that holds all seats of a board: each has lent its part to one seat of the table. Contracts see a `LoneView`.
+#[derive(Drop)]
+pub struct Lone {
+    seats: Vec<TaskSeat>,
+    clock: ClockSeat,
+    whole: Seat,
+}
+
+impl Model for Lone {
+    ghost use Rattle.std.specs.Prelude.{◌≡◌, [], Some};
+    ghost use Rattle.std.specs.Vec.{vec_items};
+    ghost use Rattle.prl_rule.specs.declared.views.Constants.{Constants};
+    ghost use Rattle.prl_board.specs.Lones.{LoneView};
+    ghost use Rattle.prl_board.specs.code.Lent.{AreLent};
+    ghost use Rattle.prl_body.specs.contracts.codes.Code as code;
+    ghost use Rattle.std.specs.Coded.{codes};
+
+    ghost Value = { LoneView };
+
+    ghost coded = { Prim.hlevel (codes, code.the_row.coded) };
+
+    ghost view = { λ l. record { table = l.whole.table_id; view = l.whole.me.0; seats = vec_items l.seats } };
+
+    ghost invariant = { λ l. (l.whole.me.1 ≡ []) × ((k : Constants) → l.whole.me.0.constants ≡ Some k → AreLent k l.whole.me.0 (vec_items l.seats) l.clock) };
+}
+
+/// Takes in the part of a task's seat.
+fn take_in(board: &Board, whole: &mut Seat, seat: &mut TaskSeat)
+    requires whole { (whole.old.table_id ≡ board.now.table) × (whole.old.me.0.constants ≡ Some board.now.known) }
+    requires seat { IsSeatOf board.now seat.old }
+    ensures same { (whole.new.table_id ≡ whole.old.table_id) × (whole.new.me.1 ≡ whole.old.me.1) × (whole.new.me.0.constants ≡ Some board.now.known) }
+    ensures clock { (r : ClockPart) → whole.old.me.0.clock ≡ Some r → whole.new.me.0.clock ≡ Some r }
+    ensures others { (j : ℕ) (p : TaskPart) → get_elem? whole.old.me.0.tasks j ≡ some (Some p) → get_elem? whole.new.me.0.tasks j ≡ some (Some p) }
+    ensures stands { Follows board.now.known whole.new.me.0 seat.old.task.0 seat.old.job seat.old.place seat.old.stage }
+    ensures bare { (seat.new.view ≡ bare board.now.known) × (seat.new.task ≡ seat.old.task) × StaysAt seat.old seat.new }
+{
+    seat.stands();
+    let mut own = board.bare();
+    seat.exchange(&mut own);
+    board.join(whole, own);
+}
+
+/// Takes in the parts of all tasks' seats.
+fn take_in_all(board: &Board, whole: &mut Seat, seats: &mut Vec<TaskSeat>)
+    requires whole { (whole.old.table_id ≡ board.now.table) × (whole.old.me.0.constants ≡ Some board.now.known) }
+    requires seats { AreSeatsOf board.now (vec_items seats.old) }
+    ensures same { (whole.new.table_id ≡ whole.old.table_id) × (whole.new.me.1 ≡ whole.old.me.1) × (whole.new.me.0.constants ≡ Some board.now.known) }
+    ensures clock { (r : ClockPart) → whole.old.me.0.clock ≡ Some r → whole.new.me.0.clock ≡ Some r }
+    ensures stand { StandAs (vec_items seats.old) (vec_items seats.new) }
+    ensures lent { (i : ℕ) (s : JobSeatView) → slice_get (vec_items seats.new) i ≡ Some s → IsLent board.now.known whole.new.me.0 i s }
+{
+    for i in 0..seats.len() {
+        take_in(board, whole, &mut seats[i]);
+    }
+}
+
+/// Lets the part that a task's seat has lent stand where the seat does, after the constants that it has read.
+fn settle_seat(board: &Board, whole: &mut Seat, seat: &mut TaskSeat)
+    requires whole { (whole.old.table_id ≡ board.now.table) × (whole.old.me.1 ≡ []) × (whole.old.me.0.constants ≡ Some board.now.known) }
+    requires lent { IsLent board.now.known whole.old.me.0 seat.old.task.0 seat.old }
+    ensures same { (whole.new.table_id ≡ whole.old.table_id) × (whole.new.me.1 ≡ []) × (whole.new.me.0.constants ≡ Some board.now.known) × (whole.new.me.0.clock ≡ whole.old.me.0.clock) }
+    ensures others { (j : ℕ) (p : TaskPart) → (j ≡ seat.old.task.0 → ⊥) → get_elem? whole.old.me.0.tasks j ≡ some (Some p) → get_elem? whole.new.me.0.tasks j ≡ some (Some p) }
+    ensures lent { IsLent board.now.known whole.new.me.0 seat.old.task.0 seat.new }
+    ensures settled { IsSettled whole.new.me.0 seat.old.task.0 seat.new }
+    ensures stays { (seat.new.task ≡ seat.old.task) × StaysAt seat.old seat.new }
+{
+    seat.exchange(whole);
+    seat.stopped(board);
+    seat.stands();
+    seat.exchange(whole);
+}
+
+/// One thread takes all seats of a board. Takes no memory.
+pub fn gather(board: &Board, mut seats: Vec<TaskSeat>, mut clock: ClockSeat) -> Lone
+    requires seats { AreSeatsOf board.now (vec_items seats) }
+    requires clock { (r : ClockPart) × IsClockOf board.now clock r }
+    ensures lone { IsLoneOf board.now result }
+    ensures seats { StandAs (vec_items seats) result.seats }
+    ensures clock { (r : ClockPart) → IsClockOf board.now clock r → result.view.clock ≡ Some r }
+{
+    let mut whole = board.bare();
+    clock.exchange(&mut whole);
+    take_in_all(board, &mut whole, &mut seats);
+    Lone {
+        seats,
+        clock,
+        whole,
+    }
+}
+
+impl Lone {
+    /// Lets the task's part stand where its seat does.
+    fn settle(&mut self, board: &Board, i: usize)
+        requires lone { IsLoneOf board.now self.old }
+        requires task { i < length self.old.seats }
+        ensures lone { IsLoneOf board.now self.new }
+        ensures seats { StandAs self.old.seats self.new.seats }
+        ensures clock { self.new.view.clock ≡ self.old.view.clock }
+        ensures settled { (s : JobSeatView) → slice_get self.new.seats i ≡ Some s → IsSettled self.new.view i s }
+        ensures others { (j : ℕ) (p : TaskPart) → (j ≡ i → ⊥) → get_elem? self.old.view.tasks j ≡ some (Some p) → get_elem? self.new.view.tasks j ≡ some (Some p) }
+    {
+        settle_seat(board, &mut self.whole, &mut self.seats[i]);
+    }
+
+    /// Each task's part stands where its seat does.
+    fn settle_all(&mut self, board: &Board)
+        requires { IsLoneOf board.now self.old }
+        ensures lone { IsLoneOf board.now self.new }
+        ensures seats { StandAs self.old.seats self.new.seats }
+        ensures clock { self.new.view.clock ≡ self.old.view.clock }
+        ensures settled { (i : ℕ) (s : JobSeatView) → slice_get self.new.seats i ≡ Some s → IsSettled self.new.view i s }
+    {
+        for i in 0..self.seats.len() {
+            self.stands();
+            self.settle(board, i);
+        }
+    }
+
+    /// Closes the board, which is the one that the seats belong to. Takes no memory, and cannot be refused.
+    pub fn close(mut self, board: Board) -> Closed
+        requires { IsLoneOf board self }
+        ensures known { result.constants ≡ Some board.entry.known }
+        ensures seats { StandAs self.seats result.seats }
+        ensures clock { (r : ClockPart) → self.view.clock ≡ Some r → slice_index result.words now_word ≡ r.now }
+    {
+        self.settle_all(&board);
+        board.keeps_values();
+        plan_laws();
+        let Lone {
+            seats,
+            clock,
+            whole,
+        } = self;
+        Closed::new(board.close(whole), seats, clock)
+    }
+
+    /// It has all parts, and each task stands as they say.
+    pub fn stands(&self)
+        ensures { (k : Constants) → self.entry.now.view.constants ≡ Some k → IsWhole k self.entry.now }
+    {
+        let _ = &self.whole;
+    }
+}
