@@ -1,12 +1,14 @@
 -- The picture of a plan.
-use Rattle.std.specs.Prelude.{◌≡◌, ◌++◌, ℕ, List, Option, Some, Result, IfOk, IfSome, codes}
+use Rattle.std.specs.Prelude.{◌≡◌, ◌+◌, ◌++◌, ℕ, min, List, Option, Some, None, Result, IfOk, IfSome, codes}
 use Rattle.std.specs.List.{flat_map}
 use Rattle.prl_io.specs.Views.{FolderView, SinkView}
 use Rattle.prl_companions.specs.declared.endings.Stop.{Stop}
 use Rattle.prl_companions.specs.Endings.{Ends}
 use Rattle.prl_companions.specs.Pairs.{value_of}
+use Rattle.prl_base.specs.Decimals.{decimal_of}
 use Rattle.prl_plan.specs.Plans.{PlanView}
 use Rattle.prl_plantext.specs.ReadTexts.{IsTextOf}
+use Rattle.prl_picture.specs.declared.ranges.TheConstants.{MAX_UNTIL}
 use Rattle.prl_picture.specs.declared.scales.Scale.{Scale}
 use Rattle.prl_picture.specs.Ranges.{IsRange}
 use Rattle.prl_picture.specs.Shapes.{shapes_of}
@@ -17,15 +19,26 @@ abbrev pub IsPictureOf : PlanView → Scale → List ℕ → Type 0
 IsPictureOf plan scale text =
     (below above : List ℕ) × (text ≡ below ++ flat_map window_text (shapes_of plan scale) ++ above)
 
--- the picture of the plan over some range
-abbrev pub IsDrawn : PlanView → List ℕ → Type 0
-IsDrawn plan text = (from until : ℕ) × (scale : Scale) × IsRange from until scale × IsPictureOf plan scale text
+-- the tick that a word writes; another one where there is no word
+abbrev pub tick_of : Option (List ℕ) → ℕ → Option ℕ
+tick_of None other = Some other
+tick_of (Some word) other = decimal_of word
+
+-- the words ask for the ticks of this range: from 0 on and over one hyperperiod where they do not say it
+pub record AreAsked (plan : PlanView) (words : List (List ℕ)) (from until : ℕ) : Type 0 where
+  pub begins : tick_of (value_of (codes "--from") words) 0 ≡ Some from
+  pub ends : tick_of (value_of (codes "--until") words) (min (from + plan.graph.hyper) MAX_UNTIL) ≡ Some until
+
+-- the picture of the plan over the range that the words ask for
+abbrev pub IsDrawn : PlanView → List (List ℕ) → List ℕ → Type 0
+IsDrawn plan words text =
+    (from until : ℕ) × AreAsked plan words from until × (scale : Scale) × IsRange from until scale × IsPictureOf plan scale text
 
 -- the picture of the plan that the file has
 abbrev pub IsPicture : Option (List ℕ → Option (List ℕ)) → List (List ℕ) → List ℕ → Type 0
 IsPicture folder words text =
     (name source : List ℕ) × (value_of (codes "--plan") words ≡ Some name) × IfSome folder (λ f. f name ≡ Some source)
-    × ((plan : PlanView) × IsTextOf plan source × IsDrawn plan text)
+    × ((plan : PlanView) × IsTextOf plan source × IsDrawn plan words text)
 
 -- what a call answers: its outcome, and how it ends
 pub record Answers (words : List (List ℕ)) (files : FolderView) (out out' err err' : SinkView) (code : ℕ) : Type 0 where

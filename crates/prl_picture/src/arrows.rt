@@ -13,6 +13,9 @@ use prl_base::{EdgeNo, Op, TaskNo};
 use prl_plan::{Edge, Operand, Plan, Producer, plan_is_one};
 use std::alloc::AllocError;
 
+/// From which width on, in tenths of a pixel, a window has the arrows that begin and end there.
+const WIDE: u64 = 200;
+
 /// Whether a delay lies on an edge: an operator that puts initial values before a flow.
 fn is_delayed(edge: &Edge) -> bool {
     for op in edge.ops.as_slice() {
@@ -55,14 +58,21 @@ fn push_arrow(
     push(text, "\"/>\n")
 }
 
-/// Appends an arrow from the job that gives what job `n` of the consumer reads on an edge, where both are drawn.
+/// Whether the windows of both jobs are wide enough for an arrow to be followed.
+fn can_be_followed(before: &Shape, after: &Shape) -> bool {
+    before.right.saturating_sub(before.left) >= WIDE
+        && after.right.saturating_sub(after.left) >= WIDE
+}
+
+/// Appends an arrow from the job that gives what job `n` of the consumer reads on an edge, where both are drawn. Answers how
+/// many arrows are left out: one where a window is too narrow.
 fn push_reading(
     text: &mut Vec<u8>,
     plan: &Plan,
     scale: Scale,
     e: EdgeNo,
     n: u64,
-) -> Result<(), AllocError>
+) -> Result<u64, AllocError>
     requires edge { e.0 < length plan.now.graph.edges }
     requires until { scale.until < 2 ^ 32 }
     requires from { scale.from ≤ scale.until }
@@ -71,24 +81,28 @@ fn push_reading(
 {
     let edge = edge_of(plan, e);
     let Producer::Port { task, .. } = edge.from else {
-        return Ok(());
+        return Ok(0);
     };
     let Operand::From(m) = operand_of(plan, e, n, scale.until) else {
-        return Ok(());
+        return Ok(0);
     };
     if task.0 as usize >= plan.graph().tasks.len()
         || m < job_count(plan, task, scale.from)
         || m >= job_count(plan, task, scale.until)
     {
-        return Ok(());
+        return Ok(0);
     }
     let before = shape_of(plan, scale, task, m);
     let after = shape_of(plan, scale, edge.to, n);
-    push_arrow(text, is_delayed(edge), &before, &after)
+    if !can_be_followed(&before, &after) {
+        return Ok(1);
+    }
+    push_arrow(text, is_delayed(edge), &before, &after)?;
+    Ok(0)
 }
 
-/// Appends the arrows of an edge.
-fn push_edge(text: &mut Vec<u8>, plan: &Plan, scale: Scale, e: EdgeNo) -> Result<(), AllocError>
+/// Appends the arrows of an edge. Answers how many are left out.
+fn push_edge(text: &mut Vec<u8>, plan: &Plan, scale: Scale, e: EdgeNo) -> Result<u64, AllocError>
     requires edge { e.0 < length plan.now.graph.edges }
     requires until { scale.until < 2 ^ 32 }
     requires from { scale.from ≤ scale.until }
@@ -97,21 +111,35 @@ fn push_edge(text: &mut Vec<u8>, plan: &Plan, scale: Scale, e: EdgeNo) -> Result
     let to = edge_of(plan, e).to;
     let first = job_count(plan, to, scale.from);
     let last = job_count(plan, to, scale.until);
+    let mut left_out: u64 = 0;
     for n in first..last {
-        push_reading(text, plan, scale, e, n)?;
+        left_out = left_out.saturating_add(push_reading(text, plan, scale, e, n)?);
     }
-    Ok(())
+    Ok(left_out)
 }
 
-/// Appends the arrows of all edges.
+/// Appends the line that says how many arrows are not drawn.
+fn push_left_out(text: &mut Vec<u8>, left_out: u64) -> Result<(), AllocError> {
+    if left_out == 0 {
+        return Ok(());
+    }
+    push_attribute(text, "<text x=\"4900\" y=\"670\">not drawn: ", left_out)?;
+    push(
+        text,
+        " arrows at windows that are too narrow for them</text>\n",
+    )
+}
+
+/// Appends the arrows of all edges whose windows are wide enough, and how many are left out.
 pub(crate) fn push_arrows(text: &mut Vec<u8>, plan: &Plan, scale: Scale) -> Result<(), AllocError>
     requires until { scale.until < 2 ^ 32 }
     requires from { scale.from ≤ scale.until }
     requires span { 0 < scale.span }
 {
     plan_is_one(plan);
+    let mut left_out: u64 = 0;
     for e in 0..plan.graph().edges.len() {
-        push_edge(text, plan, scale, EdgeNo(e as u32))?;
+        left_out = left_out.saturating_add(push_edge(text, plan, scale, EdgeNo(e as u32))?);
     }
-    Ok(())
+    push_left_out(text, left_out)
 }

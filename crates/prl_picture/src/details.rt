@@ -11,9 +11,6 @@ use prl_base::{EdgeNo, TaskNo};
 use prl_plan::{Operand, Plan, Producer, plan_is_one};
 use std::alloc::AllocError;
 
-/// From which width on a window has its job's number.
-const WIDE: u64 = 280;
-
 /// Appends the bar of a job's WCET, at least so wide that it can be seen.
 fn push_bar(text: &mut Vec<u8>, shape: &Shape) -> Result<(), AllocError> {
     push_attribute(text, "<rect class=\"t", colour_of(shape.task))?;
@@ -43,21 +40,6 @@ fn push_own_dates(text: &mut Vec<u8>, shape: &Shape) -> Result<(), AllocError> {
         push_own(text, shape.own_right, shape.task)?;
     }
     Ok(())
-}
-
-/// Appends the number of a job, where its window is wide enough.
-fn push_job(text: &mut Vec<u8>, shape: &Shape) -> Result<(), AllocError> {
-    if shape.right.saturating_sub(shape.left) < WIDE {
-        return Ok(());
-    }
-    push_attribute(
-        text,
-        "<text class=\"j\" x=\"",
-        shape.left.saturating_add(40),
-    )?;
-    push_attribute(text, "\" y=\"", row_of(shape.task) + 165)?;
-    push_attribute(text, "\">", shape.job)?;
-    push(text, "</text>\n")
 }
 
 /// Appends the name of a task.
@@ -170,7 +152,6 @@ fn push_detail(
 {
     push_bar(text, shape)?;
     push_own_dates(text, shape)?;
-    push_job(text, shape)?;
     push_told(text, plan, scale, shape)
 }
 

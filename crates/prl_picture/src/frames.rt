@@ -57,7 +57,8 @@ static STEPS: [u64; 31] = [
 /// How things look. Colours are those that most eyes tell apart.
 const STYLE: &str = "<style>text{font-family:sans-serif;font-size:120px;fill:#222}\
     .k{font-size:100px;fill:#666}.x{font-size:100px;fill:#444;text-anchor:middle}\
-    .j{font-size:100px;fill:#222}.g{stroke:#ddd;stroke-width:8;fill:none}\
+    .j{font-size:100px;fill:#222;text-anchor:middle;stroke:#fff;stroke-width:24;\
+    stroke-opacity:.8;paint-order:stroke;pointer-events:none}.g{stroke:#ddd;stroke-width:8;fill:none}\
     .l{stroke:#bbb;stroke-width:10;fill:none}.o{stroke:#222;stroke-width:14;fill:none}\
     .a{stroke:#555;stroke-width:9;fill:none;marker-end:url(#p)}.d{stroke-dasharray:50 40}\
     .w{fill-opacity:.35;stroke:#444;stroke-width:8}.h{fill-opacity:0}.s{stroke:#222;stroke-width:6}\

@@ -7,6 +7,7 @@ mod arrows;
 mod details;
 mod frames;
 mod look_ups;
+mod numbers;
 mod pictures;
 mod ranges;
 mod scales;

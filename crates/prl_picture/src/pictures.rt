@@ -1,13 +1,15 @@
 //! The picture of a plan, and the call that draws it.
 
-ghost use Rattle.std.specs.Prelude.{◌≡◌, ◌++◌, ◌<◌, ◌≤◌, ◌^◌, drop, map, IfOk, IfSome};
+ghost use Rattle.std.specs.Prelude.{◌≡◌, ◌++◌, ◌<◌, ◌≤◌, ◌^◌, drop, map, IfOk, IfSome, Some};
+ghost use Rattle.std.specs.Option.{option_map};
 ghost use Rattle.std.specs.String.{string_bytes};
-ghost use Rattle.prl_picture.specs.Pictures.{Answers, IsDrawn, IsPicture, IsPictureOf};
+ghost use Rattle.prl_picture.specs.Pictures.{Answers, IsDrawn, IsPicture, IsPictureOf, tick_of};
 
 use crate::acts::push_acts;
 use crate::arrows::push_arrows;
 use crate::details::push_details;
 use crate::frames::{push, push_head};
+use crate::numbers::push_numbers;
 use crate::ranges::{MAX_UNTIL, left_out, scale_of};
 use crate::scales::Scale;
 use crate::shapes::{Shape, shapes_of};
@@ -54,6 +56,7 @@ fn above(
     push_acts(alloc, &mut text, plan, scale, events)?;
     push_details(&mut text, plan, scale, shapes)?;
     push_arrows(&mut text, plan, scale)?;
+    push_numbers(&mut text, shapes)?;
     push(&mut text, "</svg>\n")?;
     Ok(text)
 }
@@ -101,7 +104,8 @@ pub fn picture_of(
 /// The tick that a word writes; another one where there is no word.
 fn tick_of(word: Option<&[u8]>, other: u64) -> Option<u64>
     requires { other ≤ MAX_UNTIL }
-    ensures { IfSome result (λ tick. tick ≤ MAX_UNTIL) }
+    ensures small { IfSome result (λ tick. tick ≤ MAX_UNTIL) }
+    ensures exact { IfSome result (λ tick. tick_of (option_map (λ w. w.now) word.entry) other ≡ Some tick) }
 {
     let Some(word) = word else {
         return Some(other);
@@ -114,7 +118,7 @@ fn tick_of(word: Option<&[u8]>, other: u64) -> Option<u64>
 
 /// The picture of a plan over the range that the words ask for.
 fn drawn(alloc: Global, words: &[String], plan: &Plan, events: &[Event]) -> Result<Vec<u8>, Stop>
-    ensures { IfOk result (λ text. IsDrawn plan.now text.items) }
+    ensures { IfOk result (λ text. IsDrawn plan.now (map string_bytes words.now) text.items) }
 {
     let Some(from) = tick_of(value_of(b"--from", words), 0) else {
         return Err(Stop::Words(FORM));
@@ -147,7 +151,7 @@ fn with_schedule<F: Files>(
     files: &mut F,
     plan: &Plan,
 ) -> Result<Vec<u8>, Stop>
-    ensures text { IfOk result (λ text. IsDrawn plan.now text.items) }
+    ensures text { IfOk result (λ text. IsDrawn plan.now (map string_bytes words.now) text.items) }
     ensures kept { (F.seen files.new).folder ≡ (F.seen files.old).folder }
 {
     let Some(name) = value_of(b"--schedule", words) else {

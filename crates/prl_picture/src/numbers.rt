@@ -1,0 +1,60 @@
+//! The numbers of jobs, in the windows that are wide enough for them.
+
+use crate::frames::push;
+use crate::shapes::Shape;
+use crate::windows::{push_attribute, row_of};
+use std::alloc::AllocError;
+
+/// How wide a digit is, in tenths of a pixel.
+const DIGIT: u64 = 70;
+
+/// How much of a window stays free of its number, at both ends together.
+const FREE: u64 = 100;
+
+/// The least numbers of two digits, of three digits, and so on.
+static TENS: [u64; 9] = [
+    10,
+    100,
+    1_000,
+    10_000,
+    100_000,
+    1_000_000,
+    10_000_000,
+    100_000_000,
+    1_000_000_000,
+];
+
+/// How wide a number is.
+fn width_of(number: u64) -> u64 {
+    let mut width = DIGIT;
+    for ten in TENS {
+        if number >= ten {
+            width = width.saturating_add(DIGIT);
+        }
+    }
+    width
+}
+
+/// Appends the number of a job in the middle of its window, where that is wide enough to read it.
+fn push_number(text: &mut Vec<u8>, shape: &Shape) -> Result<(), AllocError> {
+    let width = shape.right.saturating_sub(shape.left);
+    if width < width_of(shape.job).saturating_add(FREE) {
+        return Ok(());
+    }
+    push_attribute(
+        text,
+        "<text class=\"j\" x=\"",
+        shape.left.saturating_add(width / 2),
+    )?;
+    push_attribute(text, "\" y=\"", row_of(shape.task) + 165)?;
+    push_attribute(text, "\">", shape.job)?;
+    push(text, "</text>\n")
+}
+
+/// Appends the numbers of the jobs, over all else.
+pub(crate) fn push_numbers(text: &mut Vec<u8>, shapes: &[Shape]) -> Result<(), AllocError> {
+    for shape in shapes {
+        push_number(text, shape)?;
+    }
+    Ok(())
+}
