@@ -6,21 +6,28 @@ use Rattle.prl_companions.specs.declared.endings.Stop.TheVariants as stops
 use Rattle.prl_companions.specs.Endings.{Ends}
 use Rattle.prl_companions.specs.Files.{IsFileStop}
 use Rattle.prl_companions.specs.Pairs.{are_pairs, value_of}
-use Rattle.prl_explain.specs.declared.explanations.TheConstants.{MAX_PROGRAM, MAX_SENSORS, MAX_SCHEDULE}
+use Rattle.prl_explain.specs.declared.explanations.TheConstants.{MAX_PLAN, MAX_PROGRAM, MAX_SENSORS, MAX_SCHEDULE}
 use Rattle.prl_explain.specs.declared.kinds.Kind.{Kind}
 use Rattle.prl_explain.specs.declared.kinds.Part.{Part}
 use Rattle.prl_explain.specs.declared.kinds.Part.TheVariants as parts
 use Rattle.prl_explain.specs.declared.kinds.Target.{Target}
 use Rattle.prl_explain.specs.declared.kinds.Target.TheVariants as targets
+use Rattle.prl_plan.specs.declared.events.Rule.{Rule}
+use Rattle.prl_explain.specs.Details.{IsOfText}
 use Rattle.prl_explain.specs.Kinds.{IsLineOf, argument_of}
 use Rattle.prl_explain.specs.Places.{lead, line_front, line_rest, place_of}
 use Rattle.prl_explain.specs.Spots.{IsSpot}
+
+-- what is known of a folder: the bytes of each file by its name
+abbrev pub Folder : Type 0
+Folder = Option (List ℕ → Option (List ℕ))
 
 -- the file in which a place is told
 abbrev pub part_of : Target → Option Part
 part_of targets.Nowhere = None
 part_of (targets.Byte part) = Some part
 part_of (targets.Line part) = Some part
+part_of (targets.Event rule) = Some parts.Schedule
 part_of targets.Word = Some parts.Program
 part_of targets.Task = Some parts.Program
 part_of targets.Flow = Some parts.Program
@@ -34,7 +41,7 @@ option_of parts.Sensors = codes "--sensors"
 option_of parts.Schedule = codes "--schedule"
 
 abbrev pub all_options : List (List ℕ)
-all_options = codes "--program" ∷ codes "--bodies" ∷ codes "--sensors" ∷ codes "--schedule" ∷ []
+all_options = codes "--program" ∷ codes "--bodies" ∷ codes "--sensors" ∷ codes "--schedule" ∷ codes "--plan" ∷ []
 
 abbrev pub most_of : Part → ℕ
 most_of parts.Program = MAX_PROGRAM
@@ -83,17 +90,38 @@ IsByFile kind line name source text =
     (found : Option ℕ) × IsSpot kind.target (argument_of kind line) source found
     × (text ≡ text_at name source kind.sentence.now found)
 
-abbrev pub IsByName : Option (List ℕ → Option (List ℕ)) → Option (List ℕ) → Kind → List ℕ → List ℕ → Type 0
-IsByName folder None kind line text = text ≡ sentence_text kind.sentence.now
-IsByName folder (Some name) kind line text =
-    (source : List ℕ) × IfSome folder (λ f. f name ≡ Some source) × IsByFile kind line name source text
+-- what is told beside of the event of a line, by a plan; nothing where the words name none
+abbrev pub IsByPlan : Folder → Option (List ℕ) → Rule → List ℕ → List ℕ → List ℕ → Type 0
+IsByPlan folder None rule argument source detail = detail ≡ []
+IsByPlan folder (Some name) rule argument source detail =
+    (text : List ℕ) × IfSome folder (λ f. f name ≡ Some text) × IsOfText text source argument rule detail
+
+-- what is told beside the place and the sentence: of an event that breaks a rule, which job acts, and which it overtakes
+abbrev pub IsDetail : Folder → List (List ℕ) → Target → List ℕ → List ℕ → List ℕ → Type 0
+IsDetail folder words (targets.Event rule) argument source detail =
+    IsByPlan folder (value_of (codes "--plan") words) rule argument source detail
+IsDetail folder words targets.Nowhere argument source detail = detail ≡ []
+IsDetail folder words (targets.Byte part) argument source detail = detail ≡ []
+IsDetail folder words (targets.Line part) argument source detail = detail ≡ []
+IsDetail folder words targets.Word argument source detail = detail ≡ []
+IsDetail folder words targets.Task argument source detail = detail ≡ []
+IsDetail folder words targets.Flow argument source detail = detail ≡ []
+IsDetail folder words targets.Variable argument source detail = detail ≡ []
+
+abbrev pub IsByName : Folder → List (List ℕ) → Option (List ℕ) → Kind → List ℕ → List ℕ → Type 0
+IsByName folder words None kind line text = text ≡ sentence_text kind.sentence.now
+IsByName folder words (Some name) kind line text =
+    (source : List ℕ) × IfSome folder (λ f. f name ≡ Some source)
+    × (front : List ℕ) × IsByFile kind line name source front
+    × (detail : List ℕ) × IsDetail folder words kind.target (argument_of kind line) source detail
+    × (text ≡ front ++ detail)
 
 -- the explanation of a line of a kind, where the words name these files
-abbrev pub IsOfKind : Option (List ℕ → Option (List ℕ)) → List (List ℕ) → Kind → List ℕ → List ℕ → Type 0
-IsOfKind folder words kind line text = IsByName folder (name_of kind.target words) kind line text
+abbrev pub IsOfKind : Folder → List (List ℕ) → Kind → List ℕ → List ℕ → Type 0
+IsOfKind folder words kind line text = IsByName folder words (name_of kind.target words) kind line text
 
 -- the explanation of a line
-abbrev pub IsExplanation : Option (List ℕ → Option (List ℕ)) → List (List ℕ) → List ℕ → List ℕ → Type 0
+abbrev pub IsExplanation : Folder → List (List ℕ) → List ℕ → List ℕ → Type 0
 IsExplanation folder words line text =
     (kind : Kind) × IsLineOf kind line × IsOfKind folder words kind line text
 
@@ -102,6 +130,7 @@ abbrev pub IsStopOfFile : FolderView → FolderView → List (List ℕ) → Stop
 IsStopOfFile old new words stop =
     ((target : Target) × (name : List ℕ) × (name_of target words ≡ Some name)
     × IsFileStop old new name (most_told target) stop)
+    ⊎ ((name : List ℕ) × (value_of (codes "--plan") words ≡ Some name) × IsFileStop old new name MAX_PLAN stop)
     ⊎ ((stop ≡ stops.Memory) × (new.failed ≡ old.failed))
 
 -- why there is no explanation

@@ -6,5 +6,7 @@ pub mod Kinds
 pub mod Names
 -- the byte that a line speaks of
 pub mod Spots
+-- what is told of an event that breaks a rule
+pub mod Details
 -- what is written
 pub mod Explanations

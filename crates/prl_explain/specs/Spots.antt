@@ -30,6 +30,7 @@ abbrev pub IsSpot : Target → List ℕ → List ℕ → Option ℕ → Type 0
 IsSpot targets.Nowhere argument text found = found ≡ None
 IsSpot (targets.Byte part) argument text found = found ≡ byte_at text argument
 IsSpot (targets.Line part) argument text found = IsLineAt text argument found
+IsSpot (targets.Event rule) argument text found = IsLineAt text argument found
 IsSpot targets.Word argument text found = found ≡ named_at text (Anywhere argument)
 IsSpot targets.Task argument text found = found ≡ named_at text (Declared (before_first (is_byte (byte "@")) argument))
 IsSpot targets.Flow argument text found = found ≡ named_at text (flow_asked argument)

@@ -1,10 +1,13 @@
 //! The explanation of a line: the place of its fault, the line of the source with a mark, and what is wrong there.
 
-ghost use Rattle.std.specs.Prelude.{◌≡◌, ◌++◌, ◌≤◌, ◌<◌, ◌^◌, drop, map, IfOk, IfErr, OnOk, length};
+ghost use Rattle.std.specs.Prelude.{◌≡◌, ◌++◌, ◌≤◌, ◌<◌, ◌^◌, codes, drop, map, IfOk, IfErr, OnOk, length};
 ghost use Rattle.std.specs.Option.{option_map};
 ghost use Rattle.std.specs.String.{string_bytes};
-ghost use Rattle.prl_explain.specs.Explanations.{Answers, IsByFile, IsExplanation, IsOfKind, IsStop, IsStopOfFile, marked, most_of, most_told, name_of, option_of, part_of, place_text, sentence_text, shown_text};
+ghost use Rattle.prl_companions.specs.Pairs.{value_of};
+ghost use Rattle.prl_explain.specs.Kinds.{argument_of};
+ghost use Rattle.prl_explain.specs.Explanations.{Answers, IsByFile, IsByPlan, IsDetail, IsExplanation, IsOfKind, IsStop, IsStopOfFile, marked, most_of, most_told, name_of, option_of, part_of, place_text, sentence_text, shown_text};
 
+use crate::details::of_text;
 use crate::kinds::{Kind, Part, Target, argument_of, kind_of};
 use crate::places::{line_front, line_rest, place_of, push_lead};
 use crate::spots::spot_of;
@@ -12,6 +15,7 @@ use crate::table::kinds;
 use prl_base::push_number;
 use prl_companions::{Stop, after_name, are_pairs, finish, read_named, value_of};
 use prl_io::{Files, Sink};
+use prl_plan::Rule;
 use std::alloc::{AllocError, Global};
 
 /// The most bytes of a program or of bodies.
@@ -23,15 +27,24 @@ pub const MAX_SENSORS: u64 = 33_554_432;
 /// The most bytes of a schedule.
 pub const MAX_SCHEDULE: u64 = 83_886_080;
 
+/// The most bytes of a plan's text.
+pub const MAX_PLAN: u64 = 33_554_432;
+
 /// The form of the words.
-const FORM: &str =
-    "prelude_explain [--program FILE] [--bodies FILE] [--sensors FILE] [--schedule FILE]";
+const FORM: &str = "prelude_explain [--program FILE] [--bodies FILE] [--sensors FILE] \
+    [--schedule FILE] [--plan FILE]";
 
 /// Why there is no explanation.
 const NO_LINE: &str = "standard input is not one line of prelude";
 
 /// The options of the words.
-static OPTIONS: [&[u8]; 4] = [b"--program", b"--bodies", b"--sensors", b"--schedule"];
+static OPTIONS: [&[u8]; 5] = [
+    b"--program",
+    b"--bodies",
+    b"--sensors",
+    b"--schedule",
+    b"--plan",
+];
 
 /// The file in which a place is told.
 fn part_of(target: Target) -> Option<Part>
@@ -41,6 +54,7 @@ fn part_of(target: Target) -> Option<Part>
         Target::Nowhere => None,
         Target::Byte(part) => Some(part),
         Target::Line(part) => Some(part),
+        Target::Event(_) => Some(Part::Schedule),
         Target::Word | Target::Task | Target::Flow | Target::Variable => Some(Part::Program),
     }
 }
@@ -164,6 +178,57 @@ fn by_file(
     }
 }
 
+/// What is told beside of an event that breaks a rule, where the words name a plan.
+fn by_plan<F: Files>(
+    alloc: Global,
+    words: &[String],
+    rule: Rule,
+    argument: &[u8],
+    source: &[u8],
+    files: &mut F,
+) -> Result<Vec<u8>, Stop>
+    ensures detail { IfOk result (λ detail. IsByPlan (F.seen files.old).folder (value_of (codes "--plan") (map string_bytes words.now))
+        rule argument.now source.now detail.items) }
+    ensures stop { IfErr result (IsStopOfFile (F.seen files.old) (F.seen files.new) (map string_bytes words.now)) }
+    ensures failed { IfOk result (λ _. (F.seen files.new).failed ≡ (F.seen files.old).failed) }
+    ensures kept { (F.seen files.new).folder ≡ (F.seen files.old).folder }
+{
+    let Some(name) = value_of(b"--plan", words) else {
+        return Ok(Vec::new(alloc));
+    };
+    let text = read_named(alloc, files, name, MAX_PLAN)?;
+    Ok(of_text(alloc, &text, source, argument, rule)?)
+}
+
+/// What is told beside the place and the sentence.
+fn detail_of<F: Files>(
+    alloc: Global,
+    words: &[String],
+    kind: &Kind,
+    line: &[u8],
+    source: &[u8],
+    files: &mut F,
+) -> Result<Vec<u8>, Stop>
+    ensures detail { IfOk result (λ detail. IsDetail (F.seen files.old).folder (map string_bytes words.now) kind.now.target
+        (argument_of kind.now line.now) source.now detail.items) }
+    ensures stop { IfErr result (IsStopOfFile (F.seen files.old) (F.seen files.new) (map string_bytes words.now)) }
+    ensures failed { IfOk result (λ _. (F.seen files.new).failed ≡ (F.seen files.old).failed) }
+    ensures kept { (F.seen files.new).folder ≡ (F.seen files.old).folder }
+{
+    match kind.target {
+        Target::Event(rule) => {
+            by_plan(alloc, words, rule, argument_of(kind, line), source, files)
+        }
+        Target::Nowhere
+        | Target::Byte(_)
+        | Target::Line(_)
+        | Target::Word
+        | Target::Task
+        | Target::Flow
+        | Target::Variable => Ok(Vec::new(alloc)),
+    }
+}
+
 /// The explanation of a line of a kind.
 fn of_kind<F: Files>(
     alloc: Global,
@@ -180,7 +245,10 @@ fn of_kind<F: Files>(
         return Ok(without_place(alloc, kind.sentence)?);
     };
     let source = read_named(alloc, files, name, most_told(kind.target))?;
-    Ok(by_file(alloc, kind, line, name, &source)?)
+    let mut text = by_file(alloc, kind, line, name, &source)?;
+    let detail = detail_of(alloc, words, kind, line, &source, files)?;
+    text.extend_from_slice(&detail)?;
+    Ok(text)
 }
 
 /// The explanation of a line.

@@ -5,6 +5,7 @@ ghost use Rattle.std.specs.List.{before_first};
 ghost use Rattle.prl_explain.specs.Kinds.{argument_of, is_gap, is_line_of, IsLineOf};
 
 use prl_base::line_len;
+use prl_plan::Rule;
 
 /// The files that a line may speak of.
 #[derive(Clone, Copy, Debug, PartialEq, Eq)]
@@ -24,6 +25,8 @@ pub enum Target {
     Byte(Part),
     /// By the number of a line of the file.
     Line(Part),
+    /// By the number of a line of the schedule, whose event breaks this rule.
+    Event(Rule),
     /// By a name that the program has.
     Word,
     /// By the name of a node, a sensor or an actuator, or of the task of one: an import is followed by `@` and a number.

@@ -52,6 +52,7 @@ pub(crate) fn spot_of(
         Target::Nowhere => Ok(None),
         Target::Byte(_) => Ok(byte_at(text, argument)),
         Target::Line(_) => Ok(line_at(text, argument)),
+        Target::Event(_) => Ok(line_at(text, argument)),
         Target::Word => named_at(alloc, text, Asked::Anywhere(argument)),
         Target::Task => named_at(alloc, text, Asked::Declared(before(argument, b'@'))),
         Target::Flow => named_at(alloc, text, flow_asked(argument)),

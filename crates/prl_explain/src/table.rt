@@ -1,6 +1,7 @@
 //! The lines that `prelude` writes on `err`, and what is to be said of each.
 
 use crate::kinds::{Kind, Part, Target};
+use prl_plan::Rule;
 
 /// All kinds of lines.
 static KINDS: [Kind; 57] = [
@@ -335,28 +336,28 @@ static KINDS: [Kind; 57] = [
     Kind {
         front: "71 illegal line ",
         tail: " rule L1\n",
-        target: Target::Line(Part::Schedule),
+        target: Target::Event(Rule::L1),
         sentence: "This task acts too early: its next job is not released yet at this tick. Put a \
             `tick` before the act, or move the act down.",
     },
     Kind {
         front: "71 illegal line ",
         tail: " rule L2\n",
-        target: Target::Line(Part::Schedule),
+        target: Target::Event(Rule::L2),
         sentence: "This task has no job left to do before `--until`. Take the act out, or ask for \
             more ticks.",
     },
     Kind {
         front: "71 illegal line ",
         tail: " rule L3\n",
-        target: Target::Line(Part::Schedule),
+        target: Target::Event(Rule::L3),
         sentence: "This act overtakes a job that is more urgent: a released job whose encoded \
             deadline is earlier has to act first.",
     },
     Kind {
         front: "71 illegal line ",
         tail: " rule L4\n",
-        target: Target::Line(Part::Schedule),
+        target: Target::Event(Rule::L4),
         sentence: "Time may not pass here: a job that has not ended would miss its encoded \
             deadline, or the run is over at `--until`. Let the job act before this tick, \
             or take the tick out.",

@@ -48,13 +48,22 @@ pub fn words(alloc: Global, line: &[&str]) -> Result<Vec<String>, Fail> {
     Ok(words)
 }
 
+/// A folder with these files.
+pub fn folder(alloc: Global, entries: &[(&str, &[u8])]) -> Result<MemFiles, Fail> {
+    let mut list = Vec::new(alloc);
+    for (name, text) in entries {
+        let entry = (
+            Label::new(alloc, name.as_bytes())?,
+            Vec::from_slice(alloc, text)?,
+        );
+        list.push(entry)?;
+    }
+    Ok(MemFiles::new(list, Vec::new(alloc)))
+}
+
 /// A folder with one file.
 pub fn files(alloc: Global, name: &str, text: &str) -> Result<MemFiles, Fail> {
-    let entry = (
-        Label::new(alloc, name.as_bytes())?,
-        Vec::from_slice(alloc, text.as_bytes())?,
-    );
-    Ok(MemFiles::new(vec![in alloc; entry]?, Vec::new(alloc)))
+    folder(alloc, &[(name, text.as_bytes())])
 }
 
 /// Room for a text and for a line.
@@ -62,6 +71,19 @@ pub fn sinks(alloc: Global) -> Result<(MemSink, MemSink), Fail> {
     let out = MemSink::new(alloc, 100_000, 100_000, Vec::new(alloc))?;
     let err = MemSink::new(alloc, 1_000, 1_000, Vec::new(alloc))?;
     Ok((out, err))
+}
+
+/// What `explain` answers to these words and this line, where there are these files.
+pub fn answered_in(
+    alloc: Global,
+    line: &[&str],
+    mut files: MemFiles,
+    input: &[u8],
+) -> Result<Answer, Fail> {
+    let (mut out, mut err) = sinks(alloc)?;
+    let words = words(alloc, line)?;
+    let status = explain(alloc, &words, input, &mut files, &mut out, &mut err);
+    Ok(Answer::new(status, out, err))
 }
 
 /// What `explain` answers to these words and this line, where there is one file.
@@ -72,18 +94,7 @@ pub fn answered(
     text: &str,
     input: &str,
 ) -> Result<Answer, Fail> {
-    let mut files = files(alloc, name, text)?;
-    let (mut out, mut err) = sinks(alloc)?;
-    let words = words(alloc, line)?;
-    let status = explain(
-        alloc,
-        &words,
-        input.as_bytes(),
-        &mut files,
-        &mut out,
-        &mut err,
-    );
-    Ok(Answer::new(status, out, err))
+    answered_in(alloc, line, files(alloc, name, text)?, input.as_bytes())
 }
 
 /// What `explain` answers to a line, where one file is named and there.

@@ -1,0 +1,29 @@
+-- Stops at a file that is read after another one.
+use Rattle.std.proofs.Common.{◌≡◌, ◌++◌, ◌⊎◌, ℕ, List, [], ◌∷◌, Option, None, Some, length, ◌<◌, ◌∙◌, ap, inl, inr, subst}
+use Rattle.std.specs.Prelude.{IfSome}
+use Rattle.prl_io.specs.Views.{FolderView}
+use Rattle.prl_companions.specs.declared.endings.Stop.{Stop}
+use Rattle.prl_companions.specs.declared.endings.Stop.TheVariants as stops
+use Rattle.prl_companions.specs.Files.{IsFileStop}
+use Rattle.prl_explain.specs.Explanations.{Folder, IsStopOfFile}
+
+module _ (old mid new : FolderView) (folder : mid.folder ≡ old.folder) (failed : mid.failed ≡ old.failed) where
+  file_stop_from : (name : List ℕ) (most : ℕ) (stop : Stop) → IsFileStop mid new name most stop → IsFileStop old new name most stop
+  file_stop_from name most (stops.Absent file) h =
+      (h.0, subst (λ (f : Folder). IfSome f (λ folder. folder name ≡ None)) folder h.1, h.2 ∙ failed)
+  file_stop_from name most (stops.TooLong file) h =
+      (h.0, subst (λ (f : Folder). IfSome f (λ folder. (bytes : List ℕ) × (folder name ≡ Some bytes) × (most < length bytes))) folder h.1, h.2 ∙ failed)
+  file_stop_from name most (stops.Unread file) h = (h.0, h.1 ∙ ap (λ (l : List (List ℕ)). l ++ name ∷ []) failed)
+  file_stop_from name most stops.Memory h = h ∙ failed
+  file_stop_from name most (stops.Words form) h = absurd h
+  file_stop_from name most (stops.Refused what) h = absurd h
+
+  pub stop_from : (words : List (List ℕ)) (stop : Stop) → IsStopOfFile mid new words stop → IsStopOfFile old new words stop
+  stop_from words stop h = elim h [
+    | inl k ↦ inl (k.0, k.1, k.2, file_stop_from k.1 _ stop k.3)
+    | inr k ↦
+        inr (elim k [
+          | inl p ↦ inl (p.0, p.1, file_stop_from p.0 _ stop p.2)
+          | inr m ↦ inr (m.0, m.1 ∙ failed)
+        ])
+  ]

@@ -1,0 +1,74 @@
+//! What is told of an event of a schedule that breaks a rule, by a plan.
+
+ghost use Rattle.std.specs.Prelude.{All, IfOk};
+ghost use Rattle.prl_core.specs.Machine.{IsOfPlan as IsEventOf};
+ghost use Rattle.prl_base.specs.Decimals.{decimal_of};
+ghost use Rattle.prl_explain.specs.Details.{IsOfLine, IsOfPlan, IsOfText};
+
+use prl_base::decimal_of;
+use prl_broken::{finding_at, push_finding};
+use prl_plan::{Event, Plan, Rule};
+use prl_plantext::{PlanFault, read_plan};
+use prl_replay::{ScheduleFault, read_schedule};
+use std::alloc::{AllocError, Global};
+
+/// What is told of the event of the line of this number.
+fn of_line(
+    alloc: Global,
+    plan: &Plan,
+    events: &[Event],
+    argument: &[u8],
+    rule: Rule,
+) -> Result<Vec<u8>, AllocError>
+    requires { All (IsEventOf plan.now) events.now }
+    ensures { IfOk result (λ text. IsOfLine plan.now events.now (decimal_of argument.now) rule text.items) }
+{
+    let mut text = Vec::new(alloc);
+    let Some(line) = decimal_of(argument) else {
+        return Ok(text);
+    };
+    if line == 0 {
+        return Ok(text);
+    }
+    match finding_at(alloc, plan, events, (line - 1) as usize, rule)? {
+        None => Ok(text),
+        Some(finding) => {
+            push_finding(&mut text, plan, &finding)?;
+            Ok(text)
+        }
+    }
+}
+
+/// What is told of a line of a schedule of the plan; nothing where the text is no schedule.
+fn of_plan(
+    alloc: Global,
+    plan: &Plan,
+    schedule: &[u8],
+    argument: &[u8],
+    rule: Rule,
+) -> Result<Vec<u8>, AllocError>
+    ensures { IfOk result (λ text. IsOfPlan plan.now schedule.now argument.now rule text.items) }
+{
+    match read_schedule(alloc, schedule, plan) {
+        Ok(events) => of_line(alloc, plan, &events, argument, rule),
+        Err(ScheduleFault::Syntax(_)) => Ok(Vec::new(alloc)),
+        Err(ScheduleFault::Memory) => Err(AllocError),
+    }
+}
+
+/// What is told of a line of a schedule of the plan that a text is; nothing where it is that of none.
+pub(crate) fn of_text(
+    alloc: Global,
+    text: &[u8],
+    schedule: &[u8],
+    argument: &[u8],
+    rule: Rule,
+) -> Result<Vec<u8>, AllocError>
+    ensures { IfOk result (λ detail. IsOfText text.now schedule.now argument.now rule detail.items) }
+{
+    match read_plan(alloc, text) {
+        Ok(plan) => of_plan(alloc, &plan, schedule, argument, rule),
+        Err(PlanFault::NotPlan) => Ok(Vec::new(alloc)),
+        Err(PlanFault::Memory) => Err(AllocError),
+    }
+}
