@@ -15,7 +15,7 @@ use Rattle.prl_syntax.specs.declared.notes.Note.{Note}
 use Rattle.prl_syntax.specs.declared.parameters.Item.{Item}
 use Rattle.prl_syntax.specs.Words.{class_of}
 use Rattle.prl_syntax.specs.Values.{small}
-use Rattle.prl_syntax.specs.Trees.{StemTree, joined, param_of, note_or, first_note, params_before, params_of, port_of, root_of_name, trees_from, Declared, imported, sensor, actuator, node, with_declared, program_of}
+use Rattle.prl_syntax.specs.Trees.{StemTree, joined, param_of, note_or, first_note, params_before, params_of, port_of, root_of_name, trees_from, Declared, imported, sensor, actuator, node, program_of}
 use Rattle.prl_syntax.specs.Grammar.{Grammar, Const, Ratio, Name, Names, TypeName, Rate, Due, Note as NoteText, Item as ItemText, Run, Params, EndedRun, Locals, PortGroup, NextGroup, Ports, Wcet, Import, Device, Postfix, Expr, Exprs, Base, Prefixed, Stem, programs, Left, Equation, Node, Declaration, Program}
 use Rattle.prl_print.proofs.Fractions.{is_shift}
 use Rattle.prl_print.proofs.Own.{IsOwnName, IsOwnPlaced, IsOwnPort, IsOwnParam, IsOwnImport, IsOwnDevice, all_of, IsFreeRoot, IsOwnTree, AreOwnTrees, IsOwnEquation, IsOwnNode, AreOwn}
@@ -138,13 +138,11 @@ module _ (I : StemTree → List Lexeme → Type 0) where
       (s_either (s_then (λ i c. rate_means i c d) (λ r g i c. s_then (λ i c. s_maybe (λ i c. due_means i c d)) (λ u h i c. s_give (record { rate = g; due = h }))))
       (s_then (λ i c. type_means i c d) (λ t _ i c. s_then (λ i c. s_maybe (λ i c. rate_means i c d)) (λ r g i c. s_then (λ i c. s_maybe (λ i c. due_means i c d)) (λ u h i c. s_give (record { rate = g; due = h }))))))
 
-  item_means : Means ItemText IsOwnItem
-  unfolding ItemText
-  item_means i c d = s_then (λ i c. name_means i c d) (λ n h i c. s_then (λ i c. s_maybe (λ i c. s_place (λ p _. note_means _ _ d))) (λ x g i c. s_give (record { name = h; note = g })))
-
   run_means : Means Run (AreSome IsOwnParam)
-  unfolding Run
-  run_means i c d = s_then (λ i c. s_list (refl, refl) (λ i c. item_means i c d)) (λ is h i c. s_give (params_some is h))
+  unfolding Run ItemText
+  run_means i c d =
+      s_then (λ i c. s_list {P = IsOwnItem} (refl, refl) (λ i c. s_then (λ i c. name_means i c d) (λ n h i c. s_then (λ i c. s_maybe (λ i c. s_place (λ p _. note_means _ _ d))) (λ x g i c. s_give (record { name = h; note = g })))))
+      (λ is h i c. s_give (params_some is h))
 
   pub params_mean : Means Params (AreSome IsOwnParam)
   unfolding Params
@@ -261,14 +259,10 @@ nested_means i c d = record { sure = λ s w fine h. (within_means h.0 i c d).sur
 
 -- equations, nodes and the program
 
-left_means : Means I Left (λ ns. AllByRecursion IsOwnPlaced ns × IsSome ns)
-unfolding Left
-left_means i c d = s_either (s_weaken (s_parens (λ i c. names_mean I i c (d + 1))) (λ ns h. h.1)) (s_then (λ i c. name_means I i c d) (λ n h i c. s_give ((h, tt), omega arith)))
-
 equation_means : (i : Bool) (c : ℕ) → Sure i c 0 0 (Text programs Equation) IsOwnEquation
-unfolding Equation
+unfolding Equation Left
 equation_means i c =
-    s_then (λ i c. s_first (s_then (λ i c. left_means i c 0) (λ ls h i c. s_place (λ p _. s_then (λ i c. expr_means I nested_means i c 0) (λ t g i c. s_place (λ s _. s_give {Q = λ (s : _). (AllByRecursion IsOwnPlaced s.0 × IsSome s.0) × IsOwnTree 0 s.1} (h, g)))))))
+    s_then (λ i c. s_first (s_then {P = AreSome IsOwnPlaced} (λ i c. s_either (s_weaken (s_parens (λ i c. names_mean I i c 1)) (λ ns h. h.1)) (s_then (λ i c. name_means I i c 0) (λ n h i c. s_give ((h, tt), omega arith)))) (λ ls h i c. s_place (λ p _. s_then (λ i c. expr_means I nested_means i c 0) (λ t g i c. s_place (λ s _. s_give {Q = λ (s : _). (AllByRecursion IsOwnPlaced s.0 × IsSome s.0) × IsOwnTree 0 s.1} (h, g)))))))
     (λ x h i c. s_give (record { range = record { lefts = all_of (λ n q. q.0) x.1.0 h.0.0; some = h.0.1; right = h.1.0 }; lefts = h.0.0; right = h.1.1 }))
 
 node_means : (i : Bool) (c : ℕ) → Sure i c 0 0 (Text programs Node) IsOwnNode
@@ -303,15 +297,12 @@ declaration_means i c =
     s_either (s_then (λ i c. import_means I i c 0) (λ x h i c. s_give h)) (s_either (s_then (λ i c. device_means I fixed.Sensor (refl, refl) i c 0) (λ x h i c. s_give h))
     (s_either (s_then (λ i c. device_means I fixed.Actuator (refl, refl) i c 0) (λ x h i c. s_give h)) (s_then node_means (λ x h i c. s_give h))))
 
-with_own : (d : Declared) (p : ProgramTree) → IsOwnDeclared d → AreOwn p → AreOwn (with_declared d p)
-with_own (imported i) p h g = record { imports = (h, g.imports); sensors = g.sensors; actuators = g.actuators; nodes = g.nodes }
-with_own (sensor d) p h g = record { imports = g.imports; sensors = (h, g.sensors); actuators = g.actuators; nodes = g.nodes }
-with_own (actuator d) p h g = record { imports = g.imports; sensors = g.sensors; actuators = (h, g.actuators); nodes = g.nodes }
-with_own (node n) p h g = record { imports = g.imports; sensors = g.sensors; actuators = g.actuators; nodes = (h, g.nodes) }
-
 all_own : (ds : List Declared) → AllByRecursion IsOwnDeclared ds → AreOwn (program_of ds)
-all_own [] h = record { imports = tt; sensors = tt; actuators = tt; nodes = tt }
-all_own (d ∷ ds) h = with_own d (program_of ds) h.0 (all_own ds h.1)
+all_own [] h = (tt, tt, tt, tt)
+all_own (imported i ∷ ds) h = let g = all_own ds h.1 in ((h.0, g.0), g.1, g.2, g.3)
+all_own (sensor d ∷ ds) h = let g = all_own ds h.1 in (g.0, (h.0, g.1), g.2, g.3)
+all_own (actuator d ∷ ds) h = let g = all_own ds h.1 in (g.0, g.1, (h.0, g.2), g.3)
+all_own (node n ∷ ds) h = let g = all_own ds h.1 in (g.0, g.1, g.2, (h.0, g.3))
 
 pub program_means : (i : Bool) (c : ℕ) → Sure i c 0 0 (Text programs Program) AreOwn
 unfolding Program

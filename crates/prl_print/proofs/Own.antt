@@ -66,11 +66,8 @@ pub record IsOwnNode (n : NodeTree) : Type 0 where
   pub locals : AllByRecursion IsOwnParam n.locals
   pub eqs : AllByRecursion IsOwnEquation n.eqs
 
-pub record AreOwn (p : ProgramTree) : Type 0 where
-  pub imports : AllByRecursion IsOwnImport p.imports
-  pub sensors : AllByRecursion IsOwnDevice p.sensors
-  pub actuators : AllByRecursion IsOwnDevice p.actuators
-  pub nodes : AllByRecursion IsOwnNode p.nodes
+abbrev pub AreOwn : ProgramTree → Type 0
+AreOwn p = AllByRecursion IsOwnImport p.imports × AllByRecursion IsOwnDevice p.sensors × AllByRecursion IsOwnDevice p.actuators × AllByRecursion IsOwnNode p.nodes
 
 pub all_of : {A : Type 0} {P Q : A → Type 0} → ((x : A) → P x → Q x) → (xs : List A) → AllByRecursion P xs → AllByRecursion Q xs
 all_of f [] h = tt

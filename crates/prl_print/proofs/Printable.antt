@@ -53,10 +53,10 @@ pub in_range : (text : List ℕ) (p : ProgramTree) → IsProgramOf text p → Is
 in_range text p h =
     let all = own text p h in
     record {
-      imports = all_of (λ (i : _) (q : IsOwnImport i). q.range) p.imports all.imports;
-      sensors = all_of (λ d q. (q.0.0, q.1)) p.sensors all.sensors;
-      actuators = all_of (λ d q. (q.0.0, q.1)) p.actuators all.actuators;
-      nodes = all_of (λ (n : _) (q : IsOwnNode n). q.range) p.nodes all.nodes;
+      imports = all_of (λ (i : _) (q : IsOwnImport i). q.range) p.imports all.0;
+      sensors = all_of (λ d q. (q.0.0, q.1)) p.sensors all.1;
+      actuators = all_of (λ d q. (q.0.0, q.1)) p.actuators all.2;
+      nodes = all_of (λ (n : _) (q : IsOwnNode n). q.range) p.nodes all.3;
       few = h.nodes;
     }
 

@@ -460,8 +460,8 @@ unfolding Program Declaration
 program_prints p h =
     p_bytes _ _ (program_text (flat_map printed_import p.imports) _ _ _)
     (p_ends program_of
-    (kind_prints IsOwnImport printed_import imported (λ i g. p_left (p_ends imported (import_prints i g) (λ x e. ap imported e))) p.imports h.imports _ _
-    (kind_prints IsOwnDevice (printed_device (codes "sensor ")) sensor (λ d g. p_right (p_left (p_ends sensor (device_prints fixed.Sensor (codes "sensor") (p_keyword fixed.Sensor (codes "sensor") (refl, omega arith) refl refl) d g) (λ x e. ap sensor e)))) p.sensors h.sensors _ _
-    (kind_prints IsOwnDevice (printed_device (codes "actuator ")) actuator (λ d g. p_right (p_right (p_left (p_ends actuator (device_prints fixed.Actuator (codes "actuator") (p_keyword fixed.Actuator (codes "actuator") (refl, omega arith) refl refl) d g) (λ x e. ap actuator e))))) p.actuators h.actuators _ _
-    (kind_prints IsOwnNode printed_node node (λ n g. p_right (p_right (p_right (p_ends node (node_prints n g) (λ x e. ap node e))))) p.nodes h.nodes [] [] (p_none lines_row refl)))))
+    (kind_prints IsOwnImport printed_import imported (λ i g. p_left (p_ends imported (import_prints i g) (λ x e. ap imported e))) p.imports h.0 _ _
+    (kind_prints IsOwnDevice (printed_device (codes "sensor ")) sensor (λ d g. p_right (p_left (p_ends sensor (device_prints fixed.Sensor (codes "sensor") (p_keyword fixed.Sensor (codes "sensor") (refl, omega arith) refl refl) d g) (λ x e. ap sensor e)))) p.sensors h.1 _ _
+    (kind_prints IsOwnDevice (printed_device (codes "actuator ")) actuator (λ d g. p_right (p_right (p_left (p_ends actuator (device_prints fixed.Actuator (codes "actuator") (p_keyword fixed.Actuator (codes "actuator") (refl, omega arith) refl refl) d g) (λ x e. ap actuator e))))) p.actuators h.2 _ _
+    (kind_prints IsOwnNode printed_node node (λ n g. p_right (p_right (p_right (p_ends node (node_prints n g) (λ x e. ap node e))))) p.nodes h.3 [] [] (p_none lines_row refl)))))
     (λ ds e. unplaced_program_of ds ∙ ap program_of e ∙ sym (unplaced_program_of (declarations p)) ∙ ap unplaced (program_again p)))
