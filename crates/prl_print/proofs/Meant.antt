@@ -23,7 +23,7 @@ use Rattle.prl_print.proofs.Source.{Sure, s_then, s_give, s_either, s_weaken, s_
 use Rattle.prl_base.specs.declared.operators.Op.{Op}
 use Rattle.prl_base.specs.declared.operators.Op.TheVariants as ops
 use Rattle.prl_base.specs.declared.places.Span.{Span}
-use Rattle.prl_ast.specs.Trees.{Tree, Root, group, Trees, none, more, ProgramTree}
+use Rattle.prl_ast.specs.Trees.{Tree, Root, group, Trees, none, more}
 use Rattle.prl_grammar.specs.Language.{within, nested, Text}
 use Rattle.prl_syntax.specs.declared.words.Fixed.TheVariants as fixed
 

@@ -33,7 +33,7 @@ use Rattle.prl_syntax.specs.Grammar.{Grammar, maybe, after, list_of, in_parens, 
 use Rattle.prl_print.specs.Places.{nowhere, unplaced_port, unplaced_param, unplaced_device, unplaced_import, unplaced_name, unplaced_operator, unplaced_tree, unplaced_root, unplaced_trees, unplaced_equation, unplaced_node, unplaced}
 use Rattle.prl_print.specs.Printing.{printed_rate, printed_due, part, printed_note, printed_param, printed_params, printed_locals, printed_port, printed_ports, printed_wcet, printed_import, printed_device, separated, name_of, printed_operator, printed_operators, printed_tree, printed_root, printed_trees, printed_others, printed_lefts, printed_equation, printed_node, printed}
 use Rattle.prl_print.proofs.Tokens.{constant, part as a_part, State, state}
-use Rattle.prl_print.proofs.Printed.{Begin, any, tight, maybe_empty, End, free, word, Prints, p_then, p_next, p_last, p_give, p_ends, p_weaken, p_left, p_right, p_bytes, p_any, p_maybe, p_word, p_pad, p_line, words_row, p_none, p_many, p_name, p_keyword, p_number, p_part, p_count, p_open, p_close, p_comma, p_semicolon, p_slash, p_colon, p_minus, The, p_as, p_first, lines_row, p_cons, p_equals, p_operator}
+use Rattle.prl_print.proofs.Printed.{Begin, any, loose, End, free, word, Prints, p_then, p_next, p_last, p_give, p_ends, p_weaken, p_left, p_right, p_bytes, p_any, p_loose, p_word, p_pad, p_line, words_row, p_none, p_many, p_name, p_keyword, p_number, p_part, p_count, p_open, p_close, p_comma, p_semicolon, p_slash, p_colon, p_minus, The, p_as, p_first, lines_row, p_cons, p_equals, p_operator}
 use Rattle.prl_print.proofs.Fractions.{natural, reads_itself}
 use Rattle.prl_print.proofs.Meant.{IsSome}
 use Rattle.prl_print.proofs.Own.{IsOwnName, IsOwnParam, IsOwnPort, IsOwnImport, IsOwnDevice, IsOwnPlaced, IsFreeTree, IsFreeRoot, AreFreeTrees, IsOwnEquation, IsOwnNode, AreOwn}
@@ -67,10 +67,10 @@ value_prints (values.Bool true) h = p_left (p_ends (λ p. values.Bool true) (p_k
 value_prints (values.Bool false) h = p_right (p_left (p_ends (λ p. values.Bool false) (p_keyword fixed.False (codes "false") (refl, omega arith) refl refl) (λ p _. refl)))
 
 denominator_prints : {i : Bool} {d : ℕ} (q : Fraction) → IsShift q → (b : Bool) → (q.den == 1) ≡ b
-    → Prints (Text programs (maybe (after fixed.Slash number))) (λ o. ratio_with (nat_abs q.num) o ≡ q) (state i (in_range i 1) d) (state i (in_range i 1) d) maybe_empty word (cond b [] (codes "/" ++ decimal q.den))
+    → Prints (Text programs (maybe (after fixed.Slash number))) (λ o. ratio_with (nat_abs q.num) o ≡ q) (state i (in_range i 1) d) (state i (in_range i 1) d) loose word (cond b [] (codes "/" ++ decimal q.den))
 denominator_prints q h true e = p_right (p_give None (ap (ratio_of (nat_abs q.num)) (sym (eqb-true q.den 1 e)) ∙ reads_itself q h))
 denominator_prints q h false e =
-    p_left (p_maybe (p_ends Some (p_then p_slash (λ p _. p_count q.den (h.0.positive, h.0.den))) (λ (a : ℕ) (f : a ≡ q.den). ap (ratio_of (nat_abs q.num)) f ∙ reads_itself q h)))
+    p_left (p_loose refl (p_ends Some (p_then p_slash (λ p _. p_count q.den (h.0.positive, h.0.den))) (λ (a : ℕ) (f : a ≡ q.den). ap (ratio_of (nat_abs q.num)) f ∙ reads_itself q h)))
 
 pub ratio_prints : {i : Bool} {d : ℕ} (q : Fraction) → IsShift q → Prints (Text programs Ratio) (λ x. x ≡ q) (state i a_part d) (state i (in_range i 1) d) any word (fraction_text q)
 unfolding Ratio
@@ -93,18 +93,18 @@ rate_prints : {d : ℕ} → d + 1 ≤ 64 → (r : Rate) → IsRate r → Writes 
 unfolding RateText
 rate_prints le r h =
     p_bytes _ _ (five (codes "rate (") (decimal r.period) (codes ", ") (fraction_text r.phase) (codes ")"))
-    (p_word (p_next (p_keyword fixed.Rate (codes "rate") (refl, omega arith) refl refl) (λ k _. p_then (p_pad p_open) (λ o _. p_next (p_count r.period h.0) (λ n e. p_then p_comma (λ c _. p_next (p_pad (ratio_prints r.phase h.1)) (λ q f.
+    (p_word (p_next refl (p_keyword fixed.Rate (codes "rate") (refl, omega arith) refl refl) (λ k _. p_then (p_pad p_open) (λ o _. p_next refl (p_count r.period h.0) (λ n e. p_then p_comma (λ c _. p_next refl (p_pad (ratio_prints r.phase h.1)) (λ q f.
     p_ends (λ x. record { period = small n; phase = q }) (p_close le) (λ x _. (let same : rate_with (small n) q ≡ rate_with r.period r.phase = cc (small_is r.period h.0.1) in same)))))))))
 
 due_prints : {d : ℕ} (due : ℕ) → IsDue due → Writes Due (λ x. x ≡ due) d any word (printed_due due)
 unfolding Due
-due_prints due h = p_next (p_keyword fixed.Due (codes "due") (refl, omega arith) refl refl) (λ k _. p_ends small (p_pad (p_part due h)) (λ n e. ap small e ∙ small_is due h))
+due_prints due h = p_next refl (p_keyword fixed.Due (codes "due") (refl, omega arith) refl refl) (λ k _. p_ends small (p_pad (p_part due h)) (λ n e. ap small e ∙ small_is due h))
 
 -- a part of a note, after a blank
 later_part : {X : Type 0} {d : ℕ} (g : Grammar X) (P : X → Type 0) (show : X → List ℕ) → ((x : X) → P x → Writes g (λ y. y ≡ x) d any word (show x)) → (o : Option X) → IfThere P o
-    → Writes (maybe g) (λ y. y ≡ o) d maybe_empty word (flat_map (λ other. codes " " ++ other) (part show o))
+    → Writes (maybe g) (λ y. y ≡ o) d loose word (flat_map (λ other. codes " " ++ other) (part show o))
 later_part g P show each None h = p_right (p_give None refl)
-later_part g P show each (Some x) h = p_left (p_ends Some (p_maybe (p_bytes _ _ (sym (append-nil (codes " " ++ show x))) (p_pad (each x h)))) (λ y e. ap Some e))
+later_part g P show each (Some x) h = p_left (p_ends Some (p_loose refl (p_bytes _ _ (sym (append-nil (codes " " ++ show x))) (p_pad (each x h)))) (λ y e. ap Some e))
 
 abbrev note_with : Option Ty → Option Rate → Option ℕ → Note
 note_with ty rate due = record { ty = ty; rate = rate; due = due }
@@ -113,11 +113,11 @@ note_with ty rate due = record { ty = ty; rate = rate; due = due }
 abbrev IsNote : Option Ty → Option Rate → Option ℕ → Option Note → Type 0
 IsNote ty rate due o = (n : Placed) → param_of n (note_or o None) ≡ record { name = n.name; ty = ty; rate = rate; due = due; at = n.at }
 
-colon_note : {d : ℕ} (ty : Option Ty) (rate : Option Rate) (due : Option ℕ) (text : List ℕ) → Writes NoteText (λ x. x ≡ note_with ty rate due) d any word text → Writes (maybe (after fixed.Colon NoteText)) (IsNote ty rate due) d maybe_empty word (codes ": " ++ text)
-colon_note ty rate due text note = p_left (p_maybe (p_ends Some (p_colon (λ p. note)) (λ a e n. ap (λ x. param_of n (Some x)) e)))
+colon_note : {d : ℕ} (ty : Option Ty) (rate : Option Rate) (due : Option ℕ) (text : List ℕ) → Writes NoteText (λ x. x ≡ note_with ty rate due) d any word text → Writes (maybe (after fixed.Colon NoteText)) (IsNote ty rate due) d loose word (codes ": " ++ text)
+colon_note ty rate due text note = p_left (p_loose refl (p_ends Some (p_colon (λ p. note)) (λ a e n. ap (λ x. param_of n (Some x)) e)))
 
 note_prints : {d : ℕ} → d + 1 ≤ 64 → (ty : Option Ty) (rate : Option Rate) (due : Option ℕ) → IfThere IsRate rate → IfThere IsDue due
-    → Writes (maybe (after fixed.Colon NoteText)) (IsNote ty rate due) d maybe_empty word (printed_note (part type_text ty ++ part printed_rate rate ++ part printed_due due))
+    → Writes (maybe (after fixed.Colon NoteText)) (IsNote ty rate due) d loose word (printed_note (part type_text ty ++ part printed_rate rate ++ part printed_due due))
 unfolding NoteText
 note_prints le None None None r u = p_right (p_give None (λ n. refl))
 note_prints le None None (Some due) r u = colon_note None None (Some due) _ (p_left (p_ends (λ d. note_with None None (Some d)) (p_bytes _ _ (sym (append-nil (printed_due due))) (due_prints due u)) (λ d e. cc)))
@@ -134,13 +134,13 @@ alone : {A : Type 0} {d : ℕ} {b : Begin} {text : List ℕ} (f : Fixed) (g : Gr
 alone {text} f g {E} {F} h one = p_bytes _ _ (append-nil text) (p_last one (λ x e. p_ends {E = λ xs. xs ≡ []} (λ others. x ∷ others) (p_none words_row refl) (λ others k. subst (λ os. F (x ∷ os)) (sym k) (h x e))))
 
 -- a list in parentheses
-pub enclosed : {A : Type 0} {d : ℕ} {b : Begin} {text : List ℕ} {E : A → Type 0} (g : Grammar A) → d + 1 ≤ 64 → Writes g E (d + 1) b word text → Writes (in_parens g) E d tight free (codes "(" ++ (text ++ codes ")"))
-enclosed g le one = p_then p_open (λ o _. p_next one (λ x e. p_ends (λ c. x) (p_close le) (λ c _. e)))
+pub enclosed : {A : Type 0} {d : ℕ} {b : Begin} {text : List ℕ} {E : A → Type 0} (g : Grammar A) → d + 1 ≤ 64 → Writes g E (d + 1) b word text → Writes (in_parens g) E d any free (codes "(" ++ (text ++ codes ")"))
+enclosed g le one = p_then p_open (λ o _. p_next refl one (λ x e. p_ends (λ c. x) (p_close le) (λ c _. e)))
 
-pub perhaps_enclosed : {A : Type 0} {d : ℕ} {b : Begin} {text : List ℕ} {E : A → Type 0} (nothing : A) (g : Grammar A) → d + 1 ≤ 64 → Writes g E (d + 1) b word text → Writes (maybe_in_parens nothing g) E d tight free (codes "(" ++ (text ++ codes ")"))
-perhaps_enclosed nothing g le one = p_then p_open (λ o _. p_right (p_next one (λ x e. p_ends (λ c. x) (p_close le) (λ c _. e))))
+pub perhaps_enclosed : {A : Type 0} {d : ℕ} {b : Begin} {text : List ℕ} {E : A → Type 0} (nothing : A) (g : Grammar A) → d + 1 ≤ 64 → Writes g E (d + 1) b word text → Writes (maybe_in_parens nothing g) E d any free (codes "(" ++ (text ++ codes ")"))
+perhaps_enclosed nothing g le one = p_then p_open (λ o _. p_right (p_next refl one (λ x e. p_ends (λ c. x) (p_close le) (λ c _. e))))
 
-pub nothing_enclosed : {A : Type 0} {d : ℕ} {E : A → Type 0} (nothing : A) (g : Grammar A) → d + 1 ≤ 64 → E nothing → Writes (maybe_in_parens nothing g) E d tight free (codes "()")
+pub nothing_enclosed : {A : Type 0} {d : ℕ} {E : A → Type 0} (nothing : A) (g : Grammar A) → d + 1 ≤ 64 → E nothing → Writes (maybe_in_parens nothing g) E d any free (codes "()")
 nothing_enclosed nothing g le e = p_then p_open (λ o _. p_left (p_ends (λ c. nothing) (p_close le) (λ c _. e)))
 
 map_joined : {A B : Type 0} (u : A → B) (xss : List (List A)) → map u (joined xss) ≡ joined (map (map u) xss)
@@ -177,15 +177,15 @@ unfolding Params
 params_print le p ps h =
     p_bytes _ _ (ap (λ t. printed_param p ++ t) (sym (flat_map-map (λ other. codes "; " ++ other) printed_param ps)))
     (p_ends joined (p_last (run_prints le p h.0) (λ r e. p_ends {F = λ runs. Means unplaced_param (p ∷ ps) (joined runs)} (λ others. r ∷ others)
-    (p_many words_row IsOwnParam (map unplaced_param) (λ x. unplaced_param x ∷ []) (λ x. codes "; " ++ printed_param x) (λ x own. p_then p_semicolon (λ c _. p_pad (run_prints le x own))) ps h.1)
+    (p_many words_row IsOwnParam (map unplaced_param) (λ x. unplaced_param x ∷ []) (λ x. codes "; " ++ printed_param x) (λ x own. p_loose refl (p_then p_semicolon (λ c _. p_pad (run_prints le x own)))) ps h.1)
     (λ others f. grouped unplaced_param r others p ps e f)))
     (λ runs e. e))
 
-pub enclosed_params : (ps : List Param) → AllByRecursion IsOwnParam ps → IsSome ps → Writes (in_parens Params) (Means unplaced_param ps) 0 tight free (codes "(" ++ (printed_params ps ++ codes ")"))
+pub enclosed_params : (ps : List Param) → AllByRecursion IsOwnParam ps → IsSome ps → Writes (in_parens Params) (Means unplaced_param ps) 0 any free (codes "(" ++ (printed_params ps ++ codes ")"))
 enclosed_params [] h some = absurd (omega arith)
 enclosed_params (p ∷ ps) h some = enclosed Params (omega arith) (params_print (omega arith) p ps h)
 
-pub perhaps_params : (ps : List Param) → AllByRecursion IsOwnParam ps → Writes (maybe_in_parens [] Params) (Means unplaced_param ps) 0 tight free (codes "(" ++ (printed_params ps ++ codes ")"))
+pub perhaps_params : (ps : List Param) → AllByRecursion IsOwnParam ps → Writes (maybe_in_parens [] Params) (Means unplaced_param ps) 0 any free (codes "(" ++ (printed_params ps ++ codes ")"))
 perhaps_params [] h = nothing_enclosed [] Params (omega arith) refl
 perhaps_params (p ∷ ps) h = perhaps_enclosed [] Params (omega arith) (params_print (omega arith) p ps h)
 
@@ -195,7 +195,7 @@ rotated s g (x ∷ xs) = simp append_assoc (ap (λ t. s ++ (g x ++ t)) (rotated 
 
 ended_run : (p : Param) → IsOwnParam p → Writes EndedRun (Means unplaced_param (p ∷ [])) 0 any free (printed_param p ++ codes ";")
 unfolding EndedRun
-ended_run p h = p_next (run_prints (omega arith) p h) (λ r e. p_ends (λ c. r) p_semicolon (λ c _. e))
+ended_run p h = p_next refl (run_prints (omega arith) p h) (λ r e. p_ends (λ c. r) p_semicolon (λ c _. e))
 
 locals_text : (p : Param) (ps : List Param) → (printed_param p ++ codes ";") ++ flat_map (λ x. 32 ∷ (printed_param x ++ codes ";")) ps ++ codes "\n" ≡ printed_params (p ∷ ps) ++ codes ";\n"
 locals_text p ps =
@@ -209,8 +209,8 @@ unfolding Locals
 locals_print [] h = p_right (p_any (p_give [] refl))
 locals_print (p ∷ ps) h =
     p_left (p_bytes _ _ (ap (λ t. codes "var " ++ t) (locals_text p ps))
-    (p_line (λ rest. refl) (p_next (p_keyword fixed.Var (codes "var") (refl, omega arith) refl refl) (λ k _. p_then (p_pad (ended_run p h.0)) (λ r e. p_ends (λ others. r ++ joined others)
-    (p_many words_row IsOwnParam (map unplaced_param) (λ x. unplaced_param x ∷ []) (λ x. 32 ∷ (printed_param x ++ codes ";")) (λ x own. p_pad (p_word (ended_run x own))) ps h.1)
+    (p_line (λ rest. refl) (p_next refl (p_keyword fixed.Var (codes "var") (refl, omega arith) refl refl) (λ k _. p_then (p_pad (ended_run p h.0)) (λ r e. p_ends (λ others. r ++ joined others)
+    (p_many words_row IsOwnParam (map unplaced_param) (λ x. unplaced_param x ∷ []) (λ x. 32 ∷ (printed_param x ++ codes ";")) (λ x own. p_loose refl (p_pad (p_word (ended_run x own)))) ps h.1)
     (λ others f. grouped unplaced_param r others p ps e f))))))
 
 -- ports
@@ -219,7 +219,7 @@ group_prints : (p : Port) → IsOwnPort p → Writes PortGroup (Means unplaced_p
 unfolding PortGroup Names
 group_prints p h =
     p_bytes _ _ (simp append_assoc refl)
-    (p_next (alone fixed.Comma Name {F = λ ns. (t : Ty) → map unplaced_port (map (port_of t) ns) ≡ record { name = p.name; ty = t; at = nowhere } ∷ []} (λ n e t. ap (λ k. record { name = k; ty = t; at = nowhere } ∷ []) e) (name_prints p.name h))
+    (p_next refl (alone fixed.Comma Name {F = λ ns. (t : Ty) → map unplaced_port (map (port_of t) ns) ≡ record { name = p.name; ty = t; at = nowhere } ∷ []} (λ n e t. ap (λ k. record { name = k; ty = t; at = nowhere } ∷ []) e) (name_prints p.name h))
     (λ ns e. p_colon (λ c. p_ends (λ t. map (port_of t) ns) (type_prints p.ty) (λ t f. e t ∙ ap (λ ty. record { name = p.name; ty = ty; at = nowhere } ∷ []) f))))
 
 ports_print : (p : Port) (ps : List Port) → AllByRecursion IsOwnPort (p ∷ ps) → Writes Ports (Means unplaced_port (p ∷ ps)) 1 any word (printed_ports (p ∷ ps))
@@ -227,20 +227,23 @@ unfolding Ports NextGroup
 ports_print p ps h =
     p_bytes _ _ (ap (λ t. printed_port p ++ t) (sym (flat_map-map (λ other. codes "; " ++ other) printed_port ps)))
     (p_last (group_prints p h.0) (λ r e. p_ends (λ others. r ++ joined others)
-    (p_many words_row IsOwnPort (map unplaced_port) (λ x. unplaced_port x ∷ []) (λ x. codes "; " ++ printed_port x) (λ x own. p_then (p_right p_semicolon) (λ c _. p_pad (group_prints x own))) ps h.1)
+    (p_many words_row IsOwnPort (map unplaced_port) (λ x. unplaced_port x ∷ []) (λ x. codes "; " ++ printed_port x) (λ x own. p_loose refl (p_then (p_right p_semicolon) (λ c _. p_pad (group_prints x own)))) ps h.1)
     (λ others f. grouped unplaced_port r others p ps e f)))
 
-enclosed_ports : (ps : List Port) → AllByRecursion IsOwnPort ps → IsSome ps → Writes (in_parens Ports) (Means unplaced_port ps) 0 tight free (codes "(" ++ (printed_ports ps ++ codes ")"))
+enclosed_ports : (ps : List Port) → AllByRecursion IsOwnPort ps → IsSome ps → Writes (in_parens Ports) (Means unplaced_port ps) 0 any free (codes "(" ++ (printed_ports ps ++ codes ")"))
 enclosed_ports [] h some = absurd (omega arith)
 enclosed_ports (p ∷ ps) h some = enclosed Ports (omega arith) (ports_print p ps h)
 
-perhaps_ports : (ps : List Port) → AllByRecursion IsOwnPort ps → Writes (maybe_in_parens [] Ports) (Means unplaced_port ps) 0 tight free (codes "(" ++ (printed_ports ps ++ codes ")"))
+perhaps_ports : (ps : List Port) → AllByRecursion IsOwnPort ps → Writes (maybe_in_parens [] Ports) (Means unplaced_port ps) 0 any free (codes "(" ++ (printed_ports ps ++ codes ")"))
 perhaps_ports [] h = nothing_enclosed [] Ports (omega arith) refl
 perhaps_ports (p ∷ ps) h = perhaps_enclosed [] Ports (omega arith) (ports_print p ps h)
 
-wcet_prints : (n : ℕ) → IsCount n → Writes Wcet (λ w. w ≡ n) 0 tight free (printed_wcet n)
+wcet_text : (a n e z : List ℕ) → a ++ (n ++ e) ++ z ≡ a ++ n ++ (e ++ z)
+wcet_text a n e z = simp append_assoc
+
+wcet_prints : (n : ℕ) → IsCount n → Writes Wcet (λ w. w ≡ n) 0 any free (printed_wcet n)
 unfolding Wcet
-wcet_prints n h = p_bytes _ _ (simp append_assoc refl) (p_line (λ rest. tt) (p_next (p_pad (p_keyword fixed.Wcet (codes "wcet") (refl, omega arith) refl refl)) (λ k _. p_next (p_pad (p_count n h)) (λ m e. p_ends (λ c. small m) p_semicolon (λ c _. ap small e ∙ small_is n h.1)))))
+wcet_prints n h = p_bytes _ _ (wcet_text (codes " wcet ") (decimal n) (codes ";") (codes "\n")) (p_line (λ rest. tt) (p_next refl (p_pad (p_keyword fixed.Wcet (codes "wcet") (refl, omega arith) refl refl)) (λ k _. p_next refl (p_pad (p_count n h)) (λ m e. p_ends (λ c. small m) p_semicolon (λ c _. ap small e ∙ small_is n h.1)))))
 
 import_text : (a n l i r o c w : List ℕ) → a ++ (n ++ ((l ++ (i ++ c)) ++ (r ++ ((l ++ (o ++ c)) ++ w)))) ≡ a ++ n ++ l ++ i ++ (c ++ (r ++ l)) ++ o ++ c ++ w
 import_text a n l i r o c w = simp append_assoc
@@ -249,29 +252,29 @@ pub import_prints : (i : Import) → IsOwnImport i → Writes ImportText (λ x. 
 unfolding ImportText
 import_prints i h =
     p_bytes _ _ (import_text (codes "imported node ") i.name (codes "(") (printed_ports i.ins) (codes " returns ") (printed_ports i.outs) (codes ")") (printed_wcet i.wcet))
-    (p_next (p_keyword fixed.Imported (codes "imported") (refl, omega arith) refl refl) (λ k _. p_next (p_pad (p_keyword fixed.Node (codes "node") (refl, omega arith) refl refl)) (λ l _. p_next (p_pad (p_name i.name h.name)) (λ n e.
-    p_then (perhaps_ports i.ins h.ins) (λ ins f. p_next (p_pad (p_keyword fixed.Returns (codes "returns") (refl, omega arith) refl refl)) (λ r _. p_then (p_pad (enclosed_ports i.outs h.outs h.range.some)) (λ outs g.
+    (p_next refl (p_keyword fixed.Imported (codes "imported") (refl, omega arith) refl refl) (λ k _. p_next refl (p_pad (p_keyword fixed.Node (codes "node") (refl, omega arith) refl refl)) (λ l _. p_next refl (p_pad (p_name i.name h.name)) (λ n e.
+    p_then (perhaps_ports i.ins h.ins) (λ ins f. p_next refl (p_pad (p_keyword fixed.Returns (codes "returns") (refl, omega arith) refl refl)) (λ r _. p_then (p_pad (enclosed_ports i.outs h.outs h.range.some)) (λ outs g.
     p_ends (λ w. record { name = n.0; ins = ins; outs = outs; wcet = w; at = n.1 }) (wcet_prints i.wcet h.range.wcet) (λ w j. cc))))))))
 
 pub device_prints : (f : Fixed) (text : List ℕ) → Prints (The f) (λ p. Unit {0}) (plain 0) (plain 0) any word text → (d : Device) → IsOwnDevice d → Writes (DeviceText f) (λ x. unplaced_device x ≡ unplaced_device d) 0 any free (printed_device (text ++ codes " ") d)
 unfolding DeviceText
 device_prints f text keyword d h =
     p_bytes _ _ (simp append_assoc refl)
-    (p_next keyword (λ k _. p_next (p_pad (p_name d.name h.0)) (λ n e. p_ends (λ w. record { name = n.0; wcet = w; at = n.1 }) (wcet_prints d.wcet h.1) (λ w g. cc))))
+    (p_next refl keyword (λ k _. p_next refl (p_pad (p_name d.name h.0)) (λ n e. p_ends (λ w. record { name = n.0; wcet = w; at = n.1 }) (wcet_prints d.wcet h.1) (λ w g. cc))))
 
 abbrev unplaced_op : Op → PlacedOp
 unplaced_op op = record { op = op; at = nowhere }
 
-postfix_prints : {d : ℕ} (op : Op) → IsPostfix op → Writes Postfix (λ x. unplaced_operator x ≡ unplaced_op op) d tight word (printed_operator op)
+postfix_prints : {d : ℕ} (op : Op) → IsPostfix op → Writes Postfix (λ x. unplaced_operator x ≡ unplaced_op op) d loose word (printed_operator op)
 unfolding Postfix
 postfix_prints (ops.Fby v) h = absurd h
 postfix_prints (ops.Cons v) h = absurd h
 postfix_prints ops.Tail h = absurd h
-postfix_prints (ops.Up k) h = p_left (p_then (p_operator fixed.Up 42 94 (refl, omega arith, refl, refl, refl, refl, refl)) (λ p _. p_ends (λ n. record { op = ops.Up (small n); at = p }) (p_pad (p_count k h)) (λ n e. cc (small_is k h.1))))
-postfix_prints (ops.Down k) h = p_right (p_left (p_then (p_operator fixed.Down 47 94 (refl, omega arith, refl, refl, refl, refl, refl)) (λ p _. p_ends (λ n. record { op = ops.Down (small n); at = p }) (p_pad (p_count k h)) (λ n e. cc (small_is k h.1)))))
-postfix_prints (ops.Shift q) h = p_right (p_right (p_then (p_operator fixed.Shift 126 62 (refl, omega arith, refl, refl, refl, refl, refl)) (λ p _. p_ends (λ x. record { op = ops.Shift x; at = p }) (p_pad (ratio_prints q h)) (λ x e. ap (λ c. unplaced_op (ops.Shift c)) e))))
+postfix_prints (ops.Up k) h = p_loose refl (p_left (p_then (p_operator fixed.Up 42 94 (refl, omega arith, refl, refl, refl, refl, refl)) (λ p _. p_ends (λ n. record { op = ops.Up (small n); at = p }) (p_pad (p_count k h)) (λ n e. cc (small_is k h.1)))))
+postfix_prints (ops.Down k) h = p_loose refl (p_right (p_left (p_then (p_operator fixed.Down 47 94 (refl, omega arith, refl, refl, refl, refl, refl)) (λ p _. p_ends (λ n. record { op = ops.Down (small n); at = p }) (p_pad (p_count k h)) (λ n e. cc (small_is k h.1))))))
+postfix_prints (ops.Shift q) h = p_loose refl (p_right (p_right (p_then (p_operator fixed.Shift 126 62 (refl, omega arith, refl, refl, refl, refl, refl)) (λ p _. p_ends (λ x. record { op = ops.Shift x; at = p }) (p_pad (ratio_prints q h)) (λ x e. ap (λ c. unplaced_op (ops.Shift c)) e)))))
 
-postfixes_print : {d : ℕ} (post : List PlacedOp) → AllByRecursion (λ o. IsPostfix o.op) post → Prints (Many (Text programs Postfix)) (λ xs. map unplaced_operator xs ≡ map unplaced_operator post) (plain d) (plain d) maybe_empty word (printed_operators post)
+postfixes_print : {d : ℕ} (post : List PlacedOp) → AllByRecursion (λ o. IsPostfix o.op) post → Prints (Many (Text programs Postfix)) (λ xs. map unplaced_operator xs ≡ map unplaced_operator post) (plain d) (plain d) loose word (printed_operators post)
 postfixes_print post h = p_many words_row (λ o. IsPostfix o.op) unplaced_operator unplaced_operator (λ o. printed_operator o.op) (λ o own. postfix_prints o.op own) post h
 
 -- stems: prefixes, and what they are applied to
@@ -294,10 +297,10 @@ prefix_prints : {d : ℕ} (op : Op) → IsPrefix op → (pre : List PlacedOp) (r
     → Writes Stem (λ s. unplaced_stem s ≡ after_op op pre root) d any word (printed_operator op ++ text)
 unfolding Stem Prefixed
 prefix_prints (ops.Fby v) h pre root text stem = p_bytes _ _ (sym (append_assoc (value_text v) (codes " fby ") text))
-    (p_right (p_right (p_next (value_prints v h) (λ c e. p_left (p_pad (p_next (p_keyword fixed.Fby (codes "fby") (refl, omega arith) refl refl) (λ p _. p_ends (λ s. prefixed (record { op = ops.Fby c; at = p }) s) (p_pad (in_stem stem)) (λ s f. ap (prefixed (unplaced_op (ops.Fby c))) f ∙ ap (λ k. after_op (ops.Fby k) pre root) e))))))))
+    (p_right (p_right (p_next refl (value_prints v h) (λ c e. p_left (p_pad (p_next refl (p_keyword fixed.Fby (codes "fby") (refl, omega arith) refl refl) (λ p _. p_ends (λ s. prefixed (record { op = ops.Fby c; at = p }) s) (p_pad (in_stem stem)) (λ s f. ap (prefixed (unplaced_op (ops.Fby c))) f ∙ ap (λ k. after_op (ops.Fby k) pre root) e))))))))
 prefix_prints (ops.Cons v) h pre root text stem = p_bytes _ _ (sym (append_assoc (value_text v) (codes " :: ") text))
-    (p_right (p_right (p_next (value_prints v h) (λ c e. p_right (p_left (p_then (p_operator fixed.Cons 58 58 (refl, omega arith, refl, refl, refl, refl, refl)) (λ p _. p_ends (λ s. prefixed (record { op = ops.Cons c; at = p }) s) (p_pad (in_stem stem)) (λ s f. ap (prefixed (unplaced_op (ops.Cons c))) f ∙ ap (λ k. after_op (ops.Cons k) pre root) e))))))))
-prefix_prints ops.Tail h pre root text stem = p_right (p_left (p_next (p_keyword fixed.Tail (codes "tail") (refl, omega arith) refl refl) (λ p _. p_ends (λ s. prefixed (record { op = ops.Tail; at = p }) s) (p_pad (in_stem stem)) (λ s f. ap (prefixed (unplaced_op ops.Tail)) f))))
+    (p_right (p_right (p_next refl (value_prints v h) (λ c e. p_right (p_left (p_then (p_operator fixed.Cons 58 58 (refl, omega arith, refl, refl, refl, refl, refl)) (λ p _. p_ends (λ s. prefixed (record { op = ops.Cons c; at = p }) s) (p_pad (in_stem stem)) (λ s f. ap (prefixed (unplaced_op (ops.Cons c))) f ∙ ap (λ k. after_op (ops.Cons k) pre root) e))))))))
+prefix_prints ops.Tail h pre root text stem = p_right (p_left (p_next refl (p_keyword fixed.Tail (codes "tail") (refl, omega arith) refl refl) (λ p _. p_ends (λ s. prefixed (record { op = ops.Tail; at = p }) s) (p_pad (in_stem stem)) (λ s f. ap (prefixed (unplaced_op ops.Tail)) f))))
 prefix_prints (ops.Up n) h pre root text stem = absurd h
 prefix_prints (ops.Down n) h pre root text stem = absurd h
 prefix_prints (ops.Shift q) h pre root text stem = absurd h
@@ -320,7 +323,7 @@ expr_prints pre post root at h stem =
     (λ x e. ap (λ (s : StemTree). tree s.0 s.1 (map unplaced_operator x.1.1) nowhere) e.0 ∙ ap (λ ops. tree (map unplaced_operator pre) (unplaced_root root) ops nowhere) e.1)
 
 exprs_print : {d : ℕ} (t : Tree) (ts : Trees) → Writes Expr (λ x. unplaced_tree x ≡ unplaced_tree t) d any word (printed_tree t)
-    → Prints (Many (Text programs (after fixed.Comma Expr))) (λ xs. unplaced_trees (trees_from xs) ≡ unplaced_trees ts) (plain d) (plain d) maybe_empty word (printed_others ts)
+    → Prints (Many (Text programs (after fixed.Comma Expr))) (λ xs. unplaced_trees (trees_from xs) ≡ unplaced_trees ts) (plain d) (plain d) loose word (printed_others ts)
     → Writes Exprs (λ x. unplaced_trees x ≡ unplaced_trees (more t ts)) d any word (printed_trees (more t ts))
 unfolding Exprs
 exprs_print t ts first others =
@@ -330,10 +333,10 @@ exprs_print t ts first others =
 abbrev Applies : List ℕ → Root → Option Trees → Type 0
 Applies name root args = (n : List ℕ × Span) → n.0 ≡ name → unplaced_root (root_of_name n args) ≡ root
 
-application : {d : ℕ} {text : List ℕ} (name : List ℕ) (at : Span) (args : Trees) → IsOwnName name → Writes (maybe_in_parens none Exprs) (λ x. unplaced_trees x ≡ unplaced_trees args) d tight free text
-    → Writes Stem (λ s. unplaced_stem s ≡ stem_of (unplaced_root (apply name at args))) d any word (name ++ text)
+application : {d : ℕ} {text : List ℕ} (name : List ℕ) (at : Span) (args : Trees) → IsOwnName name → Writes (maybe_in_parens none Exprs) (λ x. unplaced_trees x ≡ unplaced_trees args) d any free (40 ∷ text)
+    → Writes Stem (λ s. unplaced_stem s ≡ stem_of (unplaced_root (apply name at args))) d any word (name ++ 40 ∷ text)
 unfolding Base
-application name at args h list = base_stem (apply name at args) (p_left (p_word (p_next (p_name name h) (λ n e. p_ends {E = Applies name (unplaced_root (apply name at args))} (λ a. root_of_name n a)
+application name at args h list = base_stem (apply name at args) (p_left (p_word (p_next refl (p_name name h) (λ n e. p_ends {E = Applies name (unplaced_root (apply name at args))} (λ a. root_of_name n a)
     (p_left (p_ends Some list (λ xs f n e. ap (λ k. apply k nowhere (unplaced_trees xs)) e ∙ ap (apply name nowhere) f))) (λ a f. f n e)))))
 
 mutual
@@ -350,11 +353,11 @@ mutual
       application name at (more t ts) (h.0, g.0) (perhaps_enclosed none Exprs h.1 (exprs_print t ts (tree_prints (d + 1) t h.2.0 g.1.0) (others_print (d + 1) ts h.2.1 g.1.1)))
   root_prints d (group none) h g = absurd h
   root_prints d (group (more t ts)) h g =
-      base_stem (group (more t ts)) (p_right (p_ends group (p_any (p_word (enclosed Exprs h.0 (exprs_print t ts (tree_prints (d + 1) t h.1 g.0) (others_print (d + 1) ts h.2 g.1))))) (λ xs e. ap group e)))
+      base_stem (group (more t ts)) (p_right (p_ends group (p_word (enclosed Exprs h.0 (exprs_print t ts (tree_prints (d + 1) t h.1 g.0) (others_print (d + 1) ts h.2 g.1)))) (λ xs e. ap group e)))
 
-  others_print : (d : ℕ) (ts : Trees) → AreTreesInRange d ts → AreFreeTrees ts → Prints (Many (Text programs (after fixed.Comma Expr))) (λ xs. unplaced_trees (trees_from xs) ≡ unplaced_trees ts) (plain d) (plain d) maybe_empty word (printed_others ts)
+  others_print : (d : ℕ) (ts : Trees) → AreTreesInRange d ts → AreFreeTrees ts → Prints (Many (Text programs (after fixed.Comma Expr))) (λ xs. unplaced_trees (trees_from xs) ≡ unplaced_trees ts) (plain d) (plain d) loose word (printed_others ts)
   others_print d none h g = p_none words_row refl
-  others_print d (more t ts) h g = p_cons words_row (λ x xs e f. cc) (p_then p_comma (λ c _. p_pad (tree_prints d t h.0 g.0))) (others_print d ts h.1 g.1)
+  others_print d (more t ts) h g = p_cons words_row (λ x xs e f. cc) (p_loose refl (p_then p_comma (λ c _. p_pad (tree_prints d t h.0 g.0)))) (others_print d ts h.1 g.1)
 
 -- equations
 
@@ -363,7 +366,7 @@ unfolding Names
 names_print n ns h =
     p_bytes _ _ (ap (λ t. n.name ++ t) (sym (flat_map-map (λ other. codes ", " ++ other) name_of ns)))
     (p_last (name_prints n.name h.0) (λ x e. p_ends (λ others. x ∷ others)
-    (p_many words_row IsOwnPlaced unplaced_name unplaced_name (λ y. codes ", " ++ y.name) (λ y own. p_then p_comma (λ c _. p_pad (p_weaken (λ x e. cc) (name_prints y.name own)))) ns h.1)
+    (p_many words_row IsOwnPlaced unplaced_name unplaced_name (λ y. codes ", " ++ y.name) (λ y own. p_loose refl (p_then p_comma (λ c _. p_pad (p_weaken (λ x e. cc) (name_prints y.name own))))) ns h.1)
     (λ others f. cc)))
 
 lefts_print : (ns : List Placed) → AllByRecursion IsOwnPlaced ns → IsSome ns → Writes Left (λ xs. map unplaced_name xs ≡ map unplaced_name ns) 0 any word (printed_lefts ns)
@@ -380,7 +383,7 @@ unfolding Equation
 equation_prints q h =
     p_bytes _ _ (equation_text (codes "  ") (printed_lefts q.lefts) (codes " = ") (printed_tree q.right) (codes ";") (codes "\n"))
     (p_any (p_line (λ rest. tt) (p_pad (p_pad (p_ends (λ x. record { lefts = x.1.0; right = x.1.1; at = x.0 })
-    (p_first (p_next (lefts_print q.lefts h.lefts h.range.some) (λ ls e. p_then (p_pad p_equals) (λ p _. p_next (p_pad (tree_prints 0 q.right h.range.right h.right)) (λ t f.
+    (p_first (p_next refl (lefts_print q.lefts h.lefts h.range.some) (λ ls e. p_then (p_pad p_equals) (λ p _. p_next refl (p_pad (tree_prints 0 q.right h.range.right h.right)) (λ t f.
     p_ends {F = λ (s : List Placed × Tree). (map unplaced_name s.0 ≡ map unplaced_name q.lefts) × (unplaced_tree s.1 ≡ unplaced_tree q.right)} (λ c. (ls, t)) p_semicolon (λ c _. (e, f)))))))
     (λ x e. cc (e.0, e.1)))))))
 
@@ -394,8 +397,8 @@ node_prints : (n : NodeTree) → IsOwnNode n → Writes Node (λ x. unplaced_nod
 unfolding Node
 node_prints n h =
     p_bytes _ _ (node_text (codes "node ") n.name (codes "(") (printed_params n.ins) (codes " returns ") (printed_params n.outs) (codes ")") (printed_locals n.locals) (codes "let\n") (flat_map printed_equation n.eqs) (codes "tel\n"))
-    (p_next (p_keyword fixed.Node (codes "node") (refl, omega arith) refl refl) (λ k _. p_next (p_pad (p_name n.name h.name)) (λ m e. p_then (perhaps_params n.ins h.ins) (λ ins f.
-    p_next (p_pad (p_keyword fixed.Returns (codes "returns") (refl, omega arith) refl refl)) (λ r _. p_then (p_line (λ rest. tt) (p_pad (enclosed_params n.outs h.outs h.range.some))) (λ outs g. p_then (locals_print n.locals h.locals) (λ locals i.
+    (p_next refl (p_keyword fixed.Node (codes "node") (refl, omega arith) refl refl) (λ k _. p_next refl (p_pad (p_name n.name h.name)) (λ m e. p_then (perhaps_params n.ins h.ins) (λ ins f.
+    p_next refl (p_pad (p_keyword fixed.Returns (codes "returns") (refl, omega arith) refl refl)) (λ r _. p_then (p_line (λ rest. tt) (p_pad (enclosed_params n.outs h.outs h.range.some))) (λ outs g. p_then (locals_print n.locals h.locals) (λ locals i.
     p_then (p_line (λ rest. refl) (p_keyword fixed.Let (codes "let") (refl, omega arith) refl refl)) (λ l _. p_then (p_many lines_row IsOwnEquation unplaced_equation unplaced_equation printed_equation equation_prints n.eqs h.eqs) (λ eqs j.
     p_then (p_line (λ rest. refl) (p_keyword fixed.Tel (codes "tel") (refl, omega arith) refl refl)) (λ t _. p_ends (λ s. record { name = m.0; ins = ins; outs = outs; locals = locals; eqs = eqs; at = m.1 }) (p_right (p_give {F = λ o. Unit {0}} None tt)) (λ s _. cc)))))))))))
 
