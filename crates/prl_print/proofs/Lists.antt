@@ -53,9 +53,6 @@ pub joined_seven : (old a b c d e f g t1 t2 t3 t4 t5 t6 t7 : List ℕ) → t1 �
 joined_seven old a b c d e f g t1 t2 t3 t4 t5 t6 t7 h1 h2 h3 h4 h5 h6 h7 =
     h7 ∙ ap (λ t. t ++ g) (h6 ∙ ap (λ t. t ++ f) (h5 ∙ ap (λ t. t ++ e) (h4 ∙ ap (λ t. t ++ d) (h3 ∙ ap (λ t. t ++ c) (h2 ∙ ap (λ t. t ++ b) h1))))) ∙ simp append_assoc
 
-pub joined_two : (old a b t1 t2 : List ℕ) → t1 ≡ old ++ a → t2 ≡ t1 ++ b → t2 ≡ old ++ (a ++ b)
-joined_two old a b t1 t2 h1 h2 = h2 ∙ ap (λ t. t ++ b) h1 ∙ append_assoc old a b
-
 pub appended_one : {X : Type 0} (f : X → List ℕ) (start text text' : List ℕ) (xs : List X) (i : ℕ) (x : X) → i < length xs → x ≡ get_or xs i x → text ≡ start ++ flat_map f (take i xs) → text' ≡ text ++ f x
     → text' ≡ start ++ flat_map f (take (i + 1) xs)
 appended_one f start text text' xs i x lt is e g =

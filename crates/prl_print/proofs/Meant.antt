@@ -1,6 +1,7 @@
 -- What holds of the trees of programs.
-use Rattle.std.proofs.Common.{◌≡◌, ◌≤◌, ◌&&◌, ◌==◌, ◌+◌, ℕ, Bool, false, zero, suc, pos, neg_ℤ, min, leb, true, List, [], ◌∷◌, ◌++◌, map, length, Option, Some, None, refl, arith}
+use Rattle.std.proofs.Common.{◌≡◌, ◌≤◌, ◌&&◌, ◌+◌, ℕ, Bool, zero, suc, pos, neg_ℤ, min, leb, true, List, [], ◌∷◌, ◌++◌, map, length, Option, Some, None, refl, arith}
 use Rattle.std.proofs.lemmas.Bool.{and_parts, leb-true}
+use Rattle.std.proofs.lemmas.List.{length-map}
 use Rattle.std.specs.List.{AllByRecursion}
 use Rattle.prl_base.specs.declared.decimals.TheConstants.{MAX_NEGATIVE, MAX_POSITIVE}
 use Rattle.prl_base.specs.declared.values.Ty.{Ty}
@@ -19,7 +20,7 @@ use Rattle.prl_syntax.specs.Trees.{StemTree, joined, param_of, note_or, first_no
 use Rattle.prl_syntax.specs.Grammar.{Grammar, Const, Ratio, Name, Names, TypeName, Rate, Due, Note as NoteText, Item as ItemText, Run, Params, EndedRun, Locals, PortGroup, NextGroup, Ports, Wcet, Import, Device, Postfix, Expr, Exprs, Base, Prefixed, Stem, programs, Left, Equation, Node, Declaration, Program}
 use Rattle.prl_print.proofs.Fractions.{is_shift}
 use Rattle.prl_print.proofs.Own.{IsOwnName, IsOwnPlaced, IsOwnPort, IsOwnParam, IsOwnImport, IsOwnDevice, all_of, IsFreeRoot, IsOwnTree, AreOwnTrees, IsOwnEquation, IsOwnNode, AreOwn}
-use Rattle.prl_print.proofs.Source.{Sure, s_then, s_give, s_either, s_weaken, s_many, s_place, s_close, s_named, s_number, s_alone, s_count, s_maybe, s_list, s_parens, s_perhaps, s_first}
+use Rattle.prl_print.proofs.Source.{deeper, Sure, s_then, s_give, s_either, s_weaken, s_many, s_place, s_close, s_named, s_number, s_alone, s_count, s_maybe, s_list, s_parens, s_perhaps, s_first}
 use Rattle.prl_base.specs.declared.operators.Op.{Op}
 use Rattle.prl_base.specs.declared.operators.Op.TheVariants as ops
 use Rattle.prl_base.specs.declared.places.Span.{Span}
@@ -91,8 +92,7 @@ some_joined P ([] ∷ xss) h = absurd (omega (arith, h.0.0.1))
 some_joined P ((x ∷ xs) ∷ xss) h = (all_joined P ((x ∷ xs) ∷ xss) h.0, omega arith)
 
 own_ports : (ty : Ty) (ns : List Placed) → AreSome IsOwnPlaced ns → AreSome IsOwnPort (map (port_of ty) ns)
-own_ports ty [] h = absurd (omega (arith, h.1))
-own_ports ty (n ∷ ns) h = ((h.0.0, all ns h.0.1), omega arith)
+own_ports ty ns h = (all ns h.0, omega (arith, length-map ns (port_of ty), h.1))
   where
     all : (ms : List Placed) → AllByRecursion IsOwnPlaced ms → AllByRecursion IsOwnPort (map (port_of ty) ms)
     all [] g = tt
@@ -117,7 +117,7 @@ module _ (I : StemTree → List Lexeme → Type 0) where
 
   pub names_mean : Means Names (AreSome IsOwnPlaced)
   unfolding Names
-  names_mean i c d = s_list (refl, refl) (λ i c. name_means i c d)
+  names_mean i c d = s_list (λ d. refl) (λ i c. name_means i c d)
 
   type_means : Means TypeName (λ t. Unit {0})
   unfolding TypeName
@@ -141,12 +141,12 @@ module _ (I : StemTree → List Lexeme → Type 0) where
   run_means : Means Run (AreSome IsOwnParam)
   unfolding Run ItemText
   run_means i c d =
-      s_then (λ i c. s_list {P = IsOwnItem} (refl, refl) (λ i c. s_then (λ i c. name_means i c d) (λ n h i c. s_then (λ i c. s_maybe (λ i c. s_place (λ p _. note_means _ _ d))) (λ x g i c. s_give (record { name = h; note = g })))))
+      s_then (λ i c. s_list {P = IsOwnItem} (λ d. refl) (λ i c. s_then (λ i c. name_means i c d) (λ n h i c. s_then (λ i c. s_maybe (λ i c. s_place (λ p _. note_means _ _ d))) (λ x g i c. s_give (record { name = h; note = g })))))
       (λ is h i c. s_give (params_some is h))
 
   pub params_mean : Means Params (AreSome IsOwnParam)
   unfolding Params
-  params_mean i c d = s_then (λ i c. s_list (refl, refl) (λ i c. run_means i c d)) (λ runs h i c. s_give (some_joined IsOwnParam runs h))
+  params_mean i c d = s_then (λ i c. s_list (λ d. refl) (λ i c. run_means i c d)) (λ runs h i c. s_give (some_joined IsOwnParam runs h))
 
   ended_means : Means EndedRun (AreSome IsOwnParam)
   unfolding EndedRun
@@ -162,7 +162,7 @@ module _ (I : StemTree → List Lexeme → Type 0) where
 
   ports_mean : Means Ports (AreSome IsOwnPort)
   unfolding Ports NextGroup
-  ports_mean i c d = s_then (λ i c. group_means i c d) (λ r h i c. s_then (s_many (λ i c. s_then (λ i c. s_either (s_alone (refl, refl)) (s_alone (refl, refl))) (λ p _ i c. group_means i c d))) (λ others g i c. s_give (some_joined IsOwnPort (r ∷ others) ((h, g), omega arith))))
+  ports_mean i c d = s_then (λ i c. group_means i c d) (λ r h i c. s_then (s_many (λ i c. s_then (λ i c. s_either (s_alone (λ d. refl)) (s_alone (λ d. refl))) (λ p _ i c. group_means i c d))) (λ others g i c. s_give (some_joined IsOwnPort (r ∷ others) ((h, g), omega arith))))
 
   wcet_means : Means Wcet IsCount
   unfolding Wcet
@@ -174,7 +174,7 @@ module _ (I : StemTree → List Lexeme → Type 0) where
       s_place (λ k _. s_place (λ l _. s_named (λ n e. s_then {P = λ ins. (d + 1 ≤ 64) × AllByRecursion IsOwnPort ins} (λ i c. s_perhaps [] tt (λ i c. s_weaken (ports_mean i c (d + 1)) (λ ps h. h.0))) (λ ins f i c. s_place (λ r _. s_then (λ i c. s_parens (λ i c. ports_mean i c (d + 1))) (λ outs g i c.
       s_then (λ i c. wcet_means i c d) (λ w h i c. s_give (record { range = record { name = e.0; ins = all_of (λ p q. q.0) ins f.1; outs = all_of (λ p q. q.0) outs g.1.0; some = g.1.1; wcet = h }; name = e; ins = f.1; outs = g.1.0 }))))))))
 
-  pub device_means : (f : Fixed) → ((class_of f == 19) ≡ false) × ((class_of f == 20) ≡ false) → Means (Device f) IsOwnDevice
+  pub device_means : (f : Fixed) → ((d : ℕ) → deeper d (class_of f) ≡ d) → Means (Device f) IsOwnDevice
   unfolding Device
   device_means f other i c d = s_then (λ i c. s_alone other) (λ k _ i c. s_named (λ n e. s_then (λ i c. wcet_means i c d) (λ w h i c. s_give (e, h))))
 
@@ -226,7 +226,7 @@ module _ (I : StemTree → List Lexeme → Type 0) (inside : (i : Bool) (c d : �
 
   exprs_mean : Means_at Exprs IsOwnGroup
   unfolding Exprs
-  exprs_mean i c d = s_then (λ i c. s_list (refl, refl) (λ i c. expr_means i c d)) (λ ts h i c. s_give (group_own d ts h))
+  exprs_mean i c d = s_then (λ i c. s_list (λ d. refl) (λ i c. expr_means i c d)) (λ ts h i c. s_give (group_own d ts h))
 
   base_means : Means_at Base IsOwnRoot
   unfolding Base
@@ -234,7 +234,7 @@ module _ (I : StemTree → List Lexeme → Type 0) (inside : (i : Bool) (c d : �
       s_either (s_named (λ n e. s_then (λ i c. s_maybe (λ i c. s_perhaps {P = AreOwnTrees (d + 1)} none (tt, tt) (λ i c. s_weaken (exprs_mean i c (d + 1)) (group_trees (d + 1))))) (λ args h i c. s_give (named_root d n args e h))))
       (s_then (λ i c. s_parens (λ i c. exprs_mean i c (d + 1))) (λ ts h i c. s_give (group_root d ts h)))
 
-  prefixed_means : (f : Fixed) (op : Op) → ((class_of f == 19) ≡ false) × ((class_of f == 20) ≡ false) → IsPrefix op → Means_at (Prefixed f op) IsOwnStem
+  prefixed_means : (f : Fixed) (op : Op) → ((d : ℕ) → deeper d (class_of f) ≡ d) → IsPrefix op → Means_at (Prefixed f op) IsOwnStem
   unfolding Prefixed
   prefixed_means f op other own i c d = s_then (λ i c. s_alone other) (λ p _ i c. s_then (λ i c. inside i c d) (λ s h i c. s_give ((own, h.0), h.1)))
 
@@ -242,8 +242,8 @@ module _ (I : StemTree → List Lexeme → Type 0) (inside : (i : Bool) (c d : �
   unfolding Stem
   stem_means i c d =
       s_either (s_then (λ i c. base_means i c d) (λ b h i c. s_give (tt, h)))
-      (s_either (prefixed_means fixed.Tail ops.Tail (refl, refl) tt i c d)
-      (s_then (λ i c. constant_means I i c d) (λ v h i c. s_either (prefixed_means fixed.Fby (ops.Fby v) (refl, refl) h i c d) (s_either (prefixed_means fixed.Cons (ops.Cons v) (refl, refl) h i c d) (s_give (tt, (h, tt)))))))
+      (s_either (prefixed_means fixed.Tail ops.Tail (λ d. refl) tt i c d)
+      (s_then (λ i c. constant_means I i c d) (λ v h i c. s_either (prefixed_means fixed.Fby (ops.Fby v) (λ d. refl) h i c d) (s_either (prefixed_means fixed.Cons (ops.Cons v) (λ d. refl) h i c d) (s_give (tt, (h, tt)))))))
 
 within_means : (n : ℕ) (i : Bool) (c d : ℕ) → Sure i c d d (within programs n) (IsOwnStem d)
 unfolding within programs
@@ -269,7 +269,7 @@ node_means : (i : Bool) (c : ℕ) → Sure i c 0 0 (Text programs Node) IsOwnNod
 unfolding Node
 node_means i c =
     s_place (λ k _. s_named (λ n e. s_then {P = λ ins. (1 ≤ 64) × AllByRecursion IsOwnParam ins} (λ i c. s_perhaps [] tt (λ i c. s_weaken (params_mean I i c 1) (λ ps h. h.0))) (λ ins f i c. s_place (λ r _. s_then (λ i c. s_parens (λ i c. params_mean I i c 1)) (λ outs g i c.
-    s_then (λ i c. locals_mean I i c 0) (λ locals h i c. s_place (λ l _. s_then (s_many equation_means) (λ eqs j i c. s_place (λ t _. s_then (λ i c. s_maybe (λ i c. s_alone (refl, refl))) (λ s _ i c. s_give (record {
+    s_then (λ i c. locals_mean I i c 0) (λ locals h i c. s_place (λ l _. s_then (s_many equation_means) (λ eqs j i c. s_place (λ t _. s_then (λ i c. s_maybe (λ i c. s_alone (λ d. refl))) (λ s _ i c. s_give (record {
       range = record {
         name = e.0;
         ins = all_of (λ p q. q.0) ins f.1;
@@ -294,8 +294,8 @@ IsOwnDeclared (node n) = IsOwnNode n
 declaration_means : (i : Bool) (c : ℕ) → Sure i c 0 0 (Text programs Declaration) IsOwnDeclared
 unfolding Declaration
 declaration_means i c =
-    s_either (s_then (λ i c. import_means I i c 0) (λ x h i c. s_give h)) (s_either (s_then (λ i c. device_means I fixed.Sensor (refl, refl) i c 0) (λ x h i c. s_give h))
-    (s_either (s_then (λ i c. device_means I fixed.Actuator (refl, refl) i c 0) (λ x h i c. s_give h)) (s_then node_means (λ x h i c. s_give h))))
+    s_either (s_then (λ i c. import_means I i c 0) (λ x h i c. s_give h)) (s_either (s_then (λ i c. device_means I fixed.Sensor (λ d. refl) i c 0) (λ x h i c. s_give h))
+    (s_either (s_then (λ i c. device_means I fixed.Actuator (λ d. refl) i c 0) (λ x h i c. s_give h)) (s_then node_means (λ x h i c. s_give h))))
 
 all_own : (ds : List Declared) → AllByRecursion IsOwnDeclared ds → AreOwn (program_of ds)
 all_own [] h = (tt, tt, tt, tt)

@@ -61,9 +61,6 @@ in_range text p h =
     }
 
 -- what is read from the printed text of a program is the program, places aside
-program_reads_back : (p : ProgramTree) (text source : List ℕ) → text ≡ printed p → IsProgramOf source p → IsTextOf text p
-program_reads_back p text source e h = let P : List ℕ → Type 0 = λ t. IsTextOf t p in subst P (sym e) (reads_back p (own source p h) h.nodes)
-
 pub result_reads_back : {E : Type 0} (p : ProgramTree) (r : Result (Vec ℕ Global) E) → IfOk r (λ text. text.items ≡ printed p) → (source : List ℕ) → IsProgramOf source p → IfOk r (λ text. IsTextOf text.items p)
-result_reads_back p (Ok text) e source h = program_reads_back p text.items source e h
+result_reads_back p (Ok text) e source h = let P : List ℕ → Type 0 = λ t. IsTextOf t p in subst P (sym e) (reads_back p (own source p h) h.nodes)
 result_reads_back p (Err fault) e source h = tt

@@ -18,7 +18,7 @@ use Rattle.prl_syntax.specs.declared.words.Fixed.{Fixed}
 use Rattle.prl_syntax.specs.declared.words.Fixed.TheVariants as fixed
 use Rattle.prl_syntax.specs.Words.{class_of, keyword_of, symbol_of}
 use Rattle.prl_syntax.specs.Ranges.{in_range, program_ranges}
-use Rattle.prl_print.proofs.Tokens.{constant, part, State, state, state_after, Stops, is_loud, AreBytes, Scan, past, scan_blank, IsToken, scan_token, a_word, a_number, a_symbol, word_token, number_token, number_leads, is_mark, goes_on, one_token, two_token}
+use Rattle.prl_print.proofs.Tokens.{constant, part, State, state, state_after, Stops, is_loud, AreBytes, Scan, past, scan_blank, IsToken, scan_token, a_word, a_number, a_symbol, word_token, number_token, number_leads, is_mark, goes_on, mark_small, one_piece, two_piece, symbol_token, shallow}
 use Rattle.prl_print.proofs.Source.{Number}
 use Rattle.prl_print.proofs.Own.{IsOwnName}
 
@@ -291,7 +291,7 @@ IsSign f a = (is_mark a ≡ true) × (is_one_byte_symbol a ≡ true) × (symbol_
 p_sign : {inside : Bool} {r : ℕ → Bool} (d deep : ℕ) (f : Fixed) (a : ℕ) → IsSign f a → depth_after d (a ∷ []) ≡ deep → (deep ≤ 64 → d ≤ 64) → Prints (The f) (λ p. Unit {0}) (state inside r d) (state_after inside (class_of f) deep) any (sign a) (a ∷ [])
 p_sign {inside} {r} d deep f a is down low = p_one (class_of f) (λ t. t.at) (λ p. Unit {0}) (a_symbol f (a ∷ [])) (λ at. refl) (λ at. tt)
     (λ at. token_lex at inside r d deep 0 kinds.Symbol (sign a) (a ∷ []) (a_symbol f (a ∷ []) at) (λ rest. is.4) low (λ last e. ap (λ t. t && not (in_range inside last 0)) is.3)
-    (λ rest bytes fits le. one_token at d deep a rest f bytes is.0 is.1 is.2 fits down le))
+    (λ rest bytes fits le. symbol_token at d deep (a ∷ []) rest f (mark_small a is.0, tt) (omega arith) (one_piece a rest bytes is.0 is.1 fits) is.2 down (shallow at deep (a ∷ []) le)))
 
 pub p_open : {inside : Bool} {r : ℕ → Bool} {d : ℕ} → Prints (The fixed.Open) (λ p. Unit {0}) (state inside r d) (state_after inside 19 (d + 1)) any free (codes "(")
 p_open {d} = p_quiet (λ c h. (or_parts (c == 42) (c == 94) h).0) (p_sign d (d + 1) fixed.Open 40 (refl, refl, refl, refl, refl) refl (λ le. omega (arith, le)))
@@ -335,5 +335,5 @@ p_operator {inside} {r} {d} f a b is = p_one (class_of f) (λ t. t.at) (λ p. Un
         let P : ℕ → Type 0 = λ n. Scan (state_after inside (class_of f) d) n whole rest v in
         let same : at + 3 ≡ at + 1 + 2 = omega arith in
         scan_blank (state inside r d) at 32 whole (a ∷ b ∷ rest) (a_symbol f (a ∷ b ∷ []) (at + 1) ∷ v) (omega arith) refl
-        (scan_token inside r (at + 1) d d kinds.Symbol whole (a ∷ b ∷ []) rest 0 (a_symbol f (a ∷ b ∷ []) (at + 1)) v (two_token (at + 1) d a b rest f scan.bytes is.0 is.1 is.2 is.3 is.4 is.5 scan.are.0) scan.are.0
+        (scan_token inside r (at + 1) d d kinds.Symbol whole (a ∷ b ∷ []) rest 0 (a_symbol f (a ∷ b ∷ []) (at + 1)) v (symbol_token (at + 1) d d (a ∷ b ∷ []) rest f (mark_small a is.0, (is.1, tt)) (omega arith) (two_piece a b rest (is.1, scan.bytes) is.0 is.2 is.3 is.4) is.5 refl (shallow (at + 1) d (a ∷ b ∷ []) scan.are.0)) scan.are.0
         (past at whole (32 ∷ []) (a ∷ b ∷ rest) here) (λ last e. ap (λ t. t && not (in_range inside last 0)) is.6) (subst P same scan))

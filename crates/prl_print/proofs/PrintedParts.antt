@@ -181,13 +181,15 @@ params_print le p ps h =
     (λ others f. grouped unplaced_param r others p ps e f)))
     (λ runs e. e))
 
-pub enclosed_params : (ps : List Param) → AllByRecursion IsOwnParam ps → IsSome ps → Writes (in_parens Params) (Means unplaced_param ps) 0 any free (codes "(" ++ (printed_params ps ++ codes ")"))
-enclosed_params [] h some = absurd (omega arith)
-enclosed_params (p ∷ ps) h some = enclosed Params (omega arith) (params_print (omega arith) p ps h)
+listed : {X : Type 0} {P : X → Type 0} (u : X → X) (g : Grammar (List X)) (text : List X → List ℕ) → ((x : X) (xs : List X) → AllByRecursion P (x ∷ xs) → Writes g (Means u (x ∷ xs)) 1 any word (text (x ∷ xs)))
+    → (xs : List X) → AllByRecursion P xs → IsSome xs → Writes (in_parens g) (Means u xs) 0 any free (codes "(" ++ (text xs ++ codes ")"))
+listed u g text each [] h some = absurd (omega arith)
+listed u g text each (x ∷ xs) h some = enclosed g (omega arith) (each x xs h)
 
-pub perhaps_params : (ps : List Param) → AllByRecursion IsOwnParam ps → Writes (maybe_in_parens [] Params) (Means unplaced_param ps) 0 any free (codes "(" ++ (printed_params ps ++ codes ")"))
-perhaps_params [] h = nothing_enclosed [] Params (omega arith) refl
-perhaps_params (p ∷ ps) h = perhaps_enclosed [] Params (omega arith) (params_print (omega arith) p ps h)
+perhaps_listed : {X : Type 0} {P : X → Type 0} (u : X → X) (g : Grammar (List X)) (text : List X → List ℕ) → text [] ≡ [] → ((x : X) (xs : List X) → AllByRecursion P (x ∷ xs) → Writes g (Means u (x ∷ xs)) 1 any word (text (x ∷ xs)))
+    → (xs : List X) → AllByRecursion P xs → Writes (maybe_in_parens [] g) (Means u xs) 0 any free (codes "(" ++ (text xs ++ codes ")"))
+perhaps_listed u g text empty each [] h = p_bytes _ _ (ap (λ t. codes "(" ++ (t ++ codes ")")) (sym empty)) (nothing_enclosed [] g (omega arith) refl)
+perhaps_listed u g text empty each (x ∷ xs) h = perhaps_enclosed [] g (omega arith) (each x xs h)
 
 rotated : {X : Type 0} (s : List ℕ) (g : X → List ℕ) (xs : List X) → s ++ flat_map (λ x. g x ++ s) xs ≡ flat_map (λ x. s ++ g x) xs ++ s
 rotated s g [] = append-nil s
@@ -230,14 +232,6 @@ ports_print p ps h =
     (p_many words_row IsOwnPort (map unplaced_port) (λ x. unplaced_port x ∷ []) (λ x. codes "; " ++ printed_port x) (λ x own. p_loose refl (p_then (p_right p_semicolon) (λ c _. p_pad (group_prints x own)))) ps h.1)
     (λ others f. grouped unplaced_port r others p ps e f)))
 
-enclosed_ports : (ps : List Port) → AllByRecursion IsOwnPort ps → IsSome ps → Writes (in_parens Ports) (Means unplaced_port ps) 0 any free (codes "(" ++ (printed_ports ps ++ codes ")"))
-enclosed_ports [] h some = absurd (omega arith)
-enclosed_ports (p ∷ ps) h some = enclosed Ports (omega arith) (ports_print p ps h)
-
-perhaps_ports : (ps : List Port) → AllByRecursion IsOwnPort ps → Writes (maybe_in_parens [] Ports) (Means unplaced_port ps) 0 any free (codes "(" ++ (printed_ports ps ++ codes ")"))
-perhaps_ports [] h = nothing_enclosed [] Ports (omega arith) refl
-perhaps_ports (p ∷ ps) h = perhaps_enclosed [] Ports (omega arith) (ports_print p ps h)
-
 wcet_text : (a n e z : List ℕ) → a ++ (n ++ e) ++ z ≡ a ++ n ++ (e ++ z)
 wcet_text a n e z = simp append_assoc
 
@@ -253,7 +247,7 @@ unfolding ImportText
 import_prints i h =
     p_bytes _ _ (import_text (codes "imported node ") i.name (codes "(") (printed_ports i.ins) (codes " returns ") (printed_ports i.outs) (codes ")") (printed_wcet i.wcet))
     (p_next refl (p_keyword fixed.Imported (codes "imported") (refl, omega arith) refl refl) (λ k _. p_next refl (p_pad (p_keyword fixed.Node (codes "node") (refl, omega arith) refl refl)) (λ l _. p_next refl (p_pad (p_name i.name h.name)) (λ n e.
-    p_then (perhaps_ports i.ins h.ins) (λ ins f. p_next refl (p_pad (p_keyword fixed.Returns (codes "returns") (refl, omega arith) refl refl)) (λ r _. p_then (p_pad (enclosed_ports i.outs h.outs h.range.some)) (λ outs g.
+    p_then (perhaps_listed unplaced_port Ports printed_ports refl ports_print i.ins h.ins) (λ ins f. p_next refl (p_pad (p_keyword fixed.Returns (codes "returns") (refl, omega arith) refl refl)) (λ r _. p_then (p_pad (listed unplaced_port Ports printed_ports ports_print i.outs h.outs h.range.some)) (λ outs g.
     p_ends (λ w. record { name = n.0; ins = ins; outs = outs; wcet = w; at = n.1 }) (wcet_prints i.wcet h.range.wcet) (λ w j. cc))))))))
 
 pub device_prints : (f : Fixed) (text : List ℕ) → Prints (The f) (λ p. Unit {0}) (plain 0) (plain 0) any word text → (d : Device) → IsOwnDevice d → Writes (DeviceText f) (λ x. unplaced_device x ≡ unplaced_device d) 0 any free (printed_device (text ++ codes " ") d)
@@ -314,14 +308,6 @@ base_stem : {d : ℕ} {text : List ℕ} (r : Root) → Writes Base (λ x. unplac
 unfolding Stem
 base_stem r base = p_left (p_ends (λ b. ([], b)) base (λ b e. ap stem_of e))
 
-expr_prints : {d : ℕ} (pre post : List PlacedOp) (root : Root) (at : Span) → AllByRecursion (λ o. IsPostfix o.op) post → Writes Stem (λ s. unplaced_stem s ≡ unplaced_stem (pre, root)) d any word (printed_operators pre ++ printed_root root)
-    → Writes Expr (λ x. unplaced_tree x ≡ unplaced_tree (tree pre root post at)) d any word (printed_tree (tree pre root post at))
-unfolding Expr
-expr_prints pre post root at h stem =
-    p_ends (λ x. tree_from x.0 x.1.0 x.1.1) (p_first (p_last (in_stem stem) (λ s e.
-    p_ends {F = λ (x : StemTree × List PlacedOp). (unplaced_stem x.0 ≡ unplaced_stem (pre, root)) × (map unplaced_operator x.1 ≡ map unplaced_operator post)} (λ post. (s, post)) (postfixes_print post h) (λ xs f. (e, f)))))
-    (λ x e. ap (λ (s : StemTree). tree s.0 s.1 (map unplaced_operator x.1.1) nowhere) e.0 ∙ ap (λ ops. tree (map unplaced_operator pre) (unplaced_root root) ops nowhere) e.1)
-
 exprs_print : {d : ℕ} (t : Tree) (ts : Trees) → Writes Expr (λ x. unplaced_tree x ≡ unplaced_tree t) d any word (printed_tree t)
     → Prints (Many (Text programs (after fixed.Comma Expr))) (λ xs. unplaced_trees (trees_from xs) ≡ unplaced_trees ts) (plain d) (plain d) loose word (printed_others ts)
     → Writes Exprs (λ x. unplaced_trees x ≡ unplaced_trees (more t ts)) d any word (printed_trees (more t ts))
@@ -340,10 +326,13 @@ application name at args h list = base_stem (apply name at args) (p_left (p_word
     (p_left (p_ends Some list (λ xs f n e. ap (λ k. apply k nowhere (unplaced_trees xs)) e ∙ ap (apply name nowhere) f))) (λ a f. f n e)))))
 
 mutual
-  unfolding Stem Base
+  unfolding Stem Base Expr
 
   tree_prints : (d : ℕ) (t : Tree) → IsTreeInRange d t → IsFreeTree t → Writes Expr (λ x. unplaced_tree x ≡ unplaced_tree t) d any word (printed_tree t)
-  tree_prints d (tree pre root post at) h g = expr_prints pre post root at h.2 (stem_prints pre root h.0 (root_prints d root h.1 g))
+  tree_prints d (tree pre root post at) h g =
+      p_ends (λ x. tree_from x.0 x.1.0 x.1.1) (p_first (p_last (in_stem (stem_prints pre root h.0 (root_prints d root h.1 g))) (λ s e.
+      p_ends {F = λ (x : StemTree × List PlacedOp). (unplaced_stem x.0 ≡ unplaced_stem (pre, root)) × (map unplaced_operator x.1 ≡ map unplaced_operator post)} (λ post. (s, post)) (postfixes_print post h.2) (λ xs f. (e, f)))))
+      (λ x e. ap (λ (s : StemTree). tree s.0 s.1 (map unplaced_operator x.1.1) nowhere) e.0 ∙ ap (λ ops. tree (map unplaced_operator pre) (unplaced_root root) ops nowhere) e.1)
 
   root_prints : (d : ℕ) (r : Root) → IsRootInRange d r → IsFreeRoot r → Writes Stem (λ s. unplaced_stem s ≡ stem_of (unplaced_root r)) d any word (printed_root r)
   root_prints d (const v) h g = p_bytes _ _ (append-nil (value_text v)) (p_right (p_right (p_last (value_prints v h) (λ c e. p_right (p_right (p_give ([], const c) (ap (λ k. stem_of (const k)) e)))))))
@@ -397,8 +386,8 @@ node_prints : (n : NodeTree) → IsOwnNode n → Writes Node (λ x. unplaced_nod
 unfolding Node
 node_prints n h =
     p_bytes _ _ (node_text (codes "node ") n.name (codes "(") (printed_params n.ins) (codes " returns ") (printed_params n.outs) (codes ")") (printed_locals n.locals) (codes "let\n") (flat_map printed_equation n.eqs) (codes "tel\n"))
-    (p_next refl (p_keyword fixed.Node (codes "node") (refl, omega arith) refl refl) (λ k _. p_next refl (p_pad (p_name n.name h.name)) (λ m e. p_then (perhaps_params n.ins h.ins) (λ ins f.
-    p_next refl (p_pad (p_keyword fixed.Returns (codes "returns") (refl, omega arith) refl refl)) (λ r _. p_then (p_line (λ rest. tt) (p_pad (enclosed_params n.outs h.outs h.range.some))) (λ outs g. p_then (locals_print n.locals h.locals) (λ locals i.
+    (p_next refl (p_keyword fixed.Node (codes "node") (refl, omega arith) refl refl) (λ k _. p_next refl (p_pad (p_name n.name h.name)) (λ m e. p_then (perhaps_listed unplaced_param Params printed_params refl (params_print (omega arith)) n.ins h.ins) (λ ins f.
+    p_next refl (p_pad (p_keyword fixed.Returns (codes "returns") (refl, omega arith) refl refl)) (λ r _. p_then (p_line (λ rest. tt) (p_pad (listed unplaced_param Params printed_params (params_print (omega arith)) n.outs h.outs h.range.some))) (λ outs g. p_then (locals_print n.locals h.locals) (λ locals i.
     p_then (p_line (λ rest. refl) (p_keyword fixed.Let (codes "let") (refl, omega arith) refl refl)) (λ l _. p_then (p_many lines_row IsOwnEquation unplaced_equation unplaced_equation printed_equation equation_prints n.eqs h.eqs) (λ eqs j.
     p_then (p_line (λ rest. refl) (p_keyword fixed.Tel (codes "tel") (refl, omega arith) refl refl)) (λ t _. p_ends (λ s. record { name = m.0; ins = ins; outs = outs; locals = locals; eqs = eqs; at = m.1 }) (p_right (p_give {F = λ o. Unit {0}} None tt)) (λ s _. cc)))))))))))
 

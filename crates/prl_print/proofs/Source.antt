@@ -1,6 +1,5 @@
 -- What holds of the tree of a text of the grammar, where its tokens are of a text.
 use Rattle.std.proofs.Common.{◌≡◌, ◌==◌, ◌≤◌, ◌+◌, ◌-◌, ◌&&◌, ℕ, Bool, true, false, cond, not, List, [], ◌∷◌, ◌++◌, length, refl, sym, ap, ◌∙◌, subst, inl, inr, arith, append_assoc}
-use Rattle.std.proofs.lemmas.Bool.{cond-false}
 use Rattle.std.specs.List.{AllByRecursion}
 use Rattle.prl_base.specs.declared.places.Span.{Span}
 use Rattle.prl_grammar.specs.Lexemes.{Lexeme}
@@ -150,12 +149,9 @@ s_number {i} {c} later = s_assoc (s_one (λ t k. s_given (later t.number (fits t
     fits : (t : Lexeme) → t.class ≡ 1 → is_fault program_ranges i c t ≡ false → in_range i c t.number ≡ true
     fits t one h = not_false (in_range i c t.number) (ap (λ k. (k == 1) && not (in_range i c t.number)) (sym one) ∙ h)
 
--- a token alone
-pub s_alone : {i : Bool} {c d class : ℕ} → ((class == 19) ≡ false) × ((class == 20) ≡ false) → Sure i c d d (Place class) (λ p. Unit {0})
-s_alone {i} {c} {d} {class} other = s_one (λ t k. (let F : ℕ → Type 0 = λ m. Sure (inside_after program_ranges i class) class m d (Give t.at) (λ p. Unit {0}) in subst F (sym (same class other.0 other.1)) (s_give tt)))
-  where
-    same : (class : ℕ) → (class == 19) ≡ false → (class == 20) ≡ false → deeper d class ≡ d
-    same class a b = cond-false (class == 19) _ _ a ∙ cond-false (class == 20) _ _ b
+-- a token alone, which is no parenthesis
+pub s_alone : {i : Bool} {c d class : ℕ} → ((d : ℕ) → deeper d class ≡ d) → Sure i c d d (Place class) (λ p. Unit {0})
+s_alone {i} {d} {class} same = s_one (λ t k. (let F : ℕ → Type 0 = λ m. Sure (inside_after program_ranges i class) class m d (Give t.at) (λ p. Unit {0}) in subst F (sym (same d)) (s_give tt)))
 
 pub s_count : {i : Bool} {c d : ℕ} → Sure i c d d Number (λ n. Unit {0})
 s_count = s_one (λ t k. s_give tt)
@@ -164,9 +160,9 @@ pub s_maybe : {A : Type 0} {W : A → List Lexeme → Type 0} {P : A → Type 0}
 s_maybe one = s_either (s_then one (λ a h i c. s_give h)) (s_give tt)
 
 -- one or more, with a token between
-pub s_list : {A : Type 0} {W : A → List Lexeme → Type 0} {P : A → Type 0} {i : Bool} {c d class : ℕ} → ((class == 19) ≡ false) × ((class == 20) ≡ false) → Says d W P
+pub s_list : {A : Type 0} {W : A → List Lexeme → Type 0} {P : A → Type 0} {i : Bool} {c d class : ℕ} → ((d : ℕ) → deeper d class ≡ d) → Says d W P
     → Sure i c d d (Then W (λ first. Then (Many (Then (Place class) (λ p. W))) (λ others. Give (first ∷ others)))) (λ xs. AllByRecursion P xs × (1 ≤ length xs))
-s_list {P} {d} {class} other one = s_then one (λ x h i c. s_then (s_many (λ i c. s_then (λ i c. s_alone other) (λ p _ i c. one i c))) (λ others g i c. s_give ((h, g), omega arith)))
+s_list other one = s_then one (λ x h i c. s_then (s_many (λ i c. s_then (λ i c. s_alone other) (λ p _ i c. one i c))) (λ others g i c. s_give ((h, g), omega arith)))
 
 -- in parentheses, of which not too many are open
 pub s_closed : {A : Type 0} {W : A → List Lexeme → Type 0} {P : A → Type 0} {i : Bool} {c d : ℕ} → Says (d + 1) W P → Sure i c (d + 1) d (Then W (λ x. Then (Place 20) (λ q. Give x))) P

@@ -20,8 +20,9 @@ use Rattle.prl_grammar.specs.Ranges.{inside_after, is_fault, out_of_range}
 use Rattle.prl_syntax.specs.Lexing.{kind_lexeme, lexemes_of, word_lexeme}
 use Rattle.prl_syntax.specs.Ranges.{in_range, program_ranges}
 use Rattle.std.proofs.lemmas.Bool.Decides.{nat_tests}
+use Rattle.std.proofs.lemmas.Str.Parse.{digit_from_value}
 use Rattle.std.proofs.lemmas.Fmt.{decimal_is_IsNumeral}
-use Rattle.std.specs.Char.{is_ascii_digit, digit_value}
+use Rattle.std.specs.Char.{is_ascii_digit}
 use Rattle.std.specs.List.{list_all, prefix_len}
 use Rattle.std.specs.Str.Parse.{AllDigits, digits_value}
 use Rattle.prl_base.specs.declared.places.Span.{Span}
@@ -223,13 +224,10 @@ word_token at depth (c ∷ cs) rest o bytes name key stops =
     run_token Word is_word_byte at depth 0 c cs rest (a_word o (c ∷ cs) at) (word_start_small c parts.0, all_small is_word_byte word_byte_small cs parts.1) bytes (word_no_other c parts.0) parts.1 stops (λ bs. cond-true (is_word_start c) _ _ parts.0)
     (cond-true (leb (length (c ∷ cs)) 64) _ _ (le-leb (length (c ∷ cs)) 64 name.1)) (ap (λ k. word_lexeme k (c ∷ cs) (spot at (c ∷ cs))) key)
 
-digit_range : (d : ℕ) → digit_value d < 10 → (48 ≤ d) × (d ≤ 57)
-digit_range d h = grind arith
-
 digits_pass : (ds : List ℕ) → AllDigits 10 ds → list_all is_ascii_digit ds ≡ true
 digits_pass [] h = refl
 digits_pass (d ∷ ds) h =
-    let range = digit_range d h.0 in
+    let range = digit_from_value d h.0 in
     and_from (is_ascii_digit d) (list_all is_ascii_digit ds) (and_from _ _ (le-leb 48 d range.0) (le-leb d 57 range.1)) (digits_pass ds h.1)
 
 stops_digits : (rest : List ℕ) → Stops is_word_byte rest → Stops is_ascii_digit rest
@@ -260,7 +258,7 @@ number_leads p n rest fits other = leads (decimal n) (decimal_is_IsNumeral n fit
   where
     leads : (ds : List ℕ) → AllDigits 10 ds → 0 < length ds → Stops p (ds ++ rest)
     leads [] h some = absurd (omega arith)
-    leads (d ∷ ds) h some = let range = digit_range d h.0 in other d range.0 range.1
+    leads (d ∷ ds) h some = let range = digit_from_value d h.0 in other d range.0 range.1
 
 -- symbols
 
@@ -279,36 +277,22 @@ mark_piece a bs bytes mark line comment =
     let two = or_parts (is_blank a) (is_word_start a) one.0 in
     first_piece a bs (ltb-true a 256 parts.1, bytes) two.0 line comment ∙ cond-false (is_word_start a) _ _ two.1 ∙ cond-false (is_ascii_digit a) _ _ one.1
 
-mark_small : (a : ℕ) → is_mark a ≡ true → a < 256
+pub mark_small : (a : ℕ) → is_mark a ≡ true → a < 256
 mark_small a mark = ltb-true a 256 (and_parts (not (is_blank a || is_word_start a || is_ascii_digit a)) (ltb a 256) mark).1
 
-one_piece : (a : ℕ) (rest : List ℕ) → AreBytes rest → is_mark a ≡ true → is_one_byte_symbol a ≡ true → Stops (goes_on a) rest → piece_of (a ∷ rest) ≡ pieces.Token Symbol 1
+pub one_piece : (a : ℕ) (rest : List ℕ) → AreBytes rest → is_mark a ≡ true → is_one_byte_symbol a ≡ true → Stops (goes_on a) rest → piece_of (a ∷ rest) ≡ pieces.Token Symbol 1
 one_piece a [] bytes mark is stops = mark_piece a [] bytes mark refl refl ∙ cond-true (is_one_byte_symbol a) _ _ is
 one_piece a (b ∷ rest) bytes mark is stops =
     let one = or_parts (is_two_byte_symbol a b || ((a == 45) && (b == 45))) ((a == 40) && (b == 42)) stops in
     let two = or_parts (is_two_byte_symbol a b) ((a == 45) && (b == 45)) one.0 in
     mark_piece a (b ∷ rest) bytes mark two.1 one.1 ∙ cond-false (is_two_byte_symbol a b) _ _ two.0 ∙ cond-true (is_one_byte_symbol a) _ _ is
 
--- a symbol of one byte
-pub one_token : (at depth deep a : ℕ) (rest : List ℕ) (f : Fixed) → AreBytes rest → is_mark a ≡ true → is_one_byte_symbol a ≡ true → symbol_of (a ∷ []) ≡ f → Stops (goes_on a) rest → depth_after depth (a ∷ []) ≡ deep → deep ≤ 64
-    → IsToken at depth deep Symbol (a ∷ []) rest 0 (a_symbol f (a ∷ []) at)
-one_token at depth deep a rest f bytes mark symbol is stops down le = record {
-  bytes = (mark_small a mark, tt);
-  some = omega arith;
-  piece = one_piece a rest bytes mark symbol stops;
-  down = down;
-  fits = cond-true (leb deep 64) _ _ (le-leb deep 64 le);
-  is = ap (λ g. a_symbol g (a ∷ []) at) is;
-}
+pub two_piece : (a b : ℕ) (rest : List ℕ) → AreBytes (b ∷ rest) → is_mark a ≡ true → ((a == 45) && (b == 45)) ≡ false → ((a == 40) && (b == 42)) ≡ false → is_two_byte_symbol a b ≡ true → piece_of (a ∷ b ∷ rest) ≡ pieces.Token Symbol 2
+two_piece a b rest bytes mark line comment is = mark_piece a (b ∷ rest) bytes mark line comment ∙ cond-true (is_two_byte_symbol a b) _ _ is
 
--- a symbol of two bytes
-pub two_token : (at depth a b : ℕ) (rest : List ℕ) (f : Fixed) → AreBytes rest → is_mark a ≡ true → b < 256 → ((a == 45) && (b == 45)) ≡ false → ((a == 40) && (b == 42)) ≡ false → is_two_byte_symbol a b ≡ true → symbol_of (a ∷ b ∷ []) ≡ f → depth ≤ 64
-    → IsToken at depth depth Symbol (a ∷ b ∷ []) rest 0 (a_symbol f (a ∷ b ∷ []) at)
-two_token at depth a b rest f bytes mark small line comment symbol is le = record {
-  bytes = (mark_small a mark, (small, tt));
-  some = omega arith;
-  piece = mark_piece a (b ∷ rest) (small, bytes) mark line comment ∙ cond-true (is_two_byte_symbol a b) _ _ symbol;
-  down = refl;
-  fits = cond-true (leb depth 64) _ _ (le-leb depth 64 le);
-  is = ap (λ g. a_symbol g (a ∷ b ∷ []) at) is;
-}
+-- a symbol
+pub symbol_token : (at depth deep : ℕ) (p rest : List ℕ) (f : Fixed) → AreBytes p → 0 < length p → piece_of (p ++ rest) ≡ pieces.Token Symbol (length p) → symbol_of p ≡ f → depth_after depth p ≡ deep → checked at deep Symbol p ≡ Ok (a_token at Symbol p 0) → IsToken at depth deep Symbol p rest 0 (a_symbol f p at)
+symbol_token at depth deep p rest f bytes some piece is down fits = record { bytes = bytes; some = some; piece = piece; down = down; fits = fits; is = ap (λ g. a_symbol g p at) is }
+
+pub shallow : (at deep : ℕ) (p : List ℕ) → deep ≤ 64 → checked at deep Symbol p ≡ Ok (a_token at Symbol p 0)
+shallow at deep p le = cond-true (leb deep 64) _ _ (le-leb deep 64 le)
