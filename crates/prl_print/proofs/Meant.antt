@@ -40,7 +40,7 @@ negative_fits : (k : ℕ) → k ≤ MAX_NEGATIVE → FitsValue (values.Int (neg_
 negative_fits zero h = record { sfits = omega arith }
 negative_fits (suc k) h = record { sfits = omega (arith, h) }
 
-pub is_count : (n : ℕ) → (leb 1 n && leb n 2147483647) ≡ true → IsCount (small n)
+is_count : (n : ℕ) → (leb 1 n && leb n 2147483647) ≡ true → IsCount (small n)
 is_count n h = let low = leb-true 1 n (and_parts (leb 1 n) (leb n 2147483647) h).0 in (omega (arith, low), omega arith)
 
 record IsOwnNote (note : Note) : Type 0 where
@@ -213,15 +213,11 @@ module _ (I : StemTree → List Lexeme → Type 0) (inside : (i : Bool) (c d : �
   abbrev Means_at : {A : Type 0} → Grammar A → (ℕ → A → Type 0) → Type 0
   Means_at g P = (i : Bool) (c d : ℕ) → Sure i c d d (written I g) (P d)
 
-  postfix_means : Means I Postfix (λ o. IsPostfix o.op)
-  unfolding Postfix
-  postfix_means i c d =
-      s_either (s_place (λ p _. s_number (λ n h. s_give (is_count n h)))) (s_either (s_place (λ p _. s_number (λ n h. s_give (is_count n h)))) (s_place (λ p _. s_then (λ i c. ratio_means I i c d) (λ q h i c. s_give h))))
-
   expr_means : Means_at Expr IsOwnTree
-  unfolding Expr
+  unfolding Expr Postfix
   expr_means i c d =
-      s_then (λ i c. s_first (s_then (λ i c. inside i c d) (λ s h i c. s_then (s_many (λ i c. postfix_means i c d)) (λ post g i c. s_give {Q = λ (x : _). IsOwnStem d x.0 × AllByRecursion (λ o. IsPostfix o.op) x.1} (h, g)))))
+      s_then (λ i c. s_first (s_then (λ i c. inside i c d) (λ s h i c. s_then (s_many {P = λ o. IsPostfix o.op} (λ i c.
+      s_either (s_place (λ p _. s_number (λ n h. s_give (is_count n h)))) (s_either (s_place (λ p _. s_number (λ n h. s_give (is_count n h)))) (s_place (λ p _. s_then (λ i c. ratio_means I i c d) (λ q h i c. s_give h)))))) (λ post g i c. s_give {Q = λ (x : _). IsOwnStem d x.0 × AllByRecursion (λ o. IsPostfix o.op) x.1} (h, g)))))
       (λ x h i c. s_give ((h.0.0, h.0.1.0, h.1), h.0.1.1))
 
   exprs_mean : Means_at Exprs IsOwnGroup

@@ -21,6 +21,7 @@ use Rattle.prl_ast.specs.declared.declarations.Port.{Port}
 use Rattle.prl_ast.specs.declared.declarations.Rate.{Rate}
 use Rattle.prl_ast.specs.InRange.{IsCount, IsShift, IsRate, IsDue, IfThere, IsPrefix, IsPostfix, IsTreeInRange, IsRootInRange, AreTreesInRange}
 use Rattle.prl_base.specs.Values.{FitsValue}
+use Rattle.prl_grammar.specs.Lexemes.{Lexeme}
 use Rattle.prl_grammar.specs.Language.{Text, nested}
 use Rattle.prl_grammar.specs.Numbers.{positive, negative}
 use Rattle.prl_syntax.specs.declared.words.Fixed.{Fixed}
@@ -143,23 +144,19 @@ perhaps_enclosed nothing g le one = p_then p_open (λ o _. p_right (p_next refl 
 pub nothing_enclosed : {A : Type 0} {d : ℕ} {E : A → Type 0} (nothing : A) (g : Grammar A) → d + 1 ≤ 64 → E nothing → Writes (maybe_in_parens nothing g) E d any free (codes "()")
 nothing_enclosed nothing g le e = p_then p_open (λ o _. p_left (p_ends (λ c. nothing) (p_close le) (λ c _. e)))
 
-map_joined : {A B : Type 0} (u : A → B) (xss : List (List A)) → map u (joined xss) ≡ joined (map (map u) xss)
-map_joined u [] = refl
-map_joined u (xs ∷ xss) = map-append u xs (joined xss) ∙ ap (λ ys. map u xs ++ ys) (map_joined u xss)
-
-joined_singles : {A B : Type 0} (u : A → B) (xs : List A) → joined (map (λ x. u x ∷ []) xs) ≡ map u xs
-joined_singles u [] = refl
-joined_singles u (x ∷ xs) = ap (λ ys. u x ∷ ys) (joined_singles u xs)
-
--- texts of one each, one after another
-grouped : {A : Type 0} (u : A → A) (r : List A) (others : List (List A)) (x : A) (xs : List A) → map u r ≡ u x ∷ [] → map (map u) others ≡ map (λ y. u y ∷ []) xs → map u (r ++ joined others) ≡ map u (x ∷ xs)
-grouped u r others x xs e f =
-    map-append u r (joined others) ∙ ap (λ ys. ys ++ map u (joined others)) e ∙ ap (λ ys. u x ∷ ys) (map_joined u others ∙ ap joined f ∙ joined_singles u xs)
-
--- parameters
-
 abbrev Means : {A : Type 0} → (A → A) → List A → List A → Type 0
 Means u xs ys = map u ys ≡ map u xs
+
+-- texts of one each, one after another
+one_more : {A : Type 0} (u : A → A) (r : List A) (others : List (List A)) (x : A) (xs : List A) → Means u (x ∷ []) r → Means u xs (joined others) → Means u (x ∷ xs) (r ++ joined others)
+one_more u r others x xs e f = map-append u r (joined others) ∙ ap (λ ys. ys ++ map u (joined others)) e ∙ ap (λ ys. u x ∷ ys) f
+
+groups_print : {X : Type 0} {W : List X → List Lexeme → Type 0} {s : State} (P : X → Type 0) (u : X → X) (text : X → List ℕ) → ((x : X) → P x → Prints W (Means u (x ∷ [])) s s loose word (text x)) → (xs : List X) → AllByRecursion P xs
+    → Prints (Many W) (λ groups. Means u xs (joined groups)) s s loose word (flat_map text xs)
+groups_print P u text each [] all = p_none words_row refl
+groups_print P u text each (x ∷ xs) all = p_cons words_row (λ r others e f. one_more u r others x xs e f) (each x all.0) (groups_print P u text each xs all.1)
+
+-- parameters
 
 name_prints : {d : ℕ} (name : List ℕ) → IsOwnName name → Writes Name (λ n. n.name ≡ name) d any word name
 unfolding Name
@@ -177,8 +174,8 @@ unfolding Params
 params_print le p ps h =
     p_bytes _ _ (ap (λ t. printed_param p ++ t) (sym (flat_map-map (λ other. codes "; " ++ other) printed_param ps)))
     (p_ends joined (p_last (run_prints le p h.0) (λ r e. p_ends {F = λ runs. Means unplaced_param (p ∷ ps) (joined runs)} (λ others. r ∷ others)
-    (p_many words_row IsOwnParam (map unplaced_param) (λ x. unplaced_param x ∷ []) (λ x. codes "; " ++ printed_param x) (λ x own. p_loose refl (p_then p_semicolon (λ c _. p_pad (run_prints le x own)))) ps h.1)
-    (λ others f. grouped unplaced_param r others p ps e f)))
+    (groups_print IsOwnParam unplaced_param (λ x. codes "; " ++ printed_param x) (λ x own. p_loose refl (p_then p_semicolon (λ c _. p_pad (run_prints le x own)))) ps h.1)
+    (λ others f. one_more unplaced_param r others p ps e f)))
     (λ runs e. e))
 
 listed : {X : Type 0} {P : X → Type 0} (u : X → X) (g : Grammar (List X)) (text : List X → List ℕ) → ((x : X) (xs : List X) → AllByRecursion P (x ∷ xs) → Writes g (Means u (x ∷ xs)) 1 any word (text (x ∷ xs)))
@@ -212,8 +209,8 @@ locals_print [] h = p_right (p_any (p_give [] refl))
 locals_print (p ∷ ps) h =
     p_left (p_bytes _ _ (ap (λ t. codes "var " ++ t) (locals_text p ps))
     (p_line (λ rest. refl) (p_next refl (p_keyword fixed.Var (codes "var") (refl, omega arith) refl refl) (λ k _. p_then (p_pad (ended_run p h.0)) (λ r e. p_ends (λ others. r ++ joined others)
-    (p_many words_row IsOwnParam (map unplaced_param) (λ x. unplaced_param x ∷ []) (λ x. 32 ∷ (printed_param x ++ codes ";")) (λ x own. p_loose refl (p_pad (p_word (ended_run x own)))) ps h.1)
-    (λ others f. grouped unplaced_param r others p ps e f))))))
+    (groups_print IsOwnParam unplaced_param (λ x. 32 ∷ (printed_param x ++ codes ";")) (λ x own. p_loose refl (p_pad (p_word (ended_run x own)))) ps h.1)
+    (λ others f. one_more unplaced_param r others p ps e f))))))
 
 -- ports
 
@@ -229,8 +226,8 @@ unfolding Ports NextGroup
 ports_print p ps h =
     p_bytes _ _ (ap (λ t. printed_port p ++ t) (sym (flat_map-map (λ other. codes "; " ++ other) printed_port ps)))
     (p_last (group_prints p h.0) (λ r e. p_ends (λ others. r ++ joined others)
-    (p_many words_row IsOwnPort (map unplaced_port) (λ x. unplaced_port x ∷ []) (λ x. codes "; " ++ printed_port x) (λ x own. p_loose refl (p_then (p_right p_semicolon) (λ c _. p_pad (group_prints x own)))) ps h.1)
-    (λ others f. grouped unplaced_port r others p ps e f)))
+    (groups_print IsOwnPort unplaced_port (λ x. codes "; " ++ printed_port x) (λ x own. p_loose refl (p_then (p_right p_semicolon) (λ c _. p_pad (group_prints x own)))) ps h.1)
+    (λ others f. one_more unplaced_port r others p ps e f)))
 
 wcet_text : (a n e z : List ℕ) → a ++ (n ++ e) ++ z ≡ a ++ n ++ (e ++ z)
 wcet_text a n e z = simp append_assoc
@@ -399,50 +396,27 @@ unplaced_declared (sensor d) = sensor (unplaced_device d)
 unplaced_declared (actuator d) = actuator (unplaced_device d)
 unplaced_declared (node n) = node (unplaced_node n)
 
-abbrev unplaced_all : List Declared → List Declared → Type 0
-unplaced_all ds es = map unplaced_declared es ≡ map unplaced_declared ds
+with_unplaced : (d : Declared) (p : ProgramTree) → unplaced (with_declared d p) ≡ with_declared (unplaced_declared d) (unplaced p)
+with_unplaced (imported i) p = refl
+with_unplaced (sensor d) p = refl
+with_unplaced (actuator d) p = refl
+with_unplaced (node n) p = refl
+
+abbrev Declares : ProgramTree → List Declared → Type 0
+Declares p ds = unplaced (program_of ds) ≡ p
 
 -- those of one kind, before the others
-kind_prints : {X : Type 0} (P : X → Type 0) (text : X → List ℕ) (of : X → Declared) → ((x : X) → P x → Writes Declaration (λ d. unplaced_declared d ≡ unplaced_declared (of x)) 0 any free (text x)) → (xs : List X) → AllByRecursion P xs
-    → (ds : List Declared) (rest : List ℕ) → Prints (Many (Text programs Declaration)) (unplaced_all ds) (plain 0) (plain 0) any free rest → Prints (Many (Text programs Declaration)) (unplaced_all (map of xs ++ ds)) (plain 0) (plain 0) any free (flat_map text xs ++ rest)
-kind_prints P text of each [] all ds rest others = others
-kind_prints P text of each (x ∷ xs) all ds rest others = p_bytes _ _ (sym (append_assoc (text x) (flat_map text xs) rest)) (p_cons lines_row (λ t ts e f. cc) (each x all.0) (kind_prints P text of each xs all.1 ds rest others))
-
-of_imports : (is : List Import) (rest : List Declared) → program_of (map imported is ++ rest) ≡ record (program_of rest) { imports = is ++ (program_of rest).imports }
-of_imports [] rest = refl
-of_imports (i ∷ is) rest = ap (with_declared (imported i)) (of_imports is rest)
-
-of_sensors : (ds : List Device) (rest : List Declared) → program_of (map sensor ds ++ rest) ≡ record (program_of rest) { sensors = ds ++ (program_of rest).sensors }
-of_sensors [] rest = refl
-of_sensors (d ∷ ds) rest = ap (with_declared (sensor d)) (of_sensors ds rest)
-
-of_actuators : (ds : List Device) (rest : List Declared) → program_of (map actuator ds ++ rest) ≡ record (program_of rest) { actuators = ds ++ (program_of rest).actuators }
-of_actuators [] rest = refl
-of_actuators (d ∷ ds) rest = ap (with_declared (actuator d)) (of_actuators ds rest)
-
-of_nodes : (ns : List NodeTree) (rest : List Declared) → program_of (map node ns ++ rest) ≡ record (program_of rest) { nodes = ns ++ (program_of rest).nodes }
-of_nodes [] rest = refl
-of_nodes (n ∷ ns) rest = ap (with_declared (node n)) (of_nodes ns rest)
-
-abbrev declarations : ProgramTree → List Declared
-declarations p = map imported p.imports ++ (map sensor p.sensors ++ (map actuator p.actuators ++ (map node p.nodes ++ [])))
+kind_prints : {X B : Type 0} (P : X → Type 0) (text : X → List ℕ) (of : X → Declared) (u : X → B) (put : List B → ProgramTree) → ((x : X) (ys : List B) → with_declared (unplaced_declared (of x)) (put ys) ≡ put (u x ∷ ys))
+    → ((x : X) → P x → Writes Declaration (λ d. unplaced_declared d ≡ unplaced_declared (of x)) 0 any free (text x)) → (xs : List X) → AllByRecursion P xs
+    → (rest : List ℕ) → Prints (Many (Text programs Declaration)) (Declares (put [])) (plain 0) (plain 0) any free rest → Prints (Many (Text programs Declaration)) (Declares (put (map u xs))) (plain 0) (plain 0) any free (flat_map text xs ++ rest)
+kind_prints P text of u put step each [] all rest others = others
+kind_prints P text of u put step each (x ∷ xs) all rest others =
+    p_bytes _ _ (sym (append_assoc (text x) (flat_map text xs) rest))
+    (p_cons lines_row (λ d ds e f. with_unplaced d (program_of ds) ∙ ap (λ k. with_declared k (unplaced (program_of ds))) e ∙ ap (with_declared (unplaced_declared (of x))) f ∙ step x (map u xs)) (each x all.0)
+    (kind_prints P text of u put step each xs all.1 rest others))
 
 abbrev program_with : List Import → List Device → List Device → List NodeTree → ProgramTree
 program_with imports sensors actuators nodes = record { imports = imports; sensors = sensors; actuators = actuators; nodes = nodes }
-
-program_again : (p : ProgramTree) → program_of (declarations p) ≡ program_with p.imports p.sensors p.actuators p.nodes
-program_again p =
-    of_imports p.imports _
-    ∙ ap (λ (q : ProgramTree). record q { imports = p.imports ++ q.imports }) (of_sensors p.sensors _
-    ∙ ap (λ (q : ProgramTree). record q { sensors = p.sensors ++ q.sensors }) (of_actuators p.actuators _ ∙ ap (λ (q : ProgramTree). record q { actuators = p.actuators ++ q.actuators }) (of_nodes p.nodes [])))
-    ∙ cc (append-nil p.imports, append-nil p.sensors, append-nil p.actuators, append-nil p.nodes)
-
-unplaced_program_of : (ds : List Declared) → unplaced (program_of ds) ≡ program_of (map unplaced_declared ds)
-unplaced_program_of [] = refl
-unplaced_program_of (imported i ∷ ds) = ap (with_declared (imported (unplaced_import i))) (unplaced_program_of ds)
-unplaced_program_of (sensor d ∷ ds) = ap (with_declared (sensor (unplaced_device d))) (unplaced_program_of ds)
-unplaced_program_of (actuator d ∷ ds) = ap (with_declared (actuator (unplaced_device d))) (unplaced_program_of ds)
-unplaced_program_of (node n ∷ ds) = ap (with_declared (node (unplaced_node n))) (unplaced_program_of ds)
 
 program_text : (a b c d : List ℕ) → a ++ (b ++ (c ++ (d ++ []))) ≡ a ++ b ++ c ++ d
 program_text a b c d = simp (append_assoc, append-nil)
@@ -450,10 +424,13 @@ program_text a b c d = simp (append_assoc, append-nil)
 pub program_prints : (p : ProgramTree) → AreOwn p → Writes Program (λ x. unplaced x ≡ unplaced p) 0 any free (printed p)
 unfolding Program Declaration
 program_prints p h =
+    let nodes = map unplaced_node p.nodes in
+    let actuators = map unplaced_device p.actuators in
+    let sensors = map unplaced_device p.sensors in
     p_bytes _ _ (program_text (flat_map printed_import p.imports) _ _ _)
     (p_ends program_of
-    (kind_prints IsOwnImport printed_import imported (λ i g. p_left (p_ends imported (import_prints i g) (λ x e. ap imported e))) p.imports h.0 _ _
-    (kind_prints IsOwnDevice (printed_device (codes "sensor ")) sensor (λ d g. p_right (p_left (p_ends sensor (device_prints fixed.Sensor (codes "sensor") (p_keyword fixed.Sensor (codes "sensor") (refl, omega arith) refl refl) d g) (λ x e. ap sensor e)))) p.sensors h.1 _ _
-    (kind_prints IsOwnDevice (printed_device (codes "actuator ")) actuator (λ d g. p_right (p_right (p_left (p_ends actuator (device_prints fixed.Actuator (codes "actuator") (p_keyword fixed.Actuator (codes "actuator") (refl, omega arith) refl refl) d g) (λ x e. ap actuator e))))) p.actuators h.2 _ _
-    (kind_prints IsOwnNode printed_node node (λ n g. p_right (p_right (p_right (p_ends node (node_prints n g) (λ x e. ap node e))))) p.nodes h.3 [] [] (p_none lines_row refl)))))
-    (λ ds e. unplaced_program_of ds ∙ ap program_of e ∙ sym (unplaced_program_of (declarations p)) ∙ ap unplaced (program_again p)))
+    (kind_prints IsOwnImport printed_import imported unplaced_import (λ is. program_with is sensors actuators nodes) (λ x ys. refl) (λ i g. p_left (p_ends imported (import_prints i g) (λ x e. ap imported e))) p.imports h.0 _
+    (kind_prints IsOwnDevice (printed_device (codes "sensor ")) sensor unplaced_device (λ ds. program_with [] ds actuators nodes) (λ x ys. refl) (λ d g. p_right (p_left (p_ends sensor (device_prints fixed.Sensor (codes "sensor") (p_keyword fixed.Sensor (codes "sensor") (refl, omega arith) refl refl) d g) (λ x e. ap sensor e)))) p.sensors h.1 _
+    (kind_prints IsOwnDevice (printed_device (codes "actuator ")) actuator unplaced_device (λ ds. program_with [] [] ds nodes) (λ x ys. refl) (λ d g. p_right (p_right (p_left (p_ends actuator (device_prints fixed.Actuator (codes "actuator") (p_keyword fixed.Actuator (codes "actuator") (refl, omega arith) refl refl) d g) (λ x e. ap actuator e))))) p.actuators h.2 _
+    (kind_prints IsOwnNode printed_node node unplaced_node (program_with [] [] []) (λ x ys. refl) (λ n g. p_right (p_right (p_right (p_ends node (node_prints n g) (λ x e. ap node e))))) p.nodes h.3 [] (p_none lines_row refl)))))
+    (λ ds e. e))
