@@ -217,7 +217,8 @@ module _ (I : StemTree → List Lexeme → Type 0) (inside : (i : Bool) (c d : �
   unfolding Expr Postfix
   expr_means i c d =
       s_then (λ i c. s_first (s_then (λ i c. inside i c d) (λ s h i c. s_then (s_many {P = λ o. IsPostfix o.op} (λ i c.
-      s_either (s_place (λ p _. s_number (λ n h. s_give (is_count n h)))) (s_either (s_place (λ p _. s_number (λ n h. s_give (is_count n h)))) (s_place (λ p _. s_then (λ i c. ratio_means I i c d) (λ q h i c. s_give h)))))) (λ post g i c. s_give {Q = λ (x : _). IsOwnStem d x.0 × AllByRecursion (λ o. IsPostfix o.op) x.1} (h, g)))))
+      s_either (s_place (λ p _. s_number (λ n h. s_give (is_count n h))))
+      (s_either (s_place (λ p _. s_number (λ n h. s_give (is_count n h)))) (s_place (λ p _. s_then (λ i c. ratio_means I i c d) (λ q h i c. s_give h)))))) (λ post g i c. s_give {Q = λ (x : _). IsOwnStem d x.0 × AllByRecursion (λ o. IsPostfix o.op) x.1} (h, g)))))
       (λ x h i c. s_give ((h.0.0, h.0.1.0, h.1), h.0.1.1))
 
   exprs_mean : Means_at Exprs IsOwnGroup
@@ -258,7 +259,8 @@ nested_means i c d = record { sure = λ s w fine h. (within_means h.0 i c d).sur
 equation_means : (i : Bool) (c : ℕ) → Sure i c 0 0 (Text programs Equation) IsOwnEquation
 unfolding Equation Left
 equation_means i c =
-    s_then (λ i c. s_first (s_then {P = AreSome IsOwnPlaced} (λ i c. s_either (s_weaken (s_parens (λ i c. names_mean I i c 1)) (λ ns h. h.1)) (s_then (λ i c. name_means I i c 0) (λ n h i c. s_give ((h, tt), omega arith)))) (λ ls h i c. s_place (λ p _. s_then (λ i c. expr_means I nested_means i c 0) (λ t g i c. s_place (λ s _. s_give {Q = λ (s : _). (AllByRecursion IsOwnPlaced s.0 × IsSome s.0) × IsOwnTree 0 s.1} (h, g)))))))
+    s_then (λ i c. s_first (s_then {P = AreSome IsOwnPlaced} (λ i c. s_either (s_weaken (s_parens (λ i c. names_mean I i c 1)) (λ ns h. h.1)) (s_then (λ i c. name_means I i c 0) (λ n h i c. s_give ((h, tt), omega arith))))
+    (λ ls h i c. s_place (λ p _. s_then (λ i c. expr_means I nested_means i c 0) (λ t g i c. s_place (λ s _. s_give {Q = λ (s : _). (AllByRecursion IsOwnPlaced s.0 × IsSome s.0) × IsOwnTree 0 s.1} (h, g)))))))
     (λ x h i c. s_give (record { range = record { lefts = all_of (λ n q. q.0) x.1.0 h.0.0; some = h.0.1; right = h.1.0 }; lefts = h.0.0; right = h.1.1 }))
 
 node_means : (i : Bool) (c : ℕ) → Sure i c 0 0 (Text programs Node) IsOwnNode

@@ -234,7 +234,8 @@ wcet_text a n e z = simp append_assoc
 
 wcet_prints : (n : ℕ) → IsCount n → Writes Wcet (λ w. w ≡ n) 0 any free (printed_wcet n)
 unfolding Wcet
-wcet_prints n h = p_bytes _ _ (wcet_text (codes " wcet ") (decimal n) (codes ";") (codes "\n")) (p_line (λ rest. tt) (p_next refl (p_pad (p_keyword fixed.Wcet (codes "wcet") (refl, omega arith) refl refl)) (λ k _. p_next refl (p_pad (p_count n h)) (λ m e. p_ends (λ c. small m) p_semicolon (λ c _. ap small e ∙ small_is n h.1)))))
+wcet_prints n h = p_bytes _ _ (wcet_text (codes " wcet ") (decimal n) (codes ";") (codes "\n"))
+    (p_line (λ rest. tt) (p_next refl (p_pad (p_keyword fixed.Wcet (codes "wcet") (refl, omega arith) refl refl)) (λ k _. p_next refl (p_pad (p_count n h)) (λ m e. p_ends (λ c. small m) p_semicolon (λ c _. ap small e ∙ small_is n h.1)))))
 
 import_text : (a n l i r o c w : List ℕ) → a ++ (n ++ ((l ++ (i ++ c)) ++ (r ++ ((l ++ (o ++ c)) ++ w)))) ≡ a ++ n ++ l ++ i ++ (c ++ (r ++ l)) ++ o ++ c ++ w
 import_text a n l i r o c w = simp append_assoc
@@ -288,9 +289,11 @@ prefix_prints : {d : ℕ} (op : Op) → IsPrefix op → (pre : List PlacedOp) (r
     → Writes Stem (λ s. unplaced_stem s ≡ after_op op pre root) d any word (printed_operator op ++ text)
 unfolding Stem Prefixed
 prefix_prints (ops.Fby v) h pre root text stem = p_bytes _ _ (sym (append_assoc (value_text v) (codes " fby ") text))
-    (p_right (p_right (p_next refl (value_prints v h) (λ c e. p_left (p_pad (p_next refl (p_keyword fixed.Fby (codes "fby") (refl, omega arith) refl refl) (λ p _. p_ends (λ s. prefixed (record { op = ops.Fby c; at = p }) s) (p_pad (in_stem stem)) (λ s f. ap (prefixed (unplaced_op (ops.Fby c))) f ∙ ap (λ k. after_op (ops.Fby k) pre root) e))))))))
+    (p_right (p_right (p_next refl (value_prints v h) (λ c e.
+    p_left (p_pad (p_next refl (p_keyword fixed.Fby (codes "fby") (refl, omega arith) refl refl) (λ p _. p_ends (λ s. prefixed (record { op = ops.Fby c; at = p }) s) (p_pad (in_stem stem)) (λ s f. ap (prefixed (unplaced_op (ops.Fby c))) f ∙ ap (λ k. after_op (ops.Fby k) pre root) e))))))))
 prefix_prints (ops.Cons v) h pre root text stem = p_bytes _ _ (sym (append_assoc (value_text v) (codes " :: ") text))
-    (p_right (p_right (p_next refl (value_prints v h) (λ c e. p_right (p_left (p_then (p_operator fixed.Cons 58 58 (refl, omega arith, refl, refl, refl, refl, refl)) (λ p _. p_ends (λ s. prefixed (record { op = ops.Cons c; at = p }) s) (p_pad (in_stem stem)) (λ s f. ap (prefixed (unplaced_op (ops.Cons c))) f ∙ ap (λ k. after_op (ops.Cons k) pre root) e))))))))
+    (p_right (p_right (p_next refl (value_prints v h) (λ c e.
+    p_right (p_left (p_then (p_operator fixed.Cons 58 58 (refl, omega arith, refl, refl, refl, refl, refl)) (λ p _. p_ends (λ s. prefixed (record { op = ops.Cons c; at = p }) s) (p_pad (in_stem stem)) (λ s f. ap (prefixed (unplaced_op (ops.Cons c))) f ∙ ap (λ k. after_op (ops.Cons k) pre root) e))))))))
 prefix_prints ops.Tail h pre root text stem = p_right (p_left (p_next refl (p_keyword fixed.Tail (codes "tail") (refl, omega arith) refl refl) (λ p _. p_ends (λ s. prefixed (record { op = ops.Tail; at = p }) s) (p_pad (in_stem stem)) (λ s f. ap (prefixed (unplaced_op ops.Tail)) f))))
 prefix_prints (ops.Up n) h pre root text stem = absurd h
 prefix_prints (ops.Down n) h pre root text stem = absurd h
@@ -430,7 +433,9 @@ program_prints p h =
     p_bytes _ _ (program_text (flat_map printed_import p.imports) _ _ _)
     (p_ends program_of
     (kind_prints IsOwnImport printed_import imported unplaced_import (λ is. program_with is sensors actuators nodes) (λ x ys. refl) (λ i g. p_left (p_ends imported (import_prints i g) (λ x e. ap imported e))) p.imports h.0 _
-    (kind_prints IsOwnDevice (printed_device (codes "sensor ")) sensor unplaced_device (λ ds. program_with [] ds actuators nodes) (λ x ys. refl) (λ d g. p_right (p_left (p_ends sensor (device_prints fixed.Sensor (codes "sensor") (p_keyword fixed.Sensor (codes "sensor") (refl, omega arith) refl refl) d g) (λ x e. ap sensor e)))) p.sensors h.1 _
-    (kind_prints IsOwnDevice (printed_device (codes "actuator ")) actuator unplaced_device (λ ds. program_with [] [] ds nodes) (λ x ys. refl) (λ d g. p_right (p_right (p_left (p_ends actuator (device_prints fixed.Actuator (codes "actuator") (p_keyword fixed.Actuator (codes "actuator") (refl, omega arith) refl refl) d g) (λ x e. ap actuator e))))) p.actuators h.2 _
+    (kind_prints IsOwnDevice (printed_device (codes "sensor ")) sensor unplaced_device (λ ds. program_with [] ds actuators nodes) (λ x ys. refl)
+    (λ d g. p_right (p_left (p_ends sensor (device_prints fixed.Sensor (codes "sensor") (p_keyword fixed.Sensor (codes "sensor") (refl, omega arith) refl refl) d g) (λ x e. ap sensor e)))) p.sensors h.1 _
+    (kind_prints IsOwnDevice (printed_device (codes "actuator ")) actuator unplaced_device (λ ds. program_with [] [] ds nodes) (λ x ys. refl)
+    (λ d g. p_right (p_right (p_left (p_ends actuator (device_prints fixed.Actuator (codes "actuator") (p_keyword fixed.Actuator (codes "actuator") (refl, omega arith) refl refl) d g) (λ x e. ap actuator e))))) p.actuators h.2 _
     (kind_prints IsOwnNode printed_node node unplaced_node (program_with [] [] []) (λ x ys. refl) (λ n g. p_right (p_right (p_right (p_ends node (node_prints n g) (λ x e. ap node e))))) p.nodes h.3 [] (p_none lines_row refl)))))
     (λ ds e. e))
