@@ -12,3 +12,5 @@ mod Begun
 mod Joining
 mod Lending
 mod ClosedBoards
+mod Actuators
+mod Outputs

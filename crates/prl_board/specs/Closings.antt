@@ -1,6 +1,9 @@
 -- What a closed board shows, and how it agrees with what has happened.
 use Rattle.std.specs.Prelude.{◌≡◌, ◌<◌, ◌≤◌, ℕ, Bool, List, length, Option, Some, slice_get, slice_index}
+use Rattle.prl_base.specs.declared.values.Value.{Value}
 use Rattle.prl_plan.specs.declared.events.Event.{Event}
+use Rattle.prl_plan.specs.declared.graphs.Kind.TheVariants as kinds
+use Rattle.prl_plan.specs.Jobs.{task_at}
 use Rattle.prl_plan.specs.Plans.{low, high}
 use Rattle.prl_plan.specs.Rules.{IsFree, IsGated}
 use Rattle.prl_plan.specs.Runs.{ExecState, opening}
@@ -44,3 +47,17 @@ pub record IsClosed (k : Constants) (words : List ℕ) (seats : List JobSeatView
 abbrev pub slot_of : ℕ → Half → ℕ
 slot_of cell halves.Low = low cell
 slot_of cell halves.High = high cell
+
+-- the values are those that the first `ended` jobs of task i have read, in order
+pub record AreOutputs (k : Constants) (i ended : ℕ) (values : List Value) : Type 0 where
+  pub count : length values ≡ ended
+  pub each : (n : ℕ) → n < ended → slice_get values n ≡ slice_get ((values_of k).operands i n) 0
+
+-- task i is the actuator of this number
+pub record Drives (k : Constants) (i actuator : ℕ) : Type 0 where
+  pub task : i < (run_of k).tasks
+  pub kind : (task_at k.plan.graph i).kind ≡ kinds.Actuator actuator
+
+-- task i is no actuator
+abbrev pub IsNoActuator : Constants → ℕ → Type 0
+IsNoActuator k i = (actuator : ℕ) → (task_at k.plan.graph i).kind ≡ kinds.Actuator actuator → ⊥

@@ -84,6 +84,13 @@ impl ClockSeat {
         self.now
     }
 
+    /// The clock's `now`, which the seat keeps while it has lent its part.
+    pub(crate) fn shown(&self) -> u64
+        ensures { result ≡ self.entry.now.now }
+    {
+        self.now
+    }
+
     /// Loads how many jobs of the task have ended, and keeps it. Takes no memory.
     pub fn look(&mut self, board: &Board, task: TaskNo) -> u64
         requires seat { (r : ClockPart) × IsClockOf board.now self.old r }

@@ -10,7 +10,7 @@ ghost use Rattle.prl_rule.specs.Agreement.{done_word, now_word, slot_word};
 ghost use Rattle.prl_rule.specs.declared.views.ClockPart.{ClockPart};
 ghost use Rattle.prl_rule.specs.declared.views.Constants.{Constants};
 ghost use Rattle.prl_board.specs.ClockSeats.{IsClockOf};
-ghost use Rattle.prl_board.specs.Closings.{IsClosed, IsLastState, slot_of};
+ghost use Rattle.prl_board.specs.Closings.{AreOutputs, Drives, IsClosed, IsLastState, slot_of};
 ghost use Rattle.prl_board.specs.JobSeats.{JobSeatView};
 ghost use Rattle.prl_rule.specs.Known.{run_of};
 ghost use Rattle.prl_board.specs.Lones.{AreSeatsOf, IsLoneOf, StandAs};
@@ -21,7 +21,7 @@ use crate::board::{Board, Words};
 use crate::clocks::ClockSeat;
 use crate::lone::gather;
 use crate::seats::{Half, TaskSeat};
-use prl_base::{CellNo, TaskNo};
+use prl_base::{CellNo, TaskNo, Value};
 use prl_body::Machine;
 use std::marker::Model;
 
@@ -152,5 +152,29 @@ impl Closed {
             MatchOption result (IsNoNode k task.0) (λ machine. IsMachineOf k s machine.now) }
     {
         self.seats[task.0 as usize].machine()
+    }
+
+    /// The task of the first actuator.
+    fn first_actuator(&self) -> usize
+        requires { (k : Constants) × (i : ℕ) × (actuator : ℕ) × (self.now.constants ≡ Some k) × Drives k i actuator }
+        ensures { (k : Constants) → self.entry.now.constants ≡ Some k → Drives k result 0 }
+    {
+        for i in 0..self.seats.len() {
+            if self.seats[i].has_output() {
+                return i;
+            }
+        }
+        unreachable!()
+    }
+
+    /// The values that the ended jobs of the actuator of main's output of this number have read, in order.
+    pub fn output(&self, actuator: u32) -> &[Value]
+        requires { (k : Constants) × (i : ℕ) × (self.now.constants ≡ Some k) × Drives k i actuator }
+        ensures { (k : Constants) (i : ℕ) (s : JobSeatView) → self.entry.now.constants ≡ Some k → Drives k i actuator → slice_get self.entry.now.seats i ≡ Some s →
+            AreOutputs k i s.job result.now }
+    {
+        let seats = &self.seats;
+        let task = self.first_actuator() + actuator as usize;
+        seats[task].output()
     }
 }

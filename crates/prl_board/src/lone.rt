@@ -11,13 +11,15 @@ ghost use Rattle.prl_board.specs.ClockSeats.{IsClockOf};
 ghost use Rattle.prl_rule.specs.Agreement.{now_word};
 ghost use Rattle.prl_board.specs.JobSeats.{Follows, IsSeatOf, JobSeatView, StaysAt};
 ghost use Rattle.prl_board.specs.Lones.{AreSeatsOf, IsLoneOf, IsWhole, StandAs};
+ghost use Rattle.prl_board.specs.TaskSeats.{place_of};
 ghost use Rattle.prl_rule.specs.Steps.{bare};
 ghost use Rattle.prl_board.specs.code.Lent.{IsLent, IsSettled};
 
 use crate::board::{Board, Seat};
 use crate::clocks::ClockSeat;
 use crate::closing::Closed;
-use crate::seats::TaskSeat;
+use crate::seats::{Place, TaskSeat};
+use prl_base::TaskNo;
 use prl_rule::plan_laws;
 use std::marker::Model;
 
@@ -112,6 +114,30 @@ pub fn gather(board: &Board, mut seats: Vec<TaskSeat>, mut clock: ClockSeat) -> 
 }
 
 impl Lone {
+    /// How many jobs of the task have ended.
+    pub fn job(&self, task: TaskNo) -> u64
+        requires { task.0 < length self.now.seats }
+        ensures { (s : JobSeatView) → slice_get self.now.seats task.0 ≡ Some s → result ≡ s.job }
+    {
+        self.seats[task.0 as usize].job()
+    }
+
+    /// Where the task stands.
+    pub fn place(&self, task: TaskNo) -> Place
+        requires { task.0 < length self.now.seats }
+        ensures { (s : JobSeatView) → slice_get self.now.seats task.0 ≡ Some s → result ≡ place_of s.stage }
+    {
+        self.seats[task.0 as usize].place()
+    }
+
+    /// The clock's `now`.
+    pub fn now(&self) -> u64
+        requires { (k : Constants) × (self.now.view.constants ≡ Some k) }
+        ensures { (r : ClockPart) → self.now.view.clock ≡ Some r → result ≡ r.now }
+    {
+        self.clock.shown()
+    }
+
     /// Lets the task's part stand where its seat does.
     fn settle(&mut self, board: &Board, i: usize)
         requires lone { IsLoneOf board.now self.old }

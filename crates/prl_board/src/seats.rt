@@ -1,6 +1,6 @@
 //! The seats of tasks: through them callers' own threads run the jobs of a plan.
 
-ghost use Rattle.std.specs.Prelude.{◌≡◌, ◌%◌, ◌<◌, [], IfOk, MatchOption, Some};
+ghost use Rattle.std.specs.Prelude.{◌≡◌, ◌%◌, ◌<◌, ◌≤◌, ℕ, [], IfOk, MatchOption, Some};
 ghost use Rattle.std.specs.Bool.{OnFalse, OnTrue};
 ghost use Rattle.prl_plan.specs.declared.events.Action.TheVariants as actions;
 ghost use Rattle.prl_board.specs.declared.jobs.Stage.TheVariants as stages;
@@ -8,6 +8,9 @@ ghost use Rattle.prl_rule.specs.declared.views.Constants.{Constants};
 ghost use Rattle.prl_workers.specs.Workers.{HasBegun};
 ghost use Rattle.prl_board.specs.code.Joining.{reseated};
 ghost use Rattle.prl_board.specs.code.Lows.{Gives, MayGive};
+ghost use Rattle.prl_board.specs.Closings.{AreOutputs, Drives, IsNoActuator};
+ghost use Rattle.prl_plan.specs.declared.graphs.Kind.TheVariants as kinds;
+ghost use Rattle.prl_plan.specs.Jobs.{task_at};
 ghost use Rattle.prl_board.specs.JobSeats.{AnswersRelease, Ends, Follows, HasPartOf, IsSameSeat, IsSeatOf, StaysAt};
 ghost use Rattle.prl_board.specs.Openings.{HasFirstPart, IsFirstSeat};
 ghost use Rattle.prl_rule.specs.Told.{RaiseTold};
@@ -20,7 +23,7 @@ use prl_base::{CellNo, EdgeNo, TaskNo, Value};
 use prl_body::Machine;
 use prl_plan::{Action, SlotNo};
 use prl_rule::{halves, halves_are_exact, unpack, whole};
-use prl_workers::Worker;
+use prl_workers::{Work, Worker};
 use std::alloc::{AllocError, Global};
 use std::marker::Model;
 
@@ -381,6 +384,30 @@ impl TaskSeat {
             MatchOption result (IsNoNode k self.entry.now.task.0) (λ machine. IsMachineOf k self.entry.now machine.now) }
     {
         self.worker.machine()
+    }
+
+    /// Whether the task is an actuator's.
+    pub(crate) fn has_output(&self) -> bool
+        ensures yes { OnTrue result ((k : Constants) → self.entry.now.view.constants ≡ Some k → (actuator : ℕ) × ((task_at k.plan.graph self.entry.now.task.0).kind ≡ kinds.Actuator actuator)) }
+        ensures no { OnFalse result ((k : Constants) → self.entry.now.view.constants ≡ Some k → IsNoActuator k self.entry.now.task.0) }
+    {
+        match &self.worker.work {
+            Work::Actuator(_) => true,
+            Work::Sensor(_) => false,
+            Work::Node { .. } => false,
+        }
+    }
+
+    /// What the ended jobs of an actuator's task have read.
+    pub(crate) fn output(&self) -> &[Value]
+        requires { (k : Constants) × (actuator : ℕ) × (self.now.view.constants ≡ Some k) × Drives k self.now.task.0 actuator × (self.now.job ≤ (run_of k).jobs self.now.task.0) }
+        ensures { (k : Constants) → self.entry.now.view.constants ≡ Some k → AreOutputs k self.entry.now.task.0 self.entry.now.job result.now }
+    {
+        match &self.worker.work {
+            Work::Actuator(column) => &column.as_slice()[..self.job.job() as usize],
+            Work::Sensor(_) => unreachable!(),
+            Work::Node { .. } => unreachable!(),
+        }
     }
 
     /// Whether no horizon job of the task is left.
