@@ -1,6 +1,7 @@
 -- The ratios of texts are reduced and not negative, and such ratios are read as themselves.
-use Rattle.std.proofs.Common.{◌≡◌, ◌==◌, ◌≤◌, ◌<◌, ◌/◌, ◌%◌, ◌≤ℤ◌, ℕ, zero, suc, ℤ, pos, negsuc, nat_abs, false, Option, Some, None, refl, sym, ap, ◌∙◌, subst, ⊎_elim, arith}
+use Rattle.std.proofs.Common.{◌≡◌, ◌==◌, ◌≤◌, ◌<◌, ◌/◌, ◌%◌, ◌≤ℤ◌, ℕ, zero, suc, ℤ, pos, negsuc, nat_abs, Option, Some, None, refl, sym, ap, ◌∙◌, subst, ⊎_elim, arith}
 use Rattle.std.proofs.lemmas.Bool.{cond-false, cond_both, cases_lt, ne_eqb}
+use Rattle.std.proofs.lemmas.Bool.Decides.{nat_tests}
 use Rattle.std.proofs.lemmas.Int.{ints}
 use Rattle.std.proofs.lemmas.Nat.Gcd.{IsGcd-from_zero, IsGcd-from_mod, IsGcd-swap}
 use Rattle.std.proofs.Math.Nat.{div-one}
@@ -33,11 +34,7 @@ reduced_shift a b high low den_high =
     subst P (sym (divisor_is a b g.0 g.1 (omega arith))) (reduced_fits a b g.0 g.1 above (omega arith) (omega arith) (omega arith), omega (arith, ints))
 
 ratio_shift : (num den : ℕ) → IsShift (ratio_of num den)
-ratio_shift num den = cond_both (small den == 0) (fraction (pos 0) 1) (reduced (small num) (small den)) IsShift (λ zero. none_fits) (λ some. reduced_shift (small num) (small den) (omega arith) (above (small den) some) (omega arith))
-  where
-    above : (n : ℕ) → (n == 0) ≡ false → 1 ≤ n
-    above zero e = cc
-    above (suc n) e = omega arith
+ratio_shift num den = cond_both (small den == 0) (fraction (pos 0) 1) (reduced (small num) (small den)) IsShift (λ zero. none_fits) (λ some. reduced_shift (small num) (small den) (omega arith) (grind (arith, nat_tests, some)) (omega arith))
 
 pub is_shift : (num : ℕ) (o : Option ℕ) → IsShift (ratio_with num o)
 is_shift num None = ratio_shift num 1

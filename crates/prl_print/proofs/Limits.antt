@@ -119,21 +119,15 @@ record Owned (at depth : ℕ) (p : List ℕ) (t : Token) : Type 0 where
 
 owned : (at depth : ℕ) (kind : Kind) (p : List ℕ) (t : Token) → depth ≤ 64 → kind ≡ kind_of p → checked at (depth_after depth p) kind p ≡ Ok t → Owned at depth p t
 owned at depth Number p t le k e =
-    let flat = flat_depth depth p (λ s. number_no_symbol (k ∙ s)) in
+    let flat = flat_depth depth p (λ s. cc (k, s)) in
     let P : Token → Type 0 = Owned at depth p in
     subst P (guard _ (token_at at Number p) t _ e).1 (record { place = refl; len = refl; high = omega (arith, flat); own = record { turn = sym flat; name = λ h. absurd (omega (arith, h)) } })
-  where
-    number_no_symbol : Number ≡ Symbol → ⊥
-    number_no_symbol h = cc
 owned at depth Word p t le k e =
     let is = guard (leb (length p) 64) (token_at at Word p) t _ e in
-    let flat = flat_depth depth p (λ s. word_no_symbol (k ∙ s)) in
+    let flat = flat_depth depth p (λ s. cc (k, s)) in
     let P : Token → Type 0 = Owned at depth p in
     let Q : ℕ → Type 0 = λ d. Own depth d (word_lexeme (keyword_of p) p (token_at at Word p).span) in
     subst P is.1 (record { place = refl; len = refl; high = omega (arith, flat); own = subst Q (sym flat) (word_own depth p (token_at at Word p) (keyword_of p) (word_tests (is_word p) (is_number p) (sym k), leb-true (length p) 64 is.0) refl) })
-  where
-    word_no_symbol : Word ≡ Symbol → ⊥
-    word_no_symbol h = cc
 owned at depth Symbol p t le k e =
     let is = guard (leb (depth_after depth p) 64) (token_at at Symbol p) t _ e in
     let P : Token → Type 0 = Owned at depth p in

@@ -1,5 +1,6 @@
 -- What holds of the tree of a text of the grammar, where its tokens are of a text.
 use Rattle.std.proofs.Common.{◌≡◌, ◌==◌, ◌≤◌, ◌+◌, ◌-◌, ◌&&◌, ℕ, Bool, true, false, cond, not, List, [], ◌∷◌, ◌++◌, length, refl, sym, ap, ◌∙◌, subst, inl, inr, arith, append_assoc}
+use Rattle.std.proofs.lemmas.Bool.{not-false}
 use Rattle.std.specs.List.{AllByRecursion}
 use Rattle.prl_base.specs.declared.places.Span.{Span}
 use Rattle.prl_grammar.specs.Lexemes.{Lexeme}
@@ -140,14 +141,7 @@ pub s_named : {B : Type 0} {V : List ℕ × Span → B → List Lexeme → Type 
 s_named later = s_assoc (s_one (λ t k. s_given (later (t.name, t.at) (k.name k.is))))
 
 pub s_number : {B : Type 0} {V : ℕ → B → List Lexeme → Type 0} {P : B → Type 0} {i : Bool} {c d e : ℕ} → ((n : ℕ) → in_range i c n ≡ true → Sure (inside_after program_ranges i 1) 1 d e (V n) P) → Sure i c d e (Then Number V) P
-s_number {i} {c} later = s_assoc (s_one (λ t k. s_given (later t.number (fits t k.is k.fits))))
-  where
-    not_false : (b : Bool) → not b ≡ false → b ≡ true
-    not_false true e = refl
-    not_false false e = cc
-
-    fits : (t : Lexeme) → t.class ≡ 1 → is_fault program_ranges i c t ≡ false → in_range i c t.number ≡ true
-    fits t one h = not_false (in_range i c t.number) (ap (λ k. (k == 1) && not (in_range i c t.number)) (sym one) ∙ h)
+s_number {i} {c} later = s_assoc (s_one (λ t k. s_given (later t.number (not-false (in_range i c t.number) (ap (λ class. (class == 1) && not (in_range i c t.number)) (sym k.is) ∙ k.fits)))))
 
 -- a token alone, which is no parenthesis
 pub s_alone : {i : Bool} {c d class : ℕ} → ((d : ℕ) → deeper d class ≡ d) → Sure i c d d (Place class) (λ p. Unit {0})
