@@ -255,12 +255,7 @@ p_one class f F k is h lexes = p_ends f (record { there = λ at. record { tree =
 
 word_calm : (name rest : List ℕ) → IsName name → Stops is_loud (name ++ rest)
 word_calm [] rest h = absurd (false≢true h.0)
-word_calm (c ∷ cs) rest h =
-    let start : is_word_start c ≡ true = (and_parts (is_word_start c) (list_all is_word_byte cs) h.0).0 in
-    calm c start
-  where
-    calm : (c : ℕ) → is_word_start c ≡ true → is_loud c ≡ false
-    calm c h = grind (arith, nat_tests)
+word_calm (c ∷ cs) rest h = let start : is_word_start c ≡ true = (and_parts (is_word_start c) (list_all is_word_byte cs) h.0).0 in grind (arith, nat_tests, start)
 
 pub p_name : {inside : Bool} {r : ℕ → Bool} {d : ℕ} (name : List ℕ) → IsOwnName name → Prints Named (λ n. n.0 ≡ name) (state inside r d) (state_after inside 0 d) any word name
 p_name {inside} {r} {d} name h = p_one 0 (λ t. (t.name, t.at)) (λ n. n.0 ≡ name) (a_word None name) (λ at. refl) (λ at. refl)
@@ -272,11 +267,8 @@ p_keyword {inside} {r} {d} f text h key other = p_one (class_of f) (λ t. t.at) 
 
 pub p_number : {inside : Bool} {r : ℕ → Bool} {d : ℕ} (n : ℕ) → n < 2 ^ 64 → r n ≡ true → Prints Number (λ m. m ≡ n) (state inside r d) (state_after inside 1 d) any word (decimal n)
 p_number {inside} {r} {d} n small fit = p_one 1 (λ t. t.number) (λ m. m ≡ n) (a_number n (decimal n)) (λ at. refl) (λ at. refl)
-    (λ at. token_lex at inside r d d n kinds.Number word (decimal n) (a_number n (decimal n) at) (λ rest. number_leads is_loud n rest small calm) (λ le. le) (λ last e. ap not (e n ∙ fit))
+    (λ at. token_lex at inside r d d n kinds.Number word (decimal n) (a_number n (decimal n) at) (λ rest. number_leads is_loud n rest small (λ c low high. grind (arith, nat_tests, low, high))) (λ le. le) (λ last e. ap not (e n ∙ fit))
     (λ rest bytes fits le. number_token at d n rest bytes small fits))
-  where
-    calm : (c : ℕ) → 48 ≤ c → c ≤ 57 → is_loud c ≡ false
-    calm c low high = grind (arith, nat_tests)
 
 pub p_part : {inside : Bool} {d : ℕ} (n : ℕ) → n ≤ 2147483647 → Prints Number (λ m. m ≡ n) (state inside part d) (state_after inside 1 d) any word (decimal n)
 p_part n le = p_number n (omega arith) (le-leb n 2147483647 le)
@@ -309,20 +301,14 @@ pub p_equals : {inside : Bool} {r : ℕ → Bool} {d : ℕ} → Prints (The fixe
 p_equals {d} = p_quiet (λ c h. refl) (p_sign d d fixed.Equals 61 (refl, refl, refl, refl, refl) refl (λ le. le))
 
 pub p_slash : {inside : Bool} {r : ℕ → Bool} {d : ℕ} → Prints (The fixed.Slash) (λ p. Unit {0}) (state inside r d) (state_after inside 27 d) any free (codes "/")
-p_slash {d} = p_quiet caret (p_sign d d fixed.Slash 47 (refl, refl, refl, refl, refl) refl (λ le. le))
-  where
-    caret : (c : ℕ) → is_loud c ≡ false → goes_on 47 c ≡ false
-    caret c h = grind (arith, nat_tests)
+p_slash {d} = p_quiet (λ c h. grind (arith, nat_tests, h)) (p_sign d d fixed.Slash 47 (refl, refl, refl, refl, refl) refl (λ le. le))
 
 -- before a blank, and before a number
 pub p_colon : {A : Type 0} {V : Span → A → List Lexeme → Type 0} {F : A → Type 0} {inside : Bool} {r : ℕ → Bool} {d : ℕ} {u : State} {b : Begin} {e : End} {a : List ℕ} → ((p : Span) → Prints (V p) F (state_after inside 23 d) u b e a) → Prints (Then (The fixed.Colon) V) F (state inside r d) u any e (codes ": " ++ a)
 p_colon {d} after = p_seq (λ h g. tt) (λ l rest fits. refl) (p_sign d d fixed.Colon 58 (refl, refl, refl, refl, refl) refl (λ le. le)) (λ p _. p_pad (after p))
 
 pub p_minus : {B : Type 0} {F : B → Type 0} {d : ℕ} (f : ℕ → B) (n : ℕ) → n ≤ MAX_NEGATIVE → F (f n) → Prints (Then (The fixed.Minus) (λ p. Then Number (λ n. Give (f n)))) F (state false constant d) (state false constant d) any word (codes "-" ++ decimal n)
-p_minus {F} {d} f n le h = p_seq (λ h g. tt) (λ l rest fits. number_leads (goes_on 45) n rest (omega arith) dash) (p_sign d d fixed.Minus 45 (refl, refl, refl, refl, refl) refl (λ le. le)) (λ p _. p_ends f (p_number n (omega arith) (le-leb n MAX_NEGATIVE le)) (λ m e. subst (λ k. F (f k)) (sym e) h))
-  where
-    dash : (c : ℕ) → 48 ≤ c → c ≤ 57 → goes_on 45 c ≡ false
-    dash c low high = grind (arith, nat_tests)
+p_minus {F} {d} f n le h = p_seq (λ h g. tt) (λ l rest fits. number_leads (goes_on 45) n rest (omega arith) (λ c low high. grind (arith, nat_tests, low, high))) (p_sign d d fixed.Minus 45 (refl, refl, refl, refl, refl) refl (λ le. le)) (λ p _. p_ends f (p_number n (omega arith) (le-leb n MAX_NEGATIVE le)) (λ m e. subst (λ k. F (f k)) (sym e) h))
 
 -- a symbol of two bytes, after a blank
 pub p_operator : {inside : Bool} {r : ℕ → Bool} {d : ℕ} (f : Fixed) (a b : ℕ) → (is_mark a ≡ true) × (b < 256) × (((a == 45) && (b == 45)) ≡ false) × (((a == 40) && (b == 42)) ≡ false) × (is_two_byte_symbol a b ≡ true) × (symbol_of (a ∷ b ∷ []) ≡ f) × ((class_of f == 1) ≡ false)

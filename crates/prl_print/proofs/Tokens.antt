@@ -177,18 +177,6 @@ word_no_other b h = record { blank = grind (arith, nat_tests); dash = grind (ari
 digit_no_other : (b : ℕ) → is_ascii_digit b ≡ true → IsNoOther b
 digit_no_other b h = record { blank = grind (arith, nat_tests); dash = grind (arith, nat_tests); opening = grind (arith, nat_tests); closing = grind (arith, nat_tests) }
 
-digit_no_word : (b : ℕ) → is_ascii_digit b ≡ true → is_word_start b ≡ false
-digit_no_word b h = grind (arith, nat_tests)
-
-word_start_small : (b : ℕ) → is_word_start b ≡ true → b < 256
-word_start_small b h = grind (arith, nat_tests)
-
-word_byte_small : (b : ℕ) → is_word_byte b ≡ true → b < 256
-word_byte_small b h = grind (arith, nat_tests)
-
-digit_small : (b : ℕ) → is_ascii_digit b ≡ true → b < 256
-digit_small b h = grind (arith, nat_tests)
-
 all_small : (p : ℕ → Bool) → ((b : ℕ) → p b ≡ true → b < 256) → (cs : List ℕ) → list_all p cs ≡ true → AreBytes cs
 all_small p small [] h = tt
 all_small p small (c ∷ cs) h = let parts = and_parts (p c) (list_all p cs) h in (small c parts.0, all_small p small cs parts.1)
@@ -221,7 +209,7 @@ pub word_token : (at depth : ℕ) (w rest : List ℕ) (o : Option Fixed) → Are
 word_token at depth [] rest o bytes name key stops = absurd (false≢true name.0)
 word_token at depth (c ∷ cs) rest o bytes name key stops =
     let parts = and_parts (is_word_start c) (list_all is_word_byte cs) name.0 in
-    run_token Word is_word_byte at depth 0 c cs rest (a_word o (c ∷ cs) at) (word_start_small c parts.0, all_small is_word_byte word_byte_small cs parts.1) bytes (word_no_other c parts.0) parts.1 stops (λ bs. cond-true (is_word_start c) _ _ parts.0)
+    run_token Word is_word_byte at depth 0 c cs rest (a_word o (c ∷ cs) at) (grind (arith, nat_tests, parts.0), all_small is_word_byte (λ b h. grind (arith, nat_tests, h)) cs parts.1) bytes (word_no_other c parts.0) parts.1 stops (λ bs. cond-true (is_word_start c) _ _ parts.0)
     (cond-true (leb (length (c ∷ cs)) 64) _ _ (le-leb (length (c ∷ cs)) 64 name.1)) (ap (λ k. word_lexeme k (c ∷ cs) (spot at (c ∷ cs))) key)
 
 digits_pass : (ds : List ℕ) → AllDigits 10 ds → list_all is_ascii_digit ds ≡ true
@@ -232,18 +220,15 @@ digits_pass (d ∷ ds) h =
 
 stops_digits : (rest : List ℕ) → Stops is_word_byte rest → Stops is_ascii_digit rest
 stops_digits [] h = tt
-stops_digits (b ∷ rest) h = digit_of b h
-  where
-    digit_of : (b : ℕ) → is_word_byte b ≡ false → is_ascii_digit b ≡ false
-    digit_of b h = grind (arith, nat_tests)
+stops_digits (b ∷ rest) h = grind (arith, nat_tests, h)
 
 digits_token : (at depth n : ℕ) (p rest : List ℕ) → AreBytes rest → AllDigits 10 p → 0 < length p → digits_value 10 p ≡ n → n < 2 ^ 64 → Stops is_word_byte rest → IsToken at depth depth Number p rest n (a_number n p at)
 digits_token at depth n [] rest bytes digits some value fits stops = absurd (omega arith)
 digits_token at depth n (d ∷ ds) rest bytes digits some value fits stops =
     let all = digits_pass (d ∷ ds) digits in
     let pass = and_parts (is_ascii_digit d) (list_all is_ascii_digit ds) all in
-    run_token Number is_ascii_digit at depth n d ds rest (a_number n (d ∷ ds) at) (all_small is_ascii_digit digit_small (d ∷ ds) all) bytes (digit_no_other d pass.0) pass.1 (stops_digits rest stops)
-    (λ bs. cond-false (is_word_start d) _ _ (digit_no_word d pass.0) ∙ cond-true (is_ascii_digit d) _ _ pass.0)
+    run_token Number is_ascii_digit at depth n d ds rest (a_number n (d ∷ ds) at) (all_small is_ascii_digit (λ b h. grind (arith, nat_tests, h)) (d ∷ ds) all) bytes (digit_no_other d pass.0) pass.1 (stops_digits rest stops)
+    (λ bs. cond-false (is_word_start d) _ _ (grind (arith, nat_tests, pass.0)) ∙ cond-true (is_ascii_digit d) _ _ pass.0)
     (cond-true (ltb (digits_value 10 (d ∷ ds)) (2 ^ 64)) _ _ (lt-ltb (digits_value 10 (d ∷ ds)) (2 ^ 64) (omega (arith, value, fits))) ∙ ap (λ m. Ok (a_token at Number (d ∷ ds) m)) value) refl
 
 -- a number
