@@ -13,7 +13,7 @@ fn words_that_are_no_command(rt: HostRuntime) -> Result<(), Fail> {
     let alloc = rt.alloc();
     let lines: [&[&str]; 5] = [
         &["prelude_explain", "--program"],
-        &["prelude_explain", "--plan", "s.prl"],
+        &["prelude_explain", "--until", "60"],
         &["prelude_explain", "--program", "--bodies"],
         &["prelude_explain", "--program", ""],
         &[
