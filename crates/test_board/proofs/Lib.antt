@@ -1,3 +1,4 @@
 mod Lists
 mod Worked
 mod Popped
+mod Seats

@@ -23,7 +23,7 @@ use std::test::Fail;
 
 /// What a task did.
 #[derive(Clone, Copy, Debug, PartialEq, Eq)]
-enum Did {
+pub(crate) enum Did {
     Released(Release),
     Read(Got),
     Wrote(Wrote),
@@ -32,9 +32,10 @@ enum Did {
 }
 
 /// Does what comes next for a task.
-fn act(board: &Board, seat: &mut TaskSeat) -> Did
+pub(crate) fn act(board: &Board, seat: &mut TaskSeat) -> Did
     requires { IsSeatOf board.now seat.old }
-    ensures { IsSeatOf board.now seat.new }
+    ensures seat { IsSeatOf board.now seat.new }
+    ensures same { seat.new.task ≡ seat.old.task }
 {
     match seat.place() {
         Place::Idle => Did::Released(seat.release(board)),
@@ -59,7 +60,7 @@ fn two_seats(board: &Board, mut seats: Vec<TaskSeat>) -> Option<(TaskSeat, TaskS
 }
 
 /// The horizon of a plan up to 20.
-fn until_20(plan: &Plan) -> Option<Horizon>
+pub(crate) fn until_20(plan: &Plan) -> Option<Horizon>
     ensures { IfSome result (λ horizon. IsHorizon plan.now horizon × (horizon.until ≡ 20)) }
 {
     match Horizon::new(plan, 20) {
@@ -95,7 +96,7 @@ fn opened<'a>(
 }
 
 /// A tick, after a look at both tasks.
-fn tick(board: &Board, clock: &mut ClockSeat) -> Ticked
+pub(crate) fn tick(board: &Board, clock: &mut ClockSeat) -> Ticked
     requires clock { (r : ClockPart) × IsClockOf board.now clock.old r }
     requires tasks { 2 ≤ (run_of board.now.known).tasks }
     ensures { (r : ClockPart) × IsClockOf board.now clock.new r }

@@ -4,6 +4,8 @@
 #[cfg(test)]
 mod boards;
 #[cfg(test)]
+mod closings;
+#[cfg(test)]
 mod halves;
 #[cfg(test)]
 mod pairs;
