@@ -14,6 +14,7 @@ use Rattle.prl_body.specs.contracts.program_bodies.Bodies.{the_row}
 use Rattle.prl_plan.proofs.plans.Plan.TheSendSync as plan
 use Rattle.prl_plan.proofs.horizons.Horizon.TheSendSync as horizon
 use Rattle.prl_flow.proofs.rows.Sensors.TheSendSync as sensors
+use Rattle.prl_routes.proofs.routes.Routes.TheSendSync as routes
 use Rattle.prl_rule.specs.contracts.views.View as View
 use Rattle.prl_rule.specs.contracts.views.About as About
 use Rattle.prl_rule.specs.contracts.views.Running as Running
@@ -30,4 +31,4 @@ module _ (a : NamedLft) where
       (plain_send _ _ _ _ _) global.the_send global.the_sync heap.the_frees
 
   pub board_sync : IsSync (Board.the_row a)
-  board_sync = search (plan.the_sync, sensors.the_sync, bodies_sync, horizon.the_field_sync, gate.the_field_sync, table_sync, sendable) depth 12
+  board_sync = search (plan.the_sync, sensors.the_sync, bodies_sync, horizon.the_field_sync, gate.the_field_sync, routes.the_sync, table_sync, sendable) depth 12

@@ -39,6 +39,7 @@ use prl_plan::{
     Action, Horizon, Plan, Producer, SlotNo, actions_are_as_defined, plan_facts, plan_is_one,
 };
 use prl_ranges::horizons_are_small;
+use prl_routes::Routes;
 use prl_rule::{
     About, Gate, Running, View, bare_seat_may_enter, join_takes_all_parts, plan_laws,
     rule_holds_at_the_opening, run_values_keep_facts,
@@ -139,11 +140,13 @@ pub struct Board<'a> {
     sensors: &'a Sensors,
     horizon: Horizon,
     gate: Gate,
+    routes: Routes,
     table: Table<(), View, About<'a>, Running, Global>,
 }
 
 impl<'a> Model for Board<'a> {
-    ghost use Rattle.prl_board.specs.Boards.{BoardView, IsBoard};
+    ghost use Rattle.prl_board.specs.Boards.{BoardView};
+    ghost use Rattle.prl_board.specs.code.Kept.{IsBoard};
     ghost use Rattle.prl_rule.specs.Known.{known};
     ghost use Rattle.prl_body.specs.contracts.codes.Code as code;
     ghost use Rattle.std.specs.Coded.{codes};
@@ -155,7 +158,7 @@ impl<'a> Model for Board<'a> {
     ghost view = { λ b. record { known = known b.plan.now b.horizon b.gate b.sensors.now b.bodies.now; table = b.table.shared.table_id } };
 
     ghost invariant = { λ b. IsBoard (known b.plan.now b.horizon b.gate b.sensors.now b.bodies.now)
-        (known b.table.shared.key.plan.now b.table.shared.key.horizon b.table.shared.key.gate b.table.shared.key.sensors.now b.table.shared.key.bodies.now) b.table.shared.table_id.words b.table.shared.table_id.slots };
+        (known b.table.shared.key.plan.now b.table.shared.key.horizon b.table.shared.key.gate b.table.shared.key.sensors.now b.table.shared.key.bodies.now) b.table.shared.table_id.words b.table.shared.table_id.slots b.routes };
 }
 
 /// So many zeros.
@@ -187,6 +190,7 @@ impl<'a> Board<'a> {
         rule_holds_at_the_opening();
         let count = 2 + plan.graph().tasks.len() + 2 * plan.total() as usize;
         let words = zeros(alloc, count)?;
+        let routes = Routes::new(alloc, plan)?;
         let about = About {
             plan,
             sensors,
@@ -201,6 +205,7 @@ impl<'a> Board<'a> {
             sensors,
             horizon,
             gate,
+            routes,
             table,
         };
         Ok((board, seat))
@@ -354,7 +359,7 @@ impl<'a> Board<'a> {
         ensures { result ≡ action_at (run_of self.now.known) task.0 job place }
     {
         plan_facts(self.plan, self.horizon);
-        self.plan.action(task, job, place)
+        self.routes.action(self.plan, task, job, place)
     }
 
     /// The place after that of an action which does not end its job.

@@ -19,11 +19,12 @@ use Rattle.prl_plan.specs.Runs.{RunConstants, ExecState, next_action, moved, aft
 use Rattle.prl_plan.specs.States.{IsSound}
 use Rattle.prl_plan.proofs.StateLaws.{gated_event_keeps_sound, legal_event_is_gated, opening_is_sound, action_is_as_defined}
 use Rattle.prl_core.specs.declared.firsts.First.{First}
-use Rattle.prl_core.specs.declared.routes.Access.{Access}
-use Rattle.prl_core.specs.declared.routes.Cursor.{Cursor}
+use Rattle.prl_routes.specs.declared.routes.Access.{Access}
+use Rattle.prl_routes.specs.declared.routes.Cursor.{Cursor}
 use Rattle.prl_core.specs.Tracks.{TrackView, run_of}
 use Rattle.prl_core.specs.code.Firsts.{IsFirstAt, AreFirsts, IsFirstOf}
-use Rattle.prl_core.specs.code.Routes.{IsReading, IsAt, AreRoutes, AreCursors, on_route, route_of}
+use Rattle.prl_core.specs.code.Cursors.{IsReading, AreCursors}
+use Rattle.prl_routes.specs.Routes.{IsAt, AreRoutes, on_route, route_of}
 use Rattle.prl_core.specs.code.Tracks.{IsTrack}
 use Rattle.prl_core.proofs.Places.{slice_get_set_same, slice_get_set_other}
 

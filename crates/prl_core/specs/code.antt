@@ -1,5 +1,5 @@
 pub mod Firsts
 pub mod Nexts
-pub mod Routes
+pub mod Cursors
 pub mod Tests
 pub mod Tracks

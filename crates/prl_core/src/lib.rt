@@ -4,7 +4,6 @@
 
 mod firsts;
 mod laws;
-mod routes;
 mod seen;
 mod tracks;
 

@@ -9,14 +9,15 @@ ghost use Rattle.prl_plan.specs.Rules.{first_unfinished, IsComplete, IsFirstUnfi
 ghost use Rattle.prl_plan.specs.Runs.{opening, moved, next_action, after_action, after_event};
 ghost use Rattle.prl_core.specs.code.Tests.{Overtakes, IsNotEarlier, IsDueFirst, IsInTime};
 ghost use Rattle.prl_core.specs.code.Firsts.{IsFirstAt, IsFirstOf, AreFirsts};
-ghost use Rattle.prl_core.specs.code.Routes.{IsAt, IsReading};
+ghost use Rattle.prl_core.specs.code.Cursors.{IsReading};
+ghost use Rattle.prl_routes.specs.Routes.{IsAt};
 ghost use Rattle.prl_core.specs.code.Nexts.{IsChoice};
 
 use crate::firsts::{Chosen, First};
-use crate::routes::{Access, Cursor, Stop, all_routes, stop_at};
 use crate::{Acted, Illegal, Unfinished};
-use prl_base::{Seq, TaskNo};
+use prl_base::TaskNo;
 use prl_plan::{Action, Event, Horizon, Plan, Rule, SlotNo, look_ups_fit, plan_facts};
+use prl_routes::{Cursor, Routes, Stop};
 use std::alloc::{AllocError, Global};
 use std::marker::Model;
 
@@ -35,7 +36,7 @@ pub struct Track<'a> {
     /// By task, its first unfinished job, where its next action stands, and the edges that its jobs go through.
     firsts: Vec<Option<First>>,
     cursors: Vec<Cursor>,
-    routes: Vec<Seq<Access>>,
+    routes: Routes,
 }
 
 impl<'a> Model for Track<'a> {
@@ -47,7 +48,7 @@ impl<'a> Model for Track<'a> {
 
     ghost view = { λ t. record { plan = t.plan.now; horizon = t.horizon; state = record { now = t.now; ended = t.ended.items; places = t.places.items; tags = t.tags.items } } };
 
-    ghost invariant = { λ t. IsTrack (record { plan = t.plan.now; horizon = t.horizon; state = record { now = t.now; ended = t.ended.items; places = t.places.items; tags = t.tags.items } }) t.firsts.items t.routes.items t.cursors.items };
+    ghost invariant = { λ t. IsTrack (record { plan = t.plan.now; horizon = t.horizon; state = record { now = t.now; ended = t.ended.items; places = t.places.items; tags = t.tags.items } }) t.firsts.items t.routes t.cursors.items };
 }
 
 /// Job `n` of task `i` with its dates, where it is a job of the horizon.
@@ -97,7 +98,7 @@ impl<'a> Track<'a> {
         let tasks = plan.graph().tasks.len();
         let slots = 2 * plan.total() as usize;
         let firsts = all_firsts(alloc, plan, horizon)?;
-        let routes = all_routes(alloc, plan)?;
+        let routes = Routes::new(alloc, plan)?;
         let cursors = vec![in alloc; Cursor { index: 0, rest: 0 }; tasks]?;
         let ended = vec![in alloc; 0; tasks]?;
         let places = vec![in alloc; 0; tasks]?;
@@ -374,8 +375,8 @@ impl<'a> Track<'a> {
         plan_facts(self.plan, self.horizon);
         look_ups_fit();
         let i = task.0 as usize;
-        let route = self.routes[i].as_slice();
-        stop_at(self.plan, route, task, job, self.places[i], self.cursors[i])
+        self.routes
+            .stop(self.plan, task, job, self.places[i], self.cursors[i])
     }
 
     /// The job of the task does its next action.

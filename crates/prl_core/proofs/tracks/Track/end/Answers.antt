@@ -6,7 +6,7 @@ use Rattle.prl_plan.specs.Runs.{next_action}
 use Rattle.prl_core.specs.Tracks.{TrackView, run_of}
 use Rattle.prl_core.proofs.TrackSteps.{end_kept}
 use Rattle.std.specs.Prelude.{MatchOption}
-use Rattle.prl_core.specs.declared.routes.Cursor.{Cursor}
+use Rattle.prl_routes.specs.declared.routes.Cursor.{Cursor}
 use Rattle.prl_core.specs.code.Firsts.{IsFirstAt}
 use Rattle.prl_core.specs.code.Tracks.{IsTrack}
 use Rattle.prl_core.proofs.tracks.Track.end.Goals as goal
@@ -27,6 +27,6 @@ invariant_of-self c =
     subst (λ (v : TrackView). next_action (run_of v) v.state c.args.task.0 ≡ actions.End) (sym seen) c.requires.ends in
     let start : Cursor = record { index = 0; rest = 0 } in
     subst (λ (n : ℕ). IsTrack (record track { state = record track.state { ended = set track.state.ended c.args.task.0 (n + 1); places = set track.state.places c.args.task.0 0 } })
-    (set c.self.inside.firsts.items c.args.task.0 c.first_at.result) c.self.inside.routes.items (set c.self.inside.cursors.items c.args.task.0 start)) (sym now)
-    (end_kept track c.plan_facts.ensures c.self.inside.firsts.items c.self.inside.routes.items c.self.inside.cursors.items c.self.invariant c.args.task keeps ends c.first_at.result
+    (set c.self.inside.firsts.items c.args.task.0 c.first_at.result) c.self.inside.routes (set c.self.inside.cursors.items c.args.task.0 start)) (sym now)
+    (end_kept track c.plan_facts.ensures c.self.inside.firsts.items c.self.inside.routes c.self.inside.cursors.items c.self.invariant c.args.task keeps ends c.first_at.result
     (subst (λ (n : ℕ). MatchOption c.first_at.result ((run_of track).jobs c.args.task.0 ≤ n + 1) (IsFirstAt (run_of track) c.args.task.0 (n + 1))) now c.first_at.ensures))

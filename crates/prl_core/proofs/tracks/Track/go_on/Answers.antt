@@ -16,4 +16,4 @@ invariant_of-self c =
     } in
     let seen : track ≡ c.args.self.now = c.self.view_is in
     let keeps : KeepsLegal (run_of track) track.state events.Tick = subst (λ (v : TrackView). KeepsLegal (run_of v) v.state events.Tick) (sym seen) c.requires in
-    tick_kept track c.plan_facts.ensures c.self.inside.firsts.items c.self.inside.routes.items c.self.inside.cursors.items c.self.invariant keeps
+    tick_kept track c.plan_facts.ensures c.self.inside.firsts.items c.self.inside.routes c.self.inside.cursors.items c.self.invariant keeps

@@ -1,5 +1,5 @@
 use Rattle.std.proofs.Common.{◌≡◌, ◌*◌, length, replicate, ◌∙◌, ap}
-use Rattle.prl_core.specs.declared.routes.Cursor.{Cursor}
+use Rattle.prl_routes.specs.declared.routes.Cursor.{Cursor}
 use Rattle.prl_core.proofs.TrackSteps.{opened_at}
 use Rattle.prl_core.proofs.tracks.Track.new.Goals as goal
 
@@ -7,7 +7,7 @@ pub invariant_of-result : goal.invariant_of-result
 invariant_of-result c =
     let tasks : c.len-tasks.result ≡ length c.args.plan.now.graph.tasks = c.len-tasks.ensures ∙ ap (λ g. length g.tasks) c.graph.ensures.graph in
     let start : Cursor = record { index = 0; rest = 0 } in
-    opened_at c.args.plan.now c.args.horizon c.requires c.plan_facts.ensures c.in_ok-firsts.firsts.items c.in_ok-routes.routes.items c.in_ok-cursors.cursors.items
+    opened_at c.args.plan.now c.args.horizon c.requires c.plan_facts.ensures c.in_ok-firsts.firsts.items c.in_ok-routes.routes c.in_ok-cursors.cursors.items
     c.in_ok-firsts.ensures c.in_ok-routes.ensures
     (c.in_ok-cursors.ensures.items_if_clones_equal (λ y h. h) ∙ ap (λ n. replicate n start) tasks)
     c.in_ok-ended.ended.items c.in_ok-places.places.items c.in_ok-tags.tags.items

@@ -6,8 +6,9 @@ use Rattle.prl_plan.specs.Runs.{next_action}
 use Rattle.prl_core.specs.Tracks.{TrackView, run_of}
 use Rattle.prl_core.proofs.TrackSteps.{cursor_moves, pass_kept}
 use Rattle.std.proofs.lemmas.Grind.{get_or_default_zero}
-use Rattle.prl_core.specs.declared.routes.Cursor.{Cursor}
-use Rattle.prl_core.specs.code.Routes.{IsReading, IsAt}
+use Rattle.prl_routes.specs.declared.routes.Cursor.{Cursor}
+use Rattle.prl_core.specs.code.Cursors.{IsReading}
+use Rattle.prl_routes.specs.Routes.{IsAt}
 use Rattle.prl_core.specs.code.Tracks.{IsTrack}
 use Rattle.prl_core.proofs.tracks.Track.pass.Goals as goal
 
@@ -31,5 +32,5 @@ invariant_of-self c =
     let reads : IsReading (next_action (run_of track) track.state c.args.task.0) =
     subst (λ (v : TrackView). IsReading (next_action (run_of v) v.state c.args.task.0)) (sym seen) c.requires.reads in
     subst (λ (p : ℕ). IsTrack (record track { state = record track.state { places = set track.state.places c.args.task.0 (p + 1) } })
-    c.self.inside.firsts.items c.self.inside.routes.items (set c.self.inside.cursors.items c.args.task.0 c.moved.result)) (sym place)
-    (pass_kept track c.plan_facts.ensures c.self.inside.firsts.items c.self.inside.routes.items c.self.inside.cursors.items c.self.invariant c.args.task keeps reads c.moved.result next)
+    c.self.inside.firsts.items c.self.inside.routes (set c.self.inside.cursors.items c.args.task.0 c.moved.result)) (sym place)
+    (pass_kept track c.plan_facts.ensures c.self.inside.firsts.items c.self.inside.routes c.self.inside.cursors.items c.self.invariant c.args.task keeps reads c.moved.result next)

@@ -4,11 +4,11 @@ use Rattle.std.proofs.lemmas.Option.{slice_get_read}
 use Rattle.prl_plan.specs.declared.events.Event.TheVariants as events
 use Rattle.prl_plan.specs.Rules.{KeepsLegal, first_unfinished}
 use Rattle.prl_core.specs.Tracks.{TrackView, run_of}
-use Rattle.prl_core.specs.code.Routes.{IsAt}
+use Rattle.prl_routes.specs.Routes.{IsAt}
 use Rattle.prl_core.proofs.tracks.Track.stop_of.Goals as goal
 
-pub stop_at-requires-clause-at : goal.stop_at-requires-clause-at
-stop_at-requires-clause-at c =
+pub stop-requires-clause-at : goal.stop-requires-clause-at
+stop-requires-clause-at c =
     let track : TrackView = record {
       plan = c.self.inside.plan.now;
       horizon = c.self.inside.horizon;
@@ -20,10 +20,10 @@ stop_at-requires-clause-at c =
     let now : c.args.job ≡ first_unfinished track.state c.args.task.0 =
     subst (λ (v : TrackView). c.args.job ≡ first_unfinished v.state c.args.task.0) (sym seen) c.requires.job in
     let inside : c.args.task.0 < length track.plan.graph.tasks = keeps.0.task in
-    let place : c.index-2.result.now ≡ get_or track.state.places c.args.task.0 0 =
-    c.index-2.ensures ∙ get_or_default_zero track.state.places c.args.task.0 c.index-2.result.now (let l = c.self.invariant.sound.tagged.places in omega (arith, l, inside)) in
+    let place : c.index.result.now ≡ get_or track.state.places c.args.task.0 0 =
+    c.index.ensures ∙ get_or_default_zero track.state.places c.args.task.0 c.index.result.now (let l = c.self.invariant.sound.tagged.places in omega (arith, l, inside)) in
     let l = c.self.invariant.standing.tasks in
-    subst (λ (n : ℕ). IsAt track.plan c.args.task.0 n c.index-2.result.now c.index-3.result.now) (sym now)
-    (subst (λ (p : ℕ). IsAt track.plan c.args.task.0 (first_unfinished track.state c.args.task.0) p c.index-3.result.now) (sym place)
-    (c.self.invariant.standing.each c.args.task.0 c.index-3.result.now
-    (slice_get_read c.self.inside.cursors.items (length c.self.inside.cursors.items) c.args.task.0 c.index-3.result.now refl (omega (arith, l, inside)) c.index-3.ensures)))
+    subst (λ (n : ℕ). IsAt track.plan c.args.task.0 n c.index.result.now c.index-2.result.now) (sym now)
+    (subst (λ (p : ℕ). IsAt track.plan c.args.task.0 (first_unfinished track.state c.args.task.0) p c.index-2.result.now) (sym place)
+    (c.self.invariant.standing.each c.args.task.0 c.index-2.result.now
+    (slice_get_read c.self.inside.cursors.items (length c.self.inside.cursors.items) c.args.task.0 c.index-2.result.now refl (omega (arith, l, inside)) c.index-2.ensures)))

@@ -6,8 +6,8 @@ use Rattle.prl_plan.specs.Runs.{next_action}
 use Rattle.prl_core.specs.Tracks.{TrackView, run_of}
 use Rattle.prl_core.proofs.TrackSteps.{cursor_moves, write_kept, written_in_tags}
 use Rattle.std.proofs.lemmas.Grind.{get_or_default_zero}
-use Rattle.prl_core.specs.declared.routes.Cursor.{Cursor}
-use Rattle.prl_core.specs.code.Routes.{IsAt}
+use Rattle.prl_routes.specs.declared.routes.Cursor.{Cursor}
+use Rattle.prl_routes.specs.Routes.{IsAt}
 use Rattle.prl_core.specs.code.Tracks.{IsTrack}
 use Rattle.prl_core.proofs.tracks.Track.write.Goals as goal
 
@@ -24,7 +24,7 @@ index_mut-requires-2 c =
     let is : next_action (run_of track) track.state c.args.task.0 ≡ actions.Write c.requires.writes.0 c.args.job c.args.slot =
     subst (λ (v : TrackView). next_action (run_of v) v.state c.args.task.0 ≡ actions.Write c.requires.writes.0 c.args.job c.args.slot) (sym seen) c.requires.writes.1 in
     let inside : c.args.slot.0 < length track.state.tags =
-    written_in_tags track c.plan_facts.ensures c.self.inside.firsts.items c.self.inside.routes.items c.self.inside.cursors.items c.self.invariant c.args.task keeps c.requires.writes.0 c.args.job c.args.slot is in
+    written_in_tags track c.plan_facts.ensures c.self.inside.firsts.items c.self.inside.routes c.self.inside.cursors.items c.self.invariant c.args.task keeps c.requires.writes.0 c.args.job c.args.slot is in
     let v = c.self.inside.tags.ok.0 in
     omega (arith, inside, v)
 
@@ -50,5 +50,5 @@ invariant_of-self c =
     let is : next_action (run_of track) track.state c.args.task.0 ≡ actions.Write c.requires.writes.0 c.args.job c.args.slot =
     subst (λ (v : TrackView). next_action (run_of v) v.state c.args.task.0 ≡ actions.Write c.requires.writes.0 c.args.job c.args.slot) (sym seen) c.requires.writes.1 in
     subst (λ (p : ℕ). IsTrack (record track { state = record track.state { places = set track.state.places c.args.task.0 (p + 1); tags = set track.state.tags c.args.slot.0 (c.args.job + 1) } })
-    c.self.inside.firsts.items c.self.inside.routes.items (set c.self.inside.cursors.items c.args.task.0 c.moved.result)) (sym place)
-    (write_kept track c.plan_facts.ensures c.self.inside.firsts.items c.self.inside.routes.items c.self.inside.cursors.items c.self.invariant c.args.task keeps c.requires.writes.0 c.args.job c.args.slot is c.moved.result next)
+    c.self.inside.firsts.items c.self.inside.routes (set c.self.inside.cursors.items c.args.task.0 c.moved.result)) (sym place)
+    (write_kept track c.plan_facts.ensures c.self.inside.firsts.items c.self.inside.routes c.self.inside.cursors.items c.self.invariant c.args.task keeps c.requires.writes.0 c.args.job c.args.slot is c.moved.result next)

@@ -12,10 +12,10 @@ use Rattle.prl_plan.specs.Operands.{operand_of}
 use Rattle.prl_plan.specs.Precedence.{ComesFrom}
 use Rattle.prl_plan.specs.Plans.{PlanView, edge_at, no_edge, place_on, both_writes, reading, reads_of, writing, writes_of, actions_of}
 use Rattle.prl_plan.proofs.UsedLaws.{test_equal}
-use Rattle.prl_core.specs.declared.routes.Access.{Access}
-use Rattle.prl_core.specs.declared.routes.Access.TheVariants as accesses
-use Rattle.prl_core.specs.declared.routes.Cursor.{Cursor}
-use Rattle.prl_core.specs.code.Routes.{ins_from, outs_from, is_from, route_of, on_access, on_route, IsAccessOf, IsAt}
+use Rattle.prl_routes.specs.declared.routes.Access.{Access}
+use Rattle.prl_routes.specs.declared.routes.Access.TheVariants as accesses
+use Rattle.prl_routes.specs.declared.routes.Cursor.{Cursor}
+use Rattle.prl_routes.specs.Routes.{ins_from, outs_from, is_from, route_of, on_access, on_route, IsAccessOf, IsAt}
 
 -- an element of two lists is one of the first, or one of the second
 in_two : {A : Type 0} (xs ys : List A) (k : ℕ) (a : A) → slice_get (xs ++ ys) k ≡ Some a →

@@ -1,6 +1,6 @@
 use Rattle.std.proofs.Common.{◌≡◌, ◌<◌, ℕ, [], length, slice_index_or}
-use Rattle.prl_core.specs.code.Routes.{route_of}
-use Rattle.prl_core.proofs.routes.all_routes.Given as goal
+use Rattle.prl_routes.specs.Routes.{route_of}
+use Rattle.prl_routes.proofs.routes.all_routes.Given as goal
 
 -- the routes of the tasks so far
 abbrev pub invariant-loop-i : goal.invariant-loop-i

@@ -1,6 +1,6 @@
 use Rattle.std.proofs.Common.{◌-◌, length}
-use Rattle.prl_core.specs.code.Routes.{IsAt}
-use Rattle.prl_core.proofs.routes.stop_at.Given as goal
+use Rattle.prl_routes.specs.Routes.{IsAt}
+use Rattle.prl_routes.proofs.routes.stop_at.Given as goal
 
 abbrev pub invariant-loop-at : goal.invariant-loop-at
 invariant-loop-at l = IsAt l.plan l.i.0 l.n l.place l.at

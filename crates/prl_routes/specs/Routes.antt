@@ -1,5 +1,5 @@
--- The edges that a task's jobs go through, and where the open job stands among them.
-use Rattle.std.specs.Prelude.{◌≡◌, ◌+◌, ◌==◌, ◌<◌, ◌≤◌, ◌++◌, ℕ, Bool, List, [], ◌∷◌, length, take, Some, slice_get, slice_index, slice_index_or, is_some, if◌then◌else◌}
+-- The edges that a task's jobs go through, and where a job stands among them.
+use Rattle.std.specs.Prelude.{◌≡◌, ◌+◌, ◌==◌, ◌<◌, ◌≤◌, ◌++◌, ℕ, Bool, List, [], ◌∷◌, length, take, slice_index_or, is_some, if◌then◌else◌}
 use Rattle.prl_plan.specs.declared.events.Action.{Action}
 use Rattle.prl_plan.specs.declared.events.Action.TheVariants as actions
 use Rattle.prl_plan.specs.declared.graphs.Edge.{Edge}
@@ -9,9 +9,9 @@ use Rattle.prl_plan.specs.declared.graphs.TaskGraph.{TaskGraph}
 use Rattle.prl_plan.specs.Operands.{operand_of}
 use Rattle.prl_plan.specs.Precedence.{ComesFrom}
 use Rattle.prl_plan.specs.Plans.{PlanView, edge_at, place_on, reading, both_writes}
-use Rattle.prl_core.specs.declared.routes.Access.{Access}
-use Rattle.prl_core.specs.declared.routes.Access.TheVariants as accesses
-use Rattle.prl_core.specs.declared.routes.Cursor.{Cursor}
+use Rattle.prl_routes.specs.declared.routes.Access.{Access}
+use Rattle.prl_routes.specs.declared.routes.Access.TheVariants as accesses
+use Rattle.prl_routes.specs.declared.routes.Cursor.{Cursor}
 
 -- the edges into task i, of these, of which the first is edge e
 abbrev pub ins_from : ℕ → ℕ → List Edge → List Access
@@ -50,19 +50,7 @@ pub record IsAt (plan : PlanView) (i n place : ℕ) (cursor : Cursor) : Type 0 w
   pub inside : cursor.index ≤ length (route_of plan.graph i)
   pub stands : place ≡ length (on_route plan n (take cursor.index (route_of plan.graph i))) + cursor.rest
 
--- each cursor is at its task's place
-pub record AreCursors (plan : PlanView) (ended places : List ℕ) (cursors : List Cursor) : Type 0 where
-  pub tasks : length cursors ≡ length plan.graph.tasks
-  pub each : (i : ℕ) (cursor : Cursor) → slice_get cursors i ≡ Some cursor → IsAt plan i (slice_index ended i) (slice_index places i) cursor
-
 -- the edge is of the graph, and of task i
 abbrev pub IsAccessOf : TaskGraph → ℕ → Access → Type 0
 IsAccessOf graph i (accesses.Reads e) = (e.0 < length graph.edges) × ((edge_at graph e.0).to.0 ≡ i)
 IsAccessOf graph i (accesses.Writes e) = (e.0 < length graph.edges) × ComesFrom (edge_at graph e.0).from i
-
--- the action reads a constant or a half of an instance
-abbrev pub IsReading : Action → Type 0
-IsReading (actions.ReadConst port value) = Unit {0}
-IsReading (actions.Read port edge instance slot) = Unit {0}
-IsReading (actions.Write edge instance slot) = ⊥
-IsReading actions.End = ⊥

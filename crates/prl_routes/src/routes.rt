@@ -4,15 +4,16 @@ ghost use Rattle.std.specs.Prelude.{◌≡◌, ◌+◌, ◌<◌, ◌≤◌, ◌^
 ghost use Rattle.prl_plan.specs.declared.events.Action.TheVariants as actions;
 ghost use Rattle.prl_plan.specs.Graphs.{IsWellFormed};
 ghost use Rattle.prl_plan.specs.Plans.{release_at, actions_of};
-ghost use Rattle.prl_core.specs.code.Routes.{ins_from, outs_from, is_from, route_of, on_access, IsAccessOf, IsAt, AreRoutes};
+ghost use Rattle.prl_routes.specs.Routes.{ins_from, outs_from, is_from, route_of, on_access, IsAccessOf, IsAt, AreRoutes};
 
 use prl_base::{EdgeNo, Seq, TaskNo};
 use prl_plan::{Action, Edge, Plan, Producer, look_ups_fit, plan_is_one};
 use std::alloc::{AllocError, AllocFailed, Global};
+use std::marker::Model;
 
 /// An edge that the jobs of a task go through.
 #[derive(Clone, Copy, Debug, PartialEq, Eq)]
-pub(crate) enum Access {
+pub enum Access {
     /// They read on it.
     Reads(EdgeNo),
     /// They write to it.
@@ -21,14 +22,14 @@ pub(crate) enum Access {
 
 /// Where a job stands: past so many edges of its task's route, and then so many actions.
 #[derive(Clone, Copy, Debug, PartialEq, Eq)]
-pub(crate) struct Cursor {
-    pub(crate) index: usize,
-    pub(crate) rest: u32,
+pub struct Cursor {
+    pub index: usize,
+    pub rest: u32,
 }
 
 impl Cursor {
     /// One action further.
-    pub(crate) fn moved(self) -> Cursor
+    pub fn moved(self) -> Cursor
         requires { self.rest + 1 < 2 ^ 32 }
         ensures { result ≡ record { index = self.index; rest = self.rest + 1 } }
     {
@@ -41,9 +42,9 @@ impl Cursor {
 
 /// An action, and where it stands.
 #[derive(Clone, Copy, Debug, PartialEq, Eq)]
-pub(crate) struct Stop {
-    pub(crate) cursor: Cursor,
-    pub(crate) action: Action,
+pub struct Stop {
+    pub cursor: Cursor,
+    pub action: Action,
 }
 
 /// Adds the edges into task `i`.
@@ -95,7 +96,7 @@ fn route_of(alloc: Global, plan: &Plan, i: u32) -> Result<Seq<Access>, AllocErro
 }
 
 /// The routes of all tasks.
-pub(crate) fn all_routes(alloc: Global, plan: &Plan) -> Result<Vec<Seq<Access>>, AllocError>
+fn all_routes(alloc: Global, plan: &Plan) -> Result<Vec<Seq<Access>>, AllocError>
     ensures { IfOk result (λ routes. AreRoutes plan.now.graph routes.items) }
 {
     plan_is_one(plan);
@@ -122,15 +123,8 @@ fn on_access(plan: &Plan, access: Access, i: TaskNo, n: u64, place: u32) -> Resu
     }
 }
 
-/// The action of job `n` of task `i` at a place of its list of actions, from a cursor at this place.
-pub(crate) fn stop_at(
-    plan: &Plan,
-    route: &[Access],
-    i: TaskNo,
-    n: u64,
-    place: u32,
-    cursor: Cursor,
-) -> Stop
+/// The action of job `n` of task `i` at a place of its list of actions, from a cursor at this place, along its route.
+fn stop_at(plan: &Plan, route: &[Access], i: TaskNo, n: u64, place: u32, cursor: Cursor) -> Stop
     requires route { route.now ≡ route_of plan.now.graph i.0 }
     requires small { release_at plan.now i.0 n < 2 ^ 63 }
     requires at { IsAt plan.now i.0 n place cursor }
@@ -152,5 +146,59 @@ pub(crate) fn stop_at(
     Stop {
         cursor: at,
         action: Action::End,
+    }
+}
+
+/// The edges that the jobs of each task go through. Contracts see a list of them for each task.
+#[derive(Debug, Drop)]
+pub struct Routes {
+    of: Vec<Seq<Access>>,
+}
+
+impl Model for Routes {
+    ghost use Rattle.std.specs.Prelude.{List};
+    ghost use Rattle.prl_routes.specs.declared.routes.Access.{Access};
+
+    ghost Value = { List (List Access) };
+
+    ghost view = { λ r. r.of.items };
+}
+
+impl Routes {
+    /// The routes of the tasks of a plan.
+    pub fn new(alloc: Global, plan: &Plan) -> Result<Routes, AllocError>
+        ensures { IfOk result (AreRoutes plan.now.graph) }
+    {
+        let of = all_routes(alloc, plan)?;
+        Ok(Routes { of })
+    }
+
+    /// The action of job `n` of task `i` at a place of its list of actions, and where it stands, from a cursor at this place.
+    /// Takes no memory.
+    pub fn stop(&self, plan: &Plan, i: TaskNo, n: u64, place: u32, cursor: Cursor) -> Stop
+        requires routes { AreRoutes plan.now.graph self.now }
+        requires task { i.0 < length plan.now.graph.tasks }
+        requires small { release_at plan.now i.0 n < 2 ^ 63 }
+        requires at { IsAt plan.now i.0 n place cursor }
+        ensures at { IsAt plan.now i.0 n place result.cursor }
+        ensures action { result.action ≡ slice_index_or (actions_of plan.now i.0 n) place actions.End }
+    {
+        let route = self.of[i.0 as usize].as_slice();
+        stop_at(plan, route, i, n, place, cursor)
+    }
+
+    /// The action of job `n` of task `i` at a place of its list of actions, found along the edges of its task. After the last
+    /// action stands the end. Takes no memory.
+    pub fn action(&self, plan: &Plan, i: TaskNo, n: u64, place: u32) -> Action
+        requires routes { AreRoutes plan.now.graph self.now }
+        requires task { i.0 < length plan.now.graph.tasks }
+        requires small { release_at plan.now i.0 n < 2 ^ 63 }
+        ensures { result ≡ slice_index_or (actions_of plan.now i.0 n) place actions.End }
+    {
+        let start = Cursor {
+            index: 0,
+            rest: place,
+        };
+        self.stop(plan, i, n, place, start).action
     }
 }

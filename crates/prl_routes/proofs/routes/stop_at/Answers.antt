@@ -1,12 +1,12 @@
 use Rattle.std.proofs.Common.{◌≡◌, ◌+◌, ◌<◌, ◌≤◌, ℕ, List, length, get_or, Some, arith, refl, sym, ◌∙◌, ap}
 use Rattle.std.specs.Prelude.{slice_get}
 use Rattle.std.proofs.lemmas.Option.{slice_get-get_or}
-use Rattle.prl_core.specs.declared.routes.Access.{Access}
-use Rattle.prl_core.specs.declared.routes.Access.TheVariants as accesses
-use Rattle.prl_core.specs.declared.routes.Cursor.{Cursor}
-use Rattle.prl_core.specs.code.Routes.{route_of}
-use Rattle.prl_core.proofs.RouteLaws.{route_is_of_task, action_here, cursor_passes, end_here}
-use Rattle.prl_core.proofs.routes.stop_at.Goals as goal
+use Rattle.prl_routes.specs.declared.routes.Access.{Access}
+use Rattle.prl_routes.specs.declared.routes.Access.TheVariants as accesses
+use Rattle.prl_routes.specs.declared.routes.Cursor.{Cursor}
+use Rattle.prl_routes.specs.Routes.{route_of}
+use Rattle.prl_routes.proofs.RouteLaws.{route_is_of_task, action_here, cursor_passes, end_here}
+use Rattle.prl_routes.proofs.routes.stop_at.Goals as goal
 
 pub on_access-requires-clause-access : goal.on_access-requires-clause-access
 on_access-requires-clause-access c =
