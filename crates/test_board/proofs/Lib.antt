@@ -2,3 +2,4 @@ mod Lists
 mod Worked
 mod Popped
 mod Seats
+mod Overruns

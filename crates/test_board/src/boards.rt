@@ -124,11 +124,13 @@ fn letter_of(did: Did) -> u8 {
     }
 }
 
-/// What a list of moves came to: a letter for each, and what was done last.
+/// What a list of moves came to: a letter for each, what was done last, and where the tasks stand.
 #[derive(Debug, Drop)]
 struct Outcome {
     letters: Vec<u8>,
     last: Did,
+    i: Place,
+    o: Place,
 }
 
 /// Does what these letters say, `i` for the sensor's task, `o` for the actuator's and `t` for the clock, and tells what was done.
@@ -156,7 +158,12 @@ fn play(
         };
         letters.push(letter_of(last))?;
     }
-    Ok(Outcome { letters, last })
+    Ok(Outcome {
+        letters,
+        last,
+        i: i.place(),
+        o: o.place(),
+    })
 }
 
 /// What the moves came to on a new board.
@@ -166,6 +173,122 @@ fn outcome_of(alloc: Global, gate: Gate, moves: &[u8]) -> Option<Outcome> {
     let sensors = pair_rows(alloc).ok()?;
     let (board, mut i, mut o, mut clock) = opened(alloc, &plan, &bodies, &sensors, gate)?;
     play(alloc, &board, &mut i, &mut o, &mut clock, moves).ok()
+}
+
+/// Reads, where the task is to read, and raises the stop where the read is overrun.
+fn read_or_raise(board: &Board, seat: &mut TaskSeat) -> bool
+    requires { IsSeatOf board.now seat.old }
+    ensures { IsSeatOf board.now seat.new }
+{
+    match seat.place() {
+        Place::Reading(_, _) => match seat.read(board) {
+            Got::Overrun { .. } => {
+                seat.raise(board);
+                true
+            }
+            Got::NotYet { .. } => false,
+            Got::Half => false,
+            Got::Value(_) => false,
+        },
+        Place::Writing(_, _) => false,
+        Place::Ending => false,
+        Place::Idle => false,
+        Place::Over => false,
+    }
+}
+
+/// What is told of the stop to the sensor's task, to the actuator's and to the clock.
+#[derive(Drop)]
+struct Stops {
+    i: Option<TaskNo>,
+    o: Option<TaskNo>,
+    clock: Option<TaskNo>,
+}
+
+/// What each seat is told of the stop.
+fn told_of_the_stop(
+    board: &Board,
+    i: &mut TaskSeat,
+    o: &mut TaskSeat,
+    clock: &mut ClockSeat,
+) -> Stops
+    requires seats { IsSeatOf board.now i.old × IsSeatOf board.now o.old }
+    requires clock { (r : ClockPart) × IsClockOf board.now clock.old r }
+{
+    let to_i = i.stopped(board);
+    let to_o = o.stopped(board);
+    let to_clock = clock.stopped(board);
+    Stops {
+        i: to_i,
+        o: to_o,
+        clock: to_clock,
+    }
+}
+
+/// Whether the actuator's next read after these moves on a new board is overrun and raises the stop,
+/// and what each seat is then told of it.
+fn stops_after(alloc: Global, gate: Gate, moves: &[u8]) -> Option<(bool, Stops)> {
+    let plan = pair_plan(alloc)?;
+    let bodies = Bodies::none(alloc);
+    let sensors = pair_rows(alloc).ok()?;
+    let (board, mut i, mut o, mut clock) = opened(alloc, &plan, &bodies, &sensors, gate)?;
+    play(alloc, &board, &mut i, &mut o, &mut clock, moves).ok()?;
+    let raised = read_or_raise(&board, &mut o);
+    Some((raised, told_of_the_stop(&board, &mut i, &mut o, &mut clock)))
+}
+
+#[test]
+fn a_raised_stop_names_the_reader(rt: HostRuntime) -> Result<(), Fail> {
+    let moves = b"iiiittttttttttiiio";
+    let (raised, told) = stops_after(rt.alloc(), Gate::Free, moves).ok_or("no board")?;
+    assert!(rt; raised);
+    assert_eq!(rt; told.i, Some(TaskNo(1)));
+    assert_eq!(rt; told.o, Some(TaskNo(1)));
+    assert_eq!(rt; told.clock, Some(TaskNo(1)));
+    Ok(())
+}
+
+#[test]
+fn no_stop_is_told_where_none_was_raised(rt: HostRuntime) -> Result<(), Fail> {
+    let (raised, told) = stops_after(rt.alloc(), Gate::Free, b"iiiito").ok_or("no board")?;
+    assert!(rt; !raised);
+    assert_eq!(rt; told.i, None);
+    assert_eq!(rt; told.o, None);
+    assert_eq!(rt; told.clock, None);
+    Ok(())
+}
+
+#[test]
+fn no_job_is_left_after_the_last_one(rt: HostRuntime) -> Result<(), Fail> {
+    let done = outcome_of(rt.alloc(), Gate::Free, b"iiiittttttttttiiiii").ok_or("no board")?;
+    assert_eq!(rt; done.letters.as_slice(), b"rww.ttttttttttrww.v".as_slice());
+    assert_eq!(rt; done.last, Did::Released(Release::Over));
+    assert_eq!(rt; done.i, Place::Over);
+    assert_eq!(rt; done.o, Place::Idle);
+    Ok(())
+}
+
+#[test]
+fn an_overrun_reader_stands_where_it_stood(rt: HostRuntime) -> Result<(), Fail> {
+    let done = outcome_of(rt.alloc(), Gate::Free, b"iiiittttttttttiiioo").ok_or("no board")?;
+    assert_eq!(rt; done.i, Place::Ending);
+    assert_eq!(rt; done.o, Place::Reading(0, Half::Low));
+    let done = outcome_of(rt.alloc(), Gate::Free, b"iiiitoottttttttt").ok_or("no board")?;
+    assert_eq!(rt; done.o, Place::Reading(0, Half::High));
+    let done = outcome_of(rt.alloc(), Gate::Free, b"iiiitootttttttttiiio").ok_or("no board")?;
+    assert_eq!(rt; done.letters.as_slice(), b"rww.trhtttttttttrwwx".as_slice());
+    assert_eq!(rt; done.o, Place::Reading(0, Half::High));
+    Ok(())
+}
+
+#[test]
+fn a_value_is_read_beside_the_next_low_half(rt: HostRuntime) -> Result<(), Fail> {
+    let done = outcome_of(rt.alloc(), Gate::Free, b"iiiitootttttttttiio").ok_or("no board")?;
+    assert_eq!(rt; done.letters.as_slice(), b"rww.trhtttttttttrwg".as_slice());
+    assert_eq!(rt; done.last, Did::Read(Got::Value(Value::Int(1))));
+    assert_eq!(rt; done.i, Place::Writing(EdgeNo(0), Half::High));
+    assert_eq!(rt; done.o, Place::Ending);
+    Ok(())
 }
 
 #[test]
