@@ -60,7 +60,8 @@ use Rattle.prl_app.specs.Parts.{IsProgram, IsMain, RefusesBodies}
 use Rattle.prl_app.specs.Flattened.{IsFlattened, IsCausal, HasClocks}
 use Rattle.prl_app.specs.Planned.{HasDates, HasGraph}
 use Rattle.prl_app.specs.Runs.{rows_for}
-use Rattle.prl_app.specs.Stages.{Comes, files, stages_after}
+use Rattle.prl_app.specs.PlansAlone.{IsNoPlan}
+use Rattle.prl_app.specs.Stages.{Comes, files, front, graphed, planned, stages_after}
 use Rattle.prl_app.specs.code.Stops.{given_of, StopsAt, StopsIn, AllHold, IsFileStop, IsStopOfFiles, IsAnswerStop}
 use Rattle.prl_app.specs.code.Told.{stop_of, told_parse, told_types, told_expand, told_causal, told_clocks, told_graph, told_words, told_cells, told_body, told_sensors, told_flow}
 
@@ -173,6 +174,12 @@ stops_comes g (s ∷ rest) stage fault h = elim h [
 stops_unread : (g : Given) (list : List Stage) (part : Part) → StopsIn g list (stops.Unread part) → ⊥
 stops_unread g [] part h = h
 stops_unread g (s ∷ rest) part h = elim h [ inl k ↦ k | inr k ↦ stops_unread g rest part k.1 ]
+
+-- a stop of the stages of a plan says why there is none
+pub stops_no_plan : (g : Given) (stop : Stop) → StopsIn g (front ++ graphed ++ planned) stop → IsNoPlan g stop
+stops_no_plan g (stops.Unread part) h = absurd (stops_unread g (front ++ graphed ++ planned) part h)
+stops_no_plan g (stops.Refused stage fault) h = stops_comes g (front ++ graphed ++ planned) stage fault h
+stops_no_plan g stops.Memory h = tt
 
 -- a stop of the first of two lists, or of the second after all of the first hold, is one of both
 pub stops_first : (g : Given) (first rest : List Stage) (stop : Stop) → StopsIn g first stop → StopsIn g (first ++ rest) stop

@@ -14,6 +14,8 @@ pub mod Scheduled
 pub mod Replayed
 -- The stages, and the modes as lists of them.
 pub mod Stages
+-- The plan of a program alone.
+pub mod PlansAlone
 -- The lines on err.
 pub mod ErrorLines
 -- Statuses, endings, and what a call says.

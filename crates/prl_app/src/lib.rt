@@ -9,6 +9,7 @@ mod laws;
 mod lines;
 mod pipeline;
 mod planned;
+mod plans;
 mod programs;
 mod reading;
 mod replayed;
@@ -26,6 +27,7 @@ pub use laws::{
     front_is_decided, plans_have_schedules, stages_come_to_an_end, stages_end_one_way,
     whole_schedules_are_replayed,
 };
+pub use plans::plan_of;
 pub use prl_arguments::{ArgumentsFault, Command, Mode, Setting, read_arguments};
 pub use reading::Texts;
 pub use runs::Run;

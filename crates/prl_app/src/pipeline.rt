@@ -1,6 +1,6 @@
 //! The modes of the command, as lists of stages: one call a stage, in the order of refusals.
 
-ghost use Rattle.std.specs.Prelude.{◌≡◌, ◌<◌, ◌≤◌, ◌^◌, IfOk, IfErr, is_some, length};
+ghost use Rattle.std.specs.Prelude.{◌≡◌, ◌<◌, ◌≤◌, ◌^◌, ◌++◌, IfOk, IfErr, is_some, length};
 ghost use Rattle.prl_ast.specs.Trees.{program_tree};
 ghost use Rattle.prl_expansion.specs.Expanding.{IsExpanded};
 ghost use Rattle.prl_flow.specs.Uses.{IsOrder};
@@ -140,6 +140,18 @@ fn check_named_bodies(
     Ok(())
 }
 
+/// The plan of the program.
+pub fn planned_program(alloc: Global, command: &Command, texts: &Texts) -> Result<Plan, Stop>
+    requires program { length texts.now.program.items ≤ MAX_PROGRAM }
+    ensures found { IfOk result (HasPlan (given_of command.now texts.now)) }
+    ensures holds { IfOk result (λ _. AllHold (given_of command.now texts.now) (front ++ graphed ++ planned)) }
+    ensures stop { IfErr result (StopsIn (given_of command.now texts.now) (front ++ graphed ++ planned)) }
+{
+    let front = read_front(alloc, command, texts)?;
+    let made = make_graphed(alloc, command, texts, &front)?;
+    make_planned(alloc, command, texts, made)
+}
+
 /// Mode `plan`.
 fn planned_text(alloc: Global, command: &Command, texts: &Texts) -> Result<Vec<u8>, Stop>
     requires program { length texts.now.program.items ≤ MAX_PROGRAM }
@@ -147,9 +159,7 @@ fn planned_text(alloc: Global, command: &Command, texts: &Texts) -> Result<Vec<u
     ensures holds { IfOk result (λ _. AllHold (given_of command.now texts.now) (stages_after Mode.Plan (is_some command.now.bodies))) }
     ensures stop { IfErr result (StopsIn (given_of command.now texts.now) (stages_after Mode.Plan (is_some command.now.bodies))) }
 {
-    let front = read_front(alloc, command, texts)?;
-    let made = make_graphed(alloc, command, texts, &front)?;
-    let plan = make_planned(alloc, command, texts, made)?;
+    let plan = planned_program(alloc, command, texts)?;
     Ok(plan_text(alloc, &plan)?)
 }
 

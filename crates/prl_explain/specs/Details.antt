@@ -1,5 +1,10 @@
 -- What is told of an event of a schedule that breaks a rule: the job that acts, and the one that it overtakes.
 use Rattle.std.specs.Prelude.{◌≡◌, ◌⊎◌, ℕ, zero, suc, List, [], Option, Some, None, Result, Ok, Err}
+use Rattle.prl_app.specs.declared.faults.Fault.{Fault}
+use Rattle.prl_app.specs.declared.stages.Stage.{Stage}
+use Rattle.prl_app.specs.declared.stages.Stop.TheVariants as stops
+use Rattle.prl_app.specs.Planned.{HasPlan}
+use Rattle.prl_app.specs.PlansAlone.{IsNoPlan, program_alone}
 use Rattle.prl_base.specs.Decimals.{decimal_of}
 use Rattle.prl_broken.specs.declared.causes.Finding.{Finding}
 use Rattle.prl_broken.specs.Causes.{IsFinding}
@@ -37,3 +42,9 @@ abbrev pub IsOfText : List ℕ → List ℕ → List ℕ → Rule → List ℕ �
 IsOfText plan_text schedule argument rule text =
     ((plan : PlanView) × IsTextOf plan plan_text × IsOfPlan plan schedule argument rule text)
     ⊎ (((plan : PlanView) → IsTextOf plan plan_text → ⊥) × (text ≡ []))
+
+-- of the plan of the program whose main node has this name; nothing where it has none
+abbrev pub IsOfProgram : List ℕ → Option (List ℕ) → List ℕ → List ℕ → Rule → List ℕ → Type 0
+IsOfProgram program node schedule argument rule text =
+    ((plan : PlanView) × HasPlan (program_alone program node) plan × IsOfPlan plan schedule argument rule text)
+    ⊎ ((stage : Stage) × (fault : Fault) × IsNoPlan (program_alone program node) (stops.Refused stage fault) × (text ≡ []))

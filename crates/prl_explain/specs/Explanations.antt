@@ -13,7 +13,7 @@ use Rattle.prl_explain.specs.declared.kinds.Part.TheVariants as parts
 use Rattle.prl_explain.specs.declared.kinds.Target.{Target}
 use Rattle.prl_explain.specs.declared.kinds.Target.TheVariants as targets
 use Rattle.prl_plan.specs.declared.events.Rule.{Rule}
-use Rattle.prl_explain.specs.Details.{IsOfText}
+use Rattle.prl_explain.specs.Details.{IsOfProgram, IsOfText}
 use Rattle.prl_explain.specs.Kinds.{IsLineOf, argument_of}
 use Rattle.prl_explain.specs.Places.{lead, line_front, line_rest, place_of}
 use Rattle.prl_explain.specs.Spots.{IsSpot}
@@ -41,7 +41,7 @@ option_of parts.Sensors = codes "--sensors"
 option_of parts.Schedule = codes "--schedule"
 
 abbrev pub all_options : List (List ℕ)
-all_options = codes "--program" ∷ codes "--bodies" ∷ codes "--sensors" ∷ codes "--schedule" ∷ codes "--plan" ∷ []
+all_options = codes "--program" ∷ codes "--bodies" ∷ codes "--sensors" ∷ codes "--schedule" ∷ codes "--plan" ∷ codes "--node" ∷ []
 
 abbrev pub most_of : Part → ℕ
 most_of parts.Program = MAX_PROGRAM
@@ -90,16 +90,23 @@ IsByFile kind line name source text =
     (found : Option ℕ) × IsSpot kind.target (argument_of kind line) source found
     × (text ≡ text_at name source kind.sentence.now found)
 
--- what is told beside of the event of a line, by a plan; nothing where the words name none
-abbrev pub IsByPlan : Folder → Option (List ℕ) → Rule → List ℕ → List ℕ → List ℕ → Type 0
-IsByPlan folder None rule argument source detail = detail ≡ []
-IsByPlan folder (Some name) rule argument source detail =
+-- what is told beside of the event of a line, by a program; nothing where the words name none
+abbrev pub IsByProgram : Folder → List (List ℕ) → Option (List ℕ) → Rule → List ℕ → List ℕ → List ℕ → Type 0
+IsByProgram folder words None rule argument source detail = detail ≡ []
+IsByProgram folder words (Some name) rule argument source detail =
+    (program : List ℕ) × IfSome folder (λ f. f name ≡ Some program)
+    × IsOfProgram program (value_of (codes "--node") words) source argument rule detail
+
+-- the same, by a plan; by a program where the words name no plan
+abbrev pub IsByPlan : Folder → List (List ℕ) → Option (List ℕ) → Rule → List ℕ → List ℕ → List ℕ → Type 0
+IsByPlan folder words None rule argument source detail = IsByProgram folder words (value_of (codes "--program") words) rule argument source detail
+IsByPlan folder words (Some name) rule argument source detail =
     (text : List ℕ) × IfSome folder (λ f. f name ≡ Some text) × IsOfText text source argument rule detail
 
 -- what is told beside the place and the sentence: of an event that breaks a rule, which job acts, and which it overtakes
 abbrev pub IsDetail : Folder → List (List ℕ) → Target → List ℕ → List ℕ → List ℕ → Type 0
 IsDetail folder words (targets.Event rule) argument source detail =
-    IsByPlan folder (value_of (codes "--plan") words) rule argument source detail
+    IsByPlan folder words (value_of (codes "--plan") words) rule argument source detail
 IsDetail folder words targets.Nowhere argument source detail = detail ≡ []
 IsDetail folder words (targets.Byte part) argument source detail = detail ≡ []
 IsDetail folder words (targets.Line part) argument source detail = detail ≡ []

@@ -1,11 +1,13 @@
 //! What is told of an event of a schedule that breaks a rule, by a plan.
 
-ghost use Rattle.std.specs.Prelude.{All, IfOk};
+ghost use Rattle.std.specs.Prelude.{◌≤◌, All, IfOk, length};
+ghost use Rattle.prl_app.specs.declared.reading.TheConstants.{MAX_PROGRAM};
 ghost use Rattle.prl_core.specs.Machine.{IsOfPlan as IsEventOf};
 ghost use Rattle.prl_base.specs.Decimals.{decimal_of};
-ghost use Rattle.prl_explain.specs.Details.{IsOfLine, IsOfPlan, IsOfText};
+ghost use Rattle.prl_explain.specs.Details.{IsOfLine, IsOfPlan, IsOfProgram, IsOfText};
 
-use prl_base::decimal_of;
+use prl_app::{Stop, plan_of};
+use prl_base::{Label, decimal_of};
 use prl_broken::{finding_at, push_finding};
 use prl_plan::{Event, Plan, Rule};
 use prl_plantext::{PlanFault, read_plan};
@@ -70,5 +72,25 @@ pub(crate) fn of_text(
         Ok(plan) => of_plan(alloc, &plan, schedule, argument, rule),
         Err(PlanFault::NotPlan) => Ok(Vec::new(alloc)),
         Err(PlanFault::Memory) => Err(AllocError),
+    }
+}
+
+/// What is told of a line of a schedule of the program whose main node has this name; nothing where it has no plan.
+pub(crate) fn of_program(
+    alloc: Global,
+    program: Vec<u8>,
+    node: Option<Label>,
+    schedule: &[u8],
+    argument: &[u8],
+    rule: Rule,
+) -> Result<Vec<u8>, AllocError>
+    requires { length program.items ≤ MAX_PROGRAM }
+    ensures { IfOk result (λ detail. IsOfProgram program.items node schedule.now argument.now rule detail.items) }
+{
+    match plan_of(alloc, program, node) {
+        Ok(plan) => of_plan(alloc, &plan, schedule, argument, rule),
+        Err(Stop::Refused(_, _)) => Ok(Vec::new(alloc)),
+        Err(Stop::Unread(_)) => Ok(Vec::new(alloc)),
+        Err(Stop::Memory) => Err(AllocError),
     }
 }

@@ -5,14 +5,14 @@ ghost use Rattle.std.specs.Option.{option_map};
 ghost use Rattle.std.specs.String.{string_bytes};
 ghost use Rattle.prl_companions.specs.Pairs.{value_of};
 ghost use Rattle.prl_explain.specs.Kinds.{argument_of};
-ghost use Rattle.prl_explain.specs.Explanations.{Answers, IsByFile, IsByPlan, IsDetail, IsExplanation, IsOfKind, IsStop, IsStopOfFile, marked, most_of, most_told, name_of, option_of, part_of, place_text, sentence_text, shown_text};
+ghost use Rattle.prl_explain.specs.Explanations.{Answers, IsByFile, IsByPlan, IsByProgram, IsDetail, IsExplanation, IsOfKind, IsStop, IsStopOfFile, marked, most_of, most_told, name_of, option_of, part_of, place_text, sentence_text, shown_text};
 
-use crate::details::of_text;
+use crate::details::{of_program, of_text};
 use crate::kinds::{Kind, Part, Target, argument_of, kind_of};
 use crate::places::{line_front, line_rest, place_of, push_lead};
 use crate::spots::spot_of;
 use crate::table::kinds;
-use prl_base::push_number;
+use prl_base::{Label, push_number};
 use prl_companions::{Stop, after_name, are_pairs, finish, read_named, value_of};
 use prl_io::{Files, Sink};
 use prl_plan::Rule;
@@ -32,18 +32,19 @@ pub const MAX_PLAN: u64 = 33_554_432;
 
 /// The form of the words.
 const FORM: &str = "prelude_explain [--program FILE] [--bodies FILE] [--sensors FILE] \
-    [--schedule FILE] [--plan FILE]";
+    [--schedule FILE] [--plan FILE] [--node NAME]";
 
 /// Why there is no explanation.
 const NO_LINE: &str = "standard input is not one line of prelude";
 
 /// The options of the words.
-static OPTIONS: [&[u8]; 5] = [
+static OPTIONS: [&[u8]; 6] = [
     b"--program",
     b"--bodies",
     b"--sensors",
     b"--schedule",
     b"--plan",
+    b"--node",
 ];
 
 /// The file in which a place is told.
@@ -178,7 +179,40 @@ fn by_file(
     }
 }
 
-/// What is told beside of an event that breaks a rule, where the words name a plan.
+/// The name of main that the words have, where they have one.
+fn main_named(alloc: Global, words: &[String]) -> Result<Option<Label>, AllocError>
+    ensures { IfOk result (λ name. name ≡ value_of (codes "--node") (map string_bytes words.now)) }
+{
+    match value_of(b"--node", words) {
+        None => Ok(None),
+        Some(name) => Ok(Some(Label::new(alloc, name)?)),
+    }
+}
+
+/// What is told beside of an event that breaks a rule, by the program that the words name.
+fn by_program<F: Files>(
+    alloc: Global,
+    words: &[String],
+    rule: Rule,
+    argument: &[u8],
+    source: &[u8],
+    files: &mut F,
+) -> Result<Vec<u8>, Stop>
+    ensures detail { IfOk result (λ detail. IsByProgram (F.seen files.old).folder (map string_bytes words.now)
+        (value_of (codes "--program") (map string_bytes words.now)) rule argument.now source.now detail.items) }
+    ensures stop { IfErr result (IsStopOfFile (F.seen files.old) (F.seen files.new) (map string_bytes words.now)) }
+    ensures failed { IfOk result (λ _. (F.seen files.new).failed ≡ (F.seen files.old).failed) }
+    ensures kept { (F.seen files.new).folder ≡ (F.seen files.old).folder }
+{
+    let Some(name) = value_of(b"--program", words) else {
+        return Ok(Vec::new(alloc));
+    };
+    let program = read_named(alloc, files, name, MAX_PROGRAM)?;
+    let node = main_named(alloc, words)?;
+    Ok(of_program(alloc, program, node, source, argument, rule)?)
+}
+
+/// What is told beside of an event that breaks a rule, by the plan that the words name, or by the program.
 fn by_plan<F: Files>(
     alloc: Global,
     words: &[String],
@@ -187,14 +221,14 @@ fn by_plan<F: Files>(
     source: &[u8],
     files: &mut F,
 ) -> Result<Vec<u8>, Stop>
-    ensures detail { IfOk result (λ detail. IsByPlan (F.seen files.old).folder (value_of (codes "--plan") (map string_bytes words.now))
+    ensures detail { IfOk result (λ detail. IsByPlan (F.seen files.old).folder (map string_bytes words.now) (value_of (codes "--plan") (map string_bytes words.now))
         rule argument.now source.now detail.items) }
     ensures stop { IfErr result (IsStopOfFile (F.seen files.old) (F.seen files.new) (map string_bytes words.now)) }
     ensures failed { IfOk result (λ _. (F.seen files.new).failed ≡ (F.seen files.old).failed) }
     ensures kept { (F.seen files.new).folder ≡ (F.seen files.old).folder }
 {
     let Some(name) = value_of(b"--plan", words) else {
-        return Ok(Vec::new(alloc));
+        return by_program(alloc, words, rule, argument, source, files);
     };
     let text = read_named(alloc, files, name, MAX_PLAN)?;
     Ok(of_text(alloc, &text, source, argument, rule)?)

@@ -26,6 +26,11 @@ impl Answer {
         self.status
     }
 
+    /// What is on `err`.
+    pub fn err(&self) -> &[u8] {
+        self.err.bytes()
+    }
+
     /// What is on `out`; a text that is not UTF-8 counts as none.
     pub fn out(&self) -> &str {
         str::from_utf8(self.out.bytes()).unwrap_or("")

@@ -4,7 +4,7 @@ use crate::calls::{answered, expect};
 use std::test::Fail;
 
 const USAGE: &str = "usage: prelude_explain [--program FILE] [--bodies FILE] [--sensors FILE] \
-                     [--schedule FILE] [--plan FILE]\n";
+                     [--schedule FILE] [--plan FILE] [--node NAME]\n";
 
 const NO_LINE: &str = "refused: standard input is not one line of prelude\n";
 
