@@ -33,7 +33,7 @@ const PLANNED: [&str; 5] = [
 ];
 
 /// A program with what it runs on, and the plan of the sampling program.
-fn run_of(alloc: Global, program: &[u8], schedule: &str) -> Result<MemFiles, Fail> {
+fn run_of<'a>(alloc: Global, program: &'a [u8], schedule: &'a str) -> Result<MemFiles, Fail> {
     let entries: [(&str, &[u8]); 5] = [
         ("s.prl", program),
         ("s.bod", SAMPLING_BODIES),
