@@ -11,7 +11,6 @@ use Rattle.prl_dates.proofs.bests.narrow.Goals as goal
 pub overflow_add-released : goal.overflow_add-released
 overflow_add-released c =
     let graph = c.args.graph.now in
-    let t = c.index-as_slice-task.result in
     let e : c.index-as_slice-task.result ≡ task_at graph c.args.task.0 =
     c.index-as_slice-task.is ∙ task_read graph c.as_slice.result.now c.args.task.0 c.index-as_slice-task.result c.as_slice.ensures c.requires.task in
     let small = job_small graph c.requires.well c.args.task.0 c.args.n c.requires.task c.requires.job c.index-as_slice-task.result e in
@@ -28,7 +27,6 @@ bounds-bests-index c =
 pub overflow_add-result : goal.overflow_add-result
 overflow_add-result c =
     let graph = c.args.graph.now in
-    let t = c.index-as_slice-task.result in
     let e : c.index-as_slice-task.result ≡ task_at graph c.args.task.0 =
     c.index-as_slice-task.is ∙ task_read graph c.as_slice.result.now c.args.task.0 c.index-as_slice-task.result c.as_slice.ensures c.requires.task in
     let small = job_small graph c.requires.well c.args.task.0 c.args.n c.requires.task c.requires.job c.index-as_slice-task.result e in
@@ -39,7 +37,6 @@ overflow_add-result c =
 pub overflow_cast-result-2 : goal.overflow_cast-result-2
 overflow_cast-result-2 c =
     let graph = c.args.graph.now in
-    let t = c.index-as_slice-task.result in
     let e : c.index-as_slice-task.result ≡ task_at graph c.args.task.0 =
     c.index-as_slice-task.is ∙ task_read graph c.as_slice.result.now c.args.task.0 c.index-as_slice-task.result c.as_slice.ensures c.requires.task in
     let small = job_small graph c.requires.well c.args.task.0 c.args.n c.requires.task c.requires.job c.index-as_slice-task.result e in
@@ -50,7 +47,6 @@ overflow_cast-result-2 c =
 pub overflow_add-result-2 : goal.overflow_add-result-2
 overflow_add-result-2 c =
     let graph = c.args.graph.now in
-    let t = c.index-as_slice-task.result in
     let e : c.index-as_slice-task.result ≡ task_at graph c.args.task.0 =
     c.index-as_slice-task.is ∙ task_read graph c.as_slice.result.now c.args.task.0 c.index-as_slice-task.result c.as_slice.ensures c.requires.task in
     let small = job_small graph c.requires.well c.args.task.0 c.args.n c.requires.task c.requires.job c.index-as_slice-task.result e in
@@ -61,7 +57,6 @@ overflow_add-result-2 c =
 pub overflow_cast-result-3 : goal.overflow_cast-result-3
 overflow_cast-result-3 c =
     let graph = c.args.graph.now in
-    let t = c.index-as_slice-task.result in
     let e : c.index-as_slice-task.result ≡ task_at graph c.args.task.0 =
     c.index-as_slice-task.is ∙ task_read graph c.as_slice.result.now c.args.task.0 c.index-as_slice-task.result c.as_slice.ensures c.requires.task in
     let small = job_small graph c.requires.well c.args.task.0 c.args.n c.requires.task c.requires.job c.index-as_slice-task.result e in

@@ -44,15 +44,11 @@ returns-in_err-outs-clause-fault c =
     let tys = c.args.typed.now.types in
     let main = c.args.typed.now.main in
     let right = c.main-main.ensures.right in
-    let d = node_tree c.node_at-node.result.now in
     let main_is = c.main-main.ensures.main in
-    let found : slice_get p.nodes main ≡ Some d = ap (slice_get p.nodes) (sym main_is) ∙ ap (λ (x : Program). slice_get (program_tree x).nodes c.main-main.result) (sym c.program-program.ensures) ∙ c.node_at-node.ensures in
-    let is : node_at p main ≡ d = ap node_or found in
     let program_is = c.in_ok-names.ensures ∙ c.program-program.ensures in
     let levels_are : c.len-levels.result ≡ length p.nodes = c.len-levels.ensures ∙ ap (λ (x : Program). length x.nodes) c.program-program.ensures ∙ sym (length-map c.args.typed.now.program.nodes node_tree) in
     let lv = c.len-levels.result in
     let m = c.main-main.result in
-    let N = c.in_ok-names.names in
     let whole_is = ap (λ pr. a_node (program_tree pr) lv m first) program_is ∙ ap (λ n. a_node p n m first) levels_are ∙ ap (λ k. a_node p (length p.nodes) k first) main_is in
     let past = fault_is p main tys right c.in_err-outs.field-0.0 (subst (λ w. IsPast (0 + length (flows_in w)) c.in_err-outs.field-0.0) whole_is c.in_err-outs.ensures.limit) in
     err_and c.from_residual-in_err-outs.result _ _ (λ x same. subst (λ y. IsExpandFault p main y) (sym same) past) c.from_residual-in_err-outs.ensures.1
@@ -158,8 +154,6 @@ returns-clause-kept c = λ bodies rows until.
     let in_devices = c.in_ok-in_devices.ensures ∙ ap (λ ds. devices_of ds c.as_slice-2.result.now) (c.as_slice.ensures ∙ ap (λ (x : Program). x.sensors) c.program-program.ensures) ∙ ap (devices_of p.sensors) c.as_slice-2.ensures in
     let out_devices = c.in_ok-out_devices.ensures ∙ ap (λ ds. devices_of ds c.as_slice-4.result.now) (c.as_slice-3.ensures ∙ ap (λ (x : Program). x.actuators) c.program-program.ensures) ∙ ap (devices_of p.actuators) c.as_slice-4.ensures in
     let flat = flat_is p main tys right c.new-5.result c.new-6.result c.new-7.result c.new-8.result c.in_ok-in_devices.in_devices.items c.in_ok-out_devices.out_devices.items d is flows apps ins outs in_devices out_devices in
-    let number : c.enter.new.made.next.flow ≡ 0 + length (flows_in (whole p main tys right)) = ap (λ (x : Next). x.flow) adds.next_is ∙ ap (λ w. 0 + length (flows_in w)) whole_is in
-    let few : length (flows_in (whole p main tys right)) ≤ 4096 = omega (arith, adds.few.flows, number) in
     subst (λ f. IsOneToOne (Satisfies p main bodies rows until) (IsSolution f bodies rows until) state_in) (sym (c.new-9.ensures ∙ flat))
     (c.behaviours_are_solutions.ensures p right.main main tys (whole p main tys right) right.typed (expansion_is p main tys right) bodies rows until))
 

@@ -150,9 +150,6 @@ pub base-returns-in_ok-one_term-in-Var-clause-types : goal.base-returns-in_ok-on
 base-returns-in_ok-one_term-in-Var-clause-types t c =
     let p = program_tree c.args.names.now in
     let tys = c.args.typed.now.types in
-    let env = map flow_of c.args.env.now in
-    let levels = c.args.levels in
-    let s = c.args.made.now.next in
     let found = c.variable.ensures in
     let is = sym (c.param-index.ensures ∙ ap (param_at p c.args.k) c.bytes.ensures.bytes) ∙ found.1 in
     let root = ap root_of c.in-Var.is in
@@ -232,10 +229,6 @@ pub base-returns-in-Group-clause-types : goal.base-returns-in-Group-clause-types
 base-returns-in-Group-clause-types t c =
     let p = program_tree c.args.names.now in
     let tys = c.args.typed.now.types in
-    let env = map flow_of c.args.env.now in
-    let levels = c.args.levels in
-    let s = c.args.made.now.next in
-    let parts = all_trees c.in-Group.exprs.items in
     let trees = ap all_trees c.deref-in-Group.ensures.value in
     let root = ap root_of c.in-Group.is ∙ root_of_Group c.in-Group.exprs in
     if_ok c.parts-in-Group.result _ _
@@ -249,7 +242,6 @@ base-returns-in-Group-clause-made t c =
     let env = map flow_of c.args.env.now in
     let levels = c.args.levels in
     let s = c.args.made.now.next in
-    let parts = all_trees c.in-Group.exprs.items in
     let trees = ap all_trees c.deref-in-Group.ensures.value in
     let root = ap root_of c.in-Group.is ∙ root_of_Group c.in-Group.exprs in
     let n = node_at p c.args.k in
@@ -263,11 +255,8 @@ base-returns-in-Group-clause-made t c =
 pub base-returns-in-Group-clause-limit : goal.base-returns-in-Group-clause-limit
 base-returns-in-Group-clause-limit t c =
     let p = program_tree c.args.names.now in
-    let tys = c.args.typed.now.types in
-    let env = map flow_of c.args.env.now in
     let levels = c.args.levels in
     let s = c.args.made.now.next in
-    let parts = all_trees c.in-Group.exprs.items in
     let trees = ap all_trees c.deref-in-Group.ensures.value in
     let root = ap root_of c.in-Group.is ∙ root_of_Group c.in-Group.exprs in
     if_err c.parts-in-Group.result _ _
@@ -291,13 +280,9 @@ enter-returns-in_err-take_variables-clause-limit t c =
 pub enter-variables-requires-clause-node : goal.enter-variables-requires-clause-node
 enter-variables-requires-clause-node t c =
     let p = program_tree c.args.names.now in
-    let tys = c.args.typed.now.types in
-    let levels = c.args.levels in
     let k = c.args.k in
-    let s = c.args.made.now.next in
     let d = node_tree c.node_at-node.result.now in
     let found : slice_get p.nodes k ≡ Some d = ap (λ (x : Program). slice_get (program_tree x).nodes k) (sym c.program.ensures) ∙ c.node_at-node.ensures in
-    let is : node_at p k ≡ d = ap node_or found in
     subst (λ pr. slice_get (program_tree pr).nodes k ≡ Some d) c.requires.names found
 
 pub enter-equations-requires : goal.enter-equations-requires
@@ -350,18 +335,10 @@ enter-returns-in_err-pairs-clause-limit t c =
 
 pub enter-outs_of-requires : goal.enter-outs_of-requires
 enter-outs_of-requires t c =
-    let p = program_tree c.args.names.now in
-    let tys = c.args.typed.now.types in
-    let levels = c.args.levels in
-    let k = c.args.k in
     let s = c.args.made.now.next in
     let d = node_tree c.node_at-node.result.now in
-    let found : slice_get p.nodes k ≡ Some d = ap (λ (x : Program). slice_get (program_tree x).nodes k) (sym c.program.ensures) ∙ c.node_at-node.ensures in
-    let is : node_at p k ≡ d = ap node_or found in
     let count = params_length d in
     let numbers = ap (map flow_of) c.as_slice-terms.ensures.value ∙ c.in_ok-env.ensures.flows ∙ ap (range_with_len s.flow) count in
-    let types_are = ap types_of c.as_slice-terms.ensures.value ∙ c.in_ok-env.ensures.types
-    ∙ ap (λ pr. have_types (program_tree pr) tys k (length (params_of d))) (sym c.requires.names) ∙ ap (have_types p tys k) count in
     let many : length c.as_slice-terms.result.now ≡ (length d.ins + length d.outs) + length d.locals =
     sym (length-map c.as_slice-terms.result.now flow_of) ∙ ap length numbers ∙ length-range_with_len s.flow ((length d.ins + length d.outs) + length d.locals) in
     omega (arith, many)
@@ -378,10 +355,6 @@ enter-returns-clause-given t c =
     let is : node_at p k ≡ d = ap node_or found in
     let count = params_length d in
     let numbers = ap (map flow_of) c.as_slice-terms.ensures.value ∙ c.in_ok-env.ensures.flows ∙ ap (range_with_len s.flow) count in
-    let types_are = ap types_of c.as_slice-terms.ensures.value ∙ c.in_ok-env.ensures.types
-    ∙ ap (λ pr. have_types (program_tree pr) tys k (length (params_of d))) (sym c.requires.names) ∙ ap (have_types p tys k) count in
-    let many : length c.as_slice-terms.result.now ≡ (length d.ins + length d.outs) + length d.locals =
-    sym (length-map c.as_slice-terms.result.now flow_of) ∙ ap length numbers ∙ length-range_with_len s.flow ((length d.ins + length d.outs) + length d.locals) in
     ap (map flow_of) c.in_ok-outs_of.ensures ∙ entered_given p tys levels k s c.as_slice-terms.result.now d is numbers
 
 pub enter-returns-clause-types : goal.enter-returns-clause-types
@@ -393,13 +366,9 @@ enter-returns-clause-types t c =
     let s = c.args.made.now.next in
     let d = node_tree c.node_at-node.result.now in
     let found : slice_get p.nodes k ≡ Some d = ap (λ (x : Program). slice_get (program_tree x).nodes k) (sym c.program.ensures) ∙ c.node_at-node.ensures in
-    let is : node_at p k ≡ d = ap node_or found in
     let count = params_length d in
-    let numbers = ap (map flow_of) c.as_slice-terms.ensures.value ∙ c.in_ok-env.ensures.flows ∙ ap (range_with_len s.flow) count in
     let types_are = ap types_of c.as_slice-terms.ensures.value ∙ c.in_ok-env.ensures.types
     ∙ ap (λ pr. have_types (program_tree pr) tys k (length (params_of d))) (sym c.requires.names) ∙ ap (have_types p tys k) count in
-    let many : length c.as_slice-terms.result.now ≡ (length d.ins + length d.outs) + length d.locals =
-    sym (length-map c.as_slice-terms.result.now flow_of) ∙ ap length numbers ∙ length-range_with_len s.flow ((length d.ins + length d.outs) + length d.locals) in
     ap types_of c.in_ok-outs_of.ensures ∙ entered_types p tys levels k s c.as_slice-terms.result.now d found types_are
 
 pub enter-returns-clause-made : goal.enter-returns-clause-made
@@ -642,6 +611,5 @@ equations-expression-requires t c =
 pub apply-import-requires-clause-some : goal.apply-import-requires-clause-some
 apply-import-requires-clause-some t c =
     let p = program_tree c.args.names.now in
-    let is = sym (c.callee.ensures ∙ ap (callee_of p) c.bytes.ensures.bytes) ∙ c.in-Some-Import.is ∙ ap Some c.in-Some-Import.field-0-is in
     let found = ap (λ (x : Program). slice_get (program_tree x).imports c.in-Some-Import.k) (sym c.program.ensures) ∙ c.import_at.ensures in
     ports_some p c.in-Some-Import.k c.import_at.result.now c.requires.sound found

@@ -20,13 +20,8 @@ use Rattle.prl_board.proofs.seats.TaskSeat.read_half.Goals as goal
 pub invariant_of-self : goal.invariant_of-self
 invariant_of-self c =
     let known : c.self.inside.job.view.constants ≡ Some c.args.board.now.known = ap (λ (v : JobSeatView). v.view.constants) c.self.view_is ∙ c.requires.seat.known in
-    let part : HasPartOf c.self.inside.job.task.0 c.self.inside.job.view = subst (λ (v : JobSeatView). HasPartOf v.task.0 v.view) (sym c.self.view_is) c.requires.seat.part in
     let kept : Keeps c.args.board.now.known c.self.inside.job c.self.inside.low c.self.inside.worker = c.self.invariant c.args.board.now.known known in
-    let follows : Follows c.args.board.now.known c.self.inside.job.view c.self.inside.job.task.0 c.self.inside.job.job c.self.inside.job.place c.self.inside.job.stage = c.stands.ensures c.args.board.now.known known part in
     let stage : c.self.inside.job.stage ≡ stages.At (actions.Read c.args.port c.args.edge c.args.instance c.args.slot) = ap (λ (v : JobSeatView). v.stage) c.self.view_is ∙ c.requires.reads in
-    let reads : Follows c.args.board.now.known c.self.inside.job.view c.self.inside.job.task.0 c.self.inside.job.job c.self.inside.job.place (stages.At (actions.Read c.args.port c.args.edge c.args.instance c.args.slot)) =
-    subst (λ (z : Stage). Follows c.args.board.now.known c.self.inside.job.view c.self.inside.job.task.0 c.self.inside.job.job c.self.inside.job.place z) stage follows in
-    let job : IsJob (run_of c.args.board.now.known) c.self.inside.job.task.0 c.self.inside.job.job = record { task = reads.task; job = reads.shown.1 } in
     let told : LoadsHalf c.args.board.now.known c.args.edge c.args.instance c.args.slot c.self.inside.job c.load-word.new.self c.load-word.result = c.load-word.ensures.told c.args.port c.args.edge stage in
     let wanted : c.tag_read-wanted.result ≡ c.args.instance + 1 = c.tag_read-wanted.ensures in
     let found : c.unpack-found.result.0 ≡ c.load-word.result / 2 ^ 32 = c.unpack-found.ensures.0 in
@@ -37,12 +32,10 @@ pub returns-then-found-wanted-clause-answer : goal.returns-then-found-wanted-cla
 returns-then-found-wanted-clause-answer c =
     let known : c.self.inside.job.view.constants ≡ Some c.args.board.now.known = ap (λ (v : JobSeatView). v.view.constants) c.self.view_is ∙ c.requires.seat.known in
     let part : HasPartOf c.self.inside.job.task.0 c.self.inside.job.view = subst (λ (v : JobSeatView). HasPartOf v.task.0 v.view) (sym c.self.view_is) c.requires.seat.part in
-    let kept : Keeps c.args.board.now.known c.self.inside.job c.self.inside.low c.self.inside.worker = c.self.invariant c.args.board.now.known known in
     let follows : Follows c.args.board.now.known c.self.inside.job.view c.self.inside.job.task.0 c.self.inside.job.job c.self.inside.job.place c.self.inside.job.stage = c.stands.ensures c.args.board.now.known known part in
     let stage : c.self.inside.job.stage ≡ stages.At (actions.Read c.args.port c.args.edge c.args.instance c.args.slot) = ap (λ (v : JobSeatView). v.stage) c.self.view_is ∙ c.requires.reads in
     let reads : Follows c.args.board.now.known c.self.inside.job.view c.self.inside.job.task.0 c.self.inside.job.job c.self.inside.job.place (stages.At (actions.Read c.args.port c.args.edge c.args.instance c.args.slot)) =
     subst (λ (z : Stage). Follows c.args.board.now.known c.self.inside.job.view c.self.inside.job.task.0 c.self.inside.job.job c.self.inside.job.place z) stage follows in
-    let job : IsJob (run_of c.args.board.now.known) c.self.inside.job.task.0 c.self.inside.job.job = record { task = reads.task; job = reads.shown.1 } in
     let told : LoadsHalf c.args.board.now.known c.args.edge c.args.instance c.args.slot c.self.inside.job c.load-word.new.self c.load-word.result = c.load-word.ensures.told c.args.port c.args.edge stage in
     let wanted : c.tag_read-wanted.result ≡ c.args.instance + 1 = c.tag_read-wanted.ensures in
     let found : c.unpack-found.result.0 ≡ c.load-word.result / 2 ^ 32 = c.unpack-found.ensures.0 in
@@ -78,21 +71,13 @@ invariant_of-self-then-is_low c =
 
 pub returns-then-is_low-clause-answer : goal.returns-then-is_low-clause-answer
 returns-then-is_low-clause-answer c =
-    let known : c.self.inside.job.view.constants ≡ Some c.args.board.now.known = ap (λ (v : JobSeatView). v.view.constants) c.self.view_is ∙ c.requires.seat.known in
-    let part : HasPartOf c.self.inside.job.task.0 c.self.inside.job.view = subst (λ (v : JobSeatView). HasPartOf v.task.0 v.view) (sym c.self.view_is) c.requires.seat.part in
-    let kept : Keeps c.args.board.now.known c.self.inside.job c.self.inside.low c.self.inside.worker = c.self.invariant c.args.board.now.known known in
-    let follows : Follows c.args.board.now.known c.self.inside.job.view c.self.inside.job.task.0 c.self.inside.job.job c.self.inside.job.place c.self.inside.job.stage = c.stands.ensures c.args.board.now.known known part in
     let stage : c.self.inside.job.stage ≡ stages.At (actions.Read c.args.port c.args.edge c.args.instance c.args.slot) = ap (λ (v : JobSeatView). v.stage) c.self.view_is ∙ c.requires.reads in
-    let reads : Follows c.args.board.now.known c.self.inside.job.view c.self.inside.job.task.0 c.self.inside.job.job c.self.inside.job.place (stages.At (actions.Read c.args.port c.args.edge c.args.instance c.args.slot)) =
-    subst (λ (z : Stage). Follows c.args.board.now.known c.self.inside.job.view c.self.inside.job.task.0 c.self.inside.job.job c.self.inside.job.place z) stage follows in
-    let job : IsJob (run_of c.args.board.now.known) c.self.inside.job.task.0 c.self.inside.job.job = record { task = reads.task; job = reads.shown.1 } in
     let told : LoadsHalf c.args.board.now.known c.args.edge c.args.instance c.args.slot c.self.inside.job c.load-word.new.self c.load-word.result = c.load-word.ensures.told c.args.port c.args.edge stage in
     let wanted : c.tag_read-wanted.result ≡ c.args.instance + 1 = c.tag_read-wanted.ensures in
     let found : c.unpack-found.result.0 ≡ c.load-word.result / 2 ^ 32 = c.unpack-found.ensures.0 in
     let same : c.unpack-found.result.0 ≡ c.tag_read-wanted.result = c.if-found-wanted.false in
     let tag : c.load-word.result / 2 ^ 32 ≡ c.args.instance + 1 = sym found ∙ same ∙ wanted in
     let goes : GoesOn c.args.board.now.known c.self.inside.job c.load-word.new.self = told.found tag in
-    let half : c.unpack-found.result.1 ≡ half_of (values_of c.args.board.now.known) c.args.slot.0 c.args.instance = c.unpack-found.ensures.1 ∙ (told.told.half tag).0 in
     subst (λ (s : JobSeatView). ReadsHalf c.args.board.now.known c.args.edge c.args.instance c.args.slot s c.load-word.new.self gots.Half) c.self.view_is (record {
       word = c.load-word.result;
       told = told.told;
@@ -114,7 +99,6 @@ whole-value-requires c =
     let found : c.unpack-found.result.0 ≡ c.load-word.result / 2 ^ 32 = c.unpack-found.ensures.0 in
     let same : c.unpack-found.result.0 ≡ c.tag_read-wanted.result = c.if-found-wanted.false in
     let tag : c.load-word.result / 2 ^ 32 ≡ c.args.instance + 1 = sym found ∙ same ∙ wanted in
-    let goes : GoesOn c.args.board.now.known c.self.inside.job c.load-word.new.self = told.found tag in
     let half : c.unpack-found.result.1 ≡ half_of (values_of c.args.board.now.known) c.args.slot.0 c.args.instance = c.unpack-found.ensures.1 ∙ (told.told.half tag).0 in
     let odd : c.args.slot.0 % 2 ≡ 1 = c.if-is_low.ensures.no in
     let low_kept : c.self.inside.low ≡ half_of (values_of c.args.board.now.known) (low (c.args.slot.0 / 2)) c.args.instance = kept.0 c.args.port c.args.edge c.args.instance (c.args.slot.0 / 2)
@@ -133,18 +117,7 @@ take-requires-clause-port c =
     let reads : Follows c.args.board.now.known c.self.inside.job.view c.self.inside.job.task.0 c.self.inside.job.job c.self.inside.job.place (stages.At (actions.Read c.args.port c.args.edge c.args.instance c.args.slot)) =
     subst (λ (z : Stage). Follows c.args.board.now.known c.self.inside.job.view c.self.inside.job.task.0 c.self.inside.job.job c.self.inside.job.place z) stage follows in
     let job : IsJob (run_of c.args.board.now.known) c.self.inside.job.task.0 c.self.inside.job.job = record { task = reads.task; job = reads.shown.1 } in
-    let told : LoadsHalf c.args.board.now.known c.args.edge c.args.instance c.args.slot c.self.inside.job c.load-word.new.self c.load-word.result = c.load-word.ensures.told c.args.port c.args.edge stage in
-    let wanted : c.tag_read-wanted.result ≡ c.args.instance + 1 = c.tag_read-wanted.ensures in
-    let found : c.unpack-found.result.0 ≡ c.load-word.result / 2 ^ 32 = c.unpack-found.ensures.0 in
-    let same : c.unpack-found.result.0 ≡ c.tag_read-wanted.result = c.if-found-wanted.false in
-    let tag : c.load-word.result / 2 ^ 32 ≡ c.args.instance + 1 = sym found ∙ same ∙ wanted in
-    let goes : GoesOn c.args.board.now.known c.self.inside.job c.load-word.new.self = told.found tag in
-    let half : c.unpack-found.result.1 ≡ half_of (values_of c.args.board.now.known) c.args.slot.0 c.args.instance = c.unpack-found.ensures.1 ∙ (told.told.half tag).0 in
     let odd : c.args.slot.0 % 2 ≡ 1 = c.if-is_low.ensures.no in
-    let low_kept : c.self.inside.low ≡ half_of (values_of c.args.board.now.known) (low (c.args.slot.0 / 2)) c.args.instance = kept.0 c.args.port c.args.edge c.args.instance (c.args.slot.0 / 2)
-    (stage ∙ ap (λ (x : ℕ). stages.At (actions.Read c.args.port c.args.edge c.args.instance (record { 0 = x }))) (cell_of_high (run_of c.args.board.now.known) (values_of c.args.board.now.known) c.args.slot.0 odd)) in
-    let both = value_of_both (run_of c.args.board.now.known) (values_of c.args.board.now.known) c.halves_are_exact.ensures.halves c.halves_are_exact.ensures.whole c.keeps_values.ensures.values c.self.inside.job.task.0 c.self.inside.job.job c.self.inside.job.place
-    c.args.port c.args.edge c.args.instance c.args.slot job reads.shown.2 odd c.self.inside.low c.unpack-found.result.1 low_kept half (told.told.half tag).1 in
     (high_may c.args.board.now.known c.keeps_values.ensures.work c.keeps_values.ensures.values c.self.inside.job.task.0 c.self.inside.job.job c.self.inside.job.place job c.self.inside.worker kept.1 c.args.port c.args.edge c.args.instance c.args.slot reads.shown.2 odd).0
 
 pub take-requires-clause-ready : goal.take-requires-clause-ready
