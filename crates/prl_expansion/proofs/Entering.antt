@@ -1,9 +1,10 @@
 -- A node that is entered.
 use Rattle.std.proofs.Common.{◌≡◌, ◌+◌, ℕ, zero, suc, List, [], ◌∷◌, ◌++◌, map, length, drop, take, slice_get, Some, refl, sym, ap, ◌∙◌, subst, arith, append_assoc}
 use Rattle.std.specs.List.{range_with_len}
-use Rattle.std.proofs.lemmas.List.{map-append, length-append}
+use Rattle.std.proofs.lemmas.List.{map-append, length-append, length-map}
 use Rattle.std.proofs.lemmas.List.FromFn.{length-range_with_len}
-use Rattle.prl_ast.specs.Trees.{NodeTree, ProgramTree}
+use Rattle.prl_ast.specs.declared.declarations.Program.{Program}
+use Rattle.prl_ast.specs.Trees.{NodeTree, ProgramTree, program_tree}
 use Rattle.prl_flow.specs.declared.programs.App.{App}
 use Rattle.prl_flow.specs.declared.programs.Flow.{Flow}
 use Rattle.prl_types.specs.Flows as types
@@ -88,6 +89,27 @@ params_length d =
     let one = length-append (d.ins ++ d.outs) d.locals in
     let two = length-append d.ins d.outs in
     omega (arith, one, two)
+
+-- a node of the program that was checked is one of the program at hand
+pub node_found : (names checked : Program) (k : ℕ) (d : NodeTree) → checked ≡ names → slice_get (program_tree checked).nodes k ≡ Some d → slice_get (program_tree names).nodes k ≡ Some d
+node_found names checked k d same at = ap (λ (x : Program). slice_get (program_tree x).nodes k) (sym same) ∙ at
+
+-- the terms of a node's variables: the numbers of their flows, and their types
+pub record AreVariables (p : ProgramTree) (tys : Types) (k : ℕ) (s : Next) (d : NodeTree) (ts : List given_term.Term) : Type 0 where
+  pub numbers : map flow_of ts ≡ range_with_len s.flow ((length d.ins + length d.outs) + length d.locals)
+  pub types_are : types_of ts ≡ have_types p tys k ((length d.ins + length d.outs) + length d.locals)
+  pub many : length ts ≡ (length d.ins + length d.outs) + length d.locals
+
+pub node_variables : (names typed : Program) (tys : Types) (k : ℕ) (s : Next) (d : NodeTree) (ts made : List given_term.Term) → ts ≡ made →
+    map flow_of made ≡ range_with_len s.flow (length (params_of d)) → types_of made ≡ have_types (program_tree typed) tys k (length (params_of d)) → names ≡ typed →
+    AreVariables (program_tree names) tys k s d ts
+node_variables names typed tys k s d ts made same flows typing checked =
+    let numbers = ap (map flow_of) same ∙ flows ∙ ap (range_with_len s.flow) (params_length d) in
+    record {
+      numbers = numbers;
+      types_are = ap types_of same ∙ typing ∙ ap (λ (x : Program). have_types (program_tree x) tys k (length (params_of d))) (sym checked) ∙ ap (have_types (program_tree names) tys k) (params_length d);
+      many = sym (length-map ts flow_of) ∙ ap length numbers ∙ length-range_with_len s.flow ((length d.ins + length d.outs) + length d.locals);
+    }
 
 variables_are : (label : List ℕ) (tys : Types) (m : ℕ) (qs : List Param) (ts : List given_term.Term) (ds : List Def) → types_of ts ≡ all_resolved tys (types.parameters_from m (length ts))
     → variables_made label qs ts ds ≡ variable_flows label tys m qs (map flow_of ts) ds

@@ -1,7 +1,4 @@
 use Rattle.std.proofs.Common.{◌≡◌, ◌<◌, ◌+◌, ◌-◌, ◌++◌, [], ◌∙◌, Some, ap, arith, length, map, refl, slice_get, subst, sym}
-use Rattle.std.specs.List.{range_with_len}
-use Rattle.std.proofs.lemmas.List.{length-map}
-use Rattle.std.proofs.lemmas.List.FromFn.{length-range_with_len}
 use Rattle.std.proofs.lemmas.Option.{slice_get_read}
 use Rattle.prl_ast.specs.declared.declarations.Program.{Program}
 use Rattle.prl_ast.specs.Trees.{equation_tree, node_tree, program_tree, root_of, tree_of}
@@ -26,7 +23,7 @@ use Rattle.prl_expansion.specs.code.Terms.{arg_of, flow_of, flows_of}
 use Rattle.prl_expansion.specs.code.Within.{EquationsFit, RootFits, TreesFit}
 use Rattle.prl_expansion.specs.code.Variables.{copied, def_of, pairs_of}
 use Rattle.prl_expansion.proofs.Adding.{adds_as, below_few}
-use Rattle.prl_expansion.proofs.Entering.{entered_apps, entered_given, entered_made, entered_next, entered_types, equations_past, params_length, variables_past}
+use Rattle.prl_expansion.proofs.Entering.{entered_apps, entered_given, entered_made, entered_next, entered_types, equations_past, node_found, node_variables, params_length, variables_past}
 use Rattle.prl_expansion.proofs.Expressions.{apply_given, apply_made, apply_past, args_past, copied_are, drop_equations, err_and, expression_made, given_numbers, if_err, if_ok, import_apps, import_flows, import_next, import_past, import_types, node_apps, node_flows, node_given, node_next, node_past, on_ok, operators_past, var_given, var_types}
 use Rattle.prl_expansion.proofs.Within.{args_fit, call_fits, node_few, outputs_some, ports_some, variables_few, deep as some_depth, equations_fit, few_nodes, import_below, levels_left, may_apply, parts_fit, right_fits, tree_fits, variable_at}
 use Rattle.prl_expansion.proofs.Remaining.{parts_past, parts_step, rights_step}
@@ -272,17 +269,16 @@ enter-returns-in_err-take_variables-clause-limit t c =
     let k = c.args.k in
     let s = c.args.made.now.next in
     let d = node_tree c.node_at-node.result.now in
-    let found : slice_get p.nodes k ≡ Some d = ap (λ (x : Program). slice_get (program_tree x).nodes k) (sym c.program.ensures) ∙ c.node_at-node.ensures in
+    let found = node_found c.args.names.now c.program.result.now k d c.program.ensures c.node_at-node.ensures in
     let is : node_at p k ≡ d = ap node_or found in
     let past = variables_past p tys levels k s d c.in_err-take_variables.field-0.0 is c.in_err-take_variables.ensures.limit in
     err_and c.from_residual.result _ _ (λ x same. subst (λ y. IsPast (s.flow + length (notes.flows_in (a_node p levels k s))) y) (sym same) past) c.from_residual.ensures.1
 
 pub enter-variables-requires-clause-node : goal.enter-variables-requires-clause-node
 enter-variables-requires-clause-node t c =
-    let p = program_tree c.args.names.now in
     let k = c.args.k in
     let d = node_tree c.node_at-node.result.now in
-    let found : slice_get p.nodes k ≡ Some d = ap (λ (x : Program). slice_get (program_tree x).nodes k) (sym c.program.ensures) ∙ c.node_at-node.ensures in
+    let found = node_found c.args.names.now c.program.result.now k d c.program.ensures c.node_at-node.ensures in
     subst (λ pr. slice_get (program_tree pr).nodes k ≡ Some d) c.requires.names found
 
 pub enter-equations-requires : goal.enter-equations-requires
@@ -293,14 +289,10 @@ enter-equations-requires t c =
     let k = c.args.k in
     let s = c.args.made.now.next in
     let d = node_tree c.node_at-node.result.now in
-    let found : slice_get p.nodes k ≡ Some d = ap (λ (x : Program). slice_get (program_tree x).nodes k) (sym c.program.ensures) ∙ c.node_at-node.ensures in
+    let found = node_found c.args.names.now c.program.result.now k d c.program.ensures c.node_at-node.ensures in
     let is : node_at p k ≡ d = ap node_or found in
+    let vars = node_variables _ _ c.args.typed.now.types c.args.k s d c.as_slice-terms.result.now _ c.as_slice-terms.ensures.value c.in_ok-env.ensures.flows c.in_ok-env.ensures.types c.requires.names in
     let count = params_length d in
-    let numbers = ap (map flow_of) c.as_slice-terms.ensures.value ∙ c.in_ok-env.ensures.flows ∙ ap (range_with_len s.flow) count in
-    let types_are = ap types_of c.as_slice-terms.ensures.value ∙ c.in_ok-env.ensures.types
-    ∙ ap (λ pr. have_types (program_tree pr) tys k (length (params_of d))) (sym c.requires.names) ∙ ap (have_types p tys k) count in
-    let many : length c.as_slice-terms.result.now ≡ (length d.ins + length d.outs) + length d.locals =
-    sym (length-map c.as_slice-terms.result.now flow_of) ∙ ap length numbers ∙ length-range_with_len s.flow ((length d.ins + length d.outs) + length d.locals) in
     let few = variables_few s c.take_variables.new.next d c.in_ok-take_variables.ensures.next c.in_ok-take_variables.ensures.few (outputs_some p k d c.requires.sound found) c.requires.few in (
       omega (arith, c.decreases),
       (
@@ -308,8 +300,8 @@ enter-equations-requires t c =
           same = c.requires.names;
           sound = c.requires.sound;
           there = (d, found);
-          count = many ∙ sym count ∙ ap (λ x. length (params_of x)) (sym is);
-          types = types_are ∙ ap (have_types p tys k) (sym many);
+          count = vars.many ∙ sym count ∙ ap (λ x. length (params_of x)) (sym is);
+          types = vars.types_are ∙ ap (have_types p tys k) (sym vars.many);
         },
         (
           subst (EquationsFit p levels k) (sym (ap (map equation_tree) c.as_slice-eqs.ensures)) (equations_fit p levels k d c.requires.sound found c.requires.levels),
@@ -326,7 +318,7 @@ enter-returns-in_err-pairs-clause-limit t c =
     let k = c.args.k in
     let s = c.args.made.now.next in
     let d = node_tree c.node_at-node.result.now in
-    let found : slice_get p.nodes k ≡ Some d = ap (λ (x : Program). slice_get (program_tree x).nodes k) (sym c.program.ensures) ∙ c.node_at-node.ensures in
+    let found = node_found c.args.names.now c.program.result.now k d c.program.ensures c.node_at-node.ensures in
     let is : node_at p k ≡ d = ap node_or found in
     let eqs = ap (map equation_tree) c.as_slice-eqs.ensures in
     let here = subst (λ es. IsPast (c.take_variables.new.next.flow + length (notes.right_flows (the_rights p levels es c.take_variables.new.next))) c.in_err-pairs.field-0.0) eqs c.in_err-pairs.ensures.limit in
@@ -337,10 +329,8 @@ pub enter-outs_of-requires : goal.enter-outs_of-requires
 enter-outs_of-requires t c =
     let s = c.args.made.now.next in
     let d = node_tree c.node_at-node.result.now in
-    let count = params_length d in
-    let numbers = ap (map flow_of) c.as_slice-terms.ensures.value ∙ c.in_ok-env.ensures.flows ∙ ap (range_with_len s.flow) count in
-    let many : length c.as_slice-terms.result.now ≡ (length d.ins + length d.outs) + length d.locals =
-    sym (length-map c.as_slice-terms.result.now flow_of) ∙ ap length numbers ∙ length-range_with_len s.flow ((length d.ins + length d.outs) + length d.locals) in
+    let vars = node_variables _ _ c.args.typed.now.types c.args.k s d c.as_slice-terms.result.now _ c.as_slice-terms.ensures.value c.in_ok-env.ensures.flows c.in_ok-env.ensures.types c.requires.names in
+    let many = vars.many in
     omega (arith, many)
 
 pub enter-returns-clause-given : goal.enter-returns-clause-given
@@ -351,11 +341,10 @@ enter-returns-clause-given t c =
     let k = c.args.k in
     let s = c.args.made.now.next in
     let d = node_tree c.node_at-node.result.now in
-    let found : slice_get p.nodes k ≡ Some d = ap (λ (x : Program). slice_get (program_tree x).nodes k) (sym c.program.ensures) ∙ c.node_at-node.ensures in
+    let found = node_found c.args.names.now c.program.result.now k d c.program.ensures c.node_at-node.ensures in
     let is : node_at p k ≡ d = ap node_or found in
-    let count = params_length d in
-    let numbers = ap (map flow_of) c.as_slice-terms.ensures.value ∙ c.in_ok-env.ensures.flows ∙ ap (range_with_len s.flow) count in
-    ap (map flow_of) c.in_ok-outs_of.ensures ∙ entered_given p tys levels k s c.as_slice-terms.result.now d is numbers
+    let vars = node_variables _ _ c.args.typed.now.types c.args.k s d c.as_slice-terms.result.now _ c.as_slice-terms.ensures.value c.in_ok-env.ensures.flows c.in_ok-env.ensures.types c.requires.names in
+    ap (map flow_of) c.in_ok-outs_of.ensures ∙ entered_given p tys levels k s c.as_slice-terms.result.now d is vars.numbers
 
 pub enter-returns-clause-types : goal.enter-returns-clause-types
 enter-returns-clause-types t c =
@@ -365,11 +354,9 @@ enter-returns-clause-types t c =
     let k = c.args.k in
     let s = c.args.made.now.next in
     let d = node_tree c.node_at-node.result.now in
-    let found : slice_get p.nodes k ≡ Some d = ap (λ (x : Program). slice_get (program_tree x).nodes k) (sym c.program.ensures) ∙ c.node_at-node.ensures in
-    let count = params_length d in
-    let types_are = ap types_of c.as_slice-terms.ensures.value ∙ c.in_ok-env.ensures.types
-    ∙ ap (λ pr. have_types (program_tree pr) tys k (length (params_of d))) (sym c.requires.names) ∙ ap (have_types p tys k) count in
-    ap types_of c.in_ok-outs_of.ensures ∙ entered_types p tys levels k s c.as_slice-terms.result.now d found types_are
+    let found = node_found c.args.names.now c.program.result.now k d c.program.ensures c.node_at-node.ensures in
+    let vars = node_variables _ _ c.args.typed.now.types c.args.k s d c.as_slice-terms.result.now _ c.as_slice-terms.ensures.value c.in_ok-env.ensures.flows c.in_ok-env.ensures.types c.requires.names in
+    ap types_of c.in_ok-outs_of.ensures ∙ entered_types p tys levels k s c.as_slice-terms.result.now d found vars.types_are
 
 pub enter-returns-clause-made : goal.enter-returns-clause-made
 enter-returns-clause-made t c =
@@ -379,14 +366,9 @@ enter-returns-clause-made t c =
     let k = c.args.k in
     let s = c.args.made.now.next in
     let d = node_tree c.node_at-node.result.now in
-    let found : slice_get p.nodes k ≡ Some d = ap (λ (x : Program). slice_get (program_tree x).nodes k) (sym c.program.ensures) ∙ c.node_at-node.ensures in
+    let found = node_found c.args.names.now c.program.result.now k d c.program.ensures c.node_at-node.ensures in
     let is : node_at p k ≡ d = ap node_or found in
-    let count = params_length d in
-    let numbers = ap (map flow_of) c.as_slice-terms.ensures.value ∙ c.in_ok-env.ensures.flows ∙ ap (range_with_len s.flow) count in
-    let types_are = ap types_of c.as_slice-terms.ensures.value ∙ c.in_ok-env.ensures.types
-    ∙ ap (λ pr. have_types (program_tree pr) tys k (length (params_of d))) (sym c.requires.names) ∙ ap (have_types p tys k) count in
-    let many : length c.as_slice-terms.result.now ≡ (length d.ins + length d.outs) + length d.locals =
-    sym (length-map c.as_slice-terms.result.now flow_of) ∙ ap length numbers ∙ length-range_with_len s.flow ((length d.ins + length d.outs) + length d.locals) in
+    let vars = node_variables _ _ c.args.typed.now.types c.args.k s d c.as_slice-terms.result.now _ c.as_slice-terms.ensures.value c.in_ok-env.ensures.flows c.in_ok-env.ensures.types c.requires.names in
     let terms = c.as_slice-terms.result.now in
     let n = node_at p k in
     let env = map flow_of terms in
@@ -408,12 +390,12 @@ enter-returns-clause-made t c =
       flows_are = entered_made p tys levels k s c.args.label.now c.args.made.now.flows.items c.equations.new.made.flows.items c.finish.new.made.flows.items terms (map def_of c.args.sources.items)
           (map def_of c.as_slice-2.result.now) d is (record {
             inner_is = flows;
-            numbers = numbers;
-            types_are = types_are ∙ ap (have_types p tys k) (sym many);
+            numbers = vars.numbers;
+            types_are = vars.types_are ∙ ap (have_types p tys k) (sym vars.many);
             defs_are = defs;
             all_is = c.in_ok-finish.ensures.flows ∙ ap (λ xs. xs ++ c.equations.new.made.flows.items) c.in_ok-push_variables.ensures;
           });
-      apps_are = c.in_ok-finish.ensures.apps ∙ ap (λ us. c.args.made.now.apps.items ++ us) (entered_apps p tys levels k s c.equations.new.made.apps.items terms d is numbers apps);
+      apps_are = c.in_ok-finish.ensures.apps ∙ ap (λ us. c.args.made.now.apps.items ++ us) (entered_apps p tys levels k s c.equations.new.made.apps.items terms d is vars.numbers apps);
       next_is = c.in_ok-finish.ensures.next ∙ numbers_after;
       few = below_few c.finish.new.made.next c.equations.new.made.next c.in_ok-finish.ensures.next adds.few;
     }
