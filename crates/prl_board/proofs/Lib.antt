@@ -8,6 +8,7 @@ mod TaskPlaces
 mod Worked
 mod ClockAfter
 mod SeatReads
+mod HalfReads
 mod Begun
 mod Joining
 mod Lending
