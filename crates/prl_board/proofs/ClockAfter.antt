@@ -2,7 +2,7 @@
 use Rattle.std.proofs.Common.{◌≡◌, ap, ◌∙◌}
 use Rattle.prl_rule.specs.declared.views.ClockPart.{ClockPart}
 use Rattle.prl_rule.specs.declared.views.View.{View}
-use Rattle.prl_board.specs.Boards.{BoardView}
+use Rattle.prl_seats.specs.Boards.{BoardView}
 use Rattle.prl_board.specs.ClockSeats.{ClockSeatView, IsClockOf}
 use Rattle.prl_rule.specs.Steps.{with_clock}
 

@@ -10,13 +10,13 @@ use Rattle.prl_rule.specs.declared.views.View.{View}
 use Rattle.prl_rule.specs.Told.{part_of}
 use Rattle.prl_plan.specs.Rules.{IsComplete}
 use Rattle.prl_plan.specs.Runs.{ExecState, RunConstants}
-use Rattle.prl_board.specs.declared.jobs.Stage.{Stage}
-use Rattle.prl_board.specs.declared.jobs.Stage.TheVariants as stages
+use Rattle.prl_seats.specs.declared.jobs.Stage.{Stage}
+use Rattle.prl_seats.specs.declared.jobs.Stage.TheVariants as stages
 use Rattle.prl_board.specs.Closings.{IsClosed, IsLastState}
-use Rattle.prl_board.specs.JobSeats.{IsStage, JobSeatView}
+use Rattle.prl_seats.specs.JobSeats.{IsStage, JobSeatView}
 use Rattle.prl_rule.specs.Known.{run_of}
 use Rattle.prl_rule.specs.Rule.{reached}
-use Rattle.prl_board.specs.code.Joining.{IsClosing}
+use Rattle.prl_seats.specs.Boards.{IsClosing}
 use Rattle.prl_board.specs.code.Lent.{IsLent, IsSettled}
 use Rattle.prl_rule.specs.PlanLaws.{PlanLaws}
 use Rattle.prl_board.proofs.Lending.{seat_there}

@@ -8,9 +8,9 @@ use Rattle.prl_workers.specs.declared.workers.Worker.{Worker}
 use Rattle.prl_rule.specs.declared.views.Constants.{Constants}
 use Rattle.prl_rule.specs.Known.{run_of, values_of}
 use Rattle.prl_rule.specs.RunValues.{half_of}
-use Rattle.prl_board.specs.declared.jobs.Stage.{Stage}
-use Rattle.prl_board.specs.declared.jobs.Stage.TheVariants as stages
-use Rattle.prl_board.specs.JobSeats.{Follows, GoesOn, HasPartOf, JobSeatView, LoadsHalf}
+use Rattle.prl_seats.specs.declared.jobs.Stage.{Stage}
+use Rattle.prl_seats.specs.declared.jobs.Stage.TheVariants as stages
+use Rattle.prl_seats.specs.JobSeats.{Follows, GoesOn, HasPartOf, JobSeatView, LoadsHalf}
 use Rattle.prl_board.proofs.SeatReads.{Keeps}
 
 -- the seat's open job stands at the action

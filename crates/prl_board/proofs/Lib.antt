@@ -1,6 +1,3 @@
--- For the crates above: a board may be shared.
-pub mod Crossing
-mod Following
 mod Unseen
 mod Opened
 mod Lows
@@ -10,7 +7,7 @@ mod ClockAfter
 mod SeatReads
 mod HalfReads
 mod Begun
-mod Joining
+mod Merging
 mod Lending
 mod ClosedBoards
 mod Actuators

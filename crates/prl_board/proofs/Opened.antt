@@ -7,7 +7,8 @@ use Rattle.atomic_table.proofs.Lists.{set_else, set_here}
 use Rattle.prl_rule.specs.declared.views.Constants.{Constants}
 use Rattle.prl_rule.specs.declared.views.TaskPart.{TaskPart}
 use Rattle.prl_rule.specs.declared.views.View.{View}
-use Rattle.prl_board.specs.Openings.{AreLeft, HasFirstPart}
+use Rattle.prl_board.specs.Openings.{AreLeft}
+use Rattle.prl_seats.specs.JobSeats.{HasFirstPart}
 use Rattle.prl_rule.specs.Known.{run_of, values_of}
 use Rattle.prl_rule.specs.Rule.{all_parts, first_part, first_parts}
 use Rattle.prl_rule.specs.RunValues.{RunValues}

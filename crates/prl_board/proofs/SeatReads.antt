@@ -21,12 +21,12 @@ use Rattle.prl_plan.specs.declared.graphs.Kind.TheVariants as kinds
 use Rattle.prl_plan.specs.Jobs.{task_at}
 use Rattle.prl_values.specs.BodyRuns.{place_of_run}
 use Rattle.prl_values.specs.JobValues.{body_of_task, reads_of_job}
-use Rattle.prl_board.specs.Openings.{IsFirstSeat}
+use Rattle.prl_seats.specs.JobSeats.{AnswersRelease, Follows, GoesOn, IsFirstSeat, IsSameSeat, JobSeatView, MayRaise, StaysAt}
 use Rattle.prl_board.proofs.Lows.{low_shut}
-use Rattle.prl_board.specs.declared.jobs.Release.{Release}
-use Rattle.prl_board.specs.declared.jobs.Release.TheVariants as releases
-use Rattle.prl_board.specs.declared.jobs.Stage.{Stage}
-use Rattle.prl_board.specs.declared.jobs.Stage.TheVariants as stages
+use Rattle.prl_seats.specs.declared.jobs.Release.{Release}
+use Rattle.prl_seats.specs.declared.jobs.Release.TheVariants as releases
+use Rattle.prl_seats.specs.declared.jobs.Stage.{Stage}
+use Rattle.prl_seats.specs.declared.jobs.Stage.TheVariants as stages
 use Rattle.prl_board.specs.declared.seats.Got.{Got}
 use Rattle.prl_board.specs.declared.seats.Got.TheVariants as gots
 use Rattle.prl_rule.specs.declared.views.Constants.{Constants}
@@ -35,12 +35,11 @@ use Rattle.prl_rule.specs.declared.views.TaskPart.{TaskPart}
 use Rattle.prl_rule.specs.declared.views.View.{View}
 use Rattle.prl_rule.specs.Agreement.{IsOverrun}
 use Rattle.prl_rule.specs.Told.{HalfTold, part_at, part_of}
-use Rattle.prl_board.specs.JobSeats.{AnswersRelease, Follows, GoesOn, IsSameSeat, JobSeatView, StaysAt}
 use Rattle.prl_rule.specs.Known.{job_values_of, registers_of, run_of, values_of}
 use Rattle.prl_rule.specs.Steps.{half_loaded, half_missed, half_taken, with_part}
-use Rattle.prl_board.specs.TaskSeats.{AnswersHalf, IsMachineOf, IsNoNode, MayRaise, Misses}
+use Rattle.prl_board.specs.TaskSeats.{AnswersHalf, IsMachineOf, IsNoNode, Misses}
 use Rattle.prl_board.specs.code.Lows.{IsLow, Works}
-use Rattle.prl_board.proofs.Following.{fresh_part, part_is}
+use Rattle.prl_seats.proofs.Following.{fresh_part, part_is}
 
 -- the worker where the seat has gone to
 works_at : (k : Constants) (after : JobSeatView) (worker : Worker) (task : TaskNo) (job place : ℕ) → after.task ≡ task → after.job ≡ job → after.place ≡ place →

@@ -1,5 +1,5 @@
 -- What is seen of the clock's seat, and what its ticks answer.
-use Rattle.std.specs.Prelude.{◌≡◌, ◌+◌, ◌<◌, ◌≤◌, ℕ, List, length, slice_index, Option, Some, None}
+use Rattle.std.specs.Prelude.{◌≡◌, ◌+◌, ◌<◌, ◌≤◌, ℕ, List, length, slice_index, Option, Some}
 use Rattle.atomic_table.specs.Seated.{TableId}
 use Rattle.prl_base.specs.declared.numbers.TaskNo.{TaskNo}
 use Rattle.prl_plan.specs.Facts.{IsJob}
@@ -9,7 +9,7 @@ use Rattle.prl_rule.specs.declared.views.ClockPart.{ClockPart}
 use Rattle.prl_rule.specs.declared.views.View.{View}
 use Rattle.prl_board.specs.declared.clocks.Ticked.{Ticked}
 use Rattle.prl_board.specs.declared.clocks.Ticked.TheVariants as ticks
-use Rattle.prl_board.specs.Boards.{BoardView}
+use Rattle.prl_seats.specs.Boards.{BoardView, NamesTask}
 use Rattle.prl_rule.specs.Told.{ClockStopTold, TickTold}
 use Rattle.prl_rule.specs.Known.{run_of}
 
@@ -50,11 +50,6 @@ AnswersTick k r before after (ticks.Now now) =
 AnswersTick k r before after (ticks.Behind task job) =
     (k.gate ≡ gates.Gated) × (r.now < (run_of k).end) × IsBehind k r task.0 job × (after ≡ before)
 AnswersTick k r before after ticks.End = (r.now ≡ (run_of k).end) × (after ≡ before)
-
--- what a load of the stop word answers: none where it is 0, else the task that it names
-abbrev pub NamesTask : ℕ → Option TaskNo → Type 0
-NamesTask word (Some task) = word ≡ task.0 + 1
-NamesTask word None = word ≡ 0
 
 -- after a load of the stop word by the clock's seat
 pub record AnswersStop (k : Constants) (r : ClockPart) (before after : ClockSeatView) (answer : Option TaskNo) : Type 0 where

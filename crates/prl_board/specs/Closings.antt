@@ -12,7 +12,7 @@ use Rattle.prl_board.specs.declared.seats.Half.TheVariants as halves
 use Rattle.prl_rule.specs.declared.views.Constants.{Constants}
 use Rattle.prl_rule.specs.declared.views.Gate.TheVariants as gates
 use Rattle.prl_rule.specs.Agreement.{done_word, now_word, slot_word, word_count}
-use Rattle.prl_board.specs.JobSeats.{IsStage, JobSeatView}
+use Rattle.prl_seats.specs.JobSeats.{IsStage, JobSeatView}
 use Rattle.prl_rule.specs.Known.{run_of, values_of}
 use Rattle.prl_rule.specs.Rule.{reached}
 use Rattle.prl_rule.specs.RunValues.{word_of}

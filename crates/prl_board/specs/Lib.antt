@@ -1,7 +1,3 @@
--- what is seen of a board
-pub mod Boards
--- what is seen of a task's seat of the table
-pub mod JobSeats
 -- where a task's seat stands, and what its reads answer
 pub mod TaskSeats
 -- what is seen of the clock's seat

@@ -4,8 +4,8 @@ use Rattle.atomic_table.specs.Seated.{TableId}
 use Rattle.prl_rule.specs.declared.views.ClockPart.{ClockPart}
 use Rattle.prl_rule.specs.declared.views.Constants.{Constants}
 use Rattle.prl_rule.specs.declared.views.View.{View}
-use Rattle.prl_board.specs.Boards.{BoardView}
-use Rattle.prl_board.specs.JobSeats.{Follows, IsSeatOf, JobSeatView, StaysAt}
+use Rattle.prl_seats.specs.Boards.{BoardView}
+use Rattle.prl_seats.specs.JobSeats.{Follows, IsSeatOf, JobSeatView, StaysAt}
 use Rattle.prl_rule.specs.Known.{run_of}
 
 -- its table, the view of its one seat there, and by task where its job stands

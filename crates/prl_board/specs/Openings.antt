@@ -1,17 +1,13 @@
 -- What stands at the opening of a board.
-use Rattle.std.specs.Prelude.{◌≡◌, ◌<◌, ◌≤◌, ℕ, List, length, replicate, false, Some, slice_get}
-use mathlib.Core.Option.{some}
-use lib.ListN.{get_elem?}
-use Rattle.prl_base.specs.declared.numbers.TaskNo.{TaskNo}
+use Rattle.std.specs.Prelude.{◌≡◌, ◌<◌, ◌≤◌, ℕ, List, length, replicate, Some, slice_get}
 use Rattle.prl_plan.specs.Runs.{RunConstants}
 use Rattle.prl_rule.specs.declared.views.ClockPart.{ClockPart}
 use Rattle.prl_rule.specs.declared.views.Constants.{Constants}
 use Rattle.prl_rule.specs.declared.views.View.{View}
-use Rattle.prl_board.specs.Boards.{BoardView}
+use Rattle.prl_seats.specs.Boards.{BoardView}
 use Rattle.prl_board.specs.ClockSeats.{ClockSeatView, IsClockOf}
-use Rattle.prl_board.specs.JobSeats.{IsSeatOf, IsStage, JobSeatView}
-use Rattle.prl_rule.specs.Known.{run_of, values_of}
-use Rattle.prl_rule.specs.Rule.{first_part}
+use Rattle.prl_seats.specs.JobSeats.{HasFirstPart, IsFirstSeat, IsSeatOf, JobSeatView}
+use Rattle.prl_rule.specs.Known.{run_of}
 
 -- the part of the clock at the opening
 abbrev pub first_clock : RunConstants → ClockPart
@@ -21,19 +17,6 @@ first_clock c = record { now = 0; looks = replicate c.tasks 0; count = 0; stop =
 pub record IsFirstClock (k : Constants) (view : View) : Type 0 where
   pub known : view.constants ≡ Some k
   pub part : view.clock ≡ Some (first_clock (run_of k))
-
--- in the view, which has the constants of the run, task i is as it was at the opening
-pub record HasFirstPart (k : Constants) (i : ℕ) (view : View) : Type 0 where
-  pub known : view.constants ≡ Some k
-  pub part : get_elem? view.tasks i ≡ some (Some (first_part ((values_of k).registers i 0)))
-
--- it is the seat of the task at the opening: no job has begun
-pub record IsFirstSeat (k : Constants) (i : TaskNo) (s : JobSeatView) : Type 0 where
-  pub part : HasFirstPart k i.0 s.view
-  pub task : s.task ≡ i
-  pub job : s.job ≡ 0
-  pub place : s.place ≡ 0
-  pub stage : IsStage (run_of k) i.0 0 0 false s.stage
 
 -- the seats are those of the tasks, in their order, at the opening
 pub record AreFirstSeats (b : BoardView) (seats : List JobSeatView) : Type 0 where

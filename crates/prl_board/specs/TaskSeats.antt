@@ -1,16 +1,15 @@
 -- Where a task's seat stands, and what its reads answer.
-use Rattle.std.specs.Prelude.{◌≡◌, ◌+◌, ◌/◌, ◌%◌, ◌^◌, ◌<◌, ℕ, zero, suc, nat_le, if◌then◌else◌, Option}
+use Rattle.std.specs.Prelude.{◌≡◌, ◌+◌, ◌/◌, ◌%◌, ◌^◌, ◌<◌, ℕ, zero, suc, nat_le, if◌then◌else◌}
 use Rattle.prl_base.specs.declared.numbers.CellNo.{CellNo}
 use Rattle.prl_base.specs.declared.numbers.EdgeNo.{EdgeNo}
-use Rattle.prl_base.specs.declared.numbers.TaskNo.{TaskNo}
 use Rattle.prl_plan.specs.declared.events.Action.{Action}
 use Rattle.prl_plan.specs.declared.events.Action.TheVariants as actions
 use Rattle.prl_plan.specs.declared.events.SlotNo.{SlotNo}
 use Rattle.prl_plan.specs.declared.graphs.Kind.TheVariants as kinds
 use Rattle.prl_plan.specs.Jobs.{task_at}
 use Rattle.prl_body.specs.Machines.{MachineState}
-use Rattle.prl_board.specs.declared.jobs.Stage.{Stage}
-use Rattle.prl_board.specs.declared.jobs.Stage.TheVariants as stages
+use Rattle.prl_seats.specs.declared.jobs.Stage.{Stage}
+use Rattle.prl_seats.specs.declared.jobs.Stage.TheVariants as stages
 use Rattle.prl_board.specs.declared.seats.Got.{Got}
 use Rattle.prl_board.specs.declared.seats.Got.TheVariants as gots
 use Rattle.prl_board.specs.declared.seats.Half.{Half}
@@ -20,11 +19,9 @@ use Rattle.prl_board.specs.declared.seats.Place.TheVariants as places
 use Rattle.prl_board.specs.declared.seats.Wrote.{Wrote}
 use Rattle.prl_rule.specs.declared.views.Constants.{Constants}
 use Rattle.prl_rule.specs.declared.views.Gate.TheVariants as gates
-use Rattle.prl_rule.specs.Agreement.{IsOverrun}
-use Rattle.prl_rule.specs.Told.{HalfTold, StopTold, WriteTold, part_at, part_of}
-use Rattle.prl_board.specs.ClockSeats.{NamesTask}
-use Rattle.prl_board.specs.JobSeats.{GoesOn, JobSeatView, StaysAt}
-use Rattle.prl_rule.specs.Known.{run_of, values_of}
+use Rattle.prl_rule.specs.Told.{HalfTold, WriteTold}
+use Rattle.prl_seats.specs.JobSeats.{GoesOn, JobSeatView, MayRaise, StaysAt}
+use Rattle.prl_rule.specs.Known.{values_of}
 
 -- which half of its cell a slot is
 abbrev pub half_at : ℕ → Half
@@ -88,16 +85,6 @@ pub record IsMissed (m : ℕ) (slot : SlotNo) (before after : JobSeatView) (word
   pub wants : wanted ≡ m + 1
   pub finds : found ≡ word / 2 ^ 32
   pub stays : StaysAt before after
-
--- it stands at a read of a half, of which it has loaded a later instance than the wanted one
-abbrev pub MayRaise : Constants → JobSeatView → Type 0
-MayRaise k s = IsOverrun (run_of k) s.task.0 (part_at k s.task.0 s.place s.view).stand (part_of s.task.0 s.view).kept
-
--- after a load of the stop word
-pub record TellsStop (k : Constants) (before after : JobSeatView) (answer : Option TaskNo) : Type 0 where
-  pub word : ℕ
-  pub told : StopTold k before.task.0 before.place before.view word after.view
-  pub names : NamesTask word answer
 
 -- What a read of a half of instance m answers, by the word that was loaded: with the wanted tag it goes on, and with the high half it gives
 -- the value of exactly this instance. On a gated board no later tag is found; where one is found, the seat may raise the stop.

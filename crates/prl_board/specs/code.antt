@@ -1,5 +1,3 @@
 -- What private functions say to one another.
-pub mod Kept
 pub mod Lows
-pub mod Joining
 pub mod Lent

@@ -10,8 +10,8 @@ ghost use Rattle.prl_board.specs.ClockSeats.{AnswersStop, AnswersTick, IsAllSeen
 ghost use Rattle.prl_board.specs.Openings.{IsFirstClock};
 ghost use Rattle.prl_rule.specs.Known.{run_of};
 
-use crate::board::{Board, Seat};
 use prl_base::TaskNo;
+use prl_seats::{Board, Seat};
 use std::marker::Model;
 use std::mem;
 

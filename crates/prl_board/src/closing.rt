@@ -11,18 +11,18 @@ ghost use Rattle.prl_rule.specs.declared.views.ClockPart.{ClockPart};
 ghost use Rattle.prl_rule.specs.declared.views.Constants.{Constants};
 ghost use Rattle.prl_board.specs.ClockSeats.{IsClockOf};
 ghost use Rattle.prl_board.specs.Closings.{AreOutputs, Drives, IsClosed, IsLastState, slot_of};
-ghost use Rattle.prl_board.specs.JobSeats.{JobSeatView};
+ghost use Rattle.prl_seats.specs.JobSeats.{JobSeatView};
 ghost use Rattle.prl_rule.specs.Known.{run_of};
 ghost use Rattle.prl_board.specs.Lones.{AreSeatsOf, IsLoneOf, StandAs};
 ghost use Rattle.prl_board.specs.TaskSeats.{IsMachineOf, IsNoNode};
 ghost use Rattle.prl_board.specs.code.Lent.{IsLeft};
 
-use crate::board::{Board, Words};
 use crate::clocks::ClockSeat;
 use crate::lone::gather;
 use crate::seats::{Half, TaskSeat};
 use prl_base::{CellNo, TaskNo, Value};
 use prl_body::Machine;
+use prl_seats::{Board, Words};
 use std::marker::Model;
 
 /// A closed board: what a run has come to. Contracts see a `ClosedView`.

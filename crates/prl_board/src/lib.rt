@@ -2,18 +2,14 @@
 //! each task and one for the clock. What holds between any two steps of theirs says `prl_rule`.
 #![tactic(auto)]
 
-mod board;
 mod clocks;
 mod closing;
-mod jobs;
 mod lone;
 mod openings;
 mod seats;
 
-pub use board::Board;
 pub use clocks::{ClockSeat, Ticked};
 pub use closing::{Closed, close};
-pub use jobs::{Release, Stage};
 pub use lone::{Lone, gather};
 pub use openings::open_board;
 pub use prl_rule::{
@@ -25,4 +21,5 @@ pub use prl_rule::{
     store_of_done_is_an_end, store_of_half_is_a_write, store_of_now_is_a_tick, unpack, whole,
     words_are_exact,
 };
+pub use prl_seats::{Board, Release, Stage};
 pub use seats::{Got, Half, Place, TaskSeat, Wrote};

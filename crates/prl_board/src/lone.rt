@@ -9,18 +9,18 @@ ghost use Rattle.prl_rule.specs.declared.views.Constants.{Constants};
 ghost use Rattle.prl_rule.specs.declared.views.TaskPart.{TaskPart};
 ghost use Rattle.prl_board.specs.ClockSeats.{IsClockOf};
 ghost use Rattle.prl_rule.specs.Agreement.{now_word};
-ghost use Rattle.prl_board.specs.JobSeats.{Follows, IsSeatOf, JobSeatView, StaysAt};
+ghost use Rattle.prl_seats.specs.JobSeats.{Follows, IsSeatOf, JobSeatView, StaysAt};
 ghost use Rattle.prl_board.specs.Lones.{AreSeatsOf, IsLoneOf, IsWhole, StandAs};
 ghost use Rattle.prl_board.specs.TaskSeats.{place_of};
 ghost use Rattle.prl_rule.specs.Steps.{bare};
 ghost use Rattle.prl_board.specs.code.Lent.{IsLent, IsSettled};
 
-use crate::board::{Board, Seat};
 use crate::clocks::ClockSeat;
 use crate::closing::Closed;
 use crate::seats::{Place, TaskSeat};
 use prl_base::TaskNo;
 use prl_rule::plan_laws;
+use prl_seats::{Board, Seat};
 use std::marker::Model;
 
 /// One thread that holds all seats of a board: each has lent its part to one seat of the table. Contracts see a `LoneView`.

@@ -7,7 +7,6 @@ ghost use Rattle.prl_values.specs.Fitting.{HaveTaskBodies, HaveTypedRows};
 ghost use Rattle.prl_rule.specs.Known.{known, run_of};
 ghost use Rattle.prl_board.specs.Openings.{AreFirstSeats, AreLeft, IsFirstClockOf};
 
-use crate::board::{Board, Seat, zeros};
 use crate::clocks::ClockSeat;
 use crate::seats::TaskSeat;
 use prl_base::TaskNo;
@@ -15,6 +14,7 @@ use prl_body::Bodies;
 use prl_flow::Sensors;
 use prl_plan::{Horizon, Plan};
 use prl_rule::Gate;
+use prl_seats::{Board, Seat, zeros};
 use std::alloc::{AllocError, Global};
 
 /// The seats of all tasks, in the order of tasks, whose parts they take from this one.

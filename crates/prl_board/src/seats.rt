@@ -3,26 +3,23 @@
 ghost use Rattle.std.specs.Prelude.{◌≡◌, ◌%◌, ◌<◌, ◌≤◌, ℕ, [], IfOk, MatchOption, Some};
 ghost use Rattle.std.specs.Bool.{OnFalse, OnTrue};
 ghost use Rattle.prl_plan.specs.declared.events.Action.TheVariants as actions;
-ghost use Rattle.prl_board.specs.declared.jobs.Stage.TheVariants as stages;
+ghost use Rattle.prl_seats.specs.declared.jobs.Stage.TheVariants as stages;
 ghost use Rattle.prl_rule.specs.declared.views.Constants.{Constants};
 ghost use Rattle.prl_workers.specs.Workers.{HasBegun};
-ghost use Rattle.prl_board.specs.code.Joining.{reseated};
+ghost use Rattle.prl_seats.specs.JobSeats.{AnswersRelease, Ends, Follows, HasFirstPart, HasPartOf, IsFirstSeat, IsSameSeat, IsSeatOf, MayRaise, StaysAt, TellsStop, reseated};
 ghost use Rattle.prl_board.specs.code.Lows.{Gives, MayGive};
 ghost use Rattle.prl_board.specs.Closings.{AreOutputs, Drives, IsNoActuator};
 ghost use Rattle.prl_plan.specs.declared.graphs.Kind.TheVariants as kinds;
 ghost use Rattle.prl_plan.specs.Jobs.{task_at};
-ghost use Rattle.prl_board.specs.JobSeats.{AnswersRelease, Ends, Follows, HasPartOf, IsSameSeat, IsSeatOf, StaysAt};
-ghost use Rattle.prl_board.specs.Openings.{HasFirstPart, IsFirstSeat};
 ghost use Rattle.prl_rule.specs.Told.{RaiseTold};
 ghost use Rattle.prl_rule.specs.Known.{run_of};
-ghost use Rattle.prl_board.specs.TaskSeats.{AnswersAction, AnswersRead, AnswersWrite, IsMachineOf, IsNoNode, MayFinish, MayRaise, MayRead, MayRelease, MayWrite, Misses, ReadsHalf, TellsStop, WritesAction, half_at, place_of};
+ghost use Rattle.prl_board.specs.TaskSeats.{AnswersAction, AnswersRead, AnswersWrite, IsMachineOf, IsNoNode, MayFinish, MayRead, MayRelease, MayWrite, Misses, ReadsHalf, WritesAction, half_at, place_of};
 
-use crate::board::{Board, Seat};
-use crate::jobs::{JobSeat, Release, Stage};
 use prl_base::{CellNo, EdgeNo, TaskNo, Value};
 use prl_body::Machine;
 use prl_plan::{Action, SlotNo};
 use prl_rule::{halves, halves_are_exact, unpack, whole};
+use prl_seats::{Board, JobSeat, Release, Seat, Stage};
 use prl_workers::{Work, Worker};
 use std::alloc::{AllocError, Global};
 use std::marker::Model;
@@ -90,7 +87,7 @@ pub struct TaskSeat {
 impl Model for TaskSeat {
     ghost use Rattle.std.specs.Prelude.{◌≡◌, Some};
     ghost use Rattle.prl_rule.specs.declared.views.Constants.{Constants};
-    ghost use Rattle.prl_board.specs.JobSeats.{JobSeatView};
+    ghost use Rattle.prl_seats.specs.JobSeats.{JobSeatView};
     ghost use Rattle.prl_board.specs.code.Lows.{IsLow, Works};
     ghost use Rattle.prl_body.specs.contracts.codes.Code as code;
     ghost use Rattle.std.specs.Coded.{codes};
@@ -445,3 +442,10 @@ impl TaskSeat {
         self.job.stopped(board)
     }
 }
+
+/// A task's seat may go to another thread.
+fn seats_are_sent() {
+    is_sent::<TaskSeat>();
+}
+
+fn is_sent<T: Send>() {}

@@ -2,8 +2,8 @@
 use Rattle.std.proofs.Common.{◌≡◌, ◌≢◌, ◌⊎◌, ℕ, zero, suc, ◌<◌, List, [], ◌∷◌, length, length-set, set, get_or, inl, inr, ⊎_elim, arith, refl, sym, ap, subst, ◌∙◌, Some}
 use Rattle.std.proofs.lemmas.Option.{slice_get_read}
 use Rattle.std.specs.Prelude.{slice_get}
-use Rattle.prl_board.specs.Boards.{BoardView}
-use Rattle.prl_board.specs.JobSeats.{IsSeatOf, JobSeatView}
+use Rattle.prl_seats.specs.Boards.{BoardView}
+use Rattle.prl_seats.specs.JobSeats.{IsSeatOf, JobSeatView}
 use Rattle.prl_board.specs.Lones.{AreSeatsOf}
 use Rattle.prl_board.specs.Openings.{AreFirstSeats}
 

@@ -4,7 +4,7 @@ ghost use Rattle.std.specs.Prelude.{◌≡◌, ◌≤◌, [], IfSome};
 ghost use Rattle.std.specs.Vec.{vec_items};
 ghost use Rattle.prl_board.specs.ClockSeats.{IsClockOf};
 ghost use Rattle.prl_rule.specs.declared.views.ClockPart.{ClockPart};
-ghost use Rattle.prl_board.specs.JobSeats.{IsSeatOf};
+ghost use Rattle.prl_seats.specs.JobSeats.{IsSeatOf};
 ghost use Rattle.prl_rule.specs.Known.{run_of};
 ghost use Rattle.prl_board.specs.Openings.{AreFirstSeats};
 ghost use Rattle.prl_plan.specs.Horizons.{IsHorizon};

@@ -8,7 +8,7 @@ use Rattle.prl_rule.specs.Agreement.{word_count}
 use Rattle.prl_rule.specs.Told.{part_of}
 use Rattle.prl_board.specs.ClockSeats.{ClockSeatView, IsClockData}
 use Rattle.prl_board.specs.Closings.{IsClosed}
-use Rattle.prl_board.specs.JobSeats.{Follows, JobSeatView}
+use Rattle.prl_seats.specs.JobSeats.{Follows, JobSeatView}
 use Rattle.prl_rule.specs.Known.{run_of}
 use Rattle.prl_rule.specs.Steps.{bare}
 

@@ -9,10 +9,10 @@ use Rattle.prl_plan.specs.Plans.{low, high}
 use Rattle.prl_plan.specs.Runs.{action_at}
 use Rattle.prl_workers.specs.declared.workers.Worker.{Worker}
 use Rattle.prl_workers.specs.Workers.{IsWorker}
-use Rattle.prl_board.specs.declared.jobs.Stage.{Stage}
-use Rattle.prl_board.specs.declared.jobs.Stage.TheVariants as stages
+use Rattle.prl_seats.specs.declared.jobs.Stage.{Stage}
+use Rattle.prl_seats.specs.declared.jobs.Stage.TheVariants as stages
 use Rattle.prl_rule.specs.declared.views.Constants.{Constants}
-use Rattle.prl_board.specs.JobSeats.{JobSeatView}
+use Rattle.prl_seats.specs.JobSeats.{JobSeatView}
 use Rattle.prl_rule.specs.Known.{job_values_of, run_of, values_of}
 use Rattle.prl_rule.specs.RunValues.{half_of}
 

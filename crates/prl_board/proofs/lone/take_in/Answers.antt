@@ -2,8 +2,8 @@ use Rattle.std.proofs.Common.{◌≡◌, sym, ap, subst, ◌∙◌, Some}
 use mathlib.Core.Option.{some}
 use lib.ListN.{get_elem?}
 use Rattle.prl_rule.specs.Told.{part_of}
-use Rattle.prl_board.specs.JobSeats.{HasPartOf, JobSeatView}
-use Rattle.prl_board.proofs.Joining.{clock_stays, mine_stays, tasks_apart, theirs_comes}
+use Rattle.prl_seats.specs.JobSeats.{HasPartOf, JobSeatView}
+use Rattle.prl_board.proofs.Merging.{clock_stays, mine_stays, tasks_apart, theirs_comes}
 use Rattle.prl_board.proofs.Lending.{bare_has_none, follows_with}
 use Rattle.prl_board.proofs.lone.take_in.Goals as goal
 

@@ -1,7 +1,7 @@
 use Rattle.std.proofs.Common.{◌≡◌, ◌<◌, ◌≤◌, ℕ, length, vec_items, Some}
 use Rattle.std.specs.Prelude.{slice_get}
 use Rattle.prl_rule.specs.declared.views.ClockPart.{ClockPart}
-use Rattle.prl_board.specs.JobSeats.{JobSeatView, StaysAt}
+use Rattle.prl_seats.specs.JobSeats.{JobSeatView, StaysAt}
 use Rattle.prl_board.specs.code.Lent.{IsLent}
 use Rattle.prl_board.proofs.lone.take_in_all.Given as goal
 

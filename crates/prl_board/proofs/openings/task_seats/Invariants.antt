@@ -1,7 +1,7 @@
 use Rattle.std.proofs.Common.{◌≡◌, ℕ, length, vec_items, Some}
 use Rattle.std.specs.Prelude.{slice_get}
-use Rattle.prl_board.specs.JobSeats.{IsSeatOf, JobSeatView}
-use Rattle.prl_board.specs.Openings.{AreLeft, IsFirstSeat}
+use Rattle.prl_seats.specs.JobSeats.{IsFirstSeat, IsSeatOf, JobSeatView}
+use Rattle.prl_board.specs.Openings.{AreLeft}
 use Rattle.prl_board.proofs.openings.task_seats.Given as goal
 
 -- the seats of the tasks so far, and the parts that are left

@@ -1,7 +1,7 @@
 use Rattle.std.proofs.Common.{◌≡◌}
 use Rattle.prl_rule.specs.declared.views.ClockPart.{ClockPart}
 use Rattle.prl_board.specs.ClockSeats.{IsClockOf}
-use Rattle.prl_board.specs.JobSeats.{IsSeatOf}
+use Rattle.prl_seats.specs.JobSeats.{IsSeatOf}
 use Rattle.test_board.proofs.boards.play.Given as goal
 
 -- the seats belong to the board

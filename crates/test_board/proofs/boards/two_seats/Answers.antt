@@ -1,5 +1,5 @@
 use Rattle.std.proofs.Common.{vec_items}
-use Rattle.prl_board.specs.JobSeats.{IsSeatOf}
+use Rattle.prl_seats.specs.JobSeats.{IsSeatOf}
 use Rattle.test_board.proofs.Popped.{last_two}
 use Rattle.test_board.proofs.boards.two_seats.Goals as goal
 

@@ -3,7 +3,7 @@ use Rattle.std.specs.Prelude.{slice_get}
 use mathlib.Core.Logic.{dite}
 use native.Mathlib.Decide.{ℕ_discrete}
 use Rattle.prl_board.specs.Closings.{ClosedView}
-use Rattle.prl_board.specs.JobSeats.{JobSeatView}
+use Rattle.prl_seats.specs.JobSeats.{JobSeatView}
 use Rattle.prl_board.proofs.ClosedBoards.{all_over, not_over}
 use Rattle.prl_board.proofs.Lending.{read_there}
 use Rattle.prl_board.proofs.closing.Closed.ended.Goals as goal

@@ -1,6 +1,6 @@
 use Rattle.std.specs.Prelude.{◌≡◌, ◌<◌, ℕ, Some, slice_get}
-use Rattle.prl_board.specs.declared.jobs.Stage.TheVariants as stages
-use Rattle.prl_board.specs.JobSeats.{JobSeatView}
+use Rattle.prl_seats.specs.declared.jobs.Stage.TheVariants as stages
+use Rattle.prl_seats.specs.JobSeats.{JobSeatView}
 use Rattle.prl_board.proofs.closing.Closed.ended.Given as goal
 
 -- the seats so far are over

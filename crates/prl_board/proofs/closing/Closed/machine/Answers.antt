@@ -3,7 +3,7 @@ use Rattle.std.specs.Prelude.{slice_get, MatchOption}
 use Rattle.prl_base.specs.declared.numbers.TaskNo.{TaskNo}
 use Rattle.prl_rule.specs.declared.views.View.{View}
 use Rattle.prl_board.specs.Closings.{ClosedView}
-use Rattle.prl_board.specs.JobSeats.{JobSeatView}
+use Rattle.prl_seats.specs.JobSeats.{JobSeatView}
 use Rattle.prl_board.specs.TaskSeats.{IsMachineOf, IsNoNode}
 use Rattle.prl_board.proofs.Lending.{read_there}
 use Rattle.prl_board.proofs.closing.Closed.machine.Goals as goal

@@ -6,7 +6,7 @@ use Rattle.prl_rule.specs.Known.{run_of}
 use Rattle.prl_rule.specs.declared.views.Constants.{Constants}
 use Rattle.prl_rule.specs.declared.views.View.{View}
 use Rattle.prl_board.specs.Closings.{AreOutputs, ClosedView, Drives}
-use Rattle.prl_board.specs.JobSeats.{JobSeatView}
+use Rattle.prl_seats.specs.JobSeats.{JobSeatView}
 use Rattle.prl_board.proofs.Actuators.{drives_after}
 use Rattle.prl_board.proofs.Lending.{read_there}
 use Rattle.prl_board.proofs.closing.Closed.output.Goals as goal

@@ -2,7 +2,7 @@ use Rattle.std.proofs.Common.{◌≡◌, ℕ, get_or, sym, ap, subst, ◌∙◌,
 use Rattle.std.specs.Mem.Slots.{slots_items}
 use Rattle.std.specs.Prelude.{slice_get}
 use Rattle.prl_board.specs.Closings.{ClosedView}
-use Rattle.prl_board.specs.JobSeats.{JobSeatView}
+use Rattle.prl_seats.specs.JobSeats.{JobSeatView}
 use Rattle.prl_board.specs.Lones.{LoneView}
 use Rattle.prl_board.specs.code.Lent.{IsSettled}
 use Rattle.prl_board.proofs.ClosedBoards.{closed_from, closing_clock}

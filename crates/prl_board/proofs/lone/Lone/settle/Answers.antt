@@ -1,10 +1,10 @@
 use Rattle.std.proofs.Common.{◌≡◌, ◌<◌, ℕ, length, set, sym, ap, subst, ◌∙◌, vec_items, Some}
 use lib.ListN.{get_elem?}
 use Rattle.prl_base.specs.declared.numbers.TaskNo.{TaskNo}
-use Rattle.prl_board.specs.JobSeats.{JobSeatView}
+use Rattle.prl_seats.specs.JobSeats.{JobSeatView}
 use Rattle.prl_board.specs.Lones.{LoneView, StandAs}
 use Rattle.prl_board.specs.code.Lent.{AreLent, IsLent, IsSettled}
-use Rattle.prl_board.proofs.Following.{known_once}
+use Rattle.prl_seats.proofs.Following.{known_once}
 use Rattle.prl_board.proofs.Lending.{read_there, relent, set_is, stands_set}
 use Rattle.prl_board.proofs.lone.Lone.settle.Goals as goal
 

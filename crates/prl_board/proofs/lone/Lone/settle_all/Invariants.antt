@@ -1,6 +1,6 @@
 use Rattle.std.proofs.Common.{◌≡◌, ◌<◌, ℕ, Some}
 use Rattle.std.specs.Prelude.{slice_get}
-use Rattle.prl_board.specs.JobSeats.{JobSeatView}
+use Rattle.prl_seats.specs.JobSeats.{JobSeatView}
 use Rattle.prl_board.specs.Lones.{IsLoneOf, StandAs}
 use Rattle.prl_board.specs.code.Lent.{IsSettled}
 use Rattle.prl_board.proofs.lone.Lone.settle_all.Given as goal

@@ -1,7 +1,6 @@
 use Rattle.std.proofs.Common.{◌≡◌, sym, ap, subst, ◌∙◌, Some}
 use Rattle.prl_rule.specs.declared.views.Constants.{Constants}
-use Rattle.prl_board.specs.JobSeats.{Follows, HasPartOf, JobSeatView}
-use Rattle.prl_board.specs.code.Joining.{reseated}
+use Rattle.prl_seats.specs.JobSeats.{Follows, HasPartOf, JobSeatView, reseated}
 use Rattle.prl_board.proofs.SeatReads.{Keeps}
 use Rattle.prl_board.proofs.seats.TaskSeat.exchange.Goals as goal
 

@@ -1,11 +1,11 @@
 use Rattle.std.proofs.Common.{◌≡◌, ◌+◌, sym, ap, subst, ◌∙◌, Some}
 use Rattle.prl_plan.specs.declared.events.Action.TheVariants as actions
 use Rattle.prl_plan.specs.Facts.{IsJob}
-use Rattle.prl_board.specs.declared.jobs.Stage.TheVariants as stages
-use Rattle.prl_board.specs.JobSeats.{Follows, HasPartOf, IsStage, JobSeatView}
+use Rattle.prl_seats.specs.declared.jobs.Stage.TheVariants as stages
+use Rattle.prl_seats.specs.JobSeats.{Follows, HasPartOf, IsStage, JobSeatView}
 use Rattle.prl_rule.specs.Known.{run_of}
 use Rattle.prl_board.specs.TaskSeats.{MayFinish, place_of}
-use Rattle.prl_board.proofs.Following.{known_once}
+use Rattle.prl_seats.proofs.Following.{known_once}
 use Rattle.prl_board.proofs.Lows.{low_shut}
 use Rattle.prl_board.proofs.SeatReads.{Keeps, end_kept}
 use Rattle.prl_board.proofs.TaskPlaces.{ending_is_end}

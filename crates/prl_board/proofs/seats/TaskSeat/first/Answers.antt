@@ -1,4 +1,4 @@
-use Rattle.prl_board.proofs.Following.{known_once}
+use Rattle.prl_seats.proofs.Following.{known_once}
 use Rattle.prl_board.proofs.SeatReads.{Keeps, first_kept}
 use Rattle.prl_board.proofs.seats.TaskSeat.first.Goals as goal
 

@@ -5,7 +5,7 @@ use Rattle.prl_rule.specs.Known.{job_values_of}
 use Rattle.prl_workers.specs.declared.workers.Work.TheVariants as works
 use Rattle.prl_workers.specs.Workers.{IsWork, once}
 use Rattle.prl_board.specs.Closings.{IsNoActuator}
-use Rattle.prl_board.specs.JobSeats.{JobSeatView}
+use Rattle.prl_seats.specs.JobSeats.{JobSeatView}
 use Rattle.prl_board.proofs.seats.TaskSeat.has_output.Goals as goal
 
 pub returns-in-Actuator-clause-yes : goal.returns-in-Actuator-clause-yes

@@ -1,7 +1,7 @@
 use Rattle.std.proofs.Common.{ap, subst, ◌∙◌}
 use Rattle.std.specs.Prelude.{MatchOption}
 use Rattle.prl_workers.specs.Workers.{HasMachine, HasNoMachine}
-use Rattle.prl_board.specs.JobSeats.{JobSeatView}
+use Rattle.prl_seats.specs.JobSeats.{JobSeatView}
 use Rattle.prl_board.specs.TaskSeats.{IsMachineOf, IsNoNode}
 use Rattle.prl_board.proofs.SeatReads.{machine_is, match_mono, no_machine}
 use Rattle.prl_board.proofs.seats.TaskSeat.machine.Goals as goal

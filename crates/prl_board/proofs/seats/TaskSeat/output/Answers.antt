@@ -6,7 +6,7 @@ use Rattle.prl_rule.specs.Known.{job_values_of, run_of}
 use Rattle.prl_workers.specs.declared.workers.Work.TheVariants as works
 use Rattle.prl_workers.specs.Workers.{IsWork, once}
 use Rattle.prl_board.specs.Closings.{AreOutputs, Drives}
-use Rattle.prl_board.specs.JobSeats.{JobSeatView}
+use Rattle.prl_seats.specs.JobSeats.{JobSeatView}
 use Rattle.prl_board.proofs.Outputs.{column_outputs}
 use Rattle.prl_board.proofs.seats.TaskSeat.output.Goals as goal
 

@@ -1,14 +1,14 @@
 use Rattle.std.proofs.Common.{arith, ◌≡◌, ◌+◌, ◌/◌, ◌%◌, ◌^◌, ℕ, sym, ap, subst, ◌∙◌}
 use Rattle.prl_plan.specs.declared.events.Action.TheVariants as actions
 use Rattle.prl_plan.specs.Plans.{low}
-use Rattle.prl_board.specs.declared.jobs.Stage.TheVariants as stages
+use Rattle.prl_seats.specs.declared.jobs.Stage.TheVariants as stages
 use Rattle.prl_board.specs.declared.seats.Got.TheVariants as gots
 use Rattle.prl_rule.specs.Halves.{AreHalves, value_of_halves}
-use Rattle.prl_board.specs.JobSeats.{JobSeatView, LoadsHalf, StaysAt}
+use Rattle.prl_seats.specs.JobSeats.{JobSeatView, LoadsHalf, StaysAt}
 use Rattle.prl_rule.specs.Known.{run_of, values_of}
 use Rattle.prl_rule.specs.RunValues.{half_of}
 use Rattle.prl_board.specs.TaskSeats.{ReadsHalf}
-use Rattle.prl_board.proofs.Following.{known_once}
+use Rattle.prl_seats.proofs.Following.{known_once}
 use Rattle.prl_board.proofs.HalfReads.{finds_half, stands_at}
 use Rattle.prl_board.proofs.Lows.{cell_of_high, low_after_read, value_of_both}
 use Rattle.prl_board.proofs.SeatReads.{Keeps, goes_kept, may_raise, misses_answer, stays_kept}

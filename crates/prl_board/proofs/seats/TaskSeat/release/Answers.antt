@@ -1,7 +1,7 @@
 use Rattle.std.proofs.Common.{◌≡◌, sym, ap, subst, ◌∙◌, Some}
-use Rattle.prl_board.specs.JobSeats.{Follows, HasPartOf, JobSeatView}
+use Rattle.prl_seats.specs.JobSeats.{Follows, HasPartOf, JobSeatView}
 use Rattle.prl_board.specs.TaskSeats.{MayRelease, place_of}
-use Rattle.prl_board.proofs.Following.{known_once}
+use Rattle.prl_seats.proofs.Following.{known_once}
 use Rattle.prl_board.proofs.Lows.{low_released}
 use Rattle.prl_board.proofs.SeatReads.{Keeps, release_kept}
 use Rattle.prl_board.proofs.TaskPlaces.{released_is_shut}

@@ -1,5 +1,5 @@
 use Rattle.std.proofs.Common.{◌≡◌, Some, subst}
-use Rattle.prl_board.specs.JobSeats.{Follows, HasPartOf, JobSeatView}
+use Rattle.prl_seats.specs.JobSeats.{Follows, HasPartOf, JobSeatView}
 use Rattle.prl_board.proofs.seats.TaskSeat.stands.Goals as goal
 
 pub returns : goal.returns

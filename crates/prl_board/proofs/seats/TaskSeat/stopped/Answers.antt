@@ -1,6 +1,6 @@
 use Rattle.std.proofs.Common.{◌≡◌, sym, ap, subst, ◌∙◌, Some}
-use Rattle.prl_board.specs.JobSeats.{HasPartOf, JobSeatView}
-use Rattle.prl_board.proofs.Following.{known_once}
+use Rattle.prl_seats.specs.JobSeats.{HasPartOf, JobSeatView}
+use Rattle.prl_seats.proofs.Following.{known_once}
 use Rattle.prl_board.proofs.SeatReads.{Keeps, stays_kept}
 use Rattle.prl_board.proofs.seats.TaskSeat.stopped.Goals as goal
 

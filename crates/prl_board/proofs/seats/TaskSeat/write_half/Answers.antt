@@ -4,13 +4,13 @@ use Rattle.prl_base.specs.Values.{FitsValue}
 use Rattle.prl_plan.specs.declared.events.Action.TheVariants as actions
 use Rattle.prl_plan.specs.Facts.{IsJob}
 use Rattle.prl_plan.specs.Runs.{action_at}
-use Rattle.prl_board.specs.declared.jobs.Stage.{Stage}
-use Rattle.prl_board.specs.declared.jobs.Stage.TheVariants as stages
-use Rattle.prl_board.specs.JobSeats.{Follows, HasPartOf, JobSeatView}
+use Rattle.prl_seats.specs.declared.jobs.Stage.{Stage}
+use Rattle.prl_seats.specs.declared.jobs.Stage.TheVariants as stages
+use Rattle.prl_seats.specs.JobSeats.{Follows, HasPartOf, JobSeatView}
 use Rattle.prl_rule.specs.Known.{run_of, values_of}
 use Rattle.prl_rule.specs.RunValues.{half_of}
 use Rattle.prl_board.specs.code.Lows.{MayGive}
-use Rattle.prl_board.proofs.Following.{known_once}
+use Rattle.prl_seats.proofs.Following.{known_once}
 use Rattle.prl_board.proofs.Lows.{low_after_write}
 use Rattle.prl_board.proofs.SeatReads.{Keeps, goes_kept}
 use Rattle.prl_board.proofs.Worked.{write_left, write_own}
