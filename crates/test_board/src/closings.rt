@@ -7,11 +7,11 @@ ghost use Rattle.prl_rule.specs.declared.views.Constants.{Constants};
 ghost use Rattle.prl_rule.specs.Known.{run_of};
 ghost use Rattle.prl_board.specs.ClockSeats.{IsClockOf};
 ghost use Rattle.prl_board.specs.Lones.{AreSeatsOf};
-ghost use Rattle.test_board.specs.Pairs.{pair, pair_values};
+ghost use Rattle.test_board.specs.Pairs.{IsClosedPair, pair, pair_values};
 
 use crate::boards::{act, tick, until_20};
 use crate::pairs::{pair_is_served, pair_plan, pair_rows};
-use prl_base::{CellNo, TaskNo};
+use prl_base::{CellNo, TaskNo, Value};
 use prl_board::{Board, ClockSeat, Closed, Gate, Half, TaskSeat, close, open_board};
 use prl_body::Bodies;
 use prl_flow::Sensors;
@@ -20,7 +20,7 @@ use std::alloc::{AllocError, Global};
 use std::test::Fail;
 
 /// The board of the pair until 20, with all its seats.
-fn opened<'a>(
+pub(crate) fn opened<'a>(
     alloc: Global,
     plan: &'a Plan,
     bodies: &'a Bodies,
@@ -34,6 +34,7 @@ fn opened<'a>(
     ensures clock { IfSome result (λ r. (q : ClockPart) × IsClockOf r.0 r.2 q) }
     ensures tasks { IfSome result (λ r. 2 ≤ (run_of r.0.known).tasks) }
     ensures cells { IfSome result (λ r. (run_of r.0.known).slots ≡ 2 * sum plan.now.counts) }
+    ensures graph { IfSome result (λ r. r.0.known.plan.graph ≡ pair) }
 {
     pair_is_served();
     let horizon = until_20(plan)?;
@@ -89,18 +90,17 @@ fn play(board: &Board, seats: &mut Vec<TaskSeat>, clock: &mut ClockSeat, moves: 
 
 /// What a closed board shows.
 #[derive(Debug, PartialEq, Eq, Drop)]
-struct Summary {
-    now: u64,
+pub(crate) struct Summary {
+    pub(crate) now: u64,
     /// By task, how many jobs have ended.
-    done: (u64, u64),
+    pub(crate) done: (u64, u64),
     /// The words of the low and the high half of the one cell.
-    words: (u64, u64),
-    ended: bool,
+    pub(crate) words: (u64, u64),
+    pub(crate) ended: bool,
 }
 
-fn shown(closed: &Closed) -> Summary
-    requires tasks { 2 ≤ length closed.now.seats }
-    requires cells { (k : Constants) × (closed.now.constants ≡ Some k) × (2 ≤ (run_of k).slots) }
+pub(crate) fn shown(closed: &Closed) -> Summary
+    requires { IsClosedPair closed.now }
 {
     Summary {
         now: closed.now(),
@@ -113,55 +113,99 @@ fn shown(closed: &Closed) -> Summary
     }
 }
 
+/// What the ended jobs of the actuator's task have read.
+pub(crate) fn read_values(closed: &Closed) -> &[Value]
+    requires { IsClosedPair closed.now }
+{
+    closed.output(0)
+}
+
+/// Closes a board of the pair, where the plan has a cell.
+pub(crate) fn closed_pair(
+    plan: &Plan,
+    board: Board,
+    seats: Vec<TaskSeat>,
+    clock: ClockSeat,
+) -> Option<Closed>
+    requires seats { AreSeatsOf board (vec_items seats) }
+    requires clock { (r : ClockPart) × IsClockOf board clock r }
+    requires tasks { 2 ≤ (run_of board.known).tasks }
+    requires cells { (run_of board.known).slots ≡ 2 * sum plan.now.counts }
+    requires graph { board.known.plan.graph ≡ pair }
+    ensures { IfSome result IsClosedPair }
+{
+    if plan.total() == 0 {
+        return None;
+    }
+    Some(close(board, seats, clock))
+}
+
 /// What the moves on a new board come to, when it is closed after them.
-fn closed_after(alloc: Global, gate: Gate, moves: &[u8]) -> Option<Summary> {
+fn closed_after(alloc: Global, gate: Gate, moves: &[u8]) -> Option<Closed>
+    ensures { IfSome result IsClosedPair }
+{
     let plan = pair_plan(alloc)?;
     let bodies = Bodies::none(alloc);
     let sensors = pair_rows(alloc).ok()?;
     let (board, mut seats, mut clock) = opened(alloc, &plan, &bodies, &sensors, gate)?;
     play(&board, &mut seats, &mut clock, moves);
-    if plan.total() == 0 {
-        return None;
-    }
-    Some(shown(&close(board, seats, clock)))
+    closed_pair(&plan, board, seats, clock)
 }
 
 #[test]
 fn an_overrun_cell_holds_the_later_instance(rt: HostRuntime) -> Result<(), Fail> {
-    let shown = closed_after(rt.alloc(), Gate::Free, b"iiiittttttttttiiioo").ok_or("no board")?;
+    let closed = closed_after(rt.alloc(), Gate::Free, b"iiiittttttttttiiioo").ok_or("no board")?;
     let later = Summary {
         now: 10,
         done: (1, 0),
         words: (8589934594, 8589934592),
         ended: false,
     };
-    assert_eq!(rt; shown, later);
+    assert_eq!(rt; shown(&closed), later);
+    assert_eq!(rt; read_values(&closed), [].as_slice());
     Ok(())
 }
 
 #[test]
 fn a_whole_run_has_ended(rt: HostRuntime) -> Result<(), Fail> {
     let moves = b"iiiitootoottttttttiiiitoooo";
-    let shown = closed_after(rt.alloc(), Gate::Gated, moves).ok_or("no board")?;
+    let closed = closed_after(rt.alloc(), Gate::Gated, moves).ok_or("no board")?;
     let whole = Summary {
         now: 11,
         done: (2, 2),
         words: (8589934594, 8589934592),
         ended: true,
     };
-    assert_eq!(rt; shown, whole);
+    assert_eq!(rt; shown(&closed), whole);
+    assert_eq!(rt;
+        read_values(&closed),
+        [Value::Int(1), Value::Int(2)].as_slice()
+    );
     Ok(())
 }
 
 #[test]
 fn nothing_has_happened_at_the_opening(rt: HostRuntime) -> Result<(), Fail> {
-    let shown = closed_after(rt.alloc(), Gate::Gated, b"").ok_or("no board")?;
+    let closed = closed_after(rt.alloc(), Gate::Gated, b"").ok_or("no board")?;
     let nothing = Summary {
         now: 0,
         done: (0, 0),
         words: (0, 0),
         ended: false,
     };
-    assert_eq!(rt; shown, nothing);
+    assert_eq!(rt; shown(&closed), nothing);
+    assert_eq!(rt; read_values(&closed), [].as_slice());
+    Ok(())
+}
+
+#[test]
+fn an_ended_job_has_its_value(rt: HostRuntime) -> Result<(), Fail> {
+    let moves = b"iiiitooot";
+    let closed = closed_after(rt.alloc(), Gate::Gated, moves).ok_or("no board")?;
+    assert_eq!(rt; closed.done(TaskNo(1)), 0);
+    assert_eq!(rt; read_values(&closed), [].as_slice());
+    let moves = b"iiiitoooo";
+    let closed = closed_after(rt.alloc(), Gate::Gated, moves).ok_or("no board")?;
+    assert_eq!(rt; read_values(&closed), [Value::Int(1)].as_slice());
     Ok(())
 }

@@ -9,3 +9,5 @@ mod closings;
 mod halves;
 #[cfg(test)]
 mod pairs;
+#[cfg(test)]
+mod threads;
