@@ -79,12 +79,12 @@ relent k u v i seats s clock lent was known others same mine = record {
   };
 }
 
-set_here : {A : Type 0} (xs : List A) (i : ℕ) (a b : A) → slice_get xs i ≡ Some b → slice_get (set xs i a) i ≡ Some a
+pub set_here : {A : Type 0} (xs : List A) (i : ℕ) (a b : A) → slice_get xs i ≡ Some b → slice_get (set xs i a) i ≡ Some a
 set_here [] i a b e = absurd (cc e)
 set_here (x ∷ xs) zero a b e = refl
 set_here (x ∷ xs) (suc i) a b e = set_here xs i a b e
 
-set_else : {A : Type 0} (xs : List A) (i j : ℕ) (a : A) → j ≢ i → slice_get (set xs i a) j ≡ slice_get xs j
+pub set_else : {A : Type 0} (xs : List A) (i j : ℕ) (a : A) → j ≢ i → slice_get (set xs i a) j ≡ slice_get xs j
 set_else [] i j a ne = refl
 set_else (x ∷ xs) zero zero a ne = absurd (ne refl)
 set_else (x ∷ xs) zero (suc j) a ne = refl

@@ -12,3 +12,5 @@ mod Lending
 mod ClosedBoards
 mod Actuators
 mod Outputs
+mod Called
+mod Found

@@ -4,9 +4,11 @@
 
 mod clocks;
 mod closing;
+mod lends;
 mod lone;
 mod openings;
 mod seats;
+mod steps;
 
 pub use clocks::{ClockSeat, Ticked};
 pub use closing::{Closed, close};
@@ -23,3 +25,4 @@ pub use prl_rule::{
 };
 pub use prl_seats::{Board, Release, Stage};
 pub use seats::{Got, Half, Place, TaskSeat, Wrote};
+pub use steps::Steps;

@@ -1,6 +1,6 @@
 //! One thread that holds all seats of a board.
 
-ghost use Rattle.std.specs.Prelude.{◌≡◌, ◌<◌, ℕ, [], length, Some, slice_get, slice_index};
+ghost use Rattle.std.specs.Prelude.{◌≡◌, ◌+◌, ◌<◌, ℕ, [], length, Some, slice_get, slice_index};
 ghost use Rattle.std.specs.Vec.{vec_items};
 ghost use mathlib.Core.Option.{some};
 ghost use lib.ListN.{get_elem?};
@@ -9,19 +9,25 @@ ghost use Rattle.prl_rule.specs.declared.views.Constants.{Constants};
 ghost use Rattle.prl_rule.specs.declared.views.TaskPart.{TaskPart};
 ghost use Rattle.prl_board.specs.ClockSeats.{IsClockOf};
 ghost use Rattle.prl_rule.specs.Agreement.{now_word};
-ghost use Rattle.prl_seats.specs.JobSeats.{Follows, IsSeatOf, JobSeatView, StaysAt};
-ghost use Rattle.prl_board.specs.Lones.{AreSeatsOf, IsLoneOf, IsWhole, StandAs};
-ghost use Rattle.prl_board.specs.TaskSeats.{place_of};
+ghost use Rattle.prl_seats.specs.JobSeats.{AnswersRelease, Ends, Follows, IsSeatOf, JobSeatView, StaysAt};
+ghost use Rattle.prl_board.specs.Lones.{AreSeatsOf, FindsTag, IsClockCall, IsLoneOf, IsPlacedAt, IsReleasedBy, IsTaskCall, IsTicked, IsWhole, StandAs};
+ghost use Rattle.prl_board.specs.TaskSeats.{AnswersRead, AnswersWrite, MayFinish, MayRead, MayRelease, MayWrite, place_of};
+ghost use Rattle.prl_rule.specs.Known.{run_of};
 ghost use Rattle.prl_rule.specs.Steps.{bare};
+ghost use Rattle.prl_rule.specs.Told.{LookTold};
 ghost use Rattle.prl_board.specs.code.Lent.{IsLent, IsSettled};
 
-use crate::clocks::ClockSeat;
+use prl_seats::{Board, Seat};
+use crate::clocks::{ClockSeat, Ticked};
 use crate::closing::Closed;
-use crate::seats::{Place, TaskSeat};
+use prl_seats::Release;
+use crate::lends::{finish_lent, look_lent, read_lent, release_lent, tick_lent, write_lent};
+use crate::seats::{Got, Place, TaskSeat, Wrote};
+use crate::steps::Steps;
 use prl_base::TaskNo;
 use prl_rule::plan_laws;
-use prl_seats::{Board, Seat};
 use std::marker::Model;
+use std::sync::ledger::Ledger;
 
 /// One thread that holds all seats of a board: each has lent its part to one seat of the table. Contracts see a `LoneView`.
 #[derive(Drop)]
@@ -44,7 +50,7 @@ impl Model for Lone {
 
     ghost coded = { Prim.hlevel (codes, code.the_row.coded) };
 
-    ghost view = { λ l. record { table = l.whole.table_id; view = l.whole.me.0; seats = vec_items l.seats } };
+    ghost view = { λ l. record { table = l.whole.table_id; id = l.whole.id; view = l.whole.me.0; seats = vec_items l.seats } };
 
     ghost invariant = { λ l. (l.whole.me.1 ≡ []) × ((k : Constants) → l.whole.me.0.constants ≡ Some k → AreLent k l.whole.me.0 (vec_items l.seats) l.clock) };
 }
@@ -163,6 +169,92 @@ impl Lone {
             self.stands();
             self.settle(board, i);
         }
+    }
+
+    /// Loads `now`, which is the clock's. The task's next job opens where it is one of the horizon, and released. Takes no memory.
+    pub fn release<L: Ledger>(
+        &mut self,
+        board: &Board,
+        task: TaskNo,
+        steps: &mut Steps<L>,
+    ) -> Release
+        requires lone { IsLoneOf board.now self.old }
+        requires place { IsPlacedAt MayRelease self.old task.0 }
+        ensures lone { IsLoneOf board.now self.new }
+        ensures call { IsTaskCall task.0 self.old self.new (λ s t. AnswersRelease board.now.known s t result × (t.place ≡ s.place)) }
+        ensures exact { (s : JobSeatView) (r : ClockPart) → slice_get self.old.seats task.0 ≡ Some s → self.old.view.clock ≡ Some r →
+            IsReleasedBy board.now.known s r.now result }
+        ensures step { steps.new ≡ steps.old + 1 }
+    {
+        steps.tick();
+        release_lent(board, &mut self.whole, &mut self.seats[task.0 as usize])
+    }
+
+    /// Does the next action of the task's job, which is a read, as `TaskSeat::read` does. What it finds of a half is what the
+    /// task left there that alone writes it. Takes no memory.
+    pub fn read<L: Ledger>(&mut self, board: &Board, task: TaskNo, steps: &mut Steps<L>) -> Got
+        requires lone { IsLoneOf board.now self.old }
+        requires place { IsPlacedAt MayRead self.old task.0 }
+        ensures lone { IsLoneOf board.now self.new }
+        ensures call { IsTaskCall task.0 self.old self.new (λ s t. AnswersRead board.now.known s t result s.stage) }
+        ensures exact { (s : JobSeatView) → slice_get self.old.seats task.0 ≡ Some s →
+            FindsTag (run_of board.now.known) self.old.seats s.stage result }
+        ensures step { steps.new ≡ steps.old + 1 }
+    {
+        steps.tick();
+        read_lent(board, &mut self.whole, &mut self.seats[task.0 as usize])
+    }
+
+    /// Does the next action of the task's job, which is the write of one half of its instance, as `TaskSeat::write` does. Takes
+    /// no memory.
+    pub fn write<L: Ledger>(&mut self, board: &Board, task: TaskNo, steps: &mut Steps<L>) -> Wrote
+        requires lone { IsLoneOf board.now self.old }
+        requires place { IsPlacedAt MayWrite self.old task.0 }
+        ensures lone { IsLoneOf board.now self.new }
+        ensures call { IsTaskCall task.0 self.old self.new (λ s t. AnswersWrite board.now.known s t result s.stage) }
+        ensures step { steps.new ≡ steps.old + 1 }
+    {
+        steps.tick();
+        write_lent(board, &mut self.whole, &mut self.seats[task.0 as usize])
+    }
+
+    /// Ends the task's job, as `TaskSeat::finish` does. Takes no memory.
+    pub fn finish<L: Ledger>(&mut self, board: &Board, task: TaskNo, steps: &mut Steps<L>)
+        requires lone { IsLoneOf board.now self.old }
+        requires place { IsPlacedAt MayFinish self.old task.0 }
+        ensures lone { IsLoneOf board.now self.new }
+        ensures call { IsTaskCall task.0 self.old self.new (λ s t. Ends board.now.known s t) }
+        ensures step { steps.new ≡ steps.old + 1 }
+    {
+        steps.tick();
+        finish_lent(board, &mut self.whole, &mut self.seats[task.0 as usize]);
+    }
+
+    /// Loads how many jobs of the task have ended, and the clock keeps it. Takes no memory.
+    pub fn look<L: Ledger>(&mut self, board: &Board, task: TaskNo, steps: &mut Steps<L>) -> u64
+        requires lone { IsLoneOf board.now self.old }
+        requires task { task.0 < length self.old.seats }
+        ensures lone { IsLoneOf board.now self.new }
+        ensures call { IsClockCall self.old self.new }
+        ensures told { (r : ClockPart) → self.old.view.clock ≡ Some r → LookTold board.now.known task.0 r self.old.view result self.new.view }
+        ensures exact { (s : JobSeatView) → slice_get self.old.seats task.0 ≡ Some s → result ≡ s.job }
+        ensures step { steps.new ≡ steps.old + 1 }
+    {
+        steps.tick();
+        look_lent(board, &mut self.whole, &mut self.clock, task)
+    }
+
+    /// Where no horizon job that is due by then is left to be seen, `now` grows by 1; on a free board it grows in any case.
+    /// Takes no memory.
+    pub fn tick<L: Ledger>(&mut self, board: &Board, steps: &mut Steps<L>) -> Ticked
+        requires lone { IsLoneOf board.now self.old }
+        ensures lone { IsLoneOf board.now self.new }
+        ensures call { IsClockCall self.old self.new }
+        ensures answer { (r : ClockPart) → self.old.view.clock ≡ Some r → IsTicked board.now.known r self.old.view self.new.view result }
+        ensures step { steps.new ≡ steps.old + 1 }
+    {
+        steps.tick();
+        tick_lent(board, &mut self.whole, &mut self.clock)
     }
 
     /// Closes the board, which is the one that the seats belong to. Takes no memory, and cannot be refused.

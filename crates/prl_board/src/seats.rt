@@ -226,6 +226,7 @@ impl TaskSeat {
         ensures seat { IsSeatOf board.now self.new }
         ensures same { IsSameSeat self.old self.new }
         ensures answer { AnswersRelease board.now.known self.old self.new result }
+        ensures place { self.new.place ≡ self.old.place }
     {
         board.keeps_facts();
         self.job.stands();

@@ -107,7 +107,7 @@ pub(crate) fn tick(board: &Board, clock: &mut ClockSeat) -> Ticked
 }
 
 /// One letter for what was done.
-fn letter_of(did: Did) -> u8 {
+pub(crate) fn letter_of(did: Did) -> u8 {
     match did {
         Did::Released(Release::Open { .. }) => b'r',
         Did::Released(Release::Early { .. }) => b'e',

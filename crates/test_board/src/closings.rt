@@ -45,7 +45,7 @@ pub(crate) fn opened<'a>(
 }
 
 /// Whose task a letter names.
-fn task_of(letter: u8) -> usize
+pub(crate) fn task_of(letter: u8) -> u32
     ensures { result < 2 }
 {
     if letter == b'i' { 0 } else { 1 }
@@ -72,7 +72,7 @@ fn step(board: &Board, seats: &mut Vec<TaskSeat>, clock: &mut ClockSeat, letter:
     if letter == b't' {
         tick(board, clock);
     } else {
-        act_at(board, seats, task_of(letter));
+        act_at(board, seats, task_of(letter) as usize);
     }
 }
 

@@ -8,6 +8,8 @@ mod closings;
 #[cfg(test)]
 mod halves;
 #[cfg(test)]
+mod lone_runs;
+#[cfg(test)]
 mod pairs;
 #[cfg(test)]
 mod threads;

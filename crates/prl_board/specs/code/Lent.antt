@@ -1,5 +1,6 @@
 -- What one thread that holds all seats keeps: each seat has lent what it knew to one seat of the table.
 use Rattle.std.specs.Prelude.{◌≡◌, ℕ, List, length, Some, slice_get}
+use lib.ListN.{get_elem?}
 use Rattle.prl_plan.specs.Plans.{IsPlan}
 use Rattle.prl_rule.specs.declared.views.ClockPart.{ClockPart}
 use Rattle.prl_rule.specs.declared.views.Constants.{Constants}
@@ -32,6 +33,23 @@ pub record AreLent (k : Constants) (view : View) (seats : List JobSeatView) (clo
 -- the part of task i stands where its seat does
 abbrev pub IsSettled : View → ℕ → JobSeatView → Type 0
 IsSettled view i s = ((part_of i view).stand.ended ≡ s.job) × ((part_of i view).stand.place ≡ s.place)
+
+-- two views differ by the part of task i at most
+pub record IsElsewhere (i : ℕ) (before after : View) : Type 0 where
+  pub parts : (j : ℕ) → (j ≡ i → ⊥) → get_elem? after.tasks j ≡ get_elem? before.tasks j
+  pub clock : after.clock ≡ before.clock
+
+-- a call of the seat of task i has given back the view that was lent to it
+pub record IsReturned (k : Constants) (i : ℕ) (before after : View) (s : JobSeatView) : Type 0 where
+  pub known : after.constants ≡ Some k
+  pub elsewhere : IsElsewhere i before after
+  pub lent : IsLent k after i s
+
+-- and so has a call of the clock's seat
+pub record IsClockReturned (k : Constants) (before after : View) (s : ClockSeatView) : Type 0 where
+  pub known : after.constants ≡ Some k
+  pub tasks : after.tasks ≡ before.tasks
+  pub lent : IsLentClock k after s
 
 -- what a closed board keeps: the words and the seats show a state that the run has come to, and the seats have lent what they knew
 pub record IsLeft (k : Constants) (view : View) (words : List ℕ) (wide : ℕ) (seats : List JobSeatView) : Type 0 where
