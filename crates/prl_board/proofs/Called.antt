@@ -1,7 +1,6 @@
 -- What a call of a seat leaves to the one thread that has lent it the view that has all parts.
-use Rattle.std.proofs.Common.{◌≡◌, ◌<◌, ℕ, refl, sym, ap, ◌∙◌, subst, set, length-set, arith, List, Some, None}
+use Rattle.std.proofs.Common.{◌≡◌, ◌<◌, ℕ, sym, ap, ◌∙◌, subst, set, length-set, arith, List, Some, None}
 use Rattle.std.specs.Prelude.{slice_get}
-use mathlib.Core.Option.{some}
 use lib.ListN.{get_elem?}
 use Rattle.atomic_table.specs.Seated.{TableId}
 use Rattle.prl_rule.specs.declared.views.ClockPart.{ClockPart}
@@ -11,9 +10,8 @@ use Rattle.prl_rule.specs.declared.views.View.{View}
 use Rattle.prl_rule.specs.Steps.{bare, ticked, with_clock, with_part}
 use Rattle.prl_rule.specs.Told.{LookTold, part_of}
 use Rattle.prl_seats.specs.Boards.{BoardView}
-use Rattle.prl_board.specs.ClockSeats.{ClockSeatView, IsClockData, IsClockOf}
+use Rattle.prl_board.specs.ClockSeats.{AnswersTick, ClockSeatView, IsClockData, IsClockOf}
 use Rattle.prl_base.specs.declared.numbers.TaskNo.{TaskNo}
-use Rattle.prl_plan.specs.declared.events.Action.{Action}
 use Rattle.prl_plan.specs.declared.events.Action.TheVariants as actions
 use Rattle.prl_board.specs.declared.clocks.Ticked.{Ticked}
 use Rattle.prl_board.specs.declared.clocks.Ticked.TheVariants as ticks
@@ -23,13 +21,11 @@ use Rattle.prl_seats.specs.declared.jobs.Stage.{Stage}
 use Rattle.prl_seats.specs.declared.jobs.Stage.TheVariants as stages
 use Rattle.prl_board.specs.declared.seats.Got.{Got}
 use Rattle.prl_board.specs.declared.seats.Wrote.{Wrote}
-use Rattle.prl_board.specs.ClockSeats.{AnswersTick}
 use Rattle.prl_seats.specs.JobSeats.{AnswersRelease, Follows, IsSeatOf, JobSeatView}
-use Rattle.prl_board.specs.Lones.{IsReleasedBy, IsTaskCall, IsTicked, LoneView}
+use Rattle.prl_board.specs.Lones.{IsReleasedBy, IsTaskCall, IsTicked}
 use Rattle.prl_board.specs.TaskSeats.{AnswersRead, AnswersWrite}
 use Rattle.prl_seats.specs.JobSeats.{reseated}
-use Rattle.prl_board.specs.code.Lent.{AreLent, IsClockReturned, IsElsewhere, IsLent, IsReturned}
-use Rattle.prl_rule.specs.Known.{run_of}
+use Rattle.prl_board.specs.code.Lent.{AreLent, IsClockReturned, IsElsewhere, IsReturned}
 use Rattle.atomic_table.proofs.Lists.{set_else as part_else}
 use Rattle.prl_seats.proofs.Following.{ended_is}
 use Rattle.prl_board.proofs.Lending.{follows_with, relent, set_else, set_here}

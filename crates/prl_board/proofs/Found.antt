@@ -15,8 +15,7 @@ use Rattle.prl_rule.specs.declared.views.View.{View}
 use Rattle.prl_rule.specs.Known.{run_of, values_of}
 use Rattle.prl_rule.specs.Halves.{bits_of, tagged}
 use Rattle.prl_rule.specs.RunValues.{RunValues, half_of, half_with, word_of}
-use Rattle.prl_rule.specs.Steps.{AreConstants}
-use Rattle.prl_rule.specs.Told.{part_at, part_of}
+use Rattle.prl_rule.specs.Told.{part_of}
 use Rattle.prl_board.specs.declared.seats.Got.{Got}
 use Rattle.prl_board.specs.declared.seats.Got.TheVariants as gots
 use Rattle.prl_seats.specs.JobSeats.{Follows, JobSeatView}

@@ -3,3 +3,4 @@ mod Worked
 mod Popped
 mod Seats
 mod Overruns
+mod Placed

@@ -1,4 +1,4 @@
-use Rattle.std.proofs.Common.{◌≡◌, [], sym, ap, subst, ◌∙◌}
+use Rattle.std.proofs.Common.{[], sym, ap, subst, ◌∙◌}
 use Rattle.prl_rule.specs.declared.views.View.{View}
 use Rattle.prl_seats.specs.JobSeats.{Follows, HasPartOf, JobSeatView}
 use Rattle.prl_seats.proofs.Following.{known_once}

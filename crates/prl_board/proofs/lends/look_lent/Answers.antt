@@ -1,5 +1,4 @@
-use Rattle.std.proofs.Common.{◌≡◌, sym, ap, subst, ◌∙◌, Some}
-use Rattle.prl_rule.specs.declared.views.ClockPart.{ClockPart}
+use Rattle.std.proofs.Common.{sym, ap, subst, ◌∙◌}
 use Rattle.prl_rule.specs.declared.views.View.{View}
 use Rattle.prl_rule.specs.Told.{LookTold}
 use Rattle.prl_board.specs.ClockSeats.{ClockSeatView, IsClockOf}

@@ -1,4 +1,4 @@
-use Rattle.std.proofs.Common.{◌≡◌, sym, ap, subst, ◌∙◌}
+use Rattle.std.proofs.Common.{sym, ap, subst, ◌∙◌}
 use Rattle.prl_seats.specs.JobSeats.{AnswersRelease, JobSeatView}
 use Rattle.prl_board.specs.TaskSeats.{MayRelease, place_of}
 use Rattle.prl_board.specs.code.Lent.{IsElsewhere}

@@ -1,5 +1,4 @@
-use Rattle.std.proofs.Common.{◌≡◌, sym, ap, ◌∙◌, Some}
-use Rattle.prl_rule.specs.declared.views.ClockPart.{ClockPart}
+use Rattle.std.proofs.Common.{sym, ap, ◌∙◌}
 use Rattle.prl_rule.specs.declared.views.View.{View}
 use Rattle.prl_board.specs.ClockSeats.{ClockSeatView, IsClockOf}
 use Rattle.prl_board.proofs.Called.{bare_has_no_clock, clock_returned, tick_leaves, ticked_by}

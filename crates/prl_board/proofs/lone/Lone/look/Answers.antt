@@ -1,4 +1,4 @@
-use Rattle.std.proofs.Common.{◌≡◌, ◌<◌, ◌∙◌, length, sym, ap, subst, vec_items, arith, Some}
+use Rattle.std.proofs.Common.{◌∙◌, length, ap, subst, vec_items, arith}
 use Rattle.std.specs.Prelude.{slice_get}
 use Rattle.prl_rule.specs.Told.{LookTold}
 use Rattle.prl_board.specs.Lones.{LoneView}
