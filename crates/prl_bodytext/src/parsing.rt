@@ -1,64 +1,67 @@
 //! From a text to its bodies, or to its first fault.
 
 ghost use Rattle.std.specs.Prelude.{◌≡◌, ◌≢◌, ◌<◌, ◌^◌, length, IfOk, IfErr, Ok, Err};
-ghost use Rattle.prl_base.specs.Reading.{GivesBut};
 ghost use Rattle.prl_body.specs.Texts.{text_trees};
 ghost use Rattle.prl_bodytext.specs.Parsing.{IsParsed};
-ghost use Rattle.prl_bodytext.specs.code.Outcomes.{of_lexical, FaultOfStop, bodies_of_tokens, bodies_of};
+ghost use Rattle.prl_bodytext.specs.code.Outcomes.{of_text};
 
 use crate::bodies::bodies;
-use crate::ranges::BodyRanges;
-use crate::words::BodySpelling;
+use crate::ranges::greatest;
+use crate::words::{Fixed, KEYWORDS, SYMBOLS, class_of};
 use prl_body::{BodyFault, BodyTexts};
-use prl_grammar::{Stop, Terminal, out_of_range, place_of, terminals_of};
-use prl_lex::{LexFault, lex};
+use prl_grammar::{Stop, Syntax, Terminal, TextFault, class_in, read_text};
+use prl_lex::LexFault;
 use std::alloc::Global;
 
-fn of_lexical(fault: LexFault) -> BodyFault
-    ensures { result ≡ of_lexical fault }
+/// The texts of bodies.
+struct BodySyntax;
+
+impl Syntax for BodySyntax {
+    ghost use Rattle.std.specs.Prelude.{List};
+    ghost use Rattle.prl_body.specs.Texts.{Tree as Nested, TextTree, text_trees};
+    ghost use Rattle.prl_bodytext.specs.Parsing.{body_texts};
+
+    type Tree = BodyTexts;
+
+    ghost Inner = { Nested };
+
+    ghost Seen = { List TextTree };
+
+    ghost texts = { body_texts };
+
+    ghost seen = { text_trees };
+
+    fn keyword(word: &[u8]) -> Option<u8> {
+        class_in(&KEYWORDS, word)
+    }
+
+    fn symbol(bytes: &[u8]) -> Option<u8> {
+        class_in(&SYMBOLS, bytes)
+    }
+
+    fn inside_after(inside: bool, class: u8) -> bool {
+        class == class_of(Fixed::Reg) || (class != class_of(Fixed::Semicolon) && inside)
+    }
+
+    fn fits(inside: bool, last: u8, number: u64) -> bool {
+        number <= greatest(inside, last)
+    }
+
+    fn read(alloc: Global, terminals: &[Terminal]) -> Result<BodyTexts, Stop> {
+        bodies(alloc, terminals)
+    }
+}
+
+fn of_text(fault: TextFault) -> BodyFault
+    ensures { result ≡ of_text fault }
 {
     match fault {
-        LexFault::BadToken(at) | LexFault::NumberRange(at) => BodyFault::Syntax(at),
-        LexFault::Limit(limit) => BodyFault::Limit(limit),
-        LexFault::Memory => BodyFault::Memory,
+        TextFault::Lexical(LexFault::BadToken(at)) => BodyFault::Syntax(at),
+        TextFault::Lexical(LexFault::NumberRange(at)) => BodyFault::Syntax(at),
+        TextFault::Lexical(LexFault::Limit(limit)) => BodyFault::Limit(limit),
+        TextFault::Unexpected(at) | TextFault::NumberRange(at) => BodyFault::Syntax(at),
+        TextFault::Lexical(LexFault::Memory) | TextFault::Memory => BodyFault::Memory,
     }
-}
-
-fn of_stop(terminals: &[Terminal], end: u32, stop: Stop) -> BodyFault
-    ensures { FaultOfStop terminals.now end stop result }
-{
-    match stop {
-        Stop::Unexpected(left) => BodyFault::Syntax(place_of(terminals, left, end)),
-        Stop::Memory => BodyFault::Memory,
-    }
-}
-
-/// The bodies that the tokens are.
-#[tactic(auto, unfolding(crate::specs::code::Outcomes::bodies_of_tokens))]
-fn bodies_of_tokens(alloc: Global, terminals: &[Terminal], end: u32) -> Result<BodyTexts, BodyFault>
-    ensures { GivesBut BodyFault.Memory text_trees result (bodies_of_tokens terminals.now end) }
-{
-    let bodies = match bodies(alloc, terminals) {
-        Ok(bodies) => bodies,
-        Err(stop) => return Err(of_stop(terminals, end, stop)),
-    };
-    match out_of_range::<BodyRanges>(terminals) {
-        Some(at) => Err(BodyFault::Syntax(at)),
-        None => Ok(bodies),
-    }
-}
-
-#[tactic(auto, unfolding(crate::specs::code::Outcomes::bodies_of))]
-fn parsed(alloc: Global, text: &[u8]) -> Result<BodyTexts, BodyFault>
-    requires { length text.now < 2 ^ 32 }
-    ensures { GivesBut BodyFault.Memory text_trees result (bodies_of text.now) }
-{
-    let tokens = match lex(alloc, text) {
-        Ok(tokens) => tokens,
-        Err(fault) => return Err(of_lexical(fault)),
-    };
-    let terminals = terminals_of::<BodySpelling>(alloc, text, tokens.as_slice())?;
-    bodies_of_tokens(alloc, terminals.as_slice(), text.len() as u32)
 }
 
 /// The bodies of the text. Else, in this order: the first fault of its tokens, which is `Limit` for a name of
@@ -72,5 +75,8 @@ pub fn parse_bodies(alloc: Global, text: &[u8]) -> Result<BodyTexts, BodyFault>
     // A fault is the first one of the text, unless memory ran out.
     ensures fault { IfErr result (λ fault. fault ≢ BodyFault.Memory → IsParsed text.now (Err fault)) }
 {
-    parsed(alloc, text)
+    match read_text::<BodySyntax>(alloc, text) {
+        Ok(bodies) => Ok(bodies),
+        Err(fault) => Err(of_text(fault)),
+    }
 }

@@ -1,10 +1,7 @@
 //! The keywords and symbols of bodies.
 
 ghost use Rattle.std.specs.Prelude.{◌≡◌, ◌≤◌};
-ghost use Rattle.prl_grammar.specs.Lexing.{row_of};
-ghost use Rattle.prl_bodytext.specs.Words.{class_of, plain_keywords, operator_keywords, punctuation, comparisons, arithmetic, keyword_of, symbol_of};
-
-use prl_grammar::Spelling;
+ghost use Rattle.prl_bodytext.specs.Words.{class_of};
 
 /// A keyword or a symbol of bodies.
 #[derive(Clone, Copy, Debug, PartialEq, Eq)]
@@ -45,101 +42,41 @@ pub enum Fixed {
     Star,
     Slash,
     Percent,
-    /// A symbol that bodies do not have.
-    Foreign,
 }
 
-fn plain_keyword_of(word: &[u8]) -> Option<Fixed>
-    ensures { result ≡ row_of plain_keywords word.now }
-{
-    match word {
-        b"body" => Some(Fixed::Body),
-        b"reg" => Some(Fixed::Reg),
-        b"true" => Some(Fixed::True),
-        b"false" => Some(Fixed::False),
-        b"if" => Some(Fixed::If),
-        _ => None,
-    }
-}
+/// The keywords by their bytes, with the class of each in the grammar.
+pub const KEYWORDS: [(&[u8], u8); 9] = [
+    (b"body", Fixed::Body as u8),
+    (b"reg", Fixed::Reg as u8),
+    (b"true", Fixed::True as u8),
+    (b"false", Fixed::False as u8),
+    (b"if", Fixed::If as u8),
+    (b"or", Fixed::Or as u8),
+    (b"xor", Fixed::Xor as u8),
+    (b"and", Fixed::And as u8),
+    (b"not", Fixed::Not as u8),
+];
 
-fn operator_keyword_of(word: &[u8]) -> Option<Fixed>
-    ensures { result ≡ row_of operator_keywords word.now }
-{
-    match word {
-        b"or" => Some(Fixed::Or),
-        b"xor" => Some(Fixed::Xor),
-        b"and" => Some(Fixed::And),
-        b"not" => Some(Fixed::Not),
-        _ => None,
-    }
-}
-
-/// The keyword that the word is.
-pub fn keyword_of(word: &[u8]) -> Option<Fixed>
-    ensures { result ≡ keyword_of word.now }
-{
-    match plain_keyword_of(word) {
-        Some(fixed) => Some(fixed),
-        None => operator_keyword_of(word),
-    }
-}
-
-fn punctuation_of(symbol: &[u8]) -> Option<Fixed>
-    ensures { result ≡ row_of punctuation symbol.now }
-{
-    match symbol {
-        b"(" => Some(Fixed::Open),
-        b")" => Some(Fixed::Close),
-        b"{" => Some(Fixed::Begin),
-        b"}" => Some(Fixed::End),
-        b"," => Some(Fixed::Comma),
-        b";" => Some(Fixed::Semicolon),
-        _ => None,
-    }
-}
-
-fn comparison_of(symbol: &[u8]) -> Option<Fixed>
-    ensures { result ≡ row_of comparisons symbol.now }
-{
-    match symbol {
-        b"=" => Some(Fixed::Equals),
-        b"<>" => Some(Fixed::Unequal),
-        b"<" => Some(Fixed::Less),
-        b"<=" => Some(Fixed::AtMost),
-        b">" => Some(Fixed::Greater),
-        b">=" => Some(Fixed::AtLeast),
-        _ => None,
-    }
-}
-
-fn arithmetic_of(symbol: &[u8]) -> Option<Fixed>
-    ensures { result ≡ row_of arithmetic symbol.now }
-{
-    match symbol {
-        b"+" => Some(Fixed::Plus),
-        b"-" => Some(Fixed::Minus),
-        b"*" => Some(Fixed::Star),
-        b"/" => Some(Fixed::Slash),
-        b"%" => Some(Fixed::Percent),
-        _ => None,
-    }
-}
-
-/// The symbol that the bytes are.
-pub fn symbol_of(symbol: &[u8]) -> Fixed
-    ensures { result ≡ symbol_of symbol.now }
-{
-    match punctuation_of(symbol) {
-        Some(fixed) => fixed,
-        None => match comparison_of(symbol) {
-            Some(fixed) => fixed,
-            None => match arithmetic_of(symbol) {
-                Some(fixed) => fixed,
-                None => Fixed::Foreign,
-            },
-        },
-    }
-}
+/// The symbols by their bytes, with the class of each in the grammar.
+pub const SYMBOLS: [(&[u8], u8); 17] = [
+    (b"(", Fixed::Open as u8),
+    (b")", Fixed::Close as u8),
+    (b"{", Fixed::Begin as u8),
+    (b"}", Fixed::End as u8),
+    (b",", Fixed::Comma as u8),
+    (b";", Fixed::Semicolon as u8),
+    (b"=", Fixed::Equals as u8),
+    (b"<>", Fixed::Unequal as u8),
+    (b"<", Fixed::Less as u8),
+    (b"<=", Fixed::AtMost as u8),
+    (b">", Fixed::Greater as u8),
+    (b">=", Fixed::AtLeast as u8),
+    (b"+", Fixed::Plus as u8),
+    (b"-", Fixed::Minus as u8),
+    (b"*", Fixed::Star as u8),
+    (b"/", Fixed::Slash as u8),
+    (b"%", Fixed::Percent as u8),
+];
 
 /// The class of the keyword or symbol in the grammar.
 pub fn class_of(fixed: Fixed) -> u8
@@ -147,24 +84,4 @@ pub fn class_of(fixed: Fixed) -> u8
     ensures from_two { 2 ≤ result }
 {
     fixed as u8
-}
-
-/// The keywords and symbols of bodies.
-pub struct BodySpelling;
-
-impl Spelling for BodySpelling {
-    ghost use Rattle.prl_bodytext.specs.Words.{body_vocabulary};
-
-    ghost vocabulary = { body_vocabulary };
-
-    fn keyword(word: &[u8]) -> Option<u8> {
-        match keyword_of(word) {
-            Some(keyword) => Some(class_of(keyword)),
-            None => None,
-        }
-    }
-
-    fn symbol(bytes: &[u8]) -> u8 {
-        class_of(symbol_of(bytes))
-    }
 }

@@ -13,3 +13,4 @@ pub mod Loops
 pub mod Ending
 pub mod Outcomes
 pub mod RangeFaults
+pub mod TextTrees

@@ -9,5 +9,7 @@ pub mod Language
 pub mod Whole
 pub mod Numbers
 pub mod Ranges
+-- The tree of a text, or its first fault.
+pub mod Texts
 -- What private functions say to one another.
 pub mod code

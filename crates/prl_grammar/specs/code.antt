@@ -7,3 +7,4 @@ pub mod Languages
 pub mod Whole
 pub mod Loops
 pub mod LookAhead
+pub mod Texts

@@ -7,9 +7,13 @@
 mod lexing;
 mod numbers;
 mod reading;
+mod syntax;
 mod terminals;
+mod texts;
 
-pub use lexing::{Spelling, terminals_of};
-pub use numbers::{Ranged, negative, out_of_range, positive};
+pub use lexing::{FOREIGN, class_in, terminals_of};
+pub use numbers::{negative, out_of_range, positive};
 pub use reading::{Stop, expect, name, next_is, number, place_of};
+pub use syntax::Syntax;
 pub use terminals::Terminal;
+pub use texts::{TextFault, read_text};

@@ -4,6 +4,7 @@ ghost use Rattle.std.specs.Prelude.{◌≡◌, false};
 ghost use Rattle.prl_grammar.specs.Numbers.{negative, positive};
 ghost use Rattle.prl_grammar.specs.Ranges.{is_fault, out_of_range};
 
+use crate::syntax::Syntax;
 use crate::terminals::Terminal;
 use prl_base::{MAX_POSITIVE, Value};
 
@@ -24,41 +25,25 @@ pub fn negative(number: u64) -> Value
     Value::Int(-((number - 1).min(MAX_POSITIVE) as i64) - 1)
 }
 
-/// The ranges of a language's numbers.
-pub trait Ranged {
-    ghost use Rattle.std.specs.Prelude.{◌≡◌};
-    ghost use Rattle.prl_grammar.specs.Ranges.{Ranges, inside_after};
-
-    ghost ranges: { Ranges };
-
-    /// Whether a part with ranges of its own goes on after a token of the class.
-    fn inside_after(inside: bool, class: u8) -> bool
-        ensures { result ≡ inside_after ranges inside class };
-
-    /// Whether a number is in its range, in such a part or not, and after a token of the class.
-    fn fits(inside: bool, last: u8, number: u64) -> bool
-        ensures { result ≡ ranges.fits inside last number };
-}
-
 /// Whether the token is a number out of its range.
-fn is_fault<R: Ranged>(inside: bool, last: u8, terminal: &Terminal) -> bool
-    ensures { result ≡ is_fault R.ranges inside last terminal.now }
+fn is_fault<S: Syntax>(inside: bool, last: u8, terminal: &Terminal) -> bool
+    ensures { result ≡ is_fault S.texts.ranges inside last terminal.now }
 {
-    terminal.class() == 1 && !R::fits(inside, last, terminal.value())
+    terminal.class() == 1 && !S::fits(inside, last, terminal.value())
 }
 
 /// The place of the first number out of its range.
-pub fn out_of_range<R: Ranged>(terminals: &[Terminal]) -> Option<u32>
-    ensures { result ≡ out_of_range R.ranges false 0 terminals.now }
+pub fn out_of_range<S: Syntax>(terminals: &[Terminal]) -> Option<u32>
+    ensures { result ≡ out_of_range S.texts.ranges false 0 terminals.now }
 {
     let mut inside = false;
     let mut last = 0;
     'each: for terminal in terminals {
-        if is_fault::<R>(inside, last, terminal) {
+        if is_fault::<S>(inside, last, terminal) {
             return Some(terminal.at().at);
         }
         last = terminal.class();
-        inside = R::inside_after(inside, last);
+        inside = S::inside_after(inside, last);
     }
     None
 }

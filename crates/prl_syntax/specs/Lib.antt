@@ -1,6 +1,5 @@
 -- The keywords and symbols, and the tokens of a text.
 pub mod Words
-pub mod Lexing
 -- The values of numbers, and the parts of trees.
 pub mod Values
 pub mod Trees

@@ -1,52 +1,31 @@
 -- The program that a text is, or its first fault.
-use Rattle.std.specs.Prelude.{◌≡◌, ◌<◌, ◌≤◌, ◌⊎◌, ◌+◌, ℕ, false, List, length, Some, None, Result, Ok, Err}
+use Rattle.std.specs.Prelude.{◌≡◌, ◌<◌, ◌≤◌, ◌⊎◌, ◌+◌, ℕ, List, length, Result, Ok, Err}
 use Rattle.prl_base.specs.declared.limits.Limit.{Limit}
 use Rattle.prl_base.specs.declared.limits.What.TheVariants as limits
 use Rattle.prl_ast.specs.Trees.{ProgramTree}
 use Rattle.prl_lex.specs.declared.tokens.LexFault.TheVariants as lexical
-use Rattle.prl_lex.specs.declared.tokens.Token.{Token}
 use Rattle.prl_lex.specs.Lexing.{tokens_of}
-use Rattle.prl_grammar.specs.Ranges.{out_of_range}
-use Rattle.prl_grammar.specs.Language.{Text}
-use Rattle.prl_grammar.specs.Whole.{place_of, IsFirstUnexpected}
+use Rattle.prl_grammar.specs.Texts.{Texts, IsTextOf, IsUnexpectedAt, IsOutOfRangeAt}
 use Rattle.prl_syntax.specs.declared.parsing.TheConstants.{MAX_NODES}
 use Rattle.prl_syntax.specs.declared.parsing.ParseFault.{ParseFault}
 use Rattle.prl_syntax.specs.declared.parsing.ParseFault.TheVariants as faults
 use Rattle.prl_syntax.specs.Grammar.{Program, programs}
-use Rattle.prl_syntax.specs.Lexing.{lexemes_of}
 use Rattle.prl_syntax.specs.Ranges.{program_ranges}
+use Rattle.prl_syntax.specs.Trees.{StemTree}
+use Rattle.prl_syntax.specs.Words.{program_vocabulary}
 
--- The text is the program: its tokens are a text of the grammar, with this tree, and it is within ranges and limits.
+abbrev pub program_texts : Texts StemTree ProgramTree
+program_texts = record { vocabulary = program_vocabulary; ranges = program_ranges; language = programs; whole = Program }
+
+-- The text is the program: it has this tree, and not too many nodes.
 pub record IsProgramOf (text : List ℕ) (tree : ProgramTree) : Type 0 where
-  pub tokens : List Token
-  pub lexical : tokens_of text ≡ Ok tokens
-  pub written : Text programs Program tree (lexemes_of text tokens)
-  pub ranges : out_of_range program_ranges false 0 (lexemes_of text tokens) ≡ None
+  pub read : IsTextOf program_texts text tree
   pub nodes : length tree.nodes ≤ MAX_NODES
 
--- The first unexpected token of the text is at the place: with the tokens up to it, however it goes on, the text is not of the grammar.
-pub record IsUnexpectedAt (text : List ℕ) (at : ℕ) : Type 0 where
-  pub tokens : List Token
-  pub left : ℕ
-  pub lexical : tokens_of text ≡ Ok tokens
-  pub first : IsFirstUnexpected (Text programs Program) (lexemes_of text tokens) left
-  pub place : at ≡ place_of (lexemes_of text tokens) left (length text)
-
--- The number at the place is the first out of its range, in a text of the grammar.
-pub record IsOutOfRangeAt (text : List ℕ) (at : ℕ) : Type 0 where
-  pub tokens : List Token
-  pub tree : ProgramTree
-  pub lexical : tokens_of text ≡ Ok tokens
-  pub written : Text programs Program tree (lexemes_of text tokens)
-  pub first : out_of_range program_ranges false 0 (lexemes_of text tokens) ≡ Some at
-
--- The text is of the grammar and in range, and has too many nodes.
+-- The text has a tree with too many nodes.
 pub record HasTooManyNodes (text : List ℕ) (limit : Limit) : Type 0 where
-  pub tokens : List Token
   pub tree : ProgramTree
-  pub lexical : tokens_of text ≡ Ok tokens
-  pub written : Text programs Program tree (lexemes_of text tokens)
-  pub ranges : out_of_range program_ranges false 0 (lexemes_of text tokens) ≡ None
+  pub read : IsTextOf program_texts text tree
   pub many : MAX_NODES < length tree.nodes
   pub is : limit ≡ record { what = limits.Nodes; found = MAX_NODES + 1 }
 
@@ -54,8 +33,8 @@ pub record HasTooManyNodes (text : List ℕ) (limit : Limit) : Type 0 where
 -- memory is none.
 abbrev pub Explains : List ℕ → ParseFault → Type 0
 Explains text (faults.BadToken at) = tokens_of text ≡ Err (lexical.BadToken at)
-Explains text (faults.Unexpected at) = IsUnexpectedAt text at
-Explains text (faults.NumberRange at) = (tokens_of text ≡ Err (lexical.NumberRange at)) ⊎ IsOutOfRangeAt text at
+Explains text (faults.Unexpected at) = IsUnexpectedAt program_texts text at
+Explains text (faults.NumberRange at) = (tokens_of text ≡ Err (lexical.NumberRange at)) ⊎ IsOutOfRangeAt program_texts text at
 Explains text (faults.Limit limit) = (tokens_of text ≡ Err (lexical.Limit limit)) ⊎ HasTooManyNodes text limit
 Explains text faults.Memory = ⊥
 

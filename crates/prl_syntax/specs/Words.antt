@@ -1,9 +1,9 @@
 -- The keywords and symbols of programs.
-use Rattle.std.specs.Prelude.{ℕ, List, [], ◌∷◌, Option, Some, None, codes}
-use Rattle.std.specs.Option.{option_map, option_or}
-use Rattle.prl_grammar.specs.Lexing.{Vocabulary, row_of}
+use Rattle.std.specs.Prelude.{ℕ, List, Option}
+use Rattle.prl_grammar.specs.Lexing.{Vocabulary, class_in}
 use Rattle.prl_syntax.specs.declared.words.Fixed.{Fixed}
 use Rattle.prl_syntax.specs.declared.words.Fixed.TheVariants as fixed
+use Rattle.prl_syntax.specs.declared.words.TheConstants.{KEYWORDS, SYMBOLS}
 
 -- the class of each in the grammar
 abbrev pub class_of : Fixed → ℕ
@@ -36,60 +36,13 @@ class_of fixed.Slash = 27
 class_of fixed.Up = 28
 class_of fixed.Down = 29
 class_of fixed.Shift = 30
-class_of fixed.Foreign = 31
 
-abbrev pub declaration_keywords : List (List ℕ × Fixed)
-declaration_keywords =
-    (codes "imported", fixed.Imported) ∷
-    (codes "node", fixed.Node) ∷
-    (codes "returns", fixed.Returns) ∷
-    (codes "wcet", fixed.Wcet) ∷
-    (codes "sensor", fixed.Sensor) ∷
-    (codes "actuator", fixed.Actuator) ∷
-    (codes "var", fixed.Var) ∷
-    (codes "let", fixed.Let) ∷
-    (codes "tel", fixed.Tel) ∷ []
+-- the class of the keyword that a word is, and of the symbol that the bytes are
+abbrev pub keyword_of : List ℕ → Option ℕ
+keyword_of = class_in (λ row. row.0.now) (λ row. row.1) KEYWORDS
 
-abbrev pub flow_keywords : List (List ℕ × Fixed)
-flow_keywords =
-    (codes "int", fixed.Int) ∷
-    (codes "bool", fixed.Bool) ∷
-    (codes "rate", fixed.Rate) ∷
-    (codes "due", fixed.Due) ∷
-    (codes "fby", fixed.Fby) ∷
-    (codes "tail", fixed.Tail) ∷
-    (codes "true", fixed.True) ∷
-    (codes "false", fixed.False) ∷ []
-
-abbrev pub punctuation : List (List ℕ × Fixed)
-punctuation =
-    (codes "(", fixed.Open) ∷
-    (codes ")", fixed.Close) ∷
-    (codes ",", fixed.Comma) ∷
-    (codes ";", fixed.Semicolon) ∷
-    (codes ":", fixed.Colon) ∷
-    (codes "=", fixed.Equals) ∷ []
-
-abbrev pub operators : List (List ℕ × Fixed)
-operators =
-    (codes "::", fixed.Cons) ∷
-    (codes "-", fixed.Minus) ∷
-    (codes "/", fixed.Slash) ∷
-    (codes "*^", fixed.Up) ∷
-    (codes "/^", fixed.Down) ∷
-    (codes "~>", fixed.Shift) ∷ []
-
-abbrev pub or_foreign : Option Fixed → Fixed
-or_foreign None = fixed.Foreign
-or_foreign (Some f) = f
-
--- the keyword that a word is
-abbrev pub keyword_of : List ℕ → Option Fixed
-keyword_of word = option_or (row_of declaration_keywords word) (row_of flow_keywords word)
-
--- the symbol that the bytes are
-abbrev pub symbol_of : List ℕ → Fixed
-symbol_of bytes = or_foreign (option_or (row_of punctuation bytes) (row_of operators bytes))
+abbrev pub symbol_of : List ℕ → Option ℕ
+symbol_of = class_in (λ row. row.0.now) (λ row. row.1) SYMBOLS
 
 abbrev pub program_vocabulary : Vocabulary
-program_vocabulary = record { keyword = λ word. option_map class_of (keyword_of word); symbol = λ bytes. class_of (symbol_of bytes) }
+program_vocabulary = record { keyword = keyword_of; symbol = symbol_of }

@@ -4,16 +4,16 @@ ghost use Rattle.std.specs.Prelude.{◌≡◌, ◌≢◌, ◌<◌, ◌^◌, leng
 ghost use Rattle.prl_base.specs.Reading.{GivesBut};
 ghost use Rattle.prl_ast.specs.Trees.{program_tree};
 ghost use Rattle.prl_syntax.specs.Parsing.{IsParsed};
-ghost use Rattle.prl_syntax.specs.code.Outcomes.{of_lexical, FaultOfStop, limited, program_of_tokens, parse_of};
+ghost use Rattle.prl_syntax.specs.code.Outcomes.{of_text, limited};
 
 use crate::nodes::program;
-use crate::ranges::ProgramRanges;
-use crate::words::ProgramSpelling;
+use crate::ranges::is_in_range;
+use crate::words::{Fixed, KEYWORDS, SYMBOLS, class_of};
 use prl_ast::Program;
 use prl_base::{Limit, What};
-use prl_grammar::{Stop, Terminal, out_of_range, place_of, terminals_of};
-use prl_lex::{LexFault, lex};
-use std::alloc::{AllocError, Global};
+use prl_grammar::{Stop, Syntax, Terminal, TextFault, class_in, read_text};
+use prl_lex::LexFault;
+use std::alloc::Global;
 
 /// The most nodes of a program.
 const MAX_NODES: usize = 256;
@@ -32,34 +32,55 @@ pub enum ParseFault {
     Memory,
 }
 
-impl From<AllocError> for ParseFault {
-    ghost use Rattle.std.specs.Prelude.{◌≡◌};
-    ghost use Rattle.prl_syntax.specs.declared.parsing.ParseFault.TheVariants.{Memory};
+/// The texts of programs.
+struct ProgramSyntax;
 
-    ghost from_gives = { λ _ e. e ≡ Memory };
+impl Syntax for ProgramSyntax {
+    ghost use Rattle.prl_ast.specs.Trees.{ProgramTree, program_tree};
+    ghost use Rattle.prl_syntax.specs.Parsing.{program_texts};
+    ghost use Rattle.prl_syntax.specs.Trees.{StemTree};
 
-    fn from(_error: AllocError) -> ParseFault {
-        ParseFault::Memory
+    type Tree = Program;
+
+    ghost Inner = { StemTree };
+
+    ghost Seen = { ProgramTree };
+
+    ghost texts = { program_texts };
+
+    ghost seen = { program_tree };
+
+    fn keyword(word: &[u8]) -> Option<u8> {
+        class_in(&KEYWORDS, word)
+    }
+
+    fn symbol(bytes: &[u8]) -> Option<u8> {
+        class_in(&SYMBOLS, bytes)
+    }
+
+    fn inside_after(inside: bool, class: u8) -> bool {
+        class == class_of(Fixed::Rate) || (class != class_of(Fixed::Close) && inside)
+    }
+
+    fn fits(inside: bool, last: u8, number: u64) -> bool {
+        is_in_range(inside, last, number)
+    }
+
+    fn read(alloc: Global, terminals: &[Terminal]) -> Result<Program, Stop> {
+        program(alloc, terminals)
     }
 }
 
-fn of_lexical(fault: LexFault) -> ParseFault
-    ensures { result ≡ of_lexical fault }
+fn of_text(fault: TextFault) -> ParseFault
+    ensures { result ≡ of_text fault }
 {
     match fault {
-        LexFault::BadToken(at) => ParseFault::BadToken(at),
-        LexFault::NumberRange(at) => ParseFault::NumberRange(at),
-        LexFault::Limit(limit) => ParseFault::Limit(limit),
-        LexFault::Memory => ParseFault::Memory,
-    }
-}
-
-fn of_stop(terminals: &[Terminal], end: u32, stop: Stop) -> ParseFault
-    ensures { FaultOfStop terminals.now end stop result }
-{
-    match stop {
-        Stop::Unexpected(left) => ParseFault::Unexpected(place_of(terminals, left, end)),
-        Stop::Memory => ParseFault::Memory,
+        TextFault::Lexical(LexFault::BadToken(at)) => ParseFault::BadToken(at),
+        TextFault::Lexical(LexFault::NumberRange(at)) => ParseFault::NumberRange(at),
+        TextFault::Lexical(LexFault::Limit(limit)) => ParseFault::Limit(limit),
+        TextFault::Unexpected(at) => ParseFault::Unexpected(at),
+        TextFault::NumberRange(at) => ParseFault::NumberRange(at),
+        TextFault::Lexical(LexFault::Memory) | TextFault::Memory => ParseFault::Memory,
     }
 }
 
@@ -76,34 +97,6 @@ fn limited(program: Program) -> Result<Program, ParseFault>
     Ok(program)
 }
 
-/// The program that the tokens are.
-#[tactic(auto, unfolding(crate::specs::code::Outcomes::program_of_tokens))]
-fn program_of_tokens(alloc: Global, terminals: &[Terminal], end: u32) -> Result<Program, ParseFault>
-    ensures { GivesBut ParseFault.Memory program_tree result (program_of_tokens terminals.now end) }
-{
-    let program = match program(alloc, terminals) {
-        Ok(program) => program,
-        Err(stop) => return Err(of_stop(terminals, end, stop)),
-    };
-    match out_of_range::<ProgramRanges>(terminals) {
-        Some(at) => Err(ParseFault::NumberRange(at)),
-        None => limited(program),
-    }
-}
-
-#[tactic(auto, unfolding(crate::specs::code::Outcomes::parse_of))]
-fn parsed(alloc: Global, text: &[u8]) -> Result<Program, ParseFault>
-    requires { length text.now < 2 ^ 32 }
-    ensures { GivesBut ParseFault.Memory program_tree result (parse_of text.now) }
-{
-    let tokens = match lex(alloc, text) {
-        Ok(tokens) => tokens,
-        Err(fault) => return Err(of_lexical(fault)),
-    };
-    let terminals = terminals_of::<ProgramSpelling>(alloc, text, tokens.as_slice())?;
-    program_of_tokens(alloc, terminals.as_slice(), text.len() as u32)
-}
-
 /// The program that the text is. Else, in this order: the fault of its tokens; the first token such that no
 /// program begins with the tokens up to it; the first number out of its range; more than 256 nodes; or want of
 /// memory.
@@ -114,5 +107,8 @@ pub fn parse(alloc: Global, text: &[u8]) -> Result<Program, ParseFault>
     // A fault is the first one of the text, unless memory ran out.
     ensures fault { IfErr result (λ fault. fault ≢ ParseFault.Memory → IsParsed text.now (Err fault)) }
 {
-    parsed(alloc, text)
+    match read_text::<ProgramSyntax>(alloc, text) {
+        Ok(program) => limited(program),
+        Err(fault) => Err(of_text(fault)),
+    }
 }

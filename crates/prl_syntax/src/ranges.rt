@@ -5,7 +5,6 @@ ghost use Rattle.prl_syntax.specs.Ranges.{greatest, in_range, is_count, is_part}
 
 use crate::words::{Fixed, class_of};
 use prl_base::{MAX_NEGATIVE, MAX_PART, MAX_POSITIVE};
-use prl_grammar::Ranged;
 
 /// Whether a count is next, in a rate or not, and after a token of the class.
 fn is_count(in_rate: bool, last: u8) -> bool
@@ -37,7 +36,7 @@ fn greatest(last: u8) -> u64
 }
 
 /// Whether the number is in its range, in a rate or not, and after a token of the class.
-fn is_in_range(in_rate: bool, last: u8, number: u64) -> bool
+pub fn is_in_range(in_rate: bool, last: u8, number: u64) -> bool
     ensures { result ≡ in_range in_rate last number }
 {
     if is_count(in_rate, last) {
@@ -47,21 +46,4 @@ fn is_in_range(in_rate: bool, last: u8, number: u64) -> bool
         return number <= MAX_PART;
     }
     number <= greatest(last)
-}
-
-/// The ranges of programs.
-pub struct ProgramRanges;
-
-impl Ranged for ProgramRanges {
-    ghost use Rattle.prl_syntax.specs.Ranges.{program_ranges};
-
-    ghost ranges = { program_ranges };
-
-    fn inside_after(inside: bool, class: u8) -> bool {
-        class == class_of(Fixed::Rate) || (class != class_of(Fixed::Close) && inside)
-    }
-
-    fn fits(inside: bool, last: u8, number: u64) -> bool {
-        is_in_range(inside, last, number)
-    }
 }
