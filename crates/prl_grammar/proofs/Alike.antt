@@ -3,14 +3,13 @@ use Rattle.std.proofs.Common.{◌≡◌, ◌≤◌, ◌<◌, cond, ℕ, zero, su
 use Rattle.prl_base.specs.Reading.{◌>>=◌}
 use Rattle.prl_grammar.specs.Lexemes.{Lexeme, first_place}
 use Rattle.prl_grammar.specs.code.Readers.{Read, next_in, many_up_to, choice, many_at, from_first}
-use Rattle.prl_grammar.specs.code.Reads.{Shape, Reads}
+use Rattle.prl_grammar.specs.code.Reads.{Shape, then_shape, Reads}
 use Rattle.prl_grammar.proofs.Sequences.{then_read}
 use Rattle.prl_grammar.proofs.Repeats.{same_bind, leaves_fewer}
 use Rattle.prl_grammar.proofs.Basics.{apart}
-use Rattle.prl_grammar.proofs.Steps.{give_reads}
-use Rattle.prl_grammar.proofs.Tokens.{then_reads}
-use Rattle.prl_grammar.specs.Productions.{Grammar, token, give, bind, either, many, separated, placed, inner}
-use Rattle.prl_grammar.specs.code.Shapes.{Inner, link_shape, shape, read_row, read}
+use Rattle.prl_grammar.proofs.Pairs.{pair_reads}
+use Rattle.prl_grammar.specs.Productions.{Grammar, token, give, bind, action, both, either, many, separated, placed, inner}
+use Rattle.prl_grammar.specs.code.Shapes.{Inner, shape, read_action, read_both, read_row, read}
 use Rattle.prl_grammar.specs.code.LookAhead.{IsApart, IsRow}
 use Rattle.prl_grammar.proofs.Decides.{IsGuarded, Where, grammar_reads}
 
@@ -66,21 +65,27 @@ later_alike {A} {B} {n} {p} {p'} {q} {q'} one fewer two = record {
       ∙ ap (λ r. r >>= λ x. q' x.0 x.1) (one.same ts lt);
 }
 
+action_alike : {A B : Type 0} {n : ℕ} {p p' : List Lexeme → Read A} (f : A → B) → Alike n p p' → Alike n (read_action f p) (read_action f p')
+action_alike f = end_alike (λ a ts. Ok (f a, ts))
+
+both_alike : {A B : Type 0} {n : ℕ} {p p' : List Lexeme → Read A} {q q' : List Lexeme → Read B} → Alike n p p' → Shrinks p → Alike n q q' → Alike n (read_both p q) (read_both p' q')
+both_alike one fewer two = then_alike one fewer (λ a. end_alike (λ b ts. Ok ((a, b), ts)) two)
+
 first_alike : {A : Type 0} {n : ℕ} {p q : List Lexeme → Read A} → Alike n p q → Alike n (from_first p) (from_first q)
 first_alike one = record { same = λ ts lt. ap (λ r. r >>= λ x. Ok ((first_place ts, x.0), x.1)) (one.same ts lt) }
 
 row_alike : {A S : Type 0} {V : S → List Lexeme → Type 0} {W : A → List Lexeme → Type 0} {s g : Shape} {q q' : List Lexeme → Read S} {p p' : List Lexeme → Read A} (k : ℕ) {n : ℕ} → Reads k V s q → Reads k W g p → IsRow s g → Alike n q q' → Alike n p p'
-    → Alike n (read_row (link_shape s g).first q p) (read_row (link_shape s g).first q' p')
+    → Alike n (read_row (then_shape s g).first q p) (read_row (then_shape s g).first q' p')
 row_alike {s} {g} k by one h other same =
-    let link = then_alike other (shrinks k by) (λ x. then_alike same (shrinks k one) (λ y. same_alike)) in
-    let link_reads = then_reads k by (λ x. then_reads k one (λ y. give_reads k (x, y)) (λ c h. refl)) (apart _ _ h.later) in
-    then_alike same (shrinks k one) (λ first. end_alike _ (many_alike (link_shape s g).first link (shrinks k link_reads)))
+    both_alike same (shrinks k one) (many_alike (then_shape s g).first (both_alike other (shrinks k by) same) (shrinks k (pair_reads k by one (apart _ _ h.later))))
 
 module _ {R : Type 0} (i : Inner R) (I : R → List Lexeme → Type 0) (p q : List Lexeme → Read R) (k : ℕ) (reads : Reads k I i.shape p) (n : ℕ) (agree : Alike n p q) where
   pub read_alike : {A : Type 0} (g : Grammar R A) → IsApart i g → Alike n (read i p g) (read i q g)
   read_alike (token class) h = same_alike
   read_alike (give x) h = same_alike
   read_alike (bind g f) h = then_alike (read_alike g h.0) (shrinks k (grammar_reads i I p k reads g h.0)) (λ a. read_alike (f a) (h.1 a))
+  read_alike (action g f) h = action_alike f (read_alike g h)
+  read_alike (both g m) h = both_alike (read_alike g h.0) (shrinks k (grammar_reads i I p k reads g h.0)) (read_alike m h.1)
   read_alike (either g m) h = choice_alike _ (read_alike g h.0) (read_alike m h.1)
   read_alike (many g) h = many_alike _ (read_alike g h.0) (shrinks k (grammar_reads i I p k reads g h.0))
   read_alike (separated s g) h = row_alike k (grammar_reads i I p k reads s h.0) (grammar_reads i I p k reads g h.1) h.2 (read_alike s h.0) (read_alike g h.1)
@@ -93,10 +98,18 @@ module _ {R : Type 0} (i : Inner R) (I : R → List Lexeme → Type 0) (p q : Li
   after g f true e guarded h one two less = then_alike one (shrinks k (grammar_reads i I p k reads g h)) (λ a. two a (guarded a))
   after g f false e guarded h one two less = later_alike one (leaves_fewer k (grammar_reads i I p k reads g h) e) less
 
+  second : {A B : Type 0} (g : Grammar R A) (m : Grammar R B) (b : Bool) → (shape i g).nullable ≡ b → Where b (IsGuarded i m) → IsApart i g
+      → Alike (suc n) (read i p g) (read i q g) → (IsGuarded i m → Alike (suc n) (read i p m) (read i q m)) → Alike n (read i p m) (read i q m)
+      → Alike (suc n) (read i p (both g m)) (read i q (both g m))
+  second g m true e guarded h one two less = both_alike one (shrinks k (grammar_reads i I p k reads g h)) (two guarded)
+  second g m false e guarded h one two less = later_alike one (leaves_fewer k (grammar_reads i I p k reads g h) e) (λ a. end_alike (λ b ts. Ok ((a, b), ts)) less)
+
   pub guarded_alike : {A : Type 0} (g : Grammar R A) → IsApart i g → IsGuarded i g → Alike (suc n) (read i p g) (read i q g)
   guarded_alike (token class) h j = same_alike
   guarded_alike (give x) h j = same_alike
   guarded_alike (bind g f) h j = after g f (shape i g).nullable refl j.1 h.0 (guarded_alike g h.0 j.0) (λ a l. guarded_alike (f a) (h.1 a) l) (λ a. read_alike (f a) (h.1 a))
+  guarded_alike (action g f) h j = action_alike f (guarded_alike g h j)
+  guarded_alike (both g m) h j = second g m (shape i g).nullable refl j.1 h.0 (guarded_alike g h.0 j.0) (λ l. guarded_alike m h.1 l) (read_alike m h.1)
   guarded_alike (either g m) h j = choice_alike _ (guarded_alike g h.0 j.0) (guarded_alike m h.1 j.1)
   guarded_alike (many g) h j = many_alike _ (guarded_alike g h.0 j) (shrinks k (grammar_reads i I p k reads g h.0))
   guarded_alike (separated s g) h j = row_alike k (grammar_reads i I p k reads s h.0) (grammar_reads i I p k reads g h.1) h.2 (guarded_alike s h.0 j.0) (guarded_alike g h.1 j.1)

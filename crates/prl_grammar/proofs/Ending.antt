@@ -3,14 +3,13 @@ use Rattle.std.proofs.Common.{◌≡◌, ◌==◌, ◌<◌, ◌≤◌, ℕ, zero
 use Rattle.prl_base.specs.Reading.{◌>>=◌}
 use Rattle.prl_grammar.specs.Lexemes.{Lexeme, first_place}
 use Rattle.prl_grammar.specs.code.Readers.{Deep, Stuck, one_at, Read, next_in, choice, many_up_to, many_at, from_first}
-use Rattle.prl_grammar.specs.code.Reads.{Shape, Reads}
+use Rattle.prl_grammar.specs.code.Reads.{Shape, then_shape, Reads}
 use Rattle.prl_grammar.proofs.Basics.{apart, bind_err, chosen}
 use Rattle.prl_grammar.proofs.Sequences.{then_read}
-use Rattle.prl_grammar.proofs.Steps.{give_reads}
-use Rattle.prl_grammar.proofs.Tokens.{then_reads}
+use Rattle.prl_grammar.proofs.Pairs.{paired, pair_reads}
 use Rattle.prl_grammar.proofs.Repeats.{leaves_fewer}
-use Rattle.prl_grammar.specs.Productions.{Grammar, token, give, bind, either, many, separated, placed, inner}
-use Rattle.prl_grammar.specs.code.Shapes.{Inner, link_shape, shape, read_row, read}
+use Rattle.prl_grammar.specs.Productions.{Grammar, token, give, bind, action, both, either, many, separated, placed, inner}
+use Rattle.prl_grammar.specs.code.Shapes.{Inner, shape, read_action, read_both, read_row, read}
 use Rattle.prl_grammar.specs.Language.{Language, nested}
 use Rattle.prl_grammar.specs.code.Languages.{inner_of, read_within, read_nested, read_at}
 use Rattle.prl_grammar.specs.code.LookAhead.{IsApart, IsRow}
@@ -59,15 +58,18 @@ many_ends {A} {n} {p} ks one fewer = record { ends = λ ts lt e. go (length ts) 
 first_ends : {A : Type 0} {n : ℕ} {p : List Lexeme → Read A} → Ends n p → Ends n (from_first p)
 first_ends {p} one = record { ends = λ ts lt e. ⊎_elim (λ h. one.ends ts lt h) (λ h. let no_error = h.two in cc) (bind_err (p ts) (λ x. Ok ((first_place ts, x.0), x.1)) Deep e) }
 
+action_ends : {A B : Type 0} {n : ℕ} {p : List Lexeme → Read A} (f : A → B) → Ends n p → Ends n (read_action f p)
+action_ends {p} f one = record { ends = λ ts lt e. ⊎_elim (λ h. one.ends ts lt h) (λ h. let no_error = h.two in cc) (bind_err (p ts) (λ x. Ok (f x.0, x.1)) Deep e) }
+
+both_ends : {A B : Type 0} {n : ℕ} {p : List Lexeme → Read A} {q : List Lexeme → Read B} → Ends n p → Shrinks p → Ends n q → Ends n (read_both p q)
+both_ends one fewer two = then_ends one fewer (λ a. action_ends (paired a) two)
+
 give_ends : {A : Type 0} {n : ℕ} (x : A) → Ends n (λ ts. Ok (x, ts))
 give_ends x = record { ends = λ ts lt e. cc }
 
-row_ends : {A S : Type 0} {V : S → List Lexeme → Type 0} {W : A → List Lexeme → Type 0} {s g : Shape} {q : List Lexeme → Read S} {p : List Lexeme → Read A} (k : ℕ) {n : ℕ} → Reads k V s q → Reads k W g p → IsRow s g → Ends n q → Ends n p → Ends n (read_row (link_shape s g).first q p)
+row_ends : {A S : Type 0} {V : S → List Lexeme → Type 0} {W : A → List Lexeme → Type 0} {s g : Shape} {q : List Lexeme → Read S} {p : List Lexeme → Read A} (k : ℕ) {n : ℕ} → Reads k V s q → Reads k W g p → IsRow s g → Ends n q → Ends n p → Ends n (read_row (then_shape s g).first q p)
 row_ends {s} {g} k by one h other same =
-    let link = then_ends other (shrinks k by) (λ x. then_ends same (shrinks k one) (λ y. give_ends (x, y))) in
-    let link_reads = then_reads k by (λ x. then_reads k one (λ y. give_reads k (x, y)) (λ c h. refl)) (apart _ _ h.later) in
-    let links = many_ends (link_shape s g).first link (leaves_fewer k link_reads h.solid) in
-    then_ends same (shrinks k one) (λ first. record { ends = λ ts lt e. ⊎_elim (λ j. links.ends ts lt j) (λ j. let no_error = j.two in cc) (bind_err _ (λ rest. Ok ((first, rest.0), rest.1)) Deep e) })
+    both_ends same (shrinks k one) (many_ends (then_shape s g).first (both_ends other (shrinks k by) same) (leaves_fewer k (pair_reads k by one (apart _ _ h.later)) h.solid))
 
 abbrev taken : Lexeme → List Lexeme → Read Lexeme
 taken t ts = Ok (t, ts)
@@ -90,6 +92,8 @@ module _ {R : Type 0} (i : Inner R) (I : R → List Lexeme → Type 0) (p : List
   read_ends (token class) h = record { ends = λ ts lt e. one_ends class ts e }
   read_ends (give x) h = give_ends x
   read_ends (bind g f) h = then_ends (read_ends g h.0) (shrinks k (grammar_reads i I p k reads g h.0)) (λ a. read_ends (f a) (h.1 a))
+  read_ends (action g f) h = action_ends f (read_ends g h)
+  read_ends (both g m) h = both_ends (read_ends g h.0) (shrinks k (grammar_reads i I p k reads g h.0)) (read_ends m h.1)
   read_ends (either g m) h = choice_ends _ (read_ends g h.0) (read_ends m h.1)
   read_ends (many g) h = many_ends _ (read_ends g h.0) (leaves_fewer k (grammar_reads i I p k reads g h.0) h.1)
   read_ends (separated s g) h = row_ends k (grammar_reads i I p k reads s h.0) (grammar_reads i I p k reads g h.1) h.2 (read_ends s h.0) (read_ends g h.1)
@@ -101,10 +105,17 @@ module _ {R : Type 0} (i : Inner R) (I : R → List Lexeme → Type 0) (p : List
   after g f true e guarded h one two less = then_ends one (shrinks k (grammar_reads i I p k reads g h)) (λ a. two a (guarded a))
   after g f false e guarded h one two less = later_ends one (leaves_fewer k (grammar_reads i I p k reads g h) e) less
 
+  second : {A B : Type 0} (g : Grammar R A) (m : Grammar R B) (b : Bool) → (shape i g).nullable ≡ b → Where b (IsGuarded i m) → IsApart i g
+      → Ends (suc n) (read i p g) → (IsGuarded i m → Ends (suc n) (read i p m)) → Ends n (read i p m) → Ends (suc n) (read i p (both g m))
+  second g m true e guarded h one two less = both_ends one (shrinks k (grammar_reads i I p k reads g h)) (two guarded)
+  second g m false e guarded h one two less = later_ends one (leaves_fewer k (grammar_reads i I p k reads g h) e) (λ a. action_ends (paired a) less)
+
   pub guarded_ends : {A : Type 0} (g : Grammar R A) → IsApart i g → IsGuarded i g → Ends (suc n) (read i p g)
   guarded_ends (token class) h j = record { ends = λ ts lt e. one_ends class ts e }
   guarded_ends (give x) h j = give_ends x
   guarded_ends (bind g f) h j = after g f (shape i g).nullable refl j.1 h.0 (guarded_ends g h.0 j.0) (λ a l. guarded_ends (f a) (h.1 a) l) (λ a. read_ends (f a) (h.1 a))
+  guarded_ends (action g f) h j = action_ends f (guarded_ends g h j)
+  guarded_ends (both g m) h j = second g m (shape i g).nullable refl j.1 h.0 (guarded_ends g h.0 j.0) (λ l. guarded_ends m h.1 l) (read_ends m h.1)
   guarded_ends (either g m) h j = choice_ends _ (guarded_ends g h.0 j.0) (guarded_ends m h.1 j.1)
   guarded_ends (many g) h j = many_ends _ (guarded_ends g h.0 j) (leaves_fewer k (grammar_reads i I p k reads g h.0) h.1)
   guarded_ends (separated s g) h j = row_ends k (grammar_reads i I p k reads s h.0) (grammar_reads i I p k reads g h.1) h.2 (guarded_ends s h.0 j.0) (guarded_ends g h.1 j.1)

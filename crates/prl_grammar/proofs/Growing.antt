@@ -1,8 +1,8 @@
 -- Grammars that grow with the depth of parentheses.
 use Rattle.std.proofs.Common.{◌≤◌, ◌+◌, ℕ, zero, suc, List, [], ◌∷◌, inl, inr, arith}
 use Rattle.prl_grammar.specs.Lexemes.{Lexeme}
-use Rattle.prl_grammar.specs.Grammars.{Then, Either, Many, FromFirst}
-use Rattle.prl_grammar.specs.Productions.{Grammar, token, give, bind, either, many, separated, placed, inner, written}
+use Rattle.prl_grammar.specs.Grammars.{Then, Action, Both, Either, Many, FromFirst}
+use Rattle.prl_grammar.specs.Productions.{Grammar, token, give, bind, action, both, either, many, separated, placed, inner, written}
 use Rattle.prl_grammar.specs.Language.{Language, within, nested}
 
 -- each text of the whole grammar is one of a depth, and of each greater one
@@ -32,6 +32,24 @@ then_grows one two = record {
           tail = (two t.first).rises k.0 (h.0 + k.0) (omega arith) b t.right k.1;
         },
       );
+}
+
+action_grows : {A B : Type 0} {Wn : ℕ → A → List Lexeme → Type 0} {W : A → List Lexeme → Type 0} (f : A → B) → Grows Wn W → Grows (λ n. Action (Wn n) f) (Action W f)
+action_grows f one = record {
+  rises = λ n m le b w h. (h.0, h.1, one.rises n m le h.0 w h.2);
+  each = λ n b w h. (h.0, h.1, one.each n h.0 w h.2);
+  some = λ b w h. (let k = one.some h.0 w h.2 in (k.0, (h.0, h.1, k.1)));
+}
+
+both_grows : {A B : Type 0} {Wn : ℕ → A → List Lexeme → Type 0} {W : A → List Lexeme → Type 0} {Vn : ℕ → B → List Lexeme → Type 0} {V : B → List Lexeme → Type 0}
+    → Grows Wn W → Grows Vn V → Grows (λ n. Both (Wn n) (Vn n)) (Both W V)
+both_grows one two = record {
+  rises = λ n m le x w h. (h.0, h.1, h.2, one.rises n m le x.0 h.0 h.3, two.rises n m le x.1 h.1 h.4);
+  each = λ n x w h. (h.0, h.1, h.2, one.each n x.0 h.0 h.3, two.each n x.1 h.1 h.4);
+  some = λ x w h.
+      let k = one.some x.0 h.0 h.3 in
+      let l = two.some x.1 h.1 h.4 in
+      (k.0 + l.0, (h.0, h.1, h.2, one.rises k.0 (k.0 + l.0) (omega arith) x.0 h.0 k.1, two.rises l.0 (k.0 + l.0) (omega arith) x.1 h.1 l.1));
 }
 
 either_grows : {A : Type 0} {Wn Vn : ℕ → A → List Lexeme → Type 0} {W V : A → List Lexeme → Type 0} → Grows Wn W → Grows Vn V → Grows (λ n. Either (Wn n) (Vn n)) (Either W V)
@@ -78,10 +96,11 @@ pub written_grows : {R A : Type 0} {In : ℕ → R → List Lexeme → Type 0} {
 written_grows inside (token class) = still
 written_grows inside (give x) = still
 written_grows inside (bind g f) = then_grows (written_grows inside g) (λ a. written_grows inside (f a))
+written_grows inside (action g f) = action_grows f (written_grows inside g)
+written_grows inside (both g h) = both_grows (written_grows inside g) (written_grows inside h)
 written_grows inside (either g h) = either_grows (written_grows inside g) (written_grows inside h)
 written_grows inside (many g) = many_grows (written_grows inside g)
-written_grows inside (separated s g) =
-    then_grows (written_grows inside g) (λ first. then_grows (many_grows (then_grows (written_grows inside s) (λ x. then_grows (written_grows inside g) (λ y. still)))) (λ rest. still))
+written_grows inside (separated s g) = both_grows (written_grows inside g) (many_grows (both_grows (written_grows inside s) (written_grows inside g)))
 written_grows inside (placed g) = first_grows (written_grows inside g)
 written_grows inside inner = inside
 

@@ -4,7 +4,9 @@ pub mod Steps
 pub mod Sequences
 pub mod Repeats
 pub mod Tokens
+pub mod Pairs
 pub mod Whole
+pub mod Tested
 pub mod Decides
 pub mod Growing
 pub mod Alike

@@ -3,15 +3,15 @@ use Rattle.std.proofs.Common.{◌≡◌, ◌<◌, true, false, ℕ, zero, suc, L
 use Rattle.std.proofs.lemmas.Bool.{false≢true}
 use Rattle.prl_grammar.specs.Lexemes.{Lexeme, first_place}
 use Rattle.prl_base.specs.declared.places.Span.{Span}
-use Rattle.prl_grammar.specs.Grammars.{Then, Give, Many}
+use Rattle.prl_grammar.specs.Grammars.{Both, Many}
 use Rattle.prl_grammar.specs.code.Reads.{Shape, then_shape, either_shape, many_shape, Begins, Reads}
 use Rattle.prl_grammar.specs.code.Readers.{is_in}
 use Rattle.prl_grammar.proofs.Basics.{contained, not_inside}
 use Rattle.prl_grammar.proofs.Repeats.{Widens, widened, lower, restate, deep_reads, at_length}
 use Rattle.prl_grammar.proofs.Sequences.{then_begins, in_left, in_right}
 use Rattle.prl_grammar.proofs.Steps.{one_reads, give_reads}
-use Rattle.prl_grammar.specs.Productions.{Grammar, token, give, bind, either, many, separated, placed, inner, written, Row}
-use Rattle.prl_grammar.specs.code.Shapes.{Inner, sample_token, sample, link_shape, rest_shape, separated_shape, shape}
+use Rattle.prl_grammar.specs.Productions.{Grammar, token, give, bind, action, both, either, many, separated, placed, inner, written, Row}
+use Rattle.prl_grammar.specs.code.Shapes.{Inner, sample_token, sample, separated_shape, shape}
 use Rattle.prl_grammar.specs.Language.{Language, within, nested, Text}
 use Rattle.prl_grammar.specs.code.Languages.{inner_of, read_within, read_nested, read_at}
 use Rattle.prl_grammar.specs.code.LookAhead.{IsApart, IsRow}
@@ -37,19 +37,12 @@ many_begins W s solid one (a ∷ rest) w h = let P : List Lexeme → Type 0 = Be
     front [] v b = absurd (false≢true (sym solid ∙ b))
     front (t ∷ u) v b = b
 
-abbrev no_shape : Shape
-no_shape = record { first = []; nullable = true; more = [] }
-
-give_begins : {A : Type 0} (x a : A) (w : List Lexeme) → Give x a w → Begins (record { first = []; nullable = true; more = [] }) w
-give_begins x a w k = (give_reads 0 x).begins a w k
-
-both_begin : {A B : Type 0} {W : A → List Lexeme → Type 0} {V : A → B → List Lexeme → Type 0} (s r : Shape) → ((a : A) (w : List Lexeme) → W a w → Begins s w) → ((a : A) (b : B) (w : List Lexeme) → V a b w → Begins r w) → (b : B) (w : List Lexeme) → Then W V b w → Begins (then_shape s r) w
-both_begin s r one two b w k = let P : List Lexeme → Type 0 = Begins (then_shape s r) in subst P (sym k.whole) (then_begins s r k.left k.right (one k.first k.left k.head) (two k.first b k.right k.tail))
+both_begin : {A B : Type 0} {W : A → List Lexeme → Type 0} {V : B → List Lexeme → Type 0} (s r : Shape) → ((a : A) (w : List Lexeme) → W a w → Begins s w) → ((b : B) (w : List Lexeme) → V b w → Begins r w) → (x : A × B) (w : List Lexeme) → Both W V x w → Begins (then_shape s r) w
+both_begin s r one two x w k = let P : List Lexeme → Type 0 = Begins (then_shape s r) in subst P (sym k.2) (then_begins s r k.0 k.1 (one x.0 k.0 k.3) (two x.1 k.1 k.4))
 
 row_begins : {A S : Type 0} {V : S → List Lexeme → Type 0} {W : A → List Lexeme → Type 0} (s g : Shape) → IsRow s g → ((x : S) (w : List Lexeme) → V x w → Begins s w) → ((a : A) (w : List Lexeme) → W a w → Begins g w)
     → (a : A × List (S × A)) (w : List Lexeme) → Row V W a w → Begins (separated_shape s g) w
-row_begins s g h by one =
-    both_begin g (rest_shape s g) one (λ first. both_begin (many_shape (link_shape s g)) no_shape (many_begins _ (link_shape s g) h.solid (both_begin s (then_shape g no_shape) by (λ x. both_begin g no_shape one (λ y. give_begins _)))) (λ rest. give_begins _))
+row_begins s g h by one = both_begin g (many_shape (then_shape s g)) one (many_begins _ (then_shape s g) h.solid (both_begin s g by one))
 
 written_begins : {R A : Type 0} (i : Inner R) (I : R → List Lexeme → Type 0) → ((t : R) (w : List Lexeme) → I t w → Begins i.shape w) → (g : Grammar R A) → IsApart i g → (a : A) (w : List Lexeme) → written I g a w → Begins (shape i g) w
 written_begins i I inside (token class) h a w k = (one_reads 0 class).begins a w k
@@ -58,6 +51,8 @@ written_begins i I inside (bind g f) h b w k =
     let P : List Lexeme → Type 0 = Begins (shape i (bind g f)) in
     let Q : Shape → Type 0 = λ s. Begins s k.right in
     subst P (sym k.whole) (then_begins (shape i g) (shape i (f (sample i.sample g))) k.left k.right (written_begins i I inside g h.0 k.first k.left k.head) (subst Q (h.2 k.first) (written_begins i I inside (f k.first) (h.1 k.first) b k.right k.tail)))
+written_begins i I inside (action g f) h a w k = written_begins i I inside g h k.0 w k.2
+written_begins i I inside (both g m) h a w k = both_begin (shape i g) (shape i m) (written_begins i I inside g h.0) (written_begins i I inside m h.1) a w k
 written_begins i I inside (either g m) h a w (inl k) = either_begins (shape i g) (shape i m) w h.2 (written_begins i I inside g h.0 a w k)
 written_begins i I inside (either g m) h a w (inr k) = other_begins (shape i g) (shape i m) w (written_begins i I inside m h.1 a w k)
 written_begins i I inside (many g) h a w k = many_begins (written I g) (shape i g) h.1 (written_begins i I inside g h.0) a w k
@@ -72,6 +67,8 @@ abbrev pub sample_text : {R A : Type 0} → R → Grammar R A → List Lexeme
 sample_text r (token class) = sample_token class ∷ []
 sample_text r (give x) = []
 sample_text r (bind g f) = sample_text r g ++ sample_text r (f (sample r g))
+sample_text r (action g f) = sample_text r g
+sample_text r (both g h) = sample_text r g ++ sample_text r h
 sample_text r (either g h) = sample_text r g
 sample_text r (many g) = []
 sample_text r (separated s g) = sample_text r g ++ []
@@ -83,6 +80,8 @@ abbrev pub IsFounded : {R A : Type 0} → R → Grammar R A → Type 0
 IsFounded r (token class) = Unit {0}
 IsFounded r (give x) = Unit {0}
 IsFounded r (bind g f) = IsFounded r g × IsFounded r (f (sample r g))
+IsFounded r (action g f) = IsFounded r g
+IsFounded r (both g h) = IsFounded r g × IsFounded r h
 IsFounded r (either g h) = IsFounded r g
 IsFounded r (many g) = Unit {0}
 IsFounded r (separated s g) = IsFounded r g
@@ -93,10 +92,11 @@ founded : {R A : Type 0} (I : R → List Lexeme → Type 0) (r : R) (g : Grammar
 founded I r (token class) h = record { is = refl; whole = refl }
 founded I r (give x) h = record { is = refl; whole = refl }
 founded I r (bind g f) h = record { first = sample r g; left = sample_text r g; right = sample_text r (f (sample r g)); whole = refl; head = founded I r g h.0; tail = founded I r (f (sample r g)) h.1 }
+founded I r (action g f) h = (sample r g, refl, founded I r g h)
+founded I r (both g m) h = (sample_text r g, sample_text r m, refl, founded I r g h.0, founded I r m h.1)
 founded I r (either g m) h = inl (founded I r g h)
 founded I r (many g) h = refl
-founded I r (separated s g) h =
-    record { first = sample r g; left = sample_text r g; right = []; whole = refl; head = founded I r g h; tail = record { first = []; left = []; right = []; whole = refl; head = refl; tail = record { is = refl; whole = refl } } }
+founded I r (separated s g) h = (sample_text r g, [], refl, founded I r g h, refl)
 founded I r (placed g) h = (h.1, founded I r g h.0)
 founded I r inner h = absurd h
 

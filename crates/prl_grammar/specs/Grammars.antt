@@ -23,6 +23,14 @@ pub record Give {A : Type 0} (x : A) (a : A) (w : List Lexeme) : Type 0 where
   pub is : a ≡ x
   pub whole : w ≡ []
 
+-- a text, and what is made of its tree
+abbrev pub Action : {A B : Type 0} → (A → List Lexeme → Type 0) → (A → B) → B → List Lexeme → Type 0
+Action {A} W f b w = (a : A) × (b ≡ f a) × W a w
+
+-- one text after another
+abbrev pub Both : {A B : Type 0} → (A → List Lexeme → Type 0) → (B → List Lexeme → Type 0) → A × B → List Lexeme → Type 0
+Both W V x w = (u : List Lexeme) × (v : List Lexeme) × (w ≡ u ++ v) × W x.0 u × V x.1 v
+
 -- one of two
 abbrev pub Either : {A : Type 0} → (A → List Lexeme → Type 0) → (A → List Lexeme → Type 0) → A → List Lexeme → Type 0
 Either W V a w = W a w ⊎ V a w
@@ -39,11 +47,6 @@ Place class = Then (One class) (λ t. Give t.at)
 -- a name and its place
 abbrev pub Named : List ℕ × Span → List Lexeme → Type 0
 Named = Then (One 0) (λ t. Give (t.name, t.at))
-
--- one text after another, as a block of steps
-infixl 10 ◌>>=◌
-abbrev pub ◌>>=◌ : {A B : Type 0} → (A → List Lexeme → Type 0) → (A → B → List Lexeme → Type 0) → B → List Lexeme → Type 0
-W >>= V = Then W V
 
 -- a text that may be left out
 abbrev pub Maybe : {A : Type 0} → (A → List Lexeme → Type 0) → Option A → List Lexeme → Type 0

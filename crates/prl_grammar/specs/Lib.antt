@@ -4,6 +4,7 @@ pub mod Lexing
 -- Grammars: relations between tokens and trees, and data that stand for them.
 pub mod Grammars
 pub mod Productions
+pub mod Combinators
 pub mod Language
 -- The first unexpected token, and the numbers.
 pub mod Whole

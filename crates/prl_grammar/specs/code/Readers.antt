@@ -1,5 +1,5 @@
 -- Readers of tokens: a reader answers a tree and the tokens after it, or where it is stuck.
-use Rattle.std.specs.Prelude.{ℕ, zero, suc, Bool, false, ◌==◌, List, [], ◌∷◌, length, Result, Ok, Err, Option, Some, None, if◌then◌else◌}
+use Rattle.std.specs.Prelude.{ℕ, zero, suc, Bool, false, ◌==◌, List, [], ◌∷◌, length, Result, Ok, Err, if◌then◌else◌}
 use Rattle.std.specs.List.{list_any}
 use Rattle.prl_base.specs.Reading.{◌>>=◌}
 use Rattle.prl_base.specs.declared.places.Span.{Span}
