@@ -1,5 +1,5 @@
--- The grammar of bodies.
-use Rattle.std.specs.Prelude.{ℕ, true, false, List, Some, None}
+-- The grammar of bodies. Its productions have the names of docs/formats.md, the parts before the whole.
+use Rattle.std.specs.Prelude.{true, false, List}
 use Rattle.prl_base.specs.declared.places.Span.{Span}
 use Rattle.prl_base.specs.declared.values.Value.{Value}
 use Rattle.prl_base.specs.declared.values.Value.TheVariants as values
@@ -10,7 +10,8 @@ use Rattle.prl_body.specs.declared.operators.Prefix.TheVariants as prefixes
 use Rattle.prl_body.specs.declared.texts.RegisterText.{RegisterText}
 use Rattle.prl_body.specs.Texts.{Tree, constant, name, choice, StatementTree, TextTree}
 use Rattle.prl_grammar.specs.Numbers.{positive, negative}
-use Rattle.prl_grammar.specs.Productions.{Grammar as GrammarIn, token, give, either, many, separated, inner, ◌>>=◌}
+use Rattle.prl_grammar.specs.Productions.{Grammar as GrammarIn, many, separated, inner}
+use Rattle.prl_grammar.specs.Combinators.{◌=>◌, ◌means◌, ◌or◌, ◌&◌, ◌⊳◌, ◌⊲◌, maybe, place, named, number}
 use Rattle.prl_grammar.specs.Language.{Language}
 use Rattle.prl_bodytext.specs.declared.levels.Level.{Level}
 use Rattle.prl_bodytext.specs.declared.levels.Level.TheVariants as levels
@@ -23,122 +24,67 @@ use Rattle.prl_bodytext.specs.Trees.{Sign, OperatorAndRight, in_series, compared
 abbrev pub Grammar : Type 0 → Type 1
 Grammar = GrammarIn Tree
 
--- tokens
-
+-- a keyword or a symbol
 abbrev pub the : Fixed → Grammar Span
-the f = do
-  t ← token (class_of f)
-  give t.at
-
-abbrev pub named : Grammar (List ℕ × Span)
-named = do
-  t ← token 0
-  give (t.name, t.at)
-
-abbrev pub number : Grammar ℕ
-number = do
-  t ← token 1
-  give t.number
-
-abbrev pub keyword : {A : Type 0} → Fixed → A → Grammar A
-keyword f x = do
-  p ← the f
-  give x
-
--- const
+the f = place (class_of f)
 
 unfoldable pub Constant : Grammar Value
 Constant =
-    either (keyword fixed.True (values.Bool true))
-    (either (keyword fixed.False (values.Bool false))
-    (either (do
-      p ← the fixed.Minus
-      n ← number
-      give (negative n))
-    (do
-      n ← number
-      give (positive n))))
+    the fixed.True means values.Bool true
+    or the fixed.False means values.Bool false
+    or the fixed.Minus ⊳ number => negative
+    or number => positive
 
 -- operators, by how strongly they bind
 
 abbrev pub sign : Fixed → Operator → Grammar Sign
-sign f operator = do
-  p ← the f
-  give (operator, p)
+sign f operator = the f => λ at. (operator, at)
 
 unfoldable pub Operators : Level → Grammar Sign
-Operators levels.Disjunction = either (sign fixed.Or operators.Or) (sign fixed.Xor operators.Xor)
+Operators levels.Disjunction = sign fixed.Or operators.Or or sign fixed.Xor operators.Xor
 Operators levels.Conjunction = sign fixed.And operators.And
 Operators levels.Comparison =
-    either (sign fixed.Equals operators.Equal)
-    (either (sign fixed.Unequal operators.Unequal)
-    (either (sign fixed.Less operators.Less)
-    (either (sign fixed.AtMost operators.AtMost)
-    (either (sign fixed.Greater operators.Greater) (sign fixed.AtLeast operators.AtLeast)))))
-Operators levels.Sum = either (sign fixed.Plus operators.Plus) (sign fixed.Minus operators.Minus)
-Operators levels.Product = either (sign fixed.Star operators.Times) (either (sign fixed.Slash operators.Over) (sign fixed.Percent operators.Modulo))
+    sign fixed.Equals operators.Equal
+    or sign fixed.Unequal operators.Unequal
+    or sign fixed.Less operators.Less
+    or sign fixed.AtMost operators.AtMost
+    or sign fixed.Greater operators.Greater
+    or sign fixed.AtLeast operators.AtLeast
+Operators levels.Sum = sign fixed.Plus operators.Plus or sign fixed.Minus operators.Minus
+Operators levels.Product = sign fixed.Star operators.Times or sign fixed.Slash operators.Over or sign fixed.Percent operators.Modulo
 
 unfoldable pub RightOf : Level → Grammar Tree → Grammar OperatorAndRight
-RightOf level operand = do
-  s ← Operators level
-  t ← operand
-  give (s, t)
+RightOf level operand = Operators level & operand
 
 -- operands with operators of the level between, from left to right
 unfoldable pub SeriesOf : Level → Grammar Tree → Grammar Tree
-SeriesOf level operand = do
-  row ← separated (Operators level) operand
-  give (in_series row.0 row.1)
+SeriesOf level operand = separated (Operators level) operand => λ x. in_series x.0 x.1
 
 -- two operands with an operator of the level between, or one
 unfoldable pub PairOf : Level → Grammar Tree → Grammar Tree
-PairOf level operand = do
-  first ← operand
-  pair ← either (do
-    l ← RightOf level operand
-    give (Some l)) (give None)
-  give (compared first pair)
+PairOf level operand = operand & maybe (RightOf level operand) => λ x. compared x.0 x.1
 
 -- a prefix so many times, and its operand
 unfoldable pub RunOf : Fixed → Prefix → Grammar Tree → Grammar Tree
-RunOf f prefix operand = do
-  ats ← many (the f)
-  t ← operand
-  give (prefixed prefix ats t)
+RunOf f prefix operand = many (the f) & operand => λ x. prefixed prefix x.0 x.1
 
 -- expressions
 
 -- in parentheses an expression is the expression
 unfoldable pub Enclosed : Grammar Tree
-Enclosed = do
-  o ← the fixed.Open
-  t ← inner
-  c ← the fixed.Close
-  give t
+Enclosed = the fixed.Open ⊳ inner ⊲ the fixed.Close
 
 unfoldable pub Conditional : Grammar Tree
-Conditional = do
-  at ← the fixed.If
-  o ← the fixed.Open
-  test ← inner
-  p ← the fixed.Comma
-  chosen ← inner
-  q ← the fixed.Comma
-  other ← inner
-  c ← the fixed.Close
-  give (choice at test chosen other)
+Conditional = the fixed.If & the fixed.Open ⊳ inner & the fixed.Comma ⊳ inner & the fixed.Comma ⊳ inner ⊲ the fixed.Close => λ x. choice x.0 x.1.0 x.1.1.0 x.1.1.1
 
 unfoldable pub Primary : Grammar Tree
 Primary =
-    either (do
-      n ← number
-      give (constant (positive n)))
-    (either (keyword fixed.True (constant (values.Bool true)))
-    (either (keyword fixed.False (constant (values.Bool false)))
-    (either (do
-      n ← named
-      give (name n.0 n.1))
-    (either Enclosed Conditional))))
+    number => (λ n. constant (positive n))
+    or the fixed.True means constant (values.Bool true)
+    or the fixed.False means constant (values.Bool false)
+    or named => (λ n. name n.0 n.1)
+    or Enclosed
+    or Conditional
 
 unfoldable pub Unary : Grammar Tree
 Unary = RunOf fixed.Minus prefixes.Negated Primary
@@ -175,31 +121,13 @@ bodies = record { sample = constant (values.Bool true); body = Expression }
 -- registers, statements and bodies
 
 unfoldable pub Register : Grammar RegisterText
-Register = do
-  k ← the fixed.Reg
-  n ← named
-  e ← the fixed.Equals
-  v ← Constant
-  s ← the fixed.Semicolon
-  give (record { name = n.0; first = v; at = n.1 })
+Register = the fixed.Reg ⊳ named & the fixed.Equals ⊳ Constant ⊲ the fixed.Semicolon => λ x. record { name = x.0.0; first = x.1; at = x.0.1 }
 
 unfoldable pub StatementLine : Grammar StatementTree
-StatementLine = do
-  n ← named
-  e ← the fixed.Equals
-  t ← inner
-  s ← the fixed.Semicolon
-  give (record { left = n.0; right = t; at = n.1 })
+StatementLine = named & the fixed.Equals ⊳ inner ⊲ the fixed.Semicolon => λ x. record { left = x.0.0; right = x.1; at = x.0.1 }
 
 unfoldable pub Body : Grammar TextTree
-Body = do
-  k ← the fixed.Body
-  n ← named
-  o ← the fixed.Begin
-  rs ← many Register
-  ss ← many StatementLine
-  c ← the fixed.End
-  give (record { name = n.0; at = n.1; registers = rs; statements = ss })
+Body = the fixed.Body ⊳ named & the fixed.Begin ⊳ many Register & many StatementLine ⊲ the fixed.End => λ x. record { name = x.0.0; at = x.0.1; registers = x.1.0; statements = x.1.1 }
 
 unfoldable pub Bodies : Grammar (List TextTree)
 Bodies = many Body

@@ -2,7 +2,8 @@
 
 ghost use Rattle.std.specs.Prelude.{◌≡◌, ◌∷◌, []};
 ghost use Rattle.prl_grammar.specs.code.Readers.{next_in};
-ghost use Rattle.prl_bodytext.specs.Grammar.{the, named, number, Constant};
+ghost use Rattle.prl_grammar.specs.Combinators.{named, number};
+ghost use Rattle.prl_bodytext.specs.Grammar.{the, Constant};
 ghost use Rattle.prl_bodytext.specs.code.Parses.{Parses};
 ghost use Rattle.prl_bodytext.specs.Words.{class_of};
 

@@ -1,5 +1,5 @@
 -- Languages are read as deep as their tokens reach.
-use Rattle.std.proofs.Common.{◌≡◌, ◌<◌, true, false, ℕ, zero, suc, List, [], ◌∷◌, ◌++◌, length, refl, sym, subst, inl, inr, ◌∙◌, arith}
+use Rattle.std.proofs.Common.{◌≡◌, ◌<◌, ◌≤◌, true, false, ℕ, zero, suc, List, [], ◌∷◌, ◌++◌, length, Ok, refl, sym, subst, inl, inr, ◌∙◌, arith}
 use Rattle.std.proofs.lemmas.Bool.{false≢true}
 use Rattle.prl_grammar.specs.Lexemes.{Lexeme, first_place}
 use Rattle.prl_base.specs.declared.places.Span.{Span}
@@ -7,17 +7,18 @@ use Rattle.prl_grammar.specs.Grammars.{Both, Many}
 use Rattle.prl_grammar.specs.code.Reads.{Shape, then_shape, either_shape, many_shape, Begins, Reads}
 use Rattle.prl_grammar.specs.code.Readers.{is_in}
 use Rattle.prl_grammar.proofs.Basics.{contained, not_inside}
-use Rattle.prl_grammar.proofs.Repeats.{Widens, widened, lower, restate, deep_reads, at_length}
+use Rattle.prl_grammar.proofs.Repeats.{Widens, widened, lower, restate, deep_reads, at_length, leaves_fewer}
 use Rattle.prl_grammar.proofs.Sequences.{then_begins, in_left, in_right}
 use Rattle.prl_grammar.proofs.Steps.{one_reads, give_reads}
 use Rattle.prl_grammar.specs.Productions.{Grammar, token, give, bind, action, both, either, many, separated, placed, inner, written, Row}
 use Rattle.prl_grammar.specs.code.Shapes.{Inner, sample_token, sample, separated_shape, shape}
 use Rattle.prl_grammar.specs.Language.{Language, within, nested, Text}
 use Rattle.prl_grammar.specs.code.Languages.{inner_of, read_within, read_nested, read_at}
-use Rattle.prl_grammar.specs.code.LookAhead.{IsApart, IsRow}
+use Rattle.prl_grammar.specs.code.LookAhead.{IsApart, IsRow, is_apart}
 use Rattle.prl_grammar.proofs.Decides.{IsGuarded, grammar_reads, guarded_reads}
 use Rattle.prl_grammar.proofs.Growing.{to_nested, from_nested}
-use Rattle.prl_grammar.proofs.Alike.{guarded_alike}
+use Rattle.prl_grammar.proofs.Alike.{guarded_alike, shrinks}
+use Rattle.prl_grammar.proofs.Tested.{tested}
 
 -- what texts begin with
 
@@ -153,3 +154,10 @@ module _ {R : Type 0} (l : Language R) (right : IsRight l) where
   -- whatever is built of it is read
   pub text_reads : {A : Type 0} (g : Grammar R A) → IsApart (inner_of l) g → (n : ℕ) → Reads n (Text l g) (shape (inner_of l) g) (read_at l g)
   text_reads g apart n = grammar_reads (inner_of l) (nested l) (read_nested l) n (nested_reads n) g apart
+
+  -- a text that is not empty leaves fewer tokens, and each text no more of them
+  pub text_fewer : {A : Type 0} (g : Grammar R A) → is_apart (inner_of l) (placed g) ≡ true → (ts : List Lexeme) (a : A) (rest : List Lexeme) → read_at l g ts ≡ Ok (a, rest) → length rest < length ts
+  text_fewer g h = let parts = tested (inner_of l) (placed g) h in leaves_fewer 0 (text_reads g parts.0 0) parts.1
+
+  pub text_left : {A : Type 0} (g : Grammar R A) → is_apart (inner_of l) g ≡ true → (ts : List Lexeme) (a : A) (rest : List Lexeme) → read_at l g ts ≡ Ok (a, rest) → length rest ≤ length ts
+  text_left g h = (shrinks 0 (text_reads g (tested (inner_of l) g h) 0)).left
