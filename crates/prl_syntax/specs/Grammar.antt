@@ -1,5 +1,5 @@
--- The grammar of programs.
-use Rattle.std.specs.Prelude.{ℕ, true, false, List, [], ◌∷◌, ◌++◌, map, Option, Some, None}
+-- The grammar of programs. Its productions have the names of docs/formats.md, the parts before the whole.
+use Rattle.std.specs.Prelude.{ℕ, true, false, List, [], ◌∷◌, ◌++◌, map, Some, None}
 use Rattle.prl_base.specs.Ratios.{Fraction}
 use Rattle.prl_base.specs.declared.operators.Op.{Op}
 use Rattle.prl_base.specs.declared.operators.Op.TheVariants as ops
@@ -17,7 +17,8 @@ use Rattle.prl_ast.specs.declared.declarations.Rate.{Rate as RateTree}
 use Rattle.prl_ast.specs.declared.expressions.PlacedOp.{PlacedOp}
 use Rattle.prl_ast.specs.Trees.{Tree, Root, const, group, Trees, none, EquationTree, NodeTree, ProgramTree}
 use Rattle.prl_grammar.specs.Numbers.{positive, negative}
-use Rattle.prl_grammar.specs.Productions.{Grammar as GrammarIn, token, give, either, many, placed, inner, ◌>>=◌}
+use Rattle.prl_grammar.specs.Productions.{Grammar as GrammarIn, give, many, placed, inner}
+use Rattle.prl_grammar.specs.Combinators.{◌=>◌, ◌means◌, ◌or◌, ◌&◌, ◌⊳◌, ◌⊲◌, maybe, list_of, place, named, number}
 use Rattle.prl_grammar.specs.Language.{Language}
 use Rattle.prl_syntax.specs.declared.words.Fixed.{Fixed}
 use Rattle.prl_syntax.specs.declared.words.Fixed.TheVariants as fixed
@@ -31,325 +32,146 @@ use Rattle.prl_syntax.specs.Trees.{joined, params_of, port_of, trees_from, StemT
 abbrev pub Grammar : Type 0 → Type 1
 Grammar = GrammarIn StemTree
 
--- tokens
-
+-- a keyword or a symbol
 abbrev pub the : Fixed → Grammar Span
-the f = do
-  t ← token (class_of f)
-  give t.at
-
-abbrev pub named : Grammar (List ℕ × Span)
-named = do
-  t ← token 0
-  give (t.name, t.at)
-
-abbrev pub number : Grammar ℕ
-number = do
-  t ← token 1
-  give t.number
-
-abbrev pub keyword : {A : Type 0} → Fixed → A → Grammar A
-keyword f x = do
-  p ← the f
-  give x
-
-abbrev pub maybe : {A : Type 0} → Grammar A → Grammar (Option A)
-maybe g =
-    either (do
-      a ← g
-      give (Some a)) (give None)
-
-abbrev pub after : {A : Type 0} → Fixed → Grammar A → Grammar A
-after f g = do
-  p ← the f
-  g
-
--- one or more, with a token between
-abbrev pub list_of : {A : Type 0} → Fixed → Grammar A → Grammar (List A)
-list_of f g = do
-  first ← g
-  others ← many (after f g)
-  give (first ∷ others)
+the f = place (class_of f)
 
 abbrev pub closed : {A : Type 0} → Grammar A → Grammar A
-closed g = do
-  x ← g
-  c ← the fixed.Close
-  give x
+closed g = g ⊲ the fixed.Close
 
 abbrev pub in_parens : {A : Type 0} → Grammar A → Grammar A
-in_parens g = after fixed.Open (closed g)
+in_parens g = the fixed.Open ⊳ closed g
 
 -- in parentheses, which may stand alone
 abbrev pub maybe_in_parens : {A : Type 0} → A → Grammar A → Grammar A
-maybe_in_parens nothing g = after fixed.Open (either (keyword fixed.Close nothing) (closed g))
+maybe_in_parens nothing g = the fixed.Open ⊳ (the fixed.Close means nothing or closed g)
 
--- const
+-- constants and ratios
 
 unfoldable pub Const : Grammar Value
 Const =
-    either (keyword fixed.True (values.Bool true))
-    (either (keyword fixed.False (values.Bool false))
-    (either (do
-      p ← the fixed.Minus
-      n ← number
-      give (negative n))
-    (do
-      n ← number
-      give (positive n))))
-
--- ratio
+    the fixed.True means values.Bool true
+    or the fixed.False means values.Bool false
+    or the fixed.Minus ⊳ number => negative
+    or number => positive
 
 unfoldable pub Ratio : Grammar Fraction
-Ratio = do
-  n ← number
-  d ← maybe (after fixed.Slash number)
-  give (ratio_with n d)
+Ratio = number & maybe (the fixed.Slash ⊳ number) => λ x. ratio_with x.0 x.1
 
--- base, postfix, prefix, expr
+-- expressions
 
 unfoldable pub Postfix : Grammar PlacedOp
 Postfix =
-    either (do
-      p ← the fixed.Up
-      n ← number
-      give (record { op = ops.Up (small n); at = p }))
-    (either (do
-      p ← the fixed.Down
-      n ← number
-      give (record { op = ops.Down (small n); at = p }))
-    (do
-      p ← the fixed.Shift
-      q ← Ratio
-      give (record { op = ops.Shift q; at = p })))
+    the fixed.Up & number => (λ x. record { op = ops.Up (small x.1); at = x.0 })
+    or the fixed.Down & number => (λ x. record { op = ops.Down (small x.1); at = x.0 })
+    or the fixed.Shift & Ratio => (λ x. record { op = ops.Shift x.1; at = x.0 })
 
 -- a stem and postfixes
-abbrev pub Operated : Grammar (StemTree × List PlacedOp)
-Operated = do
-  s ← inner
-  post ← many Postfix
-  give (s, post)
-
 unfoldable pub Expr : Grammar Tree
-Expr = do
-  x ← placed Operated
-  give (tree_from x.0 x.1.0 x.1.1)
+Expr = placed (inner & many Postfix) => λ x. tree_from x.0 x.1.0 x.1.1
 
 unfoldable pub Exprs : Grammar Trees
-Exprs = do
-  ts ← list_of fixed.Comma Expr
-  give (trees_from ts)
+Exprs = list_of (the fixed.Comma) Expr => trees_from
 
 -- each base but a constant
 unfoldable pub Base : Grammar Root
-Base =
-    either (do
-      n ← named
-      args ← maybe (maybe_in_parens none Exprs)
-      give (root_of_name n args))
-    (do
-      ts ← in_parens Exprs
-      give (group ts))
+Base = named & maybe (maybe_in_parens none Exprs) => (λ x. root_of_name x.0 x.1) or in_parens Exprs => group
 
 -- the last token of a prefix, and the stem that it is applied to
-unfoldable pub Prefixed : Fixed → Op → Grammar StemTree
-Prefixed f op = do
-  p ← the f
-  s ← inner
-  give (prefixed (record { op = op; at = p }) s)
+unfoldable pub Prefix : Fixed → Grammar (Op → StemTree)
+Prefix f = the f & inner => λ x op. prefixed (record { op = op; at = x.0 }) x.1
 
--- Prefixes and a base. The token after a constant tells whether it belongs to a prefix.
+-- what stands after a constant: the token there tells whether it belongs to a prefix
+unfoldable pub AfterConst : Grammar (Value → StemTree)
+AfterConst = Prefix fixed.Fby => (λ p c. p (ops.Fby c)) or Prefix fixed.Cons => (λ p c. p (ops.Cons c)) or give (λ c. ([], const c))
+
+-- prefixes and a base
 unfoldable pub Stem : Grammar StemTree
-Stem =
-    either (do
-      b ← Base
-      give ([], b))
-    (either (Prefixed fixed.Tail ops.Tail)
-    (do
-      c ← Const
-      either (Prefixed fixed.Fby (ops.Fby c)) (either (Prefixed fixed.Cons (ops.Cons c)) (give ([], const c)))))
+Stem = Base => (λ b. ([], b)) or Prefix fixed.Tail => (λ p. p ops.Tail) or Const & AfterConst => λ x. x.1 x.0
 
 unfoldable pub programs : Language StemTree
 programs = record { sample = ([], const (values.Bool true)); body = Stem }
 
--- names
+-- names and equations
 
 unfoldable pub Name : Grammar Placed
-Name = do
-  n ← named
-  give (record { name = n.0; at = n.1 })
+Name = named => λ n. record { name = n.0; at = n.1 }
 
 unfoldable pub Names : Grammar (List Placed)
-Names = list_of fixed.Comma Name
-
--- left, equation
+Names = list_of (the fixed.Comma) Name
 
 unfoldable pub Left : Grammar (List Placed)
-Left =
-    either (in_parens Names)
-    (do
-      n ← Name
-      give (n ∷ []))
-
-abbrev pub Sides : Grammar (List Placed × Tree)
-Sides = do
-  lefts ← Left
-  p ← the fixed.Equals
-  right ← Expr
-  s ← the fixed.Semicolon
-  give (lefts, right)
+Left = in_parens Names or Name => λ n. n ∷ []
 
 unfoldable pub Equation : Grammar EquationTree
-Equation = do
-  x ← placed Sides
-  give (record { lefts = x.1.0; right = x.1.1; at = x.0 })
+Equation = placed (Left & the fixed.Equals ⊳ Expr ⊲ the fixed.Semicolon) => λ x. record { lefts = x.1.0; right = x.1.1; at = x.0 }
 
--- type, rate, note
+-- types, rates and notes
 
 unfoldable pub TypeName : Grammar Ty
-TypeName = either (keyword fixed.Int types.Int) (keyword fixed.Bool types.Bool)
+TypeName = the fixed.Int means types.Int or the fixed.Bool means types.Bool
 
 unfoldable pub Rate : Grammar RateTree
-Rate = do
-  k ← the fixed.Rate
-  o ← the fixed.Open
-  n ← number
-  c ← the fixed.Comma
-  q ← Ratio
-  e ← the fixed.Close
-  give (record { period = small n; phase = q })
+Rate = the fixed.Rate ⊳ in_parens (number & the fixed.Comma ⊳ Ratio) => λ x. record { period = small x.0; phase = x.1 }
 
 unfoldable pub Due : Grammar ℕ
-Due = do
-  k ← the fixed.Due
-  n ← number
-  give (small n)
+Due = the fixed.Due ⊳ number => small
 
 unfoldable pub Note : Grammar NoteTree
 Note =
-    either (do
-      d ← Due
-      give (record { ty = None; rate = None; due = Some d }))
-    (either (do
-      r ← Rate
-      d ← maybe Due
-      give (record { ty = None; rate = Some r; due = d }))
-    (do
-      t ← TypeName
-      r ← maybe Rate
-      d ← maybe Due
-      give (record { ty = Some t; rate = r; due = d })))
+    Due => (λ d. record { ty = None; rate = None; due = Some d })
+    or Rate & maybe Due => (λ x. record { ty = None; rate = Some x.0; due = x.1 })
+    or TypeName & maybe Rate & maybe Due => (λ x. record { ty = Some x.0; rate = x.1.0; due = x.1.1 })
 
--- params
+-- parameters
 
 unfoldable pub Item : Grammar ItemTree
-Item = do
-  n ← Name
-  x ← maybe (after fixed.Colon Note)
-  give (record { name = n; note = x })
+Item = Name & maybe (the fixed.Colon ⊳ Note) => λ x. record { name = x.0; note = x.1 }
 
 -- names with notes, and commas between: a note belongs to the names before it, up to the last note
 unfoldable pub Run : Grammar (List Param)
-Run = do
-  items ← list_of fixed.Comma Item
-  give (params_of items)
+Run = list_of (the fixed.Comma) Item => params_of
 
 unfoldable pub Params : Grammar (List Param)
-Params = do
-  runs ← list_of fixed.Semicolon Run
-  give (joined runs)
+Params = list_of (the fixed.Semicolon) Run => joined
 
 unfoldable pub EndedRun : Grammar (List Param)
-EndedRun = do
-  r ← Run
-  p ← the fixed.Semicolon
-  give r
+EndedRun = Run ⊲ the fixed.Semicolon
 
 unfoldable pub Locals : Grammar (List Param)
-Locals =
-    either (do
-      k ← the fixed.Var
-      r ← EndedRun
-      others ← many EndedRun
-      give (r ++ joined others)) (give [])
+Locals = the fixed.Var ⊳ (EndedRun & many EndedRun) => (λ x. x.0 ++ joined x.1) or give []
 
 -- ports
 
 unfoldable pub PortGroup : Grammar (List Port)
-PortGroup = do
-  ns ← Names
-  p ← the fixed.Colon
-  t ← TypeName
-  give (map (port_of t) ns)
+PortGroup = Names & the fixed.Colon ⊳ TypeName => λ x. map (port_of x.1) x.0
 
 unfoldable pub NextGroup : Grammar (List Port)
-NextGroup = do
-  p ← either (the fixed.Comma) (the fixed.Semicolon)
-  PortGroup
+NextGroup = (the fixed.Comma or the fixed.Semicolon) ⊳ PortGroup
 
 unfoldable pub Ports : Grammar (List Port)
-Ports = do
-  g ← PortGroup
-  others ← many NextGroup
-  give (g ++ joined others)
+Ports = PortGroup & many NextGroup => λ x. x.0 ++ joined x.1
 
--- import, sensor and actuator, node, program
+-- declarations
 
 unfoldable pub Wcet : Grammar ℕ
-Wcet = do
-  k ← the fixed.Wcet
-  n ← number
-  p ← the fixed.Semicolon
-  give (small n)
+Wcet = the fixed.Wcet ⊳ number ⊲ the fixed.Semicolon => small
 
 unfoldable pub Import : Grammar ImportTree
-Import = do
-  k ← the fixed.Imported
-  l ← the fixed.Node
-  n ← named
-  ins ← maybe_in_parens [] Ports
-  r ← the fixed.Returns
-  outs ← in_parens Ports
-  w ← Wcet
-  give (record { name = n.0; ins = ins; outs = outs; wcet = w; at = n.1 })
+Import = the fixed.Imported ⊳ the fixed.Node ⊳ named & maybe_in_parens [] Ports & the fixed.Returns ⊳ in_parens Ports & Wcet =>
+    λ x. record { name = x.0.0; ins = x.1.0; outs = x.1.1.0; wcet = x.1.1.1; at = x.0.1 }
 
 unfoldable pub Device : Fixed → Grammar DeviceTree
-Device f = do
-  k ← the f
-  n ← named
-  w ← Wcet
-  give (record { name = n.0; wcet = w; at = n.1 })
+Device f = the f ⊳ named & Wcet => λ x. record { name = x.0.0; wcet = x.1; at = x.0.1 }
 
 unfoldable pub Node : Grammar NodeTree
-Node = do
-  k ← the fixed.Node
-  n ← named
-  ins ← maybe_in_parens [] Params
-  r ← the fixed.Returns
-  outs ← in_parens Params
-  locals ← Locals
-  l ← the fixed.Let
-  eqs ← many Equation
-  t ← the fixed.Tel
-  s ← maybe (the fixed.Semicolon)
-  give (record { name = n.0; ins = ins; outs = outs; locals = locals; eqs = eqs; at = n.1 })
+Node =
+    the fixed.Node ⊳ named & maybe_in_parens [] Params & the fixed.Returns ⊳ in_parens Params & Locals
+    & the fixed.Let ⊳ many Equation ⊲ the fixed.Tel ⊲ maybe (the fixed.Semicolon) =>
+    λ x. record { name = x.0.0; ins = x.1.0; outs = x.1.1.0; locals = x.1.1.1.0; eqs = x.1.1.1.1; at = x.0.1 }
 
 unfoldable pub Declaration : Grammar Declared
-Declaration =
-    either (do
-      i ← Import
-      give (imported i))
-    (either (do
-      d ← Device fixed.Sensor
-      give (sensor d))
-    (either (do
-      d ← Device fixed.Actuator
-      give (actuator d))
-    (do
-      n ← Node
-      give (node n))))
+Declaration = Import => imported or Device fixed.Sensor => sensor or Device fixed.Actuator => actuator or Node => node
 
 unfoldable pub Program : Grammar ProgramTree
-Program = do
-  ds ← many Declaration
-  give (program_of ds)
+Program = many Declaration => program_of

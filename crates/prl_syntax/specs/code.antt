@@ -1,6 +1,4 @@
-pub mod Parses
-pub mod Loops
 pub mod Groups
-pub mod Links
-pub mod Nodes
+pub mod Loops
 pub mod Outcomes
+pub mod Parses
