@@ -5,6 +5,7 @@ use Rattle.prl_ast.specs.declared.expressions.PlacedOp.{PlacedOp}
 use Rattle.prl_ast.specs.Trees.{Root, const}
 use Rattle.prl_base.specs.declared.operators.Op.{Op}
 use Rattle.prl_base.specs.declared.operators.Op.TheVariants as ops
+use Rattle.prl_base.specs.declared.places.Span.{Span}
 use Rattle.prl_base.specs.declared.values.Value.{Value}
 use Rattle.prl_base.specs.Reading.{◌>>=◌, FailsAs}
 use Rattle.prl_grammar.specs.code.Stops.{stop_of}
@@ -12,15 +13,14 @@ use Rattle.prl_grammar.specs.declared.reading.Stop.{Stop}
 use Rattle.prl_grammar.specs.declared.reading.Stop.TheVariants as stops
 use Rattle.prl_grammar.specs.Lexemes.{Lexeme}
 use Rattle.prl_grammar.specs.code.Readers.{Read, next_in}
-use Rattle.prl_grammar.specs.Productions.{give, either}
+use Rattle.prl_grammar.specs.Combinators.{◌=>◌}
 use Rattle.prl_grammar.specs.code.Shapes.{shape}
 use Rattle.prl_grammar.specs.code.Languages.{inner_of, read_at, read_nested}
 use Rattle.prl_grammar.proofs.Nesting.{nested_step}
-use Rattle.prl_grammar.proofs.Repeats.{same_bind}
 use Rattle.prl_syntax.specs.declared.words.Fixed.{Fixed}
 use Rattle.prl_syntax.specs.declared.words.Fixed.TheVariants as fixed
-use Rattle.prl_syntax.specs.Grammar.{Grammar, the, Const, Base, Prefixed, Stem, programs}
-use Rattle.prl_syntax.specs.code.Links.{Step, prefix, last, PrefixLink, ConstantLink, NextLink, with_prefixes, after_step}
+use Rattle.prl_syntax.specs.Grammar.{Grammar, the, Const, Base, Prefix, AfterConst, Stem, programs}
+use Rattle.prl_syntax.specs.code.Links.{Step, prefix, last, AfterLink, ConstantLink, NextLink, with_prefixes, after_step}
 use Rattle.prl_syntax.specs.Trees.{StemTree, prefixed}
 use Rattle.prl_syntax.proofs.Right.{right}
 
@@ -32,29 +32,71 @@ cond_bind : {A B : Type 0} (b : Bool) (x y : Read A) (k : A × List Lexeme → R
 cond_bind true x y k x' y' e f = e
 cond_bind false x y k x' y' e f = f
 
-abbrev next : Step × List Lexeme → Read StemTree
-next l = after_step l.0 l.1
+cond_both : {A B C : Type 0} (b : Bool) (x y : Read A) (k : A × List Lexeme → Read C) (x' y' : Read B) (k' : B × List Lexeme → Read C) → (x >>= k) ≡ (x' >>= k') → (y >>= k) ≡ (y' >>= k') → (cond b x y >>= k) ≡ (cond b x' y' >>= k')
+cond_both true x y k x' y' k' e f = e
+cond_both false x y k x' y' k' e f = f
 
 abbrev first_of : {A : Type 0} → Grammar A → List Lexeme → Bool
 first_of g ts = next_in (shape (inner_of programs) g).first ts
 
-prefix_is : (f : Fixed) (op : Op) (ts : List Lexeme) → (read_at programs (PrefixLink f op) ts >>= next) ≡ read_at programs (Prefixed f op) ts
-unfolding PrefixLink Prefixed
-prefix_is f op ts = bind_assoc (read_at programs (the f) ts) _ next
+abbrev applied : {A : Type 0} → (Value × (Value → A)) × List Lexeme → Read A
+applied x = Ok (x.0.1 x.0.0, x.1)
 
-constant_is : (v : Value) (ts : List Lexeme) → (read_at programs (either (PrefixLink fixed.Fby (ops.Fby v)) (either (PrefixLink fixed.Cons (ops.Cons v)) (give (last (const v))))) ts >>= next)
-    ≡ read_at programs (either (Prefixed fixed.Fby (ops.Fby v)) (either (Prefixed fixed.Cons (ops.Cons v)) (give ([], const v)))) ts
-unfolding PrefixLink Prefixed
-constant_is v ts =
-    cond_bind (first_of (PrefixLink fixed.Fby (ops.Fby v)) ts) _ _ next _ _ (prefix_is fixed.Fby (ops.Fby v) ts)
-    (cond_bind (first_of (PrefixLink fixed.Cons (ops.Cons v)) ts) _ _ next _ _ (prefix_is fixed.Cons (ops.Cons v) ts) refl)
+abbrev next : Step × List Lexeme → Read StemTree
+next l = after_step l.0 l.1
+
+abbrev beside : Span → StemTree × List Lexeme → Read (Span × StemTree)
+beside p s = Ok ((p, s.0), s.1)
+
+abbrev waiting : (Span × StemTree) × List Lexeme → Read (Op → StemTree)
+waiting x = Ok ((λ op. prefixed (record { op = op; at = x.0.0 }) x.0.1), x.1)
+
+abbrev with_op : Op → (Op → StemTree) × List Lexeme → Read StemTree
+with_op op x = Ok (x.0 op, x.1)
+
+abbrev after_prefix : Op → Span × List Lexeme → Read StemTree
+after_prefix op x = next (prefix (record { op = op; at = x.0 }), x.1)
+
+-- a prefix, as a link and then the stem that it is applied to, and as one
+prefix_is : (f : Fixed) (op : Op) (ts : List Lexeme) → (read_at programs (the f) ts >>= after_prefix op) ≡ (read_at programs (Prefix f) ts >>= with_op op)
+unfolding Prefix
+prefix_is f op ts = go (read_at programs (the f) ts)
+  where
+    inside : (p : Span) (r : Read StemTree) → (r >>= λ s. Ok (prefixed (record { op = op; at = p }) s.0, s.1)) ≡ (((r >>= beside p) >>= waiting) >>= with_op op)
+    inside p (Ok s) = refl
+    inside p (Err e) = refl
+
+    go : (r : Read Span) → (r >>= after_prefix op) ≡ (((r >>= λ x. (read_nested programs x.1 >>= beside x.0)) >>= waiting) >>= with_op op)
+    go (Ok x) = inside x.0 (read_nested programs x.1)
+    go (Err e) = refl
+
+abbrev link_of : Value → (Value → Step) × List Lexeme → Read StemTree
+link_of c x = next (x.0 c, x.1)
+
+abbrev whole_of : Value → (Value → StemTree) × List Lexeme → Read StemTree
+whole_of c x = Ok (x.0 c, x.1)
+
+-- what stands after a constant
+after_is : (c : Value) (ts : List Lexeme) → (read_at programs AfterLink ts >>= λ x. next (x.0 c, x.1)) ≡ (read_at programs AfterConst ts >>= λ x. Ok (x.0 c, x.1))
+unfolding AfterLink AfterConst Prefix programs
+after_is c ts =
+    cond_both (first_of (Prefix fixed.Fby) ts) _ _ (link_of c) _ _ (whole_of c) (operated fixed.Fby ops.Fby)
+    (cond_both (first_of (Prefix fixed.Cons) ts) _ _ (link_of c) _ _ (whole_of c) (operated fixed.Cons ops.Cons) refl)
+  where
+    operated : (f : Fixed) (op : Value → Op) → (read_at programs (the f => λ p c. prefix (record { op = op c; at = p })) ts >>= link_of c) ≡ (read_at programs (Prefix f => λ p c. p (op c)) ts >>= whole_of c)
+    operated f op = bind_assoc (read_at programs (the f) ts) _ (link_of c) ∙ prefix_is f (op c) ts ∙ sym (bind_assoc (read_at programs (Prefix f) ts) _ (whole_of c))
 
 link_is : (ts : List Lexeme) → (read_at programs NextLink ts >>= next) ≡ read_at programs Stem ts
-unfolding NextLink ConstantLink PrefixLink Prefixed Stem
+unfolding NextLink ConstantLink Stem Prefix programs
 link_is ts =
-    cond_bind _ _ _ next _ _ (bind_assoc (read_at programs Base ts) _ next)
-    (cond_bind (first_of (PrefixLink fixed.Tail ops.Tail) ts) _ _ next _ _ (prefix_is fixed.Tail ops.Tail ts)
-    (bind_assoc (read_at programs Const ts) _ next ∙ same_bind (read_at programs Const ts) _ _ (λ v rest e. constant_is v rest)))
+    cond_bind (first_of Base ts) _ _ next _ _ (bind_assoc (read_at programs Base ts) _ next)
+    (cond_bind (first_of (the fixed.Tail) ts) _ _ next _ _ (bind_assoc (read_at programs (the fixed.Tail) ts) _ next ∙ prefix_is fixed.Tail ops.Tail ts) (go (read_at programs Const ts)))
+  where
+    go : (r : Read Value) → (((r >>= λ c. (read_at programs AfterLink c.1 >>= λ x. Ok ((c.0, x.0), x.1))) >>= applied) >>= next) ≡ ((r >>= λ c. (read_at programs AfterConst c.1 >>= λ x. Ok ((c.0, x.0), x.1))) >>= applied)
+    go (Ok c) =
+        ap (λ r. r >>= next) (bind_assoc (read_at programs AfterLink c.1) _ applied) ∙ bind_assoc (read_at programs AfterLink c.1) _ next ∙ after_is c.0 c.1
+        ∙ sym (bind_assoc (read_at programs AfterConst c.1) _ applied)
+    go (Err e) = refl
 
 stem_step : (ts : List Lexeme) → read_nested programs ts ≡ read_at programs Stem ts
 unfolding programs

@@ -1,4 +1,6 @@
-pub mod Groups
-pub mod Loops
-pub mod Outcomes
 pub mod Parses
+pub mod Loops
+pub mod Groups
+pub mod Links
+pub mod Nodes
+pub mod Outcomes

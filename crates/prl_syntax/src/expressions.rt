@@ -7,6 +7,7 @@ ghost use Rattle.prl_grammar.specs.Lexemes.{first_place};
 ghost use Rattle.prl_grammar.specs.code.Stops.{stop_of};
 ghost use Rattle.prl_grammar.specs.code.Loops.{with_front};
 ghost use Rattle.prl_ast.specs.Trees.{none};
+ghost use Rattle.prl_grammar.specs.Combinators.{◌⊳◌};
 ghost use Rattle.prl_syntax.specs.code.Links.{link_view, with_prefixes};
 ghost use Rattle.prl_syntax.specs.code.Links as links;
 ghost use Rattle.prl_syntax.specs.Grammar as grammar;
@@ -86,7 +87,7 @@ enum Link {
 
 impl<'a> Parser<'a> {
     /// Takes a constant, and the operator of which it is the constant.
-    #[tactic(auto, unfolding(crate::specs::code::Links::ConstantLink, crate::specs::code::Links::PrefixLink))]
+    #[tactic(auto, unfolding(crate::specs::code::Links::ConstantLink, crate::specs::code::Links::AfterLink))]
     fn constant_link(&mut self) -> Result<Link, Stop>
         ensures { Parses link_view links.ConstantLink result self.entry.now self.exit.now }
     {
@@ -106,7 +107,7 @@ impl<'a> Parser<'a> {
 
     /// Takes a prefix, or what the prefixes are applied to.
     #[cycle(expression)]
-    #[tactic(auto, unfolding(crate::specs::code::Links::NextLink, crate::specs::code::Links::PrefixLink))]
+    #[tactic(auto, unfolding(crate::specs::code::Links::NextLink))]
     fn read_link(&mut self) -> Result<Link, Stop>
         ensures { Parses link_view links.NextLink result self.entry.now self.exit.now }
     {
@@ -156,7 +157,7 @@ impl<'a> Parser<'a> {
     /// Takes a comma and an expression.
     #[cycle(expression)]
     fn comma_expr(&mut self) -> Result<Expr, Stop>
-        ensures { Parses tree_of (grammar.after kinds.Comma grammar.Expr) result self.entry.now self.exit.now }
+        ensures { Parses tree_of (grammar.the kinds.Comma ⊳ grammar.Expr) result self.entry.now self.exit.now }
     {
         self.expect(Fixed::Comma)?;
         self.expr()
@@ -165,7 +166,7 @@ impl<'a> Parser<'a> {
     /// Takes expressions after the first ones, each with a comma before it.
     #[cycle(expression)]
     fn more_exprs(&mut self, front: Vec<Expr>) -> Result<Vec<Expr>, Stop>
-        ensures { Gives (λ x. (map tree_of x.items, self.exit.now)) stop_of result (with_front (map tree_of front.items) (read_at programs (many (grammar.after kinds.Comma grammar.Expr)) self.entry.now)) }
+        ensures { Gives (λ x. (map tree_of x.items, self.exit.now)) stop_of result (with_front (map tree_of front.items) (read_at programs (many (grammar.the kinds.Comma ⊳ grammar.Expr)) self.entry.now)) }
     {
         let mut exprs = front;
         'more: while self.next_is(Fixed::Comma) {

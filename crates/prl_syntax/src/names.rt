@@ -3,6 +3,7 @@
 ghost use Rattle.std.specs.Prelude.{◌≡◌};
 ghost use Rattle.prl_base.specs.Reading.{Gives};
 ghost use Rattle.prl_grammar.specs.code.Stops.{stop_of};
+ghost use Rattle.prl_grammar.specs.Combinators.{◌⊳◌};
 ghost use Rattle.prl_syntax.specs.Grammar as grammar;
 ghost use Rattle.prl_syntax.specs.code.Parses.{Parses};
 ghost use Rattle.prl_syntax.specs.Grammar.{programs};
@@ -28,7 +29,7 @@ impl<'a> Parser<'a> {
 
     /// Takes a comma and a name.
     fn comma_name(&mut self) -> Result<Placed, Stop>
-        ensures { Parses (λ x. x) (grammar.after kinds.Comma grammar.Name) result self.entry.now self.exit.now }
+        ensures { Parses (λ x. x) (grammar.the kinds.Comma ⊳ grammar.Name) result self.entry.now self.exit.now }
     {
         self.expect(Fixed::Comma)?;
         self.placed()
@@ -36,7 +37,7 @@ impl<'a> Parser<'a> {
 
     /// Takes names after the first ones, each with a comma before it.
     fn more_names(&mut self, front: Vec<Placed>) -> Result<Vec<Placed>, Stop>
-        ensures { Gives (λ x. (x.items, self.exit.now)) stop_of result (with_front front.items (read_at programs (many (grammar.after kinds.Comma grammar.Name)) self.entry.now)) }
+        ensures { Gives (λ x. (x.items, self.exit.now)) stop_of result (with_front front.items (read_at programs (many (grammar.the kinds.Comma ⊳ grammar.Name)) self.entry.now)) }
     {
         let mut names = front;
         'more: while self.next_is(Fixed::Comma) {

@@ -6,6 +6,7 @@ ghost use Rattle.prl_ast.specs.Trees.{equation_tree, node_tree, program_tree};
 ghost use Rattle.prl_grammar.specs.code.Stops.{stop_of};
 ghost use Rattle.prl_grammar.specs.code.Whole.{all_at};
 ghost use Rattle.prl_grammar.specs.code.Loops.{with_front};
+ghost use Rattle.prl_grammar.specs.Combinators as combinators;
 ghost use Rattle.prl_syntax.specs.code.Nodes.{declared_view, declarations_view, with_last};
 ghost use Rattle.prl_syntax.specs.Grammar as grammar;
 ghost use Rattle.prl_syntax.specs.code.Parses.{Parses};
@@ -81,7 +82,7 @@ impl<'a> Parser<'a> {
     }
 
     fn maybe_semicolon(&mut self) -> Result<Option<Span>, Stop>
-        ensures { Parses (λ x. x) (grammar.maybe (grammar.the kinds.Semicolon)) result self.entry.now self.exit.now }
+        ensures { Parses (λ x. x) (combinators.maybe (grammar.the kinds.Semicolon)) result self.entry.now self.exit.now }
     {
         if self.next_is(Fixed::Semicolon) {
             let at = self.expect(Fixed::Semicolon)?;

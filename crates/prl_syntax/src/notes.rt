@@ -3,6 +3,7 @@
 ghost use Rattle.std.specs.Prelude.{◌≡◌};
 ghost use Rattle.prl_base.specs.Reading.{Gives};
 ghost use Rattle.prl_grammar.specs.code.Stops.{stop_of};
+ghost use Rattle.prl_grammar.specs.Combinators as combinators;
 ghost use Rattle.prl_syntax.specs.Grammar as grammar;
 ghost use Rattle.prl_syntax.specs.code.Parses.{Parses};
 ghost use Rattle.prl_syntax.specs.declared.words.Fixed.TheVariants as kinds;
@@ -53,7 +54,7 @@ impl<'a> Parser<'a> {
 
     #[tactic(auto, unfolding(crate::specs::Grammar::Rate))]
     fn maybe_rate(&mut self) -> Result<Option<Rate>, Stop>
-        ensures { Parses (λ x. x) (grammar.maybe grammar.Rate) result self.entry.now self.exit.now }
+        ensures { Parses (λ x. x) (combinators.maybe grammar.Rate) result self.entry.now self.exit.now }
     {
         if self.next_is(Fixed::Rate) {
             let rate = self.rate()?;
@@ -74,7 +75,7 @@ impl<'a> Parser<'a> {
 
     #[tactic(auto, unfolding(crate::specs::Grammar::Due))]
     fn maybe_due(&mut self) -> Result<Option<u32>, Stop>
-        ensures { Parses (λ x. x) (grammar.maybe grammar.Due) result self.entry.now self.exit.now }
+        ensures { Parses (λ x. x) (combinators.maybe grammar.Due) result self.entry.now self.exit.now }
     {
         if self.next_is(Fixed::Due) {
             let due = self.due()?;

@@ -4,6 +4,8 @@ ghost use Rattle.std.specs.Prelude.{◌≡◌, ◌∷◌, [], ◌++◌, reverse,
 ghost use Rattle.prl_base.specs.Reading.{Gives};
 ghost use Rattle.prl_grammar.specs.code.Stops.{stop_of};
 ghost use Rattle.prl_grammar.specs.code.Loops.{with_front};
+ghost use Rattle.prl_grammar.specs.Combinators.{◌⊳◌};
+ghost use Rattle.prl_grammar.specs.Combinators as combinators;
 ghost use Rattle.prl_syntax.specs.code.Loops.{with_joined};
 ghost use Rattle.prl_syntax.specs.Grammar as grammar;
 ghost use Rattle.prl_syntax.specs.code.Parses.{Parses};
@@ -30,7 +32,7 @@ pub struct Item {
 
 impl<'a> Parser<'a> {
     fn maybe_note(&mut self) -> Result<Option<Note>, Stop>
-        ensures { Parses (λ x. x) (grammar.maybe (grammar.after kinds.Colon grammar.Note)) result self.entry.now self.exit.now }
+        ensures { Parses (λ x. x) (combinators.maybe (grammar.the kinds.Colon ⊳ grammar.Note)) result self.entry.now self.exit.now }
     {
         if self.next_is(Fixed::Colon) {
             self.expect(Fixed::Colon)?;
@@ -50,7 +52,7 @@ impl<'a> Parser<'a> {
     }
 
     fn comma_item(&mut self) -> Result<Item, Stop>
-        ensures { Parses (λ x. x) (grammar.after kinds.Comma grammar.Item) result self.entry.now self.exit.now }
+        ensures { Parses (λ x. x) (grammar.the kinds.Comma ⊳ grammar.Item) result self.entry.now self.exit.now }
     {
         self.expect(Fixed::Comma)?;
         self.read_item()
@@ -58,7 +60,7 @@ impl<'a> Parser<'a> {
 
     /// Takes items after the first ones, each with a comma before it.
     fn more_items(&mut self, front: Vec<Item>) -> Result<Vec<Item>, Stop>
-        ensures { Gives (λ x. (x.items, self.exit.now)) stop_of result (with_front front.items (read_at programs (many (grammar.after kinds.Comma grammar.Item)) self.entry.now)) }
+        ensures { Gives (λ x. (x.items, self.exit.now)) stop_of result (with_front front.items (read_at programs (many (grammar.the kinds.Comma ⊳ grammar.Item)) self.entry.now)) }
     {
         let mut items = front;
         'more: while self.next_is(Fixed::Comma) {
@@ -69,7 +71,7 @@ impl<'a> Parser<'a> {
 
     /// Takes names with their notes, with commas between.
     fn items(&mut self) -> Result<Vec<Item>, Stop>
-        ensures { Parses (λ x. x.items) (grammar.list_of kinds.Comma grammar.Item) result self.entry.now self.exit.now }
+        ensures { Parses (λ x. x.items) (combinators.list_of (grammar.the kinds.Comma) grammar.Item) result self.entry.now self.exit.now }
     {
         let first = self.read_item()?;
         let mut front = Vec::new(self.alloc);
@@ -181,7 +183,7 @@ impl<'a> Parser<'a> {
     }
 
     fn semicolon_run(&mut self) -> Result<Vec<Param>, Stop>
-        ensures { Parses (λ x. x.items) (grammar.after kinds.Semicolon grammar.Run) result self.entry.now self.exit.now }
+        ensures { Parses (λ x. x.items) (grammar.the kinds.Semicolon ⊳ grammar.Run) result self.entry.now self.exit.now }
     {
         self.expect(Fixed::Semicolon)?;
         self.run()
@@ -189,7 +191,7 @@ impl<'a> Parser<'a> {
 
     /// Takes runs after the first ones, each with a semicolon before it.
     fn more_runs(&mut self, front: Vec<Param>) -> Result<Vec<Param>, Stop>
-        ensures { Gives (λ x. (x.items, self.exit.now)) stop_of result (with_joined front.items (read_at programs (many (grammar.after kinds.Semicolon grammar.Run)) self.entry.now)) }
+        ensures { Gives (λ x. (x.items, self.exit.now)) stop_of result (with_joined front.items (read_at programs (many (grammar.the kinds.Semicolon ⊳ grammar.Run)) self.entry.now)) }
     {
         let mut params = front;
         'more: while self.next_is(Fixed::Semicolon) {

@@ -3,7 +3,8 @@
 ghost use Rattle.std.specs.Prelude.{◌≡◌, ◌∷◌, []};
 ghost use Rattle.prl_grammar.specs.Lexemes.{first_place};
 ghost use Rattle.prl_grammar.specs.code.Readers.{next_in};
-ghost use Rattle.prl_syntax.specs.Grammar.{the, named, number};
+ghost use Rattle.prl_grammar.specs.Combinators.{named, number};
+ghost use Rattle.prl_syntax.specs.Grammar.{the};
 ghost use Rattle.prl_syntax.specs.code.Parses.{Parses};
 ghost use Rattle.prl_syntax.specs.Words.{class_of};
 

@@ -4,6 +4,8 @@ ghost use Rattle.std.specs.Prelude.{◌≡◌, ◌<◌, ◌≤◌};
 ghost use Rattle.prl_base.specs.Reading.{Gives};
 ghost use Rattle.prl_grammar.specs.code.Stops.{stop_of};
 ghost use Rattle.prl_base.specs.declared.ratios.TheConstants.{MAX_PART};
+ghost use Rattle.prl_grammar.specs.Combinators.{◌⊳◌};
+ghost use Rattle.prl_grammar.specs.Combinators as combinators;
 ghost use Rattle.prl_syntax.specs.Values.{small, reduced, ratio_of};
 ghost use Rattle.prl_syntax.specs.Grammar as grammar;
 ghost use Rattle.prl_syntax.specs.code.Parses.{Parses};
@@ -72,7 +74,7 @@ pub fn ratio_of(num: u64, den: u64) -> Ratio
 impl<'a> Parser<'a> {
     /// Takes a denominator and its `/`, if they are there.
     fn maybe_denominator(&mut self) -> Result<Option<u64>, Stop>
-        ensures { Parses (λ x. x) (grammar.maybe (grammar.after kinds.Slash grammar.number)) result self.entry.now self.exit.now }
+        ensures { Parses (λ x. x) (combinators.maybe (grammar.the kinds.Slash ⊳ combinators.number)) result self.entry.now self.exit.now }
     {
         if self.next_is(Fixed::Slash) {
             self.expect(Fixed::Slash)?;

@@ -1,15 +1,15 @@
 -- A stem is read link by link.
 use Rattle.std.specs.Prelude.{List, [], ◌++◌, Ok}
 use Rattle.prl_base.specs.Reading.{◌>>=◌ as ◌then_read◌}
-use Rattle.prl_base.specs.declared.operators.Op.{Op}
+use Rattle.prl_base.specs.declared.values.Value.{Value}
 use Rattle.prl_base.specs.declared.operators.Op.TheVariants as ops
 use Rattle.prl_ast.specs.declared.expressions.PlacedOp.{PlacedOp}
 use Rattle.prl_ast.specs.Trees.{Root, const, root_of}
 use Rattle.prl_grammar.specs.Lexemes.{Lexeme}
 use Rattle.prl_grammar.specs.code.Readers.{Read}
-use Rattle.prl_grammar.specs.Productions.{give, either, ◌>>=◌}
+use Rattle.prl_grammar.specs.Productions.{give}
+use Rattle.prl_grammar.specs.Combinators.{◌=>◌, ◌or◌, ◌&◌}
 use Rattle.prl_grammar.specs.code.Languages.{read_nested}
-use Rattle.prl_syntax.specs.declared.words.Fixed.{Fixed}
 use Rattle.prl_syntax.specs.declared.words.Fixed.TheVariants as fixed
 use Rattle.prl_syntax.specs.declared.expressions.Link.{Link}
 use Rattle.prl_syntax.specs.declared.expressions.Link.TheVariants as links
@@ -25,22 +25,18 @@ abbrev pub link_view : Link → Step
 link_view (links.Prefix op) = prefix op
 link_view (links.Base base) = last (root_of base)
 
-unfoldable pub PrefixLink : Fixed → Op → Grammar Step
-PrefixLink f op = do
-  p ← the f
-  give (prefix (record { op = op; at = p }))
+-- what stands after a constant
+unfoldable pub AfterLink : Grammar (Value → Step)
+AfterLink =
+    the fixed.Fby => (λ p c. prefix (record { op = ops.Fby c; at = p }))
+    or the fixed.Cons => (λ p c. prefix (record { op = ops.Cons c; at = p }))
+    or give (λ c. last (const c))
 
 unfoldable pub ConstantLink : Grammar Step
-ConstantLink = do
-  c ← Const
-  either (PrefixLink fixed.Fby (ops.Fby c)) (either (PrefixLink fixed.Cons (ops.Cons c)) (give (last (const c))))
+ConstantLink = Const & AfterLink => λ x. x.1 x.0
 
 unfoldable pub NextLink : Grammar Step
-NextLink =
-    either (do
-      b ← Base
-      give (last b))
-    (either (PrefixLink fixed.Tail ops.Tail) ConstantLink)
+NextLink = Base => last or the fixed.Tail => (λ p. prefix (record { op = ops.Tail; at = p })) or ConstantLink
 
 -- prefixes that were read before
 abbrev pub with_prefixes : List PlacedOp → Read StemTree → Read StemTree

@@ -2,10 +2,11 @@ use Rattle.std.proofs.Common.{◌≡◌, ◌≤◌, ◌+◌, ◌*◌, length, ma
 use Rattle.prl_ast.specs.Trees.{tree_of}
 use Rattle.prl_grammar.specs.code.Languages.{read_at, read_nested}
 use Rattle.prl_grammar.specs.Productions.{many}
+use Rattle.prl_grammar.specs.Combinators.{◌⊳◌}
 use Rattle.prl_syntax.specs.declared.words.Fixed.TheVariants as fixed
 use Rattle.prl_syntax.specs.code.Links.{with_prefixes}
 use Rattle.prl_grammar.specs.code.Loops.{with_front}
-use Rattle.prl_syntax.specs.Grammar.{after, Expr, programs}
+use Rattle.prl_syntax.specs.Grammar.{the, Expr, programs}
 use Rattle.prl_syntax.proofs.parser.Parser.+expression.Given as goal
 
 abbrev pub decreases-base : goal.decreases-base
@@ -43,7 +44,7 @@ decreases-stem-each l = length l.self
 
 abbrev pub invariant-more_exprs-more : goal.invariant-more_exprs-more
 invariant-more_exprs-more l = record {
-  exact : with_front (map tree_of l.exprs.items) (read_at programs (many (after fixed.Comma Expr)) l.self) ≡ with_front (map tree_of l.fn.front.items) (read_at programs (many (after fixed.Comma Expr)) l.fn.self);
+  exact : with_front (map tree_of l.exprs.items) (read_at programs (many (the fixed.Comma ⊳ Expr)) l.self) ≡ with_front (map tree_of l.fn.front.items) (read_at programs (many (the fixed.Comma ⊳ Expr)) l.fn.self);
   shorter : length l.self ≤ length l.fn.self;
 }
 

@@ -1,13 +1,14 @@
 use Rattle.std.proofs.Common.{◌≡◌, length}
 use Rattle.prl_grammar.specs.code.Languages.{read_at}
 use Rattle.prl_grammar.specs.Productions.{many}
+use Rattle.prl_grammar.specs.Combinators.{◌⊳◌}
 use Rattle.prl_syntax.specs.declared.words.Fixed.TheVariants as fixed
-use Rattle.prl_syntax.specs.Grammar.{after, Item, programs}
+use Rattle.prl_syntax.specs.Grammar.{the, Item, programs}
 use Rattle.prl_grammar.specs.code.Loops.{with_front}
 use Rattle.prl_syntax.proofs.parser.Parser.more_items.Given as goal
 
 abbrev pub invariant-more : goal.invariant-more
-invariant-more l = with_front l.items.items (read_at programs (many (after fixed.Comma Item)) l.self) ≡ with_front l.fn.front.items (read_at programs (many (after fixed.Comma Item)) l.fn.self)
+invariant-more l = with_front l.items.items (read_at programs (many (the fixed.Comma ⊳ Item)) l.self) ≡ with_front l.fn.front.items (read_at programs (many (the fixed.Comma ⊳ Item)) l.fn.self)
 
 abbrev pub decreases-more : goal.decreases-more
 decreases-more l = length l.self

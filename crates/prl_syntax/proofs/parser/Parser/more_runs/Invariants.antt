@@ -1,13 +1,14 @@
 use Rattle.std.proofs.Common.{◌≡◌, length}
 use Rattle.prl_grammar.specs.code.Languages.{read_at}
 use Rattle.prl_grammar.specs.Productions.{many}
+use Rattle.prl_grammar.specs.Combinators.{◌⊳◌}
 use Rattle.prl_syntax.specs.declared.words.Fixed.TheVariants as fixed
-use Rattle.prl_syntax.specs.Grammar.{after, Run, programs}
+use Rattle.prl_syntax.specs.Grammar.{the, Run, programs}
 use Rattle.prl_syntax.specs.code.Loops.{with_joined}
 use Rattle.prl_syntax.proofs.parser.Parser.more_runs.Given as goal
 
 abbrev pub invariant-more : goal.invariant-more
-invariant-more l = with_joined l.params.items (read_at programs (many (after fixed.Semicolon Run)) l.self) ≡ with_joined l.fn.front.items (read_at programs (many (after fixed.Semicolon Run)) l.fn.self)
+invariant-more l = with_joined l.params.items (read_at programs (many (the fixed.Semicolon ⊳ Run)) l.self) ≡ with_joined l.fn.front.items (read_at programs (many (the fixed.Semicolon ⊳ Run)) l.fn.self)
 
 abbrev pub decreases-more : goal.decreases-more
 decreases-more l = length l.self
