@@ -1,26 +1,28 @@
--- Names that wait for their note get the next one.
-use Rattle.std.proofs.Common.{◌≡◌, List, [], ◌∷◌, ◌++◌, map, Option, Some, None, sym, ap, ◌∙◌, append_assoc}
-use Rattle.std.proofs.lemmas.List.{map_push}
+-- Items from the last one back: each is noted by itself, or by the next one that is.
+use Rattle.std.proofs.Common.{◌≡◌, List, [], ◌∷◌, ◌++◌, Option, Some, None, reverse, refl, sym, ap, ◌∙◌, append_assoc}
+use Rattle.std.proofs.lemmas.List.{reverse-append}
 use Rattle.prl_ast.specs.declared.declarations.Param.{Param}
-use Rattle.prl_ast.specs.declared.declarations.Placed.{Placed}
 use Rattle.prl_syntax.specs.declared.notes.Note.{Note}
 use Rattle.prl_syntax.specs.declared.parameters.Item.{Item}
-use Rattle.prl_syntax.specs.Trees.{param_of, first_note, params_before}
-use Rattle.prl_syntax.specs.code.Groups.{noted, params_after, waiting_after}
+use Rattle.prl_syntax.specs.Trees.{param_of, note_or, first_note, params_before}
 
--- what comes of the names that wait and of the items after them
-abbrev pub still : List Placed → List Item → List Param
-still waiting items = noted (first_note items None) waiting ++ params_before items None
+last_note : (items : List Item) (item : Item) (later : Option Note) → first_note (items ++ item ∷ []) later ≡ first_note items (note_or item.note later)
+last_note [] item later = refl
+last_note (i ∷ items) item later = ap (note_or i.note) (last_note items item later)
 
-abbrev pub item_of : Placed → Option Note → Item
-item_of name note = record { name = name; note = note }
+last_item : (items : List Item) (item : Item) (later : Option Note)
+    → params_before (items ++ item ∷ []) later ≡ params_before items (note_or item.note later) ++ param_of item.name (note_or item.note later) ∷ []
+last_item [] item later = refl
+last_item (i ∷ items) item later = ap (λ n. param_of i.name (note_or i.note n) ∷ params_before (items ++ item ∷ []) later) (last_note items item later)
+    ∙ ap (λ ps. param_of i.name (first_note (i ∷ items) (note_or item.note later)) ∷ ps) (last_item items item later)
 
-pub one_item : (params : List Param) (waiting : List Placed) (name : Placed) (note : Option Note) (rest : List Item)
-    → params ++ still waiting (item_of name note ∷ rest) ≡ params_after params waiting name note ++ still (waiting_after waiting name note) rest
-one_item params waiting name None rest =
-    let f : Placed → Param = λ n. param_of n (first_note rest None) in
-    ap (λ ps. params ++ ps) (sym (append_assoc (map f waiting) (f name ∷ []) (params_before rest None)) ∙ ap (λ ps. ps ++ params_before rest None) (sym (map_push f waiting name)))
-one_item params waiting name (Some note) rest =
-    let g : Placed → Param = λ n. param_of n (Some note) in
-    ap (λ ps. params ++ ps) (sym (append_assoc (map g waiting) (g name ∷ []) (params_before rest None)) ∙ ap (λ ps. ps ++ params_before rest None) (sym (map_push g waiting name)))
-    ∙ sym (append_assoc params (map g (waiting ++ name ∷ [])) (params_before rest None))
+pub one_more : (items before : List Item) (item : Item) (note later : Option Note) (p : Param) (params after total : List Param) → items ≡ before ++ item ∷ [] → later ≡ note_or item.note note → p ≡ param_of item.name later → after ≡ params ++ p ∷ []
+    → params_before items note ++ reverse params ≡ total → params_before before later ++ reverse after ≡ total
+one_more items before item note later p params after total split is made push so_far =
+    let own = note_or item.note note in
+    ap (λ n. params_before before n ++ reverse after) is
+    ∙ ap (λ ps. params_before before own ++ reverse ps) (push ∙ ap (λ q. params ++ q ∷ []) (made ∙ ap (param_of item.name) is))
+    ∙ ap (λ ps. params_before before own ++ ps) (reverse-append params (param_of item.name own ∷ []))
+    ∙ sym (append_assoc (params_before before own) (param_of item.name own ∷ []) (reverse params))
+    ∙ ap (λ ps. ps ++ reverse params) (sym (ap (λ is. params_before is note) split ∙ last_item before item note))
+    ∙ so_far

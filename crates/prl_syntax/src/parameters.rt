@@ -12,8 +12,7 @@ ghost use Rattle.prl_syntax.specs.code.Parses.{Parses};
 ghost use Rattle.prl_syntax.specs.Grammar.{programs};
 ghost use Rattle.prl_grammar.specs.code.Languages.{read_at};
 ghost use Rattle.prl_grammar.specs.Productions.{many};
-ghost use Rattle.prl_syntax.specs.Trees.{param_of, params_of};
-ghost use Rattle.prl_syntax.specs.code.Groups.{noted, params_after, waiting_after};
+ghost use Rattle.prl_syntax.specs.Trees.{note_or, param_of, params_of};
 ghost use Rattle.prl_syntax.specs.declared.words.Fixed.TheVariants as kinds;
 
 use crate::notes::Note;
@@ -80,8 +79,8 @@ impl<'a> Parser<'a> {
     }
 }
 
-fn param(name: Placed, note: Option<Note>) -> Param
-    ensures { result ≡ param_of name note }
+fn param(name: Placed, note: &Option<Note>) -> Param
+    ensures { result ≡ param_of name note.now }
 {
     let Placed { name, at } = name;
     match note {
@@ -102,73 +101,28 @@ fn param(name: Placed, note: Option<Note>) -> Param
     }
 }
 
-/// Parameters, and names that wait for their note.
-#[derive(Debug, Drop)]
-struct Groups {
-    params: Vec<Param>,
-    waiting: Vec<Placed>,
-}
-
-/// The names with one note.
-fn noted(alloc: Global, names: Vec<Placed>, note: Option<Note>) -> Result<Vec<Param>, AllocError>
-    ensures { IfOk result (λ params. params.items ≡ noted note names.items) }
+/// The note, or the later one where there is none.
+fn note_or(note: Option<Note>, later: Option<Note>) -> Option<Note>
+    ensures { result ≡ note_or note later }
 {
-    names
-        .into_iter()
-        .map(|name| param(name, note))
-        .collect(alloc)
-}
-
-/// A note is that of all the names that wait, its own name among them.
-fn with_item(alloc: Global, groups: Groups, item: Item) -> Result<Groups, AllocError>
-    ensures params { IfOk result (λ g. g.params.items ≡ params_after groups.params.items groups.waiting.items item.name item.note) }
-    ensures waiting { IfOk result (λ g. g.waiting.items ≡ waiting_after groups.waiting.items item.name item.note) }
-{
-    let Groups {
-        mut params,
-        mut waiting,
-    } = groups;
-    let Item { name, note } = item;
-    waiting.push(name)?;
     match note {
-        None => Ok(Groups { params, waiting }),
-        Some(note) => {
-            let mut more = noted(alloc, waiting, Some(note))?;
-            params.append(&mut more)?;
-            let waiting = Vec::new(alloc);
-            Ok(Groups { params, waiting })
-        }
+        Some(note) => Some(note),
+        None => later,
     }
-}
-
-/// The items, the last one first, as parameters.
-fn groups_of(alloc: Global, backward: Vec<Item>) -> Result<Groups, AllocError>
-    ensures { IfOk result (λ g. g.params.items ++ noted None g.waiting.items ≡ params_of (reverse backward.items)) }
-{
-    let mut items = backward;
-    let mut groups = Groups {
-        params: Vec::new(alloc),
-        waiting: Vec::new(alloc),
-    };
-    'each: while let Some(item) = items.pop() {
-        groups = with_item(alloc, groups, item)?;
-    }
-    Ok(groups)
 }
 
 /// The items as parameters: one without a note has the note of the next one that has one.
 fn params_of(alloc: Global, items: Vec<Item>) -> Result<Vec<Param>, AllocError>
     ensures { IfOk result (λ params. params.items ≡ params_of items.items) }
 {
-    let mut items = items;
-    items.reverse();
-    let groups = groups_of(alloc, items)?;
-    let Groups {
-        mut params,
-        waiting,
-    } = groups;
-    let mut more = noted(alloc, waiting, None)?;
-    params.append(&mut more)?;
+    let mut before = items;
+    let mut note = None;
+    let mut params = Vec::new(alloc);
+    'each: while let Some(item) = before.pop() {
+        note = note_or(item.note, note);
+        params.push(param(item.name, &note))?;
+    }
+    params.reverse();
     Ok(params)
 }
 
