@@ -15,6 +15,7 @@ use Rattle.prl_grammar.specs.code.Reads.{Reads}
 use Rattle.prl_grammar.specs.code.Shapes.{shape}
 use Rattle.prl_grammar.proofs.Decides.{IsGuarded}
 use Rattle.prl_grammar.proofs.Ending.{never_deep}
+use Rattle.prl_grammar.proofs.Loops.{Steps, steps}
 use Rattle.prl_grammar.proofs.Nesting.{IsRight, IsFounded, widens, text_reads, text_fewer, text_left}
 use Rattle.prl_grammar.proofs.Tested.{tested}
 use Rattle.prl_bodytext.specs.Trees.{Sign}
@@ -73,8 +74,14 @@ pub body_loop : IsApart (inner_of bodies) (many Body)
 unfolding Bodies
 body_loop = tested (inner_of bodies) (many Body) bodies_decide
 
-pub prefix_loop : (f : Fixed) → IsApart (inner_of bodies) (many (the f))
-prefix_loop f = tested (inner_of bodies) (many (the f)) refl
+abbrev Loop : {A : Type 0} → Grammar Tree A → Type 0
+Loop g = Steps (shape (inner_of bodies) g).first (read_at bodies g)
+
+pub loop_steps : {A : Type 0} (g : Grammar Tree A) → IsApart (inner_of bodies) (many g) → Loop g
+loop_steps g loop = steps right g loop
+
+pub prefix_steps : (f : Fixed) → Loop (the f)
+prefix_steps f = loop_steps (the f) (tested (inner_of bodies) (many (the f)) refl)
 
 level_decides : (level : Level) → decides (many (RightOf level (Operand level))) × decides (placed (Operators level)) × decides (placed (Operand level))
 unfolding Operand bodies Expression Conjunction Negation Comparison Sum Product Unary RunOf PairOf SeriesOf RightOf Operators Primary Enclosed Conditional
@@ -84,8 +91,8 @@ level_decides levels.Comparison = (refl, refl, refl)
 level_decides levels.Sum = (refl, refl, refl)
 level_decides levels.Product = (refl, refl, refl)
 
-pub pair_loop : (level : Level) → IsApart (inner_of bodies) (many (RightOf level (Operand level)))
-pair_loop level = tested (inner_of bodies) (many (RightOf level (Operand level))) (level_decides level).0
+pub pair_steps : (level : Level) → Loop (RightOf level (Operand level))
+pair_steps level = loop_steps (RightOf level (Operand level)) (tested (inner_of bodies) (many (RightOf level (Operand level))) (level_decides level).0)
 
 pub operator_fewer : (level : Level) (ts : List Lexeme) (s : Sign) (rest : List Lexeme) → read_at bodies (Operators level) ts ≡ Ok (s, rest) → length rest < length ts
 operator_fewer level = text_fewer bodies right (Operators level) (level_decides level).1

@@ -99,6 +99,7 @@ impl<'a> Parser<'a> {
     }
 
     /// Takes as many of the token as are next, and answers their places.
+    #[tactic(auto, using(prl_grammar::proofs::Loops::loops, crate::proofs::Right::prefix_steps))]
     fn prefixes(&mut self, fixed: Fixed) -> Result<Vec<Span>, Stop>
         ensures { Parses (λ x. x.items) (many (the fixed)) result self.entry.now self.exit.now }
     {
@@ -212,7 +213,7 @@ impl<'a> Parser<'a> {
     }
 
     #[cycle(expression)]
-    #[tactic(auto, unfolding(crate::specs::Grammar::RightOf))]
+    #[tactic(auto, using(crate::proofs::Right::operator_fewer, crate::proofs::Calls::few_calls), unfolding(crate::specs::Grammar::RightOf))]
     fn pair(&mut self, level: Level) -> Result<ExprRight, Stop>
         ensures { Parses pair_view (RightOf level (Operand level)) result self.entry.now self.exit.now }
     {
@@ -226,6 +227,7 @@ impl<'a> Parser<'a> {
     }
 
     #[cycle(expression)]
+    #[tactic(auto, using(prl_grammar::proofs::Loops::loops, crate::proofs::Right::pair_steps))]
     fn rights(&mut self, level: Level) -> Result<Vec<ExprRight>, Stop>
         ensures { Parses (λ x. map pair_view x.items) (many (RightOf level (Operand level))) result self.entry.now self.exit.now }
     {
@@ -237,7 +239,7 @@ impl<'a> Parser<'a> {
     }
 
     #[cycle(expression)]
-    #[tactic(auto, unfolding(crate::specs::Grammar::SeriesOf, crate::specs::Grammar::RightOf))]
+    #[tactic(auto, using(crate::proofs::Right::operand_fewer), unfolding(crate::specs::Grammar::SeriesOf, crate::specs::Grammar::RightOf))]
     fn series(&mut self, level: Level) -> Result<Expr, Stop>
         ensures { Parses tree_of (SeriesOf level (Operand level)) result self.entry.now self.exit.now }
     {

@@ -37,6 +37,7 @@ pub trait Item: Sized + Drop {
 
 impl<'a> Parser<'a> {
     /// Takes as many as there are.
+    #[tactic(auto, using(prl_grammar::proofs::Loops::loops, crate::proofs::Right::loop_steps))]
     pub fn many<T: Item>(&mut self) -> Result<Vec<T>, Stop>
         requires { IsApart (inner_of bodies) (many T.grammar) }
         ensures { Parses (λ x. map T.seen x.items) (many T.grammar) result self.entry.now self.exit.now }

@@ -8,11 +8,9 @@ use Rattle.prl_grammar.specs.Productions.{many, placed}
 use Rattle.prl_grammar.specs.code.Languages.{inner_of, read_at}
 use Rattle.prl_grammar.specs.code.LookAhead.{IsApart, is_apart}
 use Rattle.prl_grammar.specs.code.Shapes.{shape}
-use Rattle.prl_grammar.proofs.Basics.{apart}
 use Rattle.prl_grammar.proofs.Decides.{IsGuarded}
-use Rattle.prl_grammar.proofs.Loops.{Steps}
-use Rattle.prl_grammar.proofs.Nesting.{IsRight, IsFounded, widens, text_reads, text_fewer}
-use Rattle.prl_grammar.proofs.Repeats.{many_step, leaves_fewer}
+use Rattle.prl_grammar.proofs.Loops.{Steps, steps as text_steps}
+use Rattle.prl_grammar.proofs.Nesting.{IsRight, IsFounded, widens, text_fewer}
 use Rattle.prl_grammar.proofs.Tested.{tested}
 use Rattle.prl_syntax.specs.declared.words.Fixed.TheVariants as fixed
 use Rattle.prl_syntax.specs.code.Links.{Step, AfterLink, ConstantLink, NextLink}
@@ -58,9 +56,7 @@ abbrev Loop : {A : Type 0} → Grammar A → Type 0
 Loop g = Steps (shape (inner_of programs) g).first (read_at programs g)
 
 steps : {A : Type 0} (g : Grammar A) → decides (many g) → Loop g
-steps g decided =
-    let loop = tested (inner_of programs) (many g) decided in
-    record { step = many_step 0 (text_reads programs right g loop.0 0) loop.1 (apart _ _ loop.2); fewer = leaves_fewer 0 (text_reads programs right g loop.0 0) loop.1 }
+steps g decided = text_steps right g (tested (inner_of programs) (many g) decided)
 
 pub comma_name_steps : Loop (the fixed.Comma ⊳ Name)
 unfolding Name

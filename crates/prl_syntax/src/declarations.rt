@@ -69,6 +69,7 @@ impl<'a> Parser<'a> {
     }
 
     /// Takes groups after the first ones.
+    #[tactic(auto, using(crate::proofs::Loops::joined_loops, crate::proofs::Right::next_group_steps))]
     fn more_groups(&mut self, front: Vec<Port>) -> Result<Vec<Port>, Stop>
         ensures { Gives (λ x. (x.items, self.exit.now)) stop_of result (with_joined front.items (read_at programs (many grammar.NextGroup) self.entry.now)) }
     {

@@ -59,6 +59,7 @@ impl<'a> Parser<'a> {
     }
 
     /// Takes postfixes after the first ones.
+    #[tactic(auto, using(prl_grammar::proofs::Loops::loops, crate::proofs::Right::postfix_steps))]
     fn more_postfixes(&mut self, front: Vec<PlacedOp>) -> Result<Vec<PlacedOp>, Stop>
         ensures { Gives (λ x. (x.items, self.exit.now)) stop_of result (with_front front.items (read_at programs (many grammar.Postfix) self.entry.now)) }
     {
@@ -165,6 +166,7 @@ impl<'a> Parser<'a> {
 
     /// Takes expressions after the first ones, each with a comma before it.
     #[cycle(expression)]
+    #[tactic(auto, using(prl_grammar::proofs::Loops::loops, crate::proofs::Right::comma_expr_steps))]
     fn more_exprs(&mut self, front: Vec<Expr>) -> Result<Vec<Expr>, Stop>
         ensures { Gives (λ x. (map tree_of x.items, self.exit.now)) stop_of result (with_front (map tree_of front.items) (read_at programs (many (grammar.the kinds.Comma ⊳ grammar.Expr)) self.entry.now)) }
     {

@@ -36,6 +36,7 @@ impl<'a> Parser<'a> {
     }
 
     /// Takes names after the first ones, each with a comma before it.
+    #[tactic(auto, using(prl_grammar::proofs::Loops::loops, crate::proofs::Right::comma_name_steps))]
     fn more_names(&mut self, front: Vec<Placed>) -> Result<Vec<Placed>, Stop>
         ensures { Gives (λ x. (x.items, self.exit.now)) stop_of result (with_front front.items (read_at programs (many (grammar.the kinds.Comma ⊳ grammar.Name)) self.entry.now)) }
     {

@@ -65,6 +65,7 @@ impl<'a> Parser<'a> {
     }
 
     /// Takes equations after the first ones.
+    #[tactic(auto, using(prl_grammar::proofs::Loops::loops, crate::proofs::Right::equation_steps))]
     fn more_equations(&mut self, front: Vec<Equation>) -> Result<Vec<Equation>, Stop>
         ensures { Gives (λ x. (map equation_tree x.items, self.exit.now)) stop_of result (with_front (map equation_tree front.items) (read_at programs (many grammar.Equation) self.entry.now)) }
     {
@@ -163,6 +164,7 @@ impl<'a> Parser<'a> {
     }
 
     /// Takes declarations after the first ones.
+    #[tactic(auto, using(prl_grammar::proofs::Loops::loops, crate::proofs::Right::declaration_steps))]
     fn more_declarations(&mut self, front: Vec<Declaration>) -> Result<Vec<Declaration>, Stop>
         ensures { Gives (λ x. (map declared_view x.items, self.exit.now)) stop_of result (with_front (map declared_view front.items) (read_at programs (many grammar.Declaration) self.entry.now)) }
     {

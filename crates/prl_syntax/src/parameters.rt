@@ -58,6 +58,7 @@ impl<'a> Parser<'a> {
     }
 
     /// Takes items after the first ones, each with a comma before it.
+    #[tactic(auto, using(prl_grammar::proofs::Loops::loops, crate::proofs::Right::comma_item_steps))]
     fn more_items(&mut self, front: Vec<Item>) -> Result<Vec<Item>, Stop>
         ensures { Gives (λ x. (x.items, self.exit.now)) stop_of result (with_front front.items (read_at programs (many (grammar.the kinds.Comma ⊳ grammar.Item)) self.entry.now)) }
     {
@@ -144,6 +145,7 @@ impl<'a> Parser<'a> {
     }
 
     /// Takes runs after the first ones, each with a semicolon before it.
+    #[tactic(auto, using(crate::proofs::Loops::joined_loops, crate::proofs::Right::semicolon_run_steps))]
     fn more_runs(&mut self, front: Vec<Param>) -> Result<Vec<Param>, Stop>
         ensures { Gives (λ x. (x.items, self.exit.now)) stop_of result (with_joined front.items (read_at programs (many (grammar.the kinds.Semicolon ⊳ grammar.Run)) self.entry.now)) }
     {
@@ -203,6 +205,7 @@ impl<'a> Parser<'a> {
     }
 
     /// Takes runs after the first ones, each with a semicolon after it.
+    #[tactic(auto, using(crate::proofs::Loops::joined_loops, crate::proofs::Right::ended_run_steps), unfolding(crate::specs::Grammar::EndedRun, crate::specs::Grammar::Run, crate::specs::Grammar::Item, crate::specs::Grammar::Name))]
     fn more_ended_runs(&mut self, front: Vec<Param>) -> Result<Vec<Param>, Stop>
         ensures { Gives (λ x. (x.items, self.exit.now)) stop_of result (with_joined front.items (read_at programs (many grammar.EndedRun) self.entry.now)) }
     {

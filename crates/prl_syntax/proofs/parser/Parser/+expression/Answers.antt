@@ -1,4 +1,4 @@
-use Rattle.std.proofs.Common.{◌≡◌, List, map, Ok, sym, ap, ◌∙◌, subst, arith}
+use Rattle.std.proofs.Common.{◌≡◌, List, map, Ok, refl, sym, ap, ◌∙◌, subst, arith}
 use Rattle.std.proofs.lemmas.List.{map_push}
 use Rattle.std.proofs.lemmas.Result.{err_from_is_err_and}
 use Rattle.prl_ast.specs.declared.expressions.PlacedOp.{PlacedOp}
@@ -9,7 +9,7 @@ use Rattle.prl_grammar.specs.code.Readers.{Read}
 use Rattle.prl_syntax.specs.declared.expressions.Link.{Link}
 use Rattle.prl_syntax.specs.Grammar.{programs}
 use Rattle.prl_syntax.specs.code.Links.{Step, link_view, with_prefixes}
-use Rattle.prl_grammar.proofs.Loops.{step_goes_on, step_halts, step_fails}
+use Rattle.prl_grammar.proofs.Loops.{step_goes_on}
 use Rattle.prl_syntax.proofs.Links.{stem_goes_on, stem_ends, stem_fails}
 use Rattle.prl_syntax.proofs.Right.{link_fewer, comma_expr_steps, expr_fewer}
 use Rattle.prl_syntax.proofs.parser.Parser.+expression.Goals as goal
@@ -46,11 +46,6 @@ closed_exprs-more_exprs-requires t c =
     let fewer = expr_fewer c.args.self.now _ _ c.in_ok-first.ensures in
     (omega (arith, fewer), tt)
 
-pub more_exprs-returns-in_err-comma_expr : goal.more_exprs-returns-in_err-comma_expr
-more_exprs-returns-in_err-comma_expr t c =
-    let p = err_from_is_err_and c.from_residual.result c.from_residual.ensures.1 in
-    rw (p.1, p.2) (step_fails comma_expr_steps c.in_err-comma_expr.field-0.0 _ c.more.self _ (sym c.next_is.ensures ∙ c.more-test.true) c.in_err-comma_expr.ensures c.more.invariant.exact)
-
 pub more_exprs-more-smaller : goal.more_exprs-more-smaller
 more_exprs-more-smaller t c = comma_expr_steps.fewer c.more.self _ _ c.in_ok-comma_expr.ensures
 
@@ -58,9 +53,6 @@ pub more_exprs-more-preserved : goal.more_exprs-more-preserved
 more_exprs-more-preserved t c =
     let fewer = comma_expr_steps.fewer c.more.self _ _ c.in_ok-comma_expr.ensures in
     record {
-      exact = rw (ap (map tree_of) c.in_ok-push.ensures.items ∙ map_push tree_of c.more.exprs.items _) (step_goes_on comma_expr_steps _ _ _ _ _ (sym c.next_is.ensures ∙ c.more-test.true) c.in_ok-comma_expr.ensures c.more.invariant.exact);
+      exact = rw (ap (map tree_of) c.in_ok-push.ensures.items ∙ map_push tree_of c.more.exprs.items _) (step_goes_on comma_expr_steps _ _ _ _ _ (sym c.next_is.ensures ∙ c.more-test.true) c.in_ok-comma_expr.ensures refl ∙ c.more.invariant.exact);
       shorter = omega (arith, fewer);
     }
-
-pub more_exprs-returns : goal.more_exprs-returns
-more_exprs-returns t c = step_halts comma_expr_steps _ _ _ (sym c.next_is.ensures ∙ c.more-test.false) c.more.invariant.exact

@@ -1,19 +1,5 @@
-use Rattle.std.proofs.Common.{sym, ◌∙◌}
-use Rattle.std.proofs.lemmas.Result.{err_from_is_err_and}
-use Rattle.prl_syntax.proofs.Loops.{goes_on_joined, halts_joined, fails_joined}
 use Rattle.prl_syntax.proofs.Right.{semicolon_run_steps}
 use Rattle.prl_syntax.proofs.parser.Parser.more_runs.Goals as goal
 
-pub returns : goal.returns
-returns c = halts_joined semicolon_run_steps _ _ _ (sym c.next_is.ensures ∙ c.more-test.false) c.more.invariant
-
-pub returns-in_err-next : goal.returns-in_err-next
-returns-in_err-next c =
-    let p = err_from_is_err_and c.from_residual.result c.from_residual.ensures.1 in
-    rw (p.1, p.2) (fails_joined semicolon_run_steps c.in_err-next.field-0.0 _ c.more.self _ (sym c.next_is.ensures ∙ c.more-test.true) c.in_err-next.ensures c.more.invariant)
-
 pub more-smaller : goal.more-smaller
 more-smaller c = semicolon_run_steps.fewer c.more.self _ _ c.in_ok-next.ensures
-
-pub more-preserved : goal.more-preserved
-more-preserved c = rw c.in_ok-append.ensures.items (goes_on_joined semicolon_run_steps _ _ _ _ _ (sym c.next_is.ensures ∙ c.more-test.true) c.in_ok-next.ensures c.more.invariant)
