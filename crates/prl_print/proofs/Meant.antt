@@ -12,7 +12,7 @@ use Rattle.prl_ast.specs.InRange.{IsCount, IsShift, IsRate, IsDue, IfThere, IsPr
 use Rattle.prl_grammar.specs.Lexemes.{Lexeme}
 use Rattle.prl_grammar.specs.Productions.{written}
 use Rattle.prl_syntax.specs.declared.words.Fixed.{Fixed}
-use Rattle.prl_syntax.specs.declared.notes.Note.{Note}
+use Rattle.prl_syntax.specs.declared.parameters.Note.{Note}
 use Rattle.prl_syntax.specs.declared.parameters.Item.{Item}
 use Rattle.prl_syntax.specs.Words.{class_of}
 use Rattle.prl_syntax.specs.Values.{small}

@@ -26,7 +26,7 @@ use Rattle.prl_grammar.specs.Language.{Text, nested}
 use Rattle.prl_grammar.specs.Numbers.{positive, negative}
 use Rattle.prl_syntax.specs.declared.words.Fixed.{Fixed}
 use Rattle.prl_syntax.specs.declared.words.Fixed.TheVariants as fixed
-use Rattle.prl_syntax.specs.declared.notes.Note.{Note}
+use Rattle.prl_syntax.specs.declared.parameters.Note.{Note}
 use Rattle.prl_syntax.specs.Ranges.{in_range}
 use Rattle.prl_syntax.specs.Values.{small, ratio_with, ratio_of}
 use Rattle.prl_syntax.specs.Trees.{joined, param_of, note_or, params_of, port_of, StemTree, prefixed, tree_from, root_of_name, trees_from, Declared, imported, sensor, actuator, node, with_declared, program_of}

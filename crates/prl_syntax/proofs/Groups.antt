@@ -2,7 +2,7 @@
 use Rattle.std.proofs.Common.{◌≡◌, List, [], ◌∷◌, ◌++◌, Option, Some, None, reverse, refl, sym, ap, ◌∙◌, append_assoc}
 use Rattle.std.proofs.lemmas.List.{reverse-append}
 use Rattle.prl_ast.specs.declared.declarations.Param.{Param}
-use Rattle.prl_syntax.specs.declared.notes.Note.{Note}
+use Rattle.prl_syntax.specs.declared.parameters.Note.{Note}
 use Rattle.prl_syntax.specs.declared.parameters.Item.{Item}
 use Rattle.prl_syntax.specs.Trees.{param_of, note_or, first_note, params_before}
 

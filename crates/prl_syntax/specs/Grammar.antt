@@ -22,7 +22,7 @@ use Rattle.prl_grammar.specs.Combinators.{◌=>◌, ◌means◌, ◌or◌, ◌&�
 use Rattle.prl_grammar.specs.Language.{Language}
 use Rattle.prl_syntax.specs.declared.words.Fixed.{Fixed}
 use Rattle.prl_syntax.specs.declared.words.Fixed.TheVariants as fixed
-use Rattle.prl_syntax.specs.declared.notes.Note.{Note as NoteTree}
+use Rattle.prl_syntax.specs.declared.parameters.Note.{Note as NoteTree}
 use Rattle.prl_syntax.specs.declared.parameters.Item.{Item as ItemTree}
 use Rattle.prl_syntax.specs.Words.{class_of}
 use Rattle.prl_syntax.specs.Values.{small, ratio_with}

@@ -9,7 +9,7 @@ use Rattle.prl_ast.specs.declared.declarations.Placed.{Placed}
 use Rattle.prl_ast.specs.declared.declarations.Port.{Port}
 use Rattle.prl_ast.specs.declared.expressions.PlacedOp.{PlacedOp}
 use Rattle.prl_ast.specs.Trees.{Tree, tree, Root, var, apply, Trees, none, more, NodeTree, ProgramTree}
-use Rattle.prl_syntax.specs.declared.notes.Note.{Note}
+use Rattle.prl_syntax.specs.declared.parameters.Note.{Note}
 use Rattle.prl_syntax.specs.declared.parameters.Item.{Item}
 
 -- the lists one after another

@@ -89,19 +89,13 @@ impl<'a> Parser<'a> {
         self.more_groups(first)
     }
 
-    fn closed_ports(&mut self) -> Result<Vec<Port>, Stop>
-        ensures { Parses (λ x. x.items) (grammar.closed grammar.Ports) result self.entry.now self.exit.now }
-    {
-        let ports = self.ports()?;
-        self.expect(Fixed::Close)?;
-        Ok(ports)
-    }
-
     fn enclosed_ports(&mut self) -> Result<Vec<Port>, Stop>
         ensures { Parses (λ x. x.items) (grammar.in_parens grammar.Ports) result self.entry.now self.exit.now }
     {
         self.expect(Fixed::Open)?;
-        self.closed_ports()
+        let ports = self.ports()?;
+        self.expect(Fixed::Close)?;
+        Ok(ports)
     }
 
     fn maybe_ports(&mut self) -> Result<Vec<Port>, Stop>
@@ -112,7 +106,9 @@ impl<'a> Parser<'a> {
             self.expect(Fixed::Close)?;
             return Ok(Vec::new(self.alloc));
         }
-        self.closed_ports()
+        let ports = self.ports()?;
+        self.expect(Fixed::Close)?;
+        Ok(ports)
     }
 
     #[tactic(auto, unfolding(crate::specs::Grammar::Wcet))]

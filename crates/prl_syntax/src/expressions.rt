@@ -14,7 +14,7 @@ ghost use Rattle.prl_syntax.specs.Grammar as grammar;
 ghost use Rattle.prl_syntax.specs.code.Parses.{Parses};
 ghost use Rattle.prl_syntax.specs.Grammar.{programs};
 ghost use Rattle.prl_grammar.specs.code.Languages.{inner_of, read_at, read_nested};
-ghost use Rattle.prl_grammar.specs.Productions.{either, many};
+ghost use Rattle.prl_grammar.specs.Productions.{many};
 ghost use Rattle.prl_grammar.specs.code.Shapes.{shape};
 ghost use Rattle.prl_grammar.specs.code.Readers.{next_in};
 ghost use Rattle.prl_syntax.specs.Trees.{trees_from};
@@ -58,12 +58,12 @@ impl<'a> Parser<'a> {
         self.next_is(Fixed::Up) || self.next_is(Fixed::Down) || self.next_is(Fixed::Shift)
     }
 
-    /// Takes postfixes after the first ones.
+    /// Takes postfixes, as many as there are.
     #[tactic(auto, using(prl_grammar::proofs::Loops::loops, crate::proofs::Right::postfix_steps))]
-    fn more_postfixes(&mut self, front: Vec<PlacedOp>) -> Result<Vec<PlacedOp>, Stop>
-        ensures { Gives (λ x. (x.items, self.exit.now)) stop_of result (with_front front.items (read_at programs (many grammar.Postfix) self.entry.now)) }
+    fn postfixes(&mut self) -> Result<Vec<PlacedOp>, Stop>
+        ensures { Parses (λ x. x.items) (many grammar.Postfix) result self.entry.now self.exit.now }
     {
-        let mut ops = front;
+        let mut ops = Vec::new(self.alloc);
         'more: while self.begins_postfix() {
             let PlacedOp { op, at } = self.postfix()?;
             ops.push(PlacedOp { op, at })?;
@@ -214,7 +214,7 @@ impl<'a> Parser<'a> {
     {
         let at = self.place_of_first();
         let (pre, base) = self.stem(Vec::new(self.alloc))?;
-        let post = self.more_postfixes(Vec::new(self.alloc))?;
+        let post = self.postfixes()?;
         let pre = Seq::new(pre);
         let post = Seq::new(post);
         Ok(Expr {

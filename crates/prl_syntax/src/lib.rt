@@ -4,9 +4,7 @@
 mod declarations;
 mod expressions;
 mod laws;
-mod names;
 mod nodes;
-mod notes;
 mod parameters;
 mod parser;
 mod parsing;

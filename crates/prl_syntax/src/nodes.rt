@@ -5,14 +5,13 @@ ghost use Rattle.prl_base.specs.Reading.{Gives};
 ghost use Rattle.prl_ast.specs.Trees.{equation_tree, node_tree, program_tree};
 ghost use Rattle.prl_grammar.specs.code.Stops.{stop_of};
 ghost use Rattle.prl_grammar.specs.code.Whole.{all_at};
-ghost use Rattle.prl_grammar.specs.code.Loops.{with_front};
 ghost use Rattle.prl_grammar.specs.Combinators as combinators;
 ghost use Rattle.prl_syntax.specs.code.Nodes.{declared_view, declarations_view, with_last};
 ghost use Rattle.prl_syntax.specs.Grammar as grammar;
 ghost use Rattle.prl_syntax.specs.code.Parses.{Parses};
 ghost use Rattle.prl_syntax.specs.Grammar.{programs};
 ghost use Rattle.prl_grammar.specs.code.Languages.{inner_of, read_at};
-ghost use Rattle.prl_grammar.specs.Productions.{either, many};
+ghost use Rattle.prl_grammar.specs.Productions.{many};
 ghost use Rattle.prl_grammar.specs.code.Shapes.{shape};
 ghost use Rattle.prl_grammar.specs.code.Readers.{next_in};
 ghost use Rattle.prl_syntax.specs.Trees.{program_of};
@@ -64,22 +63,16 @@ impl<'a> Parser<'a> {
         self.next_is(Fixed::Open) || self.next_is_name()
     }
 
-    /// Takes equations after the first ones.
+    /// Takes equations, as many as there are.
     #[tactic(auto, using(prl_grammar::proofs::Loops::loops, crate::proofs::Right::equation_steps))]
-    fn more_equations(&mut self, front: Vec<Equation>) -> Result<Vec<Equation>, Stop>
-        ensures { Gives (λ x. (map equation_tree x.items, self.exit.now)) stop_of result (with_front (map equation_tree front.items) (read_at programs (many grammar.Equation) self.entry.now)) }
+    fn equations(&mut self) -> Result<Vec<Equation>, Stop>
+        ensures { Parses (λ x. map equation_tree x.items) (many grammar.Equation) result self.entry.now self.exit.now }
     {
-        let mut equations = front;
+        let mut equations = Vec::new(self.alloc);
         'more: while self.begins_equation() {
             equations.push(self.read_equation()?)?;
         }
         Ok(equations)
-    }
-
-    fn equations(&mut self) -> Result<Vec<Equation>, Stop>
-        ensures { Parses (λ x. map equation_tree x.items) (many grammar.Equation) result self.entry.now self.exit.now }
-    {
-        self.more_equations(Vec::new(self.alloc))
     }
 
     fn maybe_semicolon(&mut self) -> Result<Option<Span>, Stop>
@@ -163,22 +156,16 @@ impl<'a> Parser<'a> {
         Ok(Declaration::Node(node))
     }
 
-    /// Takes declarations after the first ones.
+    /// Takes declarations, as many as there are.
     #[tactic(auto, using(prl_grammar::proofs::Loops::loops, crate::proofs::Right::declaration_steps))]
-    fn more_declarations(&mut self, front: Vec<Declaration>) -> Result<Vec<Declaration>, Stop>
-        ensures { Gives (λ x. (map declared_view x.items, self.exit.now)) stop_of result (with_front (map declared_view front.items) (read_at programs (many grammar.Declaration) self.entry.now)) }
+    fn declarations(&mut self) -> Result<Vec<Declaration>, Stop>
+        ensures { Parses (λ x. map declared_view x.items) (many grammar.Declaration) result self.entry.now self.exit.now }
     {
-        let mut declarations = front;
+        let mut declarations = Vec::new(self.alloc);
         'more: while self.begins_declaration() {
             declarations.push(self.read_declaration()?)?;
         }
         Ok(declarations)
-    }
-
-    fn read_declarations(&mut self) -> Result<Vec<Declaration>, Stop>
-        ensures { Parses (λ x. map declared_view x.items) (many grammar.Declaration) result self.entry.now self.exit.now }
-    {
-        self.more_declarations(Vec::new(self.alloc))
     }
 }
 
@@ -256,7 +243,7 @@ impl<'a> Parser<'a> {
     fn whole(&mut self) -> Result<Program, Stop>
         ensures { Gives program_tree stop_of result (all_at (read_at programs grammar.Program) self.entry.now) }
     {
-        let declarations = self.read_declarations()?;
+        let declarations = self.declarations()?;
         match self.rest {
             [] => Ok(program_of(self.alloc, declarations)?),
             [_, ..] => Err(Stop::Unexpected(self.rest.len())),

@@ -1,4 +1,5 @@
-//! Parameters and local variables of nodes. Names that share a note all have it.
+//! Names, types, rates and dues, and the parameters and local variables that they note. Names that share a note
+//! all have it.
 
 ghost use Rattle.std.specs.Prelude.{◌≡◌, ◌∷◌, [], ◌++◌, reverse, None, IfOk};
 ghost use Rattle.prl_base.specs.Reading.{Gives};
@@ -15,12 +16,160 @@ ghost use Rattle.prl_grammar.specs.Productions.{many};
 ghost use Rattle.prl_syntax.specs.Trees.{note_or, param_of, params_of};
 ghost use Rattle.prl_syntax.specs.declared.words.Fixed.TheVariants as kinds;
 
-use crate::notes::Note;
 use crate::parser::Parser;
+use crate::values::small;
 use crate::words::Fixed;
-use prl_ast::{Param, Placed};
+use prl_ast::{Param, Placed, Rate};
+use prl_base::Ty;
 use prl_grammar::Stop;
 use std::alloc::{AllocError, Global};
+
+impl<'a> Parser<'a> {
+    /// Takes a name.
+    #[tactic(auto, unfolding(crate::specs::Grammar::Name))]
+    pub fn placed(&mut self) -> Result<Placed, Stop>
+        ensures { Parses (λ x. x) grammar.Name result self.entry.now self.exit.now }
+    {
+        let (name, at) = self.name()?;
+        Ok(Placed { name, at })
+    }
+
+    /// Takes a comma and a name.
+    fn comma_name(&mut self) -> Result<Placed, Stop>
+        ensures { Parses (λ x. x) (grammar.the kinds.Comma ⊳ grammar.Name) result self.entry.now self.exit.now }
+    {
+        self.expect(Fixed::Comma)?;
+        self.placed()
+    }
+
+    /// Takes names after the first ones, each with a comma before it.
+    #[tactic(auto, using(prl_grammar::proofs::Loops::loops, crate::proofs::Right::comma_name_steps))]
+    fn more_names(&mut self, front: Vec<Placed>) -> Result<Vec<Placed>, Stop>
+        ensures { Gives (λ x. (x.items, self.exit.now)) stop_of result (with_front front.items (read_at programs (many (grammar.the kinds.Comma ⊳ grammar.Name)) self.entry.now)) }
+    {
+        let mut names = front;
+        'more: while self.next_is(Fixed::Comma) {
+            names.push(self.comma_name()?)?;
+        }
+        Ok(names)
+    }
+
+    /// Takes one or more names, with commas between.
+    #[tactic(auto, unfolding(crate::specs::Grammar::Names))]
+    pub fn names(&mut self) -> Result<Vec<Placed>, Stop>
+        ensures { Parses (λ x. x.items) grammar.Names result self.entry.now self.exit.now }
+    {
+        let first = self.placed()?;
+        let mut front = Vec::new(self.alloc);
+        front.push(first)?;
+        self.more_names(front)
+    }
+}
+
+/// What a note says of a name.
+#[derive(Clone, Copy, Debug, PartialEq, Eq)]
+pub struct Note {
+    pub ty: Option<Ty>,
+    pub rate: Option<Rate>,
+    pub due: Option<u32>,
+}
+
+impl<'a> Parser<'a> {
+    /// Takes a type.
+    #[tactic(auto, unfolding(crate::specs::Grammar::TypeName))]
+    pub fn ty(&mut self) -> Result<Ty, Stop>
+        ensures { Parses (λ x. x) grammar.TypeName result self.entry.now self.exit.now }
+    {
+        if self.next_is(Fixed::Int) {
+            self.expect(Fixed::Int)?;
+            return Ok(Ty::Int);
+        }
+        self.expect(Fixed::Bool)?;
+        Ok(Ty::Bool)
+    }
+
+    /// Takes a rate: a period and a phase.
+    #[tactic(auto, unfolding(crate::specs::Grammar::Rate))]
+    fn rate(&mut self) -> Result<Rate, Stop>
+        ensures { Parses (λ x. x) grammar.Rate result self.entry.now self.exit.now }
+    {
+        self.expect(Fixed::Rate)?;
+        self.expect(Fixed::Open)?;
+        let period = self.number()?;
+        self.expect(Fixed::Comma)?;
+        let phase = self.ratio()?;
+        self.expect(Fixed::Close)?;
+        let period = small(period);
+        Ok(Rate { period, phase })
+    }
+
+    #[tactic(auto, unfolding(crate::specs::Grammar::Rate))]
+    fn maybe_rate(&mut self) -> Result<Option<Rate>, Stop>
+        ensures { Parses (λ x. x) (combinators.maybe grammar.Rate) result self.entry.now self.exit.now }
+    {
+        if self.next_is(Fixed::Rate) {
+            let rate = self.rate()?;
+            return Ok(Some(rate));
+        }
+        Ok(None)
+    }
+
+    /// Takes a due.
+    #[tactic(auto, unfolding(crate::specs::Grammar::Due))]
+    fn due(&mut self) -> Result<u32, Stop>
+        ensures { Parses (λ x. x) grammar.Due result self.entry.now self.exit.now }
+    {
+        self.expect(Fixed::Due)?;
+        let due = self.number()?;
+        Ok(small(due))
+    }
+
+    #[tactic(auto, unfolding(crate::specs::Grammar::Due))]
+    fn maybe_due(&mut self) -> Result<Option<u32>, Stop>
+        ensures { Parses (λ x. x) (combinators.maybe grammar.Due) result self.entry.now self.exit.now }
+    {
+        if self.next_is(Fixed::Due) {
+            let due = self.due()?;
+            return Ok(Some(due));
+        }
+        Ok(None)
+    }
+
+    /// Takes a note: a type, a rate and a due, of which two may be left out.
+    #[tactic(auto, unfolding(crate::specs::Grammar::Note, crate::specs::Grammar::Due, crate::specs::Grammar::Rate))]
+    pub fn read_note(&mut self) -> Result<Note, Stop>
+        ensures { Parses (λ x. x) grammar.Note result self.entry.now self.exit.now }
+    {
+        if self.next_is(Fixed::Due) {
+            let due = self.due()?;
+            let note = Note {
+                ty: None,
+                rate: None,
+                due: Some(due),
+            };
+            return Ok(note);
+        }
+        if self.next_is(Fixed::Rate) {
+            let rate = self.rate()?;
+            let due = self.maybe_due()?;
+            let note = Note {
+                ty: None,
+                rate: Some(rate),
+                due,
+            };
+            return Ok(note);
+        }
+        let ty = self.ty()?;
+        let rate = self.maybe_rate()?;
+        let due = self.maybe_due()?;
+        let note = Note {
+            ty: Some(ty),
+            rate,
+            due,
+        };
+        Ok(note)
+    }
+}
 
 /// A name, with the note that stands after it.
 #[derive(Debug, Drop)]
@@ -166,20 +315,14 @@ impl<'a> Parser<'a> {
         self.more_runs(first)
     }
 
-    fn closed_params(&mut self) -> Result<Vec<Param>, Stop>
-        ensures { Parses (λ x. x.items) (grammar.closed grammar.Params) result self.entry.now self.exit.now }
-    {
-        let params = self.params()?;
-        self.expect(Fixed::Close)?;
-        Ok(params)
-    }
-
     /// Takes parameters in parentheses.
     pub fn enclosed_params(&mut self) -> Result<Vec<Param>, Stop>
         ensures { Parses (λ x. x.items) (grammar.in_parens grammar.Params) result self.entry.now self.exit.now }
     {
         self.expect(Fixed::Open)?;
-        self.closed_params()
+        let params = self.params()?;
+        self.expect(Fixed::Close)?;
+        Ok(params)
     }
 
     /// Takes parameters in parentheses, or parentheses alone.
@@ -191,7 +334,9 @@ impl<'a> Parser<'a> {
             self.expect(Fixed::Close)?;
             return Ok(Vec::new(self.alloc));
         }
-        self.closed_params()
+        let params = self.params()?;
+        self.expect(Fixed::Close)?;
+        Ok(params)
     }
 
     /// Takes a run and its semicolon.
