@@ -1,4 +1,5 @@
 pub mod Lists
+pub mod Shown
 pub mod Own
 pub mod Tokens
 pub mod Printed

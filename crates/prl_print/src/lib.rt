@@ -6,6 +6,7 @@ mod declarations;
 mod expressions;
 mod laws;
 mod notes;
+mod parts;
 mod printing;
 
 pub use laws::programs_are_in_range;

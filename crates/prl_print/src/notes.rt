@@ -1,9 +1,9 @@
 //! Parameters and their notes as they are printed. Each function appends to the text.
 
-ghost use Rattle.std.specs.Prelude.{◌≡◌, ◌++◌, OnOk, codes, map};
-ghost use Rattle.std.specs.List.{flat_map};
-ghost use Rattle.prl_print.specs.Printing.{note_parts, printed_due, printed_locals, printed_note, printed_param, printed_params, printed_rate};
+ghost use Rattle.std.specs.Prelude.{◌≡◌, ◌++◌, OnOk};
+ghost use Rattle.prl_print.specs.Printing.{note_parts, printed_due, printed_locals, printed_note, printed_rate};
 
+use crate::parts::{Part, push_separated};
 use prl_ast::{Param, Rate};
 use prl_base::{push_number, push_ratio, push_type};
 use std::alloc::AllocError;
@@ -48,34 +48,14 @@ fn push_note(text: &mut Vec<u8>, param: &Param) -> Result<(), AllocError>
     Ok(())
 }
 
-fn push_param(text: &mut Vec<u8>, param: &Param) -> Result<(), AllocError>
-    ensures { OnOk result (text.new.items ≡ text.old.items ++ printed_param param.now) }
-{
-    text.extend_from_slice(param.name.bytes())?;
-    push_note(text, param)
-}
+impl Part for Param {
+    ghost use Rattle.prl_print.specs.Printing.{printed_param};
 
-/// The parameters, each after a semicolon.
-fn push_others(text: &mut Vec<u8>, params: &[Param]) -> Result<(), AllocError>
-    ensures { OnOk result (text.new.items ≡ text.old.items ++ flat_map (λ other. codes "; " ++ other) (map printed_param params.now)) }
-{
-    for param in params {
-        text.extend_from_slice(b"; ")?;
-        push_param(text, param)?;
-    }
-    Ok(())
-}
+    ghost printed = { printed_param };
 
-/// The parameters, with semicolons between.
-pub fn push_params(text: &mut Vec<u8>, params: &[Param]) -> Result<(), AllocError>
-    ensures { OnOk result (text.new.items ≡ text.old.items ++ printed_params params.now) }
-{
-    match params {
-        [] => Ok(()),
-        [first, others @ ..] => {
-            push_param(text, first)?;
-            push_others(text, others)
-        }
+    fn push(&self, text: &mut Vec<u8>) -> Result<(), AllocError> {
+        text.extend_from_slice(self.name.bytes())?;
+        push_note(text, self)
     }
 }
 
@@ -87,6 +67,6 @@ pub fn push_locals(text: &mut Vec<u8>, locals: &[Param]) -> Result<(), AllocErro
         return Ok(());
     }
     text.extend_from_slice(b"var ")?;
-    push_params(text, locals)?;
+    push_separated(text, b"; ", locals)?;
     text.extend_from_slice(b";\n")
 }
