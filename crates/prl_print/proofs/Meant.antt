@@ -1,31 +1,36 @@
 -- What holds of the trees of programs.
-use Rattle.std.proofs.Common.{◌≡◌, ◌≤◌, ◌&&◌, ◌+◌, ℕ, Bool, zero, suc, pos, neg_ℤ, min, leb, true, List, [], ◌∷◌, ◌++◌, map, length, Option, Some, None, refl, arith}
+use Rattle.std.proofs.Common.{◌≡◌, ◌≤◌, ◌&&◌, ◌+◌, ℕ, Bool, zero, suc, pos, neg_ℤ, min, leb, false, true, List, [], ◌∷◌, ◌++◌, map, length, Option, Some, None, refl, sym, ap, subst, arith}
 use Rattle.std.proofs.lemmas.Bool.{and_parts, leb-true}
-use Rattle.std.proofs.lemmas.List.{length-map}
+use Rattle.std.proofs.lemmas.List.{append-nil, length-map}
 use Rattle.std.specs.List.{AllByRecursion}
 use Rattle.prl_base.specs.declared.decimals.TheConstants.{MAX_NEGATIVE, MAX_POSITIVE}
 use Rattle.prl_base.specs.declared.values.Ty.{Ty}
+use Rattle.prl_base.specs.declared.values.Value.{Value}
 use Rattle.prl_base.specs.declared.values.Value.TheVariants as values
 use Rattle.prl_base.specs.Values.{FitsValue}
 use Rattle.prl_ast.specs.declared.declarations.Placed.{Placed}
-use Rattle.prl_ast.specs.InRange.{IsCount, IsShift, IsRate, IsDue, IfThere, IsPrefix, IsPostfix, IsRootInRange}
+use Rattle.prl_ast.specs.InRange.{IsCount, IsShift, IsRate, IsDue, IfThere, IsInRange, IsPrefix, IsPostfix, IsRootInRange}
 use Rattle.prl_grammar.specs.Lexemes.{Lexeme}
-use Rattle.prl_grammar.specs.Productions.{written}
+use Rattle.prl_grammar.specs.Lexing.{lexemes_of}
+use Rattle.prl_grammar.specs.Productions.{inner}
 use Rattle.prl_syntax.specs.declared.words.Fixed.{Fixed}
 use Rattle.prl_syntax.specs.declared.parameters.Note.{Note}
 use Rattle.prl_syntax.specs.declared.parameters.Item.{Item}
-use Rattle.prl_syntax.specs.Words.{class_of}
+use Rattle.prl_syntax.specs.Words.{class_of, program_vocabulary}
 use Rattle.prl_syntax.specs.Values.{small}
 use Rattle.prl_syntax.specs.Trees.{StemTree, joined, param_of, note_or, first_note, params_before, params_of, port_of, root_of_name, trees_from, Declared, imported, sensor, actuator, node, program_of}
-use Rattle.prl_syntax.specs.Grammar.{Grammar, Const, Ratio, Name, Names, TypeName, Rate, Due, Note as NoteText, Item as ItemText, Run, Params, EndedRun, Locals, PortGroup, NextGroup, Ports, Wcet, Import, Device, Postfix, Expr, Exprs, Base, Prefixed, Stem, programs, Left, Equation, Node, Declaration, Program}
+use Rattle.prl_syntax.specs.Grammar.{Grammar, Const, Ratio, Postfix, Expr, Exprs, Base, Prefix, AfterConst, Stem, programs, Name, Names, Left, Equation, TypeName, Rate, Due, Note as NoteText, Item as ItemText, Run, Params, EndedRun, Locals, PortGroup, NextGroup, Ports, Wcet, Import, Device, Node, Declaration, Program}
+use Rattle.prl_syntax.specs.Parsing.{IsProgramOf}
+use Rattle.prl_syntax.specs.Ranges.{is_count}
 use Rattle.prl_print.proofs.Fractions.{is_shift}
+use Rattle.prl_print.proofs.Limits.{text_fine}
 use Rattle.prl_print.proofs.Own.{IsOwnName, IsOwnPlaced, IsOwnPort, IsOwnParam, IsOwnImport, IsOwnDevice, all_of, IsFreeRoot, IsOwnTree, AreOwnTrees, IsOwnEquation, IsOwnNode, AreOwn}
-use Rattle.prl_print.proofs.Source.{deeper, Sure, s_then, s_give, s_either, s_weaken, s_many, s_place, s_close, s_named, s_number, s_alone, s_count, s_maybe, s_list, s_parens, s_perhaps, s_first}
+use Rattle.prl_print.proofs.Source.{deeper, Fine, Sure, Any, s_action, s_both, s_after, s_either, s_give, s_many, s_placed, s_deep, s_place, s_close, s_named, s_number, s_count, s_second, s_first, s_past, s_maybe, s_list, s_parens, s_perhaps}
 use Rattle.prl_base.specs.declared.operators.Op.{Op}
 use Rattle.prl_base.specs.declared.operators.Op.TheVariants as ops
 use Rattle.prl_base.specs.declared.places.Span.{Span}
-use Rattle.prl_ast.specs.Trees.{Tree, Root, group, Trees, none, more}
-use Rattle.prl_grammar.specs.Language.{within, nested, Text}
+use Rattle.prl_ast.specs.Trees.{Tree, Root, group, Trees, none, more, ProgramTree}
+use Rattle.prl_grammar.specs.Language.{within, nested}
 use Rattle.prl_syntax.specs.declared.words.Fixed.TheVariants as fixed
 
 abbrev pub IsSome : {X : Type 0} → List X → Type 0
@@ -39,9 +44,6 @@ positive_fits n = record { sfits = omega arith }
 negative_fits : (k : ℕ) → k ≤ MAX_NEGATIVE → FitsValue (values.Int (neg_ℤ (pos k)))
 negative_fits zero h = record { sfits = omega arith }
 negative_fits (suc k) h = record { sfits = omega (arith, h) }
-
-is_count : (n : ℕ) → (leb 1 n && leb n 2147483647) ≡ true → IsCount (small n)
-is_count n h = let low = leb-true 1 n (and_parts (leb 1 n) (leb n 2147483647) h).0 in (omega (arith, low), omega arith)
 
 record IsOwnNote (note : Note) : Type 0 where
   rate : IfThere IsRate note.rate
@@ -98,86 +100,6 @@ own_ports ty ns h = (all ns h.0, omega (arith, length-map ns (port_of ty), h.1))
     all [] g = tt
     all (m ∷ ms) g = (g.0, all ms g.1)
 
--- whatever stands in parentheses
-module _ (I : StemTree → List Lexeme → Type 0) where
-  abbrev pub Means : {A : Type 0} → Grammar A → (A → Type 0) → Type 0
-  Means g P = (i : Bool) (c d : ℕ) → Sure i c d d (written I g) P
-
-  pub constant_means : Means Const FitsValue
-  unfolding Const
-  constant_means i c d = s_either (s_place (λ p _. s_give tt)) (s_either (s_place (λ p _. s_give tt)) (s_either (s_place (λ p _. s_number (λ n _. s_give (negative_fits (min n MAX_NEGATIVE) (omega arith))))) (s_number (λ n _. s_give (positive_fits n)))))
-
-  pub ratio_means : Means Ratio IsShift
-  unfolding Ratio
-  ratio_means i c d = s_number (λ n _. s_then (λ i c. s_maybe {P = λ m. Unit {0}} (λ i c. s_place (λ p _. s_count))) (λ d _ i c. s_give (is_shift n d)))
-
-  pub name_means : Means Name IsOwnPlaced
-  unfolding Name
-  name_means i c d = s_named (λ n h. s_give h)
-
-  pub names_mean : Means Names (AreSome IsOwnPlaced)
-  unfolding Names
-  names_mean i c d = s_list (λ d. refl) (λ i c. name_means i c d)
-
-  type_means : Means TypeName (λ t. Unit {0})
-  unfolding TypeName
-  type_means i c d = s_either (s_place (λ p _. s_give tt)) (s_place (λ p _. s_give tt))
-
-  rate_means : Means Rate IsRate
-  unfolding Rate
-  rate_means i c d = s_place (λ k _. s_place (λ o _. s_number (λ n h. s_place (λ m _. s_then (λ i c. ratio_means i c (d + 1)) (λ q g i c. s_close (λ e. s_give (is_count n h, g)))))))
-
-  due_means : Means Due IsDue
-  unfolding Due
-  due_means i c d = s_place (λ k _. s_number (λ n _. s_give (omega arith)))
-
-  note_means : Means NoteText IsOwnNote
-  unfolding NoteText
-  note_means i c d =
-      s_either (s_then (λ i c. due_means i c d) (λ u h i c. s_give (record { rate = tt; due = h })))
-      (s_either (s_then (λ i c. rate_means i c d) (λ r g i c. s_then (λ i c. s_maybe (λ i c. due_means i c d)) (λ u h i c. s_give (record { rate = g; due = h }))))
-      (s_then (λ i c. type_means i c d) (λ t _ i c. s_then (λ i c. s_maybe (λ i c. rate_means i c d)) (λ r g i c. s_then (λ i c. s_maybe (λ i c. due_means i c d)) (λ u h i c. s_give (record { rate = g; due = h }))))))
-
-  run_means : Means Run (AreSome IsOwnParam)
-  unfolding Run ItemText
-  run_means i c d =
-      s_then (λ i c. s_list {P = IsOwnItem} (λ d. refl) (λ i c. s_then (λ i c. name_means i c d) (λ n h i c. s_then (λ i c. s_maybe (λ i c. s_place (λ p _. note_means _ _ d))) (λ x g i c. s_give (record { name = h; note = g })))))
-      (λ is h i c. s_give (params_some is h))
-
-  pub params_mean : Means Params (AreSome IsOwnParam)
-  unfolding Params
-  params_mean i c d = s_then (λ i c. s_list (λ d. refl) (λ i c. run_means i c d)) (λ runs h i c. s_give (some_joined IsOwnParam runs h))
-
-  ended_means : Means EndedRun (AreSome IsOwnParam)
-  unfolding EndedRun
-  ended_means i c d = s_then (λ i c. run_means i c d) (λ r h i c. s_place (λ p _. s_give h))
-
-  pub locals_mean : Means Locals (AllByRecursion IsOwnParam)
-  unfolding Locals
-  locals_mean i c d = s_either (s_place (λ k _. s_then (λ i c. ended_means i c d) (λ r h i c. s_then (s_many (λ i c. ended_means i c d)) (λ others g i c. s_give (all_joined IsOwnParam (r ∷ others) (h, g)))))) (s_give tt)
-
-  group_means : Means PortGroup (AreSome IsOwnPort)
-  unfolding PortGroup
-  group_means i c d = s_then (λ i c. names_mean i c d) (λ ns h i c. s_place (λ p _. s_then (λ i c. type_means i c d) (λ t _ i c. s_give (own_ports t ns h))))
-
-  ports_mean : Means Ports (AreSome IsOwnPort)
-  unfolding Ports NextGroup
-  ports_mean i c d = s_then (λ i c. group_means i c d) (λ r h i c. s_then (s_many (λ i c. s_then (λ i c. s_either (s_alone (λ d. refl)) (s_alone (λ d. refl))) (λ p _ i c. group_means i c d))) (λ others g i c. s_give (some_joined IsOwnPort (r ∷ others) ((h, g), omega arith))))
-
-  wcet_means : Means Wcet IsCount
-  unfolding Wcet
-  wcet_means i c d = s_place (λ k _. s_number (λ n h. s_place (λ p _. s_give (is_count n h))))
-
-  pub import_means : Means Import IsOwnImport
-  unfolding Import
-  import_means i c d =
-      s_place (λ k _. s_place (λ l _. s_named (λ n e. s_then {P = λ ins. (d + 1 ≤ 64) × AllByRecursion IsOwnPort ins} (λ i c. s_perhaps [] tt (λ i c. s_weaken (ports_mean i c (d + 1)) (λ ps h. h.0))) (λ ins f i c. s_place (λ r _. s_then (λ i c. s_parens (λ i c. ports_mean i c (d + 1))) (λ outs g i c.
-      s_then (λ i c. wcet_means i c d) (λ w h i c. s_give (record { range = record { name = e.0; ins = all_of (λ p q. q.0) ins f.1; outs = all_of (λ p q. q.0) outs g.1.0; some = g.1.1; wcet = h }; name = e; ins = f.1; outs = g.1.0 }))))))))
-
-  pub device_means : (f : Fixed) → ((d : ℕ) → deeper d (class_of f) ≡ d) → Means (Device f) IsOwnDevice
-  unfolding Device
-  device_means f other i c d = s_then (λ i c. s_alone other) (λ k _ i c. s_named (λ n e. s_then (λ i c. wcet_means i c d) (λ w h i c. s_give (e, h))))
-
 abbrev IsOwnRoot : ℕ → Root → Type 0
 IsOwnRoot d r = IsRootInRange d r × IsFreeRoot r
 
@@ -209,91 +131,11 @@ named_root : (d : ℕ) (n : List ℕ × Span) (args : Option Trees) → IsOwnNam
 named_root d n None e h = e
 named_root d n (Some args) e h = ((e.0, h.0, h.1.0), (e.1, h.1.1))
 
-module _ (I : StemTree → List Lexeme → Type 0) (inside : (i : Bool) (c d : ℕ) → Sure i c d d I (IsOwnStem d)) where
-  abbrev Means_at : {A : Type 0} → Grammar A → (ℕ → A → Type 0) → Type 0
-  Means_at g P = (i : Bool) (c d : ℕ) → Sure i c d d (written I g) (P d)
-
-  expr_means : Means_at Expr IsOwnTree
-  unfolding Expr Postfix
-  expr_means i c d =
-      s_then (λ i c. s_first (s_then (λ i c. inside i c d) (λ s h i c. s_then (s_many {P = λ o. IsPostfix o.op} (λ i c.
-      s_either (s_place (λ p _. s_number (λ n h. s_give (is_count n h))))
-      (s_either (s_place (λ p _. s_number (λ n h. s_give (is_count n h)))) (s_place (λ p _. s_then (λ i c. ratio_means I i c d) (λ q h i c. s_give h)))))) (λ post g i c. s_give {Q = λ (x : _). IsOwnStem d x.0 × AllByRecursion (λ o. IsPostfix o.op) x.1} (h, g)))))
-      (λ x h i c. s_give ((h.0.0, h.0.1.0, h.1), h.0.1.1))
-
-  exprs_mean : Means_at Exprs IsOwnGroup
-  unfolding Exprs
-  exprs_mean i c d = s_then (λ i c. s_list (λ d. refl) (λ i c. expr_means i c d)) (λ ts h i c. s_give (group_own d ts h))
-
-  base_means : Means_at Base IsOwnRoot
-  unfolding Base
-  base_means i c d =
-      s_either (s_named (λ n e. s_then (λ i c. s_maybe (λ i c. s_perhaps {P = AreOwnTrees (d + 1)} none (tt, tt) (λ i c. s_weaken (exprs_mean i c (d + 1)) (group_trees (d + 1))))) (λ args h i c. s_give (named_root d n args e h))))
-      (s_then (λ i c. s_parens (λ i c. exprs_mean i c (d + 1))) (λ ts h i c. s_give (group_root d ts h)))
-
-  prefixed_means : (f : Fixed) (op : Op) → ((d : ℕ) → deeper d (class_of f) ≡ d) → IsPrefix op → Means_at (Prefixed f op) IsOwnStem
-  unfolding Prefixed
-  prefixed_means f op other own i c d = s_then (λ i c. s_alone other) (λ p _ i c. s_then (λ i c. inside i c d) (λ s h i c. s_give ((own, h.0), h.1)))
-
-  stem_means : Means_at Stem IsOwnStem
-  unfolding Stem
-  stem_means i c d =
-      s_either (s_then (λ i c. base_means i c d) (λ b h i c. s_give (tt, h)))
-      (s_either (prefixed_means fixed.Tail ops.Tail (λ d. refl) tt i c d)
-      (s_then (λ i c. constant_means I i c d) (λ v h i c. s_either (prefixed_means fixed.Fby (ops.Fby v) (λ d. refl) h i c d) (s_either (prefixed_means fixed.Cons (ops.Cons v) (λ d. refl) h i c d) (s_give (tt, (h, tt)))))))
-
-within_means : (n : ℕ) (i : Bool) (c d : ℕ) → Sure i c d d (within programs n) (IsOwnStem d)
-unfolding within programs
-within_means zero i c d = record { sure = λ s w fine h. absurd h }
-within_means (suc n) i c d = stem_means (within programs n) (within_means n) i c d
-
-abbrev I : StemTree → List Lexeme → Type 0
-I = nested programs
-
-nested_means : (i : Bool) (c d : ℕ) → Sure i c d d I (IsOwnStem d)
-unfolding nested
-nested_means i c d = record { sure = λ s w fine h. (within_means h.0 i c d).sure s w fine h.1 }
-
--- equations, nodes and the program
-
-equation_means : (i : Bool) (c : ℕ) → Sure i c 0 0 (Text programs Equation) IsOwnEquation
-unfolding Equation Left
-equation_means i c =
-    s_then (λ i c. s_first (s_then {P = AreSome IsOwnPlaced} (λ i c. s_either (s_weaken (s_parens (λ i c. names_mean I i c 1)) (λ ns h. h.1)) (s_then (λ i c. name_means I i c 0) (λ n h i c. s_give ((h, tt), omega arith))))
-    (λ ls h i c. s_place (λ p _. s_then (λ i c. expr_means I nested_means i c 0) (λ t g i c. s_place (λ s _. s_give {Q = λ (s : _). (AllByRecursion IsOwnPlaced s.0 × IsSome s.0) × IsOwnTree 0 s.1} (h, g)))))))
-    (λ x h i c. s_give (record { range = record { lefts = all_of (λ n q. q.0) x.1.0 h.0.0; some = h.0.1; right = h.1.0 }; lefts = h.0.0; right = h.1.1 }))
-
-node_means : (i : Bool) (c : ℕ) → Sure i c 0 0 (Text programs Node) IsOwnNode
-unfolding Node
-node_means i c =
-    s_place (λ k _. s_named (λ n e. s_then {P = λ ins. (1 ≤ 64) × AllByRecursion IsOwnParam ins} (λ i c. s_perhaps [] tt (λ i c. s_weaken (params_mean I i c 1) (λ ps h. h.0))) (λ ins f i c. s_place (λ r _. s_then (λ i c. s_parens (λ i c. params_mean I i c 1)) (λ outs g i c.
-    s_then (λ i c. locals_mean I i c 0) (λ locals h i c. s_place (λ l _. s_then (s_many equation_means) (λ eqs j i c. s_place (λ t _. s_then (λ i c. s_maybe (λ i c. s_alone (λ d. refl))) (λ s _ i c. s_give (record {
-      range = record {
-        name = e.0;
-        ins = all_of (λ p q. q.0) ins f.1;
-        outs = all_of (λ p q. q.0) outs g.1.0;
-        some = g.1.1;
-        locals = all_of (λ p q. q.0) locals h;
-        eqs = all_of (λ (p : _) (q : IsOwnEquation p). q.range) eqs j;
-      };
-      name = e;
-      ins = f.1;
-      outs = g.1.0;
-      locals = h;
-      eqs = j;
-    })))))))))))
-
 abbrev pub IsOwnDeclared : Declared → Type 0
 IsOwnDeclared (imported i) = IsOwnImport i
 IsOwnDeclared (sensor d) = IsOwnDevice d
 IsOwnDeclared (actuator d) = IsOwnDevice d
 IsOwnDeclared (node n) = IsOwnNode n
-
-declaration_means : (i : Bool) (c : ℕ) → Sure i c 0 0 (Text programs Declaration) IsOwnDeclared
-unfolding Declaration
-declaration_means i c =
-    s_either (s_then (λ i c. import_means I i c 0) (λ x h i c. s_give h)) (s_either (s_then (λ i c. device_means I fixed.Sensor (λ d. refl) i c 0) (λ x h i c. s_give h))
-    (s_either (s_then (λ i c. device_means I fixed.Actuator (λ d. refl) i c 0) (λ x h i c. s_give h)) (s_then node_means (λ x h i c. s_give h))))
 
 all_own : (ds : List Declared) → AllByRecursion IsOwnDeclared ds → AreOwn (program_of ds)
 all_own [] h = (tt, tt, tt, tt)
@@ -302,6 +144,168 @@ all_own (sensor d ∷ ds) h = let g = all_own ds h.1 in (g.0, (h.0, g.1), g.2, g
 all_own (actuator d ∷ ds) h = let g = all_own ds h.1 in (g.0, g.1, (h.0, g.2), g.3)
 all_own (node n ∷ ds) h = let g = all_own ds h.1 in (g.0, g.1, g.2, (h.0, g.3))
 
-pub program_means : (i : Bool) (c : ℕ) → Sure i c 0 0 (Text programs Program) AreOwn
-unfolding Program
-program_means i c = s_then (s_many declaration_means) (λ ds h i c. s_give (all_own ds h))
+-- whatever stands in parentheses
+module _ (I : StemTree → List Lexeme → Type 0) (inside : (d : ℕ) → Sure I Any d d inner (IsOwnStem d)) where
+  abbrev Means : {A : Type 0} → ℕ → Grammar A → (A → Type 0) → Type 0
+  Means d g P = Sure I Any d d g P
+
+  constant_means : {d : ℕ} → Means d Const FitsValue
+  unfolding Const
+  constant_means =
+      s_either (s_action s_place (λ p _. tt)) (s_either (s_action s_place (λ p _. tt))
+      (s_either (s_action (s_second s_place s_number) (λ n _. negative_fits (min n MAX_NEGATIVE) (omega arith))) (s_action s_number (λ n _. positive_fits n))))
+
+  ratio_means : {d : ℕ} → Means d Ratio IsShift
+  unfolding Ratio
+  ratio_means = s_action (s_both s_number (s_maybe (s_second s_place s_number))) (λ x _. is_shift x.0 x.1)
+
+  postfix_means : {d : ℕ} → Means d Postfix (λ o. IsPostfix o.op)
+  unfolding Postfix
+  postfix_means =
+      s_either (s_action (s_after s_count (λ i c _. refl)) (λ x h. h)) (s_either (s_action (s_after s_count (λ i c _. refl)) (λ x h. h)) (s_action (s_both s_place ratio_means) (λ x h. h.1)))
+
+  expr_means : {d : ℕ} → Means d Expr (IsOwnTree d)
+  unfolding Expr
+  expr_means {d} = s_action (s_placed (s_both (inside d) (s_many postfix_means))) (λ x h. ((h.0.0, h.0.1.0, h.1), h.0.1.1))
+
+  exprs_mean : {d : ℕ} → Means d Exprs (IsOwnGroup d)
+  unfolding Exprs
+  exprs_mean {d} = s_action (s_list s_place expr_means) (group_own d)
+
+  base_means : {d : ℕ} → Means d Base (IsOwnRoot d)
+  unfolding Base
+  base_means {d} =
+      s_either (s_action (s_both s_named (s_maybe (s_perhaps {Q = AreOwnTrees (d + 1)} (tt, tt) (group_trees (d + 1)) exprs_mean))) (λ x h. named_root d x.0 x.1 h.0 h.1))
+      (s_action (s_parens (s_deep exprs_mean)) (group_root d))
+
+  prefix_means : {d : ℕ} (f : Fixed) → Sure I Any d (deeper d (class_of f)) (Prefix f) (λ p. (op : Op) → IsPrefix op → IsOwnStem (deeper d (class_of f)) (p op))
+  unfolding Prefix
+  prefix_means {d} f = s_action (s_both s_place (inside (deeper d (class_of f)))) (λ x h op own. ((own, h.1.0), h.1.1))
+
+  after_means : {d : ℕ} → Means d AfterConst (λ k. (v : Value) → FitsValue v → IsOwnStem d (k v))
+  unfolding AfterConst
+  after_means = s_either (s_action (prefix_means fixed.Fby) (λ p h v fits. h (ops.Fby v) fits)) (s_either (s_action (prefix_means fixed.Cons) (λ p h v fits. h (ops.Cons v) fits)) (s_give (λ v fits. (tt, (fits, tt)))))
+
+  stem_means : {d : ℕ} → Means d Stem (IsOwnStem d)
+  unfolding Stem
+  stem_means = s_either (s_action base_means (λ b h. (tt, h))) (s_either (s_action (prefix_means fixed.Tail) (λ p h. h ops.Tail tt)) (s_action (s_both constant_means after_means) (λ x h. h.1 x.0 h.0)))
+
+  name_means : {d : ℕ} → Means d Name IsOwnPlaced
+  unfolding Name
+  name_means = s_action s_named (λ n h. h)
+
+  names_mean : {d : ℕ} → Means d Names (AreSome IsOwnPlaced)
+  unfolding Names
+  names_mean = s_list s_place name_means
+
+  equation_means : Means 0 Equation IsOwnEquation
+  unfolding Equation Left
+  equation_means =
+      s_action {P = λ (x : _). AreSome IsOwnPlaced x.1.0 × IsOwnTree 0 x.1.1} (s_placed (s_both (s_either (s_parens names_mean) (s_action name_means (λ n h. ((h, tt), omega arith)))) (s_first (s_second s_place expr_means) s_place)))
+      (λ x h. record { range = record { lefts = all_of (λ n q. q.0) x.1.0 h.0.0; some = h.0.1; right = h.1.0 }; lefts = h.0.0; right = h.1.1 })
+
+  type_means : {d : ℕ} → Means d TypeName (λ t. Unit {0})
+  unfolding TypeName
+  type_means = s_either (s_action s_place (λ p _. tt)) (s_action s_place (λ p _. tt))
+
+  rate_means : {d : ℕ} → Means d Rate IsRate
+  unfolding Rate
+  rate_means = s_action (s_past {J = λ i c. i ≡ true} (s_past (s_first (s_both s_count (s_second s_place ratio_means)) s_close) (λ i c h. ap (λ i. is_count i 19) h)) (λ i c _. refl)) (λ x h. h)
+
+  due_means : {d : ℕ} → Means d Due IsDue
+  unfolding Due
+  due_means = s_action (s_second s_place s_number) (λ n _. omega arith)
+
+  note_means : {d : ℕ} → Means d NoteText IsOwnNote
+  unfolding NoteText
+  note_means =
+      s_either (s_action due_means (λ u h. record { rate = tt; due = h })) (s_either (s_action (s_both rate_means (s_maybe due_means)) (λ x h. record { rate = h.0; due = h.1 }))
+      (s_action (s_both type_means (s_both (s_maybe rate_means) (s_maybe due_means))) (λ x h. record { rate = h.1.0; due = h.1.1 })))
+
+  run_means : {d : ℕ} → Means d Run (AreSome IsOwnParam)
+  unfolding Run ItemText
+  run_means = s_action (s_list s_place (s_action {Q = IsOwnItem} (s_both name_means (s_maybe (s_second s_place note_means))) (λ x h. record { name = h.0; note = h.1 }))) params_some
+
+  params_mean : {d : ℕ} → Means d Params (AreSome IsOwnParam)
+  unfolding Params
+  params_mean = s_action (s_list s_place run_means) (some_joined IsOwnParam)
+
+  locals_mean : {d : ℕ} → Means d Locals (AllByRecursion IsOwnParam)
+  unfolding Locals EndedRun
+  locals_mean =
+      s_either (s_action (s_second s_place (s_both (s_first run_means s_place) (s_many (s_first run_means s_place)))) (λ x h. all_joined IsOwnParam (x.0 ∷ x.1) h)) (s_give tt)
+
+  group_means : {d : ℕ} → Means d PortGroup (AreSome IsOwnPort)
+  unfolding PortGroup
+  group_means = s_action (s_both names_mean (s_second s_place type_means)) (λ x h. own_ports x.1 x.0 h.0)
+
+  ports_mean : {d : ℕ} → Means d Ports (AreSome IsOwnPort)
+  unfolding Ports NextGroup
+  ports_mean = s_action (s_both group_means (s_many (s_second (s_either s_place s_place) group_means))) (λ x h. some_joined IsOwnPort (x.0 ∷ x.1) (h, omega arith))
+
+  wcet_means : {d : ℕ} → Means d Wcet IsCount
+  unfolding Wcet
+  wcet_means = s_action (s_first (s_past s_count (λ i c _. refl)) s_place) (λ n h. h)
+
+  import_means : Means 0 Import IsOwnImport
+  unfolding Import
+  import_means =
+      s_action (s_both (s_second (s_second s_place s_place) s_named) (s_both (s_perhaps tt (λ ps h. h.0) ports_mean) (s_both (s_second s_place (s_parens ports_mean)) wcet_means)))
+      (λ x h. record {
+        range = record { name = h.0.0; ins = all_of (λ p q. q.0) x.1.0 h.1.0.1; outs = all_of (λ p q. q.0) x.1.1.0 h.1.1.0.0; some = h.1.1.0.1; wcet = h.1.1.1 };
+        name = h.0;
+        ins = h.1.0.1;
+        outs = h.1.1.0.0;
+      })
+
+  device_means : {d : ℕ} (f : Fixed) → Sure I Any d (deeper d (class_of f)) (Device f) IsOwnDevice
+  unfolding Device
+  device_means f = s_action (s_both (s_second s_place s_named) wcet_means) (λ x h. h)
+
+  node_means : Means 0 Node IsOwnNode
+  unfolding Node
+  node_means =
+      s_action (s_both (s_second s_place s_named) (s_both (s_perhaps tt (λ ps h. h.0) params_mean) (s_both (s_second s_place (s_parens params_mean)) (s_both locals_mean (s_first (s_first (s_second s_place (s_many equation_means)) s_place) (s_maybe s_place))))))
+      (λ x h. (let eqs = all_of (λ (e : _) (q : IsOwnEquation e). q.range) x.1.1.1.1 h.1.1.1.1 in record {
+        range = record { name = h.0.0; ins = all_of (λ p q. q.0) x.1.0 h.1.0.1; outs = all_of (λ p q. q.0) x.1.1.0 h.1.1.0.0; some = h.1.1.0.1; locals = all_of (λ p q. q.0) x.1.1.1.0 h.1.1.1.0; eqs = eqs };
+        name = h.0;
+        ins = h.1.0.1;
+        outs = h.1.1.0.0;
+        locals = h.1.1.1.0;
+        eqs = h.1.1.1.1;
+      }))
+
+  declaration_means : Means 0 Declaration IsOwnDeclared
+  unfolding Declaration
+  declaration_means = s_either (s_action import_means (λ x h. h)) (s_either (s_action (device_means fixed.Sensor) (λ x h. h)) (s_either (s_action (device_means fixed.Actuator) (λ x h. h)) (s_action node_means (λ x h. h))))
+
+  pub program_means : Means 0 Program AreOwn
+  unfolding Program
+  program_means = s_action (s_many declaration_means) all_own
+
+within_means : (n d : ℕ) → Sure (within programs n) Any d d inner (IsOwnStem d)
+unfolding within programs
+within_means zero d = record { sure = λ i c s w rest known fine h. absurd h }
+within_means (suc n) d = record { sure = (stem_means (within programs n) (within_means n)).sure }
+
+nested_means : (d : ℕ) → Sure (nested programs) Any d d inner (IsOwnStem d)
+unfolding nested
+nested_means d = record { sure = λ i c s w rest known fine h. (within_means h.0 d).sure i c s w rest known fine h.1 }
+
+-- the program of each text
+own : (text : List ℕ) (p : ProgramTree) → IsProgramOf text p → AreOwn p
+own text p h =
+    let w = lexemes_of program_vocabulary text h.read.tokens in
+    let fine = text_fine text h.read.tokens h.read.lexical h.read.ranges in
+    ((program_means (nested programs) nested_means).sure false 0 p w [] tt (subst (Fine false 0 0) (sym (append-nil w)) fine) h.read.written).0
+
+pub in_range : (text : List ℕ) (p : ProgramTree) → IsProgramOf text p → IsInRange p
+in_range text p h =
+    let all = own text p h in
+    record {
+      imports = all_of (λ (i : _) (q : IsOwnImport i). q.range) p.imports all.0;
+      sensors = all_of (λ d q. (q.0.0, q.1)) p.sensors all.1;
+      actuators = all_of (λ d q. (q.0.0, q.1)) p.actuators all.2;
+      nodes = all_of (λ (n : _) (q : IsOwnNode n). q.range) p.nodes all.3;
+      few = h.nodes;
+    }

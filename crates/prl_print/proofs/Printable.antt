@@ -46,20 +46,6 @@ reads_back p h few =
       same = x.same;
     }
 
-own : (text : List ℕ) (p : ProgramTree) → IsProgramOf text p → AreOwn p
-own text p h = ((program_means false 0).sure p (lexemes_of text h.tokens) (text_fine text h.tokens h.lexical h.ranges) h.written).0
-
-pub in_range : (text : List ℕ) (p : ProgramTree) → IsProgramOf text p → IsInRange p
-in_range text p h =
-    let all = own text p h in
-    record {
-      imports = all_of (λ (i : _) (q : IsOwnImport i). q.range) p.imports all.0;
-      sensors = all_of (λ d q. (q.0.0, q.1)) p.sensors all.1;
-      actuators = all_of (λ d q. (q.0.0, q.1)) p.actuators all.2;
-      nodes = all_of (λ (n : _) (q : IsOwnNode n). q.range) p.nodes all.3;
-      few = h.nodes;
-    }
-
 -- what is read from the printed text of a program is the program, places aside
 pub result_reads_back : {E : Type 0} (p : ProgramTree) (r : Result (Vec ℕ Global) E) → IfOk r (λ text. text.items ≡ printed p) → (source : List ℕ) → IsProgramOf source p → IfOk r (λ text. IsTextOf text.items p)
 result_reads_back p (Ok text) e source h = let P : List ℕ → Type 0 = λ t. IsTextOf t p in subst P (sym e) (reads_back p (own source p h) h.nodes)

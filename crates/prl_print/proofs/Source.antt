@@ -1,17 +1,18 @@
--- What holds of the tree of a text of the grammar, where its tokens are of a text.
-use Rattle.std.proofs.Common.{◌≡◌, ◌==◌, ◌≤◌, ◌+◌, ◌-◌, ◌&&◌, ℕ, Bool, true, false, cond, not, List, [], ◌∷◌, ◌++◌, length, refl, sym, ap, ◌∙◌, subst, inl, inr, arith, append_assoc}
-use Rattle.std.proofs.lemmas.Bool.{not-false}
+-- What holds of the trees of a grammar's texts, where the tokens are those of a text.
+use Rattle.std.proofs.Common.{◌≡◌, ◌==◌, ◌≤◌, ◌+◌, ◌-◌, ◌&&◌, ℕ, Bool, false, true, cond, not, List, [], ◌∷◌, ◌++◌, Option, length, refl, sym, ap, ◌∙◌, subst, ⊎_elim, leb, arith, append_assoc}
+use Rattle.std.proofs.lemmas.Bool.{cond-true, and_parts, leb-true, not-false}
 use Rattle.std.specs.List.{AllByRecursion}
-use Rattle.prl_base.specs.declared.places.Span.{Span}
+use Rattle.prl_ast.specs.InRange.{IfThere, IsCount}
+use Rattle.prl_grammar.specs.Combinators.{◌⊳◌, ◌⊲◌, maybe, list_of, place, named, number}
+use Rattle.prl_grammar.specs.Grammars.{One}
 use Rattle.prl_grammar.specs.Lexemes.{Lexeme}
-use Rattle.prl_grammar.specs.Grammars.{One, Then, Give, Either, Many, Maybe, Place, Named, FromFirst}
+use Rattle.prl_grammar.specs.Productions.{token, give, action, both, either, many, placed, written}
 use Rattle.prl_grammar.specs.Ranges.{inside_after, is_fault}
-use Rattle.prl_syntax.specs.Ranges.{in_range, program_ranges}
-use Rattle.prl_ast.specs.InRange.{IfThere}
+use Rattle.prl_syntax.specs.Grammar.{Grammar, in_parens, maybe_in_parens}
+use Rattle.prl_syntax.specs.Ranges.{is_count, in_range, program_ranges}
+use Rattle.prl_syntax.specs.Trees.{StemTree}
+use Rattle.prl_syntax.specs.Values.{small}
 use Rattle.prl_print.proofs.Own.{IsOwnName}
-
-abbrev pub Number : ℕ → List Lexeme → Type 0
-Number = Then (One 1) (λ t. Give t.number)
 
 -- the open parentheses after a token of the class
 abbrev pub deeper : ℕ → ℕ → ℕ
@@ -20,151 +21,134 @@ deeper d class = cond (class == 19) (d + 1) (cond (class == 20) (d - 1) d)
 -- The tokens, in a rate or not, after a token of the class and so many open parentheses, are in range, and within the limits of names
 -- and depth.
 abbrev pub Fine : Bool → ℕ → ℕ → List Lexeme → Type 0
-Fine inside last d [] = Unit {0}
-Fine inside last d (t ∷ ts) = (is_fault program_ranges inside last t ≡ false) × (t.class ≡ 0 → IsOwnName t.name) × (deeper d t.class ≤ 64) × Fine (inside_after program_ranges inside t.class) t.class (deeper d t.class) ts
+Fine inside last d [] = d ≤ 64
+Fine inside last d (t ∷ ts) = (d ≤ 64) × (is_fault program_ranges inside last t ≡ false) × (t.class ≡ 0 → IsOwnName t.name) × Fine (inside_after program_ranges inside t.class) t.class (deeper d t.class) ts
 
-abbrev depth_along : ℕ → List Lexeme → ℕ
-depth_along d [] = d
-depth_along d (t ∷ ts) = depth_along (deeper d t.class) ts
+fine_depth : (inside : Bool) (last d : ℕ) (w : List Lexeme) → Fine inside last d w → d ≤ 64
+fine_depth inside last d [] h = h
+fine_depth inside last d (t ∷ ts) h = h.0
 
-record Later (d : ℕ) (w : List Lexeme) : Type 0 where
-  inside : Bool
-  last : ℕ
-  fine : Fine inside last d w
+fine_split : (inside : Bool) (last d : ℕ) (w u v rest : List Lexeme) → w ≡ u ++ v → Fine inside last d (w ++ rest) → Fine inside last d (u ++ (v ++ rest))
+fine_split inside last d w u v rest e = subst (Fine inside last d) (ap (λ y. y ++ rest) e ∙ append_assoc u v rest)
 
-fine_parts : (inside : Bool) (last d : ℕ) (u v : List Lexeme) → Fine inside last d (u ++ v) → Fine inside last d u × Later (depth_along d u) v × (depth_along d (u ++ v) ≡ depth_along (depth_along d u) v)
-fine_parts inside last d [] v h = (tt, record { inside = inside; last = last; fine = h }, refl)
-fine_parts inside last d (t ∷ u) v h = let parts = fine_parts (inside_after program_ranges inside t.class) t.class (deeper d t.class) u v h.3 in ((h.0, h.1, h.2, parts.0), parts.1, parts.2)
-
--- The trees of the grammar's texts, after such tokens and d open parentheses, are such as P says, and e are open after them.
-pub record Sure (inside : Bool) (last d e : ℕ) {A : Type 0} (W : A → List Lexeme → Type 0) (P : A → Type 0) : Type 0 where
-  pub sure : (a : A) (w : List Lexeme) → Fine inside last d w → W a w → P a × (depth_along d w ≡ e)
-
--- after all tokens
-abbrev pub Says : ℕ → {A : Type 0} → (A → List Lexeme → Type 0) → (A → Type 0) → Type 0
-Says d W P = (inside : Bool) (last : ℕ) → Sure inside last d d W P
-
-pub s_then : {A B : Type 0} {W : A → List Lexeme → Type 0} {V : A → B → List Lexeme → Type 0} {P : A → Type 0} {Q : B → Type 0} {i : Bool} {c d e : ℕ} → Says d W P → ((a : A) → P a → (i : Bool) (c : ℕ) → Sure i c d e (V a) Q) → Sure i c d e (Then W V) Q
-s_then {A} {B} {W} {V} {P} {Q} {i} {c} {d} {e} first second = record { sure = sure }
-  where
-    sure : (b : B) (w : List Lexeme) → Fine i c d w → Then W V b w → Q b × (depth_along d w ≡ e)
-    sure b w fine x =
-        let F : List Lexeme → Type 0 = Fine i c d in
-        let parts = fine_parts i c d x.left x.right (subst F x.whole fine) in
-        let one = (first i c).sure x.first x.left parts.0 x.head in
-        let G : ℕ → Type 0 = λ k. Later k x.right in
-        let later = subst G one.1 parts.1 in
-        let two = (second x.first one.0 later.inside later.last).sure b x.right later.fine x.tail in
-        (two.0, ap (depth_along d) x.whole ∙ parts.2 ∙ ap (λ k. depth_along k x.right) one.1 ∙ two.1)
-
-pub s_give : {A : Type 0} {Q : A → Type 0} {i : Bool} {c d : ℕ} {x : A} → Q x → Sure i c d d (Give x) Q
-s_give {A} {Q} {d} q = record { sure = λ a w fine g. (let P : A → Type 0 = Q in subst P (sym g.is) q, ap (depth_along d) g.whole) }
-
-pub s_either : {A : Type 0} {W V : A → List Lexeme → Type 0} {P : A → Type 0} {i : Bool} {c d e : ℕ} → Sure i c d e W P → Sure i c d e V P → Sure i c d e (Either W V) P
-s_either {A} {W} {V} {P} {i} {c} {d} {e} one two = record { sure = sure }
-  where
-    sure : (a : A) (w : List Lexeme) → Fine i c d w → Either W V a w → P a × (depth_along d w ≡ e)
-    sure a w fine (inl h) = one.sure a w fine h
-    sure a w fine (inr h) = two.sure a w fine h
-
-pub s_weaken : {A : Type 0} {W : A → List Lexeme → Type 0} {P Q : A → Type 0} {i : Bool} {c d e : ℕ} → Sure i c d e W P → ((a : A) → P a → Q a) → Sure i c d e W Q
-s_weaken one h = record { sure = λ a w fine x. (let y = one.sure a w fine x in (h a y.0, y.1)) }
-
-pub s_first : {A : Type 0} {W : A → List Lexeme → Type 0} {P : A → Type 0} {i : Bool} {c d e : ℕ} → Sure i c d e W P → Sure i c d e (FromFirst W) (λ x. P x.1)
-s_first one = record { sure = λ x w fine h. one.sure x.1 w fine h.1 }
-
-pub s_many : {A : Type 0} {W : A → List Lexeme → Type 0} {P : A → Type 0} {d : ℕ} → Says d W P → Says d (Many W) (AllByRecursion P)
-s_many {A} {W} {P} {d} one i c = record { sure = all i c }
-  where
-    all : (i : Bool) (c : ℕ) (xs : List A) (w : List Lexeme) → Fine i c d w → Many W xs w → AllByRecursion P xs × (depth_along d w ≡ d)
-    all i c [] w fine h = (tt, ap (depth_along d) h)
-    all i c (x ∷ xs) w fine h =
-        let F : List Lexeme → Type 0 = Fine i c d in
-        let parts = fine_parts i c d h.0 h.1 (subst F h.2 fine) in
-        let first = (one i c).sure x h.0 parts.0 h.3 in
-        let G : ℕ → Type 0 = λ k. Later k h.1 in
-        let later = subst G first.1 parts.1 in
-        let others = all later.inside later.last xs h.1 later.fine h.4 in
-        ((first.0, others.0), ap (depth_along d) h.2 ∙ parts.2 ∙ ap (λ k. depth_along k h.1) first.1 ∙ others.1)
-
--- tokens, and what follows them
-
-s_assoc : {A B C : Type 0} {W : A → List Lexeme → Type 0} {V : A → B → List Lexeme → Type 0} {U : B → C → List Lexeme → Type 0} {P : C → Type 0} {i : Bool} {c d e : ℕ} → Sure i c d e (Then W (λ a. Then (V a) U)) P → Sure i c d e (Then (Then W V) U) P
-s_assoc one = record {
-  sure = λ b w fine x. one.sure b w fine (record {
-    first = x.head.first;
-    left = x.head.left;
-    right = x.head.right ++ x.right;
-    whole = x.whole ∙ ap (λ u. u ++ x.right) x.head.whole ∙ append_assoc x.head.left x.head.right x.right;
-    head = x.head.head;
-    tail = record { first = x.first; left = x.head.right; right = x.right; whole = refl; head = x.head.tail; tail = x.tail };
-  });
-}
-
-s_given : {A B : Type 0} {V : A → B → List Lexeme → Type 0} {P : B → Type 0} {i : Bool} {c d e : ℕ} {x : A} → Sure i c d e (V x) P → Sure i c d e (Then (Give x) V) P
-s_given {A} {V} {x} one = record {
-  sure = λ b w fine y.
-      let F : A → Type 0 = λ a. V a b y.right in
-      let whole : w ≡ y.right = y.whole ∙ ap (λ u. u ++ y.right) y.head.whole in
-      let G : List Lexeme → Type 0 = V x b in
-      one.sure b w fine (subst G (sym whole) (subst F y.head.is y.tail));
-}
-
--- what is known of a token
-record Known (inside : Bool) (last d class : ℕ) (t : Lexeme) : Type 0 where
+-- after a token that is one of the class
+record Past (inside : Bool) (last d class : ℕ) (t : Lexeme) (rest : List Lexeme) : Type 0 where
   fits : is_fault program_ranges inside last t ≡ false
-  is : t.class ≡ class
   name : t.class ≡ 0 → IsOwnName t.name
-  deep : deeper d class ≤ 64
+  fine : Fine (inside_after program_ranges inside class) class (deeper d class) rest
 
-s_one : {B : Type 0} {V : Lexeme → B → List Lexeme → Type 0} {P : B → Type 0} {i : Bool} {c d e class : ℕ} → ((t : Lexeme) → Known i c d class t → Sure (inside_after program_ranges i class) class (deeper d class) e (V t) P) → Sure i c d e (Then (One class) V) P
-s_one {B} {V} {P} {i} {c} {d} {e} {class} later = record { sure = sure }
-  where
-    sure : (b : B) (w : List Lexeme) → Fine i c d w → Then (One class) V b w → P b × (depth_along d w ≡ e)
-    sure b w fine x =
-        let t : Lexeme = x.first in
-        let whole : w ≡ t ∷ x.right = x.whole ∙ ap (λ u. u ++ x.right) x.head.whole in
-        let F : List Lexeme → Type 0 = Fine i c d in
-        let h = subst F whole fine in
-        let G : ℕ → Type 0 = λ k. (deeper d k ≤ 64) × Fine (inside_after program_ranges i k) k (deeper d k) x.right in
-        let g = subst G x.head.is (h.2, h.3) in
-        let y = (later t (record { fits = h.0; is = x.head.is; name = h.1; deep = g.0 })).sure b x.right g.1 x.tail in
-        (y.0, ap (depth_along d) whole ∙ ap (λ k. depth_along (deeper d k) x.right) x.head.is ∙ y.1)
+fine_past : (inside : Bool) (last d class : ℕ) (t : Lexeme) (w rest : List Lexeme) → One class t w → Fine inside last d (w ++ rest) → Past inside last d class t rest
+fine_past inside last d class t w rest one h =
+    let g = subst (Fine inside last d) (ap (λ y. y ++ rest) one.whole) h in
+    record { fits = g.1; name = g.2; fine = subst (λ k. Fine (inside_after program_ranges inside k) k (deeper d k) rest) one.is g.3 }
 
-pub s_place : {B : Type 0} {V : Span → B → List Lexeme → Type 0} {P : B → Type 0} {i : Bool} {c d e class : ℕ} → ((p : Span) → deeper d class ≤ 64 → Sure (inside_after program_ranges i class) class (deeper d class) e (V p) P) → Sure i c d e (Then (Place class) V) P
-s_place later = s_assoc (s_one (λ t k. s_given (later t.at k.deep)))
+-- The trees of the grammar's texts, after such tokens and d open parentheses, are such as P says, and e are open after them; K is known of
+-- what stands before.
+pub record Sure (I : StemTree → List Lexeme → Type 0) (K : Bool → ℕ → Type 0) (d e : ℕ) {A : Type 0} (g : Grammar A) (P : A → Type 0) : Type 0 where
+  pub sure : (i : Bool) (c : ℕ) (a : A) (w rest : List Lexeme) → K i c → Fine i c d (w ++ rest) → written I g a w → P a × (j : Bool) × (b : ℕ) × Fine j b e rest
 
-pub s_close : {B : Type 0} {V : Span → B → List Lexeme → Type 0} {P : B → Type 0} {i : Bool} {c d e : ℕ} → ((p : Span) → Sure false 20 d e (V p) P) → Sure i c (d + 1) e (Then (Place 20) V) P
-s_close {V} {P} {d} {e} later = s_place (λ p _. (let F : ℕ → Type 0 = λ k. Sure false 20 k e (V p) P in let same : d ≡ d + 1 - 1 = omega arith in subst F same (later p)))
+-- after all tokens, and where a count is next
+abbrev pub Any : Bool → ℕ → Type 0
+Any i c = Unit {0}
 
-pub s_named : {B : Type 0} {V : List ℕ × Span → B → List Lexeme → Type 0} {P : B → Type 0} {i : Bool} {c d e : ℕ} → ((n : List ℕ × Span) → IsOwnName n.0 → Sure (inside_after program_ranges i 0) 0 d e (V n) P) → Sure i c d e (Then Named V) P
-s_named later = s_assoc (s_one (λ t k. s_given (later (t.name, t.at) (k.name k.is))))
+abbrev pub Counting : Bool → ℕ → Type 0
+Counting i c = is_count i c ≡ true
 
-pub s_number : {B : Type 0} {V : ℕ → B → List Lexeme → Type 0} {P : B → Type 0} {i : Bool} {c d e : ℕ} → ((n : ℕ) → in_range i c n ≡ true → Sure (inside_after program_ranges i 1) 1 d e (V n) P) → Sure i c d e (Then Number V) P
-s_number {i} {c} later = s_assoc (s_one (λ t k. s_given (later t.number (not-false (in_range i c t.number) (ap (λ class. (class == 1) && not (in_range i c t.number)) (sym k.is) ∙ k.fits)))))
+-- a number that is next where a count is
+is_counted : (i : Bool) (c : ℕ) (t : Lexeme) → Counting i c → t.class ≡ 1 → is_fault program_ranges i c t ≡ false → IsCount (small t.number)
+is_counted i c t known is fits =
+    let fit : in_range i c t.number ≡ true = not-false (in_range i c t.number) (ap (λ class. (class == 1) && not (in_range i c t.number)) (sym is) ∙ fits) in
+    let both : (leb 1 t.number && leb t.number 2147483647) ≡ true = sym (cond-true (is_count i c) _ _ known) ∙ fit in
+    let low = leb-true 1 t.number (and_parts (leb 1 t.number) (leb t.number 2147483647) both).0 in
+    (omega (arith, low), omega arith)
 
--- a token alone, which is no parenthesis
-pub s_alone : {i : Bool} {c d class : ℕ} → ((d : ℕ) → deeper d class ≡ d) → Sure i c d d (Place class) (λ p. Unit {0})
-s_alone {i} {d} {class} same = s_one (λ t k. (let F : ℕ → Type 0 = λ m. Sure (inside_after program_ranges i class) class m d (Give t.at) (λ p. Unit {0}) in subst F (sym (same d)) (s_give tt)))
+module _ {I : StemTree → List Lexeme → Type 0} where
+  pub s_action : {A B : Type 0} {g : Grammar A} {f : A → B} {P : A → Type 0} {Q : B → Type 0} {K : Bool → ℕ → Type 0} {d e : ℕ} → Sure I K d e g P → ((a : A) → P a → Q (f a)) → Sure I K d e (action g f) Q
+  s_action {Q = Q} one h = record { sure = λ i c b w rest known fine x. (let y = one.sure i c x.0 w rest known fine x.2 in (subst Q (sym x.1) (h x.0 y.0), y.1, y.2, y.3)) }
 
-pub s_count : {i : Bool} {c d : ℕ} → Sure i c d d Number (λ n. Unit {0})
-s_count = s_one (λ t k. s_give tt)
+  pub s_both : {A B : Type 0} {g : Grammar A} {h : Grammar B} {P : A → Type 0} {Q : B → Type 0} {K : Bool → ℕ → Type 0} {d k e : ℕ} → Sure I K d k g P → Sure I Any k e h Q → Sure I K d e (both g h) (λ x. P x.0 × Q x.1)
+  s_both {d = d} one two = record {
+    sure = λ i c x w rest known fine y.
+        let a = one.sure i c x.0 y.0 (y.1 ++ rest) known (fine_split i c d w y.0 y.1 rest y.2 fine) y.3 in
+        let b = two.sure a.1 a.2 x.1 y.1 rest tt a.3 y.4 in
+        ((a.0, b.0), b.1, b.2, b.3);
+  }
 
-pub s_maybe : {A : Type 0} {W : A → List Lexeme → Type 0} {P : A → Type 0} {i : Bool} {c d : ℕ} → Says d W P → Sure i c d d (Maybe W) (IfThere P)
-s_maybe one = s_either (s_then one (λ a h i c. s_give h)) (s_give tt)
+  -- after a token, of which the place counts
+  pub s_after : {A : Type 0} {h : Grammar A} {Q : A → Type 0} {K J : Bool → ℕ → Type 0} {d e class : ℕ} → Sure I J (deeper d class) e h Q → ((i : Bool) (c : ℕ) → K i c → J (inside_after program_ranges i class) class)
+      → Sure I K d e (both (place class) h) (λ x. Q x.1)
+  s_after {d = d} {class = class} one next = record {
+    sure = λ i c x w rest known fine y.
+        let p = fine_past i c d class y.3.0 y.0 (y.1 ++ rest) y.3.2 (fine_split i c d w y.0 y.1 rest y.2 fine) in
+        one.sure (inside_after program_ranges i class) class x.1 y.1 rest (next i c known) p.fine y.4;
+  }
 
--- one or more, with a token between
-pub s_list : {A : Type 0} {W : A → List Lexeme → Type 0} {P : A → Type 0} {i : Bool} {c d class : ℕ} → ((d : ℕ) → deeper d class ≡ d) → Says d W P
-    → Sure i c d d (Then W (λ first. Then (Many (Then (Place class) (λ p. W))) (λ others. Give (first ∷ others)))) (λ xs. AllByRecursion P xs × (1 ≤ length xs))
-s_list other one = s_then one (λ x h i c. s_then (s_many (λ i c. s_then (λ i c. s_alone other) (λ p _ i c. one i c))) (λ others g i c. s_give ((h, g), omega arith)))
+  pub s_token : {P : Lexeme → Type 0} {K : Bool → ℕ → Type 0} {d class : ℕ} → ((i : Bool) (c : ℕ) (t : Lexeme) → K i c → t.class ≡ class → is_fault program_ranges i c t ≡ false → (t.class ≡ 0 → IsOwnName t.name) → P t)
+      → Sure I K d (deeper d class) (token class) P
+  s_token {d = d} {class = class} h = record {
+    sure = λ i c t w rest known fine one.
+        let p = fine_past i c d class t w rest one fine in
+        (h i c t known one.is p.fits p.name, inside_after program_ranges i class, class, p.fine);
+  }
 
--- in parentheses, of which not too many are open
-pub s_closed : {A : Type 0} {W : A → List Lexeme → Type 0} {P : A → Type 0} {i : Bool} {c d : ℕ} → Says (d + 1) W P → Sure i c (d + 1) d (Then W (λ x. Then (Place 20) (λ q. Give x))) P
-s_closed one = s_then one (λ x h i c. s_close (λ q. s_give h))
+  pub s_either : {A : Type 0} {g h : Grammar A} {P : A → Type 0} {K : Bool → ℕ → Type 0} {d e : ℕ} → Sure I K d e g P → Sure I K d e h P → Sure I K d e (either g h) P
+  s_either one two = record { sure = λ i c a w rest known fine. ⊎_elim (one.sure i c a w rest known fine) (two.sure i c a w rest known fine) }
 
-pub s_parens : {A : Type 0} {W : A → List Lexeme → Type 0} {P : A → Type 0} {i : Bool} {c d : ℕ} → Says (d + 1) W P → Sure i c d d (Then (Place 19) (λ p. Then W (λ x. Then (Place 20) (λ q. Give x)))) (λ x. (d + 1 ≤ 64) × P x)
-s_parens one = s_place (λ p le. s_weaken (s_closed one) (λ x h. (le, h)))
+  pub s_give : {A : Type 0} {x : A} {P : A → Type 0} {K : Bool → ℕ → Type 0} {d : ℕ} → P x → Sure I K d d (give x) P
+  s_give {P = P} {d = d} h = record { sure = λ i c a w rest known fine y. (subst P (sym y.is) h, i, c, subst (λ u. Fine i c d (u ++ rest)) y.whole fine) }
 
-pub s_perhaps : {A : Type 0} {W : A → List Lexeme → Type 0} {P : A → Type 0} {i : Bool} {c d : ℕ} (nothing : A) → P nothing → Says (d + 1) W P
-    → Sure i c d d (Then (Place 19) (λ p. Either (Then (Place 20) (λ q. Give nothing)) (Then W (λ x. Then (Place 20) (λ q. Give x))))) (λ x. (d + 1 ≤ 64) × P x)
-s_perhaps nothing h one = s_place (λ p le. s_weaken (s_either (s_close (λ q. s_give h)) (s_closed one)) (λ x g. (le, g)))
+  pub s_many : {A : Type 0} {g : Grammar A} {P : A → Type 0} {d : ℕ} → Sure I Any d d g P → Sure I Any d d (many g) (AllByRecursion P)
+  s_many {A} {g} {P} {d} one = record { sure = all }
+    where
+      all : (i : Bool) (c : ℕ) (xs : List A) (w rest : List Lexeme) → Any i c → Fine i c d (w ++ rest) → written I (many g) xs w → AllByRecursion P xs × (j : Bool) × (b : ℕ) × Fine j b d rest
+      all i c [] w rest known fine e = (tt, i, c, subst (λ u. Fine i c d (u ++ rest)) e fine)
+      all i c (x ∷ xs) w rest known fine y =
+          let a = one.sure i c x y.0 (y.1 ++ rest) tt (fine_split i c d w y.0 y.1 rest y.2 fine) y.3 in
+          let b = all a.1 a.2 xs y.1 rest tt a.3 y.4 in
+          ((a.0, b.0), b.1, b.2, b.3)
+
+  pub s_placed : {A : Type 0} {g : Grammar A} {P : A → Type 0} {K : Bool → ℕ → Type 0} {d e : ℕ} → Sure I K d e g P → Sure I K d e (placed g) (λ x. P x.1)
+  s_placed one = record { sure = λ i c x w rest known fine y. one.sure i c x.1 w rest known fine y.1 }
+
+  -- with the depth, which is within its limit
+  pub s_deep : {A : Type 0} {g : Grammar A} {P : A → Type 0} {K : Bool → ℕ → Type 0} {d e : ℕ} → Sure I K d e g P → Sure I K d e g (λ a. (d ≤ 64) × P a)
+  s_deep {d = d} one = record { sure = λ i c a w rest known fine y. (let x = one.sure i c a w rest known fine y in ((fine_depth i c d (w ++ rest) fine, x.0), x.1, x.2, x.3)) }
+
+  -- what is made of these
+
+  pub s_place : {K : Bool → ℕ → Type 0} {d class : ℕ} → Sure I K d (deeper d class) (place class) (λ p. Unit {0})
+  s_place = s_action {P = λ t. Unit {0}} (s_token (λ i c t known is fits name. tt)) (λ t h. tt)
+
+  pub s_close : {K : Bool → ℕ → Type 0} {d : ℕ} → Sure I K (d + 1) d (place 20) (λ p. Unit {0})
+  s_close {K} {d} = subst (λ k. Sure I K (d + 1) k (place 20) (λ p. Unit {0})) (omega arith) s_place
+
+  pub s_named : {K : Bool → ℕ → Type 0} {d : ℕ} → Sure I K d d named (λ n. IsOwnName n.0)
+  s_named = s_action {P = λ t. IsOwnName t.name} (s_token (λ i c t known is fits name. name is)) (λ t h. h)
+
+  pub s_number : {K : Bool → ℕ → Type 0} {d : ℕ} → Sure I K d d number (λ n. Unit {0})
+  s_number = s_action {P = λ t. Unit {0}} (s_token (λ i c t known is fits name. tt)) (λ t h. tt)
+
+  pub s_count : {d : ℕ} → Sure I Counting d d number (λ n. IsCount (small n))
+  s_count = s_action {P = λ t. IsCount (small t.number)} (s_token (λ i c t known is fits name. is_counted i c t known is fits)) (λ t h. h)
+
+  pub s_second : {A S : Type 0} {s : Grammar S} {g : Grammar A} {T : S → Type 0} {P : A → Type 0} {K : Bool → ℕ → Type 0} {d k e : ℕ} → Sure I K d k s T → Sure I Any k e g P → Sure I K d e (s ⊳ g) P
+  s_second one two = s_action (s_both one two) (λ x h. h.1)
+
+  pub s_first : {A S : Type 0} {s : Grammar S} {g : Grammar A} {T : S → Type 0} {P : A → Type 0} {K : Bool → ℕ → Type 0} {d k e : ℕ} → Sure I K d k g P → Sure I Any k e s T → Sure I K d e (g ⊲ s) P
+  s_first one two = s_action (s_both one two) (λ x h. h.0)
+
+  pub s_past : {A : Type 0} {g : Grammar A} {P : A → Type 0} {K J : Bool → ℕ → Type 0} {d e class : ℕ} → Sure I J (deeper d class) e g P → ((i : Bool) (c : ℕ) → K i c → J (inside_after program_ranges i class) class) → Sure I K d e (place class ⊳ g) P
+  s_past one next = s_action (s_after one next) (λ x h. h)
+
+  pub s_maybe : {A : Type 0} {g : Grammar A} {P : A → Type 0} {K : Bool → ℕ → Type 0} {d : ℕ} → Sure I K d d g P → Sure I K d d (maybe g) (IfThere P)
+  s_maybe one = s_either (s_action one (λ a h. h)) (s_give tt)
+
+  pub s_list : {A S : Type 0} {s : Grammar S} {g : Grammar A} {T : S → Type 0} {P : A → Type 0} {d : ℕ} → Sure I Any d d s T → Sure I Any d d g P → Sure I Any d d (list_of s g) (λ xs. AllByRecursion P xs × (1 ≤ length xs))
+  s_list between one = s_action (s_both one (s_many (s_second between one))) (λ x h. (h, omega arith))
+
+  pub s_parens : {A : Type 0} {g : Grammar A} {P : A → Type 0} {d : ℕ} → Sure I Any (d + 1) (d + 1) g P → Sure I Any d d (in_parens g) P
+  s_parens one = s_second s_place (s_first one s_close)
+
+  -- in parentheses, which may stand alone
+  pub s_perhaps : {A : Type 0} {g : Grammar A} {P Q : A → Type 0} {d : ℕ} {x : A} → Q x → ((a : A) → P a → Q a) → Sure I Any (d + 1) (d + 1) g P → Sure I Any d d (maybe_in_parens x g) (λ a. (d + 1 ≤ 64) × Q a)
+  s_perhaps h f one = s_second s_place (s_deep (s_either (s_action s_close (λ p _. h)) (s_action (s_both one s_close) (λ a y. f a.0 y.0))))

@@ -1,4 +1,4 @@
-use Rattle.prl_print.proofs.Printable.{in_range}
+use Rattle.prl_print.proofs.Meant.{in_range}
 use Rattle.prl_print.proofs.laws.programs_are_in_range.Goals as goal
 
 pub returns : goal.returns
