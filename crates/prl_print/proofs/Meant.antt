@@ -1,5 +1,5 @@
 -- What holds of the trees of programs.
-use Rattle.std.proofs.Common.{◌≡◌, ◌≤◌, ◌&&◌, ◌+◌, ℕ, Bool, zero, suc, pos, neg_ℤ, min, leb, false, true, List, [], ◌∷◌, ◌++◌, map, length, Option, Some, None, refl, sym, ap, subst, arith}
+use Rattle.std.proofs.Common.{◌≡◌, ◌≤◌, ◌&&◌, ◌+◌, ℕ, Bool, zero, suc, pos, neg_ℤ, min, leb, false, true, List, [], ◌∷◌, ◌++◌, map, length, Option, Some, None, refl, sym, ap, subst, arith, length-append}
 use Rattle.std.proofs.lemmas.Bool.{and_parts, leb-true}
 use Rattle.std.proofs.lemmas.List.{append-nil, length-map}
 use Rattle.std.specs.List.{AllByRecursion}
@@ -18,7 +18,7 @@ use Rattle.prl_syntax.specs.declared.parameters.Note.{Note}
 use Rattle.prl_syntax.specs.declared.parameters.Item.{Item}
 use Rattle.prl_syntax.specs.Words.{class_of, program_vocabulary}
 use Rattle.prl_syntax.specs.Values.{small}
-use Rattle.prl_syntax.specs.Trees.{StemTree, joined, param_of, note_or, first_note, params_before, params_of, port_of, root_of_name, trees_from, Declared, imported, sensor, actuator, node, program_of}
+use Rattle.prl_syntax.specs.Trees.{StemTree, joined, param_of, note_or, first_note, params_before, params_of, port_of, root_of_name, trees_from, Declared, with_declared, program_of}
 use Rattle.prl_syntax.specs.Grammar.{Grammar, Const, Ratio, Postfix, Expr, Exprs, Base, Prefix, AfterConst, Stem, programs, Name, Names, Left, Equation, TypeName, Rate, Due, Note as NoteText, Item as ItemText, Run, Params, EndedRun, Locals, PortGroup, NextGroup, Ports, Wcet, Import, Device, Node, Declaration, Program}
 use Rattle.prl_syntax.specs.Parsing.{IsProgramOf}
 use Rattle.prl_syntax.specs.Ranges.{is_count}
@@ -36,49 +36,10 @@ use Rattle.prl_syntax.specs.declared.words.Fixed.TheVariants as fixed
 abbrev pub IsSome : {X : Type 0} → List X → Type 0
 IsSome xs = 1 ≤ length xs
 
--- values
-
-positive_fits : (n : ℕ) → FitsValue (values.Int (pos (min n MAX_POSITIVE)))
-positive_fits n = record { sfits = omega arith }
-
-negative_fits : (k : ℕ) → k ≤ MAX_NEGATIVE → FitsValue (values.Int (neg_ℤ (pos k)))
-negative_fits zero h = record { sfits = omega arith }
-negative_fits (suc k) h = record { sfits = omega (arith, h) }
-
-record IsOwnNote (note : Note) : Type 0 where
-  rate : IfThere IsRate note.rate
-  due : IfThere IsDue note.due
-
--- parameters
-
-record IsOwnItem (i : Item) : Type 0 where
-  name : IsOwnName i.name.name
-  note : IfThere IsOwnNote i.note
-
-own_or : (a b : Option Note) → IfThere IsOwnNote a → IfThere IsOwnNote b → IfThere IsOwnNote (note_or a b)
-own_or None b h g = g
-own_or (Some a) b h g = h
-
-own_first : (items : List Item) → AllByRecursion IsOwnItem items → IfThere IsOwnNote (first_note items None)
-own_first [] h = tt
-own_first (i ∷ items) h = own_or i.note (first_note items None) h.0.note (own_first items h.1)
-
-own_param : (n : Placed) (o : Option Note) → IsOwnName n.name → IfThere IsOwnNote o → IsOwnParam (param_of n o)
-own_param n None h g = (record { name = h.0; rate = tt; due = tt }, h)
-own_param n (Some note) h g = (record { name = h.0; rate = g.rate; due = g.due }, h)
-
-own_params : (items : List Item) → AllByRecursion IsOwnItem items → AllByRecursion IsOwnParam (params_before items None)
-own_params [] h = tt
-own_params (i ∷ items) h = (own_param i.name (first_note (i ∷ items) None) h.0.name (own_first (i ∷ items) h), own_params items h.1)
-
--- lists of one at least
-
 abbrev AreSome : {X : Type 0} → (X → Type 0) → List X → Type 0
 AreSome P xs = AllByRecursion P xs × IsSome xs
 
-params_some : (items : List Item) → AreSome IsOwnItem items → AreSome IsOwnParam (params_of items)
-params_some [] h = absurd (omega (arith, h.1))
-params_some (i ∷ items) h = (own_params (i ∷ items) h.0, omega arith)
+-- lists one after another, the first of which is not empty
 
 all_append : {X : Type 0} (P : X → Type 0) (xs ys : List X) → AllByRecursion P xs → AllByRecursion P ys → AllByRecursion P (xs ++ ys)
 all_append P [] ys h g = g
@@ -88,17 +49,41 @@ all_joined : {X : Type 0} (P : X → Type 0) (xss : List (List X)) → AllByRecu
 all_joined P [] h = tt
 all_joined P (xs ∷ xss) h = all_append P xs (joined xss) h.0.0 (all_joined P xss h.1)
 
-some_joined : {X : Type 0} (P : X → Type 0) (xss : List (List X)) → AreSome (AreSome P) xss → AreSome P (joined xss)
-some_joined P [] h = absurd (omega (arith, h.1))
-some_joined P ([] ∷ xss) h = absurd (omega (arith, h.0.0.1))
-some_joined P ((x ∷ xs) ∷ xss) h = (all_joined P ((x ∷ xs) ∷ xss) h.0, omega arith)
+some_joined : {X : Type 0} (P : X → Type 0) (xs : List X) (xss : List (List X)) → AreSome P xs → AllByRecursion (AreSome P) xss → AreSome P (joined (xs ∷ xss))
+some_joined P xs xss h g = (all_append P xs (joined xss) h.0 (all_joined P xss g), omega (arith, length-append xs (joined xss), h.1))
 
-own_ports : (ty : Ty) (ns : List Placed) → AreSome IsOwnPlaced ns → AreSome IsOwnPort (map (port_of ty) ns)
-own_ports ty ns h = (all ns h.0, omega (arith, length-map ns (port_of ty), h.1))
-  where
-    all : (ms : List Placed) → AllByRecursion IsOwnPlaced ms → AllByRecursion IsOwnPort (map (port_of ty) ms)
-    all [] g = tt
-    all (m ∷ ms) g = (g.0, all ms g.1)
+-- notes, and the parameters that they belong to
+
+abbrev IsOwnNote : Note → Type 0
+IsOwnNote note = IfThere IsRate note.rate × IfThere IsDue note.due
+
+abbrev IsOwnItem : Item → Type 0
+IsOwnItem i = IsOwnName i.name.name × IfThere IsOwnNote i.note
+
+own_or : (a b : Option Note) → IfThere IsOwnNote a → IfThere IsOwnNote b → IfThere IsOwnNote (note_or a b)
+own_or None b h g = g
+own_or (Some a) b h g = h
+
+own_param : (n : Placed) (o : Option Note) → IsOwnName n.name → IfThere IsOwnNote o → IsOwnParam (param_of n o)
+own_param n None h g = (record { name = h.0; rate = tt; due = tt }, h)
+own_param n (Some note) h g = (record { name = h.0; rate = g.0; due = g.1 }, h)
+
+own_params : (items : List Item) → AllByRecursion IsOwnItem items → AllByRecursion IsOwnParam (params_of items) × IfThere IsOwnNote (first_note items None)
+own_params [] h = (tt, tt)
+own_params (i ∷ items) h =
+    let later = own_params items h.1 in
+    let note = own_or i.note (first_note items None) h.0.1 later.1 in
+    ((own_param i.name (first_note (i ∷ items) None) h.0.0 note, later.0), note)
+
+own_ports : (ty : Ty) (ns : List Placed) → AllByRecursion IsOwnPlaced ns → AllByRecursion IsOwnPort (map (port_of ty) ns)
+own_ports ty [] h = tt
+own_ports ty (n ∷ ns) h = (h.0, own_ports ty ns h.1)
+
+-- expressions
+
+negative_fits : (k : ℕ) → k ≤ MAX_NEGATIVE → FitsValue (values.Int (neg_ℤ (pos k)))
+negative_fits zero h = record { sfits = omega arith }
+negative_fits (suc k) h = record { sfits = omega (arith, h) }
 
 abbrev IsOwnRoot : ℕ → Root → Type 0
 IsOwnRoot d r = IsRootInRange d r × IsFreeRoot r
@@ -106,182 +91,145 @@ IsOwnRoot d r = IsRootInRange d r × IsFreeRoot r
 abbrev IsOwnStem : ℕ → StemTree → Type 0
 IsOwnStem d s = AllByRecursion (λ o. IsPrefix o.op) s.0 × IsOwnRoot d s.1
 
--- in a group, which has one part at least
-abbrev IsOwnGroup : ℕ → Trees → Type 0
-IsOwnGroup d none = ⊥
-IsOwnGroup d (more t ts) = AreOwnTrees d (more t ts)
+own_trees : (d : ℕ) (ts : List Tree) → AllByRecursion (λ t. (d ≤ 64) × IsOwnTree d t) ts → AreOwnTrees d (trees_from ts)
+own_trees d [] h = (tt, tt)
+own_trees d (t ∷ ts) h = let others = own_trees d ts h.1 in ((h.0.1.0, others.0), (h.0.1.1, others.1))
 
-trees_own : (d : ℕ) (ts : List Tree) → AllByRecursion (IsOwnTree d) ts → AreOwnTrees d (trees_from ts)
-trees_own d [] h = (tt, tt)
-trees_own d (t ∷ ts) h = let others = trees_own d ts h.1 in ((h.0.0, others.0), (h.0.1, others.1))
-
-group_own : (d : ℕ) (ts : List Tree) → AllByRecursion (IsOwnTree d) ts × IsSome ts → IsOwnGroup d (trees_from ts)
-group_own d [] h = absurd (omega (arith, h.1))
-group_own d (t ∷ ts) h = trees_own d (t ∷ ts) h.0
-
-group_trees : (d : ℕ) (ts : Trees) → IsOwnGroup d ts → AreOwnTrees d ts
-group_trees d none h = (tt, tt)
-group_trees d (more t ts) h = h
-
-group_root : (d : ℕ) (ts : Trees) → (d + 1 ≤ 64) × IsOwnGroup (d + 1) ts → IsOwnRoot d (group ts)
-group_root d none h = absurd h.1
-group_root d (more t ts) h = ((h.0, h.1.0.0, h.1.0.1), h.1.1)
+group_trees : (d : ℕ) (ts : Trees) → IsOwnRoot d (group ts) → AreOwnTrees (d + 1) ts
+group_trees d none h = absurd h.0
+group_trees d (more t ts) h = ((h.0.1, h.0.2), h.1)
 
 named_root : (d : ℕ) (n : List ℕ × Span) (args : Option Trees) → IsOwnName n.0 → IfThere (λ ts. (d + 1 ≤ 64) × AreOwnTrees (d + 1) ts) args → IsOwnRoot d (root_of_name n args)
 named_root d n None e h = e
 named_root d n (Some args) e h = ((e.0, h.0, h.1.0), (e.1, h.1.1))
 
-abbrev pub IsOwnDeclared : Declared → Type 0
-IsOwnDeclared (imported i) = IsOwnImport i
-IsOwnDeclared (sensor d) = IsOwnDevice d
-IsOwnDeclared (actuator d) = IsOwnDevice d
-IsOwnDeclared (node n) = IsOwnNode n
+-- a declaration leaves a program as it is
+
+abbrev IsOwnDeclared : Declared → Type 0
+IsOwnDeclared d = (p : ProgramTree) → AreOwn p → AreOwn (with_declared d p)
 
 all_own : (ds : List Declared) → AllByRecursion IsOwnDeclared ds → AreOwn (program_of ds)
 all_own [] h = (tt, tt, tt, tt)
-all_own (imported i ∷ ds) h = let g = all_own ds h.1 in ((h.0, g.0), g.1, g.2, g.3)
-all_own (sensor d ∷ ds) h = let g = all_own ds h.1 in (g.0, (h.0, g.1), g.2, g.3)
-all_own (actuator d ∷ ds) h = let g = all_own ds h.1 in (g.0, g.1, (h.0, g.2), g.3)
-all_own (node n ∷ ds) h = let g = all_own ds h.1 in (g.0, g.1, g.2, (h.0, g.3))
+all_own (d ∷ ds) h = h.0 (program_of ds) (all_own ds h.1)
 
 -- whatever stands in parentheses
 module _ (I : StemTree → List Lexeme → Type 0) (inside : (d : ℕ) → Sure I Any d d inner (IsOwnStem d)) where
   abbrev Means : {A : Type 0} → ℕ → Grammar A → (A → Type 0) → Type 0
   Means d g P = Sure I Any d d g P
 
-  constant_means : {d : ℕ} → Means d Const FitsValue
-  unfolding Const
-  constant_means =
-      s_either (s_action s_place (λ p _. tt)) (s_either (s_action s_place (λ p _. tt))
-      (s_either (s_action (s_second s_place s_number) (λ n _. negative_fits (min n MAX_NEGATIVE) (omega arith))) (s_action s_number (λ n _. positive_fits n))))
-
   ratio_means : {d : ℕ} → Means d Ratio IsShift
   unfolding Ratio
   ratio_means = s_action (s_both s_number (s_maybe (s_second s_place s_number))) (λ x _. is_shift x.0 x.1)
 
-  postfix_means : {d : ℕ} → Means d Postfix (λ o. IsPostfix o.op)
-  unfolding Postfix
-  postfix_means =
-      s_either (s_action (s_after s_count (λ i c _. refl)) (λ x h. h)) (s_either (s_action (s_after s_count (λ i c _. refl)) (λ x h. h)) (s_action (s_both s_place ratio_means) (λ x h. h.1)))
-
   expr_means : {d : ℕ} → Means d Expr (IsOwnTree d)
-  unfolding Expr
-  expr_means {d} = s_action (s_placed (s_both (inside d) (s_many postfix_means))) (λ x h. ((h.0.0, h.0.1.0, h.1), h.0.1.1))
-
-  exprs_mean : {d : ℕ} → Means d Exprs (IsOwnGroup d)
-  unfolding Exprs
-  exprs_mean {d} = s_action (s_list s_place expr_means) (group_own d)
-
-  base_means : {d : ℕ} → Means d Base (IsOwnRoot d)
-  unfolding Base
-  base_means {d} =
-      s_either (s_action (s_both s_named (s_maybe (s_perhaps {Q = AreOwnTrees (d + 1)} (tt, tt) (group_trees (d + 1)) exprs_mean))) (λ x h. named_root d x.0 x.1 h.0 h.1))
-      (s_action (s_parens (s_deep exprs_mean)) (group_root d))
-
-  prefix_means : {d : ℕ} (f : Fixed) → Sure I Any d (deeper d (class_of f)) (Prefix f) (λ p. (op : Op) → IsPrefix op → IsOwnStem (deeper d (class_of f)) (p op))
-  unfolding Prefix
-  prefix_means {d} f = s_action (s_both s_place (inside (deeper d (class_of f)))) (λ x h op own. ((own, h.1.0), h.1.1))
-
-  after_means : {d : ℕ} → Means d AfterConst (λ k. (v : Value) → FitsValue v → IsOwnStem d (k v))
-  unfolding AfterConst
-  after_means = s_either (s_action (prefix_means fixed.Fby) (λ p h v fits. h (ops.Fby v) fits)) (s_either (s_action (prefix_means fixed.Cons) (λ p h v fits. h (ops.Cons v) fits)) (s_give (λ v fits. (tt, (fits, tt)))))
+  unfolding Expr Postfix
+  expr_means {d} = s_action (s_placed (s_both (inside d) (s_many postfix))) (λ x h. ((h.0.0, h.0.1.0, h.1), h.0.1.1))
+    where
+      postfix : {d : ℕ} → Means d Postfix (λ o. IsPostfix o.op)
+      postfix = s_either (s_action (s_after s_count (λ i c _. refl)) (λ x h. h)) (s_either (s_action (s_after s_count (λ i c _. refl)) (λ x h. h)) (s_action (s_both s_place ratio_means) (λ x h. h.1)))
 
   stem_means : {d : ℕ} → Means d Stem (IsOwnStem d)
-  unfolding Stem
-  stem_means = s_either (s_action base_means (λ b h. (tt, h))) (s_either (s_action (prefix_means fixed.Tail) (λ p h. h ops.Tail tt)) (s_action (s_both constant_means after_means) (λ x h. h.1 x.0 h.0)))
+  unfolding Exprs Base Prefix Const AfterConst Stem
+  stem_means = s_either (s_action base (λ b h. (tt, h))) (s_either (s_action (prefix fixed.Tail) (λ p h. h ops.Tail tt)) (s_action (s_both constant after) (λ x h. h.1 x.0 h.0)))
+    where
+      exprs : {d : ℕ} → Means (d + 1) Exprs (λ ts. IsOwnRoot d (group ts))
+      exprs {d} = s_list s_place (s_deep expr_means) (λ t ts h g. (let all = own_trees (d + 1) (t ∷ ts) (h, g) in ((h.0, all.0.0, all.0.1), all.1)))
 
-  name_means : {d : ℕ} → Means d Name IsOwnPlaced
-  unfolding Name
-  name_means = s_action s_named (λ n h. h)
+      base : {d : ℕ} → Means d Base (IsOwnRoot d)
+      base {d} =
+          s_either (s_action (s_both s_named (s_maybe (s_perhaps {Q = AreOwnTrees (d + 1)} (tt, tt) (group_trees d) exprs))) (λ x h. named_root d x.0 x.1 h.0 h.1)) (s_action (s_parens exprs) (λ ts h. h))
 
-  names_mean : {d : ℕ} → Means d Names (AreSome IsOwnPlaced)
-  unfolding Names
-  names_mean = s_list s_place name_means
+      prefix : {d : ℕ} (f : Fixed) → Sure I Any d (deeper d (class_of f)) (Prefix f) (λ p. (op : Op) → IsPrefix op → IsOwnStem (deeper d (class_of f)) (p op))
+      prefix {d} f = s_action (s_both s_place (inside (deeper d (class_of f)))) (λ x h op own. ((own, h.1.0), h.1.1))
 
-  equation_means : Means 0 Equation IsOwnEquation
-  unfolding Equation Left
-  equation_means =
-      s_action {P = λ (x : _). AreSome IsOwnPlaced x.1.0 × IsOwnTree 0 x.1.1} (s_placed (s_both (s_either (s_parens names_mean) (s_action name_means (λ n h. ((h, tt), omega arith)))) (s_first (s_second s_place expr_means) s_place)))
-      (λ x h. record { range = record { lefts = all_of (λ n q. q.0) x.1.0 h.0.0; some = h.0.1; right = h.1.0 }; lefts = h.0.0; right = h.1.1 })
+      constant : {d : ℕ} → Means d Const FitsValue
+      constant =
+          s_either (s_action s_place (λ p _. tt)) (s_either (s_action s_place (λ p _. tt))
+          (s_either (s_action (s_second s_place s_number) (λ n _. negative_fits (min n MAX_NEGATIVE) (omega arith))) (s_action s_number (λ n _. record { sfits = omega arith }))))
 
-  type_means : {d : ℕ} → Means d TypeName (λ t. Unit {0})
-  unfolding TypeName
-  type_means = s_either (s_action s_place (λ p _. tt)) (s_action s_place (λ p _. tt))
+      after : {d : ℕ} → Means d AfterConst (λ k. (v : Value) → FitsValue v → IsOwnStem d (k v))
+      after = s_either (s_action (prefix fixed.Fby) (λ p h v fits. h (ops.Fby v) fits)) (s_either (s_action (prefix fixed.Cons) (λ p h v fits. h (ops.Cons v) fits)) (s_give (λ v fits. (tt, (fits, tt)))))
 
-  rate_means : {d : ℕ} → Means d Rate IsRate
-  unfolding Rate
-  rate_means = s_action (s_past {J = λ i c. i ≡ true} (s_past (s_first (s_both s_count (s_second s_place ratio_means)) s_close) (λ i c h. ap (λ i. is_count i 19) h)) (λ i c _. refl)) (λ x h. h)
+  program_means : Means 0 Program AreOwn
+  unfolding Name Names Left Equation TypeName Rate Due NoteText ItemText Run Params EndedRun Locals PortGroup NextGroup Ports Wcet Import Device Node Declaration Program
+  program_means = s_action (s_many declaration) all_own
+    where
+      name : {d : ℕ} → Means d Name IsOwnPlaced
+      name = s_action s_named (λ n h. h)
 
-  due_means : {d : ℕ} → Means d Due IsDue
-  unfolding Due
-  due_means = s_action (s_second s_place s_number) (λ n _. omega arith)
+      names : {d : ℕ} → Means d Names (AreSome IsOwnPlaced)
+      names = s_action (s_both name (s_many (s_second s_place name))) (λ x h. (h, omega arith))
 
-  note_means : {d : ℕ} → Means d NoteText IsOwnNote
-  unfolding NoteText
-  note_means =
-      s_either (s_action due_means (λ u h. record { rate = tt; due = h })) (s_either (s_action (s_both rate_means (s_maybe due_means)) (λ x h. record { rate = h.0; due = h.1 }))
-      (s_action (s_both type_means (s_both (s_maybe rate_means) (s_maybe due_means))) (λ x h. record { rate = h.1.0; due = h.1.1 })))
+      equation : Means 0 Equation IsOwnEquation
+      equation =
+          s_action {P = λ (x : _). AreSome IsOwnPlaced x.1.0 × IsOwnTree 0 x.1.1} (s_placed (s_both (s_either (s_parens names) (s_action name (λ n h. ((h, tt), omega arith)))) (s_first (s_second s_place expr_means) s_place)))
+          (λ x h. record { range = record { lefts = all_of (λ n q. q.0) x.1.0 h.0.0; some = h.0.1; right = h.1.0 }; lefts = h.0.0; right = h.1.1 })
 
-  run_means : {d : ℕ} → Means d Run (AreSome IsOwnParam)
-  unfolding Run ItemText
-  run_means = s_action (s_list s_place (s_action {Q = IsOwnItem} (s_both name_means (s_maybe (s_second s_place note_means))) (λ x h. record { name = h.0; note = h.1 }))) params_some
+      rate : {d : ℕ} → Means d Rate IsRate
+      rate = s_action (s_past {J = λ i c. i ≡ true} (s_past (s_first (s_both s_count (s_second s_place ratio_means)) s_close) (λ i c h. ap (λ i. is_count i 19) h)) (λ i c _. refl)) (λ x h. h)
 
-  params_mean : {d : ℕ} → Means d Params (AreSome IsOwnParam)
-  unfolding Params
-  params_mean = s_action (s_list s_place run_means) (some_joined IsOwnParam)
+      due : {d : ℕ} → Means d Due IsDue
+      due = s_action (s_second s_place s_number) (λ n _. omega arith)
 
-  locals_mean : {d : ℕ} → Means d Locals (AllByRecursion IsOwnParam)
-  unfolding Locals EndedRun
-  locals_mean =
-      s_either (s_action (s_second s_place (s_both (s_first run_means s_place) (s_many (s_first run_means s_place)))) (λ x h. all_joined IsOwnParam (x.0 ∷ x.1) h)) (s_give tt)
+      type : {d : ℕ} → Means d TypeName (λ t. Unit {0})
+      type = s_either (s_action s_place (λ p _. tt)) (s_action s_place (λ p _. tt))
 
-  group_means : {d : ℕ} → Means d PortGroup (AreSome IsOwnPort)
-  unfolding PortGroup
-  group_means = s_action (s_both names_mean (s_second s_place type_means)) (λ x h. own_ports x.1 x.0 h.0)
+      note : {d : ℕ} → Means d NoteText IsOwnNote
+      note = s_either (s_action due (λ u h. (tt, h))) (s_either (s_action (s_both rate (s_maybe due)) (λ x h. h)) (s_action (s_both type (s_both (s_maybe rate) (s_maybe due))) (λ x h. h.1)))
 
-  ports_mean : {d : ℕ} → Means d Ports (AreSome IsOwnPort)
-  unfolding Ports NextGroup
-  ports_mean = s_action (s_both group_means (s_many (s_second (s_either s_place s_place) group_means))) (λ x h. some_joined IsOwnPort (x.0 ∷ x.1) (h, omega arith))
+      run : {d : ℕ} → Means d Run (AreSome IsOwnParam)
+      run = s_list s_place (s_action {Q = IsOwnItem} (s_both name (s_maybe (s_second s_place note))) (λ x h. h)) (λ i is h g. ((own_params (i ∷ is) (h, g)).0, omega arith))
 
-  wcet_means : {d : ℕ} → Means d Wcet IsCount
-  unfolding Wcet
-  wcet_means = s_action (s_first (s_past s_count (λ i c _. refl)) s_place) (λ n h. h)
+      params : {d : ℕ} → Means d Params (AreSome IsOwnParam)
+      params = s_list s_place run (some_joined IsOwnParam)
 
-  import_means : Means 0 Import IsOwnImport
-  unfolding Import
-  import_means =
-      s_action (s_both (s_second (s_second s_place s_place) s_named) (s_both (s_perhaps tt (λ ps h. h.0) ports_mean) (s_both (s_second s_place (s_parens ports_mean)) wcet_means)))
-      (λ x h. record {
-        range = record { name = h.0.0; ins = all_of (λ p q. q.0) x.1.0 h.1.0.1; outs = all_of (λ p q. q.0) x.1.1.0 h.1.1.0.0; some = h.1.1.0.1; wcet = h.1.1.1 };
-        name = h.0;
-        ins = h.1.0.1;
-        outs = h.1.1.0.0;
-      })
+      locals : {d : ℕ} → Means d Locals (AllByRecursion IsOwnParam)
+      locals = s_either (s_action (s_second s_place (s_both (s_first run s_place) (s_many (s_first run s_place)))) (λ x h. (some_joined IsOwnParam x.0 x.1 h.0 h.1).0)) (s_give tt)
 
-  device_means : {d : ℕ} (f : Fixed) → Sure I Any d (deeper d (class_of f)) (Device f) IsOwnDevice
-  unfolding Device
-  device_means f = s_action (s_both (s_second s_place s_named) wcet_means) (λ x h. h)
+      ports : {d : ℕ} → Means d Ports (AreSome IsOwnPort)
+      ports {d} =
+          let group : Means d PortGroup (AreSome IsOwnPort) = s_action (s_both names (s_second s_place type)) (λ x h. (own_ports x.1 x.0 h.0.0, omega (arith, length-map x.0 (port_of x.1), h.0.1))) in
+          s_action (s_both group (s_many (s_second (s_either s_place s_place) group))) (λ x h. some_joined IsOwnPort x.0 x.1 h.0 h.1)
 
-  node_means : Means 0 Node IsOwnNode
-  unfolding Node
-  node_means =
-      s_action (s_both (s_second s_place s_named) (s_both (s_perhaps tt (λ ps h. h.0) params_mean) (s_both (s_second s_place (s_parens params_mean)) (s_both locals_mean (s_first (s_first (s_second s_place (s_many equation_means)) s_place) (s_maybe s_place))))))
-      (λ x h. (let eqs = all_of (λ (e : _) (q : IsOwnEquation e). q.range) x.1.1.1.1 h.1.1.1.1 in record {
-        range = record { name = h.0.0; ins = all_of (λ p q. q.0) x.1.0 h.1.0.1; outs = all_of (λ p q. q.0) x.1.1.0 h.1.1.0.0; some = h.1.1.0.1; locals = all_of (λ p q. q.0) x.1.1.1.0 h.1.1.1.0; eqs = eqs };
-        name = h.0;
-        ins = h.1.0.1;
-        outs = h.1.1.0.0;
-        locals = h.1.1.1.0;
-        eqs = h.1.1.1.1;
-      }))
+      wcet : {d : ℕ} → Means d Wcet IsCount
+      wcet = s_action (s_first (s_past s_count (λ i c _. refl)) s_place) (λ n h. h)
 
-  declaration_means : Means 0 Declaration IsOwnDeclared
-  unfolding Declaration
-  declaration_means = s_either (s_action import_means (λ x h. h)) (s_either (s_action (device_means fixed.Sensor) (λ x h. h)) (s_either (s_action (device_means fixed.Actuator) (λ x h. h)) (s_action node_means (λ x h. h))))
+      imports : Means 0 Import IsOwnImport
+      imports =
+          s_action (s_both (s_second (s_second s_place s_place) s_named) (s_both (s_perhaps tt (λ ps h. h.0) ports) (s_both (s_second s_place (s_parens ports)) wcet)))
+          (λ x h. record {
+            range = record { name = h.0.0; ins = all_of (λ p q. q.0) x.1.0 h.1.0.1; outs = all_of (λ p q. q.0) x.1.1.0 h.1.1.0.0; some = h.1.1.0.1; wcet = h.1.1.1 };
+            name = h.0;
+            ins = h.1.0.1;
+            outs = h.1.1.0.0;
+          })
 
-  pub program_means : Means 0 Program AreOwn
-  unfolding Program
-  program_means = s_action (s_many declaration_means) all_own
+      device : {d : ℕ} (f : Fixed) → Sure I Any d (deeper d (class_of f)) (Device f) IsOwnDevice
+      device f = s_action (s_both (s_second s_place s_named) wcet) (λ x h. h)
+
+      nodes : Means 0 Node IsOwnNode
+      nodes =
+          s_action (s_both (s_second s_place s_named) (s_both (s_perhaps tt (λ ps h. h.0) params) (s_both (s_second s_place (s_parens params)) (s_both locals (s_first (s_first (s_second s_place (s_many equation)) s_place) (s_maybe s_place))))))
+          (λ x h. record {
+            range = record {
+              name = h.0.0;
+              ins = all_of (λ p q. q.0) x.1.0 h.1.0.1;
+              outs = all_of (λ p q. q.0) x.1.1.0 h.1.1.0.0;
+              some = h.1.1.0.1;
+              locals = all_of (λ p q. q.0) x.1.1.1.0 h.1.1.1.0;
+              eqs = all_of (λ (e : _) (q : IsOwnEquation e). q.range) x.1.1.1.1 h.1.1.1.1;
+            };
+            name = h.0;
+            ins = h.1.0.1;
+            outs = h.1.1.0.0;
+            locals = h.1.1.1.0;
+            eqs = h.1.1.1.1;
+          })
+
+      declaration : Means 0 Declaration IsOwnDeclared
+      declaration =
+          s_either (s_action imports (λ i h p g. ((h, g.0), g.1, g.2, g.3))) (s_either (s_action (device fixed.Sensor) (λ d h p g. (g.0, (h, g.1), g.2, g.3)))
+          (s_either (s_action (device fixed.Actuator) (λ d h p g. (g.0, g.1, (h, g.2), g.3))) (s_action nodes (λ n h p g. (g.0, g.1, g.2, (h, g.3))))))
 
 within_means : (n d : ℕ) → Sure (within programs n) Any d d inner (IsOwnStem d)
 unfolding within programs

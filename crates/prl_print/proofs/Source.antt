@@ -143,8 +143,9 @@ module _ {I : StemTree → List Lexeme → Type 0} where
   pub s_maybe : {A : Type 0} {g : Grammar A} {P : A → Type 0} {K : Bool → ℕ → Type 0} {d : ℕ} → Sure I K d d g P → Sure I K d d (maybe g) (IfThere P)
   s_maybe one = s_either (s_action one (λ a h. h)) (s_give tt)
 
-  pub s_list : {A S : Type 0} {s : Grammar S} {g : Grammar A} {T : S → Type 0} {P : A → Type 0} {d : ℕ} → Sure I Any d d s T → Sure I Any d d g P → Sure I Any d d (list_of s g) (λ xs. AllByRecursion P xs × (1 ≤ length xs))
-  s_list between one = s_action (s_both one (s_many (s_second between one))) (λ x h. (h, omega arith))
+  pub s_list : {A B S : Type 0} {s : Grammar S} {g : Grammar A} {f : List A → B} {T : S → Type 0} {P : A → Type 0} {Q : B → Type 0} {d : ℕ}
+      → Sure I Any d d s T → Sure I Any d d g P → ((x : A) (xs : List A) → P x → AllByRecursion P xs → Q (f (x ∷ xs))) → Sure I Any d d (action (list_of s g) f) Q
+  s_list {f = f} {Q = Q} between one h = s_action {P = λ xs. Q (f xs)} (s_action (s_both one (s_many (s_second between one))) (λ x y. h x.0 x.1 y.0 y.1)) (λ xs y. y)
 
   pub s_parens : {A : Type 0} {g : Grammar A} {P : A → Type 0} {d : ℕ} → Sure I Any (d + 1) (d + 1) g P → Sure I Any d d (in_parens g) P
   s_parens one = s_second s_place (s_first one s_close)
