@@ -12,14 +12,16 @@ use Rattle.prl_ast.specs.declared.declarations.Placed.{Placed}
 use Rattle.prl_ast.specs.InRange.{IsCount, IsShift, IsRate, IsDue, IfThere, IsInRange, IsPrefix, IsPostfix, IsRootInRange}
 use Rattle.prl_grammar.specs.Lexemes.{Lexeme}
 use Rattle.prl_grammar.specs.Lexing.{lexemes_of}
-use Rattle.prl_grammar.specs.Productions.{inner}
+use Rattle.prl_grammar.specs.Productions.{inner, many}
 use Rattle.prl_syntax.specs.declared.words.Fixed.{Fixed}
 use Rattle.prl_syntax.specs.declared.parameters.Note.{Note}
 use Rattle.prl_syntax.specs.declared.parameters.Item.{Item}
 use Rattle.prl_syntax.specs.Words.{class_of, program_vocabulary}
 use Rattle.prl_syntax.specs.Values.{small}
-use Rattle.prl_syntax.specs.Trees.{StemTree, joined, param_of, note_or, first_note, params_before, params_of, port_of, root_of_name, trees_from, Declared, with_declared, program_of}
-use Rattle.prl_syntax.specs.Grammar.{Grammar, Const, Ratio, Postfix, Expr, Exprs, Base, Prefix, AfterConst, Stem, programs, Name, Names, Left, Equation, TypeName, Rate, Due, Note as NoteText, Item as ItemText, Run, Params, EndedRun, Locals, PortGroup, NextGroup, Ports, Wcet, Import, Device, Node, Declaration, Program}
+use Rattle.prl_syntax.specs.Trees.{StemTree, joined, param_of, note_or, first_note, params_before, params_of, port_of, root_of_name, trees_from, Declared, actuator, with_declared, program_of}
+use Rattle.prl_grammar.specs.Numbers.{negative}
+use Rattle.prl_grammar.specs.Combinators.{◌=>◌, ◌⊳◌, ◌⊲◌, maybe, number}
+use Rattle.prl_syntax.specs.Grammar.{Grammar, the, Const, Ratio, Postfix, Expr, Exprs, Base, Prefix, AfterConst, Stem, programs, Name, Names, Left, Equation, TypeName, Rate, Due, Note as NoteText, Item as ItemText, Run, Params, EndedRun, Locals, PortGroup, NextGroup, Ports, Wcet, Import, Device, Node, Declaration, Program}
 use Rattle.prl_syntax.specs.Parsing.{IsProgramOf}
 use Rattle.prl_syntax.specs.Ranges.{is_count}
 use Rattle.prl_print.proofs.Fractions.{is_shift}
@@ -41,16 +43,13 @@ AreSome P xs = AllByRecursion P xs × IsSome xs
 
 -- lists one after another, the first of which is not empty
 
-all_append : {X : Type 0} (P : X → Type 0) (xs ys : List X) → AllByRecursion P xs → AllByRecursion P ys → AllByRecursion P (xs ++ ys)
-all_append P [] ys h g = g
-all_append P (x ∷ xs) ys h g = (h.0, all_append P xs ys h.1 g)
-
-all_joined : {X : Type 0} (P : X → Type 0) (xss : List (List X)) → AllByRecursion (AreSome P) xss → AllByRecursion P (joined xss)
-all_joined P [] h = tt
-all_joined P (xs ∷ xss) h = all_append P xs (joined xss) h.0.0 (all_joined P xss h.1)
+all_joined : {X : Type 0} (P : X → Type 0) (xs : List X) (xss : List (List X)) → AllByRecursion P xs → AllByRecursion (AreSome P) xss → AllByRecursion P (joined (xs ∷ xss))
+all_joined P (x ∷ xs) xss h g = (h.0, all_joined P xs xss h.1 g)
+all_joined P [] (ys ∷ yss) h g = all_joined P ys yss g.0.0 g.1
+all_joined P [] [] h g = tt
 
 some_joined : {X : Type 0} (P : X → Type 0) (xs : List X) (xss : List (List X)) → AreSome P xs → AllByRecursion (AreSome P) xss → AreSome P (joined (xs ∷ xss))
-some_joined P xs xss h g = (all_append P xs (joined xss) h.0 (all_joined P xss g), omega (arith, length-append xs (joined xss), h.1))
+some_joined P xs xss h g = (all_joined P xs xss h.0 g, omega (arith, length-append xs (joined xss), h.1))
 
 -- notes, and the parameters that they belong to
 
@@ -60,20 +59,14 @@ IsOwnNote note = IfThere IsRate note.rate × IfThere IsDue note.due
 abbrev IsOwnItem : Item → Type 0
 IsOwnItem i = IsOwnName i.name.name × IfThere IsOwnNote i.note
 
-own_or : (a b : Option Note) → IfThere IsOwnNote a → IfThere IsOwnNote b → IfThere IsOwnNote (note_or a b)
-own_or None b h g = g
-own_or (Some a) b h g = h
-
-own_param : (n : Placed) (o : Option Note) → IsOwnName n.name → IfThere IsOwnNote o → IsOwnParam (param_of n o)
-own_param n None h g = (record { name = h.0; rate = tt; due = tt }, h)
-own_param n (Some note) h g = (record { name = h.0; rate = g.0; due = g.1 }, h)
+own_param : (n : Placed) (a b : Option Note) → IsOwnName n.name → IfThere IsOwnNote a → IfThere IsOwnNote b → IsOwnParam (param_of n (note_or a b)) × IfThere IsOwnNote (note_or a b)
+own_param n (Some a) b e h g = ((record { name = e.0; rate = h.0; due = h.1 }, e), h)
+own_param n None (Some b) e h g = ((record { name = e.0; rate = g.0; due = g.1 }, e), g)
+own_param n None None e h g = ((record { name = e.0; rate = tt; due = tt }, e), tt)
 
 own_params : (items : List Item) → AllByRecursion IsOwnItem items → AllByRecursion IsOwnParam (params_of items) × IfThere IsOwnNote (first_note items None)
 own_params [] h = (tt, tt)
-own_params (i ∷ items) h =
-    let later = own_params items h.1 in
-    let note = own_or i.note (first_note items None) h.0.1 later.1 in
-    ((own_param i.name (first_note (i ∷ items) None) h.0.0 note, later.0), note)
+own_params (i ∷ items) h = let later = own_params items h.1 in let one = own_param i.name i.note (first_note items None) h.0.0 h.0.1 later.1 in ((one.0, later.0), one.1)
 
 own_ports : (ty : Ty) (ns : List Placed) → AllByRecursion IsOwnPlaced ns → AllByRecursion IsOwnPort (map (port_of ty) ns)
 own_ports ty [] h = tt
@@ -95,10 +88,6 @@ own_trees : (d : ℕ) (ts : List Tree) → AllByRecursion (λ t. (d ≤ 64) × I
 own_trees d [] h = (tt, tt)
 own_trees d (t ∷ ts) h = let others = own_trees d ts h.1 in ((h.0.1.0, others.0), (h.0.1.1, others.1))
 
-group_trees : (d : ℕ) (ts : Trees) → IsOwnRoot d (group ts) → AreOwnTrees (d + 1) ts
-group_trees d none h = absurd h.0
-group_trees d (more t ts) h = ((h.0.1, h.0.2), h.1)
-
 named_root : (d : ℕ) (n : List ℕ × Span) (args : Option Trees) → IsOwnName n.0 → IfThere (λ ts. (d + 1 ≤ 64) × AreOwnTrees (d + 1) ts) args → IsOwnRoot d (root_of_name n args)
 named_root d n None e h = e
 named_root d n (Some args) e h = ((e.0, h.0, h.1.0), (e.1, h.1.1))
@@ -117,124 +106,75 @@ module _ (I : StemTree → List Lexeme → Type 0) (inside : (d : ℕ) → Sure 
   abbrev Means : {A : Type 0} → ℕ → Grammar A → (A → Type 0) → Type 0
   Means d g P = Sure I Any d d g P
 
-  ratio_means : {d : ℕ} → Means d Ratio IsShift
+  ratio_means : (d : ℕ) → Means d Ratio IsShift
   unfolding Ratio
-  ratio_means = s_action (s_both s_number (s_maybe (s_second s_place s_number))) (λ x _. is_shift x.0 x.1)
+  ratio_means d = s_action (s_both s_number (s_maybe (s_second s_place s_number))) (λ x _. is_shift x.0 x.1)
 
-  expr_means : {d : ℕ} → Means d Expr (IsOwnTree d)
+  expr_means : (d : ℕ) → Means d Expr (IsOwnTree d)
   unfolding Expr Postfix
-  expr_means {d} = s_action (s_placed (s_both (inside d) (s_many postfix))) (λ x h. ((h.0.0, h.0.1.0, h.1), h.0.1.1))
-    where
-      postfix : {d : ℕ} → Means d Postfix (λ o. IsPostfix o.op)
-      postfix = s_either (s_action (s_after s_count (λ i c _. refl)) (λ x h. h)) (s_either (s_action (s_after s_count (λ i c _. refl)) (λ x h. h)) (s_action (s_both s_place ratio_means) (λ x h. h.1)))
+  expr_means d =
+      let postfix : Means d Postfix (λ o. IsPostfix o.op) = s_either (s_action (s_after s_count (λ i c _. refl)) (λ x h. h)) (s_either (s_action (s_after s_count (λ i c _. refl)) (λ x h. h)) (s_action (s_both s_place (ratio_means d)) (λ x h. h.1))) in
+      s_action (s_placed (s_both (inside d) (s_many postfix))) (λ x h. ((h.0.0, h.0.1.0, h.1), h.0.1.1))
 
-  stem_means : {d : ℕ} → Means d Stem (IsOwnStem d)
+  stem_means : (d : ℕ) → Means d Stem (IsOwnStem d)
   unfolding Exprs Base Prefix Const AfterConst Stem
-  stem_means = s_either (s_action base (λ b h. (tt, h))) (s_either (s_action (prefix fixed.Tail) (λ p h. h ops.Tail tt)) (s_action (s_both constant after) (λ x h. h.1 x.0 h.0)))
-    where
-      exprs : {d : ℕ} → Means (d + 1) Exprs (λ ts. IsOwnRoot d (group ts))
-      exprs {d} = s_list s_place (s_deep expr_means) (λ t ts h g. (let all = own_trees (d + 1) (t ∷ ts) (h, g) in ((h.0, all.0.0, all.0.1), all.1)))
-
-      base : {d : ℕ} → Means d Base (IsOwnRoot d)
-      base {d} =
-          s_either (s_action (s_both s_named (s_maybe (s_perhaps {Q = AreOwnTrees (d + 1)} (tt, tt) (group_trees d) exprs))) (λ x h. named_root d x.0 x.1 h.0 h.1)) (s_action (s_parens exprs) (λ ts h. h))
-
-      prefix : {d : ℕ} (f : Fixed) → Sure I Any d (deeper d (class_of f)) (Prefix f) (λ p. (op : Op) → IsPrefix op → IsOwnStem (deeper d (class_of f)) (p op))
-      prefix {d} f = s_action (s_both s_place (inside (deeper d (class_of f)))) (λ x h op own. ((own, h.1.0), h.1.1))
-
-      constant : {d : ℕ} → Means d Const FitsValue
-      constant =
-          s_either (s_action s_place (λ p _. tt)) (s_either (s_action s_place (λ p _. tt))
-          (s_either (s_action (s_second s_place s_number) (λ n _. negative_fits (min n MAX_NEGATIVE) (omega arith))) (s_action s_number (λ n _. record { sfits = omega arith }))))
-
-      after : {d : ℕ} → Means d AfterConst (λ k. (v : Value) → FitsValue v → IsOwnStem d (k v))
-      after = s_either (s_action (prefix fixed.Fby) (λ p h v fits. h (ops.Fby v) fits)) (s_either (s_action (prefix fixed.Cons) (λ p h v fits. h (ops.Cons v) fits)) (s_give (λ v fits. (tt, (fits, tt)))))
+  stem_means d =
+      let exprs : Means (d + 1) Exprs (λ ts. AreOwnTrees (d + 1) ts × IsOwnRoot d (group ts)) = s_list s_place (s_deep (expr_means (d + 1))) (λ t ts h g. (let all = own_trees (d + 1) (t ∷ ts) (h, g) in (all, ((h.0, all.0.0, all.0.1), all.1)))) in
+      let name : Means d Base (IsOwnRoot d) = s_either (s_action (s_both s_named (s_maybe (s_perhaps (tt, tt) (λ ts h. h.0) exprs))) (λ x h. named_root d x.0 x.1 h.0 h.1)) (s_action (s_parens exprs) (λ ts h. h.1)) in
+      let prefix : (f : Fixed) → Sure I Any d (deeper d (class_of f)) (Prefix f) (λ p. (op : Op) → IsPrefix op → IsOwnStem (deeper d (class_of f)) (p op)) = λ f. s_action (s_both s_place (inside (deeper d (class_of f)))) (λ x h op own. ((own, h.1.0), h.1.1)) in
+      let negative : Means d (the fixed.Minus ⊳ number => negative) FitsValue = s_action (s_second s_place s_number) (λ n _. negative_fits (min n MAX_NEGATIVE) (omega arith)) in
+      let constant : Means d Const FitsValue = s_either (s_action s_place (λ p _. tt)) (s_either (s_action s_place (λ p _. tt)) (s_either negative (s_action s_number (λ n _. record { sfits = omega arith })))) in
+      let after : Means d AfterConst (λ k. (v : Value) → FitsValue v → IsOwnStem d (k v)) =
+      s_either (s_action (prefix fixed.Fby) (λ p h v fits. h (ops.Fby v) fits)) (s_either (s_action (prefix fixed.Cons) (λ p h v fits. h (ops.Cons v) fits)) (s_give (λ v fits. (tt, (fits, tt))))) in
+      s_either (s_action name (λ b h. (tt, h))) (s_either (s_action (prefix fixed.Tail) (λ p h. h ops.Tail tt)) (s_action (s_both constant after) (λ x h. h.1 x.0 h.0)))
 
   program_means : Means 0 Program AreOwn
   unfolding Name Names Left Equation TypeName Rate Due NoteText ItemText Run Params EndedRun Locals PortGroup NextGroup Ports Wcet Import Device Node Declaration Program
-  program_means = s_action (s_many declaration) all_own
-    where
-      name : {d : ℕ} → Means d Name IsOwnPlaced
-      name = s_action s_named (λ n h. h)
-
-      names : {d : ℕ} → Means d Names (AreSome IsOwnPlaced)
-      names = s_action (s_both name (s_many (s_second s_place name))) (λ x h. (h, omega arith))
-
-      equation : Means 0 Equation IsOwnEquation
-      equation =
-          s_action {P = λ (x : _). AreSome IsOwnPlaced x.1.0 × IsOwnTree 0 x.1.1} (s_placed (s_both (s_either (s_parens names) (s_action name (λ n h. ((h, tt), omega arith)))) (s_first (s_second s_place expr_means) s_place)))
-          (λ x h. record { range = record { lefts = all_of (λ n q. q.0) x.1.0 h.0.0; some = h.0.1; right = h.1.0 }; lefts = h.0.0; right = h.1.1 })
-
-      rate : {d : ℕ} → Means d Rate IsRate
-      rate = s_action (s_past {J = λ i c. i ≡ true} (s_past (s_first (s_both s_count (s_second s_place ratio_means)) s_close) (λ i c h. ap (λ i. is_count i 19) h)) (λ i c _. refl)) (λ x h. h)
-
-      due : {d : ℕ} → Means d Due IsDue
-      due = s_action (s_second s_place s_number) (λ n _. omega arith)
-
-      type : {d : ℕ} → Means d TypeName (λ t. Unit {0})
-      type = s_either (s_action s_place (λ p _. tt)) (s_action s_place (λ p _. tt))
-
-      note : {d : ℕ} → Means d NoteText IsOwnNote
-      note = s_either (s_action due (λ u h. (tt, h))) (s_either (s_action (s_both rate (s_maybe due)) (λ x h. h)) (s_action (s_both type (s_both (s_maybe rate) (s_maybe due))) (λ x h. h.1)))
-
-      run : {d : ℕ} → Means d Run (AreSome IsOwnParam)
-      run = s_list s_place (s_action {Q = IsOwnItem} (s_both name (s_maybe (s_second s_place note))) (λ x h. h)) (λ i is h g. ((own_params (i ∷ is) (h, g)).0, omega arith))
-
-      params : {d : ℕ} → Means d Params (AreSome IsOwnParam)
-      params = s_list s_place run (some_joined IsOwnParam)
-
-      locals : {d : ℕ} → Means d Locals (AllByRecursion IsOwnParam)
-      locals = s_either (s_action (s_second s_place (s_both (s_first run s_place) (s_many (s_first run s_place)))) (λ x h. (some_joined IsOwnParam x.0 x.1 h.0 h.1).0)) (s_give tt)
-
-      ports : {d : ℕ} → Means d Ports (AreSome IsOwnPort)
-      ports {d} =
-          let group : Means d PortGroup (AreSome IsOwnPort) = s_action (s_both names (s_second s_place type)) (λ x h. (own_ports x.1 x.0 h.0.0, omega (arith, length-map x.0 (port_of x.1), h.0.1))) in
-          s_action (s_both group (s_many (s_second (s_either s_place s_place) group))) (λ x h. some_joined IsOwnPort x.0 x.1 h.0 h.1)
-
-      wcet : {d : ℕ} → Means d Wcet IsCount
-      wcet = s_action (s_first (s_past s_count (λ i c _. refl)) s_place) (λ n h. h)
-
-      imports : Means 0 Import IsOwnImport
-      imports =
-          s_action (s_both (s_second (s_second s_place s_place) s_named) (s_both (s_perhaps tt (λ ps h. h.0) ports) (s_both (s_second s_place (s_parens ports)) wcet)))
-          (λ x h. record {
-            range = record { name = h.0.0; ins = all_of (λ p q. q.0) x.1.0 h.1.0.1; outs = all_of (λ p q. q.0) x.1.1.0 h.1.1.0.0; some = h.1.1.0.1; wcet = h.1.1.1 };
-            name = h.0;
-            ins = h.1.0.1;
-            outs = h.1.1.0.0;
-          })
-
-      device : {d : ℕ} (f : Fixed) → Sure I Any d (deeper d (class_of f)) (Device f) IsOwnDevice
-      device f = s_action (s_both (s_second s_place s_named) wcet) (λ x h. h)
-
-      nodes : Means 0 Node IsOwnNode
-      nodes =
-          s_action (s_both (s_second s_place s_named) (s_both (s_perhaps tt (λ ps h. h.0) params) (s_both (s_second s_place (s_parens params)) (s_both locals (s_first (s_first (s_second s_place (s_many equation)) s_place) (s_maybe s_place))))))
-          (λ x h. record {
-            range = record {
-              name = h.0.0;
-              ins = all_of (λ p q. q.0) x.1.0 h.1.0.1;
-              outs = all_of (λ p q. q.0) x.1.1.0 h.1.1.0.0;
-              some = h.1.1.0.1;
-              locals = all_of (λ p q. q.0) x.1.1.1.0 h.1.1.1.0;
-              eqs = all_of (λ (e : _) (q : IsOwnEquation e). q.range) x.1.1.1.1 h.1.1.1.1;
-            };
-            name = h.0;
-            ins = h.1.0.1;
-            outs = h.1.1.0.0;
-            locals = h.1.1.1.0;
-            eqs = h.1.1.1.1;
-          })
-
-      declaration : Means 0 Declaration IsOwnDeclared
-      declaration =
-          s_either (s_action imports (λ i h p g. ((h, g.0), g.1, g.2, g.3))) (s_either (s_action (device fixed.Sensor) (λ d h p g. (g.0, (h, g.1), g.2, g.3)))
-          (s_either (s_action (device fixed.Actuator) (λ d h p g. (g.0, g.1, (h, g.2), g.3))) (s_action nodes (λ n h p g. (g.0, g.1, g.2, (h, g.3))))))
+  program_means =
+      let name : (d : ℕ) → Means d Name IsOwnPlaced = λ d. s_action s_named (λ n h. h) in
+      let names : Means 1 Names (AreSome IsOwnPlaced) = s_action (s_both (name 1) (s_many (s_second s_place (name 1)))) (λ x h. (h, omega arith)) in
+      let left : Means 0 Left (AreSome IsOwnPlaced) = s_either (s_parens names) (s_action (name 0) (λ n h. ((h, tt), omega arith))) in
+      let equation : Means 0 Equation IsOwnEquation = s_action (s_placed (s_both left (s_first (s_second s_place (expr_means 0)) s_place)))
+      (λ x h. record { range = record { lefts = all_of (λ n q. q.0) x.1.0 h.0.0; some = h.0.1; right = h.1.0 }; lefts = h.0.0; right = h.1.1 }) in
+      let rate : (d : ℕ) → Means d Rate IsRate = λ d.
+      s_action (s_past {J = λ i c. i ≡ true} (s_past (s_first (s_both s_count (s_second s_place (ratio_means (d + 1)))) s_close) (λ i c h. ap (λ i. is_count i 19) h)) (λ i c _. refl)) (λ x h. h) in
+      let due : (d : ℕ) → Means d Due IsDue = λ d. s_action (s_second s_place s_number) (λ n _. omega arith) in
+      let type : (d : ℕ) → Means d TypeName (λ t. Unit {0}) = λ d. s_either (s_action s_place (λ p _. tt)) (s_action s_place (λ p _. tt)) in
+      let note : (d : ℕ) → Means d NoteText IsOwnNote = λ d.
+      s_either (s_action (due d) (λ u h. (tt, h))) (s_either (s_action (s_both (rate d) (s_maybe (due d))) (λ x h. h)) (s_action (s_both (type d) (s_both (s_maybe (rate d)) (s_maybe (due d)))) (λ x h. h.1))) in
+      let run : (d : ℕ) → Means d Run (AreSome IsOwnParam) = λ d.
+      s_list s_place (s_action {Q = IsOwnItem} (s_both (name d) (s_maybe (s_second s_place (note d)))) (λ x h. h)) (λ i is h g. ((own_params (i ∷ is) (h, g)).0, omega arith)) in
+      let params : Means 1 Params (AreSome IsOwnParam) = s_list s_place (run 1) (some_joined IsOwnParam) in
+      let ended : Means 0 EndedRun (AreSome IsOwnParam) = s_first (run 0) s_place in
+      let locals : Means 0 Locals (AllByRecursion IsOwnParam) = s_either (s_action (s_second s_place (s_both ended (s_many ended))) (λ x h. all_joined IsOwnParam x.0 x.1 h.0.0 h.1)) (s_give tt) in
+      let group : Means 1 PortGroup (AreSome IsOwnPort) = s_action (s_both names (s_second s_place (type 1))) (λ x h. (own_ports x.1 x.0 h.0.0, omega (arith, length-map x.0 (port_of x.1), h.0.1))) in
+      let ports : Means 1 Ports (AreSome IsOwnPort) = s_action (s_both group (s_many (s_second (s_either s_place s_place) group))) (λ x h. some_joined IsOwnPort x.0 x.1 h.0 h.1) in
+      let wcet : (d : ℕ) → Means d Wcet IsCount = λ d. s_action (s_first (s_past s_count (λ i c _. refl)) s_place) (λ n h. h) in
+      let imports : Means 0 Import IsOwnImport =
+      s_action (s_both (s_second (s_second s_place s_place) s_named) (s_both (s_perhaps tt (λ ps h. h.0) ports) (s_both (s_second s_place (s_parens ports)) (wcet 0))))
+      (λ x h. record { range = record { name = h.0.0; ins = all_of (λ p q. q.0) x.1.0 h.1.0.1; outs = all_of (λ p q. q.0) x.1.1.0 h.1.1.0.0; some = h.1.1.0.1; wcet = h.1.1.1 }; name = h.0; ins = h.1.0.1; outs = h.1.1.0.0 }) in
+      let device : (f : Fixed) → Sure I Any 0 (deeper 0 (class_of f)) (Device f) IsOwnDevice = λ f. s_action (s_both (s_second s_place s_named) (wcet (deeper 0 (class_of f)))) (λ x h. h) in
+      let equations : Means 0 (the fixed.Let ⊳ many Equation ⊲ the fixed.Tel ⊲ maybe (the fixed.Semicolon)) (AllByRecursion IsOwnEquation) = s_first (s_first (s_second s_place (s_many equation)) s_place) (s_maybe s_place) in
+      let nodes : Means 0 Node IsOwnNode =
+      s_action (s_both (s_second s_place s_named) (s_both (s_perhaps tt (λ ps h. h.0) params) (s_both (s_second s_place (s_parens params)) (s_both locals equations))))
+      (λ x h. (let eqs = all_of (λ (e : _) (q : IsOwnEquation e). q.range) x.1.1.1.1 h.1.1.1.1 in
+      record {
+        range = record { name = h.0.0; ins = all_of (λ p q. q.0) x.1.0 h.1.0.1; outs = all_of (λ p q. q.0) x.1.1.0 h.1.1.0.0; some = h.1.1.0.1; locals = all_of (λ p q. q.0) x.1.1.1.0 h.1.1.1.0; eqs = eqs };
+        name = h.0;
+        ins = h.1.0.1;
+        outs = h.1.1.0.0;
+        locals = h.1.1.1.0;
+        eqs = h.1.1.1.1;
+      })) in
+      let actuators : Means 0 (Device fixed.Actuator => actuator) IsOwnDeclared = s_action (device fixed.Actuator) (λ d h p g. (g.0, g.1, (h, g.2), g.3)) in
+      let last : Means 0 Declaration IsOwnDeclared =
+      s_either (s_action imports (λ i h p g. ((h, g.0), g.1, g.2, g.3))) (s_either (s_action (device fixed.Sensor) (λ d h p g. (g.0, (h, g.1), g.2, g.3))) (s_either actuators (s_action nodes (λ n h p g. (g.0, g.1, g.2, (h, g.3)))))) in
+      s_action (s_many last) all_own
 
 within_means : (n d : ℕ) → Sure (within programs n) Any d d inner (IsOwnStem d)
 unfolding within programs
 within_means zero d = record { sure = λ i c s w rest known fine h. absurd h }
-within_means (suc n) d = record { sure = (stem_means (within programs n) (within_means n)).sure }
+within_means (suc n) d = record { sure = (stem_means (within programs n) (within_means n) d).sure }
 
 nested_means : (d : ℕ) → Sure (nested programs) Any d d inner (IsOwnStem d)
 unfolding nested
