@@ -70,15 +70,12 @@ same_depth depth (a ∷ b ∷ p) n m = refl
 flat_depth : (depth : ℕ) (p : List ℕ) → (kind_of p ≡ Symbol → ⊥) → depth_after depth p ≡ depth
 flat_depth depth p = by_parenthesis (λ q. (kind_of q ≡ Symbol → ⊥) → depth_after depth q ≡ depth) p (λ h. absurd (h refl)) (λ h. absurd (h refl)) (λ n m h. same_depth depth p n m)
 
-abbrev a_symbol : Option ℕ → Token → Lexeme
-a_symbol o t = record { class = symbol_class o; name = []; number = 0; at = t.span }
-
-symbol_own : (depth : ℕ) (p : List ℕ) (t : Token) → Own depth (depth_after depth p) (a_symbol (symbol_of p) t)
-symbol_own depth p t = by_parenthesis (λ q. Own depth (depth_after depth q) (a_symbol (symbol_of q) t)) p (record { turn = refl; name = λ h. cc }) (record { turn = refl; name = λ h. cc })
-    (λ n m.
+symbol_own : (depth : ℕ) (p : List ℕ) (k : Lexeme) → k.class ≡ symbol_class (symbol_of p) → Own depth (depth_after depth p) k
+symbol_own depth p k = by_parenthesis (λ q. k.class ≡ symbol_class (symbol_of q) → Own depth (depth_after depth q) k) p (λ e. record { turn = ap (deeper depth) e; name = λ h. cc (e, h) }) (λ e. record { turn = ap (deeper depth) e; name = λ h. cc (e, h) })
+    (λ n m e.
     let front : class_in (λ row. row.0.now) (λ row. row.1) (drop 2 SYMBOLS) p ≡ symbol_of p = sym (cond-false (bytes_eq p (codes "(")) _ _ n ∙ cond-false (bytes_eq p (codes ")")) _ _ m) in
-    subst (λ d. Own depth d (a_symbol (symbol_of p) t)) (sym (same_depth depth p n m))
-    (flat_own depth _ (ap (λ o. is_flat (symbol_class o)) (sym front) ∙ table_flat (λ row. row.0.now) (λ row. row.1) (drop 2 SYMBOLS) p refl)))
+    subst (λ d. Own depth d k) (sym (same_depth depth p n m))
+    (flat_own depth k (ap is_flat e ∙ ap (λ o. is_flat (symbol_class o)) (sym front) ∙ table_flat (λ row. row.0.now) (λ row. row.1) (drop 2 SYMBOLS) p refl)))
 
 -- a token of each kind
 
@@ -88,32 +85,28 @@ guard false x y e h = cc
 
 is_word_of : (word number : Bool) → cond word Word (cond number Number Symbol) ≡ Word → word ≡ true
 is_word_of true number e = refl
-is_word_of false true e = cc
-is_word_of false false e = cc
+is_word_of false number e = grind arith
 
-record Owned (at depth deep : ℕ) (p : List ℕ) (t : Token) : Type 0 where
-  place : t.span.at ≡ at
-  len : t.span.len ≡ length p
+-- a token at the place in a text, which leaves the depth so
+record Owned (text : List ℕ) (at depth deep : ℕ) (p : List ℕ) (t : Token) : Type 0 where
+  bytes : token_text text t ≡ take (length p) (drop at text)
   high : deep ≤ 64
   own : Own depth deep (kind_lexeme program_vocabulary t.kind p t)
 
-owned : (at depth : ℕ) (kind : Kind) (p : List ℕ) (t : Token) → depth ≤ 64 → kind ≡ kind_of p → checked at (depth_after depth p) kind p ≡ Ok t → Owned at depth (depth_after depth p) p t
-owned at depth Number p t le k e =
-    subst (Owned at depth (depth_after depth p) p) (guard _ (token_at at Number p) t _ e).1
-    (subst (λ d. Owned at depth d p (token_at at Number p)) (sym (flat_depth depth p (λ s. cc (k, s)))) (record { place = refl; len = refl; high = le; own = flat_own depth _ refl }))
-owned at depth Word p t le k e =
+owned : (text : List ℕ) (at depth : ℕ) (kind : Kind) (p : List ℕ) (t : Token) → depth ≤ 64 → kind ≡ kind_of p → checked at (depth_after depth p) kind p ≡ Ok t → Owned text at depth (depth_after depth p) p t
+owned text at depth Number p t le k e =
+    let flat = flat_depth depth p (λ s. cc (k, s)) in
+    subst (Owned text at depth (depth_after depth p) p) (guard _ (token_at at Number p) t _ e).1 (subst (λ d. Owned text at depth d p (token_at at Number p)) (sym flat) (record { bytes = refl; high = le; own = flat_own depth _ refl }))
+owned text at depth Word p t le k e =
     let is = guard (leb (length p) 64) (token_at at Word p) t _ e in
+    let flat = flat_depth depth p (λ s. cc (k, s)) in
     let own = word_own depth p (token_at at Word p) (keyword_of p) (is_word_of (is_word p) (is_number p) (sym k), leb-true (length p) 64 is.0) refl in
-    subst (Owned at depth (depth_after depth p) p) is.1 (subst (λ d. Owned at depth d p (token_at at Word p)) (sym (flat_depth depth p (λ s. cc (k, s)))) (record { place = refl; len = refl; high = le; own = own }))
-owned at depth Symbol p t le k e =
+    subst (Owned text at depth (depth_after depth p) p) is.1 (subst (λ d. Owned text at depth d p (token_at at Word p)) (sym flat) (record { bytes = refl; high = le; own = own }))
+owned text at depth Symbol p t le k e =
     let is = guard (leb (depth_after depth p) 64) (token_at at Symbol p) t _ e in
-    subst (Owned at depth (depth_after depth p) p) is.1 (record { place = refl; len = refl; high = leb-true (depth_after depth p) 64 is.0; own = symbol_own depth p (token_at at Symbol p) })
+    subst (Owned text at depth (depth_after depth p) p) is.1 (record { bytes = refl; high = leb-true (depth_after depth p) 64 is.0; own = symbol_own depth p _ refl })
 
 -- all tokens of a text
-
-ok_cons : (r : Result (List Token) LexFault) (t : Token) (ts : List Token) → (r >>= λ others. Ok (t ∷ others)) ≡ Ok ts → (others : List Token) × (r ≡ Ok others) × (t ∷ others ≡ ts)
-ok_cons (Ok others) t ts e = (others, refl, cc)
-ok_cons (Err fault) t ts e = cc
 
 ok_bind : {A B : Type 0} (r : Result A LexFault) (f : A → Result B LexFault) (y : B) → (r >>= f) ≡ Ok y → (x : A) × (r ≡ Ok x) × (f x ≡ Ok y)
 ok_bind (Ok x) f y e = (x, refl, e)
@@ -127,28 +120,27 @@ in_range_too false at o e = (refl, e)
 abbrev AreFine : List ℕ → ℕ → List Token → Type 0
 AreFine text depth ts = (inside : Bool) (last : ℕ) → out_of_range program_ranges inside last (lexemes_of program_vocabulary text ts) ≡ None → Fine inside last depth (lexemes_of program_vocabulary text ts)
 
-one_fine : (text p : List ℕ) (at depth deep : ℕ) (t : Token) (ts : List Token) → depth ≤ 64 → token_text text t ≡ p → Owned at depth deep p t → AreFine text deep ts → AreFine text depth (t ∷ ts)
-unfolding out_of_range
-one_fine text p at depth deep t ts high bytes h later inside last e =
-    let k : Lexeme = lexeme_of program_vocabulary text t in
-    let own : Own depth deep k = subst (λ b. Own depth deep (kind_lexeme program_vocabulary t.kind b t)) (sym bytes) h.own in
-    let next : Bool = inside_after program_ranges inside k.class in
-    let parts = in_range_too (is_fault program_ranges inside last k) k.at.at (out_of_range program_ranges next k.class (lexemes_of program_vocabulary text ts)) e in
-    (high, parts.0, own.name, subst (λ d. Fine next k.class d (lexemes_of program_vocabulary text ts)) (sym own.turn) (later next k.class parts.1))
-
 piece_fine : (text rest : List ℕ) (at depth : ℕ) (piece : Piece) (read : ℕ → ℕ → Result (List Token) LexFault) (ts : List Token) → rest ≡ drop at text → FitsPiece rest piece → depth ≤ 64
     → ((deep past : ℕ) (others : List Token) → deep ≤ 64 → read deep past ≡ Ok others → AreFine text deep others) → with_piece at depth rest piece read ≡ Ok ts → AreFine text depth ts
+unfolding out_of_range
 piece_fine text rest at depth pieces.Bad read ts e fits high rec h = cc
 piece_fine text rest at depth (pieces.Gap n) read ts e fits high rec h = rec depth (n - 1) ts high h
 piece_fine text rest at depth (pieces.Token kind n) read ts e fits high rec h =
     let p : List ℕ = take n rest in
     let deep : ℕ = depth_after depth p in
-    let first = ok_bind (checked at deep kind p) _ ts h in
+    let first = ok_bind (checked at deep kind p) (λ t. read deep (n - 1) >>= λ others. Ok (t ∷ others)) ts h in
     let t : Token = first.0 in
-    let others = ok_cons (read deep (n - 1)) t ts first.2 in
-    let own = owned at depth kind p t high fits.2 first.1 in
-    let bytes : token_text text t ≡ p = ap (λ i. take t.span.len (drop i text)) own.place ∙ ap (λ i. take i (drop at text)) (own.len ∙ length-take-le n rest fits.1) ∙ ap (take n) (sym e) in
-    subst (AreFine text depth) others.2 (one_fine text p at depth deep t others.0 high bytes own (rec deep (n - 1) others.0 own.high others.1))
+    let later = ok_bind (read deep (n - 1)) (λ others. Ok (t ∷ others)) ts first.2 in
+    let seen : List Lexeme = lexemes_of program_vocabulary text later.0 in
+    let is = owned text at depth kind p t high fits.2 first.1 in
+    let bytes : token_text text t ≡ p = is.bytes ∙ ap (λ i. take i (drop at text)) (length-take-le n rest fits.1) ∙ ap (take n) (sym e) in
+    let own : Own depth deep (lexeme_of program_vocabulary text t) = subst (λ b. Own depth deep (kind_lexeme program_vocabulary t.kind b t)) (sym bytes) is.own in
+    let all : t ∷ later.0 ≡ ts = cc later.2 in
+    subst (AreFine text depth) all (λ inside last none.
+    let k : Lexeme = lexeme_of program_vocabulary text t in
+    let next : Bool = inside_after program_ranges inside k.class in
+    let ranges = in_range_too (is_fault program_ranges inside last k) k.at.at (out_of_range program_ranges next k.class seen) none in
+    (high, ranges.0, own.name, subst (λ d. Fine next k.class d seen) (sym own.turn) (rec deep (n - 1) later.0 is.high later.1 next k.class ranges.1)))
 
 fine : (text rest : List ℕ) (at depth past : ℕ) (ts : List Token) → rest ≡ drop at text → depth ≤ 64 → tokens_from at depth past rest ≡ Ok ts → AreFine text depth ts
 unfolding tokens_from

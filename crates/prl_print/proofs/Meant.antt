@@ -27,7 +27,7 @@ use Rattle.prl_syntax.specs.Ranges.{is_count}
 use Rattle.prl_print.proofs.Fractions.{is_shift}
 use Rattle.prl_print.proofs.Limits.{text_fine}
 use Rattle.prl_print.proofs.Own.{IsOwnName, IsOwnPlaced, IsOwnPort, IsOwnParam, IsOwnImport, IsOwnDevice, all_of, IsFreeRoot, IsOwnTree, AreOwnTrees, IsOwnEquation, IsOwnNode, AreOwn}
-use Rattle.prl_print.proofs.Source.{deeper, Fine, Sure, Any, s_action, s_both, s_after, s_either, s_give, s_many, s_placed, s_deep, s_place, s_close, s_named, s_number, s_count, s_second, s_first, s_past, s_maybe, s_list, s_parens, s_perhaps}
+use Rattle.prl_print.proofs.Source.{deeper, Fine, Sure, Any, Counting, s_action, s_both, s_either, s_give, s_many, s_placed, s_deep, s_at, s_place, s_close, s_named, s_number, s_count, s_second, s_first, s_maybe, s_list, s_parens, s_perhaps}
 use Rattle.prl_base.specs.declared.operators.Op.{Op}
 use Rattle.prl_base.specs.declared.operators.Op.TheVariants as ops
 use Rattle.prl_base.specs.declared.places.Span.{Span}
@@ -92,7 +92,7 @@ named_root : (d : ℕ) (n : List ℕ × Span) (args : Option Trees) → IsOwnNam
 named_root d n None e h = e
 named_root d n (Some args) e h = ((e.0, h.0, h.1.0), (e.1, h.1.1))
 
--- a declaration leaves a program as it is
+-- programs, with one declaration more
 
 abbrev IsOwnDeclared : Declared → Type 0
 IsOwnDeclared d = (p : ProgramTree) → AreOwn p → AreOwn (with_declared d p)
@@ -102,9 +102,9 @@ all_own [] h = (tt, tt, tt, tt)
 all_own (d ∷ ds) h = h.0 (program_of ds) (all_own ds h.1)
 
 -- whatever stands in parentheses
-module _ (I : StemTree → List Lexeme → Type 0) (inside : (d : ℕ) → Sure I Any d d inner (IsOwnStem d)) where
+module _ (I : StemTree → List Lexeme → Type 0) (inside : (d : ℕ) → Sure I Any d Any d inner (IsOwnStem d)) where
   abbrev Means : {A : Type 0} → ℕ → Grammar A → (A → Type 0) → Type 0
-  Means d g P = Sure I Any d d g P
+  Means d g P = Sure I Any d Any d g P
 
   ratio_means : (d : ℕ) → Means d Ratio IsShift
   unfolding Ratio
@@ -113,7 +113,7 @@ module _ (I : StemTree → List Lexeme → Type 0) (inside : (d : ℕ) → Sure 
   expr_means : (d : ℕ) → Means d Expr (IsOwnTree d)
   unfolding Expr Postfix
   expr_means d =
-      let postfix : Means d Postfix (λ o. IsPostfix o.op) = s_either (s_action (s_after s_count (λ i c _. refl)) (λ x h. h)) (s_either (s_action (s_after s_count (λ i c _. refl)) (λ x h. h)) (s_action (s_both s_place (ratio_means d)) (λ x h. h.1))) in
+      let postfix : Means d Postfix (λ o. IsPostfix o.op) = s_either (s_action (s_both (s_at {J = Counting} (λ i c _. refl)) s_count) (λ x h. h.1)) (s_either (s_action (s_both (s_at {J = Counting} (λ i c _. refl)) s_count) (λ x h. h.1)) (s_action (s_both s_place (ratio_means d)) (λ x h. h.1))) in
       s_action (s_placed (s_both (inside d) (s_many postfix))) (λ x h. ((h.0.0, h.0.1.0, h.1), h.0.1.1))
 
   stem_means : (d : ℕ) → Means d Stem (IsOwnStem d)
@@ -121,7 +121,7 @@ module _ (I : StemTree → List Lexeme → Type 0) (inside : (d : ℕ) → Sure 
   stem_means d =
       let exprs : Means (d + 1) Exprs (λ ts. AreOwnTrees (d + 1) ts × IsOwnRoot d (group ts)) = s_list s_place (s_deep (expr_means (d + 1))) (λ t ts h g. (let all = own_trees (d + 1) (t ∷ ts) (h, g) in (all, ((h.0, all.0.0, all.0.1), all.1)))) in
       let name : Means d Base (IsOwnRoot d) = s_either (s_action (s_both s_named (s_maybe (s_perhaps (tt, tt) (λ ts h. h.0) exprs))) (λ x h. named_root d x.0 x.1 h.0 h.1)) (s_action (s_parens exprs) (λ ts h. h.1)) in
-      let prefix : (f : Fixed) → Sure I Any d (deeper d (class_of f)) (Prefix f) (λ p. (op : Op) → IsPrefix op → IsOwnStem (deeper d (class_of f)) (p op)) = λ f. s_action (s_both s_place (inside (deeper d (class_of f)))) (λ x h op own. ((own, h.1.0), h.1.1)) in
+      let prefix : (f : Fixed) → Sure I Any d Any (deeper d (class_of f)) (Prefix f) (λ p. (op : Op) → IsPrefix op → IsOwnStem (deeper d (class_of f)) (p op)) = λ f. s_action (s_both s_place (inside (deeper d (class_of f)))) (λ x h op own. ((own, h.1.0), h.1.1)) in
       let negative : Means d (the fixed.Minus ⊳ number => negative) FitsValue = s_action (s_second s_place s_number) (λ n _. negative_fits (min n MAX_NEGATIVE) (omega arith)) in
       let constant : Means d Const FitsValue = s_either (s_action s_place (λ p _. tt)) (s_either (s_action s_place (λ p _. tt)) (s_either negative (s_action s_number (λ n _. record { sfits = omega arith })))) in
       let after : Means d AfterConst (λ k. (v : Value) → FitsValue v → IsOwnStem d (k v)) =
@@ -137,7 +137,7 @@ module _ (I : StemTree → List Lexeme → Type 0) (inside : (d : ℕ) → Sure 
       let equation : Means 0 Equation IsOwnEquation = s_action (s_placed (s_both left (s_first (s_second s_place (expr_means 0)) s_place)))
       (λ x h. record { range = record { lefts = all_of (λ n q. q.0) x.1.0 h.0.0; some = h.0.1; right = h.1.0 }; lefts = h.0.0; right = h.1.1 }) in
       let rate : (d : ℕ) → Means d Rate IsRate = λ d.
-      s_action (s_past {J = λ i c. i ≡ true} (s_past (s_first (s_both s_count (s_second s_place (ratio_means (d + 1)))) s_close) (λ i c h. ap (λ i. is_count i 19) h)) (λ i c _. refl)) (λ x h. h) in
+      s_action (s_second (s_at {J = λ i c. i ≡ true} (λ i c _. refl)) (s_second (s_at {J = Counting} (λ i c h. ap (λ i. is_count i 19) h)) (s_first (s_both s_count (s_second s_place (ratio_means (d + 1)))) s_close))) (λ x h. h) in
       let due : (d : ℕ) → Means d Due IsDue = λ d. s_action (s_second s_place s_number) (λ n _. omega arith) in
       let type : (d : ℕ) → Means d TypeName (λ t. Unit {0}) = λ d. s_either (s_action s_place (λ p _. tt)) (s_action s_place (λ p _. tt)) in
       let note : (d : ℕ) → Means d NoteText IsOwnNote = λ d.
@@ -149,11 +149,11 @@ module _ (I : StemTree → List Lexeme → Type 0) (inside : (d : ℕ) → Sure 
       let locals : Means 0 Locals (AllByRecursion IsOwnParam) = s_either (s_action (s_second s_place (s_both ended (s_many ended))) (λ x h. all_joined IsOwnParam x.0 x.1 h.0.0 h.1)) (s_give tt) in
       let group : Means 1 PortGroup (AreSome IsOwnPort) = s_action (s_both names (s_second s_place (type 1))) (λ x h. (own_ports x.1 x.0 h.0.0, omega (arith, length-map x.0 (port_of x.1), h.0.1))) in
       let ports : Means 1 Ports (AreSome IsOwnPort) = s_action (s_both group (s_many (s_second (s_either s_place s_place) group))) (λ x h. some_joined IsOwnPort x.0 x.1 h.0 h.1) in
-      let wcet : (d : ℕ) → Means d Wcet IsCount = λ d. s_action (s_first (s_past s_count (λ i c _. refl)) s_place) (λ n h. h) in
+      let wcet : (d : ℕ) → Means d Wcet IsCount = λ d. s_action (s_first (s_second (s_at {J = Counting} (λ i c _. refl)) s_count) s_place) (λ n h. h) in
       let imports : Means 0 Import IsOwnImport =
       s_action (s_both (s_second (s_second s_place s_place) s_named) (s_both (s_perhaps tt (λ ps h. h.0) ports) (s_both (s_second s_place (s_parens ports)) (wcet 0))))
       (λ x h. record { range = record { name = h.0.0; ins = all_of (λ p q. q.0) x.1.0 h.1.0.1; outs = all_of (λ p q. q.0) x.1.1.0 h.1.1.0.0; some = h.1.1.0.1; wcet = h.1.1.1 }; name = h.0; ins = h.1.0.1; outs = h.1.1.0.0 }) in
-      let device : (f : Fixed) → Sure I Any 0 (deeper 0 (class_of f)) (Device f) IsOwnDevice = λ f. s_action (s_both (s_second s_place s_named) (wcet (deeper 0 (class_of f)))) (λ x h. h) in
+      let device : (f : Fixed) → Sure I Any 0 Any (deeper 0 (class_of f)) (Device f) IsOwnDevice = λ f. s_action (s_both (s_second s_place s_named) (wcet (deeper 0 (class_of f)))) (λ x h. h) in
       let equations : Means 0 (the fixed.Let ⊳ many Equation ⊲ the fixed.Tel ⊲ maybe (the fixed.Semicolon)) (AllByRecursion IsOwnEquation) = s_first (s_first (s_second s_place (s_many equation)) s_place) (s_maybe s_place) in
       let nodes : Means 0 Node IsOwnNode =
       s_action (s_both (s_second s_place s_named) (s_both (s_perhaps tt (λ ps h. h.0) params) (s_both (s_second s_place (s_parens params)) (s_both locals equations))))
@@ -171,17 +171,17 @@ module _ (I : StemTree → List Lexeme → Type 0) (inside : (d : ℕ) → Sure 
       s_either (s_action imports (λ i h p g. ((h, g.0), g.1, g.2, g.3))) (s_either (s_action (device fixed.Sensor) (λ d h p g. (g.0, (h, g.1), g.2, g.3))) (s_either actuators (s_action nodes (λ n h p g. (g.0, g.1, g.2, (h, g.3)))))) in
       s_action (s_many last) all_own
 
-within_means : (n d : ℕ) → Sure (within programs n) Any d d inner (IsOwnStem d)
+within_means : (n d : ℕ) → Sure (within programs n) Any d Any d inner (IsOwnStem d)
 unfolding within programs
 within_means zero d = record { sure = λ i c s w rest known fine h. absurd h }
 within_means (suc n) d = record { sure = (stem_means (within programs n) (within_means n) d).sure }
 
-nested_means : (d : ℕ) → Sure (nested programs) Any d d inner (IsOwnStem d)
+nested_means : (d : ℕ) → Sure (nested programs) Any d Any d inner (IsOwnStem d)
 unfolding nested
 nested_means d = record { sure = λ i c s w rest known fine h. (within_means h.0 d).sure i c s w rest known fine h.1 }
 
 -- the program of each text
-own : (text : List ℕ) (p : ProgramTree) → IsProgramOf text p → AreOwn p
+pub own : (text : List ℕ) (p : ProgramTree) → IsProgramOf text p → AreOwn p
 own text p h =
     let w = lexemes_of program_vocabulary text h.read.tokens in
     let fine = text_fine text h.read.tokens h.read.lexical h.read.ranges in
