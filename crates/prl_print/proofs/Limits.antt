@@ -37,22 +37,18 @@ table_flat text class (row ∷ rows) p h =
     cond_both (bytes_eq p (text row)) (Some (class row)) (class_in text class rows p) (λ o. is_flat (symbol_class o) ≡ true) (λ same. parts.0) (λ other. table_flat text class rows p parts.1)
 
 -- what a token does to the depth, and the name that it is
-record Own (d deep : ℕ) (k : Lexeme) : Type 0 where
-  turn : deeper d k.class ≡ deep
-  name : k.class ≡ 0 → IsOwnName k.name
+abbrev Own : ℕ → ℕ → Lexeme → Type 0
+Own d deep k = (deeper d k.class ≡ deep) × (k.class ≡ 0 → IsOwnName k.name)
 
 flat_own : (d : ℕ) (k : Lexeme) → is_flat k.class ≡ true → Own d d k
 flat_own d k h =
     let one = and_parts (not (k.class == 19)) _ h in
     let two = and_parts (not (k.class == 20)) (not (k.class == 0)) one.1 in
-    record {
-      turn = cond-false (k.class == 19) _ _ (not-true _ one.0) ∙ cond-false (k.class == 20) _ _ (not-true _ two.0);
-      name = λ e. absurd (false≢true (sym (not-true _ two.1) ∙ ap (λ c. c == 0) e));
-    }
+    (cond-false (k.class == 19) _ _ (not-true _ one.0) ∙ cond-false (k.class == 20) _ _ (not-true _ two.0), λ e. absurd (false≢true (sym (not-true _ two.1) ∙ ap (λ c. c == 0) e)))
 
 word_own : (d : ℕ) (p : List ℕ) (t : Token) (o : Option ℕ) → IsName p → keyword_of p ≡ o → Own d d (word_lexeme o p t.span)
-word_own d p t None name key = record { turn = refl; name = λ e. (name, key) }
-word_own d p t (Some class) name key = flat_own d _ (ap (λ o. is_flat (symbol_class o)) (sym key) ∙ table_flat (λ row. row.0.now) (λ row. row.1) KEYWORDS p refl)
+word_own d p t None name key = (refl, λ e. (name, key))
+word_own d p t (Some class) name key = flat_own d (word_lexeme (Some class) p t.span) (ap (λ o. is_flat (symbol_class o)) (sym key) ∙ table_flat (λ row. row.0.now) (λ row. row.1) KEYWORDS p refl)
 
 -- parentheses, and other bytes
 
@@ -71,7 +67,7 @@ flat_depth : (depth : ℕ) (p : List ℕ) → (kind_of p ≡ Symbol → ⊥) →
 flat_depth depth p = by_parenthesis (λ q. (kind_of q ≡ Symbol → ⊥) → depth_after depth q ≡ depth) p (λ h. absurd (h refl)) (λ h. absurd (h refl)) (λ n m h. same_depth depth p n m)
 
 symbol_own : (depth : ℕ) (p : List ℕ) (k : Lexeme) → k.class ≡ symbol_class (symbol_of p) → Own depth (depth_after depth p) k
-symbol_own depth p k = by_parenthesis (λ q. k.class ≡ symbol_class (symbol_of q) → Own depth (depth_after depth q) k) p (λ e. record { turn = ap (deeper depth) e; name = λ h. cc (e, h) }) (λ e. record { turn = ap (deeper depth) e; name = λ h. cc (e, h) })
+symbol_own depth p k = by_parenthesis (λ q. k.class ≡ symbol_class (symbol_of q) → Own depth (depth_after depth q) k) p (λ e. (ap (deeper depth) e, λ h. cc (e, h))) (λ e. (ap (deeper depth) e, λ h. cc (e, h)))
     (λ n m e.
     let front : class_in (λ row. row.0.now) (λ row. row.1) (drop 2 SYMBOLS) p ≡ symbol_of p = sym (cond-false (bytes_eq p (codes "(")) _ _ n ∙ cond-false (bytes_eq p (codes ")")) _ _ m) in
     subst (λ d. Own depth d k) (sym (same_depth depth p n m))
@@ -80,31 +76,27 @@ symbol_own depth p k = by_parenthesis (λ q. k.class ≡ symbol_class (symbol_of
 -- a token of each kind
 
 guard : {A E : Type 0} (b : Bool) (x y : A) (e : E) → cond b (Ok x) (Err e) ≡ Ok y → (b ≡ true) × (x ≡ y)
-guard true x y e h = (refl, cc)
-guard false x y e h = cc
+guard b x y e h = grind arith
 
 is_word_of : (word number : Bool) → cond word Word (cond number Number Symbol) ≡ Word → word ≡ true
-is_word_of true number e = refl
-is_word_of false number e = grind arith
+is_word_of word number e = grind arith
 
 -- a token at the place in a text, which leaves the depth so
-record Owned (text : List ℕ) (at depth deep : ℕ) (p : List ℕ) (t : Token) : Type 0 where
-  bytes : token_text text t ≡ take (length p) (drop at text)
-  high : deep ≤ 64
-  own : Own depth deep (kind_lexeme program_vocabulary t.kind p t)
+abbrev Owned : List ℕ → ℕ → ℕ → ℕ → List ℕ → Token → Type 0
+Owned text at depth deep p t = (token_text text t ≡ take (length p) (drop at text)) × (deep ≤ 64) × Own depth deep (kind_lexeme program_vocabulary t.kind p t)
 
 owned : (text : List ℕ) (at depth : ℕ) (kind : Kind) (p : List ℕ) (t : Token) → depth ≤ 64 → kind ≡ kind_of p → checked at (depth_after depth p) kind p ≡ Ok t → Owned text at depth (depth_after depth p) p t
 owned text at depth Number p t le k e =
     let flat = flat_depth depth p (λ s. cc (k, s)) in
-    subst (Owned text at depth (depth_after depth p) p) (guard _ (token_at at Number p) t _ e).1 (subst (λ d. Owned text at depth d p (token_at at Number p)) (sym flat) (record { bytes = refl; high = le; own = flat_own depth _ refl }))
+    subst (Owned text at depth (depth_after depth p) p) (guard _ (token_at at Number p) t _ e).1 (subst (λ d. Owned text at depth d p (token_at at Number p)) (sym flat) (refl, le, flat_own depth (kind_lexeme program_vocabulary Number p (token_at at Number p)) refl))
 owned text at depth Word p t le k e =
     let is = guard (leb (length p) 64) (token_at at Word p) t _ e in
     let flat = flat_depth depth p (λ s. cc (k, s)) in
     let own = word_own depth p (token_at at Word p) (keyword_of p) (is_word_of (is_word p) (is_number p) (sym k), leb-true (length p) 64 is.0) refl in
-    subst (Owned text at depth (depth_after depth p) p) is.1 (subst (λ d. Owned text at depth d p (token_at at Word p)) (sym flat) (record { bytes = refl; high = le; own = own }))
+    subst (Owned text at depth (depth_after depth p) p) is.1 (subst (λ d. Owned text at depth d p (token_at at Word p)) (sym flat) (refl, le, own))
 owned text at depth Symbol p t le k e =
     let is = guard (leb (depth_after depth p) 64) (token_at at Symbol p) t _ e in
-    subst (Owned text at depth (depth_after depth p) p) is.1 (record { bytes = refl; high = leb-true (depth_after depth p) 64 is.0; own = symbol_own depth p _ refl })
+    subst (Owned text at depth (depth_after depth p) p) is.1 (refl, leb-true (depth_after depth p) 64 is.0, symbol_own depth p (kind_lexeme program_vocabulary Symbol p (token_at at Symbol p)) refl)
 
 -- all tokens of a text
 
@@ -113,8 +105,7 @@ ok_bind (Ok x) f y e = (x, refl, e)
 ok_bind (Err fault) f y e = cc
 
 in_range_too : (b : Bool) (at : ℕ) (o : Option ℕ) → cond b (Some at) o ≡ None → (b ≡ false) × (o ≡ None)
-in_range_too true at o e = cc
-in_range_too false at o e = (refl, e)
+in_range_too b at o e = grind arith
 
 -- in range, in a rate or not, and after a token of the class
 abbrev AreFine : List ℕ → ℕ → List Token → Type 0
@@ -133,22 +124,19 @@ piece_fine text rest at depth (pieces.Token kind n) read ts e fits high rec h =
     let later = ok_bind (read deep (n - 1)) (λ others. Ok (t ∷ others)) ts first.2 in
     let seen : List Lexeme = lexemes_of program_vocabulary text later.0 in
     let is = owned text at depth kind p t high fits.2 first.1 in
-    let bytes : token_text text t ≡ p = is.bytes ∙ ap (λ i. take i (drop at text)) (length-take-le n rest fits.1) ∙ ap (take n) (sym e) in
-    let own : Own depth deep (lexeme_of program_vocabulary text t) = subst (λ b. Own depth deep (kind_lexeme program_vocabulary t.kind b t)) (sym bytes) is.own in
+    let bytes : token_text text t ≡ p = is.0 ∙ ap (λ i. take i (drop at text)) (length-take-le n rest fits.1) ∙ ap (take n) (sym e) in
+    let own : Own depth deep (lexeme_of program_vocabulary text t) = subst (λ b. Own depth deep (kind_lexeme program_vocabulary t.kind b t)) (sym bytes) is.2 in
     let all : t ∷ later.0 ≡ ts = cc later.2 in
     subst (AreFine text depth) all (λ inside last none.
     let k : Lexeme = lexeme_of program_vocabulary text t in
     let next : Bool = inside_after program_ranges inside k.class in
     let ranges = in_range_too (is_fault program_ranges inside last k) k.at.at (out_of_range program_ranges next k.class seen) none in
-    (high, ranges.0, own.name, subst (λ d. Fine next k.class d seen) (sym own.turn) (rec deep (n - 1) later.0 is.high later.1 next k.class ranges.1)))
+    (high, ranges.0, own.1, subst (λ d. Fine next k.class d seen) (sym own.0) (rec deep (n - 1) later.0 is.1 later.1 next k.class ranges.1)))
 
-fine : (text rest : List ℕ) (at depth past : ℕ) (ts : List Token) → rest ≡ drop at text → depth ≤ 64 → tokens_from at depth past rest ≡ Ok ts → AreFine text depth ts
+pub fine : (text rest : List ℕ) (at depth past : ℕ) (ts : List Token) → rest ≡ drop at text → depth ≤ 64 → tokens_from at depth past rest ≡ Ok ts → AreFine text depth ts
 unfolding tokens_from
 fine text [] at depth past ts e high h = let same : [] ≡ ts = cc in subst (AreFine text depth) same (λ inside last r. high)
 fine text (b ∷ bs) at depth (suc past) ts e high h = fine text bs (at + 1) depth past ts (ap (drop 1) e ∙ drop-drop 1 at text) high h
 fine text (b ∷ bs) at depth zero ts e high h =
     piece_fine text (b ∷ bs) at depth (piece_of (b ∷ bs)) (λ deep past. tokens_from (at + 1) deep past bs) ts e (piece_of_fits (b ∷ bs)) high
     (λ deep past others high. fine text bs (at + 1) deep past others (ap (drop 1) e ∙ drop-drop 1 at text) high) h
-
-pub text_fine : (text : List ℕ) (tokens : List Token) → tokens_from 0 0 0 text ≡ Ok tokens → out_of_range program_ranges false 0 (lexemes_of program_vocabulary text tokens) ≡ None → Fine false 0 0 (lexemes_of program_vocabulary text tokens)
-text_fine text tokens e = fine text text 0 0 0 tokens refl (omega arith) e false 0

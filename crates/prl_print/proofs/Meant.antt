@@ -2,6 +2,7 @@
 use Rattle.std.proofs.Common.{◌≡◌, ◌≤◌, ◌&&◌, ◌+◌, ℕ, Bool, zero, suc, pos, neg_ℤ, min, leb, false, true, List, [], ◌∷◌, ◌++◌, map, length, Option, Some, None, refl, sym, ap, subst, arith, length-append}
 use Rattle.std.proofs.lemmas.Bool.{and_parts, leb-true}
 use Rattle.std.proofs.lemmas.List.{append-nil, length-map}
+use Rattle.std.proofs.lemmas.Int.{ints}
 use Rattle.std.specs.List.{AllByRecursion}
 use Rattle.prl_base.specs.declared.decimals.TheConstants.{MAX_NEGATIVE, MAX_POSITIVE}
 use Rattle.prl_base.specs.declared.values.Ty.{Ty}
@@ -25,7 +26,7 @@ use Rattle.prl_syntax.specs.Grammar.{Grammar, the, Const, Ratio, Postfix, Expr, 
 use Rattle.prl_syntax.specs.Parsing.{IsProgramOf}
 use Rattle.prl_syntax.specs.Ranges.{is_count}
 use Rattle.prl_print.proofs.Fractions.{is_shift}
-use Rattle.prl_print.proofs.Limits.{text_fine}
+use Rattle.prl_print.proofs.Limits.{fine}
 use Rattle.prl_print.proofs.Own.{IsOwnName, IsOwnPlaced, IsOwnPort, IsOwnParam, IsOwnImport, IsOwnDevice, all_of, IsFreeRoot, IsOwnTree, AreOwnTrees, IsOwnEquation, IsOwnNode, AreOwn}
 use Rattle.prl_print.proofs.Source.{deeper, Fine, Sure, Any, Counting, s_action, s_both, s_either, s_give, s_many, s_placed, s_deep, s_at, s_place, s_close, s_named, s_number, s_count, s_second, s_first, s_maybe, s_list, s_parens, s_perhaps}
 use Rattle.prl_base.specs.declared.operators.Op.{Op}
@@ -74,10 +75,6 @@ own_ports ty (n ∷ ns) h = (h.0, own_ports ty ns h.1)
 
 -- expressions
 
-negative_fits : (k : ℕ) → k ≤ MAX_NEGATIVE → FitsValue (values.Int (neg_ℤ (pos k)))
-negative_fits zero h = record { sfits = omega arith }
-negative_fits (suc k) h = record { sfits = omega (arith, h) }
-
 abbrev IsOwnRoot : ℕ → Root → Type 0
 IsOwnRoot d r = IsRootInRange d r × IsFreeRoot r
 
@@ -122,7 +119,7 @@ module _ (I : StemTree → List Lexeme → Type 0) (inside : (d : ℕ) → Sure 
       let exprs : Means (d + 1) Exprs (λ ts. AreOwnTrees (d + 1) ts × IsOwnRoot d (group ts)) = s_list s_place (s_deep (expr_means (d + 1))) (λ t ts h g. (let all = own_trees (d + 1) (t ∷ ts) (h, g) in (all, ((h.0, all.0.0, all.0.1), all.1)))) in
       let name : Means d Base (IsOwnRoot d) = s_either (s_action (s_both s_named (s_maybe (s_perhaps (tt, tt) (λ ts h. h.0) exprs))) (λ x h. named_root d x.0 x.1 h.0 h.1)) (s_action (s_parens exprs) (λ ts h. h.1)) in
       let prefix : (f : Fixed) → Sure I Any d Any (deeper d (class_of f)) (Prefix f) (λ p. (op : Op) → IsPrefix op → IsOwnStem (deeper d (class_of f)) (p op)) = λ f. s_action (s_both s_place (inside (deeper d (class_of f)))) (λ x h op own. ((own, h.1.0), h.1.1)) in
-      let negative : Means d (the fixed.Minus ⊳ number => negative) FitsValue = s_action (s_second s_place s_number) (λ n _. negative_fits (min n MAX_NEGATIVE) (omega arith)) in
+      let negative : Means d (the fixed.Minus ⊳ number => negative) FitsValue = s_action (s_second s_place s_number) (λ n _. record { sfits = omega (arith, ints) }) in
       let constant : Means d Const FitsValue = s_either (s_action s_place (λ p _. tt)) (s_either (s_action s_place (λ p _. tt)) (s_either negative (s_action s_number (λ n _. record { sfits = omega arith })))) in
       let after : Means d AfterConst (λ k. (v : Value) → FitsValue v → IsOwnStem d (k v)) =
       s_either (s_action (prefix fixed.Fby) (λ p h v fits. h (ops.Fby v) fits)) (s_either (s_action (prefix fixed.Cons) (λ p h v fits. h (ops.Cons v) fits)) (s_give (λ v fits. (tt, (fits, tt))))) in
@@ -184,8 +181,8 @@ nested_means d = record { sure = λ i c s w rest known fine h. (within_means h.0
 pub own : (text : List ℕ) (p : ProgramTree) → IsProgramOf text p → AreOwn p
 own text p h =
     let w = lexemes_of program_vocabulary text h.read.tokens in
-    let fine = text_fine text h.read.tokens h.read.lexical h.read.ranges in
-    ((program_means (nested programs) nested_means).sure false 0 p w [] tt (subst (Fine false 0 0) (sym (append-nil w)) fine) h.read.written).0
+    let limited = fine text text 0 0 0 h.read.tokens refl (omega arith) h.read.lexical false 0 h.read.ranges in
+    ((program_means (nested programs) nested_means).sure false 0 p w [] tt (subst (Fine false 0 0) (sym (append-nil w)) limited) h.read.written).0
 
 pub in_range : (text : List ℕ) (p : ProgramTree) → IsProgramOf text p → IsInRange p
 in_range text p h =
