@@ -41,10 +41,7 @@ abbrev Own : ℕ → ℕ → Lexeme → Type 0
 Own d deep k = (deeper d k.class ≡ deep) × (k.class ≡ 0 → IsOwnName k.name)
 
 flat_own : (d : ℕ) (k : Lexeme) → is_flat k.class ≡ true → Own d d k
-flat_own d k h =
-    let one = and_parts (not (k.class == 19)) _ h in
-    let two = and_parts (not (k.class == 20)) (not (k.class == 0)) one.1 in
-    (cond-false (k.class == 19) _ _ (not-true _ one.0) ∙ cond-false (k.class == 20) _ _ (not-true _ two.0), λ e. absurd (false≢true (sym (not-true _ two.1) ∙ ap (λ c. c == 0) e)))
+flat_own d k h = (grind (arith, nat_tests), λ e. grind (arith, nat_tests))
 
 word_own : (d : ℕ) (p : List ℕ) (t : Token) (o : Option ℕ) → IsName p → keyword_of p ≡ o → Own d d (word_lexeme o p t.span)
 word_own d p t None name key = (refl, λ e. (name, key))

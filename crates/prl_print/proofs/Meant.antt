@@ -69,7 +69,7 @@ own_params : (items : List Item) → AllByRecursion IsOwnItem items → AllByRec
 own_params [] h = (tt, tt)
 own_params (i ∷ items) h = let later = own_params items h.1 in let one = own_param i.name i.note (first_note items None) h.0.0 h.0.1 later.1 in ((one.0, later.0), one.1)
 
-own_ports : (ty : Ty) (ns : List Placed) → AllByRecursion IsOwnPlaced ns → AllByRecursion IsOwnPort (map (port_of ty) ns)
+own_ports : (ty : _) (ns : List Placed) → AllByRecursion IsOwnPlaced ns → AllByRecursion IsOwnPort (map (port_of ty) ns)
 own_ports ty [] h = tt
 own_ports ty (n ∷ ns) h = (h.0, own_ports ty ns h.1)
 
@@ -85,9 +85,9 @@ own_trees : (d : ℕ) (ts : List Tree) → AllByRecursion (λ t. (d ≤ 64) × I
 own_trees d [] h = (tt, tt)
 own_trees d (t ∷ ts) h = let others = own_trees d ts h.1 in ((h.0.1.0, others.0), (h.0.1.1, others.1))
 
-named_root : (d : ℕ) (n : List ℕ × Span) (args : Option Trees) → IsOwnName n.0 → IfThere (λ ts. (d + 1 ≤ 64) × AreOwnTrees (d + 1) ts) args → IsOwnRoot d (root_of_name n args)
-named_root d n None e h = e
-named_root d n (Some args) e h = ((e.0, h.0, h.1.0), (e.1, h.1.1))
+named_root : (d : ℕ) (name : List ℕ) (at : _) (args : Option Trees) → IsOwnName name → IfThere (λ ts. (d + 1 ≤ 64) × AreOwnTrees (d + 1) ts) args → IsOwnRoot d (root_of_name (name, at) args)
+named_root d name at None e h = e
+named_root d name at (Some args) e h = ((e.0, h.0, h.1.0), (e.1, h.1.1))
 
 -- programs, with one declaration more
 
@@ -117,11 +117,11 @@ module _ (I : StemTree → List Lexeme → Type 0) (inside : (d : ℕ) → Sure 
   unfolding Exprs Base Prefix Const AfterConst Stem
   stem_means d =
       let exprs : Means (d + 1) Exprs (λ ts. AreOwnTrees (d + 1) ts × IsOwnRoot d (group ts)) = s_list s_place (s_deep (expr_means (d + 1))) (λ t ts h g. (let all = own_trees (d + 1) (t ∷ ts) (h, g) in (all, ((h.0, all.0.0, all.0.1), all.1)))) in
-      let name : Means d Base (IsOwnRoot d) = s_either (s_action (s_both s_named (s_maybe (s_perhaps (tt, tt) (λ ts h. h.0) exprs))) (λ x h. named_root d x.0 x.1 h.0 h.1)) (s_action (s_parens exprs) (λ ts h. h.1)) in
-      let prefix : (f : Fixed) → Sure I Any d Any (deeper d (class_of f)) (Prefix f) (λ p. (op : Op) → IsPrefix op → IsOwnStem (deeper d (class_of f)) (p op)) = λ f. s_action (s_both s_place (inside (deeper d (class_of f)))) (λ x h op own. ((own, h.1.0), h.1.1)) in
-      let negative : Means d (the fixed.Minus ⊳ number => negative) FitsValue = s_action (s_second s_place s_number) (λ n _. record { sfits = omega (arith, ints) }) in
-      let constant : Means d Const FitsValue = s_either (s_action s_place (λ p _. tt)) (s_either (s_action s_place (λ p _. tt)) (s_either negative (s_action s_number (λ n _. record { sfits = omega arith })))) in
-      let after : Means d AfterConst (λ k. (v : Value) → FitsValue v → IsOwnStem d (k v)) =
+      let name : Means d Base (IsOwnRoot d) = s_either (s_action (s_both s_named (s_maybe (s_perhaps (tt, tt) (λ ts h. h.0) exprs))) (λ x h. named_root d x.0.0 x.0.1 x.1 h.0 h.1)) (s_action (s_parens exprs) (λ ts h. h.1)) in
+      let prefix : (f : Fixed) → Sure I Any d Any (deeper d (class_of f)) (Prefix f) (λ p. (op : _) → IsPrefix op → IsOwnStem (deeper d (class_of f)) (p op)) = λ f. s_action (s_both s_place (inside (deeper d (class_of f)))) (λ x h op own. ((own, h.1.0), h.1.1)) in
+      let constant : Means d Const FitsValue = s_either (s_action s_place (λ p _. tt)) (s_either (s_action s_place (λ p _. tt))
+      (s_either (s_action (s_second s_place s_number) (λ n _. record { sfits = omega (arith, ints) })) (s_action s_number (λ n _. record { sfits = omega arith })))) in
+      let after : Means d AfterConst (λ k. (v : _) → FitsValue v → IsOwnStem d (k v)) =
       s_either (s_action (prefix fixed.Fby) (λ p h v fits. h (ops.Fby v) fits)) (s_either (s_action (prefix fixed.Cons) (λ p h v fits. h (ops.Cons v) fits)) (s_give (λ v fits. (tt, (fits, tt))))) in
       s_either (s_action name (λ b h. (tt, h))) (s_either (s_action (prefix fixed.Tail) (λ p h. h ops.Tail tt)) (s_action (s_both constant after) (λ x h. h.1 x.0 h.0)))
 
@@ -134,7 +134,7 @@ module _ (I : StemTree → List Lexeme → Type 0) (inside : (d : ℕ) → Sure 
       let equation : Means 0 Equation IsOwnEquation = s_action (s_placed (s_both left (s_first (s_second s_place (expr_means 0)) s_place)))
       (λ x h. record { range = record { lefts = all_of (λ n q. q.0) x.1.0 h.0.0; some = h.0.1; right = h.1.0 }; lefts = h.0.0; right = h.1.1 }) in
       let rate : (d : ℕ) → Means d Rate IsRate = λ d.
-      s_action (s_second (s_at {J = λ i c. i ≡ true} (λ i c _. refl)) (s_second (s_at {J = Counting} (λ i c h. ap (λ i. is_count i 19) h)) (s_first (s_both s_count (s_second s_place (ratio_means (d + 1)))) s_close))) (λ x h. h) in
+      s_action (s_second (s_at {J = λ i c. i ≡ true} (λ i c _. refl)) (s_second (s_at {J = Counting} (λ i c h. subst (λ j. Counting j 19) (sym h) refl)) (s_first (s_both s_count (s_second s_place (ratio_means (d + 1)))) s_close))) (λ x h. h) in
       let due : (d : ℕ) → Means d Due IsDue = λ d. s_action (s_second s_place s_number) (λ n _. omega arith) in
       let type : (d : ℕ) → Means d TypeName (λ t. Unit {0}) = λ d. s_either (s_action s_place (λ p _. tt)) (s_action s_place (λ p _. tt)) in
       let note : (d : ℕ) → Means d NoteText IsOwnNote = λ d.
@@ -151,9 +151,9 @@ module _ (I : StemTree → List Lexeme → Type 0) (inside : (d : ℕ) → Sure 
       s_action (s_both (s_second (s_second s_place s_place) s_named) (s_both (s_perhaps tt (λ ps h. h.0) ports) (s_both (s_second s_place (s_parens ports)) (wcet 0))))
       (λ x h. record { range = record { name = h.0.0; ins = all_of (λ p q. q.0) x.1.0 h.1.0.1; outs = all_of (λ p q. q.0) x.1.1.0 h.1.1.0.0; some = h.1.1.0.1; wcet = h.1.1.1 }; name = h.0; ins = h.1.0.1; outs = h.1.1.0.0 }) in
       let device : (f : Fixed) → Sure I Any 0 Any (deeper 0 (class_of f)) (Device f) IsOwnDevice = λ f. s_action (s_both (s_second s_place s_named) (wcet (deeper 0 (class_of f)))) (λ x h. h) in
-      let equations : Means 0 (the fixed.Let ⊳ many Equation ⊲ the fixed.Tel ⊲ maybe (the fixed.Semicolon)) (AllByRecursion IsOwnEquation) = s_first (s_first (s_second s_place (s_many equation)) s_place) (s_maybe s_place) in
       let nodes : Means 0 Node IsOwnNode =
-      s_action (s_both (s_second s_place s_named) (s_both (s_perhaps tt (λ ps h. h.0) params) (s_both (s_second s_place (s_parens params)) (s_both locals equations))))
+      s_action (s_both (s_second s_place s_named) (s_both (s_perhaps tt (λ ps h. h.0) params) (s_both (s_second s_place (s_parens params))
+      (s_both locals (s_first (s_first (s_second s_place (s_many equation)) s_place) (s_maybe s_place))))))
       (λ x h. (let eqs = all_of (λ (e : _) (q : IsOwnEquation e). q.range) x.1.1.1.1 h.1.1.1.1 in
       record {
         range = record { name = h.0.0; ins = all_of (λ p q. q.0) x.1.0 h.1.0.1; outs = all_of (λ p q. q.0) x.1.1.0 h.1.1.0.0; some = h.1.1.0.1; locals = all_of (λ p q. q.0) x.1.1.1.0 h.1.1.1.0; eqs = eqs };
@@ -163,9 +163,8 @@ module _ (I : StemTree → List Lexeme → Type 0) (inside : (d : ℕ) → Sure 
         locals = h.1.1.1.0;
         eqs = h.1.1.1.1;
       })) in
-      let actuators : Means 0 (Device fixed.Actuator => actuator) IsOwnDeclared = s_action (device fixed.Actuator) (λ d h p g. (g.0, g.1, (h, g.2), g.3)) in
-      let last : Means 0 Declaration IsOwnDeclared =
-      s_either (s_action imports (λ i h p g. ((h, g.0), g.1, g.2, g.3))) (s_either (s_action (device fixed.Sensor) (λ d h p g. (g.0, (h, g.1), g.2, g.3))) (s_either actuators (s_action nodes (λ n h p g. (g.0, g.1, g.2, (h, g.3)))))) in
+      let last : Means 0 Declaration IsOwnDeclared = s_either (s_action imports (λ i h p g. ((h, g.0), g.1, g.2, g.3))) (s_either (s_action (device fixed.Sensor) (λ d h p g. (g.0, (h, g.1), g.2, g.3)))
+      (s_either (s_action (device fixed.Actuator) (λ d h p g. (g.0, g.1, (h, g.2), g.3))) (s_action nodes (λ n h p g. (g.0, g.1, g.2, (h, g.3)))))) in
       s_action (s_many last) all_own
 
 within_means : (n d : ℕ) → Sure (within programs n) Any d Any d inner (IsOwnStem d)

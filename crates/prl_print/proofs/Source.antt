@@ -1,6 +1,7 @@
 -- What holds of the trees of a grammar's texts, where the tokens are those of a text.
 use Rattle.std.proofs.Common.{◌≡◌, ◌==◌, ◌≤◌, ◌+◌, ◌-◌, ◌&&◌, ℕ, Bool, false, true, cond, not, List, [], ◌∷◌, ◌++◌, Option, length, refl, sym, ap, ◌∙◌, subst, ⊎_elim, leb, arith, append_assoc}
 use Rattle.std.proofs.lemmas.Bool.{cond-true, and_parts, leb-true, not-false}
+use Rattle.std.proofs.lemmas.Bool.Decides.{nat_tests}
 use Rattle.std.specs.List.{AllByRecursion}
 use Rattle.prl_ast.specs.InRange.{IfThere, IsCount}
 use Rattle.prl_grammar.specs.Combinators.{◌⊳◌, ◌⊲◌, maybe, list_of, place, named, number}
@@ -43,10 +44,7 @@ abbrev pub Counting : Bool → ℕ → Type 0
 Counting i c = is_count i c ≡ true
 
 counted : (i : Bool) (c n class : ℕ) → Counting i c → class ≡ 1 → ((class == 1) && not (in_range i c n)) ≡ false → IsCount (small n)
-counted i c n class known is fits =
-    let fit = not-false (in_range i c n) (ap (λ class. (class == 1) && not (in_range i c n)) (sym is) ∙ fits) in
-    let low = leb-true 1 n (and_parts (leb 1 n) (leb n 2147483647) (sym (cond-true (is_count i c) _ _ known) ∙ fit)).0 in
-    (omega (arith, low), omega arith)
+counted i c n class known is fits = let low : 1 ≤ n = grind (arith, nat_tests) in (omega (arith, low), omega arith)
 
 module _ {I : StemTree → List Lexeme → Type 0} where
   pub s_action : {A B : Type 0} {g : Grammar A} {f : A → B} {P : A → Type 0} {Q : B → Type 0} {K J : Bool → ℕ → Type 0} {d e : ℕ} → Sure I K d J e g P → ((a : A) → P a → Q (f a)) → Sure I K d J e (action g f) Q
