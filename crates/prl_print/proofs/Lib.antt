@@ -6,6 +6,5 @@ pub mod Printed
 pub mod PrintedParts
 pub mod Source
 pub mod Meant
-pub mod Limits
 pub mod Printable
 pub mod Fractions

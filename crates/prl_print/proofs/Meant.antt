@@ -1,38 +1,26 @@
 -- What holds of the trees of programs.
-use Rattle.std.proofs.Common.{◌≡◌, ◌≤◌, ◌&&◌, ◌+◌, ℕ, Bool, zero, suc, pos, neg_ℤ, min, leb, false, true, List, [], ◌∷◌, ◌++◌, map, length, Option, Some, None, refl, sym, ap, subst, arith, length-append}
-use Rattle.std.proofs.lemmas.Bool.{and_parts, leb-true}
+use Rattle.std.proofs.Common.{◌≡◌, ◌≤◌, ◌+◌, ℕ, zero, suc, false, true, List, [], ◌∷◌, map, length, Option, Some, None, refl, sym, subst, arith, length-append}
 use Rattle.std.proofs.lemmas.List.{append-nil, length-map}
 use Rattle.std.proofs.lemmas.Int.{ints}
 use Rattle.std.specs.List.{AllByRecursion}
-use Rattle.prl_base.specs.declared.decimals.TheConstants.{MAX_NEGATIVE, MAX_POSITIVE}
-use Rattle.prl_base.specs.declared.values.Ty.{Ty}
-use Rattle.prl_base.specs.declared.values.Value.{Value}
-use Rattle.prl_base.specs.declared.values.Value.TheVariants as values
 use Rattle.prl_base.specs.Values.{FitsValue}
 use Rattle.prl_ast.specs.declared.declarations.Placed.{Placed}
 use Rattle.prl_ast.specs.InRange.{IsCount, IsShift, IsRate, IsDue, IfThere, IsInRange, IsPrefix, IsPostfix, IsRootInRange}
 use Rattle.prl_grammar.specs.Lexemes.{Lexeme}
 use Rattle.prl_grammar.specs.Lexing.{lexemes_of}
-use Rattle.prl_grammar.specs.Productions.{inner, many}
+use Rattle.prl_grammar.specs.Productions.{inner}
 use Rattle.prl_syntax.specs.declared.words.Fixed.{Fixed}
 use Rattle.prl_syntax.specs.declared.parameters.Note.{Note}
 use Rattle.prl_syntax.specs.declared.parameters.Item.{Item}
 use Rattle.prl_syntax.specs.Words.{class_of, program_vocabulary}
-use Rattle.prl_syntax.specs.Values.{small}
-use Rattle.prl_syntax.specs.Trees.{StemTree, joined, param_of, note_or, first_note, params_before, params_of, port_of, root_of_name, trees_from, Declared, actuator, with_declared, program_of}
-use Rattle.prl_grammar.specs.Numbers.{negative}
-use Rattle.prl_grammar.specs.Combinators.{◌=>◌, ◌⊳◌, ◌⊲◌, maybe, number}
-use Rattle.prl_syntax.specs.Grammar.{Grammar, the, Const, Ratio, Postfix, Expr, Exprs, Base, Prefix, AfterConst, Stem, programs, Name, Names, Left, Equation, TypeName, Rate, Due, Note as NoteText, Item as ItemText, Run, Params, EndedRun, Locals, PortGroup, NextGroup, Ports, Wcet, Import, Device, Node, Declaration, Program}
+use Rattle.prl_syntax.specs.Trees.{StemTree, joined, param_of, note_or, first_note, params_of, port_of, root_of_name, trees_from, Declared, with_declared, program_of}
+use Rattle.prl_syntax.specs.Grammar.{Grammar, Const, Ratio, Postfix, Expr, Exprs, Base, Prefix, AfterConst, Stem, programs, Name, Names, Left, Equation, TypeName, Rate, Due, Note as NoteText, Item as ItemText, Run, Params, EndedRun, Locals, PortGroup, NextGroup, Ports, Wcet, Import, Device, Node, Declaration, Program}
 use Rattle.prl_syntax.specs.Parsing.{IsProgramOf}
-use Rattle.prl_syntax.specs.Ranges.{is_count}
 use Rattle.prl_print.proofs.Fractions.{is_shift}
-use Rattle.prl_print.proofs.Limits.{fine}
 use Rattle.prl_print.proofs.Own.{IsOwnName, IsOwnPlaced, IsOwnPort, IsOwnParam, IsOwnImport, IsOwnDevice, all_of, IsFreeRoot, IsOwnTree, AreOwnTrees, IsOwnEquation, IsOwnNode, AreOwn}
-use Rattle.prl_print.proofs.Source.{deeper, Fine, Sure, Any, Counting, s_action, s_both, s_either, s_give, s_many, s_placed, s_deep, s_at, s_place, s_close, s_named, s_number, s_count, s_second, s_first, s_maybe, s_list, s_parens, s_perhaps}
-use Rattle.prl_base.specs.declared.operators.Op.{Op}
+use Rattle.prl_print.proofs.Source.{deeper, Fine, fine, Sure, Any, Counting, s_action, s_both, s_either, s_give, s_many, s_placed, s_deep, s_at, s_place, s_close, s_named, s_number, s_count, s_second, s_first, s_maybe, s_list, s_parens, s_perhaps}
 use Rattle.prl_base.specs.declared.operators.Op.TheVariants as ops
-use Rattle.prl_base.specs.declared.places.Span.{Span}
-use Rattle.prl_ast.specs.Trees.{Tree, Root, group, Trees, none, more, ProgramTree}
+use Rattle.prl_ast.specs.Trees.{Tree, Root, group, Trees, ProgramTree}
 use Rattle.prl_grammar.specs.Language.{within, nested}
 use Rattle.prl_syntax.specs.declared.words.Fixed.TheVariants as fixed
 

@@ -1,15 +1,32 @@
--- What holds of the trees of a grammar's texts, where the tokens are those of a text.
-use Rattle.std.proofs.Common.{◌≡◌, ◌==◌, ◌≤◌, ◌+◌, ◌-◌, ◌&&◌, ℕ, Bool, false, true, cond, not, List, [], ◌∷◌, ◌++◌, Option, length, refl, sym, ap, ◌∙◌, subst, ⊎_elim, leb, arith, append_assoc}
-use Rattle.std.proofs.lemmas.Bool.{cond-true, and_parts, leb-true, not-false}
+-- The tokens of a text are within its limits, and what holds of the trees of a grammar's texts for that.
+use Rattle.std.proofs.Common.{◌≡◌, ◌==◌, ◌≤◌, ◌+◌, ◌-◌, ◌&&◌, ℕ, zero, suc, Bool, true, false, cond, not, leb, codes, List, [], ◌∷◌, length, take, drop, Option, Some, None, Result, Ok, Err, refl, sym, ap, ◌∙◌, subst, ⊎_elim, arith, ◌++◌, append_assoc}
+use Rattle.std.proofs.lemmas.Bool.{cond-false, cond_both, and_parts, leb-true, cases_Bool}
 use Rattle.std.proofs.lemmas.Bool.Decides.{nat_tests}
-use Rattle.std.specs.List.{AllByRecursion}
+use Rattle.std.proofs.lemmas.List.{drop-drop, length-take-le}
+use Rattle.std.proofs.lemmas.Slice.Eq.{bytes_eq-Decides}
+use Rattle.std.specs.List.{list_all, AllByRecursion}
+use Rattle.std.specs.Str.{bytes_eq}
+use Rattle.prl_base.specs.Names.{is_word, IsName}
+use Rattle.prl_base.specs.Reading.{◌>>=◌}
+use Rattle.prl_lex.specs.declared.tokens.Kind.{Kind}
+use Rattle.prl_lex.specs.declared.tokens.Kind.TheVariants.{Word, Number, Symbol}
+use Rattle.prl_lex.specs.declared.tokens.Token.{Token}
+use Rattle.prl_lex.specs.declared.tokens.LexFault.{LexFault}
+use Rattle.prl_lex.specs.declared.pieces.Piece.{Piece}
+use Rattle.prl_lex.specs.declared.pieces.Piece.TheVariants as pieces
+use Rattle.prl_lex.specs.Tokens.{is_number, kind_of, piece_of, FitsPiece}
+use Rattle.prl_lex.specs.Lexing.{token_text, token_at, depth_after, checked, with_piece, tokens_from}
+use Rattle.prl_lex.proofs.Fits.{piece_of_fits}
 use Rattle.prl_ast.specs.InRange.{IfThere, IsCount}
-use Rattle.prl_grammar.specs.Combinators.{◌⊳◌, ◌⊲◌, maybe, list_of, place, named, number}
 use Rattle.prl_grammar.specs.Lexemes.{Lexeme}
+use Rattle.prl_grammar.specs.Lexing.{class_in, symbol_class, word_lexeme, kind_lexeme, lexeme_of, lexemes_of}
+use Rattle.prl_grammar.specs.Ranges.{inside_after, is_fault, out_of_range}
+use Rattle.prl_grammar.specs.Combinators.{◌⊳◌, ◌⊲◌, maybe, list_of, place, named, number}
 use Rattle.prl_grammar.specs.Productions.{token, give, action, both, either, many, placed, written}
-use Rattle.prl_grammar.specs.Ranges.{inside_after, is_fault}
+use Rattle.prl_syntax.specs.declared.words.TheConstants.{KEYWORDS, SYMBOLS}
+use Rattle.prl_syntax.specs.Words.{keyword_of, symbol_of, program_vocabulary}
+use Rattle.prl_syntax.specs.Ranges.{program_ranges, is_count, in_range}
 use Rattle.prl_syntax.specs.Grammar.{Grammar, in_parens, maybe_in_parens}
-use Rattle.prl_syntax.specs.Ranges.{is_count, in_range, program_ranges}
 use Rattle.prl_syntax.specs.Trees.{StemTree}
 use Rattle.prl_syntax.specs.Values.{small}
 use Rattle.prl_print.proofs.Own.{IsOwnName}
@@ -23,6 +40,120 @@ deeper d class = cond (class == 19) (d + 1) (cond (class == 20) (d - 1) d)
 abbrev pub Fine : Bool → ℕ → ℕ → List Lexeme → Type 0
 Fine inside last d [] = d ≤ 64
 Fine inside last d (t ∷ ts) = (d ≤ 64) × (is_fault program_ranges inside last t ≡ false) × (t.class ≡ 0 → IsOwnName t.name) × Fine (inside_after program_ranges inside t.class) t.class (deeper d t.class) ts
+
+-- the classes that are neither a parenthesis nor a name
+abbrev is_flat : ℕ → Bool
+is_flat class = not (class == 19) && (not (class == 20) && not (class == 0))
+
+table_flat : {Row : Type 0} (text : Row → List ℕ) (class : Row → ℕ) (rows : List Row) (p : List ℕ) → list_all (λ row. is_flat (class row)) rows ≡ true → is_flat (symbol_class (class_in text class rows p)) ≡ true
+table_flat text class [] p h = refl
+table_flat text class (row ∷ rows) p h =
+    let parts = and_parts (is_flat (class row)) _ h in
+    cond_both (bytes_eq p (text row)) (Some (class row)) (class_in text class rows p) (λ o. is_flat (symbol_class o) ≡ true) (λ same. parts.0) (λ other. table_flat text class rows p parts.1)
+
+-- what a token does to the depth, and the name that it is
+abbrev Own : ℕ → ℕ → Lexeme → Type 0
+Own d deep k = (deeper d k.class ≡ deep) × (k.class ≡ 0 → IsOwnName k.name)
+
+flat_own : (d : ℕ) (k : Lexeme) → is_flat k.class ≡ true → Own d d k
+flat_own d k h = (grind (arith, nat_tests), λ e. grind (arith, nat_tests))
+
+word_own : (d : ℕ) (p : List ℕ) (t : Token) (o : Option ℕ) → IsName p → keyword_of p ≡ o → Own d d (word_lexeme o p t.span)
+word_own d p t None name key = (refl, λ e. (name, key))
+word_own d p t (Some class) name key = flat_own d (word_lexeme (Some class) p t.span) (ap (λ o. is_flat (symbol_class o)) (sym key) ∙ table_flat (λ row. row.0.now) (λ row. row.1) KEYWORDS p refl)
+
+-- parentheses, and other bytes
+
+by_parenthesis : (P : List ℕ → Type 0) (p : List ℕ) → P (codes "(") → P (codes ")") → (bytes_eq p (codes "(") ≡ false → bytes_eq p (codes ")") ≡ false → P p) → P p
+by_parenthesis P p a b c = ⊎_elim (λ e. subst P (sym ((bytes_eq-Decides p (codes "(")).0 e)) a)
+    (λ n. ⊎_elim (λ e. subst P (sym ((bytes_eq-Decides p (codes ")")).0 e)) b) (λ m. c n m) (cases_Bool (bytes_eq p (codes ")"))))
+    (cases_Bool (bytes_eq p (codes "(")))
+
+same_depth : (depth : ℕ) (p : List ℕ) → bytes_eq p (codes "(") ≡ false → bytes_eq p (codes ")") ≡ false → depth_after depth p ≡ depth
+same_depth depth [] n m = refl
+same_depth depth (a ∷ []) n m = grind (arith, nat_tests)
+same_depth depth (a ∷ b ∷ p) n m = refl
+
+-- a token that is no symbol
+flat_depth : (depth : ℕ) (p : List ℕ) → (kind_of p ≡ Symbol → ⊥) → depth_after depth p ≡ depth
+flat_depth depth p = by_parenthesis (λ q. (kind_of q ≡ Symbol → ⊥) → depth_after depth q ≡ depth) p (λ h. absurd (h refl)) (λ h. absurd (h refl)) (λ n m h. same_depth depth p n m)
+
+symbol_own : (depth : ℕ) (p : List ℕ) (k : Lexeme) → k.class ≡ symbol_class (symbol_of p) → Own depth (depth_after depth p) k
+symbol_own depth p k = by_parenthesis (λ q. k.class ≡ symbol_class (symbol_of q) → Own depth (depth_after depth q) k) p (λ e. (ap (deeper depth) e, λ h. cc (e, h))) (λ e. (ap (deeper depth) e, λ h. cc (e, h)))
+    (λ n m e.
+    let front : class_in (λ row. row.0.now) (λ row. row.1) (drop 2 SYMBOLS) p ≡ symbol_of p = sym (cond-false (bytes_eq p (codes "(")) _ _ n ∙ cond-false (bytes_eq p (codes ")")) _ _ m) in
+    subst (λ d. Own depth d k) (sym (same_depth depth p n m))
+    (flat_own depth k (ap is_flat e ∙ ap (λ o. is_flat (symbol_class o)) (sym front) ∙ table_flat (λ row. row.0.now) (λ row. row.1) (drop 2 SYMBOLS) p refl)))
+
+-- a token of each kind
+
+guard : {A E : Type 0} (b : Bool) (x y : A) (e : E) → cond b (Ok x) (Err e) ≡ Ok y → (b ≡ true) × (x ≡ y)
+guard b x y e h = grind arith
+
+is_word_of : (word number : Bool) → cond word Word (cond number Number Symbol) ≡ Word → word ≡ true
+is_word_of word number e = grind arith
+
+-- a token at the place in a text, which leaves the depth so
+abbrev Owned : List ℕ → ℕ → ℕ → ℕ → List ℕ → Token → Type 0
+Owned text at depth deep p t = (token_text text t ≡ take (length p) (drop at text)) × (deep ≤ 64) × Own depth deep (kind_lexeme program_vocabulary t.kind p t)
+
+owned : (text : List ℕ) (at depth : ℕ) (kind : Kind) (p : List ℕ) (t : Token) → depth ≤ 64 → kind ≡ kind_of p → checked at (depth_after depth p) kind p ≡ Ok t → Owned text at depth (depth_after depth p) p t
+owned text at depth Number p t le k e =
+    let flat = flat_depth depth p (λ s. cc (k, s)) in
+    subst (Owned text at depth (depth_after depth p) p) (guard _ (token_at at Number p) t _ e).1 (subst (λ d. Owned text at depth d p (token_at at Number p)) (sym flat) (refl, le, flat_own depth (kind_lexeme program_vocabulary Number p (token_at at Number p)) refl))
+owned text at depth Word p t le k e =
+    let is = guard (leb (length p) 64) (token_at at Word p) t _ e in
+    let flat = flat_depth depth p (λ s. cc (k, s)) in
+    let own = word_own depth p (token_at at Word p) (keyword_of p) (is_word_of (is_word p) (is_number p) (sym k), leb-true (length p) 64 is.0) refl in
+    subst (Owned text at depth (depth_after depth p) p) is.1 (subst (λ d. Owned text at depth d p (token_at at Word p)) (sym flat) (refl, le, own))
+owned text at depth Symbol p t le k e =
+    let is = guard (leb (depth_after depth p) 64) (token_at at Symbol p) t _ e in
+    subst (Owned text at depth (depth_after depth p) p) is.1 (refl, leb-true (depth_after depth p) 64 is.0, symbol_own depth p (kind_lexeme program_vocabulary Symbol p (token_at at Symbol p)) refl)
+
+-- all tokens of a text
+
+ok_bind : {A B : Type 0} (r : Result A LexFault) (f : A → Result B LexFault) (y : B) → (r >>= f) ≡ Ok y → (x : A) × (r ≡ Ok x) × (f x ≡ Ok y)
+ok_bind (Ok x) f y e = (x, refl, e)
+ok_bind (Err fault) f y e = cc
+
+in_range_too : (b : Bool) (at : ℕ) (o : Option ℕ) → cond b (Some at) o ≡ None → (b ≡ false) × (o ≡ None)
+in_range_too b at o e = grind arith
+
+-- in range, in a rate or not, and after a token of the class
+abbrev AreFine : List ℕ → ℕ → List Token → Type 0
+AreFine text depth ts = (inside : Bool) (last : ℕ) → out_of_range program_ranges inside last (lexemes_of program_vocabulary text ts) ≡ None → Fine inside last depth (lexemes_of program_vocabulary text ts)
+
+piece_fine : (text rest : List ℕ) (at depth : ℕ) (piece : Piece) (read : ℕ → ℕ → Result (List Token) LexFault) (ts : List Token) → rest ≡ drop at text → FitsPiece rest piece → depth ≤ 64
+    → ((deep past : ℕ) (others : List Token) → deep ≤ 64 → read deep past ≡ Ok others → AreFine text deep others) → with_piece at depth rest piece read ≡ Ok ts → AreFine text depth ts
+unfolding out_of_range
+piece_fine text rest at depth pieces.Bad read ts e fits high rec h = cc
+piece_fine text rest at depth (pieces.Gap n) read ts e fits high rec h = rec depth (n - 1) ts high h
+piece_fine text rest at depth (pieces.Token kind n) read ts e fits high rec h =
+    let p : List ℕ = take n rest in
+    let deep : ℕ = depth_after depth p in
+    let first = ok_bind (checked at deep kind p) (λ t. read deep (n - 1) >>= λ others. Ok (t ∷ others)) ts h in
+    let t : Token = first.0 in
+    let later = ok_bind (read deep (n - 1)) (λ others. Ok (t ∷ others)) ts first.2 in
+    let seen : List Lexeme = lexemes_of program_vocabulary text later.0 in
+    let is = owned text at depth kind p t high fits.2 first.1 in
+    let bytes : token_text text t ≡ p = is.0 ∙ ap (λ i. take i (drop at text)) (length-take-le n rest fits.1) ∙ ap (take n) (sym e) in
+    let own : Own depth deep (lexeme_of program_vocabulary text t) = subst (λ b. Own depth deep (kind_lexeme program_vocabulary t.kind b t)) (sym bytes) is.2 in
+    let all : t ∷ later.0 ≡ ts = cc later.2 in
+    subst (AreFine text depth) all (λ inside last none.
+    let k : Lexeme = lexeme_of program_vocabulary text t in
+    let next : Bool = inside_after program_ranges inside k.class in
+    let ranges = in_range_too (is_fault program_ranges inside last k) k.at.at (out_of_range program_ranges next k.class seen) none in
+    (high, ranges.0, own.1, subst (λ d. Fine next k.class d seen) (sym own.0) (rec deep (n - 1) later.0 is.1 later.1 next k.class ranges.1)))
+
+pub fine : (text rest : List ℕ) (at depth past : ℕ) (ts : List Token) → rest ≡ drop at text → depth ≤ 64 → tokens_from at depth past rest ≡ Ok ts → AreFine text depth ts
+unfolding tokens_from
+fine text [] at depth past ts e high h = let same : [] ≡ ts = cc in subst (AreFine text depth) same (λ inside last r. high)
+fine text (b ∷ bs) at depth (suc past) ts e high h = fine text bs (at + 1) depth past ts (ap (drop 1) e ∙ drop-drop 1 at text) high h
+fine text (b ∷ bs) at depth zero ts e high h =
+    piece_fine text (b ∷ bs) at depth (piece_of (b ∷ bs)) (λ deep past. tokens_from (at + 1) deep past bs) ts e (piece_of_fits (b ∷ bs)) high
+    (λ deep past others high. fine text bs (at + 1) deep past others (ap (drop 1) e ∙ drop-drop 1 at text) high) h
+
+-- the trees that stand for such tokens
 
 fine_depth : (inside : Bool) (last d : ℕ) (w : List Lexeme) → Fine inside last d w → d ≤ 64
 fine_depth inside last d [] h = h
