@@ -30,8 +30,7 @@ IsSome xs = 1 ≤ length xs
 abbrev AreSome : {X : Type 0} → (X → Type 0) → List X → Type 0
 AreSome P xs = AllByRecursion P xs × IsSome xs
 
--- lists one after another, the first of which is not empty
-
+-- what holds of lists holds of them joined
 all_joined : {X : Type 0} (P : X → Type 0) (xs : List X) (xss : List (List X)) → AllByRecursion P xs → AllByRecursion (AreSome P) xss → AllByRecursion P (joined (xs ∷ xss))
 all_joined P (x ∷ xs) xss h g = (h.0, all_joined P xs xss h.1 g)
 all_joined P [] (ys ∷ yss) h g = all_joined P ys yss g.0.0 g.1
@@ -39,8 +38,6 @@ all_joined P [] [] h g = tt
 
 some_joined : {X : Type 0} (P : X → Type 0) (xs : List X) (xss : List (List X)) → AreSome P xs → AllByRecursion (AreSome P) xss → AreSome P (joined (xs ∷ xss))
 some_joined P xs xss h g = (all_joined P xs xss h.0 g, omega (arith, length-append xs (joined xss), h.1))
-
--- notes, and the parameters that they belong to
 
 abbrev IsOwnNote : Note → Type 0
 IsOwnNote note = IfThere IsRate note.rate × IfThere IsDue note.due
@@ -61,8 +58,6 @@ own_ports : (ty : _) (ns : List Placed) → AllByRecursion IsOwnPlaced ns → Al
 own_ports ty [] h = tt
 own_ports ty (n ∷ ns) h = (h.0, own_ports ty ns h.1)
 
--- expressions
-
 abbrev IsOwnRoot : ℕ → Root → Type 0
 IsOwnRoot d r = IsRootInRange d r × IsFreeRoot r
 
@@ -77,8 +72,7 @@ named_root : (d : ℕ) (name : List ℕ) (at : _) (args : Option Trees) → IsOw
 named_root d name at None e h = e
 named_root d name at (Some args) e h = ((e.0, h.0, h.1.0), (e.1, h.1.1))
 
--- programs, with one declaration more
-
+-- a program with the declaration more
 abbrev IsOwnDeclared : Declared → Type 0
 IsOwnDeclared d = (p : ProgramTree) → AreOwn p → AreOwn (with_declared d p)
 
@@ -160,16 +154,14 @@ unfolding within programs
 within_means zero d = record { sure = λ i c s w rest known fine h. absurd h }
 within_means (suc n) d = record { sure = (stem_means (within programs n) (within_means n) d).sure }
 
-nested_means : (d : ℕ) → Sure (nested programs) Any d Any d inner (IsOwnStem d)
-unfolding nested
-nested_means d = record { sure = λ i c s w rest known fine h. (within_means h.0 d).sure i c s w rest known fine h.1 }
-
 -- the program of each text
 pub own : (text : List ℕ) (p : ProgramTree) → IsProgramOf text p → AreOwn p
+unfolding nested
 own text p h =
+    let inside : (d : ℕ) → Sure (nested programs) Any d Any d inner (IsOwnStem d) = λ d. record { sure = λ i c s w rest known fine h. (within_means h.0 d).sure i c s w rest known fine h.1 } in
     let w = lexemes_of program_vocabulary text h.read.tokens in
     let limited = fine text text 0 0 0 h.read.tokens refl (omega arith) h.read.lexical false 0 h.read.ranges in
-    ((program_means (nested programs) nested_means).sure false 0 p w [] tt (subst (Fine false 0 0) (sym (append-nil w)) limited) h.read.written).0
+    ((program_means (nested programs) inside).sure false 0 p w [] tt (subst (Fine false 0 0) (sym (append-nil w)) limited) h.read.written).0
 
 pub in_range : (text : List ℕ) (p : ProgramTree) → IsProgramOf text p → IsInRange p
 in_range text p h =

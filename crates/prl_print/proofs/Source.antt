@@ -35,8 +35,7 @@ use Rattle.prl_print.proofs.Own.{IsOwnName}
 abbrev pub deeper : ℕ → ℕ → ℕ
 deeper d class = cond (class == 19) (d + 1) (cond (class == 20) (d - 1) d)
 
--- The tokens, in a rate or not, after a token of the class and so many open parentheses, are in range, and within the limits of names
--- and depth.
+-- the tokens, in a rate or not, after a token of the class and so many open parentheses, are in range, and within the limits of names and depth
 abbrev pub Fine : Bool → ℕ → ℕ → List Lexeme → Type 0
 Fine inside last d [] = d ≤ 64
 Fine inside last d (t ∷ ts) = (d ≤ 64) × (is_fault program_ranges inside last t ≡ false) × (t.class ≡ 0 → IsOwnName t.name) × Fine (inside_after program_ranges inside t.class) t.class (deeper d t.class) ts
@@ -62,8 +61,7 @@ word_own : (d : ℕ) (p : List ℕ) (t : Token) (o : Option ℕ) → IsName p �
 word_own d p t None name key = (refl, λ e. (name, key))
 word_own d p t (Some class) name key = flat_own d (word_lexeme (Some class) p t.span) (ap (λ o. is_flat (symbol_class o)) (sym key) ∙ table_flat (λ row. row.0.now) (λ row. row.1) KEYWORDS p refl)
 
--- parentheses, and other bytes
-
+-- either parenthesis, or other bytes
 by_parenthesis : (P : List ℕ → Type 0) (p : List ℕ) → P (codes "(") → P (codes ")") → (bytes_eq p (codes "(") ≡ false → bytes_eq p (codes ")") ≡ false → P p) → P p
 by_parenthesis P p a b c = ⊎_elim (λ e. subst P (sym ((bytes_eq-Decides p (codes "(")).0 e)) a)
     (λ n. ⊎_elim (λ e. subst P (sym ((bytes_eq-Decides p (codes ")")).0 e)) b) (λ m. c n m) (cases_Bool (bytes_eq p (codes ")"))))
@@ -85,13 +83,8 @@ symbol_own depth p k = by_parenthesis (λ q. k.class ≡ symbol_class (symbol_of
     subst (λ d. Own depth d k) (sym (same_depth depth p n m))
     (flat_own depth k (ap is_flat e ∙ ap (λ o. is_flat (symbol_class o)) (sym front) ∙ table_flat (λ row. row.0.now) (λ row. row.1) (drop 2 SYMBOLS) p refl)))
 
--- a token of each kind
-
 guard : {A E : Type 0} (b : Bool) (x y : A) (e : E) → cond b (Ok x) (Err e) ≡ Ok y → (b ≡ true) × (x ≡ y)
 guard b x y e h = grind arith
-
-is_word_of : (word number : Bool) → cond word Word (cond number Number Symbol) ≡ Word → word ≡ true
-is_word_of word number e = grind arith
 
 -- a token at the place in a text, which leaves the depth so
 abbrev Owned : List ℕ → ℕ → ℕ → ℕ → List ℕ → Token → Type 0
@@ -104,13 +97,12 @@ owned text at depth Number p t le k e =
 owned text at depth Word p t le k e =
     let is = guard (leb (length p) 64) (token_at at Word p) t _ e in
     let flat = flat_depth depth p (λ s. cc (k, s)) in
-    let own = word_own depth p (token_at at Word p) (keyword_of p) (is_word_of (is_word p) (is_number p) (sym k), leb-true (length p) 64 is.0) refl in
+    let word : is_word p ≡ true = grind arith in
+    let own = word_own depth p (token_at at Word p) (keyword_of p) (word, leb-true (length p) 64 is.0) refl in
     subst (Owned text at depth (depth_after depth p) p) is.1 (subst (λ d. Owned text at depth d p (token_at at Word p)) (sym flat) (refl, le, own))
 owned text at depth Symbol p t le k e =
     let is = guard (leb (depth_after depth p) 64) (token_at at Symbol p) t _ e in
     subst (Owned text at depth (depth_after depth p) p) is.1 (refl, leb-true (depth_after depth p) 64 is.0, symbol_own depth p (kind_lexeme program_vocabulary Symbol p (token_at at Symbol p)) refl)
-
--- all tokens of a text
 
 ok_bind : {A B : Type 0} (r : Result A LexFault) (f : A → Result B LexFault) (y : B) → (r >>= f) ≡ Ok y → (x : A) × (r ≡ Ok x) × (f x ≡ Ok y)
 ok_bind (Ok x) f y e = (x, refl, e)
@@ -152,8 +144,6 @@ fine text (b ∷ bs) at depth (suc past) ts e high h = fine text bs (at + 1) dep
 fine text (b ∷ bs) at depth zero ts e high h =
     piece_fine text (b ∷ bs) at depth (piece_of (b ∷ bs)) (λ deep past. tokens_from (at + 1) deep past bs) ts e (piece_of_fits (b ∷ bs)) high
     (λ deep past others high. fine text bs (at + 1) deep past others (ap (drop 1) e ∙ drop-drop 1 at text) high) h
-
--- the trees that stand for such tokens
 
 fine_depth : (inside : Bool) (last d : ℕ) (w : List Lexeme) → Fine inside last d w → d ≤ 64
 fine_depth inside last d [] h = h
@@ -222,8 +212,6 @@ module _ {I : StemTree → List Lexeme → Type 0} where
   -- with the depth, which is within its limit
   pub s_deep : {A : Type 0} {g : Grammar A} {P : A → Type 0} {K J : Bool → ℕ → Type 0} {d e : ℕ} → Sure I K d J e g P → Sure I K d J e g (λ a. (d ≤ 64) × P a)
   s_deep {d = d} one = record { sure = λ i c a w rest known fine y. (let x = one.sure i c a w rest known fine y in ((fine_depth i c d (w ++ rest) fine, x.0), x.1, x.2, x.3, x.4)) }
-
-  -- what is made of these
 
   pub s_at : {K J : Bool → ℕ → Type 0} {d class : ℕ} → ((i : Bool) (c : ℕ) → K i c → J (inside_after program_ranges i class) class) → Sure I K d J (deeper d class) (place class) (λ p. Unit {0})
   s_at next = s_token next (λ i c t known is fits name. tt)
