@@ -5,7 +5,7 @@ use Rattle.std.proofs.lemmas.Int.{ints}
 use Rattle.std.specs.List.{AllByRecursion}
 use Rattle.prl_base.specs.Values.{FitsValue}
 use Rattle.prl_ast.specs.declared.declarations.Placed.{Placed}
-use Rattle.prl_ast.specs.InRange.{IsCount, IsShift, IsRate, IsDue, IfThere, IsInRange, IsPrefix, IsPostfix, IsRootInRange}
+use Rattle.prl_ast.specs.InRange.{IsCount, IsShift, IsRate, IsDue, IfThere, IsInRange, IsParamInRange, IsPrefix, IsPostfix, IsRootInRange, IsEquationInRange}
 use Rattle.prl_grammar.specs.Lexemes.{Lexeme}
 use Rattle.prl_grammar.specs.Lexing.{lexemes_of}
 use Rattle.prl_grammar.specs.Productions.{inner}
@@ -92,20 +92,23 @@ module _ (I : StemTree → List Lexeme → Type 0) (inside : (d : ℕ) → Sure 
   expr_means : (d : ℕ) → Means d Expr (IsOwnTree d)
   unfolding Expr Postfix
   expr_means d =
-      let postfix : Means d Postfix (λ o. IsPostfix o.op) = s_either (s_action (s_both (s_at {J = Counting} (λ i c _. refl)) s_count) (λ x h. h.1)) (s_either (s_action (s_both (s_at {J = Counting} (λ i c _. refl)) s_count) (λ x h. h.1)) (s_action (s_both s_place (ratio_means d)) (λ x h. h.1))) in
+      let postfix : Means d Postfix (λ o. IsPostfix o.op) = s_either (s_action (s_both (s_at {J = Counting} (λ i c _. refl)) s_count) (λ x h. h.1))
+      (s_either (s_action (s_both (s_at {J = Counting} (λ i c _. refl)) s_count) (λ x h. h.1)) (s_action (s_both s_place (ratio_means d)) (λ x h. h.1))) in
       s_action (s_placed (s_both (inside d) (s_many postfix))) (λ x h. ((h.0.0, h.0.1.0, h.1), h.0.1.1))
 
   stem_means : (d : ℕ) → Means d Stem (IsOwnStem d)
   unfolding Exprs Base Prefix Const AfterConst Stem
   stem_means d =
-      let exprs : Means (d + 1) Exprs (λ ts. AreOwnTrees (d + 1) ts × IsOwnRoot d (group ts)) = s_list s_place (s_deep (expr_means (d + 1))) (λ t ts h g. (let all = own_trees (d + 1) (t ∷ ts) (h, g) in (all, ((h.0, all.0.0, all.0.1), all.1)))) in
-      let name : Means d Base (IsOwnRoot d) = s_either (s_action (s_both s_named (s_maybe (s_perhaps (tt, tt) (λ ts h. h.0) exprs))) (λ x h. named_root d x.0.0 x.0.1 x.1 h.0 h.1)) (s_action (s_parens exprs) (λ ts h. h.1)) in
-      let prefix : (f : Fixed) → Sure I Any d Any (deeper d (class_of f)) (Prefix f) (λ p. (op : _) → IsPrefix op → IsOwnStem (deeper d (class_of f)) (p op)) = λ f. s_action (s_both s_place (inside (deeper d (class_of f)))) (λ x h op own. ((own, h.1.0), h.1.1)) in
+      let exprs : Means (d + 1) Exprs (λ ts. AreOwnTrees (d + 1) ts × IsOwnRoot d (group ts)) = s_list s_place (s_deep (expr_means (d + 1)))
+      (λ t ts h g. (let all = own_trees (d + 1) (t ∷ ts) (h, g) in (all, ((h.0, all.0.0, all.0.1), all.1)))) in
+      let base : Means d Base (IsOwnRoot d) = s_either (s_action (s_both s_named (s_maybe (s_perhaps (tt, tt) (λ ts h. h.0) exprs))) (λ x h. named_root d x.0.0 x.0.1 x.1 h.0 h.1)) (s_action (s_parens exprs) (λ ts h. h.1)) in
+      let prefix : (f : Fixed) → Sure I Any d Any (deeper d (class_of f)) (Prefix f) (λ p. (op : _) → IsPrefix op → IsOwnStem (deeper d (class_of f)) (p op)) = λ f.
+      s_action (s_both s_place (inside (deeper d (class_of f)))) (λ x h op own. ((own, h.1.0), h.1.1)) in
       let constant : Means d Const FitsValue = s_either (s_action s_place (λ p _. tt)) (s_either (s_action s_place (λ p _. tt))
       (s_either (s_action (s_second s_place s_number) (λ n _. record { sfits = omega (arith, ints) })) (s_action s_number (λ n _. record { sfits = omega arith })))) in
       let after : Means d AfterConst (λ k. (v : _) → FitsValue v → IsOwnStem d (k v)) =
       s_either (s_action (prefix fixed.Fby) (λ p h v fits. h (ops.Fby v) fits)) (s_either (s_action (prefix fixed.Cons) (λ p h v fits. h (ops.Cons v) fits)) (s_give (λ v fits. (tt, (fits, tt))))) in
-      s_either (s_action name (λ b h. (tt, h))) (s_either (s_action (prefix fixed.Tail) (λ p h. h ops.Tail tt)) (s_action (s_both constant after) (λ x h. h.1 x.0 h.0)))
+      s_either (s_action base (λ b h. (tt, h))) (s_either (s_action (prefix fixed.Tail) (λ p h. h ops.Tail tt)) (s_action (s_both constant after) (λ x h. h.1 x.0 h.0)))
 
   program_means : Means 0 Program AreOwn
   unfolding Name Names Left Equation TypeName Rate Due NoteText ItemText Run Params EndedRun Locals PortGroup NextGroup Ports Wcet Import Device Node Declaration Program
@@ -116,7 +119,8 @@ module _ (I : StemTree → List Lexeme → Type 0) (inside : (d : ℕ) → Sure 
       let equation : Means 0 Equation IsOwnEquation = s_action (s_placed (s_both left (s_first (s_second s_place (expr_means 0)) s_place)))
       (λ x h. record { range = record { lefts = all_of (λ n q. q.0) x.1.0 h.0.0; some = h.0.1; right = h.1.0 }; lefts = h.0.0; right = h.1.1 }) in
       let rate : (d : ℕ) → Means d Rate IsRate = λ d.
-      s_action (s_second (s_at {J = λ i c. i ≡ true} (λ i c _. refl)) (s_second (s_at {J = Counting} (λ i c h. subst (λ j. Counting j 19) (sym h) refl)) (s_first (s_both s_count (s_second s_place (ratio_means (d + 1)))) s_close))) (λ x h. h) in
+      s_action (s_second (s_at {J = λ i c. i ≡ true} (λ i c _. refl)) (s_second (s_at {J = Counting} (λ i c h. subst (λ j. Counting j 19) (sym h) refl))
+      (s_first (s_both s_count (s_second s_place (ratio_means (d + 1)))) s_close))) (λ x h. h) in
       let due : (d : ℕ) → Means d Due IsDue = λ d. s_action (s_second s_place s_number) (λ n _. omega arith) in
       let type : (d : ℕ) → Means d TypeName (λ t. Unit {0}) = λ d. s_either (s_action s_place (λ p _. tt)) (s_action s_place (λ p _. tt)) in
       let note : (d : ℕ) → Means d NoteText IsOwnNote = λ d.
@@ -133,18 +137,13 @@ module _ (I : StemTree → List Lexeme → Type 0) (inside : (d : ℕ) → Sure 
       s_action (s_both (s_second (s_second s_place s_place) s_named) (s_both (s_perhaps tt (λ ps h. h.0) ports) (s_both (s_second s_place (s_parens ports)) (wcet 0))))
       (λ x h. record { range = record { name = h.0.0; ins = all_of (λ p q. q.0) x.1.0 h.1.0.1; outs = all_of (λ p q. q.0) x.1.1.0 h.1.1.0.0; some = h.1.1.0.1; wcet = h.1.1.1 }; name = h.0; ins = h.1.0.1; outs = h.1.1.0.0 }) in
       let device : (f : Fixed) → Sure I Any 0 Any (deeper 0 (class_of f)) (Device f) IsOwnDevice = λ f. s_action (s_both (s_second s_place s_named) (wcet (deeper 0 (class_of f)))) (λ x h. h) in
+      let ranges : (ps : _) → AllByRecursion IsOwnParam ps → AllByRecursion IsParamInRange ps = all_of (λ p q. q.0) in
+      let equations : (es : _) → AllByRecursion IsOwnEquation es → AllByRecursion IsEquationInRange es = all_of (λ e q. q.range) in
       let nodes : Means 0 Node IsOwnNode =
       s_action (s_both (s_second s_place s_named) (s_both (s_perhaps tt (λ ps h. h.0) params) (s_both (s_second s_place (s_parens params))
       (s_both locals (s_first (s_first (s_second s_place (s_many equation)) s_place) (s_maybe s_place))))))
-      (λ x h. (let eqs = all_of (λ (e : _) (q : IsOwnEquation e). q.range) x.1.1.1.1 h.1.1.1.1 in
-      record {
-        range = record { name = h.0.0; ins = all_of (λ p q. q.0) x.1.0 h.1.0.1; outs = all_of (λ p q. q.0) x.1.1.0 h.1.1.0.0; some = h.1.1.0.1; locals = all_of (λ p q. q.0) x.1.1.1.0 h.1.1.1.0; eqs = eqs };
-        name = h.0;
-        ins = h.1.0.1;
-        outs = h.1.1.0.0;
-        locals = h.1.1.1.0;
-        eqs = h.1.1.1.1;
-      })) in
+      (λ x h. (let locals = ranges x.1.1.1.0 h.1.1.1.0 in let eqs = equations x.1.1.1.1 h.1.1.1.1 in
+      record { range = record { name = h.0.0; ins = ranges x.1.0 h.1.0.1; outs = ranges x.1.1.0 h.1.1.0.0; some = h.1.1.0.1; locals = locals; eqs = eqs }; name = h.0; ins = h.1.0.1; outs = h.1.1.0.0; locals = h.1.1.1.0; eqs = h.1.1.1.1 })) in
       let last : Means 0 Declaration IsOwnDeclared = s_either (s_action imports (λ i h p g. ((h, g.0), g.1, g.2, g.3))) (s_either (s_action (device fixed.Sensor) (λ d h p g. (g.0, (h, g.1), g.2, g.3)))
       (s_either (s_action (device fixed.Actuator) (λ d h p g. (g.0, g.1, (h, g.2), g.3))) (s_action nodes (λ n h p g. (g.0, g.1, g.2, (h, g.3)))))) in
       s_action (s_many last) all_own

@@ -14,7 +14,7 @@ use Rattle.prl_lex.specs.declared.tokens.Token.{Token}
 use Rattle.prl_lex.specs.declared.tokens.LexFault.{LexFault}
 use Rattle.prl_lex.specs.declared.pieces.Piece.{Piece}
 use Rattle.prl_lex.specs.declared.pieces.Piece.TheVariants as pieces
-use Rattle.prl_lex.specs.Tokens.{is_number, kind_of, piece_of, FitsPiece}
+use Rattle.prl_lex.specs.Tokens.{kind_of, piece_of, FitsPiece}
 use Rattle.prl_lex.specs.Lexing.{token_text, token_at, depth_after, checked, with_piece, tokens_from}
 use Rattle.prl_lex.proofs.Fits.{piece_of_fits}
 use Rattle.prl_ast.specs.InRange.{IfThere, IsCount}
@@ -25,7 +25,7 @@ use Rattle.prl_grammar.specs.Combinators.{◌⊳◌, ◌⊲◌, maybe, list_of, 
 use Rattle.prl_grammar.specs.Productions.{token, give, action, both, either, many, placed, written}
 use Rattle.prl_syntax.specs.declared.words.TheConstants.{KEYWORDS, SYMBOLS}
 use Rattle.prl_syntax.specs.Words.{keyword_of, symbol_of, program_vocabulary}
-use Rattle.prl_syntax.specs.Ranges.{program_ranges, is_count, in_range}
+use Rattle.prl_syntax.specs.Ranges.{program_ranges, is_count}
 use Rattle.prl_syntax.specs.Grammar.{Grammar, in_parens, maybe_in_parens}
 use Rattle.prl_syntax.specs.Trees.{StemTree}
 use Rattle.prl_syntax.specs.Values.{small}
@@ -93,7 +93,7 @@ Owned text at depth deep p t = (token_text text t ≡ take (length p) (drop at t
 owned : (text : List ℕ) (at depth : ℕ) (kind : Kind) (p : List ℕ) (t : Token) → depth ≤ 64 → kind ≡ kind_of p → checked at (depth_after depth p) kind p ≡ Ok t → Owned text at depth (depth_after depth p) p t
 owned text at depth Number p t le k e =
     let flat = flat_depth depth p (λ s. cc (k, s)) in
-    subst (Owned text at depth (depth_after depth p) p) (guard _ (token_at at Number p) t _ e).1 (subst (λ d. Owned text at depth d p (token_at at Number p)) (sym flat) (refl, le, flat_own depth (kind_lexeme program_vocabulary Number p (token_at at Number p)) refl))
+    subst (Owned text at depth (depth_after depth p) p) (guard _ (token_at at Number p) t _ e).1 (subst (λ d. Owned text at depth d p (token_at at Number p)) (sym flat) (refl, le, (refl, λ h. cc)))
 owned text at depth Word p t le k e =
     let is = guard (leb (length p) 64) (token_at at Word p) t _ e in
     let flat = flat_depth depth p (λ s. cc (k, s)) in
@@ -157,21 +157,19 @@ fine_split inside last d w u v rest e = subst (Fine inside last d) (ap (λ y. y 
 pub record Sure (I : StemTree → List Lexeme → Type 0) (K : Bool → ℕ → Type 0) (d : ℕ) (J : Bool → ℕ → Type 0) (e : ℕ) {A : Type 0} (g : Grammar A) (P : A → Type 0) : Type 0 where
   pub sure : (i : Bool) (c : ℕ) (a : A) (w rest : List Lexeme) → K i c → Fine i c d (w ++ rest) → written I g a w → P a × (j : Bool) × (b : ℕ) × J j b × Fine j b e rest
 
--- nothing is known, and a count may come next
+-- anything may come next, or a count
 abbrev pub Any : Bool → ℕ → Type 0
 Any i c = Unit {0}
 
 abbrev pub Counting : Bool → ℕ → Type 0
 Counting i c = is_count i c ≡ true
 
-counted : (i : Bool) (c n class : ℕ) → Counting i c → class ≡ 1 → ((class == 1) && not (in_range i c n)) ≡ false → IsCount (small n)
-counted i c n class known is fits = let low : 1 ≤ n = grind (arith, nat_tests) in (omega (arith, low), omega arith)
-
 module _ {I : StemTree → List Lexeme → Type 0} where
   pub s_action : {A B : Type 0} {g : Grammar A} {f : A → B} {P : A → Type 0} {Q : B → Type 0} {K J : Bool → ℕ → Type 0} {d e : ℕ} → Sure I K d J e g P → ((a : A) → P a → Q (f a)) → Sure I K d J e (action g f) Q
   s_action {Q = Q} one h = record { sure = λ i c b w rest known fine x. (let y = one.sure i c x.0 w rest known fine x.2 in (subst Q (sym x.1) (h x.0 y.0), y.1, y.2, y.3, y.4)) }
 
-  pub s_both : {A B : Type 0} {g : Grammar A} {h : Grammar B} {P : A → Type 0} {Q : B → Type 0} {K L J : Bool → ℕ → Type 0} {d k e : ℕ} → Sure I K d L k g P → Sure I L k J e h Q → Sure I K d J e (both g h) (λ x. P x.0 × Q x.1)
+  pub s_both : {A B : Type 0} {g : Grammar A} {h : Grammar B} {P : A → Type 0} {Q : B → Type 0} {K L J : Bool → ℕ → Type 0} {d k e : ℕ}
+      → Sure I K d L k g P → Sure I L k J e h Q → Sure I K d J e (both g h) (λ x. P x.0 × Q x.1)
   s_both {d = d} one two = record {
     sure = λ i c x w rest known fine y.
         let a = one.sure i c x.0 y.0 (y.1 ++ rest) known (fine_split i c d w y.0 y.1 rest y.2 fine) y.3 in
@@ -229,7 +227,7 @@ module _ {I : StemTree → List Lexeme → Type 0} where
   s_number = s_token (λ i c known. tt) (λ i c t known is fits name. tt)
 
   pub s_count : {d : ℕ} → Sure I Counting d Any d number (λ n. IsCount (small n))
-  s_count = s_token (λ i c known. tt) (λ i c t known is fits name. counted i c t.number t.class known is fits)
+  s_count = s_token (λ i c known. tt) (λ i c t known is fits name. (let low : 1 ≤ t.number = grind (arith, nat_tests) in (omega (arith, low), omega arith)))
 
   pub s_second : {A S : Type 0} {s : Grammar S} {g : Grammar A} {T : S → Type 0} {P : A → Type 0} {K L J : Bool → ℕ → Type 0} {d k e : ℕ} → Sure I K d L k s T → Sure I L k J e g P → Sure I K d J e (s ⊳ g) P
   s_second one two = s_action (s_both one two) (λ x h. h.1)
