@@ -3,6 +3,7 @@ use Rattle.std.proofs.Common.{◌≡◌, ◌==◌, ◌<◌, ◌≤◌, ◌+◌, 
 use Rattle.std.proofs.lemmas.Bool.{and_from, le-leb, or_parts}
 use Rattle.std.proofs.lemmas.Bool.Decides.{nat_tests}
 use Rattle.std.proofs.lemmas.List.{append-nil, drop-drop}
+use Rattle.std.proofs.lemmas.List.Folds.{flat_map-map}
 use Rattle.std.proofs.Math.Seq.{drop-append_seam}
 use Rattle.std.specs.Char.{is_ascii_digit}
 use Rattle.std.specs.List.{flat_map, AllByRecursion}
@@ -56,9 +57,6 @@ pub p_as : {A B : Type 0} {g : Grammar A} {h : Grammar B} {E : A → Type 0} {F 
     → Prints g E s t a → Prints h F s t a
 p_as f h is one = record { there = λ at. (let x = one.there at in record { tree = f x.tree x.words; same = h x.tree x.words x.same; words = x.words; is = is x.tree x.words x.is; lexes = x.lexes }) }
 
-pub p_weaken : {A : Type 0} {g : Grammar A} {E F : A → Type 0} {s t : State} {a : List ℕ} → Prints g E s t a → ((x : A) → E x → F x) → Prints g F s t a
-p_weaken one h = p_as (λ x w. x) (λ x w. h x) (λ x w i. i) one
-
 pub p_left : {A : Type 0} {g h : Grammar A} {E : A → Type 0} {s t : State} {a : List ℕ} → Prints g E s t a → Prints (either g h) E s t a
 p_left one = p_as (λ x w. x) (λ x w e. e) (λ x w i. inl i) one
 
@@ -109,6 +107,13 @@ p_rest P E F text step each (x ∷ xs) all end = p_bytes (sym (append_assoc (tex
 -- trees that mean the same
 pub p_many : {A B X : Type 0} {g : Grammar A} {s : State} (P : X → Type 0) (of : A → B) (at : X → B) (text : X → List ℕ) → ((x : X) → P x → Prints g (λ a. of a ≡ at x) s s (text x)) → (xs : List X) → AllByRecursion P xs → Prints (many g) (λ trees. map of trees ≡ map at xs) s s (flat_map text xs)
 p_many P of at text each xs all = p_bytes (append-nil (flat_map text xs)) (p_rest P (λ x a. of a ≡ at x) (λ xs ys. map of ys ≡ map at xs) text (λ x xs a ys e f. cc) each xs all (p_none refl))
+
+-- one, and others with a text between
+pub p_row : {A X : Type 0} {g h : Grammar A} {s t : State} (P : X → Type 0) (E : X → A → Type 0) (F : List X → List A → Type 0) (between : List ℕ) (text : X → List ℕ) → F [] [] → ((x : X) (xs : List X) (a : A) (ys : List A) → E x a → F xs ys → F (x ∷ xs) (a ∷ ys))
+    → ((x : X) → P x → Prints g (E x) s t (text x)) → ((x : X) → P x → Prints h (E x) t t (between ++ text x)) → (x : X) (xs : List X) → AllByRecursion P (x ∷ xs) → Prints (both g (many h)) (λ r. F (x ∷ xs) (r.0 ∷ r.1)) s t (text x ++ flat_map (λ other. between ++ other) (map text xs))
+p_row P E F between text nil step first later x xs all =
+    p_bytes (ap (λ t. text x ++ t) (append-nil _ ∙ sym (flat_map-map (λ other. between ++ other) text xs)))
+    (p_as (λ r w. r) (λ r w e. step x xs r.0 r.1 e.0 e.1) (λ r w i. i) (p_both (first x all.0) (p_rest P E F (λ x. between ++ text x) step later xs all.1 (p_none nil))))
 
 -- the same tokens, in other surroundings
 

@@ -3,7 +3,6 @@ use Rattle.std.proofs.Common.{◌≡◌, ◌==◌, ◌≤◌, ◌+◌, ℕ, suc,
 use Rattle.std.proofs.lemmas.Bool.{eqb-true, le-leb}
 use Rattle.std.proofs.lemmas.Grind.{flat_map-append}
 use Rattle.std.proofs.lemmas.List.{append-nil, map-append}
-use Rattle.std.proofs.lemmas.List.Folds.{flat_map-map}
 use Rattle.std.specs.Fmt.{signed_decimal}
 use Rattle.std.specs.List.{flat_map, AllByRecursion}
 use Rattle.prl_base.specs.declared.decimals.TheConstants.{MAX_NEGATIVE, MAX_POSITIVE}
@@ -46,7 +45,7 @@ use Rattle.prl_syntax.specs.Grammar.{Grammar, the, in_parens, maybe_in_parens, C
 use Rattle.prl_print.specs.Places.{nowhere, unplaced_port, unplaced_param, unplaced_device, unplaced_import, unplaced_name, unplaced_operator, unplaced_tree, unplaced_root, unplaced_trees, unplaced_equation, unplaced_node, unplaced}
 use Rattle.prl_print.specs.Printing.{printed_rate, printed_due, part, printed_note, printed_param, printed_params, printed_locals, printed_port, printed_ports, printed_wcet, printed_import, printed_device, separated, name_of, printed_operator, printed_operators, printed_tree, printed_root, printed_trees, printed_others, printed_lefts, printed_equation, printed_node, printed}
 use Rattle.prl_print.proofs.Tokens.{constant, part as a_part, loud, wordy, State, state, state_after, scan_end}
-use Rattle.prl_print.proofs.Printed.{Prints, p_as, p_weaken, p_left, p_right, p_placed, p_action, p_both, p_skip, p_drop, p_give, p_none, p_cons, p_bytes, p_rest, p_many, p_any, p_word, p_blank, p_pad, p_line, p_name, p_keyword, p_number, p_part, p_count, p_open, p_close, p_comma, p_semicolon, p_colon, p_equals, p_slash, p_minus, p_operator}
+use Rattle.prl_print.proofs.Printed.{Prints, p_as, p_left, p_right, p_placed, p_action, p_both, p_skip, p_drop, p_give, p_none, p_cons, p_bytes, p_rest, p_row, p_many, p_any, p_word, p_blank, p_pad, p_line, p_name, p_keyword, p_number, p_part, p_count, p_open, p_close, p_comma, p_semicolon, p_colon, p_equals, p_slash, p_minus, p_operator}
 use Rattle.prl_print.proofs.Fractions.{natural, reads_itself}
 use Rattle.prl_print.proofs.Meant.{IsSome}
 use Rattle.prl_print.proofs.Own.{IsOwnName, IsOwnParam, IsOwnPort, IsOwnImport, IsOwnDevice, IsOwnPlaced, IsFreeTree, IsFreeRoot, AreFreeTrees, IsOwnEquation, IsOwnNode, AreOwn}
@@ -154,12 +153,8 @@ Means u xs ys = map u ys ≡ map u xs
 -- texts of one each, one after another
 groups_print : {X : Type 0} {g h : Grammar (List X)} {s t : State} (P : X → Type 0) (u : X → X) (between : List ℕ) (text : X → List ℕ) → ((x : X) → P x → Prints g (Means u (x ∷ [])) s t (text x)) → ((x : X) → P x → Prints h (Means u (x ∷ [])) t t (between ++ text x)) → (x : X) (xs : List X) → AllByRecursion P (x ∷ xs)
     → Prints (g & many h) (λ r. Means u (x ∷ xs) (r.0 ++ joined r.1)) s t (separated between (map text (x ∷ xs)))
-groups_print {X} P u between text first later x xs all =
-    p_bytes (ap (λ t. text x ++ t) (append-nil _ ∙ sym (flat_map-map (λ other. between ++ other) text xs)))
-    (p_weaken (p_both (first x all.0) (p_rest P (λ x. Means u (x ∷ [])) (λ xs rs. Means u xs (joined rs)) (λ x. between ++ text x) (λ x xs r rs e f. more_joined x xs r rs e f) later xs all.1 (p_none refl))) (λ r e. more_joined x xs r.0 r.1 e.0 e.1))
-  where
-    more_joined : (x : X) (xs r : List X) (rs : List (List X)) → Means u (x ∷ []) r → Means u xs (joined rs) → Means u (x ∷ xs) (r ++ joined rs)
-    more_joined x xs r rs e f = map-append u r (joined rs) ∙ ap (λ ys. ys ++ map u (joined rs)) e ∙ ap (λ ys. u x ∷ ys) f
+groups_print P u between text first later x xs all =
+    p_row P (λ x. Means u (x ∷ [])) (λ xs rs. Means u xs (joined rs)) between text refl (λ x xs r rs e f. map-append u r (joined rs) ∙ ap (λ ys. ys ++ map u (joined rs)) e ∙ ap (λ ys. u x ∷ ys) f) first later x xs all
 
 -- parameters
 
@@ -183,23 +178,18 @@ ended_run : (p : Param) → IsOwnParam p → Prints EndedRun (Means unplaced_par
 unfolding EndedRun
 ended_run p h = p_drop (run_prints (omega arith) p h) p_semicolon
 
--- what stands between may stand after each
-rotated : {X : Type 0} (s : List ℕ) (g : X → List ℕ) (xs : List X) → s ++ flat_map (λ x. g x ++ s) xs ≡ flat_map (λ x. s ++ g x) xs ++ s
-rotated s g [] = append-nil s
-rotated s g (x ∷ xs) = simp append_assoc (ap (λ t. s ++ (g x ++ t)) (rotated s g xs))
+ended_text : {X : Type 0} (f : X → List ℕ) (xs : List X) (z : List ℕ) → codes ";" ++ (flat_map (λ other. codes " " ++ other) (map (λ x. f x ++ codes ";") xs) ++ z) ≡ flat_map (λ other. codes "; " ++ other) (map f xs) ++ (codes ";" ++ z)
+ended_text f [] z = refl
+ended_text f (x ∷ xs) z = simp append_assoc (ap (λ t. codes "; " ++ (f x ++ t)) (ended_text f xs z))
 
-locals_text : (p : Param) (ps : List Param) → separated (codes " ") (map (λ x. printed_param x ++ codes ";") (p ∷ ps)) ++ codes "\n" ≡ printed_params (p ∷ ps) ++ codes ";\n"
-locals_text p ps =
-    let ended : codes ";" ++ flat_map (λ other. codes " " ++ other) (map (λ x. printed_param x ++ codes ";") ps) ≡ flat_map (λ other. codes "; " ++ other) (map printed_param ps) ++ codes ";" =
-    ap (λ t. codes ";" ++ t) (flat_map-map (λ other. codes " " ++ other) (λ x. printed_param x ++ codes ";") ps) ∙ rotated (codes ";") (λ x. 32 ∷ printed_param x) ps ∙ ap (λ t. t ++ codes ";") (sym (flat_map-map (λ other. codes "; " ++ other) printed_param ps)) in
-    ap (λ t. t ++ codes "\n") (append_assoc (printed_param p) (codes ";") _ ∙ ap (λ t. printed_param p ++ t) ended ∙ sym (append_assoc (printed_param p) _ (codes ";")))
-    ∙ append_assoc (printed_params (p ∷ ps)) (codes ";") (codes "\n")
+ended_row : {X : Type 0} (f : X → List ℕ) (x : X) (xs : List X) (z : List ℕ) → separated (codes " ") (map (λ x. f x ++ codes ";") (x ∷ xs)) ++ z ≡ separated (codes "; ") (map f (x ∷ xs)) ++ (codes ";" ++ z)
+ended_row f x xs z = simp append_assoc (ap (λ t. f x ++ t) (ended_text f xs z))
 
 locals_print : (ps : List Param) → AllByRecursion IsOwnParam ps → Prints Locals (Means unplaced_param ps) (plain 0) (plain 0) (printed_locals ps)
 unfolding Locals
 locals_print [] h = p_right (p_give refl)
 locals_print (p ∷ ps) h =
-    p_left (p_bytes (ap (λ t. codes "var " ++ t) (locals_text p ps))
+    p_left (p_bytes (ap (λ t. codes "var " ++ t) (ended_row printed_param p ps (codes "\n")))
     (p_line refl (p_action (p_skip (p_keyword fixed.Var (codes "var") (refl, omega arith) refl refl) (p_pad refl (groups_print IsOwnParam unplaced_param (codes " ") (λ x. printed_param x ++ codes ";") ended_run (λ x own. p_pad refl (ended_run x own)) p ps h))) (λ x e. e))))
 
 -- ports, imports, sensors and actuators
@@ -215,10 +205,12 @@ ports_print : (p : Port) (ps : List Port) → AllByRecursion IsOwnPort (p ∷ ps
 unfolding Ports NextGroup
 ports_print p ps h = p_action (groups_print IsOwnPort unplaced_port (codes "; ") printed_port group_prints (λ x own. p_skip (p_right p_semicolon) (p_pad refl (group_prints x own))) p ps h) (λ x e. e)
 
--- what is taken and what is given, in parentheses, and what stands after them
-signature : {X R : Type 0} {P : X → Type 0} {g : Grammar (List X)} {h : Grammar R} {F : R → Type 0} {more : List ℕ} (u : X → X) (text : List X → List ℕ) → text [] ≡ [] → ((x : X) (xs : List X) → AllByRecursion P (x ∷ xs) → Prints g (Means u (x ∷ xs)) (plain 1) (behind 1) (text (x ∷ xs)))
-    → (ins outs : List X) → AllByRecursion P ins → AllByRecursion P outs → IsSome outs → Prints h F (plain 0) (plain 0) more → Prints (maybe_in_parens [] g & the fixed.Returns ⊳ in_parens g & h) (λ x. Means u ins x.0 × (Means u outs x.1.0 × F x.1.1)) (behind 0) (plain 0) (codes "(" ++ text ins ++ codes ") returns (" ++ text outs ++ codes ")" ++ more)
-signature {X} {P} {g} u text empty each ins outs h k some next = p_bytes (simp append_assoc refl) (p_both (taken ins h) (p_both (p_skip (p_pad refl (p_keyword fixed.Returns (codes "returns") (refl, omega arith) refl refl)) (p_pad refl (given outs k some))) next))
+-- a head: what is taken and what is given, in parentheses, and what stands before and after them
+head_prints : {N X R : Type 0} {P : X → Type 0} {f : Grammar N} {g : Grammar (List X)} {h : Grammar R} {E : N → Type 0} {F : R → Type 0} {front more : List ℕ} (u : X → X) (text : List X → List ℕ) → text [] ≡ [] → ((x : X) (xs : List X) → AllByRecursion P (x ∷ xs) → Prints g (Means u (x ∷ xs)) (plain 1) (behind 1) (text (x ∷ xs)))
+    → (ins outs : List X) → AllByRecursion P ins → AllByRecursion P outs → IsSome outs → Prints f E (plain 0) (behind 0) front → Prints h F (plain 0) (plain 0) more
+    → Prints (f & maybe_in_parens [] g & the fixed.Returns ⊳ in_parens g & h) (λ x. E x.0 × (Means u ins x.1.0 × (Means u outs x.1.1.0 × F x.1.1.1))) (plain 0) (plain 0) (front ++ codes "(" ++ text ins ++ codes ") returns (" ++ text outs ++ codes ")" ++ more)
+head_prints {X} {P} {g} u text empty each ins outs h k some before after =
+    p_bytes (simp append_assoc refl) (p_both before (p_both (taken ins h) (p_both (p_skip (p_pad refl (p_keyword fixed.Returns (codes "returns") (refl, omega arith) refl refl)) (p_pad refl (given outs k some))) after)))
   where
     taken : (xs : List X) → AllByRecursion P xs → Prints (maybe_in_parens [] g) (Means u xs) (behind 0) (plain 0) (codes "(" ++ (text xs ++ codes ")"))
     taken [] h = p_bytes (ap (λ t. codes "(" ++ (t ++ codes ")")) (sym empty)) (nothing_enclosed (omega arith) refl)
@@ -234,16 +226,12 @@ wcet_prints n h =
     p_bytes (simp append_assoc refl)
     (p_line refl (p_action (p_drop (p_skip (p_pad refl (p_keyword fixed.Wcet (codes "wcet") (refl, omega arith) refl refl)) (p_pad refl (p_count n h))) p_semicolon) (λ m e. ap small e ∙ small_is n h.1)))
 
-head_text : (a n l i r o c z : List ℕ) → a ++ n ++ (l ++ i ++ r ++ o ++ c ++ z) ≡ a ++ n ++ l ++ i ++ r ++ o ++ c ++ z
-head_text a n l i r o c z = simp append_assoc
-
 import_prints : (i : Import) → IsOwnImport i → Prints ImportText (λ x. unplaced_import x ≡ unplaced_import i) (plain 0) (plain 0) (printed_import i)
 unfolding ImportText
 import_prints i h =
-    p_bytes (head_text (codes "imported node ") i.name (codes "(") (printed_ports i.ins) (codes ") returns (") (printed_ports i.outs) (codes ")") (printed_wcet i.wcet))
-    (p_action (p_both (p_skip (p_skip (p_keyword fixed.Imported (codes "imported") (refl, omega arith) refl refl) (p_pad refl (p_keyword fixed.Node (codes "node") (refl, omega arith) refl refl))) (p_pad refl (p_name i.name h.name)))
-    (signature unplaced_port printed_ports refl ports_print i.ins i.outs h.ins h.outs h.range.some (p_any (wcet_prints i.wcet h.range.wcet))))
-    (λ x e. cc (e.0, e.1.0, e.1.1.0, e.1.1.1)))
+    p_action (head_prints unplaced_port printed_ports refl ports_print i.ins i.outs h.ins h.outs h.range.some
+    (p_skip (p_skip (p_keyword fixed.Imported (codes "imported") (refl, omega arith) refl refl) (p_pad refl (p_keyword fixed.Node (codes "node") (refl, omega arith) refl refl))) (p_pad refl (p_name i.name h.name))) (p_any (wcet_prints i.wcet h.range.wcet)))
+    (λ x e. cc (e.0, e.1.0, e.1.1.0, e.1.1.1))
 
 device_prints : (f : Fixed) (text : List ℕ) → Prints (the f) (λ p. Unit {0}) (plain 0) (behind 0) text → (d : Device) → IsOwnDevice d → Prints (DeviceText f) (λ x. unplaced_device x ≡ unplaced_device d) (plain 0) (plain 0) (printed_device (text ++ codes " ") d)
 unfolding DeviceText
@@ -334,8 +322,7 @@ mutual
 names_print : {d : ℕ} (n : Placed) (ns : List Placed) → AllByRecursion IsOwnPlaced (n ∷ ns) → Prints Names (λ xs. map unplaced_name xs ≡ map unplaced_name (n ∷ ns)) (plain d) (behind d) (separated (codes ", ") (map name_of (n ∷ ns)))
 unfolding Names
 names_print n ns h =
-    p_bytes (ap (λ t. n.name ++ t) (sym (flat_map-map (λ other. codes ", " ++ other) name_of ns)))
-    (p_action (p_both (name_prints n.name h.0) (p_many IsOwnPlaced unplaced_name unplaced_name (λ y. codes ", " ++ y.name) (λ y own. p_skip p_comma (p_pad refl (p_weaken (name_prints y.name own) (λ x e. cc)))) ns h.1)) (λ x e. cc (e.0, e.1)))
+    p_action (p_row IsOwnPlaced (λ n x. x.name ≡ n.name) (λ ns xs. map unplaced_name xs ≡ map unplaced_name ns) (codes ", ") name_of refl (λ n ns x xs e f. cc) (λ n own. name_prints n.name own) (λ n own. p_skip p_comma (p_pad refl (name_prints n.name own))) n ns h) (λ x e. e)
 
 lefts_print : (ns : List Placed) → AllByRecursion IsOwnPlaced ns → IsSome ns → Prints Left (λ xs. map unplaced_name xs ≡ map unplaced_name ns) (plain 0) (behind 0) (printed_lefts ns)
 unfolding Left
@@ -343,51 +330,34 @@ lefts_print [] h some = absurd (omega arith)
 lefts_print (n ∷ []) h some = p_right (p_action (name_prints n.name h.0) (λ x e. cc))
 lefts_print (n ∷ m ∷ ns) h some = p_left (p_any (p_word (enclosed (omega arith) (names_print n (m ∷ ns) h))))
 
-equation_text : (a l q t e z : List ℕ) → a ++ (l ++ (q ++ (t ++ e))) ++ z ≡ a ++ l ++ q ++ t ++ (e ++ z)
-equation_text a l q t e z = simp append_assoc
-
 equation_prints : (e : EquationTree) → IsOwnEquation e → Prints Equation (λ x. unplaced_equation x ≡ unplaced_equation e) (plain 0) (plain 0) (printed_equation e)
 unfolding Equation
 equation_prints q h =
-    p_bytes (equation_text (codes "  ") (printed_lefts q.lefts) (codes " = ") (printed_tree q.right) (codes ";") (codes "\n"))
+    p_bytes (simp append_assoc refl)
     (p_line refl (p_pad refl (p_pad {q = loud} refl (p_action (p_placed (p_both (lefts_print q.lefts h.lefts h.range.some) (p_drop (p_skip (p_pad refl p_equals) (p_pad refl (tree_prints 0 q.right h.range.right h.right))) p_semicolon))) (λ x e. cc (e.0, e.1))))))
 
 -- nodes
 
-node_text : (a n l i r o c v b e z : List ℕ) → a ++ n ++ (l ++ i ++ r ++ o ++ c ++ (10 ∷ (v ++ (b ++ e ++ z ++ [])))) ≡ (a ++ n ++ l ++ i ++ r ++ o ++ (c ++ 10 ∷ []) ++ v) ++ b ++ e ++ z
-node_text a n l i r o c v b e z = simp (append_assoc, append-nil)
+node_text : (f l i r o c v b e z : List ℕ) → f ++ l ++ i ++ r ++ o ++ c ++ (10 ∷ (v ++ (b ++ e ++ z ++ []))) ≡ (f ++ l ++ i ++ r ++ o ++ (c ++ 10 ∷ []) ++ v) ++ b ++ e ++ z
+node_text f l i r o c v b e z = simp (append_assoc, append-nil)
 
 node_prints : (n : NodeTree) → IsOwnNode n → Prints Node (λ x. unplaced_node x ≡ unplaced_node n) (plain 0) (plain 0) (printed_node n)
 unfolding Node
 node_prints n h =
-    p_bytes (node_text (codes "node ") n.name (codes "(") (printed_params n.ins) (codes ") returns (") (printed_params n.outs) (codes ")") (printed_locals n.locals) (codes "let\n") (flat_map printed_equation n.eqs) (codes "tel\n"))
-    (p_action (p_both (p_skip (p_keyword fixed.Node (codes "node") (refl, omega arith) refl refl) (p_pad refl (p_name n.name h.name))) (signature unplaced_param printed_params refl (params_print (omega arith)) n.ins n.outs h.ins h.outs h.range.some
+    p_bytes (node_text (codes "node " ++ n.name) (codes "(") (printed_params n.ins) (codes ") returns (") (printed_params n.outs) (codes ")") (printed_locals n.locals) (codes "let\n") (flat_map printed_equation n.eqs) (codes "tel\n"))
+    (p_action (head_prints unplaced_param printed_params refl (params_print (omega arith)) n.ins n.outs h.ins h.outs h.range.some (p_skip (p_keyword fixed.Node (codes "node") (refl, omega arith) refl refl) (p_pad refl (p_name n.name h.name)))
     (p_blank 10 (omega arith, refl, refl) (p_both (locals_print n.locals h.locals)
-    (p_drop (p_drop (p_skip (p_line refl (p_keyword fixed.Let (codes "let") (refl, omega arith) refl refl)) (p_many IsOwnEquation unplaced_equation unplaced_equation printed_equation equation_prints n.eqs h.eqs)) (p_line refl (p_keyword fixed.Tel (codes "tel") (refl, omega arith) refl refl))) (p_right (p_give {F = λ o. Unit {0}} tt)))))))
+    (p_drop (p_drop (p_skip (p_line refl (p_keyword fixed.Let (codes "let") (refl, omega arith) refl refl)) (p_many IsOwnEquation unplaced_equation unplaced_equation printed_equation equation_prints n.eqs h.eqs)) (p_line refl (p_keyword fixed.Tel (codes "tel") (refl, omega arith) refl refl))) (p_right (p_give {F = λ o. Unit {0}} tt))))))
     (λ x e. cc (e.0, e.1.0, e.1.1.0, e.1.1.1.0, e.1.1.1.1)))
 
 -- the program: its declarations, one after another
 
-abbrev unplaced_declared : Declared → Declared
-unplaced_declared (imported i) = imported (unplaced_import i)
-unplaced_declared (sensor d) = sensor (unplaced_device d)
-unplaced_declared (actuator d) = actuator (unplaced_device d)
-unplaced_declared (node n) = node (unplaced_node n)
-
-with_unplaced : (d : Declared) (p : ProgramTree) → unplaced (with_declared d p) ≡ with_declared (unplaced_declared d) (unplaced p)
-with_unplaced (imported i) p = refl
-with_unplaced (sensor d) p = refl
-with_unplaced (actuator d) p = refl
-with_unplaced (node n) p = refl
+-- it adds to a program what the other does, places aside
+abbrev Adds : Declared → Declared → Type 0
+Adds x d = (p : ProgramTree) → unplaced (with_declared d p) ≡ with_declared x (unplaced p)
 
 abbrev program_with : List Import → List Device → List Device → List NodeTree → ProgramTree
 program_with imports sensors actuators nodes = record { imports = imports; sensors = sensors; actuators = actuators; nodes = nodes }
-
-one_more : {x : Declared} {p : ProgramTree} (d : Declared) (ds : List Declared) → unplaced_declared d ≡ x → unplaced (program_of ds) ≡ p → unplaced (program_of (d ∷ ds)) ≡ with_declared x p
-one_more {x} d ds e f = with_unplaced d (program_of ds) ∙ ap (λ k. with_declared k (unplaced (program_of ds))) e ∙ ap (with_declared x) f
-
-program_text : (a b c d : List ℕ) → a ++ (b ++ (c ++ (d ++ []))) ≡ a ++ b ++ c ++ d
-program_text a b c d = simp (append_assoc, append-nil)
 
 program_prints : (p : ProgramTree) → AreOwn p → Prints Program (λ x. unplaced x ≡ unplaced p) (plain 0) (plain 0) (printed p)
 unfolding Program Declaration
@@ -395,14 +365,14 @@ program_prints p h =
     let nodes = map unplaced_node p.nodes in
     let actuators = map unplaced_device p.actuators in
     let sensors = map unplaced_device p.sensors in
-    p_bytes (program_text (flat_map printed_import p.imports) _ _ _)
+    p_bytes (simp (append_assoc, append-nil) refl)
     (p_action {E = λ ds. unplaced (program_of ds) ≡ unplaced p}
-    (p_rest IsOwnImport (λ i d. unplaced_declared d ≡ imported (unplaced_import i)) (λ is ds. unplaced (program_of ds) ≡ program_with (map unplaced_import is) sensors actuators nodes) printed_import (λ i is d ds e f. one_more d ds e f) (λ i g. p_left (p_action (import_prints i g) (λ x e. ap imported e))) p.imports h.0
-    (p_rest IsOwnDevice (λ i d. unplaced_declared d ≡ sensor (unplaced_device i)) (λ is ds. unplaced (program_of ds) ≡ program_with [] (map unplaced_device is) actuators nodes) (printed_device (codes "sensor ")) (λ i is d ds e f. one_more d ds e f)
-    (λ d g. p_right (p_left (p_action (device_prints fixed.Sensor (codes "sensor") (p_keyword fixed.Sensor (codes "sensor") (refl, omega arith) refl refl) d g) (λ x e. ap sensor e)))) p.sensors h.1
-    (p_rest IsOwnDevice (λ i d. unplaced_declared d ≡ actuator (unplaced_device i)) (λ is ds. unplaced (program_of ds) ≡ program_with [] [] (map unplaced_device is) nodes) (printed_device (codes "actuator ")) (λ i is d ds e f. one_more d ds e f)
-    (λ d g. p_right (p_right (p_left (p_action (device_prints fixed.Actuator (codes "actuator") (p_keyword fixed.Actuator (codes "actuator") (refl, omega arith) refl refl) d g) (λ x e. ap actuator e))))) p.actuators h.2
-    (p_rest IsOwnNode (λ n d. unplaced_declared d ≡ node (unplaced_node n)) (λ ns ds. unplaced (program_of ds) ≡ program_with [] [] [] (map unplaced_node ns)) printed_node (λ n ns d ds e f. one_more d ds e f) (λ n g. p_right (p_right (p_right (p_action (node_prints n g) (λ x e. ap node e))))) p.nodes h.3
+    (p_rest IsOwnImport (λ i. Adds (imported (unplaced_import i))) (λ is ds. unplaced (program_of ds) ≡ program_with (map unplaced_import is) sensors actuators nodes) printed_import (λ i is d ds e f. e (program_of ds) ∙ ap (with_declared (imported (unplaced_import i))) f) (λ i g. p_left (p_action (import_prints i g) (λ x e p. ap (λ k. with_declared (imported k) (unplaced p)) e))) p.imports h.0
+    (p_rest IsOwnDevice (λ i. Adds (sensor (unplaced_device i))) (λ is ds. unplaced (program_of ds) ≡ program_with [] (map unplaced_device is) actuators nodes) (printed_device (codes "sensor ")) (λ i is d ds e f. e (program_of ds) ∙ ap (with_declared (sensor (unplaced_device i))) f)
+    (λ d g. p_right (p_left (p_action (device_prints fixed.Sensor (codes "sensor") (p_keyword fixed.Sensor (codes "sensor") (refl, omega arith) refl refl) d g) (λ x e p. ap (λ k. with_declared (sensor k) (unplaced p)) e)))) p.sensors h.1
+    (p_rest IsOwnDevice (λ i. Adds (actuator (unplaced_device i))) (λ is ds. unplaced (program_of ds) ≡ program_with [] [] (map unplaced_device is) nodes) (printed_device (codes "actuator ")) (λ i is d ds e f. e (program_of ds) ∙ ap (with_declared (actuator (unplaced_device i))) f)
+    (λ d g. p_right (p_right (p_left (p_action (device_prints fixed.Actuator (codes "actuator") (p_keyword fixed.Actuator (codes "actuator") (refl, omega arith) refl refl) d g) (λ x e p. ap (λ k. with_declared (actuator k) (unplaced p)) e))))) p.actuators h.2
+    (p_rest IsOwnNode (λ n. Adds (node (unplaced_node n))) (λ ns ds. unplaced (program_of ds) ≡ program_with [] [] [] (map unplaced_node ns)) printed_node (λ n ns d ds e f. e (program_of ds) ∙ ap (with_declared (node (unplaced_node n))) f) (λ n g. p_right (p_right (p_right (p_action (node_prints n g) (λ x e p. ap (λ k. with_declared (node k) (unplaced p)) e))))) p.nodes h.3
     (p_none refl)))))
     (λ ds e. e))
 
