@@ -10,18 +10,14 @@ use Rattle.prl_print.specs.Printing.{comma_before, printed_tree, printed_trees, 
 
 others_push : (ts : List Tree) (t : Tree) → printed_others (trees_from (ts ++ t ∷ [])) ≡ printed_others (trees_from ts) ++ (codes ", " ++ printed_tree t)
 others_push [] t = append-nil (codes ", " ++ printed_tree t)
-others_push (s ∷ ts) t = ap (λ bytes. (codes ", " ++ printed_tree s) ++ bytes) (others_push ts t) ∙ sym (append_assoc (codes ", " ++ printed_tree s) (printed_others (trees_from ts)) (codes ", " ++ printed_tree t))
+others_push (s ∷ ts) t = simp (others_push ts t, append_assoc)
 
 comma_later : (n : ℕ) → comma_before (suc n) ≡ codes ", "
 comma_later n = grind (arith, nat_tests)
 
 trees_push : (ts : List Tree) (t : Tree) → printed_trees (trees_from (ts ++ t ∷ [])) ≡ printed_trees (trees_from ts) ++ comma_before (length ts) ++ printed_tree t
 trees_push [] t = append-nil (printed_tree t)
-trees_push (s ∷ ts) t =
-    ap (λ bytes. printed_tree s ++ bytes) (others_push ts t)
-    ∙ sym (append_assoc (printed_tree s) (printed_others (trees_from ts)) (codes ", " ++ printed_tree t))
-    ∙ sym (append_assoc (printed_tree s ++ printed_others (trees_from ts)) (codes ", ") (printed_tree t))
-    ∙ ap (λ bytes. printed_tree s ++ printed_others (trees_from ts) ++ bytes ++ printed_tree t) (sym (comma_later (length ts)))
+trees_push (s ∷ ts) t = simp (others_push ts t, comma_later (length ts), append_assoc)
 
 -- one expression more
 pub enclosed_more : (start text between text' : List ℕ) (xs : List Expr) (i : ℕ) (x : Expr) → i < length xs → x ≡ get_or xs i x
@@ -30,13 +26,8 @@ pub enclosed_more : (start text between text' : List ℕ) (xs : List Expr) (i : 
 enclosed_more start text between text' xs i x lt is e f g =
     let front : List Tree = map tree_of (take i xs) in
     let many : length front ≡ i = length-map (take i xs) tree_of ∙ length-take-le i xs (omega arith) in
-    let longer : take (i + 1) xs ≡ take i xs ++ x ∷ [] = take_more xs i x lt ∙ ap (λ y. take i xs ++ y ∷ []) (sym is) in
-    let trees : map tree_of (take (i + 1) xs) ≡ front ++ tree_of x ∷ [] = ap (map tree_of) longer ∙ map_push tree_of (take i xs) x in
-    let bytes : List ℕ = printed_trees (trees_from front) in
-    g ∙ ap (λ b. b ++ printed_tree (tree_of x)) (f ∙ ap (λ b. b ++ comma_before i) e ∙ append_assoc start bytes (comma_before i))
-    ∙ append_assoc start (bytes ++ comma_before i) (printed_tree (tree_of x))
-    ∙ ap (λ b. start ++ b) (ap (λ n. (bytes ++ comma_before n) ++ printed_tree (tree_of x)) (sym many) ∙ sym (trees_push front (tree_of x)))
-    ∙ ap (λ ts. start ++ printed_trees (trees_from ts)) (sym trees)
+    let trees : map tree_of (take (i + 1) xs) ≡ front ++ tree_of x ∷ [] = ap (map tree_of) (take_more xs i x lt ∙ ap (λ y. take i xs ++ y ∷ []) (sym is)) ∙ map_push tree_of (take i xs) x in
+    simp (g, f, e, trees, trees_push front (tree_of x), many, append_assoc)
 
 -- a text in parentheses is one of the tree's
 pub ok_as : {E : Type 0} (r : Result (Unit {0}) E) (new old a b : List ℕ) → a ≡ b → OnOk r (new ≡ old ++ a) → OnOk r (new ≡ old ++ b)
@@ -50,8 +41,7 @@ ok_behind (Err s) new text old a b e h = tt
 -- texts that are appended one after another
 pub joined_seven : (old a b c d e f g t1 t2 t3 t4 t5 t6 t7 : List ℕ) → t1 ≡ old ++ a → t2 ≡ t1 ++ b → t3 ≡ t2 ++ c → t4 ≡ t3 ++ d → t5 ≡ t4 ++ e → t6 ≡ t5 ++ f → t7 ≡ t6 ++ g
     → t7 ≡ old ++ (a ++ b ++ c ++ d ++ e ++ f ++ g)
-joined_seven old a b c d e f g t1 t2 t3 t4 t5 t6 t7 h1 h2 h3 h4 h5 h6 h7 =
-    h7 ∙ ap (λ t. t ++ g) (h6 ∙ ap (λ t. t ++ f) (h5 ∙ ap (λ t. t ++ e) (h4 ∙ ap (λ t. t ++ d) (h3 ∙ ap (λ t. t ++ c) (h2 ∙ ap (λ t. t ++ b) h1))))) ∙ simp append_assoc
+joined_seven old a b c d e f g t1 t2 t3 t4 t5 t6 t7 h1 h2 h3 h4 h5 h6 h7 = simp (h7, h6, h5, h4, h3, h2, h1, append_assoc)
 
 pub appended_one : {X : Type 0} (f : X → List ℕ) (start text text' : List ℕ) (xs : List X) (i : ℕ) (x : X) → i < length xs → x ≡ get_or xs i x → text ≡ start ++ flat_map f (take i xs) → text' ≡ text ++ f x
     → text' ≡ start ++ flat_map f (take (i + 1) xs)

@@ -1,14 +1,15 @@
 -- Parts of a printed text, which are texts of the grammar wherever they stand in it.
-use Rattle.std.proofs.Common.{◌≡◌, ◌==◌, ◌<◌, ◌≤◌, ◌+◌, ◌^◌, ◌&&◌, ℕ, Bool, true, false, leb, not, codes, decimal, List, [], ◌∷◌, ◌++◌, map, length, drop, Some, None, refl, sym, ap, ◌∙◌, subst, inl, inr, arith, append_assoc, length-append}
-use Rattle.std.proofs.lemmas.Bool.{and_from, le-leb, or_parts}
+use Rattle.std.proofs.Common.{◌≡◌, ◌==◌, ◌<◌, ◌≤◌, ◌+◌, ◌^◌, ◌&&◌, ℕ, Bool, true, false, leb, not, codes, decimal, List, [], ◌∷◌, ◌++◌, map, length, drop, Some, refl, sym, ap, ◌∙◌, subst, inl, inr, arith, append_assoc, length-append}
+use Rattle.std.proofs.lemmas.Bool.{cond-true, and_from, le-leb, or_parts}
 use Rattle.std.proofs.lemmas.Bool.Decides.{nat_tests}
+use Rattle.std.proofs.lemmas.Fmt.{decimal_is_IsNumeral}
 use Rattle.std.proofs.lemmas.List.{append-nil, drop-drop}
 use Rattle.std.proofs.lemmas.List.Folds.{flat_map-map}
 use Rattle.std.proofs.Math.Seq.{drop-append_seam}
 use Rattle.std.specs.Char.{is_ascii_digit}
 use Rattle.std.specs.List.{flat_map, AllByRecursion}
 use Rattle.prl_base.specs.declared.decimals.TheConstants.{MAX_NEGATIVE}
-use Rattle.prl_base.specs.Names.{is_word_start, is_word_byte, IsName}
+use Rattle.prl_base.specs.Names.{is_word_byte, IsName}
 use Rattle.prl_lex.specs.declared.tokens.Kind.{Kind}
 use Rattle.prl_lex.specs.Tokens.{is_blank, is_one_byte_symbol, is_two_byte_symbol}
 use Rattle.prl_lex.specs.Lexing.{depth_after}
@@ -21,7 +22,7 @@ use Rattle.prl_syntax.specs.declared.words.Fixed.{Fixed}
 use Rattle.prl_syntax.specs.declared.words.Fixed.TheVariants as fixed
 use Rattle.prl_syntax.specs.Words.{class_of, keyword_of, symbol_of}
 use Rattle.prl_syntax.specs.Grammar.{Grammar, the, programs}
-use Rattle.prl_print.proofs.Tokens.{constant, part, loud, wordy, State, state, state_after, Scan, scan_as, scan_blank, a_lexeme, IsToken, scan_token, word_token, number_token, goes_on, IsMark, sign_token, operator_token}
+use Rattle.prl_print.proofs.Tokens.{constant, part, loud, wordy, State, state, state_after, Scan, scan_as, scan_blank, a_lexeme, IsToken, scan_token, word_token, digits_token, goes_on, IsMark, symbol_token, one_byte}
 use Rattle.prl_print.proofs.Own.{IsOwnName}
 
 -- the text at the place has these tokens, whatever follows it
@@ -152,22 +153,19 @@ p_name name h = p_action (p_token (word_token name h.0 (λ at. ap (λ o. word_le
 pub p_keyword : {inside : Bool} {r : ℕ → Bool} {d : ℕ} (f : Fixed) (text : List ℕ) → IsName text → keyword_of text ≡ Some (class_of f) → (class_of f == 1) ≡ false → Prints (the f) (λ p. Unit {0}) (state inside r loud d) (state_after inside (class_of f) wordy d) text
 p_keyword {r} f text name key other = p_action (p_token (word_token text name (λ at. ap (λ o. word_lexeme o text (record { at = at; len = length text })) key)) (ap (λ t. t && not (r 0)) other)) (λ t e. tt)
 
-digits : {inside : Bool} {r before : ℕ → Bool} {d : ℕ} (n : ℕ) → n < 2 ^ 64 → r n ≡ true → ((b : ℕ) → is_ascii_digit b ≡ true → before b ≡ false) → Prints number (λ m. m ≡ n) (state inside r before d) (state_after inside 1 wordy d) (decimal n)
-digits n small fit other = p_action (p_token (number_token n small other) (ap not fit)) (λ t e. e.1)
-
-pub p_number : {inside : Bool} {r : ℕ → Bool} {d : ℕ} (n : ℕ) → n < 2 ^ 64 → r n ≡ true → Prints number (λ m. m ≡ n) (state inside r loud d) (state_after inside 1 wordy d) (decimal n)
-p_number n small fit = digits n small fit (λ b h. grind (arith, nat_tests, h))
+pub p_number : {inside : Bool} {r before : ℕ → Bool} {d : ℕ} (n : ℕ) → n < 2 ^ 64 → r n ≡ true → ((b : ℕ) → is_ascii_digit b ≡ true → before b ≡ false) → Prints number (λ m. m ≡ n) (state inside r before d) (state_after inside 1 wordy d) (decimal n)
+p_number n small fit calm = let is = decimal_is_IsNumeral n small in p_action (p_token (digits_token n (decimal n) is.0.1 is.0.0 is.1 small calm) (ap not fit)) (λ t e. e.1)
 
 pub p_part : {inside : Bool} {d : ℕ} (n : ℕ) → n ≤ 2147483647 → Prints number (λ m. m ≡ n) (state inside part loud d) (state_after inside 1 wordy d) (decimal n)
-p_part n le = p_number n (omega arith) (le-leb n 2147483647 le)
+p_part n le = p_number n (omega arith) (le-leb n 2147483647 le) (λ b h. grind (arith, nat_tests, h))
 
 pub p_count : {inside : Bool} {d : ℕ} (n : ℕ) → (1 ≤ n) × (n ≤ 2147483647) → Prints number (λ m. m ≡ n) (state inside (λ n. leb 1 n && leb n 2147483647) loud d) (state_after inside 1 wordy d) (decimal n)
-p_count n h = p_number n (omega (arith, h.1)) (and_from (leb 1 n) (leb n 2147483647) (le-leb 1 n h.0) (le-leb n 2147483647 h.1))
+p_count n h = p_number n (omega (arith, h.1)) (and_from (leb 1 n) (leb n 2147483647) (le-leb 1 n h.0) (le-leb n 2147483647 h.1)) (λ b h. grind (arith, nat_tests, h))
 
 -- a byte that is this symbol, where no such byte comes before it or after it
-p_sign : {inside : Bool} {r before after : ℕ → Bool} {d : ℕ} (e : ℕ) (f : Fixed) (a : ℕ) → IsMark a → (before a ≡ false) × (is_one_byte_symbol a ≡ true) × (symbol_of (a ∷ []) ≡ Some (class_of f)) × ((class_of f == 1) ≡ false)
+pub p_sign : {inside : Bool} {r before after : ℕ → Bool} {d : ℕ} (e : ℕ) (f : Fixed) (a : ℕ) → IsMark a → (before a ≡ false) × (is_one_byte_symbol a ≡ true) × (symbol_of (a ∷ []) ≡ Some (class_of f)) × ((class_of f == 1) ≡ false)
     → ((b : ℕ) → after b ≡ false → goes_on a b ≡ false) → depth_after d (a ∷ []) ≡ e → (e ≤ 64 → d ≤ 64) → Prints (the f) (λ p. Unit {0}) (state inside r before d) (state_after inside (class_of f) after e) (a ∷ [])
-p_sign {r} e f a mark is after down low = p_action (p_token (sign_token a mark is.0 is.1 after is.2 down low) (ap (λ t. t && not (r 0)) is.3)) (λ t e. tt)
+p_sign {r} e f a mark is after down low = p_action (p_token (symbol_token a [] mark tt is.0 (one_byte a is.1 after) is.2 down low) (ap (λ t. t && not (r 0)) is.3)) (λ t e. tt)
 
 pub p_open : {inside : Bool} {r : ℕ → Bool} {d : ℕ} → Prints (the fixed.Open) (λ p. Unit {0}) (state inside r wordy d) (state_after inside 19 loud (d + 1)) (codes "(")
 p_open {d} = p_sign (d + 1) fixed.Open 40 (refl, refl, refl, omega arith) (refl, refl, refl, refl) (λ b h. (or_parts (b == 42) (b == 94) h).0) refl (λ le. omega (arith, le))
@@ -184,16 +182,10 @@ p_semicolon {d} = p_sign d fixed.Semicolon 59 (refl, refl, refl, omega arith) (r
 pub p_colon : {inside : Bool} {r : ℕ → Bool} {d : ℕ} → Prints (the fixed.Colon) (λ p. Unit {0}) (state inside r wordy d) (state_after inside 23 (goes_on 58) d) (codes ":")
 p_colon {d} = p_sign d fixed.Colon 58 (refl, refl, refl, omega arith) (refl, refl, refl, refl) (λ b h. h) refl (λ le. le)
 
-pub p_equals : {inside : Bool} {r : ℕ → Bool} {d : ℕ} → Prints (the fixed.Equals) (λ p. Unit {0}) (state inside r wordy d) (state_after inside 25 loud d) (codes "=")
-p_equals {d} = p_sign d fixed.Equals 61 (refl, refl, refl, omega arith) (refl, refl, refl, refl) (λ b h. refl) refl (λ le. le)
-
-pub p_slash : {inside : Bool} {r : ℕ → Bool} {d : ℕ} → Prints (the fixed.Slash) (λ p. Unit {0}) (state inside r wordy d) (state_after inside 27 loud d) (codes "/")
-p_slash {d} = p_sign d fixed.Slash 47 (refl, refl, refl, omega arith) (refl, refl, refl, refl) (λ b h. grind (arith, nat_tests, h)) refl (λ le. le)
-
 pub p_minus : {d : ℕ} (n : ℕ) → n ≤ MAX_NEGATIVE → Prints (the fixed.Minus ⊳ number) (λ m. m ≡ n) (state false constant loud d) (state false constant wordy d) (codes "-" ++ decimal n)
-p_minus {d} n le = p_skip (p_sign {after = goes_on 45} d fixed.Minus 45 (refl, refl, refl, omega arith) (refl, refl, refl, refl) (λ b h. h) refl (λ le. le)) (digits n (omega arith) (le-leb n MAX_NEGATIVE le) (λ b h. grind (arith, nat_tests, h)))
+p_minus {d} n le = p_skip (p_sign {after = goes_on 45} d fixed.Minus 45 (refl, refl, refl, omega arith) (refl, refl, refl, refl) (λ b h. h) refl (λ le. le)) (p_number n (omega arith) (le-leb n MAX_NEGATIVE le) (λ b h. grind (arith, nat_tests, h)))
 
 -- a symbol of two bytes
 pub p_operator : {inside : Bool} {r : ℕ → Bool} {d : ℕ} (f : Fixed) (a b : ℕ) → IsMark a → (b < 256) × (((a == 45) && (b == 45)) ≡ false) × (((a == 40) && (b == 42)) ≡ false) × (is_two_byte_symbol a b ≡ true) → (symbol_of (a ∷ b ∷ []) ≡ Some (class_of f)) × ((class_of f == 1) ≡ false)
     → Prints (the f) (λ p. Unit {0}) (state inside r (λ b. false) d) (state_after inside (class_of f) loud d) (a ∷ b ∷ [])
-p_operator {r} f a b mark two is = p_action (p_token (operator_token a b mark refl two is.0) (ap (λ t. t && not (r 0)) is.1)) (λ t e. tt)
+p_operator {r} f a b mark two is = p_action (p_token (symbol_token a (b ∷ []) mark (two.0, tt) refl (λ rest stops. (two.1, two.2, cond-true (is_two_byte_symbol a b) _ _ two.3)) is.0 refl (λ le. le)) (ap (λ t. t && not (r 0)) is.1)) (λ t e. tt)

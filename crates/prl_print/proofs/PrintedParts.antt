@@ -1,6 +1,7 @@
 -- The printed parts of programs are texts of the grammar.
 use Rattle.std.proofs.Common.{◌≡◌, ◌==◌, ◌≤◌, ◌+◌, ℕ, suc, pos, negsuc, neg_ℤ, nat_abs, min, Bool, true, false, cond, codes, decimal, List, [], ◌∷◌, ◌++◌, length, map, Option, Some, None, refl, sym, ap, ◌∙◌, subst, arith, append_assoc}
 use Rattle.std.proofs.lemmas.Bool.{eqb-true, le-leb}
+use Rattle.std.proofs.lemmas.Bool.Decides.{nat_tests}
 use Rattle.std.proofs.lemmas.Grind.{flat_map-append}
 use Rattle.std.proofs.lemmas.List.{append-nil, map-append}
 use Rattle.std.specs.Fmt.{signed_decimal}
@@ -8,7 +9,6 @@ use Rattle.std.specs.List.{flat_map, AllByRecursion}
 use Rattle.prl_base.specs.declared.decimals.TheConstants.{MAX_NEGATIVE, MAX_POSITIVE}
 use Rattle.prl_base.specs.declared.operators.Op.{Op}
 use Rattle.prl_base.specs.declared.operators.Op.TheVariants as ops
-use Rattle.prl_base.specs.declared.places.Span.{Span}
 use Rattle.prl_base.specs.declared.values.Ty.{Ty}
 use Rattle.prl_base.specs.declared.values.Ty.TheVariants as types
 use Rattle.prl_base.specs.declared.values.Value.{Value}
@@ -30,7 +30,7 @@ use Rattle.prl_grammar.specs.Combinators.{◌⊳◌, ◌&◌, maybe, list_of, nu
 use Rattle.prl_grammar.specs.Language.{Text}
 use Rattle.prl_grammar.specs.Lexemes.{Lexeme}
 use Rattle.prl_grammar.specs.Numbers.{positive, negative}
-use Rattle.prl_grammar.specs.Productions.{both, many, inner}
+use Rattle.prl_grammar.specs.Productions.{many, inner}
 use Rattle.prl_grammar.specs.Ranges.{out_of_range}
 use Rattle.prl_grammar.specs.Texts.{IsTextOf}
 use Rattle.prl_grammar.proofs.Growing.{to_nested}
@@ -40,12 +40,12 @@ use Rattle.prl_syntax.specs.declared.notes.Note.{Note}
 use Rattle.prl_syntax.specs.Parsing.{program_texts}
 use Rattle.prl_syntax.specs.Ranges.{in_range, program_ranges}
 use Rattle.prl_syntax.specs.Values.{small, ratio_with, ratio_of}
-use Rattle.prl_syntax.specs.Trees.{joined, param_of, note_or, params_of, port_of, StemTree, prefixed, tree_from, root_of_name, trees_from, Declared, imported, sensor, actuator, node, with_declared, program_of}
+use Rattle.prl_syntax.specs.Trees.{joined, param_of, note_or, params_of, port_of, StemTree, prefixed, root_of_name, trees_from, Declared, imported, sensor, actuator, node, with_declared, program_of}
 use Rattle.prl_syntax.specs.Grammar.{Grammar, the, in_parens, maybe_in_parens, Const, Ratio, Name, Names, TypeName, Rate as RateText, Due, Note as NoteText, Item as ItemText, Run, Params, EndedRun, Locals, PortGroup, NextGroup, Ports, Wcet, Import as ImportText, Device as DeviceText, programs, Postfix, Expr, Exprs, Base, Prefix, AfterConst, Stem, Left, Equation, Node, Declaration, Program}
 use Rattle.prl_print.specs.Places.{nowhere, unplaced_port, unplaced_param, unplaced_device, unplaced_import, unplaced_name, unplaced_operator, unplaced_tree, unplaced_root, unplaced_trees, unplaced_equation, unplaced_node, unplaced}
-use Rattle.prl_print.specs.Printing.{printed_rate, printed_due, part, printed_note, printed_param, printed_params, printed_locals, printed_port, printed_ports, printed_wcet, printed_import, printed_device, separated, name_of, printed_operator, printed_operators, printed_tree, printed_root, printed_trees, printed_others, printed_lefts, printed_equation, printed_node, printed}
+use Rattle.prl_print.specs.Printing.{printed_rate, printed_due, part, printed_note, printed_param, printed_params, printed_locals, printed_port, printed_ports, printed_wcet, printed_import, printed_device, separated, name_of, printed_operator, printed_operators, printed_tree, printed_root, printed_others, printed_lefts, printed_equation, printed_node, printed}
 use Rattle.prl_print.proofs.Tokens.{constant, part as a_part, loud, wordy, State, state, state_after, scan_end}
-use Rattle.prl_print.proofs.Printed.{Prints, p_as, p_left, p_right, p_placed, p_action, p_both, p_skip, p_drop, p_give, p_none, p_cons, p_bytes, p_rest, p_row, p_many, p_any, p_word, p_blank, p_pad, p_line, p_name, p_keyword, p_number, p_part, p_count, p_open, p_close, p_comma, p_semicolon, p_colon, p_equals, p_slash, p_minus, p_operator}
+use Rattle.prl_print.proofs.Printed.{Prints, p_as, p_left, p_right, p_placed, p_action, p_both, p_skip, p_drop, p_give, p_none, p_cons, p_bytes, p_rest, p_row, p_many, p_any, p_word, p_blank, p_pad, p_line, p_name, p_keyword, p_number, p_part, p_count, p_open, p_close, p_comma, p_semicolon, p_sign, p_colon, p_minus, p_operator}
 use Rattle.prl_print.proofs.Fractions.{natural, reads_itself}
 use Rattle.prl_print.proofs.Meant.{IsSome}
 use Rattle.prl_print.proofs.Own.{IsOwnName, IsOwnParam, IsOwnPort, IsOwnImport, IsOwnDevice, IsOwnPlaced, IsFreeTree, IsFreeRoot, AreFreeTrees, IsOwnEquation, IsOwnNode, AreOwn}
@@ -64,19 +64,15 @@ small_is n h = omega arith
 
 value_prints : {d : ℕ} (v : Value) → FitsValue v → Prints Const (λ x. x ≡ v) (plain d) (behind d) (value_text v)
 unfolding Const
-value_prints (values.Int (pos n)) h =
-    let most : min n MAX_POSITIVE ≡ n = omega (arith, h.sfits) in
-    p_right (p_right (p_right (p_action (p_number n (omega (arith, h.sfits)) (le-leb n MAX_POSITIVE (omega (arith, h.sfits)))) (λ m e. ap positive e ∙ ap (λ k. values.Int (pos k)) most))))
-value_prints (values.Int (negsuc n)) h =
-    let most : min (suc n) MAX_NEGATIVE ≡ suc n = omega (arith, h.sfits) in
-    p_right (p_right (p_left (p_action (p_minus (suc n) (omega (arith, h.sfits))) (λ m e. ap negative e ∙ ap (λ k. values.Int (neg_ℤ (pos k))) most))))
+value_prints (values.Int (pos n)) h = p_right (p_right (p_right (p_action (p_number n (omega (arith, h.sfits)) (le-leb n MAX_POSITIVE (omega (arith, h.sfits))) (λ b h. grind (arith, nat_tests, h))) (λ m e. ap positive e ∙ ap (λ k. values.Int (pos k)) {x = min n MAX_POSITIVE} {y = n} (omega (arith, h.sfits))))))
+value_prints (values.Int (negsuc n)) h = p_right (p_right (p_left (p_action (p_minus (suc n) (omega (arith, h.sfits))) (λ m e. ap negative e ∙ ap (λ k. values.Int (neg_ℤ (pos k))) {x = min (suc n) MAX_NEGATIVE} {y = suc n} (omega (arith, h.sfits))))))
 value_prints (values.Bool true) h = p_left (p_action (p_keyword fixed.True (codes "true") (refl, omega arith) refl refl) (λ p _. refl))
 value_prints (values.Bool false) h = p_right (p_left (p_action (p_keyword fixed.False (codes "false") (refl, omega arith) refl refl) (λ p _. refl)))
 
 denominator_prints : {i : Bool} {d : ℕ} (q : Fraction) → IsShift q → (b : Bool) → (q.den == 1) ≡ b
     → Prints (maybe (the fixed.Slash ⊳ number)) (λ o. ratio_with (nat_abs q.num) o ≡ q) (state i (in_range i 1) wordy d) (state i (in_range i 1) wordy d) (cond b [] (codes "/" ++ decimal q.den))
 denominator_prints q h true e = p_right (p_give (ap (ratio_of (nat_abs q.num)) (sym (eqb-true q.den 1 e)) ∙ reads_itself q h))
-denominator_prints q h false e = p_left (p_action (p_skip p_slash (p_count q.den (h.0.positive, h.0.den))) (λ a f. ap (ratio_of (nat_abs q.num)) f ∙ reads_itself q h))
+denominator_prints q h false e = p_left (p_action (p_skip (p_sign _ fixed.Slash 47 (refl, refl, refl, omega arith) (refl, refl, refl, refl) (λ b h. grind (arith, nat_tests, h)) refl (λ le. le)) (p_count q.den (h.0.positive, h.0.den))) (λ a f. ap (ratio_of (nat_abs q.num)) f ∙ reads_itself q h))
 
 ratio_prints : {i : Bool} {d : ℕ} (q : Fraction) → IsShift q → Prints Ratio (λ x. x ≡ q) (state i a_part loud d) (state i (in_range i 1) wordy d) (fraction_text q)
 unfolding Ratio
@@ -93,9 +89,6 @@ type_prints types.Bool = p_right (p_action (p_keyword fixed.Bool (codes "bool") 
 enclosed : {A : Type 0} {i j : Bool} {r q : ℕ → Bool} {d : ℕ} {text : List ℕ} {E : A → Type 0} {g : Grammar A} → d + 1 ≤ 64 → Prints g E (state_after i 19 loud (d + 1)) (state j q wordy (d + 1)) text → Prints (in_parens g) E (state i r wordy d) (state_after j 20 loud d) (codes "(" ++ (text ++ codes ")"))
 enclosed le one = p_skip p_open (p_drop one (p_close le))
 
-abbrev rate_with : ℕ → Fraction → Rate
-rate_with period phase = record { period = period; phase = phase }
-
 rate_text : (a b c e f : List ℕ) → a ++ ((b ++ (c ++ e)) ++ f) ≡ a ++ b ++ c ++ e ++ f
 rate_text a b c e f = simp append_assoc
 
@@ -103,7 +96,7 @@ rate_prints : {d : ℕ} → d + 1 ≤ 64 → (r : Rate) → IsRate r → Prints 
 unfolding RateText
 rate_prints le r h =
     p_bytes (rate_text (codes "rate (") (decimal r.period) (codes ", ") (fraction_text r.phase) (codes ")"))
-    (p_word (p_action (p_skip (p_keyword fixed.Rate (codes "rate") (refl, omega arith) refl refl) (p_pad refl (enclosed le (p_both (p_count r.period h.0) (p_skip p_comma (p_pad refl (ratio_prints r.phase h.1))))))) (λ x e. ap (λ n. rate_with n x.1) (ap small e.0 ∙ small_is r.period h.0.1) ∙ ap (rate_with r.period) e.1)))
+    (p_word (p_action {F = λ x. x ≡ record { period = r.period; phase = r.phase }} (p_skip (p_keyword fixed.Rate (codes "rate") (refl, omega arith) refl refl) (p_pad refl (enclosed le (p_both (p_count r.period h.0) (p_skip p_comma (p_pad refl (ratio_prints r.phase h.1))))))) (λ x e. cc (small_is r.period h.0.1, e.0, e.1))))
 
 due_prints : {d : ℕ} (due : ℕ) → IsDue due → Prints Due (λ x. x ≡ due) (plain d) (behind d) (printed_due due)
 unfolding Due
@@ -115,25 +108,22 @@ later_part : {X : Type 0} {d : ℕ} {g : Grammar X} (P : X → Type 0) (show : X
 later_part P show each None h = p_right (p_give refl)
 later_part P show each (Some x) h = p_left (p_action (p_bytes (sym (append-nil (codes " " ++ show x))) (p_pad refl (each x h))) (λ y e. ap Some e))
 
-abbrev note_with : Option Ty → Option Rate → Option ℕ → Note
-note_with ty rate due = record { ty = ty; rate = rate; due = due }
-
 -- a note, or none, gives a parameter what is printed
 abbrev IsNote : Option Ty → Option Rate → Option ℕ → Option Note → Type 0
 IsNote ty rate due o = (n : Placed) → param_of n (note_or o None) ≡ record { name = n.name; ty = ty; rate = rate; due = due; at = n.at }
 
-colon_note : {d : ℕ} (ty : Option Ty) (rate : Option Rate) (due : Option ℕ) (text : List ℕ) → Prints NoteText (λ x. x ≡ note_with ty rate due) (plain d) (behind d) text → Prints (maybe (the fixed.Colon ⊳ NoteText)) (IsNote ty rate due) (behind d) (behind d) (codes ": " ++ text)
-colon_note ty rate due text note = p_left (p_action (p_skip p_colon (p_pad refl note)) (λ a e n. ap (λ x. param_of n (Some x)) e))
+colon_note : {d : ℕ} (ty : Option Ty) (rate : Option Rate) (due : Option ℕ) (text : List ℕ) → Prints NoteText (λ x. IsNote ty rate due (Some x)) (plain d) (behind d) text → Prints (maybe (the fixed.Colon ⊳ NoteText)) (IsNote ty rate due) (behind d) (behind d) (codes ": " ++ text)
+colon_note ty rate due text note = p_left (p_action (p_skip p_colon (p_pad refl note)) (λ a e. e))
 
 note_prints : {d : ℕ} → d + 1 ≤ 64 → (ty : Option Ty) (rate : Option Rate) (due : Option ℕ) → IfThere IsRate rate → IfThere IsDue due
     → Prints (maybe (the fixed.Colon ⊳ NoteText)) (IsNote ty rate due) (behind d) (behind d) (printed_note (part type_text ty ++ part printed_rate rate ++ part printed_due due))
 unfolding NoteText
 note_prints le None None None r u = p_right (p_give (λ n. refl))
-note_prints le None None (Some due) r u = colon_note None None (Some due) _ (p_left (p_action (p_bytes (sym (append-nil (printed_due due))) (due_prints due u)) (λ d e. cc)))
-note_prints le None (Some rate) due r u = colon_note None (Some rate) due _ (p_right (p_left (p_action (p_both (rate_prints le rate r) (later_part IsDue printed_due due_prints due u)) (λ x e. cc (e.0, e.1)))))
+note_prints le None None (Some due) r u = colon_note None None (Some due) _ (p_left (p_action (p_bytes (sym (append-nil (printed_due due))) (due_prints due u)) (λ d e n. cc)))
+note_prints le None (Some rate) due r u = colon_note None (Some rate) due _ (p_right (p_left (p_action (p_both (rate_prints le rate r) (later_part IsDue printed_due due_prints due u)) (λ x e n. cc (e.0, e.1)))))
 note_prints le (Some ty) rate due r u =
     colon_note (Some ty) rate due _ (p_right (p_right (p_bytes (ap (λ t. type_text ty ++ t) (sym (flat_map-append (λ other. codes " " ++ other) (part printed_rate rate) (part printed_due due))))
-    (p_action (p_both (type_prints ty) (p_both (later_part IsRate printed_rate (rate_prints le) rate r) (later_part IsDue printed_due due_prints due u))) (λ x e. cc (e.0, e.1.0, e.1.1))))))
+    (p_action (p_both (type_prints ty) (p_both (later_part IsRate printed_rate (rate_prints le) rate r) (later_part IsDue printed_due due_prints due u))) (λ x e n. cc (e.0, e.1.0, e.1.1))))))
 
 -- lists
 
@@ -178,12 +168,9 @@ ended_run : (p : Param) → IsOwnParam p → Prints EndedRun (Means unplaced_par
 unfolding EndedRun
 ended_run p h = p_drop (run_prints (omega arith) p h) p_semicolon
 
-ended_text : {X : Type 0} (f : X → List ℕ) (xs : List X) (z : List ℕ) → codes ";" ++ (flat_map (λ other. codes " " ++ other) (map (λ x. f x ++ codes ";") xs) ++ z) ≡ flat_map (λ other. codes "; " ++ other) (map f xs) ++ (codes ";" ++ z)
-ended_text f [] z = refl
-ended_text f (x ∷ xs) z = simp append_assoc (ap (λ t. codes "; " ++ (f x ++ t)) (ended_text f xs z))
-
-ended_row : {X : Type 0} (f : X → List ℕ) (x : X) (xs : List X) (z : List ℕ) → separated (codes " ") (map (λ x. f x ++ codes ";") (x ∷ xs)) ++ z ≡ separated (codes "; ") (map f (x ∷ xs)) ++ (codes ";" ++ z)
-ended_row f x xs z = simp append_assoc (ap (λ t. f x ++ t) (ended_text f xs z))
+ended_row : {X : Type 0} (f : X → List ℕ) (x : X) (xs : List X) (z : List ℕ) → separated (codes " ") (map (λ y. f y ++ codes ";") (x ∷ xs)) ++ z ≡ separated (codes "; ") (map f (x ∷ xs)) ++ (codes ";" ++ z)
+ended_row f x [] z = simp (append_assoc, append-nil)
+ended_row f x (y ∷ ys) z = append_assoc (f x ++ codes ";") _ z ∙ append_assoc (f x) (codes ";") _ ∙ ap (λ t. f x ++ (codes "; " ++ t)) (ended_row f y ys z) ∙ sym (append_assoc (f x) _ (codes ";" ++ z))
 
 locals_print : (ps : List Param) → AllByRecursion IsOwnParam ps → Prints Locals (Means unplaced_param ps) (plain 0) (plain 0) (printed_locals ps)
 unfolding Locals
@@ -295,7 +282,7 @@ exprs_print {t} {ts} first others = p_action {E = λ xs. unplaced_trees (trees_f
 
 application : {d : ℕ} {text : List ℕ} {args : Trees} (name : List ℕ) → IsOwnName name → Prints (maybe_in_parens none Exprs) (λ x. unplaced_trees x ≡ args) (behind d) (plain d) text → Prints Stem (IsStem ([], apply name nowhere args)) (plain d) (behind d) (name ++ text)
 unfolding Base
-application {args} name h list = base_stem (p_left (p_word (p_action (p_both (p_name name h) (p_left (p_action {F = λ o. (n : List ℕ × Span) → unplaced_root (root_of_name n o) ≡ apply n.0 nowhere args} list (λ xs f n. ap (apply n.0 nowhere) f)))) (λ x e. e.1 x.0 ∙ ap (λ k. apply k nowhere args) e.0))))
+application {args} name h list = base_stem (p_left (p_word (p_action (p_both (p_name name h) (p_left (p_action {F = λ o. (n : _) → unplaced_root (root_of_name n o) ≡ apply n.0 nowhere args} list (λ xs f n. ap (apply n.0 nowhere) f)))) (λ x e. e.1 x.0 ∙ ap (λ k. apply k nowhere args) e.0))))
 
 mutual
   unfolding Stem AfterConst Base Expr
@@ -334,7 +321,7 @@ equation_prints : (e : EquationTree) → IsOwnEquation e → Prints Equation (λ
 unfolding Equation
 equation_prints q h =
     p_bytes (simp append_assoc refl)
-    (p_line refl (p_pad refl (p_pad {q = loud} refl (p_action (p_placed (p_both (lefts_print q.lefts h.lefts h.range.some) (p_drop (p_skip (p_pad refl p_equals) (p_pad refl (tree_prints 0 q.right h.range.right h.right))) p_semicolon))) (λ x e. cc (e.0, e.1))))))
+    (p_line refl (p_pad refl (p_pad {q = loud} refl (p_action (p_placed (p_both (lefts_print q.lefts h.lefts h.range.some) (p_drop (p_skip (p_pad {p = wordy} refl (p_sign {after = loud} 0 fixed.Equals 61 (refl, refl, refl, omega arith) (refl, refl, refl, refl) (λ b h. refl) refl (λ le. le))) (p_pad refl (tree_prints 0 q.right h.range.right h.right))) p_semicolon))) (λ x e. cc (e.0, e.1))))))
 
 -- nodes
 
@@ -356,23 +343,17 @@ node_prints n h =
 abbrev Adds : Declared → Declared → Type 0
 Adds x d = (p : ProgramTree) → unplaced (with_declared d p) ≡ with_declared x (unplaced p)
 
-abbrev program_with : List Import → List Device → List Device → List NodeTree → ProgramTree
-program_with imports sensors actuators nodes = record { imports = imports; sensors = sensors; actuators = actuators; nodes = nodes }
-
 program_prints : (p : ProgramTree) → AreOwn p → Prints Program (λ x. unplaced x ≡ unplaced p) (plain 0) (plain 0) (printed p)
 unfolding Program Declaration
 program_prints p h =
-    let nodes = map unplaced_node p.nodes in
-    let actuators = map unplaced_device p.actuators in
-    let sensors = map unplaced_device p.sensors in
     p_bytes (simp (append_assoc, append-nil) refl)
     (p_action {E = λ ds. unplaced (program_of ds) ≡ unplaced p}
-    (p_rest IsOwnImport (λ i. Adds (imported (unplaced_import i))) (λ is ds. unplaced (program_of ds) ≡ program_with (map unplaced_import is) sensors actuators nodes) printed_import (λ i is d ds e f. e (program_of ds) ∙ ap (with_declared (imported (unplaced_import i))) f) (λ i g. p_left (p_action (import_prints i g) (λ x e p. ap (λ k. with_declared (imported k) (unplaced p)) e))) p.imports h.0
-    (p_rest IsOwnDevice (λ i. Adds (sensor (unplaced_device i))) (λ is ds. unplaced (program_of ds) ≡ program_with [] (map unplaced_device is) actuators nodes) (printed_device (codes "sensor ")) (λ i is d ds e f. e (program_of ds) ∙ ap (with_declared (sensor (unplaced_device i))) f)
+    (p_rest IsOwnImport (λ i. Adds (imported (unplaced_import i))) (λ is ds. unplaced (program_of ds) ≡ unplaced (record p { imports = is })) printed_import (λ i is d ds e f. e (program_of ds) ∙ ap (with_declared (imported (unplaced_import i))) f) (λ i g. p_left (p_action (import_prints i g) (λ x e p. ap (λ k. with_declared (imported k) (unplaced p)) e))) p.imports h.0
+    (p_rest IsOwnDevice (λ i. Adds (sensor (unplaced_device i))) (λ is ds. unplaced (program_of ds) ≡ unplaced (record p { imports = []; sensors = is })) (printed_device (codes "sensor ")) (λ i is d ds e f. e (program_of ds) ∙ ap (with_declared (sensor (unplaced_device i))) f)
     (λ d g. p_right (p_left (p_action (device_prints fixed.Sensor (codes "sensor") (p_keyword fixed.Sensor (codes "sensor") (refl, omega arith) refl refl) d g) (λ x e p. ap (λ k. with_declared (sensor k) (unplaced p)) e)))) p.sensors h.1
-    (p_rest IsOwnDevice (λ i. Adds (actuator (unplaced_device i))) (λ is ds. unplaced (program_of ds) ≡ program_with [] [] (map unplaced_device is) nodes) (printed_device (codes "actuator ")) (λ i is d ds e f. e (program_of ds) ∙ ap (with_declared (actuator (unplaced_device i))) f)
+    (p_rest IsOwnDevice (λ i. Adds (actuator (unplaced_device i))) (λ is ds. unplaced (program_of ds) ≡ unplaced (record p { imports = []; sensors = []; actuators = is })) (printed_device (codes "actuator ")) (λ i is d ds e f. e (program_of ds) ∙ ap (with_declared (actuator (unplaced_device i))) f)
     (λ d g. p_right (p_right (p_left (p_action (device_prints fixed.Actuator (codes "actuator") (p_keyword fixed.Actuator (codes "actuator") (refl, omega arith) refl refl) d g) (λ x e p. ap (λ k. with_declared (actuator k) (unplaced p)) e))))) p.actuators h.2
-    (p_rest IsOwnNode (λ n. Adds (node (unplaced_node n))) (λ ns ds. unplaced (program_of ds) ≡ program_with [] [] [] (map unplaced_node ns)) printed_node (λ n ns d ds e f. e (program_of ds) ∙ ap (with_declared (node (unplaced_node n))) f) (λ n g. p_right (p_right (p_right (p_action (node_prints n g) (λ x e p. ap (λ k. with_declared (node k) (unplaced p)) e))))) p.nodes h.3
+    (p_rest IsOwnNode (λ n. Adds (node (unplaced_node n))) (λ ns ds. unplaced (program_of ds) ≡ unplaced (record p { imports = []; sensors = []; actuators = []; nodes = ns })) printed_node (λ n ns d ds e f. e (program_of ds) ∙ ap (with_declared (node (unplaced_node n))) f) (λ n g. p_right (p_right (p_right (p_action (node_prints n g) (λ x e p. ap (λ k. with_declared (node k) (unplaced p)) e))))) p.nodes h.3
     (p_none refl)))))
     (λ ds e. e))
 

@@ -1,15 +1,13 @@
 -- The tokens of a text, one after another from its end on.
-use Rattle.std.proofs.Common.{◌≡◌, ◌==◌, ◌<◌, ◌≤◌, ◌+◌, ◌&&◌, ◌||◌, ℕ, zero, suc, Bool, true, false, leb, List, [], ◌∷◌, ◌++◌, length, take, drop, get_or, None, Some, Ok, refl, sym, ap, ◌∙◌, subst, arith, length-append, ◌^◌, not, ltb, decimal, Option}
+use Rattle.std.proofs.Common.{◌≡◌, ◌==◌, ◌<◌, ◌≤◌, ◌+◌, ◌&&◌, ◌||◌, ℕ, zero, suc, Bool, true, false, leb, List, [], ◌∷◌, ◌++◌, length, take, drop, get_or, None, Some, Ok, refl, sym, ap, ◌∙◌, subst, arith, length-append, ◌^◌, not, ltb}
 use Rattle.std.proofs.Math.Seq.{take-append_seam, drop-append_seam}
 use Rattle.std.proofs.lemmas.Bool.{cond-true, cond-false, and_from, le-leb, and_parts, or_parts, lt-ltb, false≢true}
 use Rattle.std.proofs.lemmas.Bool.Decides.{nat_tests}
-use Rattle.std.proofs.lemmas.Fmt.{decimal_is_IsNumeral}
-use Rattle.std.proofs.lemmas.Str.Parse.{digit_from_value}
+use Rattle.std.proofs.lemmas.Str.Parse.{numerals_by_value, tells_all_ascii_digits}
 use Rattle.std.specs.Char.{is_ascii_digit}
 use Rattle.std.specs.List.{list_all, prefix_len}
 use Rattle.std.specs.Str.Parse.{AllDigits, digits_value}
 use Rattle.prl_base.specs.Names.{is_word_start, is_word_byte, IsName}
-use Rattle.prl_base.specs.Reading.{◌>>=◌}
 use Rattle.prl_base.specs.declared.decimals.TheConstants.{MAX_POSITIVE}
 use Rattle.prl_lex.specs.declared.tokens.Kind.{Kind}
 use Rattle.prl_lex.specs.declared.tokens.Kind.TheVariants.{Word, Number, Symbol}
@@ -17,11 +15,11 @@ use Rattle.prl_lex.specs.declared.tokens.Token.{Token}
 use Rattle.prl_lex.specs.declared.pieces.Piece.{Piece}
 use Rattle.prl_lex.specs.declared.pieces.Piece.TheVariants as pieces
 use Rattle.prl_lex.specs.Tokens.{is_blank, begins, piece_of, FitsPiece, is_one_byte_symbol, is_two_byte_symbol}
-use Rattle.prl_lex.specs.FirstByte.{token_by_first}
+use Rattle.prl_lex.specs.FirstByte.{token_by_first, symbol_by_bytes}
 use Rattle.prl_lex.specs.Lexing.{token_text, depth_after, checked, tokens_from}
 use Rattle.prl_lex.proofs.Fits.{piece_of_fits}
 use Rattle.prl_lex.proofs.Longest.{token_by_first_longest}
-use Rattle.prl_lex.proofs.Steps.{with_front, step}
+use Rattle.prl_lex.proofs.Steps.{step}
 use Rattle.prl_grammar.specs.Lexemes.{Lexeme}
 use Rattle.prl_grammar.specs.Lexing.{word_lexeme, symbol_class, kind_lexeme, lexemes_of}
 use Rattle.prl_grammar.specs.Ranges.{inside_after, is_fault, out_of_range}
@@ -121,13 +119,6 @@ pub record IsToken (before after : ℕ → Bool) (d e : ℕ) (kind : Kind) (p : 
   pub fits : (at : ℕ) → e ≤ 64 → checked at e kind p ≡ Ok (a_token at kind p n)
   pub is : (at : ℕ) → kind_lexeme program_vocabulary kind p (a_token at kind p n) ≡ a_lexeme class name n at p
 
-first_token : (at d e : ℕ) (kind : Kind) (p rest : List ℕ) (token : Token) (ts : List Token) → AreBytes p → 0 < length p → piece_of (p ++ rest) ≡ pieces.Token kind (length p) → depth_after d p ≡ e → checked at e kind p ≡ Ok token
-    → tokens_from (at + length p) e 0 rest ≡ Ok ts → tokens_from at d 0 (p ++ rest) ≡ Ok (token ∷ ts)
-first_token at d e kind p rest token ts bytes some piece down fits h =
-    let P : Piece → Type 0 = FitsPiece (p ++ rest) in
-    step at d (p ++ rest) (pieces.Token kind (length p)) (omega (arith, length-append p rest, some)) (sym piece) (subst P piece (piece_of_fits (p ++ rest)))
-    ∙ simp (take-append_seam p rest, drop-append_seam p rest, down, fits, h)
-
 -- one token, and what follows it
 pub scan_token : {inside : Bool} {r before after : ℕ → Bool} {at d e class n : ℕ} {kind : Kind} {whole p rest name : List ℕ} {w : List Lexeme} → IsToken before after d e kind p class name n → ((class == 1) && not (r n)) ≡ false → drop at whole ≡ p ++ rest
     → Scan (state_after inside class after e) (at + length p) whole rest w → Scan (state inside r before d) at whole (p ++ rest) (a_lexeme class name n at p ∷ w)
@@ -135,6 +126,9 @@ unfolding out_of_range
 scan_token {inside} {at} {d} {e} {class} {n} {kind} {whole} {p} {rest} {name} t range here s =
     let token : Token = a_token at kind p n in
     let k : Lexeme = a_lexeme class name n at p in
+    let text : List ℕ = p ++ rest in
+    let piece = t.piece rest s.bytes s.reads.0 in
+    let P : Piece → Type 0 = FitsPiece text in
     let own : token_text whole token ≡ p = ap (take (length p)) here ∙ take-append_seam p rest in
     record {
       bytes = bytes_append p rest t.bytes s.bytes;
@@ -143,7 +137,7 @@ scan_token {inside} {at} {d} {e} {class} {n} {kind} {whole} {p} {rest} {name} t 
       reads = (
         t.calm rest,
         t.low s.reads.1,
-        first_token at d e kind p rest token s.tokens t.bytes t.some (t.piece rest s.bytes s.reads.0) t.down (t.fits at s.reads.1) s.reads.2,
+        step at d text (pieces.Token kind (length p)) (omega (arith, length-append p rest, t.some)) (sym piece) (subst P piece (piece_of_fits text)) ∙ simp (take-append_seam p rest, drop-append_seam p rest, t.down, t.fits at s.reads.1, s.reads.2),
         λ last in_range. cond-false (is_fault program_ranges inside last k) _ _ (ap (λ b. (class == 1) && not b) (in_range n) ∙ range) ∙ s.reads.3 class (λ n. refl)
       );
     }
@@ -166,13 +160,9 @@ all_small : (p : ℕ → Bool) → ((b : ℕ) → p b ≡ true → is_word_byte 
 all_small p within [] h = tt
 all_small p within (c ∷ cs) h = let parts = and_parts (p c) (list_all p cs) h in (grind (arith, nat_tests, within c parts.0), all_small p within cs parts.1)
 
-same_depth : (d b : ℕ) (bs : List ℕ) → is_word_byte b ≡ true → depth_after d (b ∷ bs) ≡ d
-same_depth d b [] h = cond-false (b == 40) _ _ (grind (arith, nat_tests, h)) ∙ cond-false (b == 41) _ _ (grind (arith, nat_tests, h))
-same_depth d b (c ∷ bs) h = refl
-
-no_comment : (a : ℕ) (rest : List ℕ) → is_word_byte a ≡ true → (begins 45 45 (a ∷ rest) ≡ false) × (begins 40 42 (a ∷ rest) ≡ false)
-no_comment a [] h = (refl, refl)
-no_comment a (b ∷ rest) h = (grind (arith, nat_tests, h), grind (arith, nat_tests, h))
+no_other : (d c : ℕ) (bs : List ℕ) → is_word_byte c ≡ true → (depth_after d (c ∷ bs) ≡ d) × (begins 45 45 (c ∷ bs) ≡ false) × (begins 40 42 (c ∷ bs) ≡ false)
+no_other d c [] h = (cond-false (c == 40) _ _ (grind (arith, nat_tests, h)) ∙ cond-false (c == 41) _ _ (grind (arith, nat_tests, h)), refl, refl)
+no_other d c (b ∷ bs) h = (refl, grind (arith, nat_tests, h), grind (arith, nat_tests, h))
 
 run_token : {before : ℕ → Bool} {d class n : ℕ} {kind : Kind} {name : List ℕ} (p : ℕ → Bool) (c : ℕ) (cs : List ℕ) → ((b : ℕ) → p b ≡ true → is_word_byte b ≡ true) → ((b : ℕ) → wordy b ≡ false → p b ≡ false) → list_all p (c ∷ cs) ≡ true → before c ≡ false
     → ((bs : List ℕ) → token_by_first (c ∷ bs) ≡ pieces.Token kind (prefix_len p bs + 1)) → ((at : ℕ) → checked at d kind (c ∷ cs) ≡ Ok (a_token at kind (c ∷ cs) n)) → ((at : ℕ) → kind_lexeme program_vocabulary kind (c ∷ cs) (a_token at kind (c ∷ cs) n) ≡ a_lexeme class name n at (c ∷ cs))
@@ -187,8 +177,8 @@ run_token {kind} p c cs within out all calm first fits is =
       calm = λ rest. calm;
       piece = λ rest bytes stops.
           (let many : prefix_len p (cs ++ rest) + 1 ≡ length (c ∷ cs) = omega (arith, run p cs rest parts.1 (stops_as wordy p out rest stops)) in
-          first_piece c (cs ++ rest) (small.0, bytes_append cs rest small.1 bytes) (grind (arith, nat_tests, own)) (no_comment c (cs ++ rest) own) ∙ first (cs ++ rest) ∙ ap (λ n. pieces.Token kind n) many);
-      down = same_depth _ c cs own;
+          first_piece c (cs ++ rest) (small.0, bytes_append cs rest small.1 bytes) (grind (arith, nat_tests, own)) (let no = no_other 0 c (cs ++ rest) own in (no.1, no.2)) ∙ first (cs ++ rest) ∙ ap (λ n. pieces.Token kind n) many);
+      down = (no_other _ c cs own).0;
       low = λ le. le;
       fits = λ at le. fits at;
       is = is;
@@ -202,22 +192,13 @@ word_token (c ∷ cs) own is =
     run_token is_word_byte c cs (λ b h. h) (λ b h. (or_parts (is_word_byte b) (loud b) h).0) (and_from (is_word_byte c) (list_all is_word_byte cs) (grind (arith, nat_tests, parts.0)) parts.1) (grind (arith, nat_tests, parts.0))
     (λ bs. cond-true (is_word_start c) _ _ parts.0) (λ at. cond-true (leb (length (c ∷ cs)) 64) _ _ (le-leb (length (c ∷ cs)) 64 own.1)) is
 
-digits_pass : (ds : List ℕ) → AllDigits 10 ds → list_all is_ascii_digit ds ≡ true
-digits_pass [] h = refl
-digits_pass (d ∷ ds) h =
-    let range = digit_from_value d h.0 in
-    and_from (is_ascii_digit d) (list_all is_ascii_digit ds) (and_from _ _ (le-leb 48 d range.0) (le-leb d 57 range.1)) (digits_pass ds h.1)
-
-digits_token : {before : ℕ → Bool} {d : ℕ} (n : ℕ) (p : List ℕ) → AllDigits 10 p → 0 < length p → digits_value 10 p ≡ n → n < 2 ^ 64 → ((b : ℕ) → is_ascii_digit b ≡ true → before b ≡ false) → IsToken before wordy d d Number p 1 [] n
+pub digits_token : {before : ℕ → Bool} {d : ℕ} (n : ℕ) (p : List ℕ) → AllDigits 10 p → 0 < length p → digits_value 10 p ≡ n → n < 2 ^ 64 → ((b : ℕ) → is_ascii_digit b ≡ true → before b ≡ false) → IsToken before wordy d d Number p 1 [] n
 digits_token n [] digits some value fits other = absurd (omega arith)
 digits_token n (c ∷ cs) digits some value fits other =
-    let all = digits_pass (c ∷ cs) digits in
+    let all : list_all is_ascii_digit (c ∷ cs) ≡ true = (numerals_by_value (λ ds. list_all is_ascii_digit ds ≡ true) tells_all_ascii_digits).from (c ∷ cs) digits in
     let first : is_ascii_digit c ≡ true = (and_parts (is_ascii_digit c) (list_all is_ascii_digit cs) all).0 in
     run_token is_ascii_digit c cs (λ b h. grind (arith, nat_tests, h)) (λ b h. grind (arith, nat_tests, h)) all (other c first) (λ bs. cond-false (is_word_start c) _ _ (grind (arith, nat_tests, first)) ∙ cond-true (is_ascii_digit c) _ _ first)
     (λ at. cond-true (ltb (digits_value 10 (c ∷ cs)) (2 ^ 64)) _ _ (lt-ltb (digits_value 10 (c ∷ cs)) (2 ^ 64) (omega (arith, value, fits))) ∙ ap (λ m. Ok (a_token at Number (c ∷ cs) m)) value) (λ at. refl)
-
-pub number_token : {before : ℕ → Bool} {d : ℕ} (n : ℕ) → n < 2 ^ 64 → ((b : ℕ) → is_ascii_digit b ≡ true → before b ≡ false) → IsToken before wordy d d Number (decimal n) 1 [] n
-number_token n fits other = let is = decimal_is_IsNumeral n fits in digits_token n (decimal n) is.0.1 is.0.0 is.1 fits other
 
 -- symbols
 
@@ -229,13 +210,15 @@ goes_on a b = is_two_byte_symbol a b || ((a == 45) && (b == 45)) || ((a == 40) &
 abbrev pub IsMark : ℕ → Type 0
 IsMark a = (is_blank a ≡ false) × (is_word_start a ≡ false) × (is_ascii_digit a ≡ false) × (a < 256)
 
-symbol_token : {before after : ℕ → Bool} {d e class : ℕ} (a : ℕ) (bs : List ℕ) → IsMark a → AreBytes bs → before a ≡ false → ((rest : List ℕ) → AreBytes rest → Stops after rest → piece_of (a ∷ (bs ++ rest)) ≡ pieces.Token Symbol (length (a ∷ bs))) → symbol_of (a ∷ bs) ≡ Some class
-    → depth_after d (a ∷ bs) ≡ e → (e ≤ 64 → d ≤ 64) → IsToken before after d e Symbol (a ∷ bs) class [] 0
-symbol_token {e} a bs mark small calm piece is down low = record {
+pub symbol_token : {before after : ℕ → Bool} {d e class : ℕ} (a : ℕ) (bs : List ℕ) → IsMark a → AreBytes bs → before a ≡ false
+    → ((rest : List ℕ) → Stops after rest → (begins 45 45 (a ∷ (bs ++ rest)) ≡ false) × (begins 40 42 (a ∷ (bs ++ rest)) ≡ false) × (symbol_by_bytes a (bs ++ rest) ≡ pieces.Token Symbol (length (a ∷ bs))))
+    → symbol_of (a ∷ bs) ≡ Some class → depth_after d (a ∷ bs) ≡ e → (e ≤ 64 → d ≤ 64) → IsToken before after d e Symbol (a ∷ bs) class [] 0
+symbol_token {e} a bs mark small calm front is down low = record {
   bytes = (mark.3, small);
   some = omega arith;
   calm = λ rest. calm;
-  piece = piece;
+  piece = λ rest bytes stops.
+      (let at = front rest stops in first_piece a (bs ++ rest) (mark.3, bytes_append bs rest small bytes) mark.0 (at.0, at.1) ∙ cond-false (is_word_start a) _ _ mark.1 ∙ cond-false (is_ascii_digit a) _ _ mark.2 ∙ at.2);
   down = down;
   low = low;
   fits = λ at le. cond-true (leb e 64) _ _ (le-leb e 64 le);
@@ -243,17 +226,9 @@ symbol_token {e} a bs mark small calm piece is down low = record {
 }
 
 -- a symbol of one byte
-pub sign_token : {before after : ℕ → Bool} {d e class : ℕ} (a : ℕ) → IsMark a → before a ≡ false → is_one_byte_symbol a ≡ true → ((b : ℕ) → after b ≡ false → goes_on a b ≡ false) → symbol_of (a ∷ []) ≡ Some class → depth_after d (a ∷ []) ≡ e → (e ≤ 64 → d ≤ 64) → IsToken before after d e Symbol (a ∷ []) class [] 0
-sign_token {after} a mark calm one other is down low = symbol_token a [] mark tt calm piece is down low
-  where
-    piece : (rest : List ℕ) → AreBytes rest → Stops after rest → piece_of (a ∷ rest) ≡ pieces.Token Symbol 1
-    piece [] bytes stops = first_piece a [] (mark.3, tt) mark.0 (refl, refl) ∙ cond-false (is_word_start a) _ _ mark.1 ∙ cond-false (is_ascii_digit a) _ _ mark.2 ∙ cond-true (is_one_byte_symbol a) _ _ one
-    piece (b ∷ rest) bytes stops =
-        let parts = or_parts (is_two_byte_symbol a b || ((a == 45) && (b == 45))) ((a == 40) && (b == 42)) (other b stops) in
-        let two = or_parts (is_two_byte_symbol a b) ((a == 45) && (b == 45)) parts.0 in
-        first_piece a (b ∷ rest) (mark.3, bytes) mark.0 (two.1, parts.1) ∙ cond-false (is_word_start a) _ _ mark.1 ∙ cond-false (is_ascii_digit a) _ _ mark.2 ∙ cond-false (is_two_byte_symbol a b) _ _ two.0 ∙ cond-true (is_one_byte_symbol a) _ _ one
-
--- a symbol of two bytes
-pub operator_token : {before after : ℕ → Bool} {d class : ℕ} (a b : ℕ) → IsMark a → before a ≡ false → (b < 256) × (((a == 45) && (b == 45)) ≡ false) × (((a == 40) && (b == 42)) ≡ false) × (is_two_byte_symbol a b ≡ true) → symbol_of (a ∷ b ∷ []) ≡ Some class → IsToken before after d d Symbol (a ∷ b ∷ []) class [] 0
-operator_token a b mark calm two is = symbol_token a (b ∷ []) mark (two.0, tt) calm (λ rest bytes stops.
-    first_piece a (b ∷ rest) (mark.3, (two.0, bytes)) mark.0 (two.1, two.2) ∙ cond-false (is_word_start a) _ _ mark.1 ∙ cond-false (is_ascii_digit a) _ _ mark.2 ∙ cond-true (is_two_byte_symbol a b) _ _ two.3) is refl (λ le. le)
+pub one_byte : {after : ℕ → Bool} (a : ℕ) → is_one_byte_symbol a ≡ true → ((b : ℕ) → after b ≡ false → goes_on a b ≡ false) → (rest : List ℕ) → Stops after rest → (begins 45 45 (a ∷ rest) ≡ false) × (begins 40 42 (a ∷ rest) ≡ false) × (symbol_by_bytes a rest ≡ pieces.Token Symbol 1)
+one_byte a one other [] stops = (refl, refl, cond-true (is_one_byte_symbol a) _ _ one)
+one_byte a one other (b ∷ rest) stops =
+    let parts = or_parts (is_two_byte_symbol a b || ((a == 45) && (b == 45))) ((a == 40) && (b == 42)) (other b stops) in
+    let two = or_parts (is_two_byte_symbol a b) ((a == 45) && (b == 45)) parts.0 in
+    (two.1, parts.1, cond-false (is_two_byte_symbol a b) _ _ two.0 ∙ cond-true (is_one_byte_symbol a) _ _ one)
