@@ -36,7 +36,7 @@ use Rattle.prl_grammar.specs.Texts.{IsTextOf}
 use Rattle.prl_grammar.proofs.Growing.{to_nested}
 use Rattle.prl_syntax.specs.declared.words.Fixed.{Fixed}
 use Rattle.prl_syntax.specs.declared.words.Fixed.TheVariants as fixed
-use Rattle.prl_syntax.specs.declared.notes.Note.{Note}
+use Rattle.prl_syntax.specs.declared.parameters.Note.{Note}
 use Rattle.prl_syntax.specs.Parsing.{program_texts}
 use Rattle.prl_syntax.specs.Ranges.{in_range, program_ranges}
 use Rattle.prl_syntax.specs.Values.{small, ratio_with, ratio_of}
