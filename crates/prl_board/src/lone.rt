@@ -171,7 +171,8 @@ impl Lone {
         }
     }
 
-    /// Loads `now`, which is the clock's. The task's next job opens where it is one of the horizon, and released. Takes no memory.
+    /// Loads `now`, which is the clock's. The task's next job opens where it is one of the
+    /// horizon, and released. Takes no memory.
     pub fn release<L: Ledger>(
         &mut self,
         board: &Board,
@@ -190,8 +191,8 @@ impl Lone {
         release_lent(board, &mut self.whole, &mut self.seats[task.0 as usize])
     }
 
-    /// Does the next action of the task's job, which is a read, as `TaskSeat::read` does. What it finds of a half is what the
-    /// task left there that alone writes it. Takes no memory.
+    /// Does the next action of the task's job, which is a read, as `TaskSeat::read` does. What it
+    /// finds of a half is what the task left there that alone writes it. Takes no memory.
     pub fn read<L: Ledger>(&mut self, board: &Board, task: TaskNo, steps: &mut Steps<L>) -> Got
         requires lone { IsLoneOf board.now self.old }
         requires place { IsPlacedAt MayRead self.old task.0 }
@@ -205,8 +206,8 @@ impl Lone {
         read_lent(board, &mut self.whole, &mut self.seats[task.0 as usize])
     }
 
-    /// Does the next action of the task's job, which is the write of one half of its instance, as `TaskSeat::write` does. Takes
-    /// no memory.
+    /// Does the next action of the task's job, which is the write of one half of its instance, as
+    /// `TaskSeat::write` does. Takes no memory.
     pub fn write<L: Ledger>(&mut self, board: &Board, task: TaskNo, steps: &mut Steps<L>) -> Wrote
         requires lone { IsLoneOf board.now self.old }
         requires place { IsPlacedAt MayWrite self.old task.0 }
@@ -244,8 +245,8 @@ impl Lone {
         look_lent(board, &mut self.whole, &mut self.clock, task)
     }
 
-    /// Where no horizon job that is due by then is left to be seen, `now` grows by 1; on a free board it grows in any case.
-    /// Takes no memory.
+    /// Where no horizon job that is due by then is left to be seen, `now` grows by 1; on a free
+    /// board it grows in any case. Takes no memory.
     pub fn tick<L: Ledger>(&mut self, board: &Board, steps: &mut Steps<L>) -> Ticked
         requires lone { IsLoneOf board.now self.old }
         ensures lone { IsLoneOf board.now self.new }

@@ -5,7 +5,8 @@ ghost use Rattle.std.specs.Prelude.{◌≡◌, ◌+◌, ◌<◌};
 use std::marker::Model;
 use std::sync::ledger::{Blank, Book, Ledger, Share};
 
-/// How many steps were taken. It takes no bytes, and each tick counts one. Contracts see the number.
+/// How many steps were taken. It takes no bytes, and each tick counts one. Contracts see the
+/// number.
 #[derive(Drop)]
 pub struct Steps<L: Ledger> {
     book: Book<L>,

@@ -45,7 +45,8 @@ fn tick<L: Ledger>(lone: &mut Lone, board: &Board, steps: &mut Steps<L>) -> Did
     Did::Ticked(lone.tick(board, steps))
 }
 
-/// Does what a letter says: `i` is for the sensor's task, `o` for the actuator's, and `t` for the clock.
+/// Does what a letter says: `i` is for the sensor's task, `o` for the actuator's, and `t` for the
+/// clock.
 fn step<L: Ledger>(lone: &mut Lone, board: &Board, letter: u8, steps: &mut Steps<L>) -> Did
     requires lone { IsLoneOf board.now lone.old }
     requires tasks { 2 ≤ length lone.old.seats }
@@ -59,8 +60,8 @@ fn step<L: Ledger>(lone: &mut Lone, board: &Board, letter: u8, steps: &mut Steps
     }
 }
 
-/// What the moves came to: a letter for each, what was done last, where the tasks stand, how many of their jobs have ended, and
-/// the clock's `now`.
+/// What the moves came to: a letter for each, what was done last, where the tasks stand, how many of
+/// their jobs have ended, and the clock's `now`.
 #[derive(Debug, Drop)]
 struct Played {
     letters: Vec<u8>,
