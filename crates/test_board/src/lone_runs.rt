@@ -1,6 +1,6 @@
 //! Boards that one thread runs with all seats in one hand, worked out by hand.
 
-ghost use Rattle.std.specs.Prelude.{◌≡◌, ◌<◌, ◌≤◌, length, IfOk};
+ghost use Rattle.std.specs.Prelude.{◌≡◌, ◌<◌, ◌≤◌, length};
 ghost use Rattle.prl_board.specs.Lones.{IsLoneOf};
 
 use crate::boards::{Did, letter_of};
