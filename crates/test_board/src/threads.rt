@@ -87,8 +87,8 @@ fn run_all<R: Threads + Sync>(
     );
 }
 
-/// The board of the pair, closed after one tick and then so many turns of each of two threads, while
-/// the clock rests at the caller.
+/// The board of the pair, closed after one tick and then so many turns of each of two threads,
+/// while the clock rests at the caller.
 fn closed_after_turns<R: Threads + Sync>(rt: &R, alloc: Global, turns: u32) -> Option<Closed>
     ensures { IfSome result IsClosedPair }
 {
@@ -101,8 +101,8 @@ fn closed_after_turns<R: Threads + Sync>(rt: &R, alloc: Global, turns: u32) -> O
     closed_pair(&plan, board, seats, clock)
 }
 
-/// The board of the pair, closed after so many turns of each of two threads, and as many ticks of the
-/// caller meanwhile.
+/// The board of the pair, closed after so many turns of each of two threads, and as many ticks
+/// of the caller meanwhile.
 fn closed_after_run<R: Threads + Sync>(rt: &R, alloc: Global, turns: u32) -> Option<Closed>
     ensures { IfSome result IsClosedPair }
 {
@@ -119,7 +119,8 @@ fn tags(seen: &Summary) -> (u64, u64) {
     (seen.words.0 / 4294967296, seen.words.1 / 4294967296)
 }
 
-/// Whether the halves of the cell are of instances that the sensor's task may have written, each with its value.
+/// Whether the halves of the cell are of instances that the sensor's task may have written, each
+/// with its value.
 fn cell_agrees(seen: &Summary) -> bool {
     let (low, high) = tags(seen);
     if low > 2 || high > low || seen.done.0 > high || low - seen.done.0 > 1 {
