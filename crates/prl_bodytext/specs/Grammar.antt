@@ -10,7 +10,7 @@ use Rattle.prl_body.specs.declared.operators.Prefix.TheVariants as prefixes
 use Rattle.prl_body.specs.declared.texts.RegisterText.{RegisterText}
 use Rattle.prl_body.specs.Texts.{Tree, constant, name, choice, StatementTree, TextTree}
 use Rattle.prl_grammar.specs.Numbers.{positive, negative}
-use Rattle.prl_grammar.specs.Productions.{Grammar as GrammarIn, many, separated, inner}
+use Rattle.prl_grammar.specs.Productions.{Grammar as GrammarIn, many, inner}
 use Rattle.prl_grammar.specs.Combinators.{◌=>◌, ◌means◌, ◌or◌, ◌&◌, ◌⊳◌, ◌⊲◌, maybe, place, named, number}
 use Rattle.prl_grammar.specs.Language.{Language}
 use Rattle.prl_bodytext.specs.declared.levels.Level.{Level}
@@ -58,7 +58,7 @@ RightOf level operand = Operators level & operand
 
 -- operands with operators of the level between, from left to right
 unfoldable pub SeriesOf : Level → Grammar Tree → Grammar Tree
-SeriesOf level operand = separated (Operators level) operand => λ x. in_series x.0 x.1
+SeriesOf level operand = operand & many (RightOf level operand) => λ x. in_series x.0 x.1
 
 -- two operands with an operator of the level between, or one
 unfoldable pub PairOf : Level → Grammar Tree → Grammar Tree
@@ -116,7 +116,7 @@ Operand levels.Sum = Product
 Operand levels.Product = Unary
 
 unfoldable pub bodies : Language Tree
-bodies = record { sample = constant (values.Bool true); body = Expression }
+bodies = record { body = Expression }
 
 -- registers, statements and bodies
 

@@ -1,32 +1,11 @@
--- Facts on lists of tokens and on answers.
-use Rattle.std.proofs.Common.{◌≡◌, ◌==◌, not, ℕ, Bool, true, false, cond, ◌||◌, ◌&&◌, List, [], ◌∷◌, ◌++◌, length, Ok, Err, refl, sym, ap, ◌∙◌, ◌⊎◌, inl, inr, ⊎_elim, arith, length-append}
-use Rattle.std.proofs.lemmas.Bool.{false≢true, and_parts, or_cases, eqb-true, not-true}
-use Rattle.prl_base.specs.Reading.{◌>>=◌}
+-- Facts on lists of tokens, on their classes, and on shapes.
+use Rattle.std.proofs.Common.{◌≡◌, ◌==◌, not, ℕ, Bool, true, false, ◌||◌, ◌&&◌, List, [], ◌∷◌, ◌++◌, length, refl, sym, ap, ◌∙◌, ◌⊎◌, ⊎_elim, arith, length-append}
+use Rattle.std.proofs.lemmas.Bool.{cases_Bool, false≢true, and_parts, or_cases, or_parts, or_left, or_right, eqb-true, not-true}
 use Rattle.prl_grammar.specs.Lexemes.{Lexeme}
-use Rattle.prl_grammar.specs.code.Readers.{Stop, Read, is_in, next_in}
 use Rattle.prl_grammar.specs.Whole.{next_class}
+use Rattle.prl_grammar.specs.code.Readers.{is_in, next_in}
+use Rattle.prl_grammar.specs.code.Reads.{StopsBefore}
 use Rattle.prl_grammar.specs.code.LookAhead.{disjoint}
-
--- the parts of a reading after another
-pub record Both {A B : Type 0} (first : Read A) (then : A × List Lexeme → Read B) (b : B) (rest : List Lexeme) : Type 0 where
-  pub a : A
-  pub between : List Lexeme
-  pub one : first ≡ Ok (a, between)
-  pub two : then (a, between) ≡ Ok (b, rest)
-
-pub bind_ok : {A B : Type 0} (r : Read A) (f : A × List Lexeme → Read B) (b : B) (rest : List Lexeme) → (r >>= f) ≡ Ok (b, rest) → Both r f b rest
-bind_ok (Ok x) f b rest e = record { a = x.0; between = x.1; one = refl; two = e }
-bind_ok (Err s) f b rest e = cc
-
-pub record Later {A B : Type 0} (first : Read A) (then : A × List Lexeme → Read B) (stop : Stop) : Type 0 where
-  pub a : A
-  pub between : List Lexeme
-  pub one : first ≡ Ok (a, between)
-  pub two : then (a, between) ≡ Err stop
-
-pub bind_err : {A B : Type 0} (r : Read A) (f : A × List Lexeme → Read B) (s : Stop) → (r >>= f) ≡ Err s → (r ≡ Err s) ⊎ Later r f s
-bind_err (Ok x) f s e = inr (record { a = x.0; between = x.1; one = refl; two = e })
-bind_err (Err t) f s e = inl cc
 
 -- after the same tokens the next one is of the same class
 pub next_class_append : (w rest other : List Lexeme) → next_class rest ≡ next_class other → next_class (w ++ rest) ≡ next_class (w ++ other)
@@ -47,48 +26,38 @@ is_in_append c (k ∷ ks) ls = ap (λ b. (k == c) || b) (is_in_append c ks ls) �
     regroup true y z = refl
     regroup false y z = refl
 
--- no class is in both
-abbrev pub Apart : List ℕ → List ℕ → Type 0
-Apart ks ls = (c : ℕ) → is_in c ks ≡ true → is_in c ls ≡ false
+pub in_left : (ks ls : List ℕ) (c : ℕ) → is_in c ks ≡ true → is_in c (ks ++ ls) ≡ true
+in_left ks ls c h = is_in_append c ks ls ∙ or_left _ _ h
 
-pub apart : (ks ls : List ℕ) → disjoint ks ls ≡ true → Apart ks ls
-apart [] ls d c h = cc
-apart (k ∷ ks) ls d c h =
-    let parts = and_parts (not (is_in k ls)) (disjoint ks ls) d in
-    ⊎_elim (λ same. ap (λ i. is_in i ls) (sym (eqb-true k c same)) ∙ not-true (is_in k ls) parts.0) (λ later. apart ks ls parts.1 c later) (or_cases (k == c) (is_in c ks) h)
+pub in_right : (ks ls : List ℕ) (c : ℕ) → is_in c ls ≡ true → is_in c (ks ++ ls) ≡ true
+in_right ks ls c h = is_in_append c ks ls ∙ or_right _ _ h
+
+-- what stops before classes stops before each part of them
+pub stops_parts : (ks ls : List ℕ) (rest : List Lexeme) → StopsBefore (ks ++ ls) rest → StopsBefore ks rest × StopsBefore ls rest
+stops_parts ks ls [] h = (tt, tt)
+stops_parts ks ls (t ∷ rest) h = or_parts _ _ (sym (is_in_append t.class ks ls) ∙ h)
+
+-- what is in a list that shares no class with the other is not in the other
+pub apart : (ks ls : List ℕ) (c : ℕ) → disjoint ks ls ≡ true → is_in c ls ≡ true → is_in c ks ≡ false
+apart [] ls c d h = refl
+apart (k ∷ ks) ls c d h = neither (k == c) (is_in c ks) (λ e. (let same : is_in k ls ≡ is_in c ls = ap (λ i. is_in i ls) (eqb-true k c e) in false≢true (sym (not-true (is_in k ls) (and_parts _ _ d).0) ∙ same ∙ h))) (apart ks ls c (and_parts _ _ d).1 h)
+  where
+    neither : (x y : Bool) → (x ≡ true → ⊥) → y ≡ false → (x || y) ≡ false
+    neither true y never e = absurd (never refl)
+    neither false y never e = e
 
 -- each class of the one is in the other
 abbrev pub contained : List ℕ → List ℕ → Bool
 contained [] ls = true
 contained (k ∷ ks) ls = is_in k ls && contained ks ls
 
-pub not_inside : (ks ls : List ℕ) → contained ks ls ≡ true → (c : ℕ) → is_in c ls ≡ false → is_in c ks ≡ false
-not_inside [] ls d c h = refl
-not_inside (k ∷ ks) ls d c h =
-    let parts = and_parts (is_in k ls) (contained ks ls) d in
-    either_not (k == c) (is_in c ks) (λ same. false≢true (sym h ∙ sym (ap (λ i. is_in i ls) (eqb-true k c same)) ∙ parts.0)) (not_inside ks ls parts.1 c h)
-  where
-    either_not : (x y : Bool) → (x ≡ true → ⊥) → y ≡ false → (x || y) ≡ false
-    either_not true y h e = absurd (h refl)
-    either_not false y h e = e
+pub inside : (ks ls : List ℕ) (c : ℕ) → contained ks ls ≡ true → is_in c ks ≡ true → is_in c ls ≡ true
+inside [] ls c d h = cc
+inside (k ∷ ks) ls c d h = ⊎_elim (λ e. ap (λ i. is_in i ls) (sym (eqb-true k c e)) ∙ (and_parts _ _ d).0) (λ later. inside ks ls c (and_parts _ _ d).1 later) (or_cases (k == c) (is_in c ks) h)
 
-pub own_tokens : (w rest : List Lexeme) → w ++ rest ≡ rest → w ≡ []
-own_tokens [] rest e = refl
-own_tokens (t ∷ w) rest e = absurd (omega (arith, ap length e, length-append (t ∷ w) rest))
-
--- which way a test went
-pub chosen : {A : Type 0} (b : Bool) (x y z : Read A) → cond b x y ≡ z → ((b ≡ true) × (x ≡ z)) ⊎ ((b ≡ false) × (y ≡ z))
-chosen true x y z e = inl (refl, e)
-chosen false x y z e = inr (refl, e)
-
-abbrev pair : {A : Type 0} → A → List Lexeme → A × List Lexeme
-pair a r = (a, r)
-
-pub same_tree : {A : Type 0} (a b : A) (r s : List Lexeme) (x : Read A) → x ≡ Ok (a, r) → x ≡ Ok (b, s) → a ≡ b
-same_tree a b r s x e f = let same : pair a r ≡ pair b s = cc in ap (λ p. p.0) same
-
-pub same_rest : {A : Type 0} (a b : A) (r s : List Lexeme) (x : Read A) → x ≡ Ok (a, r) → x ≡ Ok (b, s) → r ≡ s
-same_rest a b r s x e f = let same : pair a r ≡ pair b s = cc in ap (λ p. p.1) same
+pub stops_inside : (ks ls : List ℕ) (rest : List Lexeme) → contained ks ls ≡ true → StopsBefore ls rest → StopsBefore ks rest
+stops_inside ks ls [] d h = tt
+stops_inside ks ls (t ∷ rest) d h = ⊎_elim (λ e. absurd (false≢true (sym h ∙ inside ks ls t.class d e))) (λ e. e) (cases_Bool (is_in t.class ks))
 
 -- one list is cut at one place where what is left is as long
 pub same_cut : (w u rest other : List Lexeme) → w ++ rest ≡ u ++ other → length rest ≡ length other → (w ≡ u) × (rest ≡ other)

@@ -1,6 +1,6 @@
 -- A loop that reads one text after another gives what the grammar of many gives.
 use Rattle.std.proofs.Common.{◌≡◌, ◌<◌, ℕ, true, false, List, [], ◌∷◌, ◌++◌, length, Ok, Err, refl, sym, ap, ◌∙◌, append_assoc}
-use Rattle.std.proofs.lemmas.Bool.{cond-true, cond-false}
+use Rattle.std.proofs.lemmas.Bool.{cond-true, cond-false, and_parts}
 use Rattle.std.proofs.lemmas.List.{append-nil, map_push}
 use Rattle.prl_base.specs.Reading.{◌>>=◌, FailsAs}
 use Rattle.prl_grammar.specs.Lexemes.{Lexeme}
@@ -8,21 +8,18 @@ use Rattle.prl_grammar.specs.code.Readers.{Read, next_in, choice, many_at}
 use Rattle.prl_grammar.specs.code.Stops.{stop_of}
 use Rattle.prl_grammar.specs.declared.reading.Stop.{Stop}
 use Rattle.prl_grammar.specs.declared.reading.Stop.TheVariants as stops
-use Rattle.prl_grammar.proofs.Basics.{apart}
-use Rattle.prl_grammar.proofs.Steps.{give}
-use Rattle.prl_grammar.proofs.Sequences.{then_read}
-use Rattle.prl_grammar.proofs.Repeats.{many_step, leaves_fewer}
+use Rattle.prl_grammar.proofs.Continuing.{many_step}
 use Rattle.prl_grammar.specs.Productions.{Grammar, many}
-use Rattle.prl_grammar.specs.code.Shapes.{shape}
+use Rattle.prl_grammar.specs.code.Shapes.{shape, read_with}
 use Rattle.prl_grammar.specs.Language.{Language}
 use Rattle.prl_grammar.specs.code.Languages.{inner_of, read_at}
 use Rattle.prl_grammar.specs.code.Loops.{with_front}
 use Rattle.prl_grammar.specs.code.LookAhead.{IsApart}
-use Rattle.prl_grammar.proofs.Nesting.{IsRight, text_reads}
+use Rattle.prl_grammar.proofs.Nesting.{IsRight, text_fewer}
 
 -- the reader of many reads one and the others
 pub record Steps {A : Type 0} (ks : List ℕ) (p : List Lexeme → Read A) : Type 0 where
-  pub step : (ts : List Lexeme) → many_at ks p ts ≡ choice ks (then_read p (λ a. then_read (many_at ks p) (λ rest. give (a ∷ rest)))) (give []) ts
+  pub step : (ts : List Lexeme) → many_at ks p ts ≡ choice ks (read_with (λ a xs. a ∷ xs) p (many_at ks p)) (λ ts. Ok ([], ts)) ts
   pub fewer : (ts : List Lexeme) (a : A) (rest : List Lexeme) → p ts ≡ Ok (a, rest) → length rest < length ts
 
 regroup : {A : Type 0} (front : List A) (a : A) (r : Read (List A)) → with_front front (r >>= λ x. Ok (a ∷ x.0, x.1)) ≡ with_front (front ++ a ∷ []) r
@@ -58,4 +55,4 @@ pub ruleset loops = (step_goes_on, step_halts, step_fails, step_fewer, none_befo
 
 -- where a grammar is read
 pub steps : {R A : Type 0} {l : Language R} → IsRight l → (g : Grammar R A) → IsApart (inner_of l) (many g) → Steps (shape (inner_of l) g).first (read_at l g)
-steps {l} right g loop = record { step = many_step 0 (text_reads l right g loop.0 0) loop.1 (apart _ _ loop.2); fewer = leaves_fewer 0 (text_reads l right g loop.0 0) loop.1 }
+steps {l = l} right g loop = let less = text_fewer l right g (and_parts _ _ loop).0 in record { step = many_step _ _ less; fewer = less }

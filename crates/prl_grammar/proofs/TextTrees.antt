@@ -15,42 +15,38 @@ use Rattle.prl_grammar.specs.Whole.{place_of}
 use Rattle.prl_grammar.specs.code.Languages.{inner_of, read_at}
 use Rattle.prl_grammar.specs.code.LookAhead.{IsApart}
 use Rattle.prl_grammar.specs.code.Readers.{Stop, Stuck, Deep}
-use Rattle.prl_grammar.specs.code.Reads.{Reads}
 use Rattle.prl_grammar.specs.code.Shapes.{shape}
 use Rattle.prl_grammar.specs.code.Texts.{of_stop, ranged, tree_of_tokens, tree_of_text}
 use Rattle.prl_grammar.specs.code.Whole.{told, all_at}
-use Rattle.prl_grammar.proofs.Ending.{never_deep}
-use Rattle.prl_grammar.proofs.Nesting.{IsRight, text_reads}
-use Rattle.prl_grammar.proofs.Outcomes.{all_end, all_unexpected}
-use Rattle.prl_grammar.proofs.Whole.{all_ok, all_only, all_stuck}
+use Rattle.prl_grammar.proofs.Nesting.{IsRight, Reads, text_reads}
+use Rattle.prl_grammar.proofs.Whole.{IsAnswer, all_so, so_all}
 
 module _ {R A : Type 0} (s : Texts R A) (right : IsRight s.language) (apart : IsApart (inner_of s.language) s.whole) where
-  reads : (n : ℕ) → Reads n (Text s.language s.whole) (shape (inner_of s.language) s.whole) (read_at s.language s.whole)
-  reads n = text_reads s.language right s.whole apart n
+  abbrev Is : List Lexeme → Result A Stop → Type 0
+  Is = IsAnswer (Text s.language s.whole)
 
-  ends : (ts : List Lexeme) → read_at s.language s.whole ts ≡ Err Deep → ⊥
-  ends = never_deep s.language right s.whole apart
+  reads : Reads (Text s.language s.whole) (shape (inner_of s.language) s.whole) (read_at s.language s.whole)
+  reads = text_reads s.language right s.whole apart
 
   abbrev seen : List ℕ → List Token → List Lexeme
   seen = lexemes_of s.vocabulary
 
-  abbrev Is : List ℕ → Result A TextFault → Type 0
-  Is = IsRead s
+  -- what an answer is for the text
+  abbrev of_answer : List ℕ → List Token → Result A Stop → Result A TextFault
+  of_answer text tokens r = told (of_stop (seen text tokens) (length text)) r >>= λ tree. ranged (out_of_range s.ranges false 0 (seen text tokens)) tree
 
-  module _ (text : List ℕ) (tokens : List Token) (lexical : tokens_of text ≡ Ok tokens) where
-    in_range : (o : Option ℕ) (t : A) → out_of_range s.ranges false 0 (seen text tokens) ≡ o → Text s.language s.whole t (seen text tokens) → Is text (ranged o t)
-    in_range None t o w = record { tokens = tokens; lexical = lexical; written = w; ranges = o }
-    in_range (Some at) t o w = record { tokens = tokens; tree = t; lexical = lexical; written = w; first = o }
+  in_range : (text : List ℕ) (tokens : List Token) → tokens_of text ≡ Ok tokens → (o : Option ℕ) (t : A) → out_of_range s.ranges false 0 (seen text tokens) ≡ o → Text s.language s.whole t (seen text tokens) → IsRead s text (ranged o t)
+  in_range text tokens lexical None t o w = record { tokens = tokens; lexical = lexical; written = w; ranges = o }
+  in_range text tokens lexical (Some at) t o w = record { tokens = tokens; tree = t; lexical = lexical; written = w; first = o }
 
-    by_reader : (r : Result A Stop) → all_at (read_at s.language s.whole) (seen text tokens) ≡ r
-        → Is text (told (of_stop (seen text tokens) (length text)) r >>= λ t. ranged (out_of_range s.ranges false 0 (seen text tokens)) t)
-    by_reader (Ok t) e = in_range (out_of_range s.ranges false 0 (seen text tokens)) t refl (all_ok reads (seen text tokens) t e)
-    by_reader (Err (Stuck left)) e = record { tokens = tokens; left = left; lexical = lexical; first = all_stuck reads (seen text tokens) left e; place = refl }
-    by_reader (Err Deep) e = absurd (all_end reads ends (seen text tokens) e)
+  by_answer : (text : List ℕ) (tokens : List Token) → tokens_of text ≡ Ok tokens → (r : Result A Stop) → Is (seen text tokens) r → IsRead s text (of_answer text tokens r)
+  by_answer text tokens lexical (Ok t) h = in_range text tokens lexical _ t refl h
+  by_answer text tokens lexical (Err (Stuck left)) h = record { tokens = tokens; left = left; lexical = lexical; first = h; place = refl }
+  by_answer text tokens lexical (Err Deep) h = absurd h
 
-  by_tokens : (text : List ℕ) (r : Result (List Token) LexFault) → tokens_of text ≡ r → Is text (told faults.Lexical r >>= λ tokens. tree_of_tokens s (seen text tokens) (length text))
+  by_tokens : (text : List ℕ) (r : Result (List Token) LexFault) → tokens_of text ≡ r → IsRead s text (told faults.Lexical r >>= λ tokens. tree_of_tokens s (seen text tokens) (length text))
   unfolding tree_of_tokens
-  by_tokens text (Ok tokens) e = by_reader text tokens e (all_at (read_at s.language s.whole) (seen text tokens)) refl
+  by_tokens text (Ok tokens) e = by_answer text tokens e _ (all_so _ _ _ reads (seen text tokens))
   by_tokens text (Err fault) e = e
 
   -- what is read of the text is so
@@ -58,26 +54,17 @@ module _ {R A : Type 0} (s : Texts R A) (right : IsRight s.language) (apart : Is
   unfolding tree_of_text
   read_is text = by_tokens text (tokens_of text) refl
 
-  of_tokens : (text : List ℕ) (tokens : List Token) → tokens_of text ≡ Ok tokens → tree_of_text s text ≡ tree_of_tokens s (seen text tokens) (length text)
-  unfolding tree_of_text
-  of_tokens text tokens e = ap (λ r. told faults.Lexical r >>= λ tokens. tree_of_tokens s (seen text tokens) (length text)) e
-
-  of_read : (ts : List Lexeme) (end : ℕ) (r : Result A Stop) → all_at (read_at s.language s.whole) ts ≡ r → tree_of_tokens s ts end ≡ (told (of_stop ts end) r >>= λ tree. ranged (out_of_range s.ranges false 0 ts) tree)
-  unfolding tree_of_tokens
-  of_read ts end r e = ap (λ r. told (of_stop ts end) r >>= λ tree. ranged (out_of_range s.ranges false 0 ts) tree) e
-
-  of_written : (text : List ℕ) (tokens : List Token) (tree : A) (o : Option ℕ) → tokens_of text ≡ Ok tokens → Text s.language s.whole tree (seen text tokens) → out_of_range s.ranges false 0 (seen text tokens) ≡ o
-      → tree_of_text s text ≡ ranged o tree
-  of_written text tokens tree o e w r =
-      of_tokens text tokens e ∙ of_read (seen text tokens) (length text) (Ok tree) (all_only reads (seen text tokens) tree w) ∙ ap (λ o. ranged o tree) r
+  only : (text : List ℕ) (tokens : List Token) (r : Result A Stop) → tokens_of text ≡ Ok tokens → Is (seen text tokens) r → tree_of_text s text ≡ of_answer text tokens r
+  unfolding tree_of_text tree_of_tokens
+  only text tokens r e h =
+      ap (λ q. told faults.Lexical q >>= λ tokens. of_answer text tokens (all_at (read_at s.language s.whole) (seen text tokens))) e
+      ∙ ap (of_answer text tokens) (so_all _ _ _ reads (seen text tokens) r h)
 
   -- and what is so is read of it
   pub is_read : (text : List ℕ) (r : Result A TextFault) → IsRead s text r → tree_of_text s text ≡ r
   unfolding tree_of_text
-  is_read text (Ok tree) h = of_written text h.tokens tree None h.lexical h.written h.ranges
+  is_read text (Ok tree) h = only text h.tokens (Ok tree) h.lexical h.written ∙ ap (λ o. ranged o tree) h.ranges
   is_read text (Err (faults.Lexical fault)) h = ap (λ r. told faults.Lexical r >>= λ tokens. tree_of_tokens s (seen text tokens) (length text)) h
-  is_read text (Err (faults.Unexpected at)) h =
-      of_tokens text h.tokens h.lexical ∙ of_read (seen text h.tokens) (length text) (Err (Stuck h.left)) (all_unexpected reads ends (seen text h.tokens) h.left h.first)
-      ∙ ap (λ at. Err (faults.Unexpected at)) (sym h.place)
-  is_read text (Err (faults.NumberRange at)) h = of_written text h.tokens h.tree (Some at) h.lexical h.written h.first
+  is_read text (Err (faults.Unexpected at)) h = only text h.tokens (Err (Stuck h.left)) h.lexical h.first ∙ ap (λ at. Err (faults.Unexpected at)) (sym h.place)
+  is_read text (Err (faults.NumberRange at)) h = only text h.tokens (Ok h.tree) h.lexical h.written ∙ ap (λ o. ranged o h.tree) h.first
   is_read text (Err faults.Memory) h = absurd h

@@ -4,8 +4,6 @@ use Rattle.prl_grammar.specs.Lexemes.{Lexeme}
 use Rattle.prl_grammar.specs.Productions.{Grammar, written}
 
 pub record Language (R : Type 0) : Type 1 where
-  -- some tree
-  pub sample : R
   -- what stands in parentheses
   pub body : Grammar R R
 

@@ -90,7 +90,7 @@ unfoldable pub Stem : Grammar StemTree
 Stem = Base => (λ b. ([], b)) or Prefix fixed.Tail => (λ p. p ops.Tail) or Const & AfterConst => λ x. x.1 x.0
 
 unfoldable pub programs : Language StemTree
-programs = record { sample = ([], const (values.Bool true)); body = Stem }
+programs = record { body = Stem }
 
 -- names and equations
 

@@ -4,10 +4,12 @@ use Rattle.prl_grammar.specs.Lexemes.{Lexeme}
 use Rattle.prl_grammar.specs.Language.{Language}
 use Rattle.prl_grammar.specs.Productions.{Grammar}
 use Rattle.prl_grammar.specs.code.Readers.{Read, Deep}
-use Rattle.prl_grammar.specs.code.Shapes.{Inner, shape, read}
+use Rattle.prl_grammar.specs.code.Reads.{Shape}
+use Rattle.prl_grammar.specs.code.Shapes.{shape, read}
 
-abbrev pub inner_of : {R : Type 0} → Language R → Inner R
-inner_of l = record { sample = l.sample; shape = shape (record { sample = l.sample; shape = record { first = []; nullable = false; more = [] } }) l.body }
+-- the shape of what stands in parentheses
+abbrev pub inner_of : {R : Type 0} → Language R → Shape
+inner_of l = shape (record { first = []; nullable = false; more = [] }) l.body
 
 unfoldable pub read_within : {R : Type 0} → Language R → ℕ → List Lexeme → Read R
 read_within l zero ts = Err Deep
