@@ -1,6 +1,6 @@
 -- What an answer tells: a text was taken, or begun.
-use Rattle.std.proofs.Common.{◌≡◌, ◌==◌, ◌≤◌, ◌<◌, ◌&&◌, ◌||◌, not, ℕ, zero, suc, Bool, true, false, List, [], ◌∷◌, ◌++◌, length, Ok, Err, refl, sym, ap, ◌∙◌, subst, inl, inr, ⊎_elim, arith, append_assoc, length-append}
-use Rattle.std.proofs.lemmas.Bool.{cond_both, false≢true, and_parts, or_cases, not-true, eqb-true, true≢false}
+use Rattle.std.proofs.Common.{◌≡◌, ◌==◌, ◌≤◌, ◌<◌, ◌&&◌, ◌||◌, not, ℕ, zero, suc, Bool, true, false, List, [], ◌∷◌, ◌++◌, length, Ok, Err, refl, sym, ap, ◌∙◌, subst, inl, inr, arith, append_assoc, length-append}
+use Rattle.std.proofs.lemmas.Bool.{cond_both, false≢true, and_parts, not-true, eqb-true, true≢false}
 use Rattle.prl_base.specs.Reading.{◌>>=◌}
 use Rattle.prl_grammar.specs.Lexemes.{Lexeme, first_place}
 use Rattle.prl_grammar.specs.Grammars.{One, Many}
@@ -147,9 +147,9 @@ module _ {R : Type 0} (i : Shape) (I : R → List Lexeme → Type 0) (p : List L
       let parts = and_parts _ _ (and_parts _ _ h).0 in
       told_with _ _ (λ a b. (a, b)) ts (read i p g ts) (read i p k) (λ a b u v w e m n. (u, v, e, m, n)) (example I k (λ e. some)) (told strict g parts.0 (λ e. (and_parts _ _ (guarded e)).0) ts) (λ x t.
       told_as x.1 (read i p k x.1)
-          (λ d. (d.0, near_after strict (shape i g) d.0 t.text x.1 ts (begins i I begun g x.0 t.text t.written) t.whole d.1, d.2))
-          (λ a w m. m)
-          (told (strict && (shape i g).nullable) k parts.1 (λ e. later (shape i g).nullable (is_guarded i k) (and_parts _ _ e).1 (and_parts _ _ (guarded (and_parts _ _ e).0)).1) x.1))
+      (λ d. (d.0, near_after strict (shape i g) d.0 t.text x.1 ts (begins i I begun g x.0 t.text t.written) t.whole d.1, d.2))
+      (λ a w m. m)
+      (told (strict && (shape i g).nullable) k parts.1 (λ e. later (shape i g).nullable (is_guarded i k) (and_parts _ _ e).1 (and_parts _ _ (guarded (and_parts _ _ e).0)).1) x.1))
     where
       later : (n b : Bool) → n ≡ true → (not n || b) ≡ true → b ≡ true
       later true b e h = h

@@ -1,8 +1,7 @@
 -- What texts of a grammar begin with, and that there are some.
-use Rattle.std.proofs.Common.{◌≡◌, true, false, List, [], ◌∷◌, ◌++◌, refl, sym, ap, ◌∙◌, subst, inl, inr, ⊎_elim}
+use Rattle.std.proofs.Common.{◌≡◌, false, List, [], ◌∷◌, ◌++◌, refl, sym, ap, ◌∙◌, subst, inl, inr, ⊎_elim}
 use Rattle.std.proofs.lemmas.Bool.{cond-true, cond-false, cases_Bool, and_from, and_left, and_right, or_left, or_right, eq-eqb}
 use Rattle.prl_grammar.specs.Lexemes.{Lexeme, first_place}
-use Rattle.prl_grammar.specs.Grammars.{Many}
 use Rattle.prl_grammar.specs.Productions.{Grammar, token, give, action, both, either, many, placed, inner, written}
 use Rattle.prl_grammar.specs.code.LookAhead.{is_founded}
 use Rattle.prl_grammar.specs.code.Readers.{is_in}

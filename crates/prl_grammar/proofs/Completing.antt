@@ -1,13 +1,13 @@
 -- A tree's text before what does not go on is read as the tree, unless the reader is too deep; and a deeper reader
 -- answers the same where the other one is not too deep.
-use Rattle.std.proofs.Common.{◌≡◌, ◌==◌, ℕ, zero, suc, Bool, true, false, cond, List, [], ◌∷◌, ◌++◌, length, Ok, Err, refl, sym, ap, ◌∙◌, subst, ◌⊎◌, inl, inr, ⊎_elim, append_assoc}
+use Rattle.std.proofs.Common.{◌≡◌, ◌==◌, ℕ, zero, suc, Bool, true, false, cond, List, [], ◌∷◌, ◌++◌, length, Ok, Err, refl, sym, ap, ◌∙◌, subst, ◌⊎◌, inl, inr, append_assoc}
 use Rattle.std.proofs.lemmas.Bool.{cond-true, cond-false, cond_both, false≢true, and_parts, not-true, eq-eqb}
 use Rattle.prl_base.specs.Reading.{◌>>=◌}
 use Rattle.prl_grammar.specs.Lexemes.{Lexeme, first_place}
 use Rattle.prl_grammar.specs.Grammars.{Many}
 use Rattle.prl_grammar.specs.Productions.{Grammar, token, give, action, both, either, many, placed, inner, written}
 use Rattle.prl_grammar.specs.code.LookAhead.{disjoint, IsApart}
-use Rattle.prl_grammar.specs.code.Readers.{Deep, Read, is_in, next_in, choice, one_at, many_up_to}
+use Rattle.prl_grammar.specs.code.Readers.{Deep, Read, next_in, one_at, many_up_to}
 use Rattle.prl_grammar.specs.code.Reads.{Shape, StopsBefore, Begins, then_shape, either_shape, many_shape}
 use Rattle.prl_grammar.specs.code.Shapes.{shape, read_with, read}
 use Rattle.prl_grammar.proofs.Basics.{stops_parts, apart}
@@ -85,14 +85,10 @@ hides_first s r [] rest d b stops =
 hides_first s r (t ∷ w) rest d b stops = apart s.first r.first t.class d b
 
 module _ {A : Type 0} (W : A → List Lexeme → Type 0) (s : Shape) (p : List Lexeme → Read A) (solid : s.nullable ≡ false) (apart_more : disjoint s.more s.first ≡ true) (begun : (a : A) (w : List Lexeme) → W a w → Begins s w)
-    (one : (a : A) (w rest : List Lexeme) → W a w → StopsBefore s.more rest → Under (p (w ++ rest)) (Ok (a, rest))) where
-  stops_again : (xs : List A) (v rest : List Lexeme) → Many W xs v → StopsBefore (s.first ++ s.more) rest → StopsBefore s.more (v ++ rest)
-  stops_again [] v rest h stops = let P : List Lexeme → Type 0 = λ v. StopsBefore s.more (v ++ rest) in subst P (sym h) (stops_parts s.first s.more rest stops).1
-  stops_again (a ∷ xs) v rest h stops = let P : List Lexeme → Type 0 = λ v. StopsBefore s.more (v ++ rest) in subst P (sym h.2) (go h.0 (begun a h.0 h.3))
-    where
-      go : (u : List Lexeme) → Begins s u → StopsBefore s.more ((u ++ h.1) ++ rest)
-      go [] b = absurd (false≢true (sym solid ∙ b))
-      go (t ∷ u) b = apart s.more s.first t.class apart_more b
+    (begun_many : (xs : List A) (w : List Lexeme) → Many W xs w → Begins (many_shape s) w) (one : (a : A) (w rest : List Lexeme) → W a w → StopsBefore s.more rest → Under (p (w ++ rest)) (Ok (a, rest))) where
+  stops_again : (v rest : List Lexeme) → Begins (many_shape s) v → StopsBefore (s.first ++ s.more) rest → StopsBefore s.more (v ++ rest)
+  stops_again [] rest b stops = (stops_parts s.first s.more rest stops).1
+  stops_again (t ∷ v) rest b stops = apart s.more s.first t.class apart_more b
 
   -- the first of them shows
   next : (a : A) (xs : List A) (w rest : List Lexeme) → Many W (a ∷ xs) w → next_in s.first (w ++ rest) ≡ true
@@ -106,7 +102,7 @@ module _ {A : Type 0} (W : A → List Lexeme → Type 0) (s : Shape) (p : List L
   many_complete (suc n) (a ∷ xs) w rest h stops =
       let P : Read (List A) → Type 0 = λ r. Under r (Ok (a ∷ xs, rest)) in
       subst P (sym (cond-true (next_in s.first (w ++ rest)) _ _ (next a xs w rest h)))
-      (with_complete (λ a xs. a ∷ xs) p (many_up_to s.first p n) a xs h.0 h.1 w rest h.2 (one a h.0 (h.1 ++ rest) h.3 (stops_again xs h.1 rest h.4 stops)) (many_complete n xs h.1 rest h.4 stops))
+      (with_complete (λ a xs. a ∷ xs) p (many_up_to s.first p n) a xs h.0 h.1 w rest h.2 (one a h.0 (h.1 ++ rest) h.3 (stops_again h.1 rest (begun_many xs h.1 h.4) stops)) (many_complete n xs h.1 rest h.4 stops))
 
 module _ {R : Type 0} (i : Shape) (I : R → List Lexeme → Type 0) (p : List Lexeme → Read R) (begun : (t : R) (w : List Lexeme) → I t w → Begins i w)
     (inside : (t : R) (w rest : List Lexeme) → I t w → StopsBefore i.more rest → Under (p (w ++ rest)) (Ok (t, rest))) where
@@ -133,7 +129,7 @@ module _ {R : Type 0} (i : Shape) (I : R → List Lexeme → Type 0) (p : List L
   complete (many g) h xs w rest m stops =
       let all = and_parts _ _ h in
       let parts = and_parts _ _ all.0 in
-      many_complete (written I g) (shape i g) (read i p g) (not-true _ parts.1) all.1 (begins i I begun g) (complete g parts.0) (length (w ++ rest)) xs w rest m stops
+      many_complete (written I g) (shape i g) (read i p g) (not-true _ parts.1) all.1 (begins i I begun g) (begins i I begun (many g)) (complete g parts.0) (length (w ++ rest)) xs w rest m stops
   complete (placed g) h x w rest m stops =
       let parts = and_parts _ _ h in
       then_under (read i p g (w ++ rest)) (x.1, rest) _ _ (complete g parts.0 x.1 w rest m.1 stops)

@@ -1,6 +1,6 @@
 -- An answer depends on the tokens that were taken and the class of the next one alone.
 use Rattle.std.proofs.Common.{◌≡◌, ◌==◌, ◌≤◌, ◌<◌, ◌+◌, ℕ, zero, suc, true, false, cond, List, [], ◌∷◌, ◌++◌, length, Option, Some, None, Ok, Err, refl, sym, ap, ◌∙◌, subst, ⊎_elim, arith, append_assoc, length-append}
-use Rattle.std.proofs.lemmas.Bool.{cond-true, cond-false, cases_cond, cases_Bool, false≢true, and_parts, not-true}
+use Rattle.std.proofs.lemmas.Bool.{cond-true, cond-false, cases_Bool, false≢true, and_parts, not-true}
 use Rattle.prl_base.specs.Reading.{◌>>=◌}
 use Rattle.prl_grammar.specs.Lexemes.{Lexeme, first_place}
 use Rattle.prl_grammar.specs.Productions.{Grammar, token, give, action, both, either, many, placed, inner, written}
@@ -11,7 +11,7 @@ use Rattle.prl_grammar.specs.code.Reads.{Shape, Begins}
 use Rattle.prl_grammar.specs.code.Shapes.{shape, read_with, read}
 use Rattle.prl_grammar.proofs.Answers.{Taken, Told, told_as, told, told_many, fewer}
 use Rattle.prl_grammar.proofs.Basics.{next_class_append, next_in_class, same_cut}
-use Rattle.prl_grammar.proofs.Beginnings.{Some as SomeText, begins, example}
+use Rattle.prl_grammar.proofs.Beginnings.{Some as SomeText, begins}
 
 -- a tree before these tokens, or none
 abbrev pub answer : {A : Type 0} → Option A → List Lexeme → Read A
@@ -48,23 +48,23 @@ first_continues {A} p less on [] rest other o n e = let made = made_of (λ a. (f
     go None d e = ap (λ r. r >>= λ x. Ok ((first_place other, x.0), x.1)) (on [] rest other None n d) ∙ e
 
 -- where a reader came to
-came : {A : Type 0} (D : Type 0) (W : A → List Lexeme → Type 0) (ts : List Lexeme) (o : Option A) (rest : List Lexeme) → Told D W ts (answer o rest) → (u : List Lexeme) × (v : List Lexeme) × (ts ≡ u ++ v) × (length rest ≡ length v)
-came D W ts (Some a) rest t = (t.text, rest, t.whole, refl)
-came D W ts None rest c = (c.taken, c.rest, c.whole, c.count)
+came : {A : Type 0} (W : A → List Lexeme → Type 0) (ts : List Lexeme) (o : Option A) (rest : List Lexeme) → Told (Unit {0}) W ts (answer o rest) → (u : List Lexeme) × (v : List Lexeme) × (ts ≡ u ++ v) × (length rest ≡ length v)
+came W ts (Some a) rest t = (t.text, rest, t.whole, refl)
+came W ts None rest c = (c.taken, c.rest, c.whole, c.count)
 
-with_continues : {A B C : Type 0} (D E : Type 0) (W : A → List Lexeme → Type 0) (V : B → List Lexeme → Type 0) (f : A → B → C) (p : List Lexeme → Read A) (q : List Lexeme → Read B)
-    → ((ts : List Lexeme) → Told D W ts (p ts)) → ((ts : List Lexeme) → Told E V ts (q ts)) → Continues p → Continues q → Continues (read_with f p q)
-with_continues {A} {B} {C} D E W V f p q p_told q_told p_on q_on w rest other o n e = go (p (w ++ rest)) refl o e
+with_continues : {A B C : Type 0} (W : A → List Lexeme → Type 0) (V : B → List Lexeme → Type 0) (f : A → B → C) (p : List Lexeme → Read A) (q : List Lexeme → Read B)
+    → ((ts : List Lexeme) → Told (Unit {0}) W ts (p ts)) → ((ts : List Lexeme) → Told (Unit {0}) V ts (q ts)) → Continues p → Continues q → Continues (read_with f p q)
+with_continues {A} {B} {C} W V f p q p_told q_told p_on q_on w rest other o n e = go (p (w ++ rest)) refl o e
   where
     go : (r : Read A) → p (w ++ rest) ≡ r → (o : Option C) → (r >>= λ x. (q x.1 >>= λ y. Ok (f x.0 y.0, y.1))) ≡ answer o rest → read_with f p q (w ++ other) ≡ answer o other
     go (Err s) d (Some c) e = cc
     go (Err s) d None e = let stuck : s ≡ Stuck (length rest) = cc in ap (λ r. r >>= λ x. (q x.1 >>= λ y. Ok (f x.0 y.0, y.1))) (p_on w rest other None n (d ∙ ap Err stuck))
     go (Ok x) d o e =
-        let P : Read A → Type 0 = Told D W (w ++ rest) in
-        let Q : Read B → Type 0 = Told E V x.1 in
+        let P : Read A → Type 0 = Told (Unit {0}) W (w ++ rest) in
+        let Q : Read B → Type 0 = Told (Unit {0}) V x.1 in
         let t : Taken W (w ++ rest) x.0 x.1 = subst P d (p_told (w ++ rest)) in
         let made = made_of (f x.0) (q x.1) o rest other e in
-        let k = came E V x.1 made.0 rest (subst Q made.1 (q_told x.1)) in
+        let k = came V x.1 made.0 rest (subst Q made.1 (q_told x.1)) in
         let cut = same_cut w (t.text ++ k.0) rest k.1 (t.whole ∙ ap (λ r. t.text ++ r) k.2 ∙ sym (append_assoc t.text k.0 k.1)) k.3 in
         let between : x.1 ≡ k.0 ++ rest = k.2 ∙ ap (λ r. k.0 ++ r) (sym cut.1) in
         let moved : (more : List Lexeme) → p (w ++ more) ≡ p (t.text ++ (k.0 ++ more)) = λ more. ap (λ u. p (u ++ more)) cut.0 ∙ ap p (append_assoc t.text k.0 more) in
@@ -144,12 +144,9 @@ module _ {A : Type 0} (ks : List ℕ) (p : List Lexeme → Read A) (less : (ts :
       let lt = less (t ∷ ts) x.0 x.1 e in
       ap (λ y. y >>= λ y. Ok (x.0 ∷ y.0, y.1)) (many_agree (length ts) (length x.1) x.1 (omega arith) (omega arith))))
 
-module _ {R : Type 0} (i : Shape) (I : R → List Lexeme → Type 0) (p : List Lexeme → Read R) (begun : (t : R) (w : List Lexeme) → I t w → Begins i w) (some : SomeText I) (inside : (ts : List Lexeme) → Told (Unit {0}) I ts (p ts)) where
-  abbrev Tells : {A : Type 0} → (A → List Lexeme → Type 0) → (List Lexeme → Read A) → Type 0
-  Tells W q = (ts : List Lexeme) → Told (Unit {0}) W ts (q ts)
-
-  pub tells : {A : Type 0} (g : Grammar R A) → IsApart i g → Tells (written I g) (read i p g)
-  tells g h ts = told_as ts (read i p g ts) (λ d. tt) (λ a w m. m) (told i I p (λ us. Unit {0}) begun some inside false g h (λ e. absurd (false≢true e)) ts)
+module _ {R : Type 0} (i : Shape) (I : R → List Lexeme → Type 0) (p : List Lexeme → Read R) (D : List Lexeme → Type 0) (begun : (t : R) (w : List Lexeme) → I t w → Begins i w) (some : SomeText I) (inside : (ts : List Lexeme) → Told (D ts) I ts (p ts)) where
+  tells : {A : Type 0} (g : Grammar R A) → IsApart i g → (ts : List Lexeme) → Told (Unit {0}) (written I g) ts (read i p g ts)
+  tells g h ts = told_as ts (read i p g ts) (λ d. tt) (λ a w m. m) (told i I p D begun some inside false g h (λ e. absurd (false≢true e)) ts)
 
   pub leaves_fewer : {A : Type 0} (g : Grammar R A) → IsApart i (placed g) → (ts : List Lexeme) (a : A) (rest : List Lexeme) → read i p g ts ≡ Ok (a, rest) → length rest < length ts
   leaves_fewer {A} g h ts a rest e =
@@ -163,7 +160,7 @@ module _ {R : Type 0} (i : Shape) (I : R → List Lexeme → Type 0) (p : List L
   many_continues g h on (suc n) =
       let parts = and_parts _ _ h in
       choice_continues (shape i g).first (read_with (λ a xs. a ∷ xs) (read i p g) (many_up_to (shape i g).first (read i p g) n)) (λ ts. Ok ([], ts))
-      (with_continues (Unit {0}) (Unit {0}) (written I g) (written I (many g)) (λ a xs. a ∷ xs) (read i p g) (many_up_to (shape i g).first (read i p g) n) (tells g parts.0)
+      (with_continues (written I g) (written I (many g)) (λ a xs. a ∷ xs) (read i p g) (many_up_to (shape i g).first (read i p g) n) (tells g parts.0)
       (λ ts. told_many (shape i g).first (read i p g) (length ts) (fewer (shape i g) (not-true _ parts.1) (begins i I begun g)) (λ us le. tells g parts.0 us) n ts (omega arith) (λ long. tt))
       on (many_continues g h on n))
       (give_continues [])
@@ -174,7 +171,7 @@ module _ {R : Type 0} (i : Shape) (I : R → List Lexeme → Type 0) (p : List L
   continues on (action g f) h = action_continues f (read i p g) (continues on g h)
   continues on (both g k) h =
       let parts = and_parts _ _ (and_parts _ _ h).0 in
-      with_continues (Unit {0}) (Unit {0}) (written I g) (written I k) (λ a b. (a, b)) (read i p g) (read i p k) (tells g parts.0) (tells k parts.1) (continues on g parts.0) (continues on k parts.1)
+      with_continues (written I g) (written I k) (λ a b. (a, b)) (read i p g) (read i p k) (tells g parts.0) (tells k parts.1) (continues on g parts.0) (continues on k parts.1)
   continues on (either g k) h =
       let parts = and_parts _ _ (and_parts _ _ h).0 in
       choice_continues (shape i g).first (read i p g) (read i p k) (continues on g parts.0) (continues on k parts.1)

@@ -1,7 +1,6 @@
 -- Grammars that grow with the depth of parentheses.
 use Rattle.std.proofs.Common.{◌≤◌, ◌+◌, ℕ, zero, suc, List, [], ◌∷◌, inl, inr, arith}
 use Rattle.prl_grammar.specs.Lexemes.{Lexeme}
-use Rattle.prl_grammar.specs.Grammars.{Many}
 use Rattle.prl_grammar.specs.Productions.{Grammar, token, give, action, both, either, many, placed, inner, written}
 use Rattle.prl_grammar.specs.Language.{Language, within, nested}
 

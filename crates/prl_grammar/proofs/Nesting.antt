@@ -1,14 +1,14 @@
 -- Languages are read as deep as their tokens reach, and each list of tokens has an answer.
-use Rattle.std.proofs.Common.{◌≡◌, ◌<◌, ◌≤◌, true, false, ℕ, zero, suc, List, [], ◌∷◌, ◌++◌, length, Ok, Err, refl, sym, ap, ◌∙◌, subst, inl, inr, ⊎_elim, arith, length-append}
+use Rattle.std.proofs.Common.{◌≡◌, ◌<◌, ◌≤◌, true, false, ℕ, zero, suc, List, [], ◌∷◌, ◌++◌, length, Ok, refl, sym, ap, ◌∙◌, subst, inl, inr, ⊎_elim, arith, length-append}
 use Rattle.std.proofs.lemmas.Bool.{cases_lt, false≢true, true≢false}
 use Rattle.prl_grammar.specs.Lexemes.{Lexeme}
-use Rattle.prl_grammar.specs.Productions.{Grammar, placed, written}
+use Rattle.prl_grammar.specs.Productions.{Grammar, placed}
 use Rattle.prl_grammar.specs.Language.{Language, within, nested, Text}
 use Rattle.prl_grammar.specs.code.Languages.{inner_of, read_within, read_nested, read_at}
 use Rattle.prl_grammar.specs.code.LookAhead.{IsApart, is_guarded, is_founded}
-use Rattle.prl_grammar.specs.code.Readers.{Deep, Read}
+use Rattle.prl_grammar.specs.code.Readers.{Read}
 use Rattle.prl_grammar.specs.code.Reads.{Shape, Begins, StopsBefore}
-use Rattle.prl_grammar.specs.code.Shapes.{shape, read}
+use Rattle.prl_grammar.specs.code.Shapes.{shape}
 use Rattle.prl_grammar.proofs.Answers.{Taken, Told, told_as, told}
 use Rattle.prl_grammar.proofs.Basics.{contained, inside, stops_inside}
 use Rattle.prl_grammar.proofs.Beginnings.{Some, begins, example}
@@ -96,7 +96,7 @@ module _ {R : Type 0} (l : Language R) (right : IsRight l) where
   within_continues : (n : ℕ) → Continues (read_within l n)
   unfolding read_within
   within_continues zero = deep_continues
-  within_continues (suc n) = continues (inner_of l) (nested l) (read_within l n) begun some (λ ts. told_as ts (read_within l n ts) (λ d. tt) (λ a w h. h) (told_within n ts)) (within_continues n) l.body right.apart
+  within_continues (suc n) = continues (inner_of l) (nested l) (read_within l n) (λ us. n ≤ length us) begun some (told_within n) (within_continues n) l.body right.apart
 
   nested_continues : Continues (read_nested l)
   unfolding read_nested
@@ -120,7 +120,7 @@ module _ {R : Type 0} (l : Language R) (right : IsRight l) where
     pub text_reads : Reads (Text l g) (shape (inner_of l) g) (read_at l g)
     text_reads = record {
       told = text_told;
-      continues = continues (inner_of l) (nested l) (read_nested l) begun some (λ ts. told_as ts (read_nested l ts) (λ d. tt) (λ a w h. h) (nested_told ts)) nested_continues g apart;
+      continues = continues (inner_of l) (nested l) (read_nested l) (λ us. ⊥) begun some nested_told nested_continues g apart;
       complete = λ a w rest h stops. settled (Text l g) (w ++ rest) _ _ (text_told (w ++ rest)) (complete (inner_of l) (nested l) (read_nested l) begun nested_complete g apart a w rest h stops);
     }
 
@@ -133,4 +133,4 @@ module _ {R : Type 0} (l : Language R) (right : IsRight l) where
 
   -- and one that is not empty fewer
   pub text_fewer : {A : Type 0} (g : Grammar R A) → IsApart (inner_of l) (placed g) → (ts : List Lexeme) (a : A) (rest : List Lexeme) → read_at l g ts ≡ Ok (a, rest) → length rest < length ts
-  text_fewer = leaves_fewer (inner_of l) (nested l) (read_nested l) begun some (λ ts. told_as ts (read_nested l ts) (λ d. tt) (λ a w h. h) (nested_told ts))
+  text_fewer = leaves_fewer (inner_of l) (nested l) (read_nested l) (λ us. ⊥) begun some nested_told

@@ -1,5 +1,5 @@
 -- What is read of a text is the tree that the grammar gives it, or its first fault.
-use Rattle.std.proofs.Common.{◌≡◌, ℕ, false, List, length, Option, Some, None, Result, Ok, Err, refl, sym, ap, ◌∙◌, subst}
+use Rattle.std.proofs.Common.{◌≡◌, ℕ, false, List, length, Option, Some, None, Result, Ok, Err, refl, sym, ap, ◌∙◌}
 use Rattle.prl_base.specs.Reading.{◌>>=◌}
 use Rattle.prl_lex.specs.declared.tokens.LexFault.{LexFault}
 use Rattle.prl_lex.specs.declared.tokens.Token.{Token}
@@ -10,8 +10,7 @@ use Rattle.prl_grammar.specs.Language.{Text}
 use Rattle.prl_grammar.specs.Lexemes.{Lexeme}
 use Rattle.prl_grammar.specs.Lexing.{lexemes_of}
 use Rattle.prl_grammar.specs.Ranges.{out_of_range}
-use Rattle.prl_grammar.specs.Texts.{Texts, IsTextOf, IsRead}
-use Rattle.prl_grammar.specs.Whole.{place_of}
+use Rattle.prl_grammar.specs.Texts.{Texts, IsRead}
 use Rattle.prl_grammar.specs.code.Languages.{inner_of, read_at}
 use Rattle.prl_grammar.specs.code.LookAhead.{IsApart}
 use Rattle.prl_grammar.specs.code.Readers.{Stop, Stuck, Deep}

@@ -47,7 +47,11 @@ fn of_stop(terminals: &[Terminal], end: u32, stop: Stop) -> TextFault
 
 /// The tree that the tokens of a text of so many bytes have.
 #[tactic(auto, unfolding(crate::specs::code::Texts::tree_of_tokens))]
-fn tree_of_tokens<S: Syntax>(alloc: Global, terminals: &[Terminal], end: u32) -> Result<S::Tree, TextFault>
+fn tree_of_tokens<S: Syntax>(
+    alloc: Global,
+    terminals: &[Terminal],
+    end: u32,
+) -> Result<S::Tree, TextFault>
     ensures { GivesBut TextFault.Memory S.seen result (tree_of_tokens S.texts terminals.now end) }
 {
     let tree = match S::read(alloc, terminals) {

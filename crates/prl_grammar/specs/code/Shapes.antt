@@ -1,5 +1,5 @@
 -- How grammars are read, with one token of look-ahead.
-use Rattle.std.specs.Prelude.{ℕ, true, false, List, [], ◌∷◌, Ok}
+use Rattle.std.specs.Prelude.{true, false, List, [], ◌∷◌, Ok}
 use Rattle.prl_base.specs.Reading.{◌>>=◌}
 use Rattle.prl_grammar.specs.Lexemes.{Lexeme}
 use Rattle.prl_grammar.specs.Productions.{Grammar, token, give, action, both, either, many, placed, inner}
