@@ -9,7 +9,7 @@ use Rattle.prl_grammar.specs.code.LookAhead.{IsApart, is_guarded}
 use Rattle.prl_grammar.specs.code.Readers.{Stuck, Deep, Read, next_in, one_at, many_up_to}
 use Rattle.prl_grammar.specs.code.Reads.{Shape, Begins}
 use Rattle.prl_grammar.specs.code.Shapes.{shape, read}
-use Rattle.prl_grammar.proofs.Beginnings.{Some, begins, example}
+use Rattle.prl_grammar.proofs.Beginnings.{same_place, Some, begins, example}
 
 -- What was taken is the text of a tree.
 pub record Taken {A : Type 0} (W : A → List Lexeme → Type 0) (ts : List Lexeme) (a : A) (rest : List Lexeme) : Type 0 where
@@ -87,33 +87,30 @@ fewer s solid begun ts a rest t = omega (arith, ap length t.whole, length-append
     some [] b = absurd (false≢true (sym solid ∙ b))
     some (t ∷ w) b = omega arith
 
--- of many in a row, where each is so of at most so many tokens
-pub told_many : {A : Type 0} {D : Type 0} {W : A → List Lexeme → Type 0} (ks : List ℕ) (p : List Lexeme → Read A) (most : ℕ) → ((ts : List Lexeme) (a : A) (rest : List Lexeme) → Taken W ts a rest → length rest < length ts)
-    → ((ts : List Lexeme) → length ts ≤ most → Told D W ts (p ts)) → (n : ℕ) (ts : List Lexeme) → length ts ≤ most → (n < length ts → D) → Told D (Many W) ts (many_up_to ks p n ts)
-unfolding many_up_to
-told_many {A} {D} {W} ks p most less one n ts le deep = go n ts le deep
-  where
-    none : (ts : List Lexeme) → Taken (Many W) ts [] ts
-    none ts = record { text = []; whole = refl; written = refl }
+none : {A : Type 0} (W : A → List Lexeme → Type 0) (ts : List Lexeme) → Taken (Many W) ts [] ts
+none W ts = record { text = []; whole = refl; written = refl }
 
-    go : (n : ℕ) (ts : List Lexeme) → length ts ≤ most → (n < length ts → D) → Told D (Many W) ts (many_up_to ks p n ts)
-    go zero [] le deep = none []
-    go zero (t ∷ ts) le deep = cond_both (next_in ks (t ∷ ts)) _ _ (Told D (Many W) (t ∷ ts)) (λ e. deep (omega arith)) (λ e. none (t ∷ ts))
-    go (suc n) ts le deep = cond_both (next_in ks ts) _ _ (Told D (Many W) ts)
-        (λ e. told_with _ _ (λ a xs. a ∷ xs) ts (p ts) (many_up_to ks p n) (λ a xs u v w e h k. (u, v, e, h, k)) ([], [], refl) (one ts le) (λ x t.
-        let lt = less ts x.0 x.1 t in
-        go n x.1 (omega arith) (λ long. deep (omega arith))))
-        (λ e. none ts)
+-- of many in a row, where each is so of at most so many tokens
+module _ {A : Type 0} {D : Type 0} {W : A → List Lexeme → Type 0} (ks : List ℕ) (p : List Lexeme → Read A) (most : ℕ) (less : (ts : List Lexeme) (a : A) (rest : List Lexeme) → Taken W ts a rest → length rest < length ts) (one : (ts : List Lexeme) → length ts ≤ most → Told D W ts (p ts)) where
+  pub told_many : (n : ℕ) (ts : List Lexeme) → length ts ≤ most → (n < length ts → D) → Told D (Many W) ts (many_up_to ks p n ts)
+  unfolding many_up_to
+  told_many zero [] le deep = none W []
+  told_many zero (t ∷ ts) le deep = cond_both (next_in ks (t ∷ ts)) _ _ (Told D (Many W) (t ∷ ts)) (λ e. deep (omega arith)) (λ e. none W (t ∷ ts))
+  told_many (suc n) ts le deep = cond_both (next_in ks ts) _ _ (Told D (Many W) ts)
+      (λ e. told_with _ _ (λ a xs. a ∷ xs) ts (p ts) (many_up_to ks p n) (λ a xs u v w e h k. (u, v, e, h, k)) ([], [], refl) (one ts le) (λ x t.
+      let lt = less ts x.0 x.1 t in
+      told_many n x.1 (omega arith) (λ long. deep (omega arith))))
+      (λ e. none W ts)
+
+-- a token of the class may come
+may_come : (class : ℕ) (ts : List Lexeme) → CanComplete (One class) ts (length ts)
+may_come class ts = let e = example {R = ℕ} (λ t w. ⊥) (token class) (λ e. absurd (true≢false e)) in record { taken = []; rest = ts; more = e.1; tree = e.0; whole = refl; count = refl; completed = e.2 }
 
 told_one : (D : Type 0) (class : ℕ) (ts : List Lexeme) → Told D (One class) ts (one_at class ts)
-told_one D class ts = go ts
-  where
-    stuck : (ts : List Lexeme) → CanComplete (One class) ts (length ts)
-    stuck ts = let e = example {R = ℕ} (λ t w. ⊥) (token class) (λ e. absurd (true≢false e)) in record { taken = []; rest = ts; more = e.1; tree = e.0; whole = refl; count = refl; completed = e.2 }
-
-    go : (ts : List Lexeme) → Told D (One class) ts (one_at class ts)
-    go [] = stuck []
-    go (t ∷ ts) = cond_both (t.class == class) _ _ (Told D (One class) (t ∷ ts)) (λ e. record { text = t ∷ []; whole = refl; written = record { is = eqb-true t.class class e; whole = refl } }) (λ e. stuck (t ∷ ts))
+told_one D class [] = may_come class []
+told_one D class (t ∷ ts) = cond_both (t.class == class) _ _ (Told D (One class) (t ∷ ts))
+    (λ e. record { text = t ∷ []; whole = refl; written = record { is = eqb-true t.class class e; whole = refl } })
+    (λ e. may_come class (t ∷ ts))
 
 -- no more tokens, or fewer
 abbrev pub Near : Bool → List Lexeme → List Lexeme → Type 0
@@ -166,10 +163,9 @@ module _ {R : Type 0} (i : Shape) (I : R → List Lexeme → Type 0) (p : List L
       (length ts) ts (omega arith) (λ long. absurd (omega arith))
   told strict (placed g) h guarded ts =
       let parts = and_parts _ _ h in
-      told_made _ (λ a. (first_place ts, a)) ts (read i p g ts) (λ a u v e m. (same_place u v (begins i I begun g a u m) e, m)) (λ a w m. ((first_place w, a), (refl, m))) (told strict g parts.0 guarded ts)
-    where
-      same_place : (u v : List Lexeme) → Begins (shape i g) u → ts ≡ u ++ v → first_place ts ≡ first_place u
-      same_place [] v b e = absurd (false≢true (sym (not-true _ (and_parts _ _ h).1) ∙ b))
-      same_place (t ∷ u) v b e = ap first_place e
+      told_made _ (λ a. (first_place ts, a)) ts (read i p g ts)
+      (λ a u v e m. (ap first_place e ∙ same_place (shape i g) u v (not-true _ parts.1) (begins i I begun g a u m), m))
+      (λ a w m. ((first_place w, a), (refl, m)))
+      (told strict g parts.0 guarded ts)
   told true inner h guarded ts = absurd (false≢true (guarded refl))
   told false inner h guarded ts = told_as ts (p ts) (λ d. (ts, omega arith, d)) (λ a w m. m) (inside ts)

@@ -1,6 +1,6 @@
 -- What texts of a grammar begin with, and that there are some.
 use Rattle.std.proofs.Common.{◌≡◌, false, List, [], ◌∷◌, ◌++◌, refl, sym, ap, ◌∙◌, subst, inl, inr, ⊎_elim}
-use Rattle.std.proofs.lemmas.Bool.{cond-true, cond-false, cases_Bool, and_from, and_left, and_right, or_left, or_right, eq-eqb}
+use Rattle.std.proofs.lemmas.Bool.{false≢true, cond-true, cond-false, cases_Bool, and_from, and_left, and_right, or_left, or_right, eq-eqb}
 use Rattle.prl_grammar.specs.Lexemes.{Lexeme, first_place}
 use Rattle.prl_grammar.specs.Productions.{Grammar, token, give, action, both, either, many, placed, inner, written}
 use Rattle.prl_grammar.specs.code.LookAhead.{is_founded}
@@ -31,6 +31,11 @@ more_begins s (t ∷ u) v a b = a
 
 same_begins : (s : Shape) (v w : List Lexeme) → w ≡ v → Begins s v → Begins s w
 same_begins s v w e b = let P : List Lexeme → Type 0 = Begins s in subst P (sym e) b
+
+-- a text that is not empty has its own first place
+pub same_place : (s : Shape) (w rest : List Lexeme) → s.nullable ≡ false → Begins s w → first_place (w ++ rest) ≡ first_place w
+same_place s [] rest solid b = absurd (false≢true (sym solid ∙ b))
+same_place s (t ∷ w) rest solid b = refl
 
 module _ {R : Type 0} (i : Shape) (I : R → List Lexeme → Type 0) (begun : (t : R) (w : List Lexeme) → I t w → Begins i w) where
   pub begins : {A : Type 0} (g : Grammar R A) (a : A) (w : List Lexeme) → written I g a w → Begins (shape i g) w

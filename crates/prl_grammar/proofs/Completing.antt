@@ -11,7 +11,7 @@ use Rattle.prl_grammar.specs.code.Readers.{Deep, Read, next_in, one_at, many_up_
 use Rattle.prl_grammar.specs.code.Reads.{Shape, StopsBefore, Begins, then_shape, either_shape, many_shape}
 use Rattle.prl_grammar.specs.code.Shapes.{shape, read_with, read}
 use Rattle.prl_grammar.proofs.Basics.{stops_parts, apart}
-use Rattle.prl_grammar.proofs.Beginnings.{begins}
+use Rattle.prl_grammar.proofs.Beginnings.{same_place, begins}
 
 -- the same answer, or too deep
 abbrev pub Under : {A : Type 0} → Read A → Read A → Type 0
@@ -133,9 +133,5 @@ module _ {R : Type 0} (i : Shape) (I : R → List Lexeme → Type 0) (p : List L
   complete (placed g) h x w rest m stops =
       let parts = and_parts _ _ h in
       then_under (read i p g (w ++ rest)) (x.1, rest) _ _ (complete g parts.0 x.1 w rest m.1 stops)
-      (inr (ap (λ at. Ok ((at, x.1), rest)) (same_place w (begins i I begun g x.1 w m.1) ∙ sym m.0)))
-    where
-      same_place : (w : List Lexeme) → Begins (shape i g) w → first_place (w ++ rest) ≡ first_place w
-      same_place [] b = absurd (false≢true (sym (not-true _ (and_parts _ _ h).1) ∙ b))
-      same_place (t ∷ w) b = refl
+      (inr (ap (λ at. Ok ((at, x.1), rest)) (same_place (shape i g) w rest (not-true _ parts.1) (begins i I begun g x.1 w m.1) ∙ sym m.0)))
   complete inner h t w rest m stops = inside t w rest m stops

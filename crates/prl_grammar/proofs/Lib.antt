@@ -1,4 +1,4 @@
--- for the crates above: readers of one token and of several, and grammars as data
+-- The laws of reading by grammars, for the crates above.
 pub mod Basics
 pub mod Beginnings
 pub mod Growing
