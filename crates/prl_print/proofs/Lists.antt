@@ -12,12 +12,11 @@ others_push : (ts : List Tree) (t : Tree) → printed_others (trees_from (ts ++ 
 others_push [] t = append-nil (codes ", " ++ printed_tree t)
 others_push (s ∷ ts) t = simp (others_push ts t, append_assoc)
 
-comma_later : (n : ℕ) → comma_before (suc n) ≡ codes ", "
-comma_later n = grind (arith, nat_tests)
-
 trees_push : (ts : List Tree) (t : Tree) → printed_trees (trees_from (ts ++ t ∷ [])) ≡ printed_trees (trees_from ts) ++ comma_before (length ts) ++ printed_tree t
 trees_push [] t = append-nil (printed_tree t)
-trees_push (s ∷ ts) t = simp (others_push ts t, comma_later (length ts), append_assoc)
+trees_push (s ∷ ts) t =
+    let comma : comma_before (suc (length ts)) ≡ codes ", " = grind (arith, nat_tests) in
+    simp (others_push ts t, comma, append_assoc)
 
 -- one expression more
 pub enclosed_more : (start text between text' : List ℕ) (xs : List Expr) (i : ℕ) (x : Expr) → i < length xs → x ≡ get_or xs i x
@@ -34,9 +33,9 @@ pub ok_as : {E : Type 0} (r : Result (Unit {0}) E) (new old a b : List ℕ) → 
 ok_as (Ok x) new old a b e h = h ∙ ap (λ t. old ++ t) e
 ok_as (Err s) new old a b e h = tt
 
-pub ok_behind : {E : Type 0} (r : Result (Unit {0}) E) (new text old a b : List ℕ) → text ≡ old ++ a → OnOk r (new ≡ text ++ b) → OnOk r (new ≡ old ++ (a ++ b))
-ok_behind (Ok x) new text old a b e h = h ∙ ap (λ t. t ++ b) e ∙ append_assoc old a b
-ok_behind (Err s) new text old a b e h = tt
+pub ok_after : {E : Type 0} (r : Result (Unit {0}) E) (new text old a b : List ℕ) → text ≡ old ++ a → OnOk r (new ≡ text ++ b) → OnOk r (new ≡ old ++ (a ++ b))
+ok_after (Ok x) new text old a b e h = h ∙ ap (λ t. t ++ b) e ∙ append_assoc old a b
+ok_after (Err s) new text old a b e h = tt
 
 -- texts that are appended one after another
 pub joined_seven : (old a b c d e f g t1 t2 t3 t4 t5 t6 t7 : List ℕ) → t1 ≡ old ++ a → t2 ≡ t1 ++ b → t3 ≡ t2 ++ c → t4 ≡ t3 ++ d → t5 ≡ t4 ++ e → t6 ≡ t5 ++ f → t7 ≡ t6 ++ g

@@ -12,9 +12,8 @@ use Rattle.prl_base.specs.declared.decimals.TheConstants.{MAX_POSITIVE}
 use Rattle.prl_lex.specs.declared.tokens.Kind.{Kind}
 use Rattle.prl_lex.specs.declared.tokens.Kind.TheVariants.{Word, Number, Symbol}
 use Rattle.prl_lex.specs.declared.tokens.Token.{Token}
-use Rattle.prl_lex.specs.declared.pieces.Piece.{Piece}
 use Rattle.prl_lex.specs.declared.pieces.Piece.TheVariants as pieces
-use Rattle.prl_lex.specs.Tokens.{is_blank, begins, piece_of, FitsPiece, is_one_byte_symbol, is_two_byte_symbol}
+use Rattle.prl_lex.specs.Tokens.{is_blank, begins, piece_of, FitsPiece, is_one_byte_symbol, is_two_byte_symbol, is_symbol}
 use Rattle.prl_lex.specs.FirstByte.{token_by_first, symbol_by_bytes}
 use Rattle.prl_lex.specs.Lexing.{token_text, depth_after, checked, tokens_from}
 use Rattle.prl_lex.proofs.Fits.{piece_of_fits}
@@ -33,8 +32,7 @@ constant n = leb n MAX_POSITIVE
 abbrev pub part : ℕ → Bool
 part n = leb n 2147483647
 
--- the bytes that may not come next: what would make a comment of a parenthesis, or another symbol of a slash, and after a word or a number
--- a byte of a word too
+-- the bytes that may not come next: those that make a comment of a parenthesis or another symbol of a slash, and after a word those of words too
 abbrev pub loud : ℕ → Bool
 loud b = (b == 42) || (b == 94)
 
@@ -54,7 +52,7 @@ abbrev pub Stops : (ℕ → Bool) → List ℕ → Type 0
 Stops p [] = Unit {0}
 Stops p (b ∷ bs) = p b ≡ false
 
-pub stops_as : (p q : ℕ → Bool) → ((b : ℕ) → p b ≡ false → q b ≡ false) → (text : List ℕ) → Stops p text → Stops q text
+stops_as : (p q : ℕ → Bool) → ((b : ℕ) → p b ≡ false → q b ≡ false) → (text : List ℕ) → Stops p text → Stops q text
 stops_as p q less [] h = tt
 stops_as p q less (b ∷ bs) h = less b h
 
@@ -87,18 +85,16 @@ pub scan_end : {inside : Bool} {r stop : ℕ → Bool} {depth : ℕ} (at : ℕ) 
 unfolding out_of_range tokens_from
 scan_end at whole h = record { bytes = tt; tokens = []; seen = refl; reads = (tt, h, refl, λ last e. refl) }
 
--- other bytes may not come next
-pub scan_as : {inside : Bool} {r p q : ℕ → Bool} {depth at : ℕ} {whole text : List ℕ} {w : List Lexeme} → ((b : ℕ) → p b ≡ false → q b ≡ false) → Scan (state inside r p depth) at whole text w → Scan (state inside r q depth) at whole text w
-scan_as {p} {q} {text} less s = record { bytes = s.bytes; tokens = s.tokens; seen = s.seen; reads = (stops_as p q less text s.reads.0, s.reads.1, s.reads.2, s.reads.3) }
+-- fewer bytes may not come next
+pub scan_loud : {inside : Bool} {r : ℕ → Bool} {depth at : ℕ} {whole text : List ℕ} {w : List Lexeme} → Scan (state inside r wordy depth) at whole text w → Scan (state inside r loud depth) at whole text w
+scan_loud {text} s = record { bytes = s.bytes; tokens = s.tokens; seen = s.seen; reads = (stops_as wordy loud (λ b h. (or_parts (is_word_byte b) (loud b) h).1) text s.reads.0, s.reads.1, s.reads.2, s.reads.3) }
 
 -- white space
-pub scan_blank : {inside : Bool} {r p q : ℕ → Bool} {depth at : ℕ} {whole rest : List ℕ} {w : List Lexeme} (b : ℕ) → (b < 256) × (is_blank b ≡ true) × (q b ≡ false) → Scan (state inside r p depth) (at + 1) whole rest w → Scan (state inside r q depth) at whole (b ∷ rest) w
-scan_blank {depth} {at} {rest} b is s = record {
-  bytes = (is.0, s.bytes);
-  tokens = s.tokens;
-  seen = s.seen;
-  reads = (is.2, s.reads.1, step at depth (b ∷ rest) (pieces.Gap 1) (omega arith) (sym (cond-true (is_blank b) _ _ is.1)) (omega arith, omega arith) ∙ s.reads.2, s.reads.3);
-}
+pub scan_blank : {inside : Bool} {r p q : ℕ → Bool} {depth at : ℕ} {whole rest : List ℕ} {w : List Lexeme} (b : ℕ) → (b < 256) × (is_blank b ≡ true) × (q b ≡ false)
+    → Scan (state inside r p depth) (at + 1) whole rest w → Scan (state inside r q depth) at whole (b ∷ rest) w
+scan_blank {depth} {at} {rest} b is s =
+    let first = step at depth (b ∷ rest) (pieces.Gap 1) (omega arith) (sym (cond-true (is_blank b) _ _ is.1)) (omega arith, omega arith) in
+    record { bytes = (is.0, s.bytes); tokens = s.tokens; seen = s.seen; reads = (is.2, s.reads.1, first ∙ s.reads.2, s.reads.3) }
 
 -- tokens
 
@@ -108,7 +104,8 @@ a_token at kind p n = record { kind = kind; span = record { at = at; len = lengt
 abbrev pub a_lexeme : ℕ → List ℕ → ℕ → ℕ → List ℕ → Lexeme
 a_lexeme class name n at p = record { class = class; name = name; number = n; at = record { at = at; len = length p } }
 
--- The bytes are a token, and this one to the grammar: d parentheses are open before it and e after it, and such bytes may not stand there.
+-- The bytes are a token, and this one to the grammar: d parentheses are open before it and e after it, its first byte is none of those that
+-- may not come next before it, and the next one none of those after it.
 pub record IsToken (before after : ℕ → Bool) (d e : ℕ) (kind : Kind) (p : List ℕ) (class : ℕ) (name : List ℕ) (n : ℕ) : Type 0 where
   pub bytes : AreBytes p
   pub some : 0 < length p
@@ -123,24 +120,16 @@ pub record IsToken (before after : ℕ → Bool) (d e : ℕ) (kind : Kind) (p : 
 pub scan_token : {inside : Bool} {r before after : ℕ → Bool} {at d e class n : ℕ} {kind : Kind} {whole p rest name : List ℕ} {w : List Lexeme} → IsToken before after d e kind p class name n → ((class == 1) && not (r n)) ≡ false → drop at whole ≡ p ++ rest
     → Scan (state_after inside class after e) (at + length p) whole rest w → Scan (state inside r before d) at whole (p ++ rest) (a_lexeme class name n at p ∷ w)
 unfolding out_of_range
-scan_token {inside} {at} {d} {e} {class} {n} {kind} {whole} {p} {rest} {name} t range here s =
+scan_token {inside} {r} {at} {d} {e} {class} {n} {kind} {whole} {p} {rest} {name} t range here s =
     let token : Token = a_token at kind p n in
     let k : Lexeme = a_lexeme class name n at p in
     let text : List ℕ = p ++ rest in
     let piece = t.piece rest s.bytes s.reads.0 in
-    let P : Piece → Type 0 = FitsPiece text in
     let own : token_text whole token ≡ p = ap (take (length p)) here ∙ take-append_seam p rest in
-    record {
-      bytes = bytes_append p rest t.bytes s.bytes;
-      tokens = token ∷ s.tokens;
-      seen = ap (λ q. kind_lexeme program_vocabulary kind q token ∷ lexemes_of program_vocabulary whole s.tokens) own ∙ ap (λ l. l ∷ lexemes_of program_vocabulary whole s.tokens) (t.is at) ∙ ap (λ ls. k ∷ ls) s.seen;
-      reads = (
-        t.calm rest,
-        t.low s.reads.1,
-        step at d text (pieces.Token kind (length p)) (omega (arith, length-append p rest, t.some)) (sym piece) (subst P piece (piece_of_fits text)) ∙ simp (take-append_seam p rest, drop-append_seam p rest, t.down, t.fits at s.reads.1, s.reads.2),
-        λ last in_range. cond-false (is_fault program_ranges inside last k) _ _ (ap (λ b. (class == 1) && not b) (in_range n) ∙ range) ∙ s.reads.3 class (λ n. refl)
-      );
-    }
+    let seen = ap (λ q. kind_lexeme program_vocabulary kind q token ∷ lexemes_of program_vocabulary whole s.tokens) own ∙ ap (λ l. l ∷ lexemes_of program_vocabulary whole s.tokens) (t.is at) ∙ ap (λ ls. k ∷ ls) s.seen in
+    let read = step at d text (pieces.Token kind (length p)) (omega (arith, length-append p rest, t.some)) (sym piece) (subst (FitsPiece text) piece (piece_of_fits text)) ∙ simp (take-append_seam p rest, drop-append_seam p rest, t.down, t.fits at s.reads.1, s.reads.2) in
+    let fine : (last : ℕ) → ((m : ℕ) → in_range inside last m ≡ r m) → is_fault program_ranges inside last k ≡ false = λ last e. ap (λ b. (class == 1) && not b) (e n) ∙ range in
+    record { bytes = bytes_append p rest t.bytes s.bytes; tokens = token ∷ s.tokens; seen = seen; reads = (t.calm rest, t.low s.reads.1, read, λ last e. cond-false (is_fault program_ranges inside last k) _ _ (fine last e) ∙ s.reads.3 class (λ m. refl)) }
 
 -- what stands at the front is the token that its first byte tells
 first_piece : (b : ℕ) (bs : List ℕ) → AreBytes (b ∷ bs) → is_blank b ≡ false → (begins 45 45 (b ∷ bs) ≡ false) × (begins 40 42 (b ∷ bs) ≡ false) → piece_of (b ∷ bs) ≡ token_by_first (b ∷ bs)
@@ -148,7 +137,6 @@ first_piece b bs small blank comment =
     cond-false (is_blank b) _ _ blank ∙ cond-false (begins 45 45 (b ∷ bs)) _ _ comment.0 ∙ cond-false (begins 40 42 (b ∷ bs)) _ _ comment.1 ∙ sym (token_by_first_longest (b ∷ bs) (byte_at (b ∷ bs) small))
 
 -- words and numbers: bytes that pass, after a first one
-
 run : (p : ℕ → Bool) (cs rest : List ℕ) → list_all p cs ≡ true → Stops p rest → prefix_len p (cs ++ rest) ≡ length cs
 run p [] [] h stops = refl
 run p [] (b ∷ rest) h stops = cond-false (p b) _ _ stops
@@ -165,24 +153,22 @@ no_other d c [] h = (cond-false (c == 40) _ _ (grind (arith, nat_tests, h)) ∙ 
 no_other d c (b ∷ bs) h = (refl, grind (arith, nat_tests, h), grind (arith, nat_tests, h))
 
 run_token : {before : ℕ → Bool} {d class n : ℕ} {kind : Kind} {name : List ℕ} (p : ℕ → Bool) (c : ℕ) (cs : List ℕ) → ((b : ℕ) → p b ≡ true → is_word_byte b ≡ true) → ((b : ℕ) → wordy b ≡ false → p b ≡ false) → list_all p (c ∷ cs) ≡ true → before c ≡ false
-    → ((bs : List ℕ) → token_by_first (c ∷ bs) ≡ pieces.Token kind (prefix_len p bs + 1)) → ((at : ℕ) → checked at d kind (c ∷ cs) ≡ Ok (a_token at kind (c ∷ cs) n)) → ((at : ℕ) → kind_lexeme program_vocabulary kind (c ∷ cs) (a_token at kind (c ∷ cs) n) ≡ a_lexeme class name n at (c ∷ cs))
-    → IsToken before wordy d d kind (c ∷ cs) class name n
+    → ((bs : List ℕ) → token_by_first (c ∷ bs) ≡ pieces.Token kind (prefix_len p bs + 1)) → ((at : ℕ) → checked at d kind (c ∷ cs) ≡ Ok (a_token at kind (c ∷ cs) n))
+    → ((at : ℕ) → kind_lexeme program_vocabulary kind (c ∷ cs) (a_token at kind (c ∷ cs) n) ≡ a_lexeme class name n at (c ∷ cs)) → IsToken before wordy d d kind (c ∷ cs) class name n
 run_token {kind} p c cs within out all calm first fits is =
-    let parts = and_parts (p c) (list_all p cs) all in
-    let own : is_word_byte c ≡ true = within c parts.0 in
-    let small : AreBytes (c ∷ cs) = all_small p within (c ∷ cs) all in
-    record {
-      bytes = small;
-      some = omega arith;
-      calm = λ rest. calm;
-      piece = λ rest bytes stops.
-          (let many : prefix_len p (cs ++ rest) + 1 ≡ length (c ∷ cs) = omega (arith, run p cs rest parts.1 (stops_as wordy p out rest stops)) in
-          first_piece c (cs ++ rest) (small.0, bytes_append cs rest small.1 bytes) (grind (arith, nat_tests, own)) (let no = no_other 0 c (cs ++ rest) own in (no.1, no.2)) ∙ first (cs ++ rest) ∙ ap (λ n. pieces.Token kind n) many);
-      down = (no_other _ c cs own).0;
-      low = λ le. le;
-      fits = λ at le. fits at;
-      is = is;
-    }
+    record { bytes = small; some = omega arith; calm = λ rest. calm; piece = piece; down = (no_other _ c cs own).0; low = λ le. le; fits = λ at le. fits at; is = is }
+  where
+    own : is_word_byte c ≡ true
+    own = within c (and_parts (p c) (list_all p cs) all).0
+
+    small : AreBytes (c ∷ cs)
+    small = all_small p within (c ∷ cs) all
+
+    piece : (rest : List ℕ) → AreBytes rest → Stops wordy rest → piece_of (c ∷ (cs ++ rest)) ≡ pieces.Token kind (length (c ∷ cs))
+    piece rest bytes stops =
+        let many : prefix_len p (cs ++ rest) + 1 ≡ length (c ∷ cs) = omega (arith, run p cs rest (and_parts (p c) (list_all p cs) all).1 (stops_as wordy p out rest stops)) in
+        let no = no_other 0 c (cs ++ rest) own in
+        first_piece c (cs ++ rest) (small.0, bytes_append cs rest small.1 bytes) (grind (arith, nat_tests, own)) (no.1, no.2) ∙ first (cs ++ rest) ∙ ap (λ n. pieces.Token kind n) many
 
 -- a word, which is a keyword or not
 pub word_token : {d class : ℕ} {name : List ℕ} (w : List ℕ) → IsName w → ((at : ℕ) → word_lexeme (keyword_of w) w (record { at = at; len = length w }) ≡ a_lexeme class name 0 at w) → IsToken loud wordy d d Word w class name 0
@@ -206,27 +192,27 @@ digits_token n (c ∷ cs) digits some value fits other =
 abbrev pub goes_on : ℕ → ℕ → Bool
 goes_on a b = is_two_byte_symbol a b || ((a == 45) && (b == 45)) || ((a == 40) && (b == 42))
 
--- a byte that begins neither white space nor a word nor a number
-abbrev pub IsMark : ℕ → Type 0
-IsMark a = (is_blank a ≡ false) × (is_word_start a ≡ false) × (is_ascii_digit a ≡ false) × (a < 256)
+-- it begins neither white space nor a word nor a number
+mark : (a : ℕ) (bs : List ℕ) → is_symbol (a ∷ bs) ≡ true → (is_blank a ≡ false) × (is_word_start a ≡ false) × (is_ascii_digit a ≡ false) × (a < 256)
+mark a [] h = (grind (arith, nat_tests, h), grind (arith, nat_tests, h), grind (arith, nat_tests, h), grind (arith, nat_tests, h))
+mark a (b ∷ []) h = (grind (arith, nat_tests, h), grind (arith, nat_tests, h), grind (arith, nat_tests, h), grind (arith, nat_tests, h))
+mark a (b ∷ c ∷ bs) h = absurd (false≢true h)
 
-pub symbol_token : {before after : ℕ → Bool} {d e class : ℕ} (a : ℕ) (bs : List ℕ) → IsMark a → AreBytes bs → before a ≡ false
+pub symbol_token : {before after : ℕ → Bool} {d e class : ℕ} (a : ℕ) (bs : List ℕ) → is_symbol (a ∷ bs) ≡ true → AreBytes bs → before a ≡ false
     → ((rest : List ℕ) → Stops after rest → (begins 45 45 (a ∷ (bs ++ rest)) ≡ false) × (begins 40 42 (a ∷ (bs ++ rest)) ≡ false) × (symbol_by_bytes a (bs ++ rest) ≡ pieces.Token Symbol (length (a ∷ bs))))
     → symbol_of (a ∷ bs) ≡ Some class → depth_after d (a ∷ bs) ≡ e → (e ≤ 64 → d ≤ 64) → IsToken before after d e Symbol (a ∷ bs) class [] 0
-symbol_token {e} a bs mark small calm front is down low = record {
-  bytes = (mark.3, small);
-  some = omega arith;
-  calm = λ rest. calm;
-  piece = λ rest bytes stops.
-      (let at = front rest stops in first_piece a (bs ++ rest) (mark.3, bytes_append bs rest small bytes) mark.0 (at.0, at.1) ∙ cond-false (is_word_start a) _ _ mark.1 ∙ cond-false (is_ascii_digit a) _ _ mark.2 ∙ at.2);
-  down = down;
-  low = low;
-  fits = λ at le. cond-true (leb e 64) _ _ (le-leb e 64 le);
-  is = λ at. ap (λ o. a_lexeme (symbol_class o) [] 0 at (a ∷ bs)) is;
-}
+symbol_token {after} {e} a bs symbol small calm front is down low =
+    record { bytes = ((mark a bs symbol).3, small); some = omega arith; calm = λ rest. calm; piece = piece; down = down; low = low; fits = λ at le. cond-true (leb e 64) _ _ (le-leb e 64 le); is = λ at. ap (λ o. a_lexeme (symbol_class o) [] 0 at (a ∷ bs)) is }
+  where
+    piece : (rest : List ℕ) → AreBytes rest → Stops after rest → piece_of (a ∷ (bs ++ rest)) ≡ pieces.Token Symbol (length (a ∷ bs))
+    piece rest bytes stops =
+        let m = mark a bs symbol in
+        let at = front rest stops in
+        first_piece a (bs ++ rest) (m.3, bytes_append bs rest small bytes) m.0 (at.0, at.1) ∙ cond-false (is_word_start a) _ _ m.1 ∙ cond-false (is_ascii_digit a) _ _ m.2 ∙ at.2
 
 -- a symbol of one byte
-pub one_byte : {after : ℕ → Bool} (a : ℕ) → is_one_byte_symbol a ≡ true → ((b : ℕ) → after b ≡ false → goes_on a b ≡ false) → (rest : List ℕ) → Stops after rest → (begins 45 45 (a ∷ rest) ≡ false) × (begins 40 42 (a ∷ rest) ≡ false) × (symbol_by_bytes a rest ≡ pieces.Token Symbol 1)
+pub one_byte : {after : ℕ → Bool} (a : ℕ) → is_one_byte_symbol a ≡ true → ((b : ℕ) → after b ≡ false → goes_on a b ≡ false) → (rest : List ℕ) → Stops after rest
+    → (begins 45 45 (a ∷ rest) ≡ false) × (begins 40 42 (a ∷ rest) ≡ false) × (symbol_by_bytes a rest ≡ pieces.Token Symbol 1)
 one_byte a one other [] stops = (refl, refl, cond-true (is_one_byte_symbol a) _ _ one)
 one_byte a one other (b ∷ rest) stops =
     let parts = or_parts (is_two_byte_symbol a b || ((a == 45) && (b == 45))) ((a == 40) && (b == 42)) (other b stops) in
