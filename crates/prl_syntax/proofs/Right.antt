@@ -3,7 +3,7 @@ use Rattle.std.proofs.Common.{◌≡◌, ◌<◌, List, length, Ok, refl}
 use Rattle.prl_ast.specs.Trees.{Tree}
 use Rattle.prl_grammar.specs.Lexemes.{Lexeme}
 use Rattle.prl_grammar.specs.Combinators.{◌⊳◌}
-use Rattle.prl_grammar.specs.Productions.{many, placed}
+use Rattle.prl_grammar.specs.Productions.{many}
 use Rattle.prl_grammar.specs.code.Languages.{inner_of, read_at}
 use Rattle.prl_grammar.specs.code.LookAhead.{IsApart}
 use Rattle.prl_grammar.specs.code.Shapes.{shape}
