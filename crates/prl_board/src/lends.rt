@@ -11,11 +11,10 @@ ghost use Rattle.prl_board.specs.TaskSeats.{AnswersRead, AnswersWrite, MayFinish
 ghost use Rattle.prl_seats.specs.JobSeats.{reseated};
 ghost use Rattle.prl_board.specs.code.Lent.{IsClockReturned, IsLent, IsLentClock, IsReturned};
 
-use prl_seats::{Board, Seat};
 use crate::clocks::{ClockSeat, Ticked};
-use prl_seats::Release;
 use crate::seats::{Got, TaskSeat, Wrote};
 use prl_base::TaskNo;
+use prl_seats::{Board, Release, Seat};
 
 /// The seat takes the view that has all parts.
 fn lend(board: &Board, whole: &mut Seat, seat: &mut TaskSeat)

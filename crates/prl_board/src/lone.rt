@@ -17,15 +17,14 @@ ghost use Rattle.prl_rule.specs.Steps.{bare};
 ghost use Rattle.prl_rule.specs.Told.{LookTold};
 ghost use Rattle.prl_board.specs.code.Lent.{IsLent, IsSettled};
 
-use prl_seats::{Board, Seat};
 use crate::clocks::{ClockSeat, Ticked};
 use crate::closing::Closed;
-use prl_seats::Release;
 use crate::lends::{finish_lent, look_lent, read_lent, release_lent, tick_lent, write_lent};
 use crate::seats::{Got, Place, TaskSeat, Wrote};
 use crate::steps::Steps;
 use prl_base::TaskNo;
 use prl_rule::plan_laws;
+use prl_seats::{Board, Release, Seat};
 use std::marker::Model;
 use std::sync::ledger::Ledger;
 

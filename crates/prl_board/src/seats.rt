@@ -15,6 +15,7 @@ ghost use Rattle.prl_rule.specs.Told.{RaiseTold};
 ghost use Rattle.prl_rule.specs.Known.{run_of};
 ghost use Rattle.prl_board.specs.TaskSeats.{AnswersAction, AnswersRead, AnswersWrite, IsMachineOf, IsNoNode, MayFinish, MayRead, MayRelease, MayWrite, Misses, ReadsHalf, WritesAction, half_at, place_of};
 
+use crate::clocks::ClockSeat;
 use prl_base::{CellNo, EdgeNo, TaskNo, Value};
 use prl_body::Machine;
 use prl_plan::{Action, SlotNo};
@@ -444,9 +445,11 @@ impl TaskSeat {
     }
 }
 
-/// A task's seat may go to another thread.
+/// The seats of tasks and of the clock may go to other threads, and so may the machine of a task's body.
 fn seats_are_sent() {
+    is_sent::<Machine>();
     is_sent::<TaskSeat>();
+    is_sent::<ClockSeat>();
 }
 
 fn is_sent<T: Send>() {}
