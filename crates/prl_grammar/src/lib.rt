@@ -1,7 +1,7 @@
 //! Readers of tokens, with which programs and bodies are read: the tokens of a text as a grammar sees them,
-//! readers of one token, and the ranges of numbers. Its definitions say what a grammar is, as data and as a
-//! relation between lists of tokens and trees, and when a reader reads it with one token of look-ahead. It
-//! stands on names, places and values.
+//! readers of one token, the ranges of numbers, and from a text to its tree, or to its first fault, for every
+//! language. Its definitions say what a grammar is, as data and as a relation between lists of tokens and
+//! trees, and when a reader reads it with one token of look-ahead. It stands on names, places and values.
 #![tactic(auto)]
 
 mod lexing;
