@@ -1,5 +1,6 @@
 -- What a call of a seat leaves to the one thread that has lent it the view that has all parts.
-use Rattle.std.proofs.Common.{◌≡◌, ◌<◌, ℕ, sym, ap, ◌∙◌, subst, set, length-set, arith, List, Some, None}
+use Rattle.std.proofs.Common.{◌≡◌, ◌<◌, ℕ, sym, ap, ◌∙◌, subst, set, get_or, length, length-set, arith, List, Some, None}
+use Rattle.std.proofs.lemmas.Option.{slice_get_within}
 use Rattle.std.specs.Prelude.{slice_get}
 use lib.ListN.{get_elem?}
 use Rattle.atomic_table.specs.Seated.{TableId}
@@ -22,13 +23,14 @@ use Rattle.prl_seats.specs.declared.jobs.Stage.TheVariants as stages
 use Rattle.prl_board.specs.declared.seats.Got.{Got}
 use Rattle.prl_board.specs.declared.seats.Wrote.{Wrote}
 use Rattle.prl_seats.specs.JobSeats.{AnswersRelease, Follows, IsSeatOf, JobSeatView}
-use Rattle.prl_board.specs.Lones.{IsReleasedBy, IsTaskCall, IsTicked}
-use Rattle.prl_board.specs.TaskSeats.{AnswersRead, AnswersWrite}
+use Rattle.prl_board.specs.Lones.{IsClockCall, IsLoneOf, IsPlacedAt, IsReleasedBy, IsTaskCall, IsTicked, LoneView}
+use Rattle.prl_board.specs.declared.seats.Place.{Place}
+use Rattle.prl_board.specs.TaskSeats.{AnswersRead, AnswersWrite, place_of}
 use Rattle.prl_seats.specs.JobSeats.{reseated}
-use Rattle.prl_board.specs.code.Lent.{AreLent, IsClockReturned, IsElsewhere, IsReturned}
+use Rattle.prl_board.specs.code.Lent.{AreLent, IsClockReturned, IsElsewhere, IsLent, IsReturned}
 use Rattle.atomic_table.proofs.Lists.{set_else as part_else}
-use Rattle.prl_seats.proofs.Following.{ended_is}
-use Rattle.prl_board.proofs.Lending.{follows_with, relent, set_else, set_here}
+use Rattle.prl_seats.proofs.Following.{ended_is, known_once}
+use Rattle.prl_board.proofs.Lending.{follows_with, read_there, relent, set_else, set_here}
 
 -- a view with no part has none of the clock
 pub bare_has_no_clock : (k : Constants) (u : View) (r : ClockPart) {A : Type 0} → u ≡ bare k → u.clock ≡ Some r → A
@@ -144,6 +146,83 @@ task_call k i table other id n u v seats s t answers there same back answer = re
   parts = back.elsewhere.parts;
   clock = back.elsewhere.clock;
 }
+
+-- Of one thread `m` is what it is made of, and `l` is how it is seen.
+
+-- it belongs to the board: so it may lend its view
+pub may_lend : {b : BoardView} {m l : LoneView} {P : Type 0} → m ≡ l → IsLoneOf b l → P → (m.table ≡ b.table) × P × (m.view.constants ≡ Some b.known)
+may_lend is lone p = (ap (λ (x : LoneView). x.table) is ∙ lone.table, p, ap (λ (x : LoneView). x.view.constants) is ∙ lone.known)
+
+-- and so it does after a call
+pub lone_after : {b : BoardView} {m l after : LoneView} → m ≡ l → IsLoneOf b l → after.table ≡ m.table → after.view.constants ≡ Some b.known → IsLoneOf b after
+lone_after is lone table known = record { table = table ∙ ap (λ (x : LoneView). x.table) is ∙ lone.table; known = known }
+
+-- what its seats have lent
+pub lent_of : {b : BoardView} {m l : LoneView} {clock : ClockSeatView} → m ≡ l → IsLoneOf b l → ((k : Constants) → m.view.constants ≡ Some k → AreLent k m.view m.seats clock) →
+    AreLent b.known m.view m.seats clock
+lent_of {b = b} is lone kept = kept b.known (ap (λ (x : LoneView). x.view.constants) is ∙ lone.known)
+
+-- what it keeps after a call of the clock, and that call
+pub kept_after_clock : {k : Constants} {u v : View} {seats : List JobSeatView} {before after : ClockSeatView} → AreLent k u seats before → IsClockReturned k u v after →
+    (other : Constants) → v.constants ≡ Some other → AreLent other v seats after
+kept_after_clock {k = k} {u = u} {v = v} {seats = seats} {before = before} {after = after} lent back =
+    known_once v k (λ x. AreLent x v seats after) back.known (relent_clock k u v seats before after lent back)
+
+pub clock_call : {k : Constants} {m l : LoneView} {clock : ClockSeatView} {other : TableId} {n : ℕ} {v : View} → m ≡ l → IsClockReturned k m.view v clock →
+    IsClockCall l (record { table = other; id = n; view = v; seats = m.seats })
+clock_call is back = record { seats = ap (λ (x : LoneView). x.seats) is; parts = back.tasks ∙ ap (λ (x : LoneView). x.view.tasks) is }
+
+-- it has a seat of the task
+pub has_seat : {m l : LoneView} {s : JobSeatView} (i : ℕ) → m ≡ l → slice_get l.seats i ≡ Some s → i < length m.seats
+has_seat {m = m} {s = s} i is has = slice_get_within m.seats i s (ap (λ (x : LoneView). slice_get x.seats i) is ∙ has)
+
+-- what is known of the seat of a task that was taken out
+pub record IsTaken (k : Constants) (m : LoneView) (clock : ClockSeatView) (task : TaskNo) (s : JobSeatView) : Type 0 where
+  pub there : slice_get m.seats task.0 ≡ Some s
+  pub known : m.view.constants ≡ Some k
+  pub lent : AreLent k m.view m.seats clock
+  pub own : s.task ≡ task
+
+pub taken : {b : BoardView} {m l : LoneView} {clock : ClockSeatView} {x s : JobSeatView} (task : TaskNo) → m ≡ l → IsLoneOf b l →
+    ((k : Constants) → m.view.constants ≡ Some k → AreLent k m.view m.seats clock) → slice_get l.seats task.0 ≡ Some x → s ≡ get_or m.seats task.0 s → IsTaken b.known m clock task s
+taken {m = m} {s = s} task is lone kept has value =
+    let there = read_there m.seats task.0 s (has_seat task.0 is has) value in
+    let lent = lent_of is lone kept in
+    record { there = there; known = ap (λ (x : LoneView). x.view.constants) is ∙ lone.known; lent = lent; own = (lent.each task.0 s there).task }
+
+pub taken_lent : {k : Constants} {m : LoneView} {clock : ClockSeatView} {task : TaskNo} {s : JobSeatView} → IsTaken k m clock task s → IsLent k m.view s.task.0 s
+taken_lent {k = k} {m = m} {task = task} {s = s} its = subst (λ (t : TaskNo). IsLent k m.view t.0 s) (sym its.own) (its.lent.each task.0 s its.there)
+
+-- it is the one that is seen
+taken_seen : {k : Constants} {m l : LoneView} {clock : ClockSeatView} {task : TaskNo} {s x : JobSeatView} → m ≡ l → IsTaken k m clock task s → slice_get l.seats task.0 ≡ Some x → s ≡ x
+taken_seen {task = task} {s = s} {x = x} is its has = let e : Some s ≡ Some x = sym its.there ∙ ap (λ (y : LoneView). slice_get y.seats task.0) is ∙ has in cc e
+
+pub taken_placed : {k : Constants} {m l : LoneView} {clock : ClockSeatView} {task : TaskNo} {s : JobSeatView} (may : Place → Type 0) → m ≡ l → IsTaken k m clock task s →
+    IsPlacedAt may l task.0 → may (place_of s.stage)
+taken_placed may is its place = subst (λ (x : JobSeatView). may (place_of x.stage)) (sym (taken_seen is its place.1)) place.2
+
+-- what holds of it holds of the one that is seen
+pub seen_with : {k : Constants} {m l : LoneView} {clock : ClockSeatView} {task : TaskNo} {s x : JobSeatView} (P : List JobSeatView → JobSeatView → Type 0) → m ≡ l → IsTaken k m clock task s →
+    slice_get l.seats task.0 ≡ Some x → P m.seats s → P l.seats x
+seen_with P is its has holds = let Q : LoneView × JobSeatView → Type 0 = λ z. P z.0.seats z.1 in subst Q (λ h. (is h, taken_seen is its has h)) holds
+
+-- what one thread keeps after the call of the seat that was taken out, and that call
+back_with : {k : Constants} {m : LoneView} {clock : ClockSeatView} {task : TaskNo} {s t : JobSeatView} {v : View} → IsTaken k m clock task s → IsReturned k s.task.0 m.view v t →
+    IsReturned k task.0 m.view v t
+back_with {k = k} {m = m} {t = t} {v = v} its back = subst (λ (x : TaskNo). IsReturned k x.0 m.view v t) its.own back
+
+pub kept_after : {k : Constants} {m : LoneView} {clock : ClockSeatView} {task : TaskNo} {s t : JobSeatView} {v : View} → IsTaken k m clock task s → IsReturned k s.task.0 m.view v t →
+    (other : Constants) → v.constants ≡ Some other → AreLent other v (set m.seats task.0 t) clock
+kept_after {k = k} {m = m} {clock = clock} {task = task} {t = t} {v = v} its back =
+    known_once v k (λ x. AreLent x v (set m.seats task.0 t) clock) back.known
+    (relent_seat k m.view v task.0 m.seats t clock its.lent its.known (back_with its back))
+
+pub call_after : {k : Constants} {m l : LoneView} {clock : ClockSeatView} {task : TaskNo} {s t : JobSeatView} {other : TableId} {n : ℕ} {v : View} (answers : JobSeatView → JobSeatView → Type 0) →
+    m ≡ l → IsTaken k m clock task s → t.task ≡ s.task → IsReturned k s.task.0 m.view v t → answers (reseated m.table m.id m.view s) (reseated other n v t) →
+    IsTaskCall task.0 l (record { table = other; id = n; view = v; seats = set m.seats task.0 t }) answers
+call_after {k = k} {m = m} {task = task} {s = s} {t = t} {other = other} {n = n} {v = v} answers is its same back answer =
+    subst (λ (x : LoneView). IsTaskCall task.0 x (record { table = other; id = n; view = v; seats = set m.seats task.0 t }) answers) is
+    (task_call k task.0 m.table other m.id n m.view v m.seats s t answers its.there same (back_with its back) answer)
 
 -- a release judges by the clock's `now`
 pub release_is_exact : (k : Constants) (s t : JobSeatView) (r : ClockPart) (answer : Release) → AnswersRelease k s t answer → s.view.clock ≡ Some r → IsReleasedBy k s r.now answer
