@@ -63,7 +63,7 @@ tick_leaves k r s t (ticks.Behind task job) answer = ap (λ (x : ClockSeatView).
 tick_leaves k r s t ticks.End answer = ap (λ (x : ClockSeatView). x.view.tasks) answer.1
 
 -- what one thread keeps, after a step of the clock
-pub relent_clock : (k : Constants) (u v : View) (seats : List JobSeatView) (before after : ClockSeatView) → AreLent k u seats before → IsClockReturned k u v after → AreLent k v seats after
+relent_clock : (k : Constants) (u v : View) (seats : List JobSeatView) (before after : ClockSeatView) → AreLent k u seats before → IsClockReturned k u v after → AreLent k v seats after
 relent_clock k u v seats before after lent back = record {
   tasks = lent.tasks;
   each = λ j s has.
@@ -128,13 +128,13 @@ seat_returned b task u v table id s t is same elsewhere view taken follows = rec
 }
 
 -- what one thread keeps, after a call of task i
-pub relent_seat : (k : Constants) (u v : View) (i : ℕ) (seats : List JobSeatView) (s : JobSeatView) (clock : ClockSeatView) → AreLent k u seats clock → u.constants ≡ Some k → IsReturned k i u v s →
+relent_seat : (k : Constants) (u v : View) (i : ℕ) (seats : List JobSeatView) (s : JobSeatView) (clock : ClockSeatView) → AreLent k u seats clock → u.constants ≡ Some k → IsReturned k i u v s →
     AreLent k v (set seats i s) clock
 relent_seat k u v i seats s clock lent was back =
     relent k u v i seats s clock lent was back.known (λ j p ne has. back.elsewhere.parts j ne ∙ has) back.elsewhere.clock back.lent
 
 -- a call of task i as it is seen of the one thread
-pub task_call : (k : Constants) (i : ℕ) (table other : TableId) (id n : ℕ) (u v : View) (seats : List JobSeatView) (s t : JobSeatView) (answers : JobSeatView → JobSeatView → Type 0) →
+task_call : (k : Constants) (i : ℕ) (table other : TableId) (id n : ℕ) (u v : View) (seats : List JobSeatView) (s t : JobSeatView) (answers : JobSeatView → JobSeatView → Type 0) →
     slice_get seats i ≡ Some s → t.task ≡ s.task → IsReturned k i u v t → answers (reseated table id u s) (reseated other n v t) →
     IsTaskCall i (record { table = table; id = id; view = u; seats = seats }) (record { table = other; id = n; view = v; seats = set seats i t }) answers
 task_call k i table other id n u v seats s t answers there same back answer = record {
@@ -173,8 +173,12 @@ pub clock_call : {k : Constants} {m l : LoneView} {clock : ClockSeatView} {other
 clock_call is back = record { seats = ap (λ (x : LoneView). x.seats) is; parts = back.tasks ∙ ap (λ (x : LoneView). x.view.tasks) is }
 
 -- it has a seat of the task
-pub has_seat : {m l : LoneView} {s : JobSeatView} (i : ℕ) → m ≡ l → slice_get l.seats i ≡ Some s → i < length m.seats
+has_seat : {m l : LoneView} {s : JobSeatView} (i : ℕ) → m ≡ l → slice_get l.seats i ≡ Some s → i < length m.seats
 has_seat {m = m} {s = s} i is has = slice_get_within m.seats i s (ap (λ (x : LoneView). slice_get x.seats i) is ∙ has)
+
+-- and so the vector, which counts them
+pub has_index : {m l : LoneView} {s : JobSeatView} {count : ℕ} (i : ℕ) → m ≡ l → slice_get l.seats i ≡ Some s → count ≡ length m.seats → i < count
+has_index i is has counted = subst (λ (n : ℕ). i < n) (sym counted) (has_seat i is has)
 
 -- what is known of the seat of a task that was taken out
 pub record IsTaken (k : Constants) (m : LoneView) (clock : ClockSeatView) (task : TaskNo) (s : JobSeatView) : Type 0 where

@@ -1,14 +1,10 @@
-use Rattle.std.proofs.Common.{arith, ◌<◌, length, vec_items}
 use Rattle.prl_seats.specs.JobSeats.{Ends}
 use Rattle.prl_board.specs.TaskSeats.{MayFinish}
-use Rattle.prl_board.proofs.Called.{call_after, has_seat, kept_after, lone_after, may_lend, taken, taken_lent, taken_placed}
+use Rattle.prl_board.proofs.Called.{call_after, has_index, kept_after, lone_after, may_lend, taken, taken_lent, taken_placed}
 use Rattle.prl_board.proofs.lone.Lone.finish.Goals as goal
 
 pub index_mut-requires : goal.index_mut-requires
-index_mut-requires g c =
-    let inside : c.args.task.0 < length (vec_items c.self.inside.seats) = has_seat c.args.task.0 c.self.view_is c.requires.place.1 in
-    let ok = c.self.inside.seats.ok in
-    omega (arith, inside, ok)
+index_mut-requires g c = has_index c.args.task.0 c.self.view_is c.requires.place.1 c.self.inside.seats.ok.0
 
 pub finish_lent-requires-clause-whole : goal.finish_lent-requires-clause-whole
 finish_lent-requires-clause-whole g c = may_lend c.self.view_is c.requires.lone c.self.invariant.0

@@ -1,13 +1,9 @@
-use Rattle.std.proofs.Common.{arith, ◌<◌, length, vec_items}
 use Rattle.prl_board.specs.TaskSeats.{AnswersWrite, MayWrite}
-use Rattle.prl_board.proofs.Called.{call_after, has_seat, kept_after, lone_after, may_lend, taken, taken_lent, taken_placed}
+use Rattle.prl_board.proofs.Called.{call_after, has_index, kept_after, lone_after, may_lend, taken, taken_lent, taken_placed}
 use Rattle.prl_board.proofs.lone.Lone.write.Goals as goal
 
 pub index_mut-requires : goal.index_mut-requires
-index_mut-requires g c =
-    let inside : c.args.task.0 < length (vec_items c.self.inside.seats) = has_seat c.args.task.0 c.self.view_is c.requires.place.1 in
-    let ok = c.self.inside.seats.ok in
-    omega (arith, inside, ok)
+index_mut-requires g c = has_index c.args.task.0 c.self.view_is c.requires.place.1 c.self.inside.seats.ok.0
 
 pub write_lent-requires-clause-whole : goal.write_lent-requires-clause-whole
 write_lent-requires-clause-whole g c = may_lend c.self.view_is c.requires.lone c.self.invariant.0
