@@ -24,4 +24,5 @@ returns-clause-lone g c = lone_after c.self.view_is c.requires.lone c.finish_len
 
 pub returns-clause-call : goal.returns-clause-call
 returns-clause-call g c =
-    call_after (λ s t. Ends c.args.board.now.known s t) c.self.view_is (taken c.args.task c.self.view_is c.requires.lone c.self.invariant.1 c.requires.place.1 c.index_mut.ensures.value) c.finish_lent.ensures.same.2 c.finish_lent.ensures.returned c.finish_lent.ensures.answer
+    call_after (λ s t. Ends c.args.board.now.known s t) c.self.view_is
+    (taken c.args.task c.self.view_is c.requires.lone c.self.invariant.1 c.requires.place.1 c.index_mut.ensures.value) c.finish_lent.ensures.same.2 c.finish_lent.ensures.returned c.finish_lent.ensures.answer

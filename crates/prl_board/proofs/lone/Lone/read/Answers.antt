@@ -27,7 +27,8 @@ returns-clause-lone g c = lone_after c.self.view_is c.requires.lone c.read_lent.
 
 pub returns-clause-call : goal.returns-clause-call
 returns-clause-call g c =
-    call_after (λ s t. AnswersRead c.args.board.now.known s t c.read_lent.result s.stage) c.self.view_is (taken c.args.task c.self.view_is c.requires.lone c.self.invariant.1 c.requires.place.1 c.index_mut.ensures.value) c.read_lent.ensures.same.2 c.read_lent.ensures.returned c.read_lent.ensures.answer
+    call_after (λ s t. AnswersRead c.args.board.now.known s t c.read_lent.result s.stage) c.self.view_is
+    (taken c.args.task c.self.view_is c.requires.lone c.self.invariant.1 c.requires.place.1 c.index_mut.ensures.value) c.read_lent.ensures.same.2 c.read_lent.ensures.returned c.read_lent.ensures.answer
 
 pub returns-clause-exact : goal.returns-clause-exact
 returns-clause-exact g c = λ s has.

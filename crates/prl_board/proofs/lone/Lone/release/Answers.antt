@@ -26,7 +26,8 @@ returns-clause-lone g c = lone_after c.self.view_is c.requires.lone c.release_le
 
 pub returns-clause-call : goal.returns-clause-call
 returns-clause-call g c =
-    call_after (λ s t. AnswersRelease c.args.board.now.known s t c.release_lent.result × (t.place ≡ s.place)) c.self.view_is (taken c.args.task c.self.view_is c.requires.lone c.self.invariant.1 c.requires.place.1 c.index_mut.ensures.value) c.release_lent.ensures.same.2 c.release_lent.ensures.returned (c.release_lent.ensures.answer, c.release_lent.ensures.place)
+    call_after (λ s t. AnswersRelease c.args.board.now.known s t c.release_lent.result × (t.place ≡ s.place)) c.self.view_is
+    (taken c.args.task c.self.view_is c.requires.lone c.self.invariant.1 c.requires.place.1 c.index_mut.ensures.value) c.release_lent.ensures.same.2 c.release_lent.ensures.returned (c.release_lent.ensures.answer, c.release_lent.ensures.place)
 
 pub returns-clause-exact : goal.returns-clause-exact
 returns-clause-exact g c = λ s r has clock.

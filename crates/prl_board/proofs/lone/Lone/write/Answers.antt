@@ -23,4 +23,5 @@ returns-clause-lone g c = lone_after c.self.view_is c.requires.lone c.write_lent
 
 pub returns-clause-call : goal.returns-clause-call
 returns-clause-call g c =
-    call_after (λ s t. AnswersWrite c.args.board.now.known s t c.write_lent.result s.stage) c.self.view_is (taken c.args.task c.self.view_is c.requires.lone c.self.invariant.1 c.requires.place.1 c.index_mut.ensures.value) c.write_lent.ensures.same.2 c.write_lent.ensures.returned c.write_lent.ensures.answer
+    call_after (λ s t. AnswersWrite c.args.board.now.known s t c.write_lent.result s.stage) c.self.view_is
+    (taken c.args.task c.self.view_is c.requires.lone c.self.invariant.1 c.requires.place.1 c.index_mut.ensures.value) c.write_lent.ensures.same.2 c.write_lent.ensures.returned c.write_lent.ensures.answer
