@@ -11,7 +11,7 @@ use Rattle.prl_rule.specs.declared.views.View.{View}
 use Rattle.prl_rule.specs.Steps.{bare, ticked, with_clock, with_part}
 use Rattle.prl_rule.specs.Told.{LookTold, part_of}
 use Rattle.prl_seats.specs.Boards.{BoardView}
-use Rattle.prl_board.specs.ClockSeats.{AnswersTick, ClockSeatView, IsClockData, IsClockOf}
+use Rattle.prl_board.specs.ClockSeats.{AnswersTick, ClockSeatView, IsClockOf}
 use Rattle.prl_base.specs.declared.numbers.TaskNo.{TaskNo}
 use Rattle.prl_plan.specs.declared.events.Action.TheVariants as actions
 use Rattle.prl_board.specs.declared.clocks.Ticked.{Ticked}
@@ -27,7 +27,7 @@ use Rattle.prl_board.specs.Lones.{IsClockCall, IsLoneOf, IsPlacedAt, IsReleasedB
 use Rattle.prl_board.specs.declared.seats.Place.{Place}
 use Rattle.prl_board.specs.TaskSeats.{AnswersRead, AnswersWrite, place_of}
 use Rattle.prl_seats.specs.JobSeats.{reseated}
-use Rattle.prl_board.specs.code.Lent.{AreLent, IsClockReturned, IsElsewhere, IsLent, IsReturned}
+use Rattle.prl_board.specs.code.Lent.{AreLent, IsClockReturned, IsElsewhere, IsLent, IsLentClock, IsReturned}
 use Rattle.atomic_table.proofs.Lists.{set_else as part_else}
 use Rattle.prl_seats.proofs.Following.{ended_is, known_once}
 use Rattle.prl_board.proofs.Lending.{follows_with, read_there, relent, set_else, set_here}
@@ -37,16 +37,11 @@ pub bare_has_no_clock : (k : Constants) (u : View) (r : ClockPart) {A : Type 0} 
 bare_has_no_clock k u r is has = let e : None ≡ Some r = sym (ap (λ (v : View). v.clock) is) ∙ has in absurd (cc e)
 
 -- the clock's seat gives the view back
-pub clock_returned : (b : BoardView) (u v w : View) (table : TableId) (id : ℕ) (s t : ClockSeatView) (r : ClockPart) → IsClockOf b s r → s.view.tasks ≡ u.tasks → v ≡ s.view →
-    IsClockData s.view s.now s.looks → w ≡ bare b.known → t ≡ record { table = table; id = id; view = w; now = s.now; looks = s.looks } → IsClockReturned b.known u v t
-clock_returned b u v w table id s t r is tasks same data_ spare taken = record {
+pub clock_returned : (b : BoardView) (u v : View) (s t : ClockSeatView) (r : ClockPart) → IsClockOf b s r → s.view.tasks ≡ u.tasks → v ≡ s.view → IsLentClock b.known s.view t → IsClockReturned b.known u v t
+clock_returned b u v s t r is tasks same lent = record {
   known = ap (λ (x : View). x.constants) same ∙ is.known;
   tasks = ap (λ (x : View). x.tasks) same ∙ tasks;
-  lent = record {
-    given = ap (λ (x : ClockSeatView). x.view) taken ∙ spare;
-    part = (r, ap (λ (x : View). x.clock) same ∙ is.part);
-    same = (let P : View × ClockSeatView → Type 0 = λ z. IsClockData z.0 z.1.now z.1.looks in subst P (λ h. (sym same h, sym taken h)) data_);
-  };
+  lent = subst (λ (x : View). IsLentClock b.known x t) (sym same) lent;
 }
 
 -- what a tick answers, by the views alone

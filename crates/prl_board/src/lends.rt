@@ -6,6 +6,7 @@ ghost use Rattle.prl_rule.specs.Known.{run_of};
 ghost use Rattle.prl_rule.specs.Steps.{bare};
 ghost use Rattle.prl_rule.specs.Told.{LookTold};
 ghost use Rattle.prl_seats.specs.JobSeats.{AnswersRelease, Ends, Follows, IsSeatOf};
+ghost use Rattle.prl_board.specs.ClockSeats.{IsClockOf};
 ghost use Rattle.prl_board.specs.Lones.{IsTicked};
 ghost use Rattle.prl_board.specs.TaskSeats.{AnswersRead, AnswersWrite, MayFinish, MayRead, MayRelease, MayWrite, place_of};
 ghost use Rattle.prl_seats.specs.JobSeats.{reseated};
@@ -101,6 +102,29 @@ pub(crate) fn finish_lent(board: &Board, whole: &mut Seat, seat: &mut TaskSeat)
     take_back(board, whole, seat);
 }
 
+/// The clock's seat takes the view that has all parts.
+fn lend_clock(board: &Board, whole: &mut Seat, clock: &mut ClockSeat)
+    requires whole { (whole.old.table_id ≡ board.now.table) × (whole.old.me.1 ≡ []) × (whole.old.me.0.constants ≡ Some board.now.known) }
+    requires lent { IsLentClock board.now.known whole.old.me.0 clock.old }
+    ensures taken { (r : ClockPart) → whole.old.me.0.clock ≡ Some r → IsClockOf board.now clock.new r }
+    ensures view { clock.new.view ≡ whole.old.me.0 }
+    ensures spare { whole.new.me ≡ (bare board.now.known, []) }
+{
+    let _ = board;
+    clock.exchange(whole);
+}
+
+/// The clock's seat gives the view back.
+fn take_back_clock(board: &Board, whole: &mut Seat, clock: &mut ClockSeat)
+    requires seat { (r : ClockPart) × IsClockOf board.now clock.old r }
+    requires spare { whole.old.me ≡ (bare board.now.known, []) }
+    ensures given { (whole.new.table_id ≡ clock.old.table) × (whole.new.me ≡ (clock.old.view, [])) }
+    ensures lent { IsLentClock board.now.known clock.old.view clock.new }
+{
+    let _ = board;
+    clock.exchange(whole);
+}
+
 /// Looks at a task.
 pub(crate) fn look_lent(board: &Board, whole: &mut Seat, clock: &mut ClockSeat, task: TaskNo) -> u64
     requires whole { (whole.old.table_id ≡ board.now.table) × (whole.old.me.1 ≡ []) × (whole.old.me.0.constants ≡ Some board.now.known) }
@@ -110,9 +134,9 @@ pub(crate) fn look_lent(board: &Board, whole: &mut Seat, clock: &mut ClockSeat, 
     ensures returned { IsClockReturned board.now.known whole.old.me.0 whole.new.me.0 clock.new }
     ensures told { (r : ClockPart) → whole.old.me.0.clock ≡ Some r → LookTold board.now.known task.0 r whole.old.me.0 result whole.new.me.0 }
 {
-    clock.exchange(whole);
+    lend_clock(board, whole, clock);
     let ended = clock.look(board, task);
-    clock.exchange(whole);
+    take_back_clock(board, whole, clock);
     ended
 }
 
@@ -124,8 +148,8 @@ pub(crate) fn tick_lent(board: &Board, whole: &mut Seat, clock: &mut ClockSeat) 
     ensures returned { IsClockReturned board.now.known whole.old.me.0 whole.new.me.0 clock.new }
     ensures answer { (r : ClockPart) → whole.old.me.0.clock ≡ Some r → IsTicked board.now.known r whole.old.me.0 whole.new.me.0 result }
 {
-    clock.exchange(whole);
+    lend_clock(board, whole, clock);
     let answer = clock.tick(board);
-    clock.exchange(whole);
+    take_back_clock(board, whole, clock);
     answer
 }

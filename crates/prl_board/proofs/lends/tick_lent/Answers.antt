@@ -1,63 +1,25 @@
 use Rattle.std.proofs.Common.{sym, ap, ◌∙◌}
 use Rattle.prl_rule.specs.declared.views.View.{View}
-use Rattle.prl_board.specs.ClockSeats.{ClockSeatView, IsClockOf}
-use Rattle.prl_board.proofs.Called.{bare_has_no_clock, clock_returned, tick_leaves, ticked_by}
+use Rattle.prl_board.proofs.Called.{clock_returned, tick_leaves, ticked_by}
 use Rattle.prl_board.proofs.lends.tick_lent.Goals as goal
 
-pub exchange-requires-clause-run : goal.exchange-requires-clause-run
-exchange-requires-clause-run c = λ k has. ap (λ (v : View). v.constants) c.requires.lent.given ∙ (sym c.requires.whole.2 ∙ has)
-
-pub exchange-requires-clause-same : goal.exchange-requires-clause-same
-exchange-requires-clause-same c = c.requires.lent.same.same
-
 pub tick-answer-requires : goal.tick-answer-requires
-tick-answer-requires c =
-    let taken = c.exchange.ensures.taken in (
-      c.requires.lent.part.0,
-      record {
-        table = ap (λ (s : ClockSeatView). s.table) taken ∙ c.requires.whole.0;
-        known = ap (λ (s : ClockSeatView). s.view.constants) taken ∙ c.requires.whole.2;
-        part = ap (λ (s : ClockSeatView). s.view.clock) taken ∙ c.requires.lent.part.1;
-      },
-    )
-
-pub exchange-requires-2-clause-slots : goal.exchange-requires-2-clause-slots
-exchange-requires-2-clause-slots c = ap (λ m. m.1) c.exchange.ensures.given.2
-
-pub exchange-requires-2-clause-run : goal.exchange-requires-2-clause-run
-exchange-requires-2-clause-run c = λ k has.
-    c.tick-answer.ensures.seat.1.known ∙ (sym (ap (λ m. m.0.constants) c.exchange.ensures.given.2 ∙ ap (λ (v : View). v.constants) c.requires.lent.given) ∙ has)
-
-pub exchange-requires-2-clause-same : goal.exchange-requires-2-clause-same
-exchange-requires-2-clause-same c = λ r has.
-    bare_has_no_clock c.args.board.now.known c.exchange.new.other.me.0 r (ap (λ m. m.0) c.exchange.ensures.given.2 ∙ c.requires.lent.given) has
+tick-answer-requires c = (c.requires.lent.part.0, c.lend_clock.ensures.taken c.requires.lent.part.0 c.requires.lent.part.1)
 
 pub returns-clause-same : goal.returns-clause-same
 returns-clause-same c = (
-  c.exchange-2.ensures.given.0 ∙ c.tick-answer.ensures.same.0 ∙ ap (λ (s : ClockSeatView). s.table) c.exchange.ensures.taken,
-  ap (λ m. m.1) c.exchange-2.ensures.given.2,
+  c.take_back_clock.ensures.given.0 ∙ c.tick-answer.ensures.same.0 ∙ (c.lend_clock.ensures.taken c.requires.lent.part.0 c.requires.lent.part.1).table ∙ sym c.requires.whole.0,
+  ap (λ m. m.1) c.take_back_clock.ensures.given.1,
 )
 
 pub returns-clause-answer : goal.returns-clause-answer
 returns-clause-answer c = λ r has.
-    let taken = c.exchange.ensures.taken in
-    let is : IsClockOf c.args.board.now c.exchange.new.self r = record {
-      table = ap (λ (s : ClockSeatView). s.table) taken ∙ c.requires.whole.0;
-      known = ap (λ (s : ClockSeatView). s.view.constants) taken ∙ c.requires.whole.2;
-      part = ap (λ (s : ClockSeatView). s.view.clock) taken ∙ has;
-    } in
-    ticked_by c.args.board.now.known r c.args.whole.now.me.0 c.exchange-2.new.other.me.0 c.exchange.new.self c.tick-answer.new.self c.tick-answer.result (ap (λ (s : ClockSeatView). s.view) taken)
-    (ap (λ m. m.0) c.exchange-2.ensures.given.2) (c.tick-answer.ensures.answer r is)
+    ticked_by c.args.board.now.known r c.args.whole.now.me.0 c.take_back_clock.new.whole.me.0 c.lend_clock.new.clock c.tick-answer.new.self c.tick-answer.result c.lend_clock.ensures.view
+    (ap (λ m. m.0) c.take_back_clock.ensures.given.1) (c.tick-answer.ensures.answer r (c.lend_clock.ensures.taken r has))
 
 pub returns-clause-returned : goal.returns-clause-returned
 returns-clause-returned c =
-    let taken = c.exchange.ensures.taken in
-    let is : IsClockOf c.args.board.now c.exchange.new.self c.requires.lent.part.0 = record {
-      table = ap (λ (s : ClockSeatView). s.table) taken ∙ c.requires.whole.0;
-      known = ap (λ (s : ClockSeatView). s.view.constants) taken ∙ c.requires.whole.2;
-      part = ap (λ (s : ClockSeatView). s.view.clock) taken ∙ c.requires.lent.part.1;
-    } in
-    let told = c.tick-answer.ensures.answer c.requires.lent.part.0 is in
-    clock_returned c.args.board.now c.args.whole.now.me.0 c.exchange-2.new.other.me.0 c.exchange.new.other.me.0 c.exchange.new.other.table_id c.exchange.new.other.id c.tick-answer.new.self c.exchange-2.new.self
-    c.tick-answer.ensures.seat.0 c.tick-answer.ensures.seat.1 (tick_leaves c.args.board.now.known c.requires.lent.part.0 c.exchange.new.self c.tick-answer.new.self c.tick-answer.result told ∙ ap (λ (s : ClockSeatView). s.view.tasks) taken) (ap (λ m. m.0) c.exchange-2.ensures.given.2)
-    c.exchange-2.ensures.data (ap (λ m. m.0) c.exchange.ensures.given.2 ∙ c.requires.lent.given) c.exchange-2.ensures.taken
+    let told = c.tick-answer.ensures.answer c.requires.lent.part.0 (c.lend_clock.ensures.taken c.requires.lent.part.0 c.requires.lent.part.1) in
+    clock_returned c.args.board.now c.args.whole.now.me.0 c.take_back_clock.new.whole.me.0 c.tick-answer.new.self c.take_back_clock.new.clock c.tick-answer.ensures.seat.0 c.tick-answer.ensures.seat.1
+    (tick_leaves c.args.board.now.known c.requires.lent.part.0 c.lend_clock.new.clock c.tick-answer.new.self c.tick-answer.result told ∙ ap (λ (v : View). v.tasks) c.lend_clock.ensures.view) (ap (λ m. m.0) c.take_back_clock.ensures.given.1)
+    c.take_back_clock.ensures.lent
