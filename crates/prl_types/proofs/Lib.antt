@@ -7,6 +7,7 @@ pub mod Declared
 pub mod Counting
 pub mod RuleStates
 pub mod Signed
+pub mod Segmented
 pub mod Opening
 pub mod Outcomes
 pub mod Existence

@@ -1,5 +1,5 @@
 -- What one more rule makes of what is known.
-use Rattle.std.proofs.Common.{◌≡◌, ◌++◌, ◌∙◌, ℕ, List, [], ◌∷◌, length, refl, sym, ap, append_assoc}
+use Rattle.std.proofs.Common.{◌≡◌, ◌++◌, ◌∙◌, ℕ, List, [], ◌∷◌, length, refl, sym, ap, subst, append_assoc}
 use Rattle.std.proofs.lemmas.List.{append-nil}
 use Rattle.prl_base.specs.declared.values.Ty.{Ty}
 use Rattle.prl_types.specs.declared.terms.Rule.{Rule}
@@ -79,7 +79,7 @@ stays_refused count rules more before fits =
     }
 
 -- a rule of two equal sides says nothing
-pub says_nothing : (count : ℕ) (rules : List Rule) (rule : Rule) (marks : Marks) (state : State) → rule.wanted ≡ rule.found → HasState count rules marks state
+says_nothing : (count : ℕ) (rules : List Rule) (rule : Rule) (marks : Marks) (state : State) → rule.wanted ≡ rule.found → HasState count rules marks state
     → HasState count (rules ++ rule ∷ []) marks state
 says_nothing count rules rule marks states.Open same open_one = record {
   kept = open_one.kept;
@@ -90,3 +90,9 @@ says_nothing count rules rule marks states.Open same open_one = record {
 }
 says_nothing count rules rule marks (states.Refused at wanted found) same before = stays_refused count rules (rule ∷ []) before
 says_nothing count rules rule marks states.Lost same before = tt
+
+-- whatever the list is that has it last
+pub says_nothing_last : (count : ℕ) (rules whole : List Rule) (rule : Rule) (marks : Marks) (state : State) → whole ≡ rules ++ rule ∷ [] → rule.wanted ≡ rule.found
+    → HasState count rules marks state → HasState count whole marks state
+says_nothing_last count rules whole rule marks state is same before =
+    subst (λ (rs : List Rule). HasState count rs marks state) (sym is) (says_nothing count rules rule marks state same before)

@@ -9,7 +9,7 @@ use Rattle.prl_types.specs.declared.terms.Term.{Term}
 use Rattle.prl_types.specs.Flows.{placed, placed_flows, terms_of, flows_of, all_flows, place_of}
 use Rattle.prl_types.specs.Rules.{argument_rules, left_rules}
 
-terms_placed : (at : ℕ) (ts : List Term) → terms_of (placed at ts) ≡ ts
+pub terms_placed : (at : ℕ) (ts : List Term) → terms_of (placed at ts) ≡ ts
 terms_placed at [] = refl
 terms_placed at (t ∷ ts) = ap (λ (us : List Term). t ∷ us) (terms_placed at ts)
 
@@ -20,7 +20,7 @@ terms_placed_flows p node (more t ts) =
     ∙ ap (λ (us : List Term). us ++ terms_of (placed_flows p node ts)) (terms_placed (place_of t) (flows_of p node t))
     ∙ ap (λ (us : List Term). flows_of p node t ++ us) (terms_placed_flows p node ts)
 
-no_arguments : (ts : List Term) (fs : List Flow) → fs ≡ [] → argument_rules ts fs ≡ []
+pub no_arguments : (ts : List Term) (fs : List Flow) → fs ≡ [] → argument_rules ts fs ≡ []
 no_arguments [] fs e = refl
 no_arguments (t ∷ ts) [] e = refl
 no_arguments (t ∷ ts) (f ∷ fs) e = absurd (cc)
@@ -31,9 +31,9 @@ no_lefts p node (l ∷ ls) [] e = refl
 no_lefts p node (l ∷ ls) (f ∷ fs) e = absurd (cc)
 
 -- no flow is left
-pub arguments_end : (rules whole : List Rule) (inputs : List Term) (flows : List Flow) (k : ℕ) → length flows ≤ k → rules ++ argument_rules (drop k inputs) (drop k flows) ≡ whole → rules ≡ whole
-arguments_end rules whole inputs flows k past e =
-    sym (append-nil rules) ∙ ap (λ (rs : List Rule). rules ++ rs) (sym (no_arguments (drop k inputs) (drop k flows) (drop_all k flows past))) ∙ e
+pub arguments_end : (rules whole : List Rule) (inputs : List Term) (at : ℕ) (ts : List Term) (k : ℕ) → length ts ≤ k → rules ++ argument_rules (drop k inputs) (placed at (drop k ts)) ≡ whole → rules ≡ whole
+arguments_end rules whole inputs at ts k past e =
+    sym (append-nil rules) ∙ ap (λ (rs : List Rule). rules ++ rs) (sym (no_arguments (drop k inputs) (placed at (drop k ts)) (ap (placed at) (drop_all k ts past)))) ∙ e
 
 pub lefts_end : (p : ProgramTree) (node : ℕ) (rules whole : List Rule) (lefts : List Placed) (flows : List Term) (k : ℕ) → length flows ≤ k → rules ++ left_rules p node (drop k lefts) (drop k flows) ≡ whole → rules ≡ whole
 lefts_end p node rules whole lefts flows k past e =

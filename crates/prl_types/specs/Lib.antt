@@ -3,6 +3,7 @@ pub mod Solutions
 pub mod Marks
 pub mod Parameters
 pub mod Flows
+pub mod Segments
 pub mod Rules
 pub mod Arity
 pub mod Contexts

@@ -12,6 +12,7 @@ mod laws;
 mod met_rules;
 mod progress;
 mod rules;
+mod segments;
 mod signatures;
 mod solving;
 mod terms;

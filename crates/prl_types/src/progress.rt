@@ -99,9 +99,6 @@ impl State {
         requires { HasState count rules.now.list marks.old self }
         ensures { HasState count (rules.now.list ++ rule ∷ []) marks.new result }
     {
-        if is_same(rule.wanted, rule.found) {
-            return self;
-        }
         match self {
             State::Open => meet(alloc, marks, count, rules, rule),
             State::Refused { at, wanted, found } => State::Refused { at, wanted, found },
@@ -125,8 +122,23 @@ impl Met {
         })
     }
 
-    /// Meets one more rule.
+    /// Meets one more rule. One of two equal sides says nothing.
+    #[inline(always)]
     pub(crate) fn add(&mut self, rule: Rule) -> Result<(), AllocError>
+        ensures count { OnOk result (self.new.count ≡ self.old.count) }
+        ensures rules { OnOk result (self.new.rules ≡ self.old.rules ++ rule ∷ []) }
+    {
+        if is_same(rule.wanted, rule.found) {
+            self.rules = MetRules::one_more(&self.rules, &rule);
+            Ok(())
+        } else {
+            self.learn(rule)
+        }
+    }
+
+    /// Meets one more rule, which may say something.
+    #[inline(never)]
+    fn learn(&mut self, rule: Rule) -> Result<(), AllocError>
         ensures count { OnOk result (self.new.count ≡ self.old.count) }
         ensures rules { OnOk result (self.new.rules ≡ self.old.rules ++ rule ∷ []) }
     {

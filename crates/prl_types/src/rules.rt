@@ -4,16 +4,18 @@ ghost use Rattle.std.specs.Prelude.{◌≡◌, ◌++◌, ◌∷◌, [], map, IfO
 ghost use Rattle.prl_ast.specs.Trees.{tree_of, root_of, equation_tree, node_tree, program_tree};
 ghost use Rattle.prl_names.specs.ExprLists.{all_trees};
 ghost use Rattle.prl_types.specs.Contexts.{owned_of};
-ghost use Rattle.prl_types.specs.Flows.{operand, operated, flows_of, root_flows, placed, placed_flows, terms_of};
+ghost use Rattle.prl_types.specs.Flows.{flows_of, root_flows, placed, placed_flows};
+ghost use Rattle.prl_types.specs.Segments.{listed, terms_in, flows_in};
 ghost use Rattle.prl_types.specs.Parameters.{count_of};
 ghost use Rattle.prl_types.specs.Rules.{declared_rules, constant_rule, constant_rules, argument_rules, rules_in, root_rules, all_rules, left_rules, equations_rules, nodes_rules, rules_of};
 
 use crate::contexts::{Context, Parameter};
 use crate::progress::Met;
+use crate::segments::{Flows, Segment, add_flows, after, all, one, operand, operated, terms};
 use crate::signatures::Signatures;
-use crate::terms::{Flow, Rule, Term};
+use crate::terms::{Rule, Term};
 use prl_ast::{Base, Equation, Expr, Placed, PlacedOp};
-use prl_base::{Op, Ty};
+use prl_base::Op;
 use std::alloc::{AllocError, Global};
 
 /// Adds the rules of the declared types.
@@ -64,119 +66,109 @@ fn add_constants(rules: &mut Met, of: Term, prefixes: &[PlacedOp]) -> Result<(),
     Ok(())
 }
 
-/// Adds the rules of the arguments.
-fn add_arguments(rules: &mut Met, inputs: &[Term], flows: &[Flow]) -> Result<(), AllocError>
+/// Adds the rules of as many of these inputs as one part of the arguments gives.
+fn add_given(rules: &mut Met, inputs: &[Term], at: u32, terms: &[Term]) -> Result<(), AllocError>
     ensures count { OnOk result (rules.new.count ≡ rules.old.count) }
-    ensures rules { OnOk result (rules.new.rules ≡ rules.old.rules ++ argument_rules inputs.now flows.now) }
+    ensures rules { OnOk result (rules.new.rules ≡ rules.old.rules ++ argument_rules inputs.now (placed at terms.now)) }
 {
     let mut k = 0;
-    while k < inputs.len() && k < flows.len() {
+    while k < inputs.len() && k < terms.len() {
         rules.add(Rule {
-            at: flows[k].at,
+            at,
             wanted: inputs[k],
-            found: flows[k].term,
+            found: terms[k],
         })?;
         k += 1;
     }
     Ok(())
 }
 
-/// The flow that an operator is of.
-fn operand(flows: &[Term]) -> Term
-    ensures { result ≡ operand flows.now }
+fn add_segment(rules: &mut Met, inputs: &[Term], segment: &Segment<'_>) -> Result<(), AllocError>
+    ensures count { OnOk result (rules.new.count ≡ rules.old.count) }
+    ensures rules { OnOk result (rules.new.rules ≡ rules.old.rules ++ argument_rules inputs.now (placed segment.now.at (listed segment.now.flows))) }
 {
-    match flows.first() {
-        Some(term) => *term,
-        None => Term::Known(Ty::Int),
+    match segment.flows {
+        Flows::One(term) => add_given(rules, inputs, segment.at, &[term]),
+        Flows::All(terms) => add_given(rules, inputs, segment.at, terms),
     }
 }
 
-/// The flows after operators.
-fn operated(alloc: Global, expr: &Expr, flows: Vec<Term>) -> Result<Vec<Term>, AllocError>
-    ensures { IfOk result (λ terms. terms.items ≡ operated expr.now.pre expr.now.post flows.items) }
+/// Adds the rules of the arguments.
+fn add_arguments(
+    rules: &mut Met,
+    inputs: &[Term],
+    segments: &[Segment<'_>],
+) -> Result<(), AllocError>
+    ensures count { OnOk result (rules.new.count ≡ rules.old.count) }
+    ensures rules { OnOk result (rules.new.rules ≡ rules.old.rules ++ argument_rules inputs.now (flows_in segments.now)) }
 {
-    if expr.pre.is_empty() && expr.post.is_empty() {
-        Ok(flows)
-    } else {
-        Ok(vec![in alloc; operand(flows.as_slice())]?)
-    }
-}
-
-fn add_flows(list: &mut Vec<Flow>, at: u32, terms: &[Term]) -> Result<(), AllocError>
-    ensures { OnOk result (list.new.items ≡ list.old.items ++ placed at terms.now) }
-{
-    for term in terms {
-        list.push(Flow { term: *term, at })?;
+    let mut rest = inputs;
+    for segment in segments {
+        add_segment(rules, rest, segment)?;
+        rest = after(rest, segment.flows.len());
     }
     Ok(())
 }
 
-/// The types of the flows.
-fn terms(alloc: Global, flows: &[Flow]) -> Result<Vec<Term>, AllocError>
-    ensures { IfOk result (λ terms. terms.items ≡ terms_of flows.now) }
-{
-    flows.iter().map(|flow| flow.term).collect(alloc)
-}
-
 /// The flows of an expression of the node. Adds its rules, its parts before itself.
 #[cycle(rules)]
-fn expression(
+fn expression<'s>(
     alloc: Global,
-    context: &Signatures<'_, '_, '_>,
+    context: &'s Signatures<'_, '_, '_>,
     node: usize,
     expr: &Expr,
     rules: &mut Met,
-) -> Result<Vec<Term>, AllocError>
-    ensures flows { IfOk result (λ flows. flows.items ≡ flows_of (program_tree context.now) node (tree_of expr.now)) }
+) -> Result<Vec<Segment<'s>>, AllocError>
+    ensures flows { IfOk result (λ list. terms_in list.items ≡ flows_of (program_tree context.now) node (tree_of expr.now)) }
     ensures count { OnOk result (rules.new.count ≡ rules.old.count) }
     ensures rules { OnOk result (rules.new.rules ≡ rules.old.rules ++ rules_in (program_tree context.now) node (tree_of expr.now)) }
 {
-    let flows = base(alloc, context, node, &expr.base, rules)?;
+    let flows = base(alloc, context, node, expr.at.at, &expr.base, rules)?;
     add_constants(rules, operand(flows.as_slice()), expr.pre.as_slice())?;
     operated(alloc, expr, flows)
 }
 
-/// The flows of what operators are applied to.
+/// The flows of what operators are applied to, which stands at the byte.
 #[cycle(rules)]
-fn base(
+fn base<'s>(
     alloc: Global,
-    context: &Signatures<'_, '_, '_>,
+    context: &'s Signatures<'_, '_, '_>,
     node: usize,
+    at: u32,
     base: &Base,
     rules: &mut Met,
-) -> Result<Vec<Term>, AllocError>
-    ensures flows { IfOk result (λ flows. flows.items ≡ root_flows (program_tree context.now) node (root_of base.now)) }
+) -> Result<Vec<Segment<'s>>, AllocError>
+    ensures flows { IfOk result (λ list. terms_in list.items ≡ root_flows (program_tree context.now) node (root_of base.now)) }
     ensures count { OnOk result (rules.new.count ≡ rules.old.count) }
     ensures rules { OnOk result (rules.new.rules ≡ rules.old.rules ++ root_rules (program_tree context.now) node (root_of base.now)) }
 {
     match base {
-        Base::Const(value) => Ok(vec![in alloc; Term::Known(value.ty())]?),
-        Base::Var(name) => Ok(vec![in alloc; context.named(node, name.bytes())]?),
+        Base::Const(value) => one(alloc, at, Term::Known(value.ty())),
+        Base::Var(name) => one(alloc, at, context.named(node, name.bytes())),
         Base::Apply { name, args, .. } => {
             let flows = parts(alloc, context, node, args.as_slice(), rules)?;
             let callee = context.callee(name.bytes());
             add_arguments(rules, context.inputs(callee), flows.as_slice())?;
-            let outputs = Vec::from_slice(alloc, context.outputs(callee))?;
+            let outputs = all(alloc, at, context.outputs(callee))?;
             Ok(outputs)
         }
         Base::Group(exprs) => {
             let flows = parts(alloc, context, node, exprs.as_slice(), rules)?;
-            let terms = terms(alloc, flows.as_slice())?;
-            Ok(terms)
+            Ok(flows)
         }
     }
 }
 
 /// The flows of expressions, each at the byte of its expression.
 #[cycle(rules)]
-fn parts(
+fn parts<'s>(
     alloc: Global,
-    context: &Signatures<'_, '_, '_>,
+    context: &'s Signatures<'_, '_, '_>,
     node: usize,
     exprs: &[Expr],
     rules: &mut Met,
-) -> Result<Vec<Flow>, AllocError>
-    ensures flows { IfOk result (λ flows. flows.items ≡ placed_flows (program_tree context.now) node (all_trees exprs.now)) }
+) -> Result<Vec<Segment<'s>>, AllocError>
+    ensures flows { IfOk result (λ list. flows_in list.items ≡ placed_flows (program_tree context.now) node (all_trees exprs.now)) }
     ensures count { OnOk result (rules.new.count ≡ rules.old.count) }
     ensures rules { OnOk result (rules.new.rules ≡ rules.old.rules ++ all_rules (program_tree context.now) node (all_trees exprs.now)) }
 {
@@ -222,7 +214,8 @@ fn add_equations(
     ensures rules { OnOk result (rules.new.rules ≡ rules.old.rules ++ equations_rules (program_tree context.now) node (map equation_tree equations.now)) }
 {
     for equation in equations {
-        let flows = expression(alloc, context, node, &equation.right, rules)?;
+        let segments = expression(alloc, context, node, &equation.right, rules)?;
+        let flows = terms(alloc, segments.as_slice())?;
         add_lefts(
             rules,
             context,

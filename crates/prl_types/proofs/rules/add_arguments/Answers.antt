@@ -1,5 +1,14 @@
-use Rattle.prl_types.proofs.Walking.{arguments_end}
+use Rattle.std.proofs.Common.{◌∙◌}
+use Rattle.prl_types.proofs.Segmented.{arguments_step, arguments_done}
 use Rattle.prl_types.proofs.rules.add_arguments.Goals as goal
 
-pub returns-else-k-flows-clause-rules : goal.returns-else-k-flows-clause-rules
-returns-else-k-flows-clause-rules c = arguments_end c.loop-k.rules.rules _ c.args.inputs.now c.args.flows.now c.loop-k.k c.if-k-flows.false c.loop-k.invariant.1
+pub loop-segment-preserved : goal.loop-segment-preserved
+loop-segment-preserved c = (
+  c.in_ok-add_segment.ensures.count ∙ c.loop-segment.invariant.0,
+  arguments_step c.loop-segment.rules.rules c.add_segment.new.rules.rules c.loop-segment.rest.now c.after-rest.result.now c.args.segments.now c.loop-segment.segment-index c.len.result _
+      c.loop-segment-test.true c.in_ok-add_segment.ensures.rules c.len.ensures c.after-rest.ensures
+      ∙ c.loop-segment.invariant.1,
+)
+
+pub returns-clause-rules : goal.returns-clause-rules
+returns-clause-rules c = arguments_done c.loop-segment.rules.rules _ c.loop-segment.rest.now c.args.segments.now c.loop-segment.segment-index c.loop-segment-test.false c.loop-segment.invariant.1

@@ -1,9 +1,7 @@
-use Rattle.std.proofs.Common.{◌≡◌, ◌++◌, ◌-◌, drop, length}
+use Rattle.std.proofs.Common.{◌≡◌, ◌++◌, drop}
 use Rattle.prl_types.specs.Rules.{argument_rules}
+use Rattle.prl_types.specs.Segments.{flows_in}
 use Rattle.prl_types.proofs.rules.add_arguments.Given as goal
 
-abbrev pub invariant-loop-k : goal.invariant-loop-k
-invariant-loop-k l = (l.rules.count ≡ l.initial.rules.count) × (l.rules.rules ++ argument_rules (drop l.k l.inputs) (drop l.k l.flows) ≡ l.initial.rules.rules ++ argument_rules l.inputs l.flows)
-
-abbrev pub decreases-loop-k : goal.decreases-loop-k
-decreases-loop-k l = length l.inputs - l.k
+abbrev pub invariant-loop-segment : goal.invariant-loop-segment
+invariant-loop-segment l = (l.rules.count ≡ l.initial.rules.count) × (l.rules.rules ++ argument_rules l.rest (flows_in (drop l.segment-index l.segments)) ≡ l.initial.rules.rules ++ argument_rules l.inputs (flows_in l.segments))

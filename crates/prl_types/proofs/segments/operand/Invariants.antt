@@ -1,0 +1,7 @@
+use Rattle.std.proofs.Common.{◌≡◌, drop}
+use Rattle.prl_types.specs.Flows.{operand}
+use Rattle.prl_types.specs.Segments.{terms_in}
+use Rattle.prl_types.proofs.segments.operand.Given as goal
+
+abbrev pub invariant-loop-segment : goal.invariant-loop-segment
+invariant-loop-segment l = operand (terms_in (drop l.segment-index l.segments)) ≡ operand (terms_in l.segments)
