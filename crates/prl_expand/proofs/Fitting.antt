@@ -26,7 +26,7 @@ use Rattle.prl_names.specs.Named.{IsNamed, IsKnown, IsKnownRoot, AreKnown, AreKn
 use Rattle.prl_names.specs.Uses.{applied_names, root_names, all_applied, node_applied, is_expanded, used_imports}
 use Rattle.prl_names.proofs.Marking.{index_found}
 use Rattle.prl_types.specs.Arity.{equations_faults, equation_faults, faults_in, root_faults, all_faults, prefix_fault, postfix_fault, unless_equal}
-use Rattle.prl_types.specs.declared.terms.Flow.{Flow as TermFlow}
+use Rattle.prl_types.specs.Flows.{Flow as TermFlow}
 use Rattle.prl_types.specs.declared.terms.Term.{Term}
 use Rattle.prl_types.specs.Flows as flows
 use Rattle.prl_types.specs.Rules as typing

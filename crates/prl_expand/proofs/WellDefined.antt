@@ -17,7 +17,7 @@ use Rattle.prl_ast.specs.Trees.{NodeTree, ProgramTree}
 use Rattle.prl_flow.specs.declared.programs.App.{App}
 use Rattle.prl_flow.specs.declared.programs.Def.{Def}
 use Rattle.prl_flow.specs.Programs.{FlatProgram, HasType, IsWellDefined, IsNoted}
-use Rattle.prl_types.specs.declared.terms.Flow.{Flow as TermFlow}
+use Rattle.prl_types.specs.Flows.{Flow as TermFlow}
 use Rattle.prl_types.specs.declared.terms.Rule.{Rule as TypeRule}
 use Rattle.prl_types.specs.declared.terms.Term.{Term}
 use Rattle.prl_types.specs.Flows as flows

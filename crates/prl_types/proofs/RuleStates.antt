@@ -1,9 +1,7 @@
 -- What one more rule makes of what is known.
 use Rattle.std.proofs.Common.{◌≡◌, ◌++◌, ◌∙◌, ℕ, List, [], ◌∷◌, length, refl, sym, ap, subst, append_assoc}
-use Rattle.std.proofs.lemmas.List.{append-nil}
 use Rattle.prl_base.specs.declared.values.Ty.{Ty}
 use Rattle.prl_types.specs.declared.terms.Rule.{Rule}
-use Rattle.prl_types.specs.declared.terms.Term.{Term}
 use Rattle.prl_types.specs.declared.solving.Marks.{Marks}
 use Rattle.prl_types.specs.declared.solving.Unsolved.TheVariants as unsolved
 use Rattle.prl_types.specs.Choices.{FitsRule, FitRules}

@@ -1,14 +1,13 @@
 -- The signature that is looked up has what is taken and given.
-use Rattle.std.proofs.Common.{◌≡◌, ◌<◌, ◌≤◌, ◌+◌, ◌∙◌, ℕ, List, length, map, get_or, arith, refl, sym, ap, inl, inr, Option, Some, None}
+use Rattle.std.proofs.Common.{◌≡◌, ◌<◌, ◌≤◌, ◌+◌, ◌∙◌, ℕ, List, length, map, arith, sym, ap, inl, inr, Some, None}
 use Rattle.std.proofs.lemmas.Bool.{cases_lt}
 use Rattle.std.proofs.lemmas.List.FromFn.{get_or-map-range_with_len, length-map-range_with_len}
 use Rattle.std.proofs.lemmas.Option.{slice_get-get_or, slice_get_past}
 use Rattle.std.specs.List.{slice_get, range_with_len}
 use Rattle.prl_ast.specs.Trees.{ProgramTree}
-use Rattle.prl_names.specs.declared.lookups.Callee.{Callee}
 use Rattle.prl_names.specs.declared.lookups.Callee.TheVariants as callees
 use Rattle.prl_types.specs.declared.terms.Signature.{Signature}
-use Rattle.prl_types.specs.Flows.{inputs_of, outputs_of, import_inputs, import_outputs, node_inputs, node_outputs}
+use Rattle.prl_types.specs.Flows.{import_inputs, import_outputs, node_inputs, node_outputs}
 use Rattle.prl_types.specs.Parameters.{first_of}
 use Rattle.prl_types.specs.Signatures.{import_signature, node_signature, taken, given, Signs}
 

@@ -12,7 +12,6 @@ use Rattle.prl_names.specs.declared.lookups.Callee.TheVariants as callees
 use Rattle.prl_names.specs.Lookups.{callee_of}
 use Rattle.prl_types.specs.declared.terms.Term.{Term}
 use Rattle.prl_types.specs.declared.terms.Term.TheVariants as terms
-use Rattle.prl_types.specs.declared.terms.Flow.{Flow}
 use Rattle.prl_types.specs.Parameters.{first_of, named}
 
 abbrev pub port_types : List Port → List Term
@@ -75,6 +74,11 @@ abbrev mutual
   pub all_flows : ProgramTree → ℕ → Trees → List Term
   all_flows p node none = []
   all_flows p node (more t ts) = flows_of p node t ++ all_flows p node ts
+
+-- the type of a flow, and the byte of the text at which the expression that gives it stands
+pub record Flow : Type 0 where
+  pub term : Term
+  pub at : ℕ
 
 -- where an expression's first token stands
 abbrev pub place_of : Tree → ℕ

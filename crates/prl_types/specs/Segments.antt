@@ -1,11 +1,10 @@
 -- Flows as the code lists them: one, or all that something applied gives.
 use Rattle.std.specs.Prelude.{List, [], ◌∷◌, ◌++◌}
-use Rattle.prl_types.specs.declared.terms.Flow.{Flow}
 use Rattle.prl_types.specs.declared.terms.Term.{Term}
 use Rattle.prl_types.specs.declared.segments.Segment.{Segment}
 use Rattle.prl_types.specs.declared.segments.Flows.{Flows}
 use Rattle.prl_types.specs.declared.segments.Flows.TheVariants as given
-use Rattle.prl_types.specs.Flows.{placed}
+use Rattle.prl_types.specs.Flows.{Flow, placed}
 
 abbrev pub listed : Flows → List Term
 listed (given.One t) = t ∷ []

@@ -19,13 +19,6 @@ pub struct Rule {
     pub found: Term,
 }
 
-/// The type of a flow, and the byte of the text at which the expression that gives it stands.
-#[derive(Clone, Copy, Debug, PartialEq, Eq)]
-pub struct Flow {
-    pub term: Term,
-    pub at: u32,
-}
-
 /// The types of what an import or a node takes, and of what it gives.
 #[derive(Debug, Drop)]
 pub struct Signature {

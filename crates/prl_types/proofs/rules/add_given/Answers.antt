@@ -1,4 +1,3 @@
-use Rattle.prl_types.specs.Flows.{placed}
 use Rattle.prl_types.proofs.Walking.{arguments_end}
 use Rattle.prl_types.proofs.rules.add_given.Goals as goal
 

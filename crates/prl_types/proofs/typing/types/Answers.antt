@@ -1,4 +1,3 @@
-use Rattle.std.proofs.Common.{sym}
 use Rattle.prl_ast.specs.Trees.{program_tree}
 use Rattle.prl_types.proofs.Fitting.{rules_fit}
 use Rattle.prl_types.proofs.typing.types.Goals as goal
