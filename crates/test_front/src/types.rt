@@ -214,6 +214,7 @@ fn several_flows(rt: HostRuntime) -> Result<(), Fail> {
             "var p, q; let (o, p, q) = ((F(i)), h((h((i))))); tel",
         ),
         (Seen::Nothing, "let o = G((i, i), Z() ~> 1); tel"),
+        (Seen::Nothing, "let o = G((F(i), Z())); tel"),
         // An application is told at its name,
         (Seen::Arity(275), "let o = G(F(i), i, Z()); tel"),
         (Seen::Arity(275), "let o = G(); tel"),
@@ -240,6 +241,10 @@ fn places_of_types(rt: HostRuntime) -> Result<(), Fail> {
         (wants_bool(283), "let o = G(F(i), i); tel"),
         (wants_bool(280), "let o = G(i, F(i)); tel"),
         (wants_int(280), "let o = G(i, true, i); tel"),
+        // All flows of a group stand where the outermost one begins.
+        (wants_int(277), "let o = G((i, Z()), i); tel"),
+        (wants_bool(280), "let o = G(i, (i, i)); tel"),
+        (wants_bool(287), "let o = G(((F(i))), i); tel"),
         (wants_bool(288), "var p: bool; let (o, p) = F(i); tel"),
         (wants_bool(291), "var p: bool; let o = i; p = i /^ 3; tel"),
         // The first rule that contradicts the earlier ones.
