@@ -1,7 +1,8 @@
 -- What one more rule makes of what is known.
-use Rattle.std.proofs.Common.{◌≡◌, ◌++◌, ◌∙◌, ℕ, List, [], ◌∷◌, length, refl, sym, ap, subst, append_assoc}
+use Rattle.std.proofs.Common.{◌≡◌, ◌++◌, ◌∙◌, ℕ, List, [], ◌∷◌, length, refl, sym, ap, append_assoc}
 use Rattle.prl_base.specs.declared.values.Ty.{Ty}
 use Rattle.prl_types.specs.declared.terms.Rule.{Rule}
+use Rattle.prl_types.specs.declared.terms.Term.{Term}
 use Rattle.prl_types.specs.declared.solving.Marks.{Marks}
 use Rattle.prl_types.specs.declared.solving.Unsolved.TheVariants as unsolved
 use Rattle.prl_types.specs.Choices.{FitsRule, FitRules}
@@ -10,7 +11,7 @@ use Rattle.prl_types.specs.Marks.{resolved, IsKept, Solves, Refuses}
 use Rattle.prl_types.specs.States.{IsOpen, HasState}
 use Rattle.prl_types.specs.declared.progress.State.{State}
 use Rattle.prl_types.specs.declared.progress.State.TheVariants as states
-use Rattle.prl_types.proofs.Meeting.{solves_equal}
+use Rattle.prl_types.proofs.Meeting.{Sides, solves_equal}
 
 fits_last : (count : ℕ) (rules : List Rule) (rule : Rule) → FitRules count (rules ++ rule ∷ []) → FitsRule count rule
 fits_last count [] rule h = h.0
@@ -77,7 +78,7 @@ stays_refused count rules more before fits =
     }
 
 -- a rule of two equal sides says nothing
-says_nothing : (count : ℕ) (rules : List Rule) (rule : Rule) (marks : Marks) (state : State) → rule.wanted ≡ rule.found → HasState count rules marks state
+pub says_nothing : (count : ℕ) (rules : List Rule) (rule : Rule) (marks : Marks) (state : State) → rule.wanted ≡ rule.found → HasState count rules marks state
     → HasState count (rules ++ rule ∷ []) marks state
 says_nothing count rules rule marks states.Open same open_one = record {
   kept = open_one.kept;
@@ -89,8 +90,11 @@ says_nothing count rules rule marks states.Open same open_one = record {
 says_nothing count rules rule marks (states.Refused at wanted found) same before = stays_refused count rules (rule ∷ []) before
 says_nothing count rules rule marks states.Lost same before = tt
 
--- whatever the list is that has it last
-pub says_nothing_last : (count : ℕ) (rules whole : List Rule) (rule : Rule) (marks : Marks) (state : State) → whole ≡ rules ++ rule ∷ [] → rule.wanted ≡ rule.found
-    → HasState count rules marks state → HasState count whole marks state
-says_nothing_last count rules whole rule marks state is same before =
-    subst (λ (rs : List Rule). HasState count rs marks state) (sym is) (says_nothing count rules rule marks state same before)
+-- the marks give both sides the same already
+pub agrees : {count : ℕ} {rules : List Rule} {marks : Marks} (rule : Rule) {t u : Term} → Sides marks.marks.items rule t u → t ≡ u → IsOpen count rules marks
+    → IsOpen count (rules ++ rule ∷ []) marks
+agrees {count} {rules} rule sides same open_one = record {
+  kept = open_one.kept;
+  number = open_one.number;
+  solves = λ fits. solves_equal sides same (open_one.solves (fits_front count rules (rule ∷ []) fits));
+}

@@ -87,6 +87,23 @@ fn meet(alloc: Global, marks: &mut Marks, count: usize, rules: &MetRules, rule: 
 }
 
 impl State {
+    /// Whether the rules that came to this already give both sides of one more the same type.
+    #[inline(always)]
+    fn follows(self, marks: &Marks, count: usize, rules: &MetRules, rule: Rule) -> bool
+        requires { HasState count rules.now.list marks.now self }
+        ensures { result ≡ true → HasState count (rules.now.list ++ rule ∷ []) marks.now self }
+    {
+        if is_same(rule.wanted, rule.found) {
+            return true;
+        }
+        match self {
+            State::Open => {
+                fits_rule(rule, count) && is_same(marks.mark(rule.wanted), marks.mark(rule.found))
+            }
+            State::Refused { .. } | State::Lost => false,
+        }
+    }
+
     /// What comes of one more rule after those that came to this.
     fn next(
         self,
@@ -122,13 +139,16 @@ impl Met {
         })
     }
 
-    /// Meets one more rule. One of two equal sides says nothing.
+    /// Meets one more rule. One that follows from those before it says nothing.
     #[inline(always)]
     pub(crate) fn add(&mut self, rule: Rule) -> Result<(), AllocError>
         ensures count { OnOk result (self.new.count ≡ self.old.count) }
         ensures rules { OnOk result (self.new.rules ≡ self.old.rules ++ rule ∷ []) }
     {
-        if is_same(rule.wanted, rule.found) {
+        if self
+            .state
+            .follows(&self.marks, self.count, &self.rules, rule)
+        {
             self.rules = MetRules::one_more(&self.rules, &rule);
             Ok(())
         } else {

@@ -83,7 +83,8 @@ impl Marks {
     }
 
     /// What the rules say of the term.
-    fn mark(&self, term: Term) -> Term
+    #[inline(always)]
+    pub(crate) fn mark(&self, term: Term) -> Term
         requires { FitsTerm (length self.now.marks.items) term }
         ensures { result ≡ resolved self.now.marks.items term }
     {
