@@ -1,32 +1,50 @@
 -- What a command comes to over known files is how its call ends.
-use Rattle.std.proofs.Common.{◌≡◌, ◌++◌, ℕ, List, [], ◌∷◌, drop, Option, Some, None, Result, refl, sym, ap, ◌∙◌, inl, inr, subst, arith}
+use Rattle.std.proofs.Common.{◌≡◌, ◌≤◌, ◌++◌, ℕ, Bool, List, [], ◌∷◌, drop, Option, Some, None, Result, refl, sym, ap, ◌∙◌, inl, inr, subst, arith}
 use Rattle.prl_app.specs.declared.endings.Ending.{Ending}
 use Rattle.prl_app.specs.declared.endings.Ending.TheVariants as endings
-use Rattle.prl_app.specs.declared.faults.Part.{Part}
-use Rattle.prl_app.specs.declared.faults.Part.TheVariants as parts
-use Rattle.prl_app.specs.declared.faults.Fault.{Fault}
-use Rattle.prl_app.specs.declared.stages.Stage.{Stage}
-use Rattle.prl_app.specs.declared.stages.Stop.TheVariants as stops
+use Rattle.prl_stages.specs.declared.faults.InputFile.{InputFile}
+use Rattle.prl_stages.specs.declared.faults.InputFile.TheVariants as parts
+use Rattle.prl_stages.specs.declared.faults.Fault.{Fault}
+use Rattle.prl_stages.specs.declared.stages.Stage.{Stage}
+use Rattle.prl_stages.specs.declared.stages.Stop.TheVariants as stops
 use Rattle.prl_arguments.specs.declared.arguments.Command.{Command}
 use Rattle.prl_arguments.specs.Arguments.{command_of}
-use Rattle.prl_app.specs.Given.{Folder, Given, IsContent, IsGiven}
-use Rattle.prl_app.specs.Stages.{Comes, stages_of}
-use Rattle.prl_app.specs.Endings.{Outside, Ends, IsExact, NoFault, NoneFailed, ending_of}
+use Rattle.prl_stages.specs.Given.{Folder, Given, IsContent, IsGiven, IsGivenIn, IsGivenTo}
+use Rattle.prl_stages.specs.Stages.{Comes, stages_of}
+use Rattle.prl_arguments.specs.declared.arguments.Mode.{Mode}
+use Rattle.prl_arguments.specs.declared.arguments.Mode.TheVariants as modes
+use Rattle.prl_io.specs.Views.{FolderView, SinkView}
+use Rattle.prl_exec.specs.declared.runs.Stopped.{Stopped}
+use Rattle.prl_pipeline.specs.Answers.{IsAnswerOf, IsAnswerStop}
+use Rattle.prl_pipeline.specs.declared.running.Outcome.TheVariants as outcomes
+use Rattle.prl_plan.specs.Plans.{PlanView}
+use Rattle.prl_rule.specs.declared.views.Gate.{Gate}
+use Rattle.prl_rule.specs.declared.views.Gate.TheVariants as gates
+use Rattle.prl_stages.specs.Ran.{HasOverrun}
+use Rattle.prl_stages.specs.declared.ran.Ran.{Ran}
+use Rattle.prl_stages.specs.declared.stages.Stop.{Stop}
+use Rattle.prl_app.specs.declared.endings.Status.{Status}
+use Rattle.prl_app.specs.Endings.{Answers, AsksForThreads, Outside, Ends, IsEndOf, IsExact, IsOverrunOf, IsTold, Means, NoFault, NoneFailed, ran_of, status_of}
+use Rattle.prl_app.specs.ErrorLines.{line_of}
+use Rattle.prl_app.specs.code.Performed.{IsWrittenBy, line_is}
 
-abbrev given_with : Result (List ℕ) Fault → Result (List ℕ) Fault → Result (List ℕ) Fault → Result (List ℕ) Fault → Option (List ℕ) → ℕ → Given
-given_with program bodies sensors schedule node until =
-    record { program = program; bodies = bodies; sensors = sensors; schedule = schedule; node = node; until = until }
+abbrev given_with : Result (List ℕ) Fault → Result (List ℕ) Fault → Result (List ℕ) Fault → Result (List ℕ) Fault → Result (List ℕ) Fault → Bool → Option (List ℕ) → ℕ → Given
+given_with program bodies sensors schedule cores listed node until =
+    record { program = program; bodies = bodies; sensors = sensors; schedule = schedule; cores = cores; listed = listed; node = node; until = until }
 
-same_given : (a b : Given) → a.program ≡ b.program → a.bodies ≡ b.bodies → a.sensors ≡ b.sensors → a.schedule ≡ b.schedule → a.node ≡ b.node → a.until ≡ b.until → a ≡ b
-same_given a b p t s e n u =
-    ap (λ x. given_with x a.bodies a.sensors a.schedule a.node a.until) p
-    ∙ ap (λ x. given_with b.program x a.sensors a.schedule a.node a.until) t
-    ∙ ap (λ x. given_with b.program b.bodies x a.schedule a.node a.until) s
-    ∙ ap (λ x. given_with b.program b.bodies b.sensors x a.node a.until) e
-    ∙ ap (λ x. given_with b.program b.bodies b.sensors b.schedule x a.until) n
-    ∙ ap (λ x. given_with b.program b.bodies b.sensors b.schedule b.node x) u
+same_given : (a b : Given) → a.program ≡ b.program → a.bodies ≡ b.bodies → a.sensors ≡ b.sensors → a.schedule ≡ b.schedule → a.cores ≡ b.cores → a.listed ≡ b.listed
+    → a.node ≡ b.node → a.until ≡ b.until → a ≡ b
+same_given a b p t s e k l n u =
+    ap (λ x. given_with x a.bodies a.sensors a.schedule a.cores a.listed a.node a.until) p
+    ∙ ap (λ x. given_with b.program x a.sensors a.schedule a.cores a.listed a.node a.until) t
+    ∙ ap (λ x. given_with b.program b.bodies x a.schedule a.cores a.listed a.node a.until) s
+    ∙ ap (λ x. given_with b.program b.bodies b.sensors x a.cores a.listed a.node a.until) e
+    ∙ ap (λ x. given_with b.program b.bodies b.sensors b.schedule x a.listed a.node a.until) k
+    ∙ ap (λ x. given_with b.program b.bodies b.sensors b.schedule b.cores x a.node a.until) l
+    ∙ ap (λ x. given_with b.program b.bodies b.sensors b.schedule b.cores b.listed x a.until) n
+    ∙ ap (λ x. given_with b.program b.bodies b.sensors b.schedule b.cores b.listed b.node x) u
 
-one_content : (folder : Folder) (part : Part) (name : Option (List ℕ)) (x y : Result (List ℕ) Fault) → IsContent (Some folder) part name x → IsContent (Some folder) part name y → x ≡ y
+one_content : (folder : Folder) (part : InputFile) (name : Option (List ℕ)) (x y : Result (List ℕ) Fault) → IsContent (Some folder) part name x → IsContent (Some folder) part name y → x ≡ y
 one_content folder part None x y h k = h ∙ sym k
 one_content folder part (Some name) x y h k = h ∙ sym k
 
@@ -38,7 +56,20 @@ one_given folder c a b h k =
     (one_content folder parts.Bodies c.bodies a.bodies b.bodies (h.contents parts.Bodies) (k.contents parts.Bodies))
     (one_content folder parts.Sensors c.sensors a.sensors b.sensors (h.contents parts.Sensors) (k.contents parts.Sensors))
     (one_content folder parts.Schedule c.schedule a.schedule b.schedule (h.contents parts.Schedule) (k.contents parts.Schedule))
+    (one_content folder parts.Cores c.cores a.cores b.cores (h.contents parts.Cores) (k.contents parts.Cores)) (h.listed ∙ sym k.listed)
     (h.node ∙ sym k.node) (h.until ∙ sym k.until)
+
+one_given_in : (mode : Mode) (folder : Folder) (c : Command) (a b : Given) → IsGivenIn mode (Some folder) c a → IsGivenIn mode (Some folder) c b → a ≡ b
+one_given_in modes.Check folder c a b h k = one_given folder c a b h k
+one_given_in modes.Cores folder c a b h k = one_given folder c a b h k
+one_given_in modes.Edf folder c a b h k = one_given folder c a b h k
+one_given_in modes.Flows folder c a b h k = one_given folder c a b h k
+one_given_in modes.Plan folder c a b h k = one_given folder c a b h k
+one_given_in modes.Print folder c a b h k = one_given folder c a b h k
+one_given_in modes.Replay folder c a b h k = one_given folder c a b h k
+one_given_in modes.Run folder c a b h k = one_given folder c a b h k
+one_given_in modes.Schedule folder c a b h k = one_given folder c a b h k
+one_given_in modes.Generate folder c a b h k = h ∙ sym k
 
 some_same : (o : Option Command) (a b : Command) → o ≡ Some a → o ≡ Some b → a ≡ b
 some_same o a b h k = cc
@@ -46,19 +77,22 @@ some_same o a b h k = cc
 none_some : (o : Option Command) (a : Command) → o ≡ None → o ≡ Some a → ⊥
 none_some o a h k = cc
 
+abbrev outside : FolderView → SinkView → SinkView → Outside
+outside files out err = record { files = files; out = out; err = err }
+
 -- the law of the stages
 abbrev pub OneEnd : Type 0
 OneEnd = (g : Given) (list : List Stage) (a b : Option (Stage × Fault)) → Comes g list a → Comes g list b → a ≡ b
 
 module _ (law : OneEnd) (words : List (List ℕ)) (told : Option Folder) (folder : Folder) (known : told ≡ Some folder) where
-  one_way : (c d : Command) → command_of words ≡ Some c → command_of words ≡ Some d → (g h : Given) → IsGiven told c g → IsGiven (Some folder) d h
+  one_way : (c d : Command) → command_of words ≡ Some c → command_of words ≡ Some d → (g h : Given) → IsGivenTo told c g → IsGivenTo (Some folder) d h
       → (a b : Option (Stage × Fault)) → Comes g (stages_of c) a → Comes h (stages_of d) b → a ≡ b
   one_way c d ac ad g h gg gh a b ca cb =
       let same = some_same (command_of words) c d ac ad in
-      let given : IsGiven (Some folder) c g = subst (λ (t : Option Folder). IsGiven t c g) known gg in
-      let given : IsGiven (Some folder) d g = subst (λ (x : Command). IsGiven (Some folder) x g) same given in
+      let given : IsGivenTo (Some folder) c g = subst (λ (t : Option Folder). IsGivenTo t c g) known gg in
+      let given : IsGivenTo (Some folder) d g = subst (λ (x : Command). IsGivenTo (Some folder) x g) same given in
       let comes : Comes g (stages_of d) a = subst (λ (x : Command). Comes g (stages_of x) a) same ca in
-      let comes : Comes h (stages_of d) a = subst (λ (x : Given). Comes x (stages_of d) a) (one_given folder d g h given gh) comes in
+      let comes : Comes h (stages_of d) a = subst (λ (x : Given). Comes x (stages_of d) a) (one_given_in d.mode folder d g h given gh) comes in
       law h (stages_of d) a b comes cb
 
 -- a list with a name more is another one
@@ -71,10 +105,11 @@ same_files old new None h = h.0
 same_files old new (Some end) h = h
 
 pub exact_by : OneEnd → (words : List (List ℕ)) (old new : Outside) (ending : Ending) → Ends words old new ending → IsExact words old new ending
-exact_by law words old new endings.Done cause folder known d asked h given end comes none =
+exact_by law words old new (endings.Done ran) cause folder known d asked h given end comes none =
     let m = cause.1 in
-    inl (ap ending_of (one_way law words old.files.folder folder known m.command d m.asked asked m.given h m.is_given given None end m.comes comes))
-exact_by law words old new endings.Unwritten cause folder known d asked h given end comes none =
+    let same = one_way law words old.files.folder folder known m.command d m.asked asked m.given h m.is_given given None end m.comes comes in
+    inl (subst (λ (e : Option (Stage × Fault)). IsEndOf e (endings.Done ran)) same (ran, refl))
+exact_by law words old new (endings.Unwritten ran) cause folder known d asked h given end comes none =
     let m = cause.1 in
     let e = one_way law words old.files.folder folder known m.command d m.asked asked m.given h m.is_given given None end m.comes comes in
     let still : NoFault old new None = subst (NoFault old new) (sym e) none in
@@ -86,5 +121,71 @@ exact_by law words old new (endings.Stopped (stops.Unread part)) cause folder kn
     absurd (one_more old.files.failed cause.0.name (sym cause.0.failed ∙ same))
 exact_by law words old new (endings.Stopped (stops.Refused stage fault)) cause folder known d asked h given end comes none =
     let m = cause.0 in
-    inl (ap ending_of (one_way law words old.files.folder folder known m.command d m.asked asked m.given h m.is_given given (Some (stage, fault)) end m.comes comes))
-exact_by law words old new (endings.Stopped stops.Memory) cause folder known d asked h given end comes none = inr refl
+    let same = one_way law words old.files.folder folder known m.command d m.asked asked m.given h m.is_given given (Some (stage, fault)) end m.comes comes in
+    inl (subst (λ (e : Option (Stage × Fault)). IsEndOf e (endings.Stopped (stops.Refused stage fault))) same refl)
+exact_by law words old new (endings.Stopped stops.Memory) cause folder known d asked h given end comes none = inr (inl refl)
+exact_by law words old new (endings.Overrun plan stopped) cause folder known d asked h given end comes none =
+    let m = cause.0 in
+    let same = one_way law words old.files.folder folder known m.asks.command d m.asks.asked asked m.given h m.is_given given None end m.comes comes in
+    let mine = some_same (command_of words) m.asks.command d m.asks.asked asked in
+    inr (inr (sym same, subst (λ (c : Command). IsOverrunOf c (endings.Overrun plan stopped)) mine (m.asks.mode, m.asks.several, m.clock, plan, stopped, refl)))
+
+-- what a call says, from how it ended
+pub answers_by : OneEnd → (words : List (List ℕ)) (old new : Outside) (status : Status) (command : Option Command) (ending : Ending)
+    → status.code ≡ status_of ending → status.ran ≡ ran_of ending → Ends words old new ending → line_is words command ending
+    → IsTold old.err new.err (line_of command ending) → new.files.folder ≡ old.files.folder → Answers words old new status
+answers_by law words old new status command ending code ran ends line told folder = record {
+  ending = ending;
+  code = code;
+  ran = ran;
+  ends = ends;
+  told = subst (IsTold old.err new.err) line told;
+  exact = exact_by law words old new ending ends;
+  folder = folder;
+}
+
+-- no command of a run on several workers is a command of none
+pub asked_same : (words : List (List ℕ)) (c : Command) → command_of words ≡ Some c → (asks : AsksForThreads words) → (c.mode ≡ modes.Run) × (2 ≤ c.workers)
+asked_same words c asked asks =
+    subst (λ (x : Command). (x.mode ≡ modes.Run) × (2 ≤ x.workers)) (some_same (command_of words) asks.command c asks.asked asked) (asks.mode, asks.several)
+
+pub never_asked : (words : List (List ℕ)) → command_of words ≡ None → AsksForThreads words → ⊥
+never_asked words none asks = none_some (command_of words) asks.command none asks.asked
+
+-- the outside at two moments
+pub same_outside : (a b : Outside) → a.files ≡ b.files → a.out ≡ b.out → a.err ≡ b.err → a ≡ b
+same_outside a b f o e =
+    ap (λ (x : FolderView). outside x a.out a.err) f ∙ ap (λ (x : SinkView). outside b.files x a.err) o ∙ ap (λ (x : SinkView). outside b.files b.out x) e
+
+-- what a command has written
+pub written_ends : (words : List (List ℕ)) (old new : Outside) (text : List ℕ) (ran : Ran) (ending : Ending) → Means words old.files.folder text ran
+    → IsWrittenBy old.out new.out text ran ending → NoneFailed old new → Ends words old new ending
+written_ends words old new text ran ending means (inl h) none = subst (Ends words old new) (sym h.0) (text, means, h.1, none)
+written_ends words old new text ran ending means (inr h) none = subst (Ends words old new) (sym h.0) (text, means, h.1, none)
+
+-- why there is no text
+pub stop_ends : (words : List (List ℕ)) (old new : Outside) (c : Command) → command_of words ≡ Some c → (stop : Stop) → IsAnswerStop old.files new.files c stop
+    → new.out ≡ old.out → Ends words old new (endings.Stopped stop)
+stop_ends words old new c asked (stops.Unread part) h same =
+    (record { command = c; asked = asked; name = h.0; named = h.1; failed = h.2 }, same)
+stop_ends words old new c asked (stops.Refused stage fault) h same =
+    (record { command = c; asked = asked; given = h.0.0; is_given = h.0.1; comes = h.0.2 }, same, h.1)
+stop_ends words old new c asked stops.Memory h same = (same, h)
+
+-- a run that was overrun
+pub overrun_ends : (words : List (List ℕ)) (old new : Outside) (c : Command) → command_of words ≡ Some c → c.mode ≡ modes.Run → 2 ≤ c.workers → (plan : PlanView) (stopped : Stopped)
+    → IsAnswerOf old.files.folder c (outcomes.Overrun plan stopped) → new.out ≡ old.out → NoneFailed old new → Ends words old new (endings.Overrun plan stopped)
+overrun_ends words old new c asked mode several plan stopped of same none =
+    let overrun = of.3 in
+    let free : c.clock ≡ gates.Free = overrun.run.gate in (
+      record {
+        asks = record { command = c; asked = asked; mode = mode; several = several };
+        clock = free;
+        given = of.0;
+        is_given = of.1;
+        comes = of.2;
+        overrun = subst (λ (gate : Gate). HasOverrun of.0 gate plan stopped) free overrun;
+      },
+      same,
+      none,
+    )

@@ -8,35 +8,39 @@ use Rattle.prl_base.specs.Ratios.{Fraction}
 use Rattle.prl_base.specs.Texts.{fraction_text, type_text}
 use Rattle.prl_base.specs.declared.values.Ty.{Ty}
 use Rattle.prl_plan.specs.declared.events.Rule.{Rule}
+use Rattle.prl_exec.specs.declared.runs.Stopped.{Stopped}
+use Rattle.prl_plan.specs.Jobs.{task_at}
 use Rattle.prl_plan.specs.Rules.{rule_text}
 use Rattle.prl_app.specs.declared.endings.Ending.{Ending}
 use Rattle.prl_app.specs.declared.endings.Ending.TheVariants as endings
-use Rattle.prl_app.specs.declared.faults.GrammarRefusal.{GrammarRefusal}
-use Rattle.prl_app.specs.declared.faults.GrammarRefusal.TheVariants as bad_grammar
-use Rattle.prl_app.specs.declared.faults.TypesRefusal.{TypesRefusal}
-use Rattle.prl_app.specs.declared.faults.TypesRefusal.TheVariants as bad_types
-use Rattle.prl_app.specs.declared.faults.ClocksRefusal.{ClocksRefusal}
-use Rattle.prl_app.specs.declared.faults.ClocksRefusal.TheVariants as bad_clocks
-use Rattle.prl_app.specs.declared.faults.GraphRefusal.{GraphRefusal}
-use Rattle.prl_app.specs.declared.faults.GraphRefusal.TheVariants as bad_graph
-use Rattle.prl_app.specs.declared.faults.DatesRefusal.{DatesRefusal}
-use Rattle.prl_app.specs.declared.faults.DatesRefusal.TheVariants as bad_dates
-use Rattle.prl_app.specs.declared.faults.BodiesRefusal.{BodiesRefusal}
-use Rattle.prl_app.specs.declared.faults.BodiesRefusal.TheVariants as bad_bodies
-use Rattle.prl_app.specs.declared.faults.SensorsRefusal.{SensorsRefusal}
-use Rattle.prl_app.specs.declared.faults.SensorsRefusal.TheVariants as bad_rows
-use Rattle.prl_app.specs.declared.faults.ScheduleRefusal.{ScheduleRefusal}
-use Rattle.prl_app.specs.declared.faults.ScheduleRefusal.TheVariants as bad_schedule
-use Rattle.prl_app.specs.declared.faults.Part.{Part}
-use Rattle.prl_app.specs.declared.faults.Fault.{Fault}
-use Rattle.prl_app.specs.declared.faults.Fault.TheVariants as faults
-use Rattle.prl_app.specs.declared.stages.Stop.{Stop}
-use Rattle.prl_app.specs.declared.stages.Stop.TheVariants as stops
+use Rattle.prl_stages.specs.declared.faults.GrammarRefusal.{GrammarRefusal}
+use Rattle.prl_stages.specs.declared.faults.GrammarRefusal.TheVariants as bad_grammar
+use Rattle.prl_stages.specs.declared.faults.TypesRefusal.{TypesRefusal}
+use Rattle.prl_stages.specs.declared.faults.TypesRefusal.TheVariants as bad_types
+use Rattle.prl_stages.specs.declared.faults.ClocksRefusal.{ClocksRefusal}
+use Rattle.prl_stages.specs.declared.faults.ClocksRefusal.TheVariants as bad_clocks
+use Rattle.prl_stages.specs.declared.faults.GraphRefusal.{GraphRefusal}
+use Rattle.prl_stages.specs.declared.faults.GraphRefusal.TheVariants as bad_graph
+use Rattle.prl_stages.specs.declared.faults.DatesRefusal.{DatesRefusal}
+use Rattle.prl_stages.specs.declared.faults.DatesRefusal.TheVariants as bad_dates
+use Rattle.prl_stages.specs.declared.faults.BodiesRefusal.{BodiesRefusal}
+use Rattle.prl_stages.specs.declared.faults.BodiesRefusal.TheVariants as bad_bodies
+use Rattle.prl_stages.specs.declared.faults.SensorsRefusal.{SensorsRefusal}
+use Rattle.prl_stages.specs.declared.faults.SensorsRefusal.TheVariants as bad_rows
+use Rattle.prl_stages.specs.declared.faults.CoresRefusal.{CoresRefusal}
+use Rattle.prl_stages.specs.declared.faults.CoresRefusal.TheVariants as bad_cores
+use Rattle.prl_stages.specs.declared.faults.ScheduleRefusal.{ScheduleRefusal}
+use Rattle.prl_stages.specs.declared.faults.ScheduleRefusal.TheVariants as bad_schedule
+use Rattle.prl_stages.specs.declared.faults.InputFile.{InputFile}
+use Rattle.prl_stages.specs.declared.faults.Fault.{Fault}
+use Rattle.prl_stages.specs.declared.faults.Fault.TheVariants as faults
+use Rattle.prl_stages.specs.declared.stages.Stop.{Stop}
+use Rattle.prl_stages.specs.declared.stages.Stop.TheVariants as stops
 use Rattle.prl_arguments.specs.declared.arguments.Command.{Command}
-use Rattle.prl_app.specs.Given.{file_of}
+use Rattle.prl_stages.specs.Given.{file_of}
 
 -- the name that the command gives to a file
-abbrev pub file_name : Option Command → Part → List ℕ
+abbrev pub file_name : Option Command → InputFile → List ℕ
 file_name None part = []
 file_name (Some command) part = unwrap_or (file_of command part) []
 
@@ -137,6 +141,10 @@ schedule_line (bad_schedule.Syntax line) = placed_line (codes "70 schedule synta
 schedule_line (bad_schedule.Illegal line rule) = illegal_line line rule
 schedule_line (bad_schedule.Unfinished name job) = unfinished_line name job
 
+abbrev pub cores_line : CoresRefusal → List ℕ
+cores_line (bad_cores.Syntax line) = placed_line (codes "98 core syntax line ") line
+cores_line (bad_cores.Missing name) = named_line (codes "99 core missing ") name
+
 abbrev pub line_of_fault : Option Command → Fault → List ℕ
 line_of_fault command (faults.Absent part) = named_line (codes "absent ") (file_name command part)
 line_of_fault command (faults.TooLong part) = named_line (codes "too long ") (file_name command part)
@@ -150,6 +158,7 @@ line_of_fault command (faults.Bodies refusal) = bodies_line refusal
 line_of_fault command (faults.Sensors refusal) = sensors_line refusal
 line_of_fault command (faults.Limit limit) = limit_line limit
 line_of_fault command (faults.Schedule refusal) = schedule_line refusal
+line_of_fault command (faults.Cores refusal) = cores_line refusal
 
 -- the line that tells why there is no text
 abbrev pub line_of_stop : Option Command → Stop → List ℕ
@@ -157,9 +166,18 @@ line_of_stop command (stops.Unread part) = named_line (codes "read fault ") (fil
 line_of_stop command (stops.Refused stage fault) = line_of_fault command fault
 line_of_stop command stops.Memory = codes "memory\n"
 
+-- the line of a read that was overrun, by the name of its task
+abbrev pub overrun_line : List ℕ → Stopped → List ℕ
+overrun_line name stopped =
+    concat (
+    codes "overrun " ∷ name ∷ codes " " ∷ decimal stopped.job ∷ codes " port " ∷ decimal stopped.port ∷ codes " cell " ∷ decimal stopped.cell.0
+    ∷ codes " wanted " ∷ decimal stopped.wanted ∷ codes " found " ∷ decimal stopped.found ∷ codes "\n" ∷ []
+    )
+
 -- the line that is written to err, if there is one
 abbrev pub line_of : Option Command → Ending → Option (List ℕ)
-line_of command endings.Done = None
+line_of command (endings.Done ran) = None
 line_of command endings.Words = Some (codes "usage: prelude MODE --OPTION VALUE ..\n")
-line_of command endings.Unwritten = Some (codes "write fault\n")
+line_of command (endings.Unwritten ran) = Some (codes "write fault\n")
+line_of command (endings.Overrun plan stopped) = Some (overrun_line (task_at plan.graph stopped.task.0).name stopped)
 line_of command (endings.Stopped stop) = Some (line_of_stop command stop)

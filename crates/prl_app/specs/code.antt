@@ -1,4 +1,2 @@
-pub mod Told
-pub mod Stops
 pub mod Performed
 pub mod Ratios

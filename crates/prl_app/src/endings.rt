@@ -1,21 +1,37 @@
 //! How a call of the command ends, and its status.
 
 ghost use Rattle.std.specs.Prelude.{◌≡◌};
-ghost use Rattle.prl_app.specs.Endings.{status_of, status_of_stage};
+ghost use Rattle.prl_app.specs.Endings.{ran_of, status_of, status_of_stage, status_of_stop};
 
-use crate::stages::{Stage, Stop};
+use prl_exec::Stopped;
+use prl_plan::Plan;
+use prl_stages::{Ran, Stage, Stop};
 
 /// How a call of the command ends.
-#[derive(Debug, Drop)]
+#[derive(Drop)]
 pub enum Ending {
-    /// All is done, and all is written.
-    Done,
+    /// All is done, and all is written; and what was run.
+    Done(Ran),
     /// The words are no command.
     Words,
     /// There is no text.
     Stopped(Stop),
-    /// The text was not written whole.
-    Unwritten,
+    /// The text was not written whole; and what was run.
+    Unwritten(Ran),
+    /// A read was overrun: the plan, and where that was.
+    Overrun(Plan, Stopped),
+}
+
+/// How a call of the command ended, as its process tells it.
+#[derive(Drop)]
+pub struct Status {
+    /// 0: all done and all written. 1: the program or its bodies are refused. 2: the words are no command. 3: a
+    /// reading failed. 4: a writing failed. 5: a run with free clock and several workers was overrun. 6: memory
+    /// ran out. 7: a file is absent or too long. 8: the schedule is refused. 9: the sensor rows are refused.
+    /// 10: the text of processors is refused.
+    pub code: u8,
+    /// What was run on a board: the board, closed, at 0 and 4 where the mode runs the tasks, and at 5.
+    pub ran: Ran,
 }
 
 fn status_of_stage(stage: Stage) -> u8
@@ -28,21 +44,42 @@ fn status_of_stage(stage: Stage) -> u8
         Stage::Graph | Stage::Words | Stage::Dates | Stage::Cells => 1,
         Stage::Horizon => 1,
         Stage::Rows => 9,
-        Stage::Schedule => 8,
+        Stage::Schedule | Stage::Placed => 8,
+        Stage::Cores => 10,
         Stage::Values => 1,
     }
 }
 
-/// The status that tells an ending.
-pub fn status_of(ending: &Ending) -> u8
-    ensures { result ≡ status_of ending.now }
+/// The status where there is no text.
+fn status_of_stop(stop: &Stop) -> u8
+    ensures { result ≡ status_of_stop stop.now }
+{
+    match stop {
+        Stop::Unread(_) => 3,
+        Stop::Refused(stage, _) => status_of_stage(*stage),
+        Stop::Memory => 6,
+    }
+}
+
+/// The status that tells an ending, with what was run.
+pub fn status_of(ending: Ending) -> Status
+    ensures code { result.code ≡ status_of ending }
+    ensures ran { result.ran ≡ ran_of ending }
 {
     match ending {
-        Ending::Done => 0,
-        Ending::Words => 2,
-        Ending::Unwritten => 4,
-        Ending::Stopped(Stop::Unread(_)) => 3,
-        Ending::Stopped(Stop::Refused(stage, _)) => status_of_stage(*stage),
-        Ending::Stopped(Stop::Memory) => 6,
+        Ending::Done(ran) => Status { code: 0, ran },
+        Ending::Words => Status {
+            code: 2,
+            ran: Ran::Not,
+        },
+        Ending::Unwritten(ran) => Status { code: 4, ran },
+        Ending::Stopped(stop) => Status {
+            code: status_of_stop(&stop),
+            ran: Ran::Not,
+        },
+        Ending::Overrun(_, stopped) => Status {
+            code: 5,
+            ran: Ran::Stopped(stopped),
+        },
     }
 }

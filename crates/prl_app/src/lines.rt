@@ -2,21 +2,22 @@
 
 ghost use Rattle.std.specs.Prelude.{◌≡◌, ◌<◌, ◌≤◌, [], unwrap_or, OnErr};
 ghost use Rattle.prl_io.specs.Growth.{IsWritten};
-ghost use Rattle.prl_app.specs.ErrorLines.{file_name, named_line, placed_line, grammar_line, mismatch_line, type_free_line, types_line, limit_line, bodies_line, short_line, sensors_line, not_whole_line, clocks_line, due_range_line, graph_line, narrow_line, loop_line, dates_line, illegal_line, unfinished_line, schedule_line, line_of_fault, line_of_stop, line_of};
+ghost use Rattle.prl_app.specs.ErrorLines.{file_name, named_line, placed_line, grammar_line, mismatch_line, type_free_line, types_line, limit_line, bodies_line, short_line, sensors_line, not_whole_line, clocks_line, due_range_line, graph_line, narrow_line, loop_line, dates_line, illegal_line, unfinished_line, schedule_line, cores_line, line_of_fault, line_of_stop, line_of, overrun_line};
+ghost use Rattle.prl_plan.specs.Jobs.{task_at};
 ghost use Rattle.prl_app.specs.Endings.{IsTold};
 ghost use Rattle.prl_app.specs.code.Ratios.{unless_whole};
 
 use crate::endings::Ending;
-use crate::faults::{
-    BodiesRefusal, ClocksRefusal, DatesRefusal, Fault, GrammarRefusal, GraphRefusal, Part,
-    ScheduleRefusal, SensorsRefusal, TypesRefusal,
-};
-use crate::stages::Stop;
 use itoa::Buffer;
 use prl_arguments::Command;
-use prl_base::{Label, Limit, Ratio, Ty};
+use prl_base::{Label, Limit, Ratio, TaskNo, Ty};
+use prl_exec::Stopped;
 use prl_io::{Failed, Sink, write_all, write_pieces};
-use prl_plan::Rule;
+use prl_plan::{Plan, Rule};
+use prl_stages::{
+    BodiesRefusal, ClocksRefusal, CoresRefusal, DatesRefusal, Fault, GrammarRefusal, GraphRefusal,
+    InputFile, ScheduleRefusal, SensorsRefusal, Stop, TypesRefusal,
+};
 
 fn label_bytes(label: &Option<Label>) -> &[u8]
     ensures { result.now ≡ unwrap_or label.now [] }
@@ -28,16 +29,17 @@ fn label_bytes(label: &Option<Label>) -> &[u8]
 }
 
 /// The name that the command gives to a file.
-fn file_name(command: &Option<Command>, part: Part) -> &[u8]
+fn file_name(command: &Option<Command>, part: InputFile) -> &[u8]
     ensures { result.now ≡ file_name command.now part }
 {
     match command {
         None => &[],
         Some(command) => match part {
-            Part::Program => label_bytes(&command.program),
-            Part::Bodies => label_bytes(&command.bodies),
-            Part::Sensors => label_bytes(&command.sensors),
-            Part::Schedule => label_bytes(&command.schedule),
+            InputFile::Program => label_bytes(&command.program),
+            InputFile::Bodies => label_bytes(&command.bodies),
+            InputFile::Sensors => label_bytes(&command.sensors),
+            InputFile::Schedule => label_bytes(&command.schedule),
+            InputFile::Cores => label_bytes(&command.cores),
         },
     }
 }
@@ -401,6 +403,18 @@ fn write_schedule<E: Sink>(err: &mut E, fault: &ScheduleRefusal) -> Result<(), F
     }
 }
 
+/// Writes the line of a text that does not place the tasks.
+fn write_cores<E: Sink>(err: &mut E, fault: &CoresRefusal) -> Result<(), Failed>
+    ensures grown { IsWritten (E.seen err.old).written (E.seen err.new).written (cores_line fault.now) result }
+    ensures counted { (E.seen err.old).faults ≤ (E.seen err.new).faults }
+    ensures failed { OnErr result ((E.seen err.old).faults < (E.seen err.new).faults) }
+{
+    match fault {
+        CoresRefusal::Syntax(line) => write_placed(err, b"98 core syntax line ", *line),
+        CoresRefusal::Missing(name) => write_two(err, b"99 core missing ", name.bytes()),
+    }
+}
+
 /// Writes the line of a fault.
 fn write_fault<E: Sink>(err: &mut E, command: &Option<Command>, fault: &Fault) -> Result<(), Failed>
     ensures grown { IsWritten (E.seen err.old).written (E.seen err.new).written (line_of_fault command.now fault.now) result }
@@ -420,6 +434,7 @@ fn write_fault<E: Sink>(err: &mut E, command: &Option<Command>, fault: &Fault) -
         Fault::Sensors(fault) => write_sensors(err, fault),
         Fault::Limit(limit) => write_limit(err, *limit),
         Fault::Schedule(fault) => write_schedule(err, fault),
+        Fault::Cores(fault) => write_cores(err, fault),
     }
 }
 
@@ -436,14 +451,59 @@ fn write_stop<E: Sink>(err: &mut E, command: &Option<Command>, stop: &Stop) -> R
     }
 }
 
+/// The name of a task of the plan.
+fn task_name(plan: &Plan, task: TaskNo) -> &[u8]
+    ensures { result.now ≡ (task_at plan.now.graph task.0).name }
+{
+    match plan.graph().tasks.as_slice().get(task.0 as usize) {
+        Some(task) => task.name.bytes(),
+        None => &[],
+    }
+}
+
+/// Writes the line of a read that was overrun.
+fn write_overrun<E: Sink>(err: &mut E, name: &[u8], stopped: &Stopped) -> Result<(), Failed>
+    ensures grown { IsWritten (E.seen err.old).written (E.seen err.new).written (overrun_line name.now stopped.now) result }
+    ensures counted { (E.seen err.old).faults ≤ (E.seen err.new).faults }
+    ensures failed { OnErr result ((E.seen err.old).faults < (E.seen err.new).faults) }
+{
+    let mut first = Buffer::new();
+    let mut second = Buffer::new();
+    let mut third = Buffer::new();
+    let mut fourth = Buffer::new();
+    let mut fifth = Buffer::new();
+    let job = first.format(stopped.job).as_bytes();
+    let port = second.format(stopped.port).as_bytes();
+    let cell = third.format(stopped.cell.0).as_bytes();
+    let wanted = fourth.format(stopped.wanted).as_bytes();
+    let found = fifth.format(stopped.found).as_bytes();
+    let front = b"overrun ".as_slice();
+    let blank = b" ".as_slice();
+    let porting = b" port ".as_slice();
+    let celling = b" cell ".as_slice();
+    let wanting = b" wanted ".as_slice();
+    let finding = b" found ".as_slice();
+    let end = b"\n".as_slice();
+    write_pieces(
+        err,
+        &[
+            front, name, blank, job, porting, port, celling, cell, wanting, wanted, finding, found,
+            end,
+        ],
+    )
+}
+
 /// Tells on `err` how a call ended: in a line, but where all is done.
 pub fn tell<E: Sink>(err: &mut E, command: &Option<Command>, ending: &Ending)
     ensures told { IsTold (E.seen err.old) (E.seen err.new) (line_of command.now ending.now) }
 {
     let _ = match ending {
-        Ending::Done => Ok(()),
+        Ending::Done(_) => Ok(()),
         Ending::Words => write_all(err, b"usage: prelude MODE --OPTION VALUE ..\n"),
         Ending::Stopped(stop) => write_stop(err, command, stop),
-        Ending::Unwritten => write_all(err, b"write fault\n"),
+        Ending::Unwritten(_) => write_all(err, b"write fault\n"),
+        Ending::Overrun(plan, stopped) => {
+            write_overrun(err, task_name(plan, stopped.task), stopped)
+        }
     };
 }

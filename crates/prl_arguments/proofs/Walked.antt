@@ -83,6 +83,11 @@ long_own settings.Sensors v = refl
 long_own settings.Schedule v = refl
 long_own settings.Node v = refl
 long_own settings.Until v = refl
+long_own settings.Workers v = refl
+long_own settings.Clock v = refl
+long_own settings.Seed v = refl
+long_own settings.Size v = refl
+long_own settings.Cores v = refl
 
 long_bare : (s : Setting) → long_of (dashed s []) ≡ Some (name_of s, None)
 long_bare settings.Program = refl
@@ -91,6 +96,11 @@ long_bare settings.Sensors = refl
 long_bare settings.Schedule = refl
 long_bare settings.Node = refl
 long_bare settings.Until = refl
+long_bare settings.Workers = refl
+long_bare settings.Clock = refl
+long_bare settings.Seed = refl
+long_bare settings.Size = refl
+long_bare settings.Cores = refl
 
 abbrev dashes : Text
 dashes = 45 ∷ 45 ∷ []
@@ -102,6 +112,11 @@ not_dashes settings.Sensors rest = refl
 not_dashes settings.Schedule rest = refl
 not_dashes settings.Node rest = refl
 not_dashes settings.Until rest = refl
+not_dashes settings.Workers rest = refl
+not_dashes settings.Clock rest = refl
+not_dashes settings.Seed rest = refl
+not_dashes settings.Size rest = refl
+not_dashes settings.Cores rest = refl
 
 -- what a value looks like
 not_minus : (b : ℕ) → not (b == 45) ≡ true → (b == 45) ≡ false

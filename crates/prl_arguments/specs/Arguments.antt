@@ -1,24 +1,30 @@
 -- The arguments of the command line.
-use Rattle.std.specs.Prelude.{◌==◌, ◌&&◌, ◌||◌, ℕ, zero, suc, Bool, true, false, not, List, [], ◌∷◌, drop, length, take, Option, Some, None, is_some, nat_le, if◌then◌else◌, codes}
+use Rattle.std.specs.Prelude.{◌==◌, ◌&&◌, ◌||◌, ◌≡◌, ◌≤◌, ℕ, zero, suc, Bool, true, false, not, List, [], ◌∷◌, drop, length, take, Option, Some, None, is_some, nat_le, if◌then◌else◌, codes}
 use Rattle.std.specs.List.{list_all}
 use Rattle.std.specs.Str.{bytes_eq}
 use Rattle.prl_base.specs.Decimals.{decimal_of}
 use Rattle.prl_base.specs.Options.{◌>>=◌}
-use Rattle.prl_arguments.specs.declared.arguments.TheConstants.{MAX_UNTIL}
+use Rattle.prl_arguments.specs.declared.arguments.TheConstants.{MAX_SIZE, MAX_UNTIL, MAX_WORKERS}
 use Rattle.prl_arguments.specs.declared.arguments.Mode.{Mode}
 use Rattle.prl_arguments.specs.declared.arguments.Mode.TheVariants as modes
 use Rattle.prl_arguments.specs.declared.arguments.Setting.{Setting}
 use Rattle.prl_arguments.specs.declared.arguments.Setting.TheVariants as settings
 use Rattle.prl_arguments.specs.declared.arguments.Command.{Command}
+use Rattle.prl_rule.specs.declared.views.Gate.{Gate}
+use Rattle.prl_rule.specs.declared.views.Gate.TheVariants as gates
 
 -- the mode of a name
 abbrev pub mode_named : List ℕ → Option Mode
 mode_named name =
     if bytes_eq name (codes "check") then Some modes.Check
+    else if bytes_eq name (codes "cores") then Some modes.Cores
+    else if bytes_eq name (codes "edf") then Some modes.Edf
     else if bytes_eq name (codes "flows") then Some modes.Flows
+    else if bytes_eq name (codes "generate") then Some modes.Generate
     else if bytes_eq name (codes "plan") then Some modes.Plan
     else if bytes_eq name (codes "print") then Some modes.Print
     else if bytes_eq name (codes "replay") then Some modes.Replay
+    else if bytes_eq name (codes "run") then Some modes.Run
     else if bytes_eq name (codes "schedule") then Some modes.Schedule
     else None
 
@@ -42,6 +48,21 @@ needs modes.Replay other = false
 needs modes.Schedule settings.Program = true
 needs modes.Schedule settings.Until = true
 needs modes.Schedule other = false
+needs modes.Cores settings.Program = true
+needs modes.Cores settings.Sensors = true
+needs modes.Cores settings.Until = true
+needs modes.Cores settings.Cores = true
+needs modes.Cores other = false
+needs modes.Edf settings.Program = true
+needs modes.Edf settings.Until = true
+needs modes.Edf other = false
+needs modes.Run settings.Program = true
+needs modes.Run settings.Sensors = true
+needs modes.Run settings.Until = true
+needs modes.Run other = false
+needs modes.Generate settings.Seed = true
+needs modes.Generate settings.Size = true
+needs modes.Generate other = false
 
 abbrev pub may : Mode → Setting → Bool
 may modes.Print other = false
@@ -58,10 +79,23 @@ may modes.Replay settings.Node = true
 may modes.Replay other = false
 may modes.Schedule settings.Node = true
 may modes.Schedule other = false
+may modes.Cores settings.Bodies = true
+may modes.Cores settings.Schedule = true
+may modes.Cores settings.Node = true
+may modes.Cores other = false
+may modes.Edf settings.Node = true
+may modes.Edf other = false
+may modes.Run settings.Bodies = true
+may modes.Run settings.Node = true
+may modes.Run settings.Workers = true
+may modes.Run settings.Clock = true
+may modes.Run other = false
+may modes.Generate other = false
 
 abbrev pub all_settings : List Setting
 all_settings =
-    settings.Program ∷ settings.Bodies ∷ settings.Sensors ∷ settings.Schedule ∷ settings.Node ∷ settings.Until ∷ []
+    settings.Program ∷ settings.Bodies ∷ settings.Sensors ∷ settings.Schedule ∷ settings.Node ∷ settings.Until
+    ∷ settings.Workers ∷ settings.Clock ∷ settings.Seed ∷ settings.Size ∷ settings.Cores ∷ []
 
 -- the name of an option, which is written after `--`
 abbrev pub name_of : Setting → List ℕ
@@ -71,6 +105,11 @@ name_of settings.Sensors = codes "sensors"
 name_of settings.Schedule = codes "schedule"
 name_of settings.Node = codes "node"
 name_of settings.Until = codes "until"
+name_of settings.Workers = codes "workers"
+name_of settings.Clock = codes "clock"
+name_of settings.Seed = codes "seed"
+name_of settings.Size = codes "size"
+name_of settings.Cores = codes "cores"
 
 -- what stands after the front, where the text begins with it
 abbrev pub after_front : List ℕ → List ℕ → Option (List ℕ)
@@ -109,9 +148,26 @@ pub record Values : Type 0 where
   pub schedule : Option (List ℕ)
   pub node : Option (List ℕ)
   pub until : Option (List ℕ)
+  pub workers : Option (List ℕ)
+  pub clock : Option (List ℕ)
+  pub seed : Option (List ℕ)
+  pub size : Option (List ℕ)
+  pub cores : Option (List ℕ)
 
 abbrev pub nothing : Values
-nothing = record { program = None; bodies = None; sensors = None; schedule = None; node = None; until = None }
+nothing = record {
+  program = None;
+  bodies = None;
+  sensors = None;
+  schedule = None;
+  node = None;
+  until = None;
+  workers = None;
+  clock = None;
+  seed = None;
+  size = None;
+  cores = None;
+}
 
 abbrev pub value_of : Values → Setting → Option (List ℕ)
 value_of given settings.Program = given.program
@@ -120,6 +176,11 @@ value_of given settings.Sensors = given.sensors
 value_of given settings.Schedule = given.schedule
 value_of given settings.Node = given.node
 value_of given settings.Until = given.until
+value_of given settings.Workers = given.workers
+value_of given settings.Clock = given.clock
+value_of given settings.Seed = given.seed
+value_of given settings.Size = given.size
+value_of given settings.Cores = given.cores
 
 abbrev pub with_value : Values → Setting → List ℕ → Values
 with_value given settings.Program value = record given { program = Some value }
@@ -128,6 +189,11 @@ with_value given settings.Sensors value = record given { sensors = Some value }
 with_value given settings.Schedule value = record given { schedule = Some value }
 with_value given settings.Node value = record given { node = Some value }
 with_value given settings.Until value = record given { until = Some value }
+with_value given settings.Workers value = record given { workers = Some value }
+with_value given settings.Clock value = record given { clock = Some value }
+with_value given settings.Seed value = record given { seed = Some value }
+with_value given settings.Size value = record given { size = Some value }
+with_value given settings.Cores value = record given { cores = Some value }
 
 -- the value of an option is not empty and does not begin with `-`
 abbrev pub is_value : List ℕ → Bool
@@ -170,34 +236,71 @@ abbrev pub fits : Mode → Values → Setting → Bool
 fits mode given setting =
     if is_some (value_of given setting) then needs mode setting || may mode setting else not (needs mode setting)
 
--- a number of 1 to 20 digits that is at most so much
-abbrev pub number_up_to : ℕ → List ℕ → Option ℕ
-number_up_to most text = do
+-- the number that 1 to 20 digits spell, below 2 ^ 64
+abbrev pub number_spelled : List ℕ → Option ℕ
+number_spelled text = do
   number ← decimal_of text
-  if nat_le (length text) 20 && nat_le number most then Some number else None
+  if nat_le (length text) 20 then Some number else None
 
--- the date, 0 where none is given
-abbrev pub date_of : Option (List ℕ) → Option ℕ
-date_of None = Some 0
-date_of (Some text) = number_up_to MAX_UNTIL text
+-- the number of an option, or another one where the option is not given
+abbrev pub number_or : ℕ → Option (List ℕ) → Option ℕ
+number_or other None = Some other
+number_or other (Some text) = number_spelled text
 
-abbrev pub command_with : Mode → Values → ℕ → Command
-command_with mode given until = record {
+-- the same, where a number that is given is in a range
+abbrev pub number_within : ℕ → ℕ → ℕ → Option (List ℕ) → Option ℕ
+number_within least most other None = Some other
+number_within least most other (Some text) = do
+  number ← number_spelled text
+  if nat_le least number && nat_le number most then Some number else None
+
+-- whether the clock waits for the jobs that are due: it does where nothing is said of it
+abbrev pub clock_of : Option (List ℕ) → Option Gate
+clock_of None = Some gates.Gated
+clock_of (Some text) =
+    if bytes_eq text (codes "gated") then Some gates.Gated
+    else if bytes_eq text (codes "free") then Some gates.Free
+    else None
+
+-- what options give beside files and names
+pub record Numbers : Type 0 where
+  pub until : ℕ
+  pub workers : ℕ
+  pub clock : Gate
+  pub seed : ℕ
+  pub size : ℕ
+
+abbrev pub numbers_of : Values → Option Numbers
+numbers_of given = do
+  until ← number_within 0 MAX_UNTIL 0 given.until
+  workers ← number_within 1 MAX_WORKERS 1 given.workers
+  clock ← clock_of given.clock
+  seed ← number_or 0 given.seed
+  size ← number_within 1 MAX_SIZE 0 given.size
+  Some (record { until = until; workers = workers; clock = clock; seed = seed; size = size })
+
+abbrev pub command_with : Mode → Values → Numbers → Command
+command_with mode given numbers = record {
   mode = mode;
   program = given.program;
   bodies = given.bodies;
   sensors = given.sensors;
   schedule = given.schedule;
   node = given.node;
-  until = until;
+  until = numbers.until;
+  workers = numbers.workers;
+  clock = numbers.clock;
+  seed = numbers.seed;
+  size = numbers.size;
+  cores = given.cores;
 }
 
 -- the command of a mode with these options
 unfoldable pub command_of_mode : Mode → List (List ℕ) → Option Command
 command_of_mode mode words = do
   given ← with_words nothing words
-  until ← date_of given.until
-  if list_all (fits mode given) all_settings then Some (command_with mode given until) else None
+  numbers ← numbers_of given
+  if list_all (fits mode given) all_settings then Some (command_with mode given numbers) else None
 
 -- The command that the words ask for: the program's own name, which is not read, the mode, and its options.
 abbrev pub command_of : List (List ℕ) → Option Command
@@ -206,3 +309,10 @@ command_of (own ∷ []) = None
 command_of (own ∷ name ∷ rest) = do
   mode ← mode_named name
   command_of_mode mode rest
+
+-- the numbers are in the ranges that a command of the mode has
+pub record AreInRange (mode : Mode) (date threads lanes : ℕ) : Type 0 where
+  pub until : date ≤ MAX_UNTIL
+  pub workers : (1 ≤ threads) × (threads ≤ MAX_WORKERS)
+  pub size : lanes ≤ MAX_SIZE
+  pub some : mode ≡ modes.Generate → 1 ≤ lanes

@@ -1,31 +1,47 @@
 //! The arguments of the command line: the form of its words, and the command that they ask for.
 
-ghost use Rattle.std.specs.Prelude.{◌≡◌, ◌<◌, ◌≤◌, ◌^◌, map, IfOk, IfSome, Some, Err, None};
+ghost use Rattle.std.specs.Prelude.{◌≡◌, map, IfOk, IfSome, Some, Err, None};
 ghost use Rattle.std.specs.Option.{option_map};
 ghost use Rattle.std.specs.String.{string_bytes};
-ghost use Rattle.prl_arguments.specs.Arguments.{after_front, command_of, first_option, is_value, may, mode_named, name_of, named_by, named_in, needs, nothing, own_value, value_from, value_of, with_option, with_options, with_value};
-ghost use Rattle.prl_arguments.specs.code.Settings.{bytes_of, form_of, form_of_mode, given_by, named_as, number_of, wanted_command, wanted_form};
+ghost use Rattle.prl_arguments.specs.Arguments.{AreInRange, after_front, clock_of, command_of, first_option, is_value, may, mode_named, name_of, named_by, named_in, needs, nothing, number_or, own_value, value_from, value_of, with_option, with_options, with_value};
+ghost use Rattle.prl_arguments.specs.code.Settings.{bytes_of, form_of, form_of_mode, given_by, named_as, numbers_by, numbers_spelled, wanted_command, wanted_form};
 
 use crate::options::are_options_of;
 use prl_base::{Label, decimal_of};
+use prl_rule::Gate;
 use std::alloc::{AllocError, Global};
 
 /// The greatest date up to which a mode may run, in ticks.
 pub const MAX_UNTIL: u32 = 2_147_483_647;
+
+/// The most workers that a run may have.
+pub const MAX_WORKERS: u32 = 16;
+
+/// The greatest size of a generated program, in lanes.
+pub const MAX_SIZE: u32 = 20;
 
 /// What the command is to do.
 #[derive(Clone, Copy, Debug, PartialEq, Eq)]
 pub enum Mode {
     /// Says that the program has a plan, and how large it is.
     Check,
+    /// Runs the tasks on several processors, by a schedule or by priorities: writes what the jobs read, and the flows of the
+    /// actuators.
+    Cores,
+    /// Says whether one processor can meet the plan's dates with the WCETs.
+    Edf,
     /// Writes the flows of the actuators.
     Flows,
+    /// Makes a program from a number, replays and runs it, and writes a summary.
+    Generate,
     /// Writes the program's plan.
     Plan,
     /// Writes the program in its printed form.
     Print,
     /// Replays a schedule: writes what the jobs read, and the flows of the actuators.
     Replay,
+    /// Runs the tasks of the program on a board, and writes the flows of the actuators.
+    Run,
     /// Writes a schedule of the program's plan.
     Schedule,
 }
@@ -45,10 +61,20 @@ pub enum Setting {
     Node,
     /// `--until`: the date up to which the mode runs, in ticks.
     Until,
+    /// `--workers`: how many threads run the tasks.
+    Workers,
+    /// `--clock`: whether the clock waits for the jobs that are due.
+    Clock,
+    /// `--seed`: the number that a program is made from.
+    Seed,
+    /// `--size`: how many lanes the program has that is made.
+    Size,
+    /// `--cores`: the file that tells which processor each task runs on.
+    Cores,
 }
 
 /// What the arguments of a command line ask for. An option that is not given is None, and a number that is
-/// not given is 0.
+/// not given is 0, but there is one worker then.
 #[derive(Debug, Drop)]
 pub struct Command {
     pub mode: Mode,
@@ -64,24 +90,34 @@ pub struct Command {
     pub node: Option<Label>,
     /// The date up to which the mode runs, in ticks.
     pub until: u32,
+    /// How many threads run the tasks: 1 to `MAX_WORKERS`.
+    pub workers: u32,
+    /// Whether the clock waits for the jobs that are due, as it does where nothing is said of it.
+    pub clock: Gate,
+    /// The number that a program is made from.
+    pub seed: u64,
+    /// How many lanes the program has that is made: 1 to `MAX_SIZE`.
+    pub size: u32,
+    /// The file that tells which processor each task runs on.
+    pub cores: Option<Label>,
 }
 
 /// Why arguments are no command.
 #[derive(Clone, Copy, Debug, PartialEq, Eq)]
-pub enum ArgumentsFault {
+pub enum WordsFault {
     /// The arguments are not of the form of a command.
     Refused,
     Memory,
 }
 
-impl From<AllocError> for ArgumentsFault {
+impl From<AllocError> for WordsFault {
     ghost use Rattle.std.specs.Prelude.{◌≡◌};
-    ghost use Rattle.prl_arguments.specs.declared.arguments.ArgumentsFault.TheVariants.{Memory};
+    ghost use Rattle.prl_arguments.specs.declared.arguments.WordsFault.TheVariants.{Memory};
 
     ghost from_gives = { λ _ e. e ≡ Memory };
 
-    fn from(_error: AllocError) -> ArgumentsFault {
-        ArgumentsFault::Memory
+    fn from(_error: AllocError) -> WordsFault {
+        WordsFault::Memory
     }
 }
 
@@ -94,6 +130,11 @@ struct Given<'a> {
     schedule: Option<&'a [u8]>,
     node: Option<&'a [u8]>,
     until: Option<&'a [u8]>,
+    workers: Option<&'a [u8]>,
+    clock: Option<&'a [u8]>,
+    seed: Option<&'a [u8]>,
+    size: Option<&'a [u8]>,
+    cores: Option<&'a [u8]>,
 }
 
 /// An option, with its value where that stands in the same word.
@@ -106,13 +147,18 @@ type Taken<'a> = (&'a [u8], &'a [String]);
 type Read<'a> = (Given<'a>, &'a [String]);
 
 /// All options.
-static SETTINGS: [Setting; 6] = [
+static SETTINGS: [Setting; 11] = [
     Setting::Program,
     Setting::Bodies,
     Setting::Sensors,
     Setting::Schedule,
     Setting::Node,
     Setting::Until,
+    Setting::Workers,
+    Setting::Clock,
+    Setting::Seed,
+    Setting::Size,
+    Setting::Cores,
 ];
 
 /// The mode of a name.
@@ -121,14 +167,22 @@ fn mode_named(name: &[u8]) -> Option<Mode>
 {
     if name == b"check".as_slice() {
         Some(Mode::Check)
+    } else if name == b"cores".as_slice() {
+        Some(Mode::Cores)
+    } else if name == b"edf".as_slice() {
+        Some(Mode::Edf)
     } else if name == b"flows".as_slice() {
         Some(Mode::Flows)
+    } else if name == b"generate".as_slice() {
+        Some(Mode::Generate)
     } else if name == b"plan".as_slice() {
         Some(Mode::Plan)
     } else if name == b"print".as_slice() {
         Some(Mode::Print)
     } else if name == b"replay".as_slice() {
         Some(Mode::Replay)
+    } else if name == b"run".as_slice() {
+        Some(Mode::Run)
     } else if name == b"schedule".as_slice() {
         Some(Mode::Schedule)
     } else {
@@ -148,8 +202,15 @@ pub(crate) fn needs(mode: Mode, setting: Setting) -> bool
         (Mode::Replay, Setting::Program | Setting::Sensors | Setting::Schedule | Setting::Until) =>
             true,
         (Mode::Replay, _) => false,
-        (Mode::Schedule, Setting::Program | Setting::Until) => true,
-        (Mode::Schedule, _) => false,
+        (Mode::Cores, Setting::Program | Setting::Sensors | Setting::Until | Setting::Cores) =>
+            true,
+        (Mode::Cores, _) => false,
+        (Mode::Schedule | Mode::Edf, Setting::Program | Setting::Until) => true,
+        (Mode::Schedule | Mode::Edf, _) => false,
+        (Mode::Run, Setting::Program | Setting::Sensors | Setting::Until) => true,
+        (Mode::Run, _) => false,
+        (Mode::Generate, Setting::Seed | Setting::Size) => true,
+        (Mode::Generate, _) => false,
     }
 }
 
@@ -159,10 +220,15 @@ pub(crate) fn may(mode: Mode, setting: Setting) -> bool
 {
     match (mode, setting) {
         (Mode::Print, _) => false,
-        (Mode::Plan | Mode::Schedule, Setting::Node) => true,
-        (Mode::Plan | Mode::Schedule, _) => false,
+        (Mode::Plan | Mode::Schedule | Mode::Edf, Setting::Node) => true,
+        (Mode::Plan | Mode::Schedule | Mode::Edf, _) => false,
+        (Mode::Cores, Setting::Bodies | Setting::Schedule | Setting::Node) => true,
+        (Mode::Cores, _) => false,
         (Mode::Check | Mode::Flows | Mode::Replay, Setting::Bodies | Setting::Node) => true,
         (Mode::Check | Mode::Flows | Mode::Replay, _) => false,
+        (Mode::Run, Setting::Bodies | Setting::Node | Setting::Workers | Setting::Clock) => true,
+        (Mode::Run, _) => false,
+        (Mode::Generate, _) => false,
     }
 }
 
@@ -177,6 +243,11 @@ pub(crate) fn name_of<'a>(setting: Setting) -> &'a str
         Setting::Schedule => "schedule",
         Setting::Node => "node",
         Setting::Until => "until",
+        Setting::Workers => "workers",
+        Setting::Clock => "clock",
+        Setting::Seed => "seed",
+        Setting::Size => "size",
+        Setting::Cores => "cores",
     }
 }
 
@@ -237,6 +308,11 @@ fn nothing<'a>() -> Given<'a>
         schedule: None,
         node: None,
         until: None,
+        workers: None,
+        clock: None,
+        seed: None,
+        size: None,
+        cores: None,
     }
 }
 
@@ -252,6 +328,11 @@ impl<'a> Given<'a> {
             Setting::Schedule => self.schedule,
             Setting::Node => self.node,
             Setting::Until => self.until,
+            Setting::Workers => self.workers,
+            Setting::Clock => self.clock,
+            Setting::Seed => self.seed,
+            Setting::Size => self.size,
+            Setting::Cores => self.cores,
         }
     }
 
@@ -267,6 +348,11 @@ impl<'a> Given<'a> {
             Setting::Schedule => more.schedule = Some(value),
             Setting::Node => more.node = Some(value),
             Setting::Until => more.until = Some(value),
+            Setting::Workers => more.workers = Some(value),
+            Setting::Clock => more.clock = Some(value),
+            Setting::Seed => more.seed = Some(value),
+            Setting::Size => more.size = Some(value),
+            Setting::Cores => more.cores = Some(value),
         }
         more
     }
@@ -332,12 +418,12 @@ fn with_options<'a>(most: usize, given: Given<'a>, words: &'a [String]) -> Optio
     }
 }
 
-/// The number that 1 to 20 digits spell, 0 where there is no text.
-fn number_of(text: Option<&[u8]>) -> Option<u64>
-    ensures { result ≡ number_of (bytes_of text.entry) }
+/// The number that 1 to 20 digits spell, or another one where there is no text.
+fn number_or(other: u64, text: Option<&[u8]>) -> Option<u64>
+    ensures { result ≡ number_or other (bytes_of text.entry) }
 {
     match text {
-        None => Some(0),
+        None => Some(other),
         Some(text) => {
             let number = decimal_of(text)?;
             if text.len() <= 20 { Some(number) } else { None }
@@ -345,12 +431,59 @@ fn number_of(text: Option<&[u8]>) -> Option<u64>
     }
 }
 
-/// A mode, the values of options, and a date: what words of the form of a command give.
+/// Whether the clock waits for the jobs that are due.
+fn clock_of(text: Option<&[u8]>) -> Option<Gate>
+    ensures { result ≡ clock_of (bytes_of text.entry) }
+{
+    match text {
+        None => Some(Gate::Gated),
+        Some(text) => {
+            if text == b"gated".as_slice() {
+                Some(Gate::Gated)
+            } else if text == b"free".as_slice() {
+                Some(Gate::Free)
+            } else {
+                None
+            }
+        }
+    }
+}
+
+/// What options give beside files and names.
+#[derive(Clone, Copy)]
+struct Counts {
+    until: u64,
+    workers: u64,
+    clock: Gate,
+    seed: u64,
+    size: u64,
+}
+
+/// A mode, the values of options, and what they give beside files and names: what words of the form of a command
+/// give.
 #[derive(Clone, Copy)]
 struct Wanted<'a> {
     mode: Mode,
     given: Given<'a>,
-    until: u64,
+    counts: Counts,
+}
+
+/// What the values give beside files and names.
+fn counts_of(given: Given<'_>) -> Option<Counts>
+    ensures { option_map numbers_by result ≡ numbers_spelled (given_by given.entry) }
+{
+    let until = number_or(0, given.until)?;
+    let workers = number_or(1, given.workers)?;
+    let clock = clock_of(given.clock)?;
+    let seed = number_or(0, given.seed)?;
+    let size = number_or(0, given.size)?;
+    Some(Counts {
+        until,
+        workers,
+        clock,
+        seed,
+        size,
+    })
 }
 
 /// What the words after a mode give.
@@ -359,8 +492,12 @@ fn wanted_of_mode<'a>(mode: Mode, words: &'a [String]) -> Option<Wanted<'a>>
     ensures { option_map wanted_form result ≡ form_of_mode mode (map string_bytes words.now) }
 {
     let given = with_options(words.len(), nothing(), words)?;
-    let until = number_of(given.until)?;
-    Some(Wanted { mode, given, until })
+    let counts = counts_of(given)?;
+    Some(Wanted {
+        mode,
+        given,
+        counts,
+    })
 }
 
 /// What the words give, where they have the form of a command.
@@ -380,7 +517,7 @@ fn read_wanted<'a>(words: &'a [String]) -> Option<Wanted<'a>>
 /// What the words give, where they are a command.
 fn read_command<'a>(alloc: Global, words: &'a [String]) -> Result<Option<Wanted<'a>>, AllocError>
     ensures exact { IfOk result (λ w. option_map wanted_command w ≡ command_of (map string_bytes words.now)) }
-    ensures until { IfOk result (λ w. IfSome w (λ wanted. wanted.until ≤ MAX_UNTIL)) }
+    ensures range { IfOk result (λ w. IfSome w (λ wanted. AreInRange wanted.mode wanted.counts.until wanted.counts.workers wanted.counts.size)) }
 {
     let Some(wanted) = read_wanted(words) else {
         return Ok(None);
@@ -404,14 +541,15 @@ fn label_of(alloc: Global, name: Option<&[u8]>) -> Result<Option<Label>, AllocEr
 /// The command that the words of a command line ask for. The first word is the program's own name, which is passed over, and
 /// the second is the mode. After it come the options, in whatever order and none twice: all that the mode needs, and any
 /// of those that it may have. The value of an option stands in the next word, or in its own word after `=`; it is not
-/// empty, and `-` is not its first byte. A date has 1 to 20 digits and is at most `MAX_UNTIL`.
-pub fn read_arguments(alloc: Global, words: &[String]) -> Result<Command, ArgumentsFault>
+/// empty, and `-` is not its first byte. A number has 1 to 20 digits: a date is at most `MAX_UNTIL`, workers are 1 to
+/// `MAX_WORKERS`, a size is 1 to `MAX_SIZE`, and a seed is below 2^64. A clock is `gated` or `free`.
+pub fn read_words(alloc: Global, words: &[String]) -> Result<Command, WordsFault>
     ensures found { IfOk result (λ command. command_of (map string_bytes words.now) ≡ Some command) }
-    ensures until { IfOk result (λ command. command.until < 2 ^ 31) }
-    ensures refused { result ≡ Err ArgumentsFault.Refused → command_of (map string_bytes words.now) ≡ None }
+    ensures range { IfOk result (λ command. AreInRange command.mode command.until command.workers command.size) }
+    ensures refused { result ≡ Err WordsFault.Refused → command_of (map string_bytes words.now) ≡ None }
 {
     let Some(wanted) = read_command(alloc, words)? else {
-        return Err(ArgumentsFault::Refused);
+        return Err(WordsFault::Refused);
     };
     Ok(Command {
         mode: wanted.mode,
@@ -419,7 +557,12 @@ pub fn read_arguments(alloc: Global, words: &[String]) -> Result<Command, Argume
         bodies: label_of(alloc, wanted.given.bodies)?,
         sensors: label_of(alloc, wanted.given.sensors)?,
         schedule: label_of(alloc, wanted.given.schedule)?,
+        cores: label_of(alloc, wanted.given.cores)?,
         node: label_of(alloc, wanted.given.node)?,
-        until: wanted.until as u32,
+        until: wanted.counts.until as u32,
+        workers: wanted.counts.workers as u32,
+        clock: wanted.counts.clock,
+        seed: wanted.counts.seed,
+        size: wanted.counts.size as u32,
     })
 }

@@ -1,8 +1,11 @@
 //! The arguments of the command line: the modes of the command, their options, and the command that a list of words asks
-//! for. It stands on `prl_base` and `clap`.
+//! for. It stands on `prl_base`, on `prl_rule` for the gate of a run, and on `clap`.
 #![tactic(auto)]
 
 mod arguments;
 mod options;
 
-pub use arguments::{ArgumentsFault, Command, MAX_UNTIL, Mode, Setting, read_arguments};
+pub use arguments::{
+    Command, MAX_SIZE, MAX_UNTIL, MAX_WORKERS, Mode, Setting, WordsFault, read_words,
+};
+pub use prl_rule::Gate;

@@ -1,23 +1,25 @@
 //! What `clap` decides of a command line: whether the mode has each option and has each that it needs, and whether the
-//! date is in its range.
+//! date, the workers and the size are in their ranges.
 
 ghost use Rattle.std.specs.Prelude.{◌≡◌, IfOk, drop, false, map};
 ghost use Rattle.std.specs.String.{string_bytes};
 ghost use Rattle.clap.specs.Words.{app_of, new_app, rule_of};
-ghost use Rattle.prl_arguments.specs.code.Options.{app_of_mode, faults_of, is_taken, no_options, option_rule, parser_of, with_setting};
+ghost use Rattle.prl_arguments.specs.code.Options.{app_of_mode, app_of_names, faults_of, is_taken, no_options, option_rule, parser_of, with_setting};
 
-use crate::arguments::{MAX_UNTIL, Mode, Setting, may, name_of, needs};
+use crate::arguments::{MAX_SIZE, MAX_UNTIL, MAX_WORKERS, Mode, Setting, may, name_of, needs};
 use clap::builder::ValueParser;
 use clap::error::ErrorKind;
 use clap::{Arg, ArgAction, Command};
 use std::alloc::{AllocError, Global};
 
-/// The values of an option: a number up to the greatest date, or any text.
+/// The values of an option: a number in its range, or any text.
 fn parser_of<'a>(setting: Setting) -> ValueParser<'a>
     ensures { result ≡ parser_of setting }
 {
     match setting {
         Setting::Until => ValueParser::unsigned(0, MAX_UNTIL as u64),
+        Setting::Workers => ValueParser::unsigned(1, MAX_WORKERS as u64),
+        Setting::Size => ValueParser::unsigned(1, MAX_SIZE as u64),
         _ => ValueParser::string(),
     }
 }
@@ -60,16 +62,28 @@ fn no_options<'a>(alloc: Global) -> Command<'a>
         .args_override_self(true)
 }
 
-/// The command of a mode.
-fn command_of<'a>(alloc: Global, mode: Mode) -> Result<Command<'a>, AllocError>
-    ensures { IfOk result (λ c. app_of c ≡ app_of_mode mode) }
+/// The command of a mode with its options that name files and the main node.
+fn names_of<'a>(alloc: Global, mode: Mode) -> Result<Command<'a>, AllocError>
+    ensures { IfOk result (λ c. app_of c ≡ app_of_names mode) }
 {
     let command = with_setting(alloc, no_options(alloc), mode, Setting::Program)?;
     let command = with_setting(alloc, command, mode, Setting::Bodies)?;
     let command = with_setting(alloc, command, mode, Setting::Sensors)?;
     let command = with_setting(alloc, command, mode, Setting::Schedule)?;
-    let command = with_setting(alloc, command, mode, Setting::Node)?;
-    with_setting(alloc, command, mode, Setting::Until)
+    with_setting(alloc, command, mode, Setting::Node)
+}
+
+/// The command of a mode.
+fn command_of<'a>(alloc: Global, mode: Mode) -> Result<Command<'a>, AllocError>
+    ensures { IfOk result (λ c. app_of c ≡ app_of_mode mode) }
+{
+    let command = names_of(alloc, mode)?;
+    let command = with_setting(alloc, command, mode, Setting::Until)?;
+    let command = with_setting(alloc, command, mode, Setting::Workers)?;
+    let command = with_setting(alloc, command, mode, Setting::Clock)?;
+    let command = with_setting(alloc, command, mode, Setting::Seed)?;
+    let command = with_setting(alloc, command, mode, Setting::Size)?;
+    with_setting(alloc, command, mode, Setting::Cores)
 }
 
 /// The words after the first.

@@ -1,6 +1,5 @@
 -- What a task's seat keeps after its steps, and what its reads answer.
-use Rattle.std.proofs.Common.{◌≡◌, ℕ, ◌+◌, ◌/◌, ◌^◌, ◌<◌, ◌≤◌, sym, ap, ◌∙◌, subst, arith, Bool, cond, ne_eqb, nat_le, List, Option, Some, None}
-use Rattle.std.specs.Prelude.{MatchOption}
+use Rattle.std.proofs.Common.{◌≡◌, ℕ, ◌+◌, ◌/◌, ◌^◌, ◌<◌, ◌≤◌, sym, ap, ◌∙◌, subst, arith, Bool, cond, ne_eqb, nat_le, List, Option, Some}
 use Rattle.prl_base.specs.declared.numbers.CellNo.{CellNo}
 use Rattle.prl_base.specs.declared.numbers.EdgeNo.{EdgeNo}
 use Rattle.prl_base.specs.declared.numbers.TaskNo.{TaskNo}
@@ -37,7 +36,7 @@ use Rattle.prl_rule.specs.Agreement.{IsOverrun}
 use Rattle.prl_rule.specs.Told.{HalfTold, part_at, part_of}
 use Rattle.prl_rule.specs.Known.{job_values_of, registers_of, run_of, values_of}
 use Rattle.prl_rule.specs.Steps.{half_loaded, half_missed, half_taken, with_part}
-use Rattle.prl_board.specs.TaskSeats.{AnswersHalf, IsMachineOf, IsNoNode, Misses}
+use Rattle.prl_board.specs.TaskSeats.{AnswersHalf, IsMachineOf, IsNodeTask, Misses}
 use Rattle.prl_board.specs.code.Lows.{IsLow, Works}
 use Rattle.prl_seats.proofs.Following.{fresh_part, part_is}
 
@@ -148,10 +147,6 @@ first_kept k s worker task first new = (
 )
 
 -- what follows from each case of an option
-pub match_mono : {A : Type 0} (P Q : Type 0) (R S : A → Type 0) (o : Option A) → (P → Q) → ((a : A) → R a → S a) → MatchOption o P R → MatchOption o Q S
-match_mono P Q R S None none some h = none h
-match_mono P Q R S (Some a) none some h = some a h
-
 -- the machine of a node task
 module _ (k : Constants) (s : JobSeatView) where
   node_kind : (kind : Kind) (j : ℕ) (body : Option CheckedBody) (checked : CheckedBody) (reads : ℕ → List Value) (n : ℕ) → kind ≡ kinds.Node j → body ≡ Some checked →
@@ -174,7 +169,7 @@ module _ (k : Constants) (s : JobSeatView) where
       }
   machine_is (works.Actuator column) ran machine runs is has = absurd has
 
-  pub no_machine : (work : Work) (steps : ℕ) → IsWork k.plan k.bodies k.horizon.until (job_values_of k) s.task.0 steps work → HasNoMachine work → IsNoNode k s.task.0
-  no_machine (works.Sensor n) steps is has = λ j node. absurd (let e : kinds.Sensor n ≡ kinds.Node j = sym is ∙ node in cc)
-  no_machine (works.Node word own) steps is has = absurd has
-  no_machine (works.Actuator column) steps is has = λ j node. absurd (let e : kinds.Actuator is.0.0 ≡ kinds.Node j = sym is.0.1 ∙ node in cc)
+  pub no_machine : (work : Work) (steps : ℕ) → IsWork k.plan k.bodies k.horizon.until (job_values_of k) s.task.0 steps work → HasNoMachine work → IsNodeTask k s.task.0 → ⊥
+  no_machine (works.Sensor n) steps is has node = (let e : kinds.Sensor n ≡ kinds.Node node.0 = sym is ∙ node.1 in cc e)
+  no_machine (works.Node word own) steps is has node = has
+  no_machine (works.Actuator column) steps is has node = (let e : kinds.Actuator is.0.0 ≡ kinds.Node node.0 = sym is.0.1 ∙ node.1 in cc e)

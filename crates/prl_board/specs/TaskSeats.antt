@@ -133,12 +133,12 @@ AnswersWrite k before after wrote (stages.At action) = WritesAction k before aft
 abbrev pub steps_of : Constants → JobSeatView → ℕ
 steps_of k s = s.job + (if nat_le ((values_of k).runs_at s.task.0 s.job) s.place then 1 else 0)
 
+-- the task is a node task
+abbrev pub IsNodeTask : Constants → ℕ → Type 0
+IsNodeTask k i = (j : ℕ) × ((task_at k.plan.graph i).kind ≡ kinds.Node j)
+
 -- the machine of a node task, with the registers after these steps
 pub record IsMachineOf (k : Constants) (s : JobSeatView) (machine : MachineState) : Type 0 where
-  pub node : (j : ℕ) × ((task_at k.plan.graph s.task.0).kind ≡ kinds.Node j)
+  pub node : IsNodeTask k s.task.0
   pub steps : machine.steps ≡ steps_of k s
   pub registers : machine.registers ≡ (values_of k).registers s.task.0 (steps_of k s)
-
--- the task is no node task
-abbrev pub IsNoNode : Constants → ℕ → Type 0
-IsNoNode k i = (j : ℕ) → (task_at k.plan.graph i).kind ≡ kinds.Node j → ⊥

@@ -1,6 +1,6 @@
 //! Closed boards: what a run has come to.
 
-ghost use Rattle.std.specs.Prelude.{◌≡◌, ◌<◌, ℕ, length, MatchOption, Some, slice_get, slice_index};
+ghost use Rattle.std.specs.Prelude.{◌≡◌, ◌<◌, ℕ, length, Some, slice_get, slice_index};
 ghost use Rattle.std.specs.Bool.{OnFalse, OnTrue};
 ghost use Rattle.std.specs.Mem.Slots.{slots_items, slots_len, IsFull};
 ghost use Rattle.std.specs.Vec.{vec_items};
@@ -14,7 +14,7 @@ ghost use Rattle.prl_board.specs.Closings.{AreOutputs, Drives, IsClosed, IsLastS
 ghost use Rattle.prl_seats.specs.JobSeats.{JobSeatView};
 ghost use Rattle.prl_rule.specs.Known.{run_of};
 ghost use Rattle.prl_board.specs.Lones.{AreSeatsOf, IsLoneOf, StandAs};
-ghost use Rattle.prl_board.specs.TaskSeats.{IsMachineOf, IsNoNode};
+ghost use Rattle.prl_board.specs.TaskSeats.{IsMachineOf, IsNodeTask};
 ghost use Rattle.prl_board.specs.code.Lent.{IsLeft};
 
 use crate::clocks::ClockSeat;
@@ -145,11 +145,12 @@ impl Closed {
         true
     }
 
-    /// The machine of a node task's body, none where the task is no node task.
-    pub fn machine(&self, task: TaskNo) -> Option<&Machine>
-        requires { task.0 < length self.now.seats }
+    /// The machine of a node task's body.
+    pub fn machine(&self, task: TaskNo) -> &Machine
+        requires task { task.0 < length self.now.seats }
+        requires node { (k : Constants) × (self.now.constants ≡ Some k) × IsNodeTask k task.0 }
         ensures { (k : Constants) (s : JobSeatView) → self.entry.now.constants ≡ Some k → slice_get self.entry.now.seats task.0 ≡ Some s →
-            MatchOption result (IsNoNode k task.0) (λ machine. IsMachineOf k s machine.now) }
+            IsMachineOf k s result.now }
     {
         self.seats[task.0 as usize].machine()
     }

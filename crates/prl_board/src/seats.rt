@@ -1,6 +1,6 @@
 //! The seats of tasks: through them callers' own threads run the jobs of a plan.
 
-ghost use Rattle.std.specs.Prelude.{◌≡◌, ◌%◌, ◌<◌, ◌≤◌, ℕ, [], IfOk, MatchOption, Some};
+ghost use Rattle.std.specs.Prelude.{◌≡◌, ◌%◌, ◌<◌, ◌≤◌, ℕ, [], IfOk, Some};
 ghost use Rattle.std.specs.Bool.{OnFalse, OnTrue};
 ghost use Rattle.prl_plan.specs.declared.events.Action.TheVariants as actions;
 ghost use Rattle.prl_seats.specs.declared.jobs.Stage.TheVariants as stages;
@@ -13,7 +13,7 @@ ghost use Rattle.prl_plan.specs.declared.graphs.Kind.TheVariants as kinds;
 ghost use Rattle.prl_plan.specs.Jobs.{task_at};
 ghost use Rattle.prl_rule.specs.Told.{RaiseTold};
 ghost use Rattle.prl_rule.specs.Known.{run_of};
-ghost use Rattle.prl_board.specs.TaskSeats.{AnswersAction, AnswersRead, AnswersWrite, IsMachineOf, IsNoNode, MayFinish, MayRead, MayRelease, MayWrite, Misses, ReadsHalf, WritesAction, half_at, place_of};
+ghost use Rattle.prl_board.specs.TaskSeats.{AnswersAction, AnswersRead, AnswersWrite, IsMachineOf, IsNodeTask, MayFinish, MayRead, MayRelease, MayWrite, Misses, ReadsHalf, WritesAction, half_at, place_of};
 
 use crate::clocks::ClockSeat;
 use prl_base::{CellNo, EdgeNo, TaskNo, Value};
@@ -376,13 +376,16 @@ impl TaskSeat {
         self.worker.end();
     }
 
-    /// The machine of a node task's body, none where the task is no node task. It has made one step for each ended job, and
-    /// one more where the body has run for the open job.
-    pub fn machine(&self) -> Option<&Machine>
-        ensures { (k : Constants) → self.entry.now.view.constants ≡ Some k →
-            MatchOption result (IsNoNode k self.entry.now.task.0) (λ machine. IsMachineOf k self.entry.now machine.now) }
+    /// The machine of a node task's body. It has made one step for each ended job, and one more where
+    /// the body has run for the open job.
+    pub fn machine(&self) -> &Machine
+        requires { (k : Constants) × (self.now.view.constants ≡ Some k) × IsNodeTask k self.now.task.0 }
+        ensures { (k : Constants) → self.entry.now.view.constants ≡ Some k → IsMachineOf k self.entry.now result.now }
     {
-        self.worker.machine()
+        match self.worker.machine() {
+            Some(machine) => machine,
+            None => unreachable!(),
+        }
     }
 
     /// Whether the task is an actuator's.

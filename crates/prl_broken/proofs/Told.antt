@@ -105,9 +105,9 @@ module _ (plan : PlanView) (h : Horizon) (is : IsHorizon plan h) (facts : HasPla
   overtaken_is task next other at least broken =
       let over = broken.2 in
       let due = due_now task.0 next at in
-      let d = over.4 in
-      let shown = shows_pending next.job.deadline over.0 over.1 over.2 over.3 (omega (arith, d, due)) in
-      let has = least_is_job next.job.deadline over.0 other least over.2.task shown.0 shown.1 in
+      let d = over.5 in
+      let shown = shows_pending next.job.deadline over.0 over.1 over.3 over.4 (omega (arith, d, due)) in
+      let has = least_is_job next.job.deadline over.0 other least over.3.task shown.0 shown.1 in
       let r = least.pending.released in
       let t = reached.shows.tick in
       (same_task task next at, first_job task.0 next at broken.0, first_job other.job.task.0 other least.pending.is_next has, omega (arith, r, t), least.pending.due)
@@ -118,9 +118,9 @@ module _ (plan : PlanView) (h : Horizon) (is : IsHorizon plan h) (facts : HasPla
   none_overtaken task next at none broken =
       let over = broken.2 in
       let due = due_now task.0 next at in
-      let d = over.4 in
-      let shown = shows_pending next.job.deadline over.0 over.1 over.2 over.3 (omega (arith, d, due)) in
-      none over.0 over.2.task shown.0
+      let d = over.5 in
+      let shown = shows_pending next.job.deadline over.0 over.1 over.3 over.4 (omega (arith, d, due)) in
+      none over.0 over.3.task shown.0
 
   -- a job of the run that is due shows a pending one
   due_shows : (due : IsDue (constants_of plan h) s) → IsPending plan walk.tick walk.ended.items (walk.tick + 2) due.0

@@ -1,7 +1,7 @@
 //! What an event is about that breaks a rule.
 
 ghost use Rattle.std.specs.Prelude.{◌≡◌, ◌<◌, ◌^◌, All, IfOk, Some, length};
-ghost use Rattle.prl_core.specs.Machine.{IsOfPlan};
+ghost use Rattle.prl_track.specs.Machine.{IsOfPlan};
 ghost use Rattle.prl_plan.specs.declared.events.Event.TheVariants as events;
 ghost use Rattle.prl_plan.specs.declared.events.Rule.TheVariants as rules;
 ghost use Rattle.prl_broken.specs.Causes.{IsFinding};

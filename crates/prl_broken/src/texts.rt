@@ -1,7 +1,7 @@
 //! Findings in words.
 
 ghost use Rattle.std.specs.Prelude.{◌≡◌, ◌++◌, OnOk, length};
-ghost use Rattle.prl_replay.specs.ScheduleTexts.{task_names};
+ghost use Rattle.prl_schedules.specs.ScheduleTexts.{task_names};
 ghost use Rattle.prl_broken.specs.CauseTexts.{cause_text, finding_text, job_text, name_text, number_text};
 
 use crate::causes::{Cause, DatedJob, Finding};

@@ -2,7 +2,7 @@
 
 ghost use Rattle.std.specs.Prelude.{◌≡◌, ◌<◌, ◌≤◌, ◌+◌, ◌^◌, [], All, IfOk, MatchOption, length, slice_index, slice_set};
 ghost use Rattle.std.specs.Bool.{OnTrue, OnFalse};
-ghost use Rattle.prl_core.specs.Machine.{IsOfPlan};
+ghost use Rattle.prl_track.specs.Machine.{IsOfPlan};
 ghost use Rattle.prl_plan.specs.declared.events.Event.TheVariants as events;
 ghost use Rattle.prl_broken.specs.code.Walks.{AreForbidden, IsForbidden, IsOfSize, IsWalk, Steps};
 

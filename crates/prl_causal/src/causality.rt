@@ -9,15 +9,9 @@ ghost use Rattle.prl_causal.specs.Sources.{all_inside, all_undelayed};
 use crate::orders::order;
 use crate::searches::leads_back;
 use crate::sources::{Source, inside, undelayed};
-use prl_base::{FlowNo, Label, Seq};
-use prl_flow::Flat;
+use prl_base::{Label, Seq};
+use prl_flow::{Flat, Order};
 use std::alloc::{AllocError, Global};
-
-/// The flows of a flat program, each once, after those that it uses undelayed.
-#[derive(Debug, Drop)]
-pub struct Order {
-    pub flows: Seq<FlowNo>,
-}
 
 /// Why there is no order.
 #[derive(Debug, Drop)]

@@ -7,4 +7,4 @@ mod orders;
 mod searches;
 mod sources;
 
-pub use causality::{CausalFault, Order, causal};
+pub use causality::{CausalFault, causal};

@@ -1,4 +1,5 @@
-pub mod Places
-mod TrackSteps
-pub mod NextLaws
-pub mod Falls
+mod Telling
+mod Keeping
+mod Opening
+mod Given
+mod Stored

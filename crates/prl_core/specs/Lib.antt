@@ -1,8 +1,4 @@
--- tracks: the state without values
-pub mod Tracks
--- what is left of a run, as a number
-pub mod Lefts
--- events of a plan, and what is told of the halves of cells
-pub mod Machine
+-- what is seen of the machine, and what it tells
+pub mod Cores
 -- what private functions say to one another
 pub mod code

@@ -1,5 +1,3 @@
-pub mod Firsts
-pub mod Nexts
-pub mod Cursors
-pub mod Tests
-pub mod Tracks
+pub mod Stores
+pub mod Kept
+pub mod Laws

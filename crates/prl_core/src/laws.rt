@@ -1,21 +1,44 @@
-//! Laws of tracks, as functions that do nothing: the contract of each is the law, over the definitions alone.
+//! Laws of machines, as functions that do nothing: the contract of each is the law.
 
-ghost use Rattle.std.specs.Prelude.{◌<◌, Some};
+ghost use Rattle.std.specs.Prelude.{ℕ, List};
+ghost use Rattle.prl_base.specs.declared.values.Value.{Value};
+ghost use Rattle.prl_track.specs.declared.seen.Seen.{Seen};
+ghost use Rattle.prl_track.specs.Machine.{Drives};
 ghost use Rattle.prl_plan.specs.declared.events.Event.{Event};
 ghost use Rattle.prl_plan.specs.Facts.{HasPlanFacts};
+ghost use Rattle.prl_plan.specs.Horizons.{IsHorizon};
+ghost use Rattle.prl_plan.specs.Plans.{IsPlan};
 ghost use Rattle.prl_plan.specs.Rules.{KeepsLegal};
-ghost use Rattle.prl_plan.specs.Runs.{RunConstants, ExecState, after_event};
-ghost use Rattle.prl_plan.specs.States.{IsTagged};
-ghost use Rattle.prl_core.specs.Lefts.{left_in};
-ghost use Rattle.prl_core.specs.Tracks.{IsNext};
+ghost use Rattle.prl_plan.specs.States.{IsSound};
+ghost use Rattle.prl_values.specs.Fitting.{HaveTaskBodies, HaveTypedRows};
+ghost use Rattle.prl_core.specs.Cores.{CoreView, constants, Tells, AreOutputs};
+ghost use Rattle.prl_core.specs.code.Laws.{HasCoreLaws};
 
-/// The event that comes next is legal.
-pub fn next_event_is_legal()
-    ensures { (c : RunConstants) → HasPlanFacts c → (s : ExecState) → (event : Event) → IsNext c s (Some event) → KeepsLegal c s event }
-{}
+use prl_plan::{free_events_keep_tags, horizon_jobs_are_counted};
+use prl_values::{job_values_are_typed, job_values_exist};
+use prl_workers::jobs_have_work_laws;
 
-/// Each legal event leaves less of a run, so a list of legal events comes to an end.
-pub fn legal_event_leaves_less()
-    ensures { (c : RunConstants) → HasPlanFacts c → (s : ExecState) → IsTagged c s → (event : Event) → KeepsLegal c s event →
-        left_in c (after_event c s event) < left_in c s }
-{}
+/// The laws of plans, of their states and of values by instance, over what is seen of a machine.
+pub(crate) fn machine_laws()
+    ensures { (core : CoreView) → IsPlan core.plan → IsHorizon core.plan core.horizon → HasPlanFacts (constants core) → HaveTaskBodies core.plan.graph core.bodies →
+        HaveTypedRows core.plan.graph core.horizon.until core.rows → HasCoreLaws core }
+{
+    jobs_have_work_laws();
+    horizon_jobs_are_counted();
+    free_events_keep_tags();
+    job_values_exist();
+    job_values_are_typed();
+}
+
+/// In each sound state of a run something is told of each event that keeps the rules, and what the ended jobs of an actuator's
+/// task have read is there, by instance.
+pub fn legal_events_tell()
+    ensures told { (core : CoreView) → IsPlan core.plan → IsHorizon core.plan core.horizon → HasPlanFacts (constants core) → HaveTaskBodies core.plan.graph core.bodies →
+        HaveTypedRows core.plan.graph core.horizon.until core.rows → IsSound (constants core) core.state →
+        (event : Event) → KeepsLegal (constants core) core.state event → (seen : Seen) × Tells core event seen }
+    ensures outputs { (core : CoreView) → IsPlan core.plan → IsHorizon core.plan core.horizon → HasPlanFacts (constants core) → HaveTaskBodies core.plan.graph core.bodies →
+        HaveTypedRows core.plan.graph core.horizon.until core.rows → IsSound (constants core) core.state →
+        (i k : ℕ) → Drives core.plan i k → (values : List Value) × AreOutputs core i values }
+{
+    machine_laws();
+}

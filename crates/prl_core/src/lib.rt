@@ -1,13 +1,13 @@
-//! The state of an executive without values: it does one event at a time, refuses each event that breaks a rule, and tells the
-//! one that comes next. It stands on plans.
+//! The pure machine of an executive, over every plan and with bodies: it does one event at a time, refuses each event that
+//! breaks a rule, and tells what it saw. It stands on plans, on tracks, on bodies, on the
+//! rows of sensors and on the workers of tasks.
 #![tactic(auto)]
 
-mod firsts;
+mod cores;
 mod laws;
-mod seen;
-mod tracks;
+mod stores;
 
-pub use laws::{legal_event_leaves_less, next_event_is_legal};
+pub use cores::Core;
+pub use laws::legal_events_tell;
 pub use prl_plan::{Event, Rule};
-pub use seen::{Acted, Illegal, Seen, Unfinished};
-pub use tracks::Track;
+pub use prl_track::{Illegal, Seen, Unfinished};

@@ -1,7 +1,7 @@
 -- The tables of bests and of lowered deadlines tell the encoded dates, and so do their shortest lists.
-use Rattle.std.proofs.Common.{◌≡◌, ◌+◌, ◌-◌, ◌*◌, ◌/◌, ◌%◌, ◌<◌, ◌≤◌, ℕ, zero, suc, List, [], length, take, get_or, Some, refl, sym, ◌∙◌, ap, subst, arith}
-use Rattle.std.specs.Prelude.{ℤ, pos, negsuc, ◌+ℤ◌, ◌-ℤ◌, ◌≤ℤ◌, slice_get, slice_index, slice_index_or}
-use Rattle.std.proofs.Math.Nat.{mod-add-div', mod-eq_of_lt}
+use Rattle.std.proofs.Common.{◌≡◌, ◌+◌, ◌-◌, ◌%◌, ◌<◌, ◌≤◌, ℕ, List, length, take, Some, sym, ◌∙◌, ap, arith}
+use Rattle.std.specs.Prelude.{ℤ, pos, ◌+ℤ◌, ◌-ℤ◌, ◌≤ℤ◌, slice_get, slice_index, slice_index_or}
+use Rattle.std.proofs.Math.Nat.{mod-eq_of_lt}
 use Rattle.std.proofs.lemmas.Int.{ints}
 use Rattle.std.proofs.lemmas.List.{length-take-le}
 use Rattle.std.proofs.lemmas.Nat.{mod_below}
@@ -13,23 +13,23 @@ use Rattle.prl_plan.specs.Graphs.{IsWellFormed, jobs_in_hyperperiod}
 use Rattle.prl_plan.specs.Jobs.{Job, task_at, release_of}
 use Rattle.prl_plan.specs.Plans.{HaveRoom, AreShortWindows}
 use Rattle.prl_plan.specs.Precedence.{Precedes}
-use Rattle.prl_plan.proofs.Periods.{everywhere, plus_mul}
 use Rattle.prl_plan.proofs.RoundPeriods.{task_is}
 use Rattle.prl_plan.proofs.ShortestRepeats.{cut_repeats, cut_is_shortest}
 use Rattle.prl_dates.specs.declared.bests.First.TheVariants as firsts
 use Rattle.prl_dates.specs.declared.lanes.Lane.{Lane}
 use Rattle.prl_dates.specs.Faults.{jobs_of}
 use Rattle.prl_dates.specs.code.Families.{IsRound}
-use Rattle.prl_dates.specs.code.Lanes.{link_at, AreLanes}
+use Rattle.prl_dates.specs.code.Lanes.{AreLanes}
 use Rattle.prl_dates.specs.code.Indices.{jobs_before, index_of, dates_of}
-use Rattle.prl_dates.specs.code.Tables.{Leaves, LeaveAll, IsSpread, AreFinal, AreUpperDates}
+use Rattle.prl_dates.specs.code.Tables.{LeaveAll, IsFirstTable, AreFinal, AreUpperDates}
 use Rattle.prl_plan.specs.Repeats.{IsLeastRepeat}
 use Rattle.prl_dates.specs.code.Windows.{window_of, AreWindowsOf, AreWindows}
 use Rattle.prl_dates.proofs.BestRounds.{above_release, least_releases}
 use Rattle.prl_dates.proofs.ChainEnds.{both_inside}
-use Rattle.prl_dates.proofs.Settles.{date_here, release_rises}
-use Rattle.prl_dates.proofs.Indices.{place_again, place_below, place_self, some_jobs, index_again}
-use Rattle.prl_dates.proofs.TableRounds.{Linked, linked, round_of_tables}
+use Rattle.prl_dates.proofs.Settles.{date_here}
+use Rattle.prl_dates.proofs.Indices.{place_below, some_jobs}
+use Rattle.prl_dates.proofs.TableRounds.{Linked, linked, linked_order, round_of_tables}
+use Rattle.prl_dates.proofs.WindowTables.{table_rises, window_is}
 
 module _ (graph : TaskGraph) (good : IsWellFormed graph) (lanes : List Lane) (are : AreLanes graph lanes) (bests : List ℕ) (final : AreFinal graph lanes bests) where
   still : IsRound graph (dates_of graph bests) (dates_of graph bests)
@@ -49,7 +49,7 @@ module _ (graph : TaskGraph) (good : IsWellFormed graph) (lanes : List Lane) (ar
       omega (arith, ints, a, v)
 
   -- the deadlines begin with the dues
-  pub first_dates : (dues : List ℕ) → IsSpread graph firsts.Due (length graph.tasks) dues → length dues ≡ jobs_in_hyperperiod graph → AreUpperDates graph bests dues
+  pub first_dates : (dues : List ℕ) → IsFirstTable graph firsts.Due (length graph.tasks) dues → length dues ≡ jobs_in_hyperperiod graph → AreUpperDates graph bests dues
   first_dates dues spread long = record {
     long = long;
     floors = λ i p inside below. (let d = spread.each i p inside below in let b = final.due i p inside below in omega (arith, d, b));
@@ -69,49 +69,16 @@ module _ (graph : TaskGraph) (good : IsWellFormed graph) (lanes : List Lane) (ar
         let p = place_below (jobs_of graph i) (some_jobs graph good i inside) m in
         (upper.floors i (place_in m (jobs_of graph i)) inside p, upper.due i (place_in m (jobs_of graph i)) inside p)
 
-    next_release : (i : ℕ) (m : ℤ) → release_of (task_at graph i) (m +ℤ pos 1) ≡ release_of (task_at graph i) m +ℤ pos (task_at graph i).clock.period
-    next_release i m =
-        let p : ℕ = (task_at graph i).clock.period in
-        let e = plus_mul m 1 (task_at graph i).clock.period in
-        omega (arith, ints, e)
+    -- within the periods
+    dues : (i p : ℕ) → i < length graph.tasks → p < jobs_of graph i → slice_index tails (jobs_before graph i + p) ≤ (task_at graph i).clock.period
+    dues i p inside below = (let d = upper.due i p inside below in let t = (task_is graph good i inside).due.1 in omega (arith, d, t))
 
     order : (first second : Job) → Precedes graph first second →
         (dates_of graph tails first.task first.number +ℤ pos (task_at graph second.task).wcet) ≤ℤ dates_of graph tails second.task second.number
     order first second h =
         let at : Linked graph good lanes are first second = linked graph good lanes are first second h in
-        let leaves : Leaves at.lane (task_at graph at.lane.to.0).wcet tails tails at.k =
-        leave at.l at.lane (slice_get_within lanes at.l at.lane at.stands) at.stands at.k (let l = at.is.long in let b = at.below in omega (arith, b, l)) in
-        let s : index_of graph at.lane.to.0 second.number ≡ at.lane.first + at.k =
-        ap (λ (x : ℕ). jobs_before graph at.lane.to.0 + x) at.link.place ∙ ap (λ (x : ℕ). x + at.k) (sym at.is.first) in
-        let v : slice_index tails (index_of graph at.lane.to.0 second.number) ≡ slice_index tails (at.lane.first + at.k) = ap (λ (q : ℕ). slice_index tails q) s in
-        let w : slice_index tails (index_of graph at.lane.from.0 at.before) ≡ slice_index tails (link_at at.lane at.k).from = ap (λ (q : ℕ). slice_index tails q) at.link.index in
-        let g = at.link.gap in
-        let greatest : (dates_of graph tails at.lane.from.0 at.before +ℤ pos (task_at graph at.lane.to.0).wcet) ≤ℤ dates_of graph tails at.lane.to.0 second.number =
-        omega (arith, ints, leaves, v, w, g) in
-        let early : dates_of graph tails at.lane.from.0 first.number ≤ℤ dates_of graph tails at.lane.from.0 at.before = earlier at.lane.from.0 at.is.from first.number at.before at.greatest in
-        let here : (dates_of graph tails at.lane.from.0 first.number +ℤ pos (task_at graph at.lane.to.0).wcet) ≤ℤ dates_of graph tails at.lane.to.0 second.number =
-        omega (arith, ints, greatest, early) in
-        subst (λ (i : ℕ). (dates_of graph tails i first.number +ℤ pos (task_at graph second.task).wcet) ≤ℤ dates_of graph tails second.task second.number) at.from
-        (subst (λ (j : ℕ). (dates_of graph tails at.lane.from.0 first.number +ℤ pos (task_at graph j).wcet) ≤ℤ dates_of graph tails j second.number) at.to here)
-      where
-        -- a job before another of its task is due before that one is released
-        earlier : (i : ℕ) → i < length graph.tasks → (a b : ℤ) → a ≤ℤ b → dates_of graph tails i a ≤ℤ dates_of graph tails i b
-        earlier i inside a b low = go (b -ℤ a) refl
-          where
-            go : (d : ℤ) → b -ℤ a ≡ d → dates_of graph tails i a ≤ℤ dates_of graph tails i b
-            go (pos zero) is =
-                (let e : a ≡ b = omega (arith, ints, is) in
-                subst (λ (z : ℤ). dates_of graph tails i a ≤ℤ dates_of graph tails i z) e (omega (arith, ints)))
-            go (pos (suc n)) is =
-                (let x = value i a inside in
-                let y = value i b inside in
-                let t = (task_is graph good i inside).due.1 in
-                let r = release_rises graph i (a +ℤ pos 1) b (omega (arith, ints, is)) in
-                let s = next_release i a in
-                let u = above i b inside in
-                let xd = x.1 in let yb = y.0 in
-                omega (arith, ints, xd, yb, t, r, s, u))
-            go (negsuc n) is = absurd (omega (arith, ints, is, low))
+        linked_order graph good lanes are tails tails (table_rises graph good tails dues) first second at
+        (leave at.l at.lane (slice_get_within lanes at.l at.lane at.stands) at.stands at.k (let l = at.is.long in let b = at.below in omega (arith, b, l)))
 
     pub greatest : AreGreatestDeadlines graph (dates_of graph tails)
     greatest = record {
@@ -127,42 +94,15 @@ module _ (graph : TaskGraph) (good : IsWellFormed graph) (lanes : List Lane) (ar
 
     -- the windows of lists that repeat are those of the tables
     module _ (windows : List (List Window)) (lists : AreWindows graph bests tails (length graph.tasks) windows) where
-      place_times : (len times : ℕ) → 1 ≤ len → (m : ℤ) → place_in (m +ℤ pos (times * len)) len ≡ place_in m len
-      place_times len zero some m =
-          ap (λ (z : ℤ). place_in z len) (let e : 0 * len ≡ 0 = omega arith in let f : m +ℤ pos (0 * len) ≡ m = omega (arith, ints, e) in f)
-      place_times len (suc times) some m =
-          ap (λ (z : ℤ). place_in z len)
-          (let e : suc times * len ≡ times * len + len = omega arith in let f : m +ℤ pos (suc times * len) ≡ (m +ℤ pos (times * len)) +ℤ pos len = omega (arith, ints, e) in f)
-          ∙ place_again len some (m +ℤ pos (times * len)) ∙ place_times len times some m
-
-      window_is : (i : ℕ) → i < length graph.tasks → (m : ℤ) → window_at windows i m ≡ window_of graph i bests tails (index_of graph i m)
-      window_is i inside =
-          everywhere (λ (m : ℤ). window_at windows i m ≡ window_of graph i bests tails (index_of graph i m)) (jobs_of graph i) (some_jobs graph good i inside)
-          (λ n below. of.each n below ∙ ap (λ (p : ℕ). window_of graph i bests tails (jobs_before graph i + p)) (sym (place_self (jobs_of graph i) n below)))
-          (λ m h. list_again m ∙ h ∙ ap (λ (q : ℕ). window_of graph i bests tails q) (sym (index_again graph good i inside m)))
-          (λ m h. sym (list_again m) ∙ h ∙ ap (λ (q : ℕ). window_of graph i bests tails q) (index_again graph good i inside m))
-        where
-          of : AreWindowsOf graph bests tails i (slice_index_or windows i [])
-          of = lists.each i inside
-
-          whole : jobs_of graph i ≡ jobs_of graph i / length (slice_index_or windows i []) * length (slice_index_or windows i [])
-          whole = (let e = mod-add-div' (jobs_of graph i) (length (slice_index_or windows i [])) in let d = (lists.each i inside).divides in omega (arith, e, d))
-
-          list_again : (m : ℤ) → window_at windows i (m +ℤ pos (jobs_of graph i)) ≡ window_at windows i m
-          list_again m =
-              ap (λ (k : ℕ). get_or (slice_index_or windows i []) k no_window)
-              (ap (λ (n : ℕ). place_in (m +ℤ pos n) (length (slice_index_or windows i []))) whole
-              ∙ place_times (length (slice_index_or windows i [])) (jobs_of graph i / length (slice_index_or windows i [])) (lists.each i inside).some m)
-
       release_is : (i : ℕ) (m : ℤ) → i < length graph.tasks → encoded_release graph windows i m ≡ dates_of graph bests i m -ℤ pos (task_at graph i).wcet
       release_is i m inside =
-          let w : (window_at windows i m).lead ≡ slice_index bests (index_of graph i m) - (task_at graph i).wcet = ap (λ (x : Window). x.lead) (window_is i inside m) in
+          let w : (window_at windows i m).lead ≡ slice_index bests (index_of graph i m) - (task_at graph i).wcet = ap (λ (x : Window). x.lead) (window_is graph good bests tails windows lists i inside m) in
           let r = best_room i (place_in m (jobs_of graph i)) inside (place_below (jobs_of graph i) (some_jobs graph good i inside) m) in
           omega (arith, ints, w, r)
 
       deadline_is : (i : ℕ) (m : ℤ) → i < length graph.tasks → encoded_deadline graph windows i m ≡ dates_of graph tails i m
       deadline_is i m inside =
-          let w : (window_at windows i m).tail ≡ slice_index tails (index_of graph i m) = ap (λ (x : Window). x.tail) (window_is i inside m) in
+          let w : (window_at windows i m).tail ≡ slice_index tails (index_of graph i m) = ap (λ (x : Window). x.tail) (window_is graph good bests tails windows lists i inside m) in
           omega (arith, ints, w)
 
       releases : AreReleases graph (encoded_release graph windows)

@@ -6,9 +6,13 @@ mod TableRounds
 mod Readings
 mod RoundSteps
 mod LaneSteps
-mod Spreads
+mod FirstTables
 mod Settles
 mod Lowering
+mod WindowTables
 mod DateTables
+mod SpreadSteps
+mod SpreadRounds
+mod SpreadDates
 mod Circles
 mod TurnSteps

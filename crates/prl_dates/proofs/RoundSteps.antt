@@ -11,7 +11,7 @@ use Rattle.prl_plan.proofs.RoundPeriods.{task_is}
 use Rattle.prl_dates.specs.declared.lanes.Lane.{Lane}
 use Rattle.prl_dates.specs.Faults.{jobs_of}
 use Rattle.prl_dates.specs.code.Indices.{index_of}
-use Rattle.prl_dates.specs.code.Lanes.{link_at, IsLane, AreLanes}
+use Rattle.prl_dates.specs.code.Lanes.{link_at, IsLane, AreEachLane}
 use Rattle.prl_dates.specs.code.Tables.{Leaves, Meets, AreRaised, AreRound, AreSettled, AreMarked, AreWithin}
 use Rattle.prl_dates.proofs.Indices.{before_rises, before_all, index_below, place_below, some_jobs}
 
@@ -103,14 +103,14 @@ module _ (graph : TaskGraph) (good : IsWellFormed graph) where
       let l = is.long in
       omega (arith, r, a, f, l)
 
-  module _ (lanes : List Lane) (are : AreLanes graph lanes) (now next : List ℕ) (round : AreRound graph lanes (length lanes) now next) where
+  module _ (lanes : List Lane) (are : AreEachLane graph lanes) (now next : List ℕ) (round : AreRound graph lanes (length lanes) now next) where
     pub next_within : (bound : ℕ) → AreWithin now bound → AreWithin next (bound + 2 ^ 31)
     next_within bound within q =
         elim (round.only q) [
           | inl same ↦ (let w = within q in omega (arith, same, w))
           | inr by ↦
               (let w = within (link_at by.1 by.3).from in
-              let is = are.each by.0 by.1 by.2 in
+              let is = are by.0 by.1 by.2 in
               let c = (task_is graph good by.1.to.0 is.to).wcet.1 in
               let m : Meets by.1 (task_at graph by.1.to.0).wcet now next by.3 = by.6 in
               let e : slice_index next q ≡ slice_index next (by.1.first + by.3) = ap (λ (x : ℕ). slice_index next x) by.5 in
@@ -120,7 +120,7 @@ module _ (graph : TaskGraph) (good : IsWellFormed graph) where
     -- what a task that did not rise asks for is done
     pub next_settled : (rose : List Bool) → AreMarked graph (length graph.tasks) rose now next → AreSettled graph lanes rose next
     next_settled rose marked l lane stands unmarked k inside =
-        let is = are.each l lane stands in
+        let is = are l lane stands in
         let a : Leaves lane (task_at graph lane.to.0).wcet now next k = round.asks l lane (slice_get_within lanes l lane stands) stands k inside in
         let link = is.links k (let l = is.long in omega (arith, l, inside)) in
         let p = place_in link.0 (jobs_of graph lane.from.0) in

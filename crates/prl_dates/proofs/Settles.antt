@@ -19,13 +19,13 @@ use Rattle.prl_dates.specs.declared.faults.DateFault.TheVariants as faults
 use Rattle.prl_dates.specs.declared.lanes.Lane.{Lane}
 use Rattle.prl_dates.specs.Faults.{jobs_of, IsOfPeriod, IsLate, EndsLoop, NoneOfPeriod, IsSomehowLate, IsDateFault}
 use Rattle.prl_dates.specs.code.Families.{AreBests}
-use Rattle.prl_dates.specs.code.Lanes.{AreLanes}
+use Rattle.prl_dates.specs.code.Lanes.{AreLanes, AreEachLane}
 use Rattle.prl_dates.specs.code.Indices.{jobs_before, dates_of}
-use Rattle.prl_dates.specs.code.Tables.{Leaves, AreRound, AreSettled, IsSpread, IsNowhereAbove, IsFirstAbove}
+use Rattle.prl_dates.specs.code.Tables.{Leaves, AreRound, AreSettled, IsFirstTable, IsNowhereAbove, IsFirstAbove}
 use Rattle.prl_dates.proofs.BestRounds.{next_bests}
 use Rattle.prl_dates.proofs.Indices.{place_below, place_self, some_jobs, index_below}
 use Rattle.prl_dates.proofs.LaneSteps.{date_small}
-use Rattle.prl_dates.proofs.Spreads.{get_same}
+use Rattle.prl_dates.proofs.FirstTables.{get_same}
 use Rattle.prl_dates.proofs.TableRounds.{round_of_tables}
 
 -- releases rise along a task
@@ -68,14 +68,14 @@ narrow_is graph bests task n t is below index at job job_is needs needs_is has h
     ∙ ap (λ (z : ℤ). faults.Narrow task (pos n) (dates_of graph bests task.0 (pos n)) z) (sym due)
 
 module _ (graph : TaskGraph) (good : IsWellFormed graph) where
-  first_value : (table : List ℕ) → IsSpread graph firsts.Wcet (length graph.tasks) table → (i : ℕ) (m : ℤ) → i < length graph.tasks →
+  first_value : (table : List ℕ) → IsFirstTable graph firsts.Wcet (length graph.tasks) table → (i : ℕ) (m : ℤ) → i < length graph.tasks →
       dates_of graph table i m ≡ release_of (task_at graph i) m +ℤ pos (task_at graph i).wcet
   first_value table is i m inside =
       ap (λ (x : ℕ). release_of (task_at graph i) m +ℤ pos x)
       (is.each i (place_in m (jobs_of graph i)) inside (place_below (jobs_of graph i) (some_jobs graph good i inside) m))
 
   -- over chains of one job the best is the release and the WCET
-  pub first_bests : (table : List ℕ) → IsSpread graph firsts.Wcet (length graph.tasks) table → AreBests graph 0 (dates_of graph table)
+  pub first_bests : (table : List ℕ) → IsFirstTable graph firsts.Wcet (length graph.tasks) table → AreBests graph 0 (dates_of graph table)
   first_bests table is = record {
     bests = λ job inside.
         (let v = first_value table is job.task job.number inside in
@@ -95,9 +95,9 @@ module _ (graph : TaskGraph) (good : IsWellFormed graph) where
       alone job first (next ∷ rest) ends date is = absurd (let f = ends.few in omega (arith, f))
 
   -- where all tasks are marked, nothing is claimed of lanes
-  pub first_settled : (lanes : List Lane) → AreLanes graph lanes → (now : List ℕ) → AreSettled graph lanes (replicate (length graph.tasks) true) now
+  pub first_settled : (lanes : List Lane) → AreEachLane graph lanes → (now : List ℕ) → AreSettled graph lanes (replicate (length graph.tasks) true) now
   first_settled lanes are now l lane stands unmarked k inside =
-      absurd (let s = get_same (length graph.tasks) lane.from.0 true false (are.each l lane stands).from in cc)
+      absurd (let s = get_same (length graph.tasks) lane.from.0 true false (are l lane stands).from in cc)
 
   module _ (most : ℕ) (is : most ≡ jobs_in_hyperperiod graph - 1) (now : List ℕ) (bests : AreBests graph most (dates_of graph now)) where
     -- the best over chains of at most a hyperperiod's jobs
@@ -107,7 +107,7 @@ module _ (graph : TaskGraph) (good : IsWellFormed graph) where
         (let b = index_below graph i p of.0 of.1 in let e : most + 1 ≡ jobs_in_hyperperiod graph = omega (arith, b, is) in e)
         (bests.bests (record { task = i; number = pos p }) of.0)
 
-    module _ (dues : List ℕ) (spread : IsSpread graph firsts.Due (length graph.tasks) dues) where
+    module _ (dues : List ℕ) (spread : IsFirstTable graph firsts.Due (length graph.tasks) dues) where
       late_is_above : (i p : ℕ) → IsOfPeriod graph i p → IsSomehowLate graph (record { task = i; number = pos p }) →
           slice_index dues (jobs_before graph i + p) < slice_index now (jobs_before graph i + p)
       late_is_above i p of late =

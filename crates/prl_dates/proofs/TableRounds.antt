@@ -18,6 +18,29 @@ use Rattle.prl_dates.specs.code.Tables.{Leaves, Meets, AreRound}
 use Rattle.prl_dates.proofs.Links.{link_to, link_precedes}
 use Rattle.prl_dates.proofs.Indices.{one_index, place_below, some_jobs}
 
+-- a date that a link asked for is that of a job before, and then the WCET
+pub record Met (graph : TaskGraph) (lane : Lane) (now new : List ℕ) (i : ℕ) (n : ℤ) (k : ℕ) : Type 0 where
+  pub before : ℤ
+  pub task : i ≡ lane.to.0
+  pub link : IsLink graph lane k n before
+  pub date : dates_of graph new i n ≡ dates_of graph now lane.from.0 before +ℤ pos (task_at graph i).wcet
+
+pub met : (graph : TaskGraph) (good : IsWellFormed graph) (lane : Lane) → IsLane graph lane → (now new : List ℕ) (i : ℕ) (n : ℤ) (k : ℕ) → i < length graph.tasks →
+    k < length lane.links → index_of graph i n ≡ lane.first + k → Meets lane (task_at graph lane.to.0).wcet now new k → Met graph lane now new i n k
+met graph good lane is now new i n k inside below at meets =
+    let below' : k < jobs_of graph lane.to.0 = (let l = is.long in omega (arith, below, l)) in
+    let there : jobs_before graph i + place_in n (jobs_of graph i) ≡ jobs_before graph lane.to.0 + k = at ∙ ap (λ (x : ℕ). x + k) is.first in
+    let one = one_index graph i lane.to.0 (place_in n (jobs_of graph i)) k (place_below (jobs_of graph i) (some_jobs graph good i inside) n) below' there in
+    let link = link_to graph good lane is n in
+    let place : place_in n (jobs_of graph lane.to.0) ≡ k = ap (λ (j : ℕ). place_in n (jobs_of graph j)) (sym one.0) ∙ one.1 in
+    let here : IsLink graph lane k n link.0 = subst (λ (x : ℕ). IsLink graph lane x n link.0) place link.1 in
+    let w : slice_index now (index_of graph lane.from.0 link.0) ≡ slice_index now (link_at lane k).from = ap (λ (q : ℕ). slice_index now q) here.index in
+    let v : slice_index new (index_of graph i n) ≡ slice_index new (lane.first + k) = ap (λ (q : ℕ). slice_index new q) at in
+    let g = here.gap in
+    let t : release_of (task_at graph i) n ≡ release_of (task_at graph lane.to.0) n = ap (λ (j : ℕ). release_of (task_at graph j) n) one.0 in
+    let c : (task_at graph i).wcet ≡ (task_at graph lane.to.0).wcet = ap (λ (j : ℕ). (task_at graph j).wcet) one.0 in
+    record { before = link.0; task = one.0; link = here; date = omega (arith, ints, meets, w, v, g, t, c) }
+
 module _ (graph : TaskGraph) (good : IsWellFormed graph) (lanes : List Lane) (are : AreLanes graph lanes) where
   -- what two jobs that precede one another have in common: the lane, its link, and the greatest job before
   pub record Linked (first second : Job) : Type 0 where
@@ -59,25 +82,30 @@ module _ (graph : TaskGraph) (good : IsWellFormed graph) (lanes : List Lane) (ar
             omega (arith, ints, a, n));
       }
 
+  -- where the lane's link leaves time, so do the two jobs
+  pub linked_order : (before after : List ℕ) → ((i : ℕ) (a b : ℤ) → i < length graph.tasks → a ≤ℤ b → dates_of graph before i a ≤ℤ dates_of graph before i b) →
+      (first second : Job) (at : Linked first second) → Leaves at.lane (task_at graph at.lane.to.0).wcet before after at.k →
+      (dates_of graph before first.task first.number +ℤ pos (task_at graph second.task).wcet) ≤ℤ dates_of graph after second.task second.number
+  linked_order before after rises first second at asks =
+      let r = rises at.lane.from.0 first.number at.before at.is.from at.greatest in
+      let s : index_of graph at.lane.to.0 second.number ≡ at.lane.first + at.k =
+      ap (λ (x : ℕ). jobs_before graph at.lane.to.0 + x) at.link.place ∙ ap (λ (x : ℕ). x + at.k) (sym at.is.first) in
+      let v : slice_index after (index_of graph at.lane.to.0 second.number) ≡ slice_index after (at.lane.first + at.k) = ap (λ (q : ℕ). slice_index after q) s in
+      let w : slice_index before (index_of graph at.lane.from.0 at.before) ≡ slice_index before (link_at at.lane at.k).from = ap (λ (q : ℕ). slice_index before q) at.link.index in
+      let g = at.link.gap in
+      let here : (dates_of graph before at.lane.from.0 first.number +ℤ pos (task_at graph at.lane.to.0).wcet) ≤ℤ dates_of graph after at.lane.to.0 second.number =
+      omega (arith, ints, asks, r, v, w, g) in
+      subst (λ (i : ℕ). (dates_of graph before i first.number +ℤ pos (task_at graph second.task).wcet) ≤ℤ dates_of graph after second.task second.number) at.from
+      (subst (λ (j : ℕ). (dates_of graph before at.lane.from.0 first.number +ℤ pos (task_at graph j).wcet) ≤ℤ dates_of graph after j second.number) at.to here)
+
   module _ (now new : List ℕ) (round : AreRound graph lanes (length lanes) now new)
       (rises : (i : ℕ) (a b : ℤ) → i < length graph.tasks → a ≤ℤ b → dates_of graph now i a ≤ℤ dates_of graph now i b) where
     order : (first second : Job) → Precedes graph first second →
         (dates_of graph now first.task first.number +ℤ pos (task_at graph second.task).wcet) ≤ℤ dates_of graph new second.task second.number
     order first second h =
         let at : Linked first second = linked first second h in
-        let lane : Lane = at.lane in
-        let inside : at.l < length lanes = slice_get_within lanes at.l at.lane at.stands in
-        let asks : Leaves at.lane (task_at graph at.lane.to.0).wcet now new at.k = round.asks at.l at.lane inside at.stands at.k (omega (arith, at.below, at.is.long)) in
-        let r = rises at.lane.from.0 first.number at.before at.is.from at.greatest in
-        let s : index_of graph at.lane.to.0 second.number ≡ at.lane.first + at.k =
-        ap (λ (x : ℕ). jobs_before graph at.lane.to.0 + x) at.link.place ∙ ap (λ (x : ℕ). x + at.k) (sym at.is.first) in
-        let v : slice_index new (index_of graph at.lane.to.0 second.number) ≡ slice_index new (at.lane.first + at.k) = ap (λ (q : ℕ). slice_index new q) s in
-        let w : slice_index now (index_of graph at.lane.from.0 at.before) ≡ slice_index now (link_at at.lane at.k).from = ap (λ (q : ℕ). slice_index now q) at.link.index in
-        let g = at.link.gap in
-        let here : (dates_of graph now at.lane.from.0 first.number +ℤ pos (task_at graph at.lane.to.0).wcet) ≤ℤ dates_of graph new at.lane.to.0 second.number =
-        omega (arith, ints, asks, r, v, w, g) in
-        subst (λ (i : ℕ). (dates_of graph now i first.number +ℤ pos (task_at graph second.task).wcet) ≤ℤ dates_of graph new second.task second.number) at.from
-        (subst (λ (j : ℕ). (dates_of graph now at.lane.from.0 first.number +ℤ pos (task_at graph j).wcet) ≤ℤ dates_of graph new j second.number) at.to here)
+        linked_order now new rises first second at
+        (round.asks at.l at.lane (slice_get_within lanes at.l at.lane at.stands) at.stands at.k (let b = at.below in let l = at.is.long in omega (arith, b, l)))
 
     only : (job : Job) → job.task < length graph.tasks →
         (dates_of graph new job.task job.number ≡ dates_of graph now job.task job.number)
@@ -86,31 +114,13 @@ module _ (graph : TaskGraph) (good : IsWellFormed graph) (lanes : List Lane) (ar
         elim (round.only (index_of graph job.task job.number)) [
           | inl same ↦ inl (ap (λ (x : ℕ). release_of (task_at graph job.task) job.number +ℤ pos x) same)
           | inr by ↦
-              (let lane : Lane = by.1 in
-              let is : IsLane graph lane = are.each by.0 lane by.2 in
-              let k : ℕ = by.3 in
-              let below : by.3 < jobs_of graph by.1.to.0 = (let b = by.4 in let l = is.long in omega (arith, b, l)) in
-              let at : jobs_before graph job.task + place_in job.number (jobs_of graph job.task) ≡ jobs_before graph by.1.to.0 + by.3 =
-              by.5 ∙ ap (λ (x : ℕ). x + by.3) is.first in
-              let one = one_index graph job.task by.1.to.0 (place_in job.number (jobs_of graph job.task)) by.3
-              (place_below (jobs_of graph job.task) (some_jobs graph good job.task inside) job.number) below at in
-              let link = link_to graph good by.1 is job.number in
-              let place : place_in job.number (jobs_of graph by.1.to.0) ≡ by.3 =
-              ap (λ (j : ℕ). place_in job.number (jobs_of graph j)) (sym one.0) ∙ one.1 in
-              let here : IsLink graph by.1 by.3 job.number link.0 = subst (λ (x : ℕ). IsLink graph by.1 x job.number link.0) place link.1 in
-              let first : Job = record { task = by.1.from.0; number = link.0 } in
-              let p : Precedes graph first (record { task = by.1.to.0; number = job.number }) = link_precedes graph good by.1 by.3 job.number link.0 here in
-              let meets : Meets by.1 (task_at graph by.1.to.0).wcet now new by.3 = by.6 in
-              let w : slice_index now (index_of graph by.1.from.0 link.0) ≡ slice_index now (link_at by.1 by.3).from = ap (λ (q : ℕ). slice_index now q) here.index in
-              let v : slice_index new (index_of graph job.task job.number) ≡ slice_index new (by.1.first + by.3) = ap (λ (q : ℕ). slice_index new q) by.5 in
-              let g = here.gap in
-              let t : release_of (task_at graph job.task) job.number ≡ release_of (task_at graph by.1.to.0) job.number = ap (λ (j : ℕ). release_of (task_at graph j) job.number) one.0 in
-              let c : (task_at graph job.task).wcet ≡ (task_at graph by.1.to.0).wcet = ap (λ (j : ℕ). (task_at graph j).wcet) one.0 in
+              (let m : Met graph by.1 now new job.task job.number by.3 =
+              met graph good by.1 (are.each by.0 by.1 by.2) now new job.task job.number by.3 inside by.4 by.5 by.6 in
+              let first : Job = record { task = by.1.from.0; number = m.before } in
               inr (
                 first,
-                subst (λ (j : ℕ). Precedes graph first (record { task = j; number = job.number })) (sym one.0) p,
-                (let e : dates_of graph new job.task job.number ≡ dates_of graph now by.1.from.0 link.0 +ℤ pos (task_at graph job.task).wcet =
-                    omega (arith, ints, meets, w, v, g, t, c) in e),
+                subst (λ (j : ℕ). Precedes graph first (record { task = j; number = job.number })) (sym m.task) (link_precedes graph good by.1 by.3 job.number m.before m.link),
+                m.date,
               ))
         ]
 

@@ -6,3 +6,4 @@ pub mod Tables
 pub mod Windows
 pub mod Runs
 pub mod Turns
+pub mod Spreads

@@ -9,7 +9,7 @@ ghost use Rattle.prl_dates.specs.Faults.{jobs_of, IsDateFault};
 ghost use Rattle.prl_dates.specs.code.Families.{AreBests};
 ghost use Rattle.prl_dates.specs.code.Lanes.{AreLanes};
 ghost use Rattle.prl_dates.specs.code.Indices.{jobs_before, dates_of};
-ghost use Rattle.prl_dates.specs.code.Tables.{AreSettled, AreWithin, IsSpread, first_of, IsFirstAbove, IsNowhereAbove, AreFinal};
+ghost use Rattle.prl_dates.specs.code.Tables.{AreSettled, AreWithin, IsFirstTable, first_of, IsFirstAbove, IsNowhereAbove, AreFinal};
 
 use crate::DateFault;
 use crate::lanes::Lane;
@@ -40,9 +40,13 @@ fn first_of(graph: &TaskGraph, first: First, i: u32) -> u64
 }
 
 /// The table of the first dates.
-pub(crate) fn spread(alloc: Global, graph: &TaskGraph, first: First) -> Result<Vec<u64>, AllocError>
+pub(crate) fn first_table(
+    alloc: Global,
+    graph: &TaskGraph,
+    first: First,
+) -> Result<Vec<u64>, AllocError>
     requires { IsWellFormed graph.now }
-    ensures { IfOk result (λ table. IsSpread graph.now first (length graph.now.tasks) table.items) }
+    ensures { IfOk result (λ table. IsFirstTable graph.now first (length graph.now.tasks) table.items) }
 {
     let tasks = graph.tasks.len() as u32;
     let mut table = Vec::with_capacity(alloc, jobs_before(graph, tasks) as usize)?;
@@ -122,9 +126,9 @@ fn settle(
 ) -> Result<(), DateFault>
     requires well { IsWellFormed graph.now }
     requires lanes { AreLanes graph.now lanes.now }
-    requires dues { IsSpread graph.now First.Due (length graph.now.tasks) dues.now }
+    requires dues { IsFirstTable graph.now First.Due (length graph.now.tasks) dues.now }
     requires marks { length rose.old ≡ length graph.now.tasks }
-    requires wcets { IsSpread graph.now First.Wcet (length graph.now.tasks) now.old }
+    requires wcets { IsFirstTable graph.now First.Wcet (length graph.now.tasks) now.old }
     requires settled { AreSettled graph.now lanes.now rose.old now.old }
     requires copy { next.old ≡ now.old }
     ensures { MatchResult result (λ done. AreFinal graph.now lanes.now now.new) (IsDateFault graph.now) }
@@ -156,11 +160,11 @@ pub(crate) fn bests(
 ) -> Result<Vec<u64>, DateFault>
     requires well { IsWellFormed graph.now }
     requires lanes { AreLanes graph.now lanes.now }
-    requires dues { IsSpread graph.now First.Due (length graph.now.tasks) dues.now }
+    requires dues { IsFirstTable graph.now First.Due (length graph.now.tasks) dues.now }
     ensures { MatchResult result (λ table. AreFinal graph.now lanes.now table.items) (IsDateFault graph.now) }
 {
-    let mut now = spread(alloc, graph, First::Wcet)?;
-    let mut next = spread(alloc, graph, First::Wcet)?;
+    let mut now = first_table(alloc, graph, First::Wcet)?;
+    let mut next = first_table(alloc, graph, First::Wcet)?;
     let mut rose = vec![in alloc; true; graph.tasks.len()]?;
     settle(
         graph,

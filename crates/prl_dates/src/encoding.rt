@@ -7,7 +7,7 @@ ghost use Rattle.prl_plan.specs.Plans.{HaveRoom, AreShortWindows};
 ghost use Rattle.prl_dates.specs.Faults.{IsDateFault, IsOfGraph, HasNarrowChain, HasNoNarrowChain};
 
 use crate::DateFault;
-use crate::bests::{First, bests, spread};
+use crate::bests::{First, bests, first_table};
 use crate::lanes::lanes;
 use crate::latest::lower_to_end;
 use crate::laws::faults_tell_of_narrow_chains;
@@ -28,7 +28,7 @@ pub fn encode(alloc: Global, graph: &TaskGraph) -> Result<Dates, DateFault>
 {
     faults_tell_of_narrow_chains();
     let lanes = lanes(alloc, graph)?;
-    let mut tails = spread(alloc, graph, First::Due)?;
+    let mut tails = first_table(alloc, graph, First::Due)?;
     let bests = bests(alloc, graph, lanes.as_slice(), tails.as_slice())?;
     lower_to_end(
         graph,

@@ -11,9 +11,11 @@ mod laws;
 mod numbers;
 mod rounds;
 mod runs;
+mod spreads;
 mod turns;
 mod windows;
 
 pub use encoding::encode;
 pub use faults::DateFault;
 pub use laws::faults_tell_of_narrow_chains;
+pub use spreads::spread_dates;

@@ -5,7 +5,7 @@ ghost use Rattle.prl_plan.specs.declared.limits.TheConstants.{MAX_PERIOD_JOBS};
 ghost use Rattle.prl_plan.specs.Graphs.{IsWellFormed, jobs_in_hyperperiod};
 ghost use Rattle.prl_dates.specs.code.Families.{AreBests};
 ghost use Rattle.prl_dates.specs.code.Indices.{dates_of};
-ghost use Rattle.prl_dates.specs.code.Lanes.{link_at, IsLane, AreLanes};
+ghost use Rattle.prl_dates.specs.code.Lanes.{link_at, IsLane, AreLanes, AreEachLane};
 ghost use Rattle.prl_dates.specs.code.Tables.{AreRaised, AreRound, AreSettled, AreMarked, AreWithin};
 
 use crate::lanes::Lane;
@@ -14,7 +14,7 @@ use prl_base::TaskNo;
 use prl_plan::TaskGraph;
 
 /// Raises the bests of the lane's later task to what the bests of its earlier one ask for.
-fn raise(lane: &Lane, wcet: u32, now: &[u64], next: &mut [u64])
+pub(crate) fn raise(lane: &Lane, wcet: u32, now: &[u64], next: &mut [u64])
     requires from { (k : ℕ) → k < length lane.now.links → (link_at lane.now k).from < length now.now }
     requires to { lane.now.first + length lane.now.links ≤ length next.old }
     requires small { AreWithin now.now (2 ^ 62) }
@@ -34,7 +34,7 @@ fn raise(lane: &Lane, wcet: u32, now: &[u64], next: &mut [u64])
 /// One round, over the lanes from the tasks that are marked.
 pub(crate) fn round(graph: &TaskGraph, lanes: &[Lane], rose: &[bool], now: &[u64], next: &mut [u64])
     requires well { IsWellFormed graph.now }
-    requires lanes { AreLanes graph.now lanes.now }
+    requires lanes { AreEachLane graph.now lanes.now }
     requires marks { length rose.now ≡ length graph.now.tasks }
     requires long { length now.now ≡ jobs_in_hyperperiod graph.now }
     requires small { AreWithin now.now (2 ^ 62) }
@@ -68,7 +68,7 @@ fn differ(now: &[u64], next: &[u64], first: u64, count: u64) -> bool
 }
 
 /// Marks the tasks whose bests differ.
-fn mark(graph: &TaskGraph, now: &[u64], next: &[u64], rose: &mut [bool])
+pub(crate) fn mark(graph: &TaskGraph, now: &[u64], next: &[u64], rose: &mut [bool])
     requires well { IsWellFormed graph.now }
     requires marks { length rose.old ≡ length graph.now.tasks }
     requires long { length now.now ≡ jobs_in_hyperperiod graph.now }

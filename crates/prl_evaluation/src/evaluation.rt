@@ -20,8 +20,7 @@ use crate::wholes::fill_all;
 use prl_base::{Clock, Limit, What};
 use prl_behaviours::solutions_are_of_their_clocks;
 use prl_body::Bodies;
-use prl_causal::Order;
-use prl_flow::{App, Clocks, Flat, Sensors, dates_before};
+use prl_flow::{App, Clocks, Flat, Order, Sensors, dates_before};
 use prl_solutions::programs_have_one_solution;
 use std::alloc::{AllocError, Global};
 

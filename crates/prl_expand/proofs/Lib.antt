@@ -16,3 +16,12 @@ pub mod Unique
 pub mod Bodies
 pub mod Fitting
 pub mod Served
+mod Ones
+mod TermLists
+mod Adding
+mod Expressions
+mod Remaining
+mod Entering
+mod Expanded
+mod Whole
+mod Within

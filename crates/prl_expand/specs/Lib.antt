@@ -4,3 +4,9 @@ pub mod Expansions
 pub mod Flats
 -- two kinds of things that correspond one to one
 pub mod Correspondence
+-- that a flat program leaves one choice of clocks
+pub mod Clocks
+-- what the call answers
+pub mod Expanding
+-- what private functions say to one another
+pub mod code

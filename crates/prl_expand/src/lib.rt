@@ -1,10 +1,21 @@
-//! The expansion of programs: the flat program of a program whose names and types are right, with the same behaviours.
-//! It stands on the typed programs of `prl_types`, the behaviours of `prl_behaviours` and the flat programs of `prl_flow`.
+//! The expansion of programs: from a program whose names and types are right to its flat program, which has the same
+//! behaviours, and the law that these are one. It stands on the typed programs of `prl_types`, the behaviours of
+//! `prl_behaviours`, the flat programs of `prl_flow` and their solutions, and on the check of causality, which it hands on.
 #![tactic(auto)]
 
+mod counts;
+mod expanding;
+mod flows;
 mod laws;
+mod nodes;
+mod terms;
+mod variables;
 
+pub use counts::{ExpandFault, MAX_FLOWS};
+pub use expanding::expand;
 pub use laws::{
-    behaviours_are_solutions, expansions_are_unique, expansions_have_bodies, flats_are_well_formed,
-    programs_have_expansions,
+    behaviours_are_solutions, clocks_of_solutions_are_the_only, expansions_are_unique,
+    expansions_have_bodies, flats_are_well_formed, programs_have_expansions,
+    programs_have_one_behaviour,
 };
+pub use prl_causal::{CausalFault, causal};

@@ -1,10 +1,10 @@
 -- What is told of an event of a schedule that breaks a rule: the job that acts, and the one that it overtakes.
 use Rattle.std.specs.Prelude.{◌≡◌, ◌⊎◌, ℕ, zero, suc, List, [], Option, Some, None, Result, Ok, Err}
-use Rattle.prl_app.specs.declared.faults.Fault.{Fault}
-use Rattle.prl_app.specs.declared.stages.Stage.{Stage}
-use Rattle.prl_app.specs.declared.stages.Stop.TheVariants as stops
-use Rattle.prl_app.specs.Planned.{HasPlan}
-use Rattle.prl_app.specs.PlansAlone.{IsNoPlan, program_alone}
+use Rattle.prl_stages.specs.declared.faults.Fault.{Fault}
+use Rattle.prl_stages.specs.declared.stages.Stage.{Stage}
+use Rattle.prl_stages.specs.declared.stages.Stop.TheVariants as stops
+use Rattle.prl_stages.specs.Planned.{HasPlan}
+use Rattle.prl_stages.specs.PlansAlone.{IsNoPlan, program_alone}
 use Rattle.prl_base.specs.Decimals.{decimal_of}
 use Rattle.prl_broken.specs.declared.causes.Finding.{Finding}
 use Rattle.prl_broken.specs.Causes.{IsFinding}
@@ -13,9 +13,9 @@ use Rattle.prl_plan.specs.declared.events.Event.{Event}
 use Rattle.prl_plan.specs.declared.events.Rule.{Rule}
 use Rattle.prl_plan.specs.Plans.{PlanView}
 use Rattle.prl_plantext.specs.ReadTexts.{IsTextOf}
-use Rattle.prl_replay.specs.declared.schedules.ScheduleFault.{ScheduleFault}
-use Rattle.prl_replay.specs.Schedules.{schedule_of}
-use Rattle.prl_replay.specs.ScheduleTexts.{task_names}
+use Rattle.prl_schedules.specs.declared.schedules.ScheduleFault.{ScheduleFault}
+use Rattle.prl_schedules.specs.Schedules.{schedule_of}
+use Rattle.prl_schedules.specs.ScheduleTexts.{task_names}
 
 -- what was found, as a line
 abbrev pub found_text : PlanView → Option Finding → List ℕ

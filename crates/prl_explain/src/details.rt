@@ -1,17 +1,18 @@
 //! What is told of an event of a schedule that breaks a rule, by a plan.
 
 ghost use Rattle.std.specs.Prelude.{◌≤◌, All, IfOk, length};
-ghost use Rattle.prl_app.specs.declared.reading.TheConstants.{MAX_PROGRAM};
-ghost use Rattle.prl_core.specs.Machine.{IsOfPlan as IsEventOf};
+ghost use Rattle.prl_stages.specs.declared.sizes.TheConstants.{MAX_PROGRAM};
+ghost use Rattle.prl_track.specs.Machine.{IsOfPlan as IsEventOf};
 ghost use Rattle.prl_base.specs.Decimals.{decimal_of};
 ghost use Rattle.prl_explain.specs.Details.{IsOfLine, IsOfPlan, IsOfProgram, IsOfText};
 
-use prl_app::{Stop, plan_of};
 use prl_base::{Label, decimal_of};
 use prl_broken::{finding_at, push_finding};
+use prl_pipeline::plan_of;
 use prl_plan::{Event, Plan, Rule};
 use prl_plantext::{PlanFault, read_plan};
-use prl_replay::{ScheduleFault, read_schedule};
+use prl_schedules::{ScheduleFault, read_schedule};
+use prl_stages::Stop;
 use std::alloc::{AllocError, Global};
 
 /// What is told of the event of the line of this number.

@@ -4,7 +4,7 @@ use crate::kinds::{Kind, Part, Target};
 use prl_plan::Rule;
 
 /// All kinds of lines.
-static KINDS: [Kind; 57] = [
+static KINDS: [Kind; 59] = [
     Kind {
         front: "usage: prelude MODE --OPTION VALUE ..",
         tail: "\n",
@@ -45,7 +45,7 @@ static KINDS: [Kind; 57] = [
         tail: "\n",
         target: Target::Nowhere,
         sentence: "This file has more bytes than may be read: 1 MB for a program or bodies, 32 MB \
-            for sensor rows, 80 MB for a schedule.",
+            for sensor rows, 80 MB for a schedule, 64 KB for a text of processors.",
     },
     Kind {
         front: "overrun ",
@@ -338,7 +338,8 @@ static KINDS: [Kind; 57] = [
         tail: " rule L1\n",
         target: Target::Event(Rule::L1),
         sentence: "This task acts too early: its next job is not released yet at this tick. Put a \
-            `tick` before the act, or move the act down.",
+            `tick` before the act, or move the act down. On several processors a job waits for \
+            the encoded deadline of a job that it reads from another one.",
     },
     Kind {
         front: "71 illegal line ",
@@ -352,7 +353,8 @@ static KINDS: [Kind; 57] = [
         tail: " rule L3\n",
         target: Target::Event(Rule::L3),
         sentence: "This act overtakes a job that is more urgent: a released job whose encoded \
-            deadline is earlier has to act first.",
+            deadline is earlier has to act first. On several processors that is a job of the \
+            same one.",
     },
     Kind {
         front: "71 illegal line ",
@@ -403,6 +405,20 @@ static KINDS: [Kind; 57] = [
         sentence: "There are fewer rows for this sensor than the run reads; the line of `prelude` \
             says how many there are and how many are needed. Add rows, or ask for fewer \
             ticks.",
+    },
+    Kind {
+        front: "98 core syntax line ",
+        tail: "\n",
+        target: Target::Nowhere,
+        sentence: "This line of the text of processors does not place a task. Write the name of a \
+            task of the plan, one blank and the number of its processor, from 0 to 15, and each \
+            task once.",
+    },
+    Kind {
+        front: "99 core missing ",
+        tail: "\n",
+        target: Target::Task,
+        sentence: "The text of processors has no line for this task. Add one.",
     },
 ];
 

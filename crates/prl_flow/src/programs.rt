@@ -191,6 +191,12 @@ pub struct Clocks {
     pub of: Seq<Clock>,
 }
 
+/// An order of the flows of a flat program, each once, after those that it uses undelayed.
+#[derive(Debug, Drop)]
+pub struct Order {
+    pub flows: Seq<FlowNo>,
+}
+
 /// The values of an actuator's flow, one for each date of its clock, in order.
 #[derive(Debug, Drop)]
 pub struct OutFlow {

@@ -6,5 +6,7 @@ pub mod Shapes
 pub mod Windows
 -- the range of ticks
 pub mod Ranges
+-- what is drawn beside the windows
+pub mod Shown
 -- the picture
 pub mod Pictures

@@ -10,14 +10,16 @@ use Rattle.prl_plan.specs.Plans.{PlanView}
 use Rattle.prl_plantext.specs.ReadTexts.{IsTextOf}
 use Rattle.prl_picture.specs.declared.ranges.TheConstants.{MAX_UNTIL}
 use Rattle.prl_picture.specs.declared.scales.Scale.{Scale}
+use Rattle.prl_picture.specs.declared.shown.Shown.{Shown}
 use Rattle.prl_picture.specs.Ranges.{IsRange}
 use Rattle.prl_picture.specs.Shapes.{shapes_of}
+use Rattle.prl_picture.specs.Shown.{IsAsked, IsOfPlan, pieces_text}
 use Rattle.prl_picture.specs.Windows.{window_text}
 
--- the text has the window of each job of the range once, in one piece
-abbrev pub IsPictureOf : PlanView → Scale → List ℕ → Type 0
-IsPictureOf plan scale text =
-    (below above : List ℕ) × (text ≡ below ++ flat_map window_text (shapes_of plan scale) ++ above)
+-- the text has the window of each job of the range once, in one piece, and then each piece of the run that is shown
+abbrev pub IsPictureOf : PlanView → Scale → Shown → List ℕ → Type 0
+IsPictureOf plan scale shown text =
+    (below above : List ℕ) × (text ≡ below ++ flat_map window_text (shapes_of plan scale) ++ pieces_text plan scale shown ++ above)
 
 -- the tick that a word writes; another one where there is no word
 abbrev pub tick_of : Option (List ℕ) → ℕ → Option ℕ
@@ -29,10 +31,11 @@ pub record AreAsked (plan : PlanView) (words : List (List ℕ)) (from until : �
   pub begins : tick_of (value_of (codes "--from") words) 0 ≡ Some from
   pub ends : tick_of (value_of (codes "--until") words) (min (from + plan.graph.hyper) MAX_UNTIL) ≡ Some until
 
--- the picture of the plan over the range that the words ask for
+-- the picture of the plan over the range that the words ask for, with the schedule or the run that they ask for
 abbrev pub IsDrawn : PlanView → List (List ℕ) → List ℕ → Type 0
 IsDrawn plan words text =
-    (from until : ℕ) × AreAsked plan words from until × (scale : Scale) × IsRange from until scale × IsPictureOf plan scale text
+    (from until : ℕ) × AreAsked plan words from until × (scale : Scale) × IsRange from until scale
+    × (shown : Shown) × IsOfPlan plan shown × IsAsked words shown × IsPictureOf plan scale shown text
 
 -- the picture of the plan that the file has
 abbrev pub IsPicture : Option (List ℕ → Option (List ℕ)) → List (List ℕ) → List ℕ → Type 0

@@ -62,6 +62,8 @@ const STYLE: &str = "<style>text{font-family:sans-serif;font-size:120px;fill:#22
     .l{stroke:#bbb;stroke-width:10;fill:none}.o{stroke:#222;stroke-width:14;fill:none}\
     .a{stroke:#555;stroke-width:9;fill:none;marker-end:url(#p)}.d{stroke-dasharray:50 40}\
     .w{fill-opacity:.35;stroke:#444;stroke-width:8}.h{fill-opacity:0}.s{stroke:#222;stroke-width:6}\
+    .b{fill:#D55E00;fill-opacity:.2;stroke:#D55E00;stroke-width:10}\
+    .c{fill:none;stroke:#D55E00;stroke-width:24}\
     .t0{fill:#E69F00}.t1{fill:#56B4E9}.t2{fill:#009E73}.t3{fill:#F0E442}\
     .t4{fill:#0072B2}.t5{fill:#D55E00}.t6{fill:#CC79A7}.t7{fill:#999999}</style>\n\
     <defs><marker id=\"p\" viewBox=\"0 0 10 10\" refX=\"9\" refY=\"5\" markerWidth=\"90\" \
@@ -84,9 +86,9 @@ pub(crate) fn push(text: &mut Vec<u8>, piece: &str) -> Result<(), AllocError> {
     text.extend_from_slice(piece.as_bytes())
 }
 
-/// How high a picture of so many tasks is.
-fn height_of(tasks: u32) -> u64 {
-    row_of(tasks) + 200
+/// How high a picture of so many rows is.
+fn height_of(rows: u32) -> u64 {
+    row_of(rows) + 200
 }
 
 /// Appends what a picture begins with.
@@ -204,20 +206,19 @@ fn push_names(text: &mut Vec<u8>, plan: &Plan) -> Result<(), AllocError> {
     Ok(())
 }
 
-/// Appends what stands below the windows of a picture.
+/// Appends what stands below the windows of a picture of so many rows.
 pub(crate) fn push_head(
     text: &mut Vec<u8>,
     plan: &Plan,
     scale: Scale,
     left_out: u64,
+    rows: u32,
 ) -> Result<(), AllocError>
     requires from { scale.from < 2 ^ 32 }
     requires span { (0 < scale.span) × (scale.span < 2 ^ 33) }
 {
-    plan_is_one(plan);
-    let tasks = plan.graph().tasks.len() as u32;
-    push_opening(text, height_of(tasks))?;
+    push_opening(text, height_of(rows))?;
     push_title(text, plan, scale, left_out)?;
-    push_ticks(text, scale, row_of(tasks))?;
+    push_ticks(text, scale, row_of(rows))?;
     push_names(text, plan)
 }

@@ -4,8 +4,8 @@ ghost use Rattle.std.specs.Prelude.{◌≡◌, ◌++◌, ◌<◌, ◌≤◌, ◌
 ghost use Rattle.std.specs.Option.{option_map};
 ghost use Rattle.std.specs.String.{string_bytes};
 ghost use Rattle.prl_picture.specs.Pictures.{Answers, IsDrawn, IsPicture, IsPictureOf, tick_of};
+ghost use Rattle.prl_picture.specs.Shown.{IsAsked, IsOfPlan, IsUpTo};
 
-use crate::acts::push_acts;
 use crate::arrows::push_arrows;
 use crate::details::push_details;
 use crate::frames::{push, push_head};
@@ -13,13 +13,15 @@ use crate::numbers::push_numbers;
 use crate::ranges::{MAX_UNTIL, left_out, scale_of};
 use crate::scales::Scale;
 use crate::shapes::{Shape, shapes_of};
+use crate::shown::{Shown, pieces, push_shown, rows_of};
 use crate::windows::windows;
 use prl_base::decimal_of;
 use prl_companions::{Stop, after_name, are_pairs, finish, read_named, value_of};
+use prl_edf::analyse;
 use prl_io::{Files, Sink};
-use prl_plan::{Event, Plan};
+use prl_plan::{Event, Horizon, Plan};
 use prl_plantext::{PlanFault, read_plan};
-use prl_replay::{ScheduleFault, read_schedule};
+use prl_schedules::{ScheduleFault, read_schedule};
 use std::alloc::{AllocError, Global};
 
 /// The most bytes of a plan's text.
@@ -29,7 +31,8 @@ pub const MAX_PLAN: u64 = 33_554_432;
 pub const MAX_SCHEDULE: u64 = 83_886_080;
 
 /// The form of the words.
-const FORM: &str = "prelude_picture --plan FILE [--schedule FILE] [--from TICK] [--until TICK]";
+const FORM: &str =
+    "prelude_picture --plan FILE [--schedule FILE | --edf TICK] [--from TICK] [--until TICK]";
 
 /// Why there is no picture.
 const NO_PLAN: &str = "the file is not the text of a plan";
@@ -37,8 +40,11 @@ const NO_PLAN: &str = "the file is not the text of a plan";
 /// Why there is no picture of a schedule.
 const NO_SCHEDULE: &str = "the file is not a schedule of the tasks of the plan";
 
+/// Why there is no picture of a run.
+const TOO_MANY: &str = "too many jobs or events up to the tick of --edf";
+
 /// The options of the words.
-static OPTIONS: [&[u8]; 4] = [b"--plan", b"--schedule", b"--from", b"--until"];
+static OPTIONS: [&[u8]; 5] = [b"--plan", b"--schedule", b"--edf", b"--from", b"--until"];
 
 /// What is drawn over the windows.
 fn above(
@@ -46,14 +52,15 @@ fn above(
     plan: &Plan,
     scale: Scale,
     shapes: &[Shape],
-    events: &[Event],
+    shown: &Shown,
 ) -> Result<Vec<u8>, AllocError>
     requires until { scale.until < 2 ^ 32 }
     requires from { scale.from ≤ scale.until }
     requires span { (0 < scale.span) × (scale.span < 2 ^ 33) }
+    requires shown { IsOfPlan plan.now shown.now }
 {
     let mut text = Vec::new(alloc);
-    push_acts(alloc, &mut text, plan, scale, events)?;
+    push_shown(alloc, &mut text, plan, scale, shapes, shown)?;
     push_details(&mut text, plan, scale, shapes)?;
     push_arrows(&mut text, plan, scale)?;
     push_numbers(&mut text, shapes)?;
@@ -61,44 +68,53 @@ fn above(
     Ok(text)
 }
 
-/// What is drawn below the windows.
-fn below(alloc: Global, plan: &Plan, scale: Scale, left_out: u64) -> Result<Vec<u8>, AllocError>
+/// What is drawn below the windows of a picture of so many rows.
+fn below(
+    alloc: Global,
+    plan: &Plan,
+    scale: Scale,
+    left_out: u64,
+    rows: u32,
+) -> Result<Vec<u8>, AllocError>
     requires from { scale.from < 2 ^ 32 }
     requires span { (0 < scale.span) × (scale.span < 2 ^ 33) }
 {
     let mut text = Vec::new(alloc);
-    push_head(&mut text, plan, scale, left_out)?;
+    push_head(&mut text, plan, scale, left_out, rows)?;
     Ok(text)
 }
 
-/// Three texts one after another.
-fn joined(alloc: Global, first: &[u8], second: &[u8], third: &[u8]) -> Result<Vec<u8>, AllocError>
-    ensures { IfOk result (λ text. text.items ≡ first.now ++ second.now ++ third.now) }
+/// Three texts one after another, behind a first one.
+fn joined(first: Vec<u8>, second: &[u8], third: &[u8], fourth: &[u8]) -> Result<Vec<u8>, AllocError>
+    ensures { IfOk result (λ text. text.items ≡ first.items ++ second.now ++ third.now ++ fourth.now) }
 {
-    let mut text = Vec::from_slice(alloc, first)?;
+    let mut text = first;
     text.extend_from_slice(second)?;
     text.extend_from_slice(third)?;
+    text.extend_from_slice(fourth)?;
     Ok(text)
 }
 
-/// The picture of the jobs of a plan, and of what a schedule does.
+/// The picture of the jobs of a plan, with a schedule or with the run of one processor.
 pub fn picture_of(
     alloc: Global,
     plan: &Plan,
     scale: Scale,
     left_out: u64,
-    events: &[Event],
+    shown: &Shown,
 ) -> Result<Vec<u8>, AllocError>
     requires until { scale.until < 2 ^ 32 }
     requires from { scale.from ≤ scale.until }
     requires span { (0 < scale.span) × (scale.span < 2 ^ 33) }
-    ensures { IfOk result (λ text. IsPictureOf plan.now scale text.items) }
+    requires shown { IsOfPlan plan.now shown.now }
+    ensures { IfOk result (λ text. IsPictureOf plan.now scale shown.now text.items) }
 {
     let shapes = shapes_of(alloc, plan, scale)?;
-    let first = below(alloc, plan, scale, left_out)?;
+    let first = below(alloc, plan, scale, left_out, rows_of(plan, shown))?;
     let second = windows(alloc, &shapes)?;
-    let third = above(alloc, plan, scale, &shapes, events)?;
-    joined(alloc, &first, &second, &third)
+    let third = pieces(alloc, plan, scale, shown)?;
+    let fourth = above(alloc, plan, scale, &shapes, shown)?;
+    joined(first, &second, &third, &fourth)
 }
 
 /// The tick that a word writes; another one where there is no word.
@@ -117,7 +133,9 @@ fn tick_of(word: Option<&[u8]>, other: u64) -> Option<u64>
 }
 
 /// The picture of a plan over the range that the words ask for.
-fn drawn(alloc: Global, words: &[String], plan: &Plan, events: &[Event]) -> Result<Vec<u8>, Stop>
+fn drawn(alloc: Global, words: &[String], plan: &Plan, shown: &Shown) -> Result<Vec<u8>, Stop>
+    requires plan { IsOfPlan plan.now shown.now }
+    requires asked { IsAsked (map string_bytes words.now) shown.now }
     ensures { IfOk result (λ text. IsDrawn plan.now (map string_bytes words.now) text.items) }
 {
     let Some(from) = tick_of(value_of(b"--from", words), 0) else {
@@ -132,7 +150,7 @@ fn drawn(alloc: Global, words: &[String], plan: &Plan, events: &[Event]) -> Resu
     }
     let scale = scale_of(plan, from, until);
     let more = left_out(plan, scale.until, until);
-    Ok(picture_of(alloc, plan, scale, more, events)?)
+    Ok(picture_of(alloc, plan, scale, more, shown)?)
 }
 
 /// The events of a schedule of the plan.
@@ -144,8 +162,45 @@ fn events_of(alloc: Global, source: &[u8], plan: &Plan) -> Result<Vec<Event>, St
     }
 }
 
-/// The picture of a plan, and of a schedule where the words name one.
-fn with_schedule<F: Files>(
+/// What the analysis finds of the jobs up to the tick that a word writes.
+fn verdict_of(alloc: Global, word: &[u8], plan: &Plan) -> Result<Shown, Stop>
+    ensures plan { IfOk result (IsOfPlan plan.now) }
+    ensures until { IfOk result (IsUpTo word.now) }
+{
+    let Some(until) = tick_of(Some(word), 0) else {
+        return Err(Stop::Words(FORM));
+    };
+    let Ok(horizon) = Horizon::new(plan, until as u32) else {
+        return Err(Stop::Refused(TOO_MANY));
+    };
+    let verdict = analyse(alloc, plan, horizon)?;
+    Ok(Shown::Verdict(horizon, verdict))
+}
+
+/// What the words ask for beside the windows: a schedule, or the run of one processor, but not both.
+fn shown<F: Files>(
+    alloc: Global,
+    words: &[String],
+    files: &mut F,
+    plan: &Plan,
+) -> Result<Shown, Stop>
+    ensures plan { IfOk result (IsOfPlan plan.now) }
+    ensures asked { IfOk result (IsAsked (map string_bytes words.now)) }
+    ensures kept { (F.seen files.new).folder ≡ (F.seen files.old).folder }
+{
+    match (value_of(b"--edf", words), value_of(b"--schedule", words)) {
+        (Some(_), Some(_)) => Err(Stop::Words(FORM)),
+        (Some(word), None) => verdict_of(alloc, word, plan),
+        (None, Some(name)) => {
+            let source = read_named(alloc, files, name, MAX_SCHEDULE)?;
+            Ok(Shown::Events(events_of(alloc, &source, plan)?))
+        }
+        (None, None) => Ok(Shown::Events(Vec::new(alloc))),
+    }
+}
+
+/// The picture of a plan, with what the words ask for.
+fn with_shown<F: Files>(
     alloc: Global,
     words: &[String],
     files: &mut F,
@@ -154,12 +209,8 @@ fn with_schedule<F: Files>(
     ensures text { IfOk result (λ text. IsDrawn plan.now (map string_bytes words.now) text.items) }
     ensures kept { (F.seen files.new).folder ≡ (F.seen files.old).folder }
 {
-    let Some(name) = value_of(b"--schedule", words) else {
-        return drawn(alloc, words, plan, &[]);
-    };
-    let source = read_named(alloc, files, name, MAX_SCHEDULE)?;
-    let events = events_of(alloc, &source, plan)?;
-    drawn(alloc, words, plan, &events)
+    let shown = shown(alloc, words, files, plan)?;
+    drawn(alloc, words, plan, &shown)
 }
 
 /// The picture that the words ask for.
@@ -175,7 +226,7 @@ fn picture<F: Files>(alloc: Global, words: &[String], files: &mut F) -> Result<V
     };
     let source = read_named(alloc, files, name, MAX_PLAN)?;
     match read_plan(alloc, &source) {
-        Ok(plan) => with_schedule(alloc, words, files, &plan),
+        Ok(plan) => with_shown(alloc, words, files, &plan),
         Err(PlanFault::NotPlan) => Err(Stop::Refused(NO_PLAN)),
         Err(PlanFault::Memory) => Err(Stop::Memory),
     }

@@ -1,7 +1,7 @@
 -- Each event keeps the rules or is the first to break one, and in each state all jobs have ended or one is the first that
 -- has not.
 use Rattle.std.proofs.Common.{◌≡◌, ◌<◌, ◌≤◌, ◌+◌, ◌⊎◌, ℕ, zero, suc, slice_index, refl, inl, inr, arith, subst}
-use Rattle.std.proofs.lemmas.Bool.{cases_lt}
+use Rattle.std.proofs.lemmas.Bool.{cases_eq, cases_lt}
 use Rattle.prl_plan.specs.declared.events.Event.{Event}
 use Rattle.prl_plan.specs.declared.events.Event.TheVariants as events
 use Rattle.prl_plan.specs.declared.events.Rule.{Rule}
@@ -87,24 +87,27 @@ module _ (c : RunConstants) (s : ExecState) (P Q : ℕ → ℕ → Type 0) (deci
 
 -- what keeps a job from being due before the one that acts
 abbrev IsLater : RunConstants → ExecState → ℕ → ℕ → ℕ → Type 0
-IsLater c s i j n = c.release j n ≤ s.now → c.deadline i (first_unfinished s i) ≤ c.deadline j n
+IsLater c s i j n = c.processor j ≡ c.processor i → c.release j n ≤ s.now → c.deadline i (first_unfinished s i) ≤ c.deadline j n
 
 abbrev IsEarlier : RunConstants → ExecState → ℕ → ℕ → ℕ → Type 0
-IsEarlier c s i j n = (c.release j n ≤ s.now) × (c.deadline j n < c.deadline i (first_unfinished s i))
+IsEarlier c s i j n = (c.processor j ≡ c.processor i) × (c.release j n ≤ s.now) × (c.deadline j n < c.deadline i (first_unfinished s i))
 
 later_or_earlier : (c : RunConstants) (s : ExecState) (i j n : ℕ) → IsLater c s i j n ⊎ IsEarlier c s i j n
-later_or_earlier c s i j n = elim (cases_lt s.now (c.release j n)) [
-  | inl early ↦ inl (λ released. absurd (omega arith))
-  | inr released ↦ elim (cases_lt (c.deadline j n) (c.deadline i (first_unfinished s i))) [
-    | inl before ↦ inr (released, before)
-    | inr after ↦ inl (λ _. after)
+later_or_earlier c s i j n = elim (cases_eq (c.processor j) (c.processor i)) [
+  | inr apart ↦ inl (λ together released. absurd (apart together))
+  | inl together ↦ elim (cases_lt s.now (c.release j n)) [
+    | inl early ↦ inl (λ _ released. absurd (omega arith))
+    | inr released ↦ elim (cases_lt (c.deadline j n) (c.deadline i (first_unfinished s i))) [
+      | inl before ↦ inr (together, released, before)
+      | inr after ↦ inl (λ _ _. after)
+    ]
   ]
 ]
 
 first_or_overtaken : (c : RunConstants) (s : ExecState) (i : ℕ) → ActsFirst c s i ⊎ IsOvertaken c s i
 first_or_overtaken c s i = elim (all_jobs c s (IsLater c s i) (IsEarlier c s i) (later_or_earlier c s i)) [
-  | inl all ↦ inl all
-  | inr other ↦ inr (other.0, other.1, other.2.0, other.2.1.0, other.2.1.1)
+  | inl all ↦ inl (λ j n together left. all j n left together)
+  | inr other ↦ inr (other.0, other.1, other.2.1.0, other.2.0, other.2.1.1, other.2.1.2)
 ]
 
 has_job_or_not : (c : RunConstants) (s : ExecState) (i : ℕ) → HasJob c s i ⊎ ((c.tasks ≤ i) ⊎ (c.jobs i ≤ first_unfinished s i))

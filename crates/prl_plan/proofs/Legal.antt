@@ -35,10 +35,16 @@ module _ (c : RunConstants) (facts : HasPlanFacts c) where
         | inl ended ↦
             (let lower : m + 1 ≤ get_or s.tags cell 0 = sound.tagged.written j k (before.2) m cell provides.writes (inl ended) in omega (arith, upper, lower))
         | inr left ↦ absurd
-            (let unfinished : IsUnfinished c s j k = record { task = provides.writes.job.task; job = provides.writes.job.job; unfinished = left } in
-            let not_after : c.deadline i n ≤ c.deadline j k = first j k unfinished early in
-            let earlier : c.deadline j k < c.deadline i n = provides.deadline in
-            omega (arith, not_after, earlier))
+            (elim (facts.across i n place m j k (before.2) cell reads provides.writes) [
+              | inl together ↦
+                  (let unfinished : IsUnfinished c s j k = record { task = provides.writes.job.task; job = provides.writes.job.job; unfinished = left } in
+                  let not_after : c.deadline i n ≤ c.deadline j k = first j k together unfinished early in
+                  let earlier : c.deadline j k < c.deadline i n = provides.deadline in
+                  omega (arith, not_after, earlier))
+              | inr due ↦
+                  (let kept : k < get_or s.ended j 0 = sound.kept j k provides.writes.job (let b : c.release i n ≤ s.now = released in omega (arith, due, b)) in
+                  omega (arith, kept, left))
+            ])
       ]
 
   -- what a legal list allows, a gated one allows

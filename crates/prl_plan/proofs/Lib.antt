@@ -30,6 +30,7 @@ mod Sound
 mod Legal
 mod Runs
 mod Counts
+mod EventCounts
 mod Actions
 mod ActionPlaces
 mod PlanFacts

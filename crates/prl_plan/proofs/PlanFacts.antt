@@ -392,6 +392,7 @@ module _ (plan : PlanView) (is : IsPlan plan) (h : Horizon) (horizon : IsHorizon
     edge = λ j k place m i n written l cell reads writes.
         edge_no reads.action.1 writes.action.0 (read_edge j k place m i n written l cell reads writes);
     provided = provider;
+    across = λ j k place m i n written cell reads writes. inl refl;
     over = is_over;
   }
 

@@ -12,7 +12,7 @@ use Rattle.prl_plan.specs.declared.events.Event.{Event}
 use Rattle.prl_plan.specs.declared.events.Event.TheVariants as events
 use Rattle.prl_plan.specs.Runs.{RunConstants, ExecState, opening, action_at, next_action, moved, after_action, after_event, after_events}
 use Rattle.prl_plan.specs.Plans.{low, high, IsHigh, low_of}
-use Rattle.prl_plan.specs.Rules.{HasJob, ActsReleased, KeepsGated, KeepsFree, IsFree}
+use Rattle.prl_plan.specs.Rules.{HasJob, ActsReleased, KeepsGated, KeepsFree, IsGated, IsFree}
 use Rattle.prl_plan.specs.Facts.{IsJob, WritesAt, HasPlanFacts}
 use Rattle.prl_plan.specs.States.{IsDone, IsAhead, IsOrigin, IsTagged}
 use Rattle.prl_plan.proofs.Places.{get_set}
@@ -39,6 +39,10 @@ same_cell e m cell e' m' cell' h =
 pub gated_free : (c : RunConstants) (s : ExecState) (event : Event) → KeepsGated c s event → KeepsFree c s event
 gated_free c s events.Tick keeps = keeps.within
 gated_free c s (events.Act task) keeps = keeps
+
+pub IsGated_free : (c : RunConstants) (list : List Event) (s : ExecState) → IsGated c s list → IsFree c s list
+IsGated_free c [] s gated = tt
+IsGated_free c (event ∷ list) s gated = (gated_free c s event gated.0, IsGated_free c list (after_event c s event) gated.1)
 
 module _ (c : RunConstants) (facts : HasPlanFacts c) where
   -- a tick moves the clock alone, past no deadline of an unfinished job

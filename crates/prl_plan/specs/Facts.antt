@@ -1,5 +1,5 @@
 -- What holds of the jobs of every plan, as an executive needs it.
-use Rattle.std.specs.Prelude.{◌≡◌, ◌+◌, ◌<◌, ◌≤◌, ◌^◌, ℕ, length}
+use Rattle.std.specs.Prelude.{◌≡◌, ◌+◌, ◌<◌, ◌≤◌, ◌^◌, ◌⊎◌, ℕ, length}
 use Rattle.prl_base.specs.declared.numbers.EdgeNo.{EdgeNo}
 use Rattle.prl_plan.specs.declared.events.Action.TheVariants as actions
 use Rattle.prl_plan.specs.Plans.{IsHigh, low_of}
@@ -55,6 +55,9 @@ pub record HasPlanFacts (c : RunConstants) : Type 0 where
   -- what is read, a job writes that comes earlier
   pub provided : (j k place m cell : ℕ) → ReadsAt c j k place m cell →
       (i : ℕ) × (n : ℕ) × (written : ℕ) × Provides c m cell j k i n written
+  -- on the reader's processor, or due before the reader is released
+  pub across : (j k place m i n written cell : ℕ) → ReadsAt c j k place m cell → WritesAt c i n written m cell →
+      (c.processor i ≡ c.processor j) ⊎ (c.deadline i n ≤ c.release j k)
   -- the life of an instance is over before a later one is written to its cell
   pub over : (j k place m i n written l cell : ℕ) → ReadsAt c j k place m cell → WritesAt c i n written l cell → m < l →
       c.deadline j k ≤ c.release i n

@@ -1,12 +1,14 @@
 -- The horizon of a run: its jobs, and the constants of the run.
-use Rattle.std.specs.Prelude.{◌≡◌, ◌+◌, ◌*◌, ◌<◌, ◌≤◌, ◌^◌, ◌⊎◌, ℕ, zero, suc, length, sum}
+use Rattle.std.specs.Prelude.{◌≡◌, ◌+◌, ◌*◌, ◌<◌, ◌≤◌, ◌^◌, ◌⊎◌, ℕ, zero, suc, pos, List, [], length, nat_abs, slice_index, sum}
 use Rattle.prl_base.specs.declared.limits.Limit.{Limit}
 use Rattle.prl_base.specs.declared.limits.What.{What}
 use Rattle.prl_base.specs.declared.limits.What.TheVariants as whats
 use Rattle.prl_plan.specs.declared.horizons.Horizon.{Horizon}
 use Rattle.prl_plan.specs.declared.limits.TheConstants.{MAX_JOBS, MAX_EVENTS}
+use Rattle.prl_plan.specs.declared.tables.Window.{Window}
+use Rattle.prl_plan.specs.Dates.{encoded_release}
 use Rattle.prl_plan.specs.Jobs.{task_at, job_count, IsHorizonJob}
-use Rattle.prl_plan.specs.Plans.{PlanView, release_at, deadline_at, actions_of}
+use Rattle.prl_plan.specs.Plans.{PlanView, deadline_at, actions_of}
 use Rattle.prl_plan.specs.Runs.{RunConstants}
 
 -- the sum of f over the numbers below n
@@ -47,14 +49,28 @@ IsPast plan until _ found = ⊥
 abbrev pub IsPastLimit : PlanView → ℕ → Limit → Type 0
 IsPastLimit plan until limit = IsPast plan until limit.what limit.found
 
--- what stays the same over a run of a plan in a horizon
-abbrev pub constants_of : PlanView → Horizon → RunConstants
-constants_of plan horizon = record {
+-- Where the tasks of a plan run: by task its processor, 0 where none is told, and the windows by which its jobs are released.
+pub record Placement : Type 0 where
+  pub processors : List ℕ
+  pub windows : List (List Window)
+
+-- all tasks run on one processor, and jobs are released by the plan's own windows
+abbrev pub alone : PlanView → Placement
+alone plan = record { processors = []; windows = plan.windows }
+
+-- what stays the same over a run of a plan in a horizon, so placed
+abbrev pub constants_on : PlanView → Placement → Horizon → RunConstants
+constants_on plan placement horizon = record {
   tasks = length plan.graph.tasks;
   slots = 2 * sum plan.counts;
   jobs = λ i. job_count (task_at plan.graph i) horizon.until;
-  release = release_at plan;
+  release = λ i n. nat_abs (encoded_release plan.graph placement.windows i (pos n));
   deadline = deadline_at plan;
   actions = actions_of plan;
+  processor = λ i. slice_index placement.processors i;
   end = horizon.end;
 }
+
+-- on one processor
+abbrev pub constants_of : PlanView → Horizon → RunConstants
+constants_of plan horizon = constants_on plan (alone plan) horizon

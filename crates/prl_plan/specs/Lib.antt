@@ -20,6 +20,7 @@ pub mod JobTables
 pub mod Runs
 pub mod Rules
 pub mod Horizons
+pub mod Spread
 -- what laws say of them
 pub mod Facts
 pub mod States

@@ -33,10 +33,10 @@ ActsReleased c s i = c.release i (first_unfinished s i) ≤ s.now
 abbrev pub HasJob : RunConstants → ExecState → ℕ → Type 0
 HasJob c s i = IsUnfinished c s i (first_unfinished s i)
 
--- L3: of the released horizon jobs that have not ended, none is due before the job that acts
+-- L3: of the released horizon jobs on its processor that have not ended, none is due before the job that acts
 abbrev pub ActsFirst : RunConstants → ExecState → ℕ → Type 0
 ActsFirst c s i =
-    (j n : ℕ) → IsUnfinished c s j n → c.release j n ≤ s.now → c.deadline i (first_unfinished s i) ≤ c.deadline j n
+    (j n : ℕ) → c.processor j ≡ c.processor i → IsUnfinished c s j n → c.release j n ≤ s.now → c.deadline i (first_unfinished s i) ≤ c.deadline j n
 
 -- L4: the tick is not after the end, and every horizon job that is due by then has ended
 pub record MayTick (c : RunConstants) (s : ExecState) : Type 0 where
@@ -82,10 +82,10 @@ IsFree c s (event ∷ events) = KeepsFree c s event × IsFree c (after_event c s
 abbrev pub IsComplete : RunConstants → ExecState → Type 0
 IsComplete c s = (j n : ℕ) → j < c.tasks → n < c.jobs j → n < slice_index s.ended j
 
--- some released horizon job that has not ended is due before the job that acts
+-- some released horizon job on its processor that has not ended is due before the job that acts
 abbrev pub IsOvertaken : RunConstants → ExecState → ℕ → Type 0
 IsOvertaken c s i =
-    (j : ℕ) × (n : ℕ) × IsUnfinished c s j n × (c.release j n ≤ s.now) × (c.deadline j n < c.deadline i (first_unfinished s i))
+    (j : ℕ) × (n : ℕ) × (c.processor j ≡ c.processor i) × IsUnfinished c s j n × (c.release j n ≤ s.now) × (c.deadline j n < c.deadline i (first_unfinished s i))
 
 -- some horizon job that has not ended is due by the next tick
 abbrev pub IsDue : RunConstants → ExecState → Type 0

@@ -16,6 +16,8 @@ pub record RunConstants : Type 0 where
   pub release : ℕ → ℕ → ℕ
   pub deadline : ℕ → ℕ → ℕ
   pub actions : ℕ → ℕ → List Action
+  -- by task, the processor that it runs on
+  pub processor : ℕ → ℕ
   -- the greatest encoded deadline
   pub end : ℕ
 

@@ -15,7 +15,7 @@ ghost use Rattle.prl_plan.specs.Operands.{operand_of};
 ghost use Rattle.prl_plan.specs.Precedence.{ComesFrom};
 ghost use Rattle.prl_plan.specs.Plans.{PlanView, IsPlan, edge_at, release_at, deadline_at, place_on, cell_of, low, high};
 ghost use Rattle.prl_base.specs.declared.limits.Limit.{Limit};
-ghost use Rattle.prl_plan.specs.Horizons.{IsHorizon, IsPastLimit, constants_of};
+ghost use Rattle.prl_plan.specs.Horizons.{IsHorizon, IsPastLimit, Placement, constants_of, constants_on};
 ghost use Rattle.prl_plan.specs.Runs.{RunConstants, ExecState, opening, action_at, next_action, after_action, after_event, after_events};
 ghost use Rattle.prl_plan.specs.Rules.{IsLegal, IsGated, IsFree, IsUnfinished, HasJob, ActsReleased, FindsTag, first_unfinished, KeepsLegal, KeepsGated, KeepsFree, IsComplete, FirstBroken, IsFirstUnfinished};
 ghost use Rattle.prl_plan.specs.Facts.{HasPlanFacts, IsJob, ReadsAt, WritesAt};
@@ -140,6 +140,24 @@ pub fn tag_is_of_the_latest_instance()
 /// In each state that a free list reaches from the opening, a half holds what its writer left there.
 pub fn free_list_leaves_tags()
     ensures { (c : RunConstants) → HasPlanFacts c → (events : List Event) → IsFree c (opening c) events → IsLeft c (after_events c (opening c) events) }
+{}
+
+/// A free list from the opening has at most as many events as the horizon counts, on any processors.
+pub fn free_list_is_short()
+    ensures { (plan : PlanView) (placement : Placement) (h : Horizon) → IsHorizon plan h → (list : List Event) →
+        IsFree (constants_on plan placement h) (opening (constants_on plan placement h)) list → length list ≤ h.events }
+{}
+
+/// A gated list is a free one. Where a gated list from the opening has left a horizon job, a round of polls does an event: of the
+/// released unfinished jobs one with the least release may act, or where there is none the clock may go on.
+pub fn gated_list_goes_on()
+    ensures free { (c : RunConstants) (s : ExecState) (list : List Event) → IsGated c s list → IsFree c s list }
+    ensures round { (c : RunConstants) → HasPlanFacts c → (list : List Event) → IsGated c (opening c) list →
+        (IsComplete c (after_events c (opening c) list) → ⊥) →
+        ((i : ℕ) × IsLeastReleased c (after_events c (opening c) list) i
+            × KeepsGated c (after_events c (opening c) list) (events.Act (record { 0 = i })))
+        ⊎ (((i : ℕ) → HasJob c (after_events c (opening c) list) i → ActsReleased c (after_events c (opening c) list) i → ⊥)
+            × KeepsGated c (after_events c (opening c) list) events.Tick) }
 {}
 
 /// Instances of an edge that stand in one cell take turns: no job that reads the one, of any horizon, is due after the

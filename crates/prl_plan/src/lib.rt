@@ -12,6 +12,7 @@ mod horizons;
 mod job_actions;
 mod laws;
 mod limits;
+mod placed;
 mod plans;
 mod repeats;
 mod tables;
@@ -32,15 +33,17 @@ pub use facts::{
 pub use graphs::{Edge, Kind, Producer, Task, TaskGraph};
 pub use horizons::Horizon;
 pub use laws::{
-    act_does_one_action, events_are_decided, free_events_keep_tags, free_list_leaves_tags,
-    gated_events_keep_sound, gated_list_finds_halves_free, gated_list_keeps_halves,
-    horizons_end_one_way, instances_take_turns, legal_list_is_gated, legal_read_finds_its_tag,
-    replaced_instance_is_over, run_of_two_lists, sound_state_goes_on, sound_state_keeps_halves,
-    tag_is_of_the_latest_instance, write_finds_half_free,
+    act_does_one_action, events_are_decided, free_events_keep_tags, free_list_is_short,
+    free_list_leaves_tags, gated_events_keep_sound, gated_list_finds_halves_free,
+    gated_list_goes_on, gated_list_keeps_halves, horizons_end_one_way, instances_take_turns,
+    legal_list_is_gated, legal_read_finds_its_tag, replaced_instance_is_over, run_of_two_lists,
+    sound_state_goes_on, sound_state_keeps_halves, tag_is_of_the_latest_instance,
+    write_finds_half_free,
 };
 pub use limits::{
     MAX_CELLS, MAX_EDGES, MAX_EVENTS, MAX_HYPER, MAX_JOBS, MAX_PERIOD_JOBS, MAX_PREFIX, MAX_TASKS,
 };
+pub use placed::Placed;
 pub use plans::Plan;
 pub use repeats::shortest_repeat;
 pub use tables::{Used, Window};

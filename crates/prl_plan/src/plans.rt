@@ -1,6 +1,6 @@
 //! Plans: a task graph with its words, its encoded dates and its buffer cells, and the look-ups over them.
 
-ghost use Rattle.std.specs.Prelude.{◌≡◌, ◌+◌, ◌*◌, ◌<◌, ◌≤◌, ◌^◌, ◌↔◌, [], pos, length, sum, slice_index, is_some, IsTrue, if◌then◌else◌};
+ghost use Rattle.std.specs.Prelude.{◌≡◌, ◌+◌, ◌*◌, ◌<◌, ◌≤◌, ◌^◌, ◌↔◌, [], pos, length, nat_abs, sum, slice_index, is_some, IsTrue, if◌then◌else◌};
 ghost use Rattle.prl_plan.specs.declared.graphs.Producer.TheVariants as producers;
 ghost use Rattle.prl_plan.specs.declared.limits.TheConstants.{MAX_CELLS, MAX_JOBS};
 ghost use Rattle.prl_plan.specs.declared.walks.Operand.TheVariants as operands;

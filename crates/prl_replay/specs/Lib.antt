@@ -1,6 +1,4 @@
-pub mod Schedules
-pub mod Dispatches
-pub mod ScheduleTexts
-pub mod ReadTexts
--- what private functions say to one another
-pub mod code
+-- what it is to replay a schedule
+pub mod Replays
+-- the flows of main's outputs
+pub mod Outputs

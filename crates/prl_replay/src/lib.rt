@@ -1,16 +1,19 @@
-//! Schedules: texts that list events a line each, the dispatched list of a plan, and the lines of what its jobs read. It
-//! stands on `prl_plan` and `prl_core`.
+//! Replays of schedules on every plan: the events that a text lists are done one by one on the machine, and what their jobs read
+//! and what the actuators got is told; that these are the flows of main's outputs is a law. It stands on `prl_core`,
+//! `prl_graph`, `prl_sensors` and `prl_schedules`, whose calls on schedules it hands on.
 #![tactic(auto)]
 
-mod dispatches;
+mod faults;
+mod flows;
 mod laws;
-mod numbers;
-mod read_texts;
-mod schedule_texts;
-mod schedules;
+mod replays;
+mod texts;
 
-pub use dispatches::dispatch;
-pub use laws::plans_are_dispatched;
-pub use read_texts::reads_text;
-pub use schedule_texts::schedule_text;
-pub use schedules::{ScheduleFault, read_schedule};
+pub use faults::ReplayFault;
+pub use laws::{
+    actuators_get_the_outputs, placed_lists_are_replayed, replays_end_one_way,
+    whole_lists_are_replayed,
+};
+pub use prl_schedules::{ScheduleFault, dispatch, dispatch_on, read_schedule, schedule_text};
+pub use replays::{Trace, replay, run_list};
+pub use texts::trace_text;

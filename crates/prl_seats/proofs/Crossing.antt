@@ -14,7 +14,7 @@ use Rattle.prl_body.specs.contracts.program_bodies.Bodies.{the_row}
 use Rattle.prl_plan.proofs.plans.Plan.TheSendSync as plan
 use Rattle.prl_plan.proofs.horizons.Horizon.TheSendSync as horizon
 use Rattle.prl_flow.proofs.rows.Sensors.TheSendSync as sensors
-use Rattle.prl_routes.proofs.routes.Routes.TheSendSync as routes
+use Rattle.prl_track.proofs.routes.Routes.TheSendSync as routes
 use Rattle.prl_rule.specs.contracts.views.View as View
 use Rattle.prl_rule.specs.contracts.views.About as About
 use Rattle.prl_rule.specs.contracts.views.Running as Running

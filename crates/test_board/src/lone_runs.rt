@@ -1,13 +1,20 @@
 //! Boards that one thread runs with all seats in one hand, worked out by hand.
 
 ghost use Rattle.std.specs.Prelude.{◌≡◌, ◌<◌, ◌≤◌, length};
-ghost use Rattle.prl_board.specs.Lones.{IsLoneOf};
+ghost use Rattle.std.specs.Vec.{vec_items};
+ghost use Rattle.prl_rule.specs.declared.views.ClockPart.{ClockPart};
+ghost use Rattle.prl_rule.specs.Known.{run_of};
+ghost use Rattle.prl_board.specs.ClockSeats.{IsClockOf};
+ghost use Rattle.prl_board.specs.Lones.{AreSeatsOf, IsLoneOf};
+ghost use Rattle.test_board.specs.Pairs.{pair};
 
 use crate::boards::{Did, letter_of};
 use crate::closings::{Summary, opened, shown, task_of};
 use crate::pairs::{pair_plan, pair_rows};
 use prl_base::{CellNo, EdgeNo, TaskNo, Value};
-use prl_board::{Board, Gate, Got, Half, Lone, Place, Release, Steps, Ticked, Wrote, gather};
+use prl_board::{
+    Board, ClockSeat, Gate, Got, Half, Lone, Place, Release, Steps, TaskSeat, Ticked, Wrote, gather,
+};
 use prl_body::Bodies;
 use std::alloc::{AllocError, Global};
 use std::marker::Brand;
@@ -99,6 +106,28 @@ fn play<L: Ledger>(
     })
 }
 
+/// What the moves on this board came to, and what it shows when it is closed after them.
+fn moved<L: Ledger>(
+    blank: Blank,
+    alloc: Global,
+    made: (Board<'_>, Vec<TaskSeat>, ClockSeat),
+    moves: &[u8],
+) -> Option<(Played, Summary)>
+    requires name { blank.name ≡ L.name }
+    requires parts { (blank.parts ≡ L.parts) × (0 < blank.parts) }
+    requires seats { AreSeatsOf made.0 (vec_items made.1) }
+    requires clock { (q : ClockPart) × IsClockOf made.0 made.2 q }
+    requires tasks { 2 ≤ (run_of made.0.known).tasks }
+    requires slots { 2 ≤ (run_of made.0.known).slots }
+    requires graph { made.0.known.plan.graph ≡ pair }
+{
+    let (board, seats, clock) = made;
+    let mut steps = Steps::<L>::new(blank);
+    let mut lone = gather(&board, seats, clock);
+    let done = play(alloc, &mut lone, &board, moves, &mut steps).ok()?;
+    Some((done, shown(&lone.close(board))))
+}
+
 /// What the moves on a new board came to, and what it shows when it is closed after them.
 fn run<L: Ledger>(
     blank: Blank,
@@ -110,16 +139,17 @@ fn run<L: Ledger>(
     requires parts { (blank.parts ≡ L.parts) × (0 < blank.parts) }
 {
     let plan = pair_plan(alloc)?;
-    let bodies = Bodies::none(alloc);
-    let sensors = pair_rows(alloc).ok()?;
-    let (board, seats, clock) = opened(alloc, &plan, &bodies, &sensors, gate)?;
     if plan.total() == 0 {
         return None;
     }
-    let mut steps = Steps::<L>::new(blank);
-    let mut lone = gather(&board, seats, clock);
-    let done = play(alloc, &mut lone, &board, moves, &mut steps).ok()?;
-    Some((done, shown(&lone.close(board))))
+    let bodies = Bodies::none(alloc);
+    let sensors = pair_rows(alloc).ok()?;
+    moved::<L>(
+        blank,
+        alloc,
+        opened(alloc, &plan, &bodies, &sensors, gate)?,
+        moves,
+    )
 }
 
 /// The same, where nobody asks how many steps were made.

@@ -1,23 +1,10 @@
-//! Tests of the command's public calls: command lines through the top calls, and files and streams.
+//! Tests of what no case of `cases` reaches: the call of the command that is given a runtime, and files and sinks of the
+//! host and in memory.
 #![tactic(auto)]
 
 #[cfg(test)]
-mod arguments;
-#[cfg(test)]
-mod autopilot;
-#[cfg(test)]
-mod bodies;
-#[cfg(test)]
-mod commands;
-#[cfg(test)]
-mod flows;
-#[cfg(test)]
-mod fronts;
-#[cfg(test)]
-mod lines;
+mod calls;
 #[cfg(test)]
 mod outside;
 #[cfg(test)]
-mod plans;
-#[cfg(test)]
-mod replays;
+mod runs;

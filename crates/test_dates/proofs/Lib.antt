@@ -1,5 +1,1 @@
-mod Lists
-mod Worked
 mod Jobs
-mod Shifted
-mod TwoLanes

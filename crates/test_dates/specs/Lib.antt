@@ -1,3 +1,1 @@
-pub mod Graphs
 pub mod Early
-pub mod Lanes

@@ -1,16 +1,20 @@
 //! The machine over plans of a sensor and its actuator: what each event tells, and what the actuator got.
 
-ghost use Rattle.std.specs.Prelude.{◌≡◌, true};
-ghost use Rattle.prl_core.specs.Machine.{Drives};
+ghost use Rattle.std.specs.Prelude.{◌≡◌, List, true};
+ghost use Rattle.prl_body.specs.declared.bodies.CheckedBody.{CheckedBody};
+ghost use Rattle.prl_plan.specs.Horizons.{IsHorizon};
+ghost use Rattle.prl_track.specs.Machine.{Drives};
+ghost use Rattle.prl_values.specs.Fitting.{HaveTaskBodies, HaveTypedRows};
 
-use crate::devices::are_served;
-use crate::texts::{COPIED, LATE, horizon_of, plan_of};
+use crate::texts::{COPIED, LATE};
 use prl_base::{CellNo, EdgeNo, Seq, TaskNo, Value};
 use prl_body::Bodies;
+use prl_core::{Core, Event, Illegal, Rule, Seen, Unfinished};
 use prl_flow::Sensors;
-use prl_machine::{Core, Event, Illegal, Rule, Seen, Unfinished};
-use prl_plan::{Kind, Plan, plan_is_one};
+use prl_plan::{Horizon, Kind, Plan, plan_is_one};
+use std::alloc::Global;
 use std::test::Fail;
+use test_plans::{are_served, horizon_of, plan_of};
 
 /// Whether task 1 drives the first actuator.
 fn drives(plan: &Plan) -> bool
@@ -52,6 +56,32 @@ struct Outcome {
     has_machine: bool,
 }
 
+/// Plays a list on a plan that runs no body, with these rows, up to a horizon.
+fn played(
+    alloc: Global,
+    plan: &Plan,
+    horizon: Horizon,
+    sensors: &Sensors,
+    events: &[u8],
+) -> Result<Outcome, Fail>
+    requires horizon { IsHorizon plan.now horizon }
+    requires drives { Drives plan.now 1 0 }
+    requires bodies { (bodies : List CheckedBody) → HaveTaskBodies plan.now.graph bodies }
+    requires rows { HaveTypedRows plan.now.graph horizon.until sensors.now }
+{
+    let bodies = Bodies::none(alloc);
+    let mut core = Core::new(alloc, plan, &bodies, sensors, horizon)?;
+    let seen = play(&mut core, events);
+    let output = core.output(0).to_vec(alloc)?;
+    Ok(Outcome {
+        seen,
+        finished: core.finished(),
+        next: core.next(),
+        output,
+        has_machine: core.machine(TaskNo(1)).is_some(),
+    })
+}
+
 /// Plays a list on the plan of a sensor with these rows and its actuator, up to a date.
 fn outcome_of(
     rt: &HostRuntime,
@@ -61,23 +91,13 @@ fn outcome_of(
     events: &[u8],
 ) -> Result<Outcome, Fail> {
     let alloc = rt.alloc();
+    let rows = vec![in alloc; Seq::new(Vec::from_slice(alloc, rows)?)]?;
     let plan = plan_of(alloc, plan)?;
     let horizon = horizon_of(&plan, until)?;
-    let rows = vec![in alloc; Seq::new(Vec::from_slice(alloc, rows)?)]?;
     if !drives(&plan) || !are_served(&plan, horizon, &rows) {
         return Err("another plan, or too few rows".into());
     }
-    let sensors = Sensors::new(rows);
-    let bodies = Bodies::none(alloc);
-    let mut core = Core::new(alloc, &plan, &bodies, &sensors, horizon)?;
-    let seen = play(&mut core, events);
-    Ok(Outcome {
-        seen,
-        finished: core.finished(),
-        next: core.next(),
-        output: core.output(0).to_vec(alloc)?,
-        has_machine: core.machine(TaskNo(1)).is_some(),
-    })
+    played(alloc, &plan, horizon, &Sensors::new(rows), events)
 }
 
 const ONE_AND_TWO: [Value; 2] = [Value::Int(1), Value::Int(2)];

@@ -1,12 +1,4 @@
-//! Texts of plans that are worked out by hand, and the plans and horizons of texts.
-
-ghost use Rattle.std.specs.Prelude.{◌≡◌, IfOk};
-ghost use Rattle.prl_plan.specs.Horizons.{IsHorizon};
-
-use prl_plan::{Horizon, Plan};
-use prl_plantext::read_plan;
-use std::alloc::Global;
-use std::test::Fail;
+//! Texts of plans that are worked out by hand.
 
 /// An actuator that takes each value of a sensor.
 pub const COPIED: &[u8] = b"plan 1
@@ -31,21 +23,3 @@ edge 0 from 0.0 to 1.0 type int period 10 ops fby 9
 word 0 prefix 1 9 repeat 0 step 1 1
 cells 0 base 0 count 2
 ";
-
-/// The plan of a text.
-pub fn plan_of(alloc: Global, text: &[u8]) -> Result<Plan, Fail> {
-    match read_plan(alloc, text) {
-        Ok(plan) => Ok(plan),
-        Err(_) => Err("no plan".into()),
-    }
-}
-
-/// The horizon of the plan up to a date.
-pub fn horizon_of(plan: &Plan, until: u32) -> Result<Horizon, Fail>
-    ensures { IfOk result (IsHorizon plan.now) }
-{
-    match Horizon::new(plan, until) {
-        Ok(horizon) => Ok(horizon),
-        Err(_) => Err("past a limit".into()),
-    }
-}

@@ -7,15 +7,17 @@ use Rattle.clap.specs.Faults.{fault_of}
 use Rattle.clap.specs.declared.builder.action.ArgAction.TheVariants.{Set}
 use Rattle.clap.specs.declared.builder.value_parser.ValueParser.{ValueParser}
 use Rattle.clap.specs.declared.builder.value_parser.ValueParser.TheVariants as parsers
-use Rattle.prl_arguments.specs.declared.arguments.TheConstants.{MAX_UNTIL}
+use Rattle.prl_arguments.specs.declared.arguments.TheConstants.{MAX_SIZE, MAX_UNTIL, MAX_WORKERS}
 use Rattle.prl_arguments.specs.declared.arguments.Mode.{Mode}
 use Rattle.prl_arguments.specs.declared.arguments.Setting.{Setting}
 use Rattle.prl_arguments.specs.declared.arguments.Setting.TheVariants as settings
 use Rattle.prl_arguments.specs.Arguments.{all_settings, may, name_of, needs}
 
--- the values of an option: a number up to the greatest date, or any text
+-- the values of an option: a number in its range, or any text
 abbrev pub parser_of : Setting → ValueParser
 parser_of settings.Until = parsers.Unsigned 0 MAX_UNTIL
+parser_of settings.Workers = parsers.Unsigned 1 MAX_WORKERS
+parser_of settings.Size = parsers.Unsigned 1 MAX_SIZE
 parser_of other = parsers.String
 
 -- an option of a mode
@@ -35,6 +37,11 @@ with_setting mode app setting =
 -- a command with no options, and no help; an option may be repeated
 abbrev pub no_options : App
 no_options = on_top (λ s. record s { disable_help_flag = true; args_override_self = true }) (new_app (codes "prelude"))
+
+-- the command of a mode with its options that name files and the main node
+abbrev pub app_of_names : Mode → App
+app_of_names mode =
+    fold (with_setting mode) no_options (settings.Program ∷ settings.Bodies ∷ settings.Sensors ∷ settings.Schedule ∷ settings.Node ∷ [])
 
 -- the command of a mode
 abbrev pub app_of_mode : Mode → App

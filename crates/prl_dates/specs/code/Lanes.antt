@@ -49,6 +49,10 @@ pub record IsLane (graph : TaskGraph) (lane : Lane) : Type 0 where
   pub links : (k : ℕ) → k < jobs_of graph lane.to.0 → (m : ℤ) × IsLink graph lane k (pos k) m
   pub small : (k : ℕ) → (link_at lane k).gap < 2 ^ 63 + 2 ^ 62
 
+-- each item is a lane
+abbrev pub AreEachLane : TaskGraph → List Lane → Type 0
+AreEachLane graph lanes = (l : ℕ) (lane : Lane) → slice_get lanes l ≡ Some lane → IsLane graph lane
+
 -- some lane is from task i to task j
 abbrev pub IsJoined : List Lane → ℕ → ℕ → Type 0
 IsJoined lanes i j = (l : ℕ) × (lane : Lane) × (slice_get lanes l ≡ Some lane) × (lane.from.0 ≡ i) × (lane.to.0 ≡ j)

@@ -56,7 +56,7 @@ first_of graph firsts.Wcet i = (task_at graph i).wcet
 first_of graph firsts.Due i = (task_at graph i).due
 
 -- the table of the first dates of the first `count` tasks
-pub record IsSpread (graph : TaskGraph) (first : First) (count : ℕ) (table : List ℕ) : Type 0 where
+pub record IsFirstTable (graph : TaskGraph) (first : First) (count : ℕ) (table : List ℕ) : Type 0 where
   pub long : length table ≡ jobs_before graph count
   pub each : (i p : ℕ) → i < count → p < jobs_of graph i → slice_index table (jobs_before graph i + p) ≡ first_of graph first i
 

@@ -1,8 +1,8 @@
 -- What a board keeps beside what is seen of it.
 use Rattle.std.specs.Prelude.{◌≡◌, ℕ, List}
 use Rattle.prl_plan.specs.Horizons.{IsHorizon}
-use Rattle.prl_routes.specs.declared.routes.Access.{Access}
-use Rattle.prl_routes.specs.Routes.{AreRoutes}
+use Rattle.prl_track.specs.declared.routes.Access.{Access}
+use Rattle.prl_track.specs.Routes.{AreRoutes}
 use Rattle.prl_values.specs.Fitting.{HaveTaskBodies, HaveTypedRows}
 use Rattle.prl_rule.specs.declared.views.Constants.{Constants}
 use Rattle.prl_rule.specs.Agreement.{word_count}

@@ -23,8 +23,8 @@ returns-then-branch-clause-exact c =
     let none = taken (faults_of c.in-Some.wanted.mode (drop 1 words)) (sym c.in_ok-are_options_of.ensures ∙ c.if-branch.true) in
     sym ((decided words (wanted_form c.in-Some.wanted) (sym c.in-Some.ensures)).mine none).0
 
-pub returns-then-branch-clause-until : goal.returns-then-branch-clause-until
-returns-then-branch-clause-until c =
+pub returns-then-branch-clause-range : goal.returns-then-branch-clause-range
+returns-then-branch-clause-range c =
     let words = map string_bytes c.args.words.now in
     let none = taken (faults_of c.in-Some.wanted.mode (drop 1 words)) (sym c.in_ok-are_options_of.ensures ∙ c.if-branch.true) in
     ((decided words (wanted_form c.in-Some.wanted) (sym c.in-Some.ensures)).mine none).1

@@ -15,6 +15,10 @@ simple modes.Plan = refl
 simple modes.Print = refl
 simple modes.Replay = refl
 simple modes.Schedule = refl
+simple modes.Edf = refl
+simple modes.Cores = refl
+simple modes.Run = refl
+simple modes.Generate = refl
 
 mapped : {A : Type 0} (f : A → List ℕ) (words : List A) → map f (drop 1 words) ≡ drop 1 (map f words)
 mapped f [] = refl

@@ -3,7 +3,7 @@ use Rattle.std.specs.Prelude.{codes}
 use Rattle.prl_base.specs.declared.numbers.TaskNo.{TaskNo}
 use Rattle.prl_broken.specs.declared.causes.Cause.TheVariants as causes
 use Rattle.prl_broken.specs.declared.causes.DatedJob.{DatedJob}
-use Rattle.prl_replay.specs.ScheduleTexts.{task_names}
+use Rattle.prl_schedules.specs.ScheduleTexts.{task_names}
 use Rattle.prl_broken.specs.CauseTexts.{cause_text, job_text, name_text, number_text}
 use Rattle.prl_broken.proofs.texts.push_cause.Goals as goal
 

@@ -2,7 +2,7 @@ use Rattle.std.proofs.Common.{rules, ◌≡◌, Bool, true, List, length, replic
 use Rattle.prl_dates.specs.declared.bests.First.TheVariants as firsts
 use Rattle.prl_dates.specs.code.Tables.{AreSettled}
 use Rattle.prl_dates.proofs.Settles.{first_settled}
-use Rattle.prl_dates.proofs.Spreads.{spread_one}
+use Rattle.prl_dates.proofs.FirstTables.{first_one}
 use Rattle.prl_dates.proofs.bests.bests.Goals as goal
 
 pub settle-requires-clause-settled : goal.settle-requires-clause-settled
@@ -11,10 +11,10 @@ settle-requires-clause-settled c =
     let marks : c.as_mut_slice-3.result.now ≡ replicate (length graph.tasks) true =
     c.as_mut_slice-3.ensures.value ∙ (search rules) in
     subst (λ (xs : List Bool). AreSettled graph c.args.lanes.now xs c.as_mut_slice.result.now) (sym marks)
-    (first_settled graph c.requires.well c.args.lanes.now c.requires.lanes c.as_mut_slice.result.now)
+    (first_settled graph c.requires.well c.args.lanes.now c.requires.lanes.each c.as_mut_slice.result.now)
 
 pub settle-requires-clause-copy : goal.settle-requires-clause-copy
 settle-requires-clause-copy c =
     c.as_mut_slice-2.ensures.value
-    ∙ spread_one c.args.graph.now firsts.Wcet c.in_ok-next.next.items c.in_ok-now.now.items c.in_ok-next.ensures c.in_ok-now.ensures
+    ∙ first_one c.args.graph.now firsts.Wcet c.in_ok-next.next.items c.in_ok-now.now.items c.in_ok-next.ensures c.in_ok-now.ensures
     ∙ sym c.as_mut_slice.ensures.value

@@ -11,7 +11,7 @@ use Rattle.prl_dates.specs.code.Tables.{AreWithin}
 use Rattle.prl_dates.proofs.LaneSteps.{few_jobs}
 use Rattle.prl_dates.proofs.Settles.{first_bests, late_fault, within_dues, loop_fault, round_still}
 use Rattle.prl_dates.proofs.Indices.{before_all}
-use Rattle.prl_dates.proofs.Spreads.{spread_within}
+use Rattle.prl_dates.proofs.FirstTables.{first_within}
 use Rattle.prl_dates.proofs.bests.settle.Goals as goal
 
 pub rounds-still-requires-clause-long : goal.rounds-still-requires-clause-long
@@ -27,7 +27,7 @@ rounds-still-requires-clause-few c =
 
 pub rounds-still-requires-clause-within : goal.rounds-still-requires-clause-within
 rounds-still-requires-clause-within c =
-    spread_within c.args.graph.now firsts.Wcet c.args.now.now (2 ^ 31) c.requires.wcets
+    first_within c.args.graph.now firsts.Wcet c.args.now.now (2 ^ 31) c.requires.wcets
     (λ i inside. (let w = (task_is c.args.graph.now c.requires.well i inside).wcet.1 in omega (arith, w)))
 
 pub rounds-still-requires-clause-bests : goal.rounds-still-requires-clause-bests

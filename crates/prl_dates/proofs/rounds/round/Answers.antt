@@ -9,24 +9,24 @@ use Rattle.prl_dates.proofs.rounds.round.Goals.{then-rose-from, else-rose-from}
 
 pub wcet_of-wcet-requires : goal.wcet_of-wcet-requires
 wcet_of-wcet-requires c =
-    (c.requires.lanes.each c.loop-l.l c.index-lanes-l.result (item_stands c.args.lanes.now c.loop-l.l c.index-lanes-l.result c.loop-l-test.true c.index-lanes-l.is)).to
+    (c.requires.lanes c.loop-l.l c.index-lanes-l.result (item_stands c.args.lanes.now c.loop-l.l c.index-lanes-l.result c.loop-l-test.true c.index-lanes-l.is)).to
 
 pub bounds-rose-from : goal.bounds-rose-from
 bounds-rose-from c =
-    let is = c.requires.lanes.each c.loop-l.l c.index-lanes-l.result (item_stands c.args.lanes.now c.loop-l.l c.index-lanes-l.result c.loop-l-test.true c.index-lanes-l.is) in
+    let is = c.requires.lanes c.loop-l.l c.index-lanes-l.result (item_stands c.args.lanes.now c.loop-l.l c.index-lanes-l.result c.loop-l-test.true c.index-lanes-l.is) in
     let m = c.requires.marks in
     omega (arith, is.from, m)
 
 pub raise-requires-clause-from : goal.raise-requires-clause-from
 raise-requires-clause-from c k inside =
-    let is = c.requires.lanes.each c.loop-l.l c.index-lanes-l.result (item_stands c.args.lanes.now c.loop-l.l c.index-lanes-l.result c.loop-l-test.true c.index-lanes-l.is) in
+    let is = c.requires.lanes c.loop-l.l c.index-lanes-l.result (item_stands c.args.lanes.now c.loop-l.l c.index-lanes-l.result c.loop-l-test.true c.index-lanes-l.is) in
     let f = links_from c.args.graph.now c.requires.well c.index-lanes-l.result is k inside in
     let m = c.requires.long in
     omega (arith, f, m)
 
 pub raise-requires-clause-to : goal.raise-requires-clause-to
 raise-requires-clause-to c =
-    let is = c.requires.lanes.each c.loop-l.l c.index-lanes-l.result (item_stands c.args.lanes.now c.loop-l.l c.index-lanes-l.result c.loop-l-test.true c.index-lanes-l.is) in
+    let is = c.requires.lanes c.loop-l.l c.index-lanes-l.result (item_stands c.args.lanes.now c.loop-l.l c.index-lanes-l.result c.loop-l-test.true c.index-lanes-l.is) in
     let t = links_to c.args.graph.now c.requires.well c.index-lanes-l.result is in
     let m = c.requires.long in
     let n = c.loop-l.invariant.long in

@@ -33,9 +33,9 @@ loop-count-preserved c =
     (round_of_tables graph c.requires.well lanes c.requires.lanes now next c.round.ensures c.loop-count.invariant.bests.rises) in
     let within : AreWithin next ((t + 1 + 1) * 2 ^ 31) =
     subst (λ (b : ℕ). AreWithin next b) (let e : (t + 1) * 2 ^ 31 + 2 ^ 31 ≡ (t + 1 + 1) * 2 ^ 31 = omega arith in e)
-    (next_within graph c.requires.well lanes c.requires.lanes now next c.round.ensures ((t + 1) * 2 ^ 31) c.loop-count.invariant.within) in
+    (next_within graph c.requires.well lanes c.requires.lanes.each now next c.round.ensures ((t + 1) * 2 ^ 31) c.loop-count.invariant.within) in
     let settled : AreSettled graph lanes c.mark.new.rose next =
-    next_settled graph c.requires.well lanes c.requires.lanes now next c.round.ensures c.mark.new.rose c.mark.ensures.marked in
+    next_settled graph c.requires.well lanes c.requires.lanes.each now next c.round.ensures c.mark.new.rose c.mark.ensures.marked in
     record {
       bests = subst (λ (xs : List ℕ). AreBests graph (t + 1) (dates_of graph xs)) (sym copied) bests;
       within = subst (λ (xs : List ℕ). AreWithin xs ((t + 1 + 1) * 2 ^ 31)) (sym copied) within;

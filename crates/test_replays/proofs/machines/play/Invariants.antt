@@ -1,4 +1,4 @@
-use Rattle.prl_core.specs.Machine.{Drives}
+use Rattle.prl_track.specs.Machine.{Drives}
 use Rattle.test_replays.proofs.machines.play.Given as goal
 
 abbrev pub invariant-loop-k : goal.invariant-loop-k

@@ -1,0 +1,24 @@
+use Rattle.std.proofs.Common.{ℕ, List, map, refl, subst}
+use Rattle.std.specs.String.{string_bytes}
+use Rattle.prl_app.specs.Endings.{Outside}
+use Rattle.prl_app.specs.code.Performed.{IsWrittenBy}
+use Rattle.prl_app.proofs.Exact.{stop_ends, written_ends}
+use Rattle.prl_app.proofs.top.perform.Goals as goal
+
+pub returns-in-Ok-clause-ends : goal.returns-in-Ok-clause-ends
+returns-in-Ok-clause-ends g c = λ err_old err_new.
+    let words = map string_bytes c.args.words.now in
+    let old : Outside = record { files = g.F.Files.seen c.args.files.now; out = g.S.Sink.seen c.args.out.now; err = err_old } in
+    let new : Outside = record { files = g.F.Files.seen c.answer.new.files; out = g.S.Sink.seen c.written.new.out; err = err_new } in
+    let a = c.in-Ok.ensures in
+    written_ends words old new c.in-Ok.text.items c.in-Ok.ran c.written.result
+    (record { command = c.args.command.now; asked = c.requires.asked; given = a.text.0; is_given = a.text.1; comes = a.text.2; meant = a.text.3 })
+    (subst (λ (t : List ℕ). IsWrittenBy old.out new.out t c.in-Ok.ran c.written.result) c.deref.ensures.value c.written.ensures) a.failed
+
+pub returns-in-Err-clause-ends : goal.returns-in-Err-clause-ends
+returns-in-Err-clause-ends g c = λ err_old err_new.
+    let words = map string_bytes c.args.words.now in
+    let out = g.S.Sink.seen c.args.out.now in
+    let old : Outside = record { files = g.F.Files.seen c.args.files.now; out = out; err = err_old } in
+    let new : Outside = record { files = g.F.Files.seen c.answer.new.files; out = out; err = err_new } in
+    stop_ends words old new c.args.command.now c.requires.asked c.in-Err.stop c.in-Err.ensures.stop refl

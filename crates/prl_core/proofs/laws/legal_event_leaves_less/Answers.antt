@@ -1,5 +1,0 @@
-use Rattle.prl_core.proofs.Falls.{legal_event_leaves_less}
-use Rattle.prl_core.proofs.laws.legal_event_leaves_less.Goals as goal
-
-pub returns : goal.returns
-returns _ = legal_event_leaves_less

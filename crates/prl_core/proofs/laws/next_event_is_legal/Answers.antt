@@ -1,5 +1,0 @@
-use Rattle.prl_core.proofs.NextLaws.{next_keeps_legal}
-use Rattle.prl_core.proofs.laws.next_event_is_legal.Goals as goal
-
-pub returns : goal.returns
-returns _ = next_keeps_legal

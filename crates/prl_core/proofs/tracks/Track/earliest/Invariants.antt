@@ -1,7 +1,0 @@
-use Rattle.prl_core.specs.Tracks.{run_of}
-use Rattle.prl_core.specs.code.Nexts.{IsChoice}
-use Rattle.prl_core.proofs.tracks.Track.earliest.Given as goal
-
--- the choice among the tasks so far
-abbrev pub invariant-loop-j : goal.invariant-loop-j
-invariant-loop-j l = IsChoice (run_of l.self) l.self.state l.j l.best

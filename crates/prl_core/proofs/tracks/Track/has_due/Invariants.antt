@@ -1,8 +1,0 @@
-use Rattle.std.proofs.Common.{◌<◌, ℕ}
-use Rattle.prl_core.specs.Tracks.{run_of}
-use Rattle.prl_core.specs.code.Tests.{IsInTime}
-use Rattle.prl_core.proofs.tracks.Track.has_due.Given as goal
-
--- the tasks so far are in time
-abbrev pub invariant-loop-j : goal.invariant-loop-j
-invariant-loop-j l = (j : ℕ) → j < l.j → IsInTime (run_of l.self) l.self.state j

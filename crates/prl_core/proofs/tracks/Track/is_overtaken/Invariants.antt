@@ -1,8 +1,0 @@
-use Rattle.std.proofs.Common.{◌<◌, ℕ}
-use Rattle.prl_core.specs.Tracks.{run_of}
-use Rattle.prl_core.specs.code.Tests.{IsNotEarlier}
-use Rattle.prl_core.proofs.tracks.Track.is_overtaken.Given as goal
-
--- the tasks so far stay after
-abbrev pub invariant-loop-j : goal.invariant-loop-j
-invariant-loop-j l = (j : ℕ) → j < l.j → IsNotEarlier (run_of l.self) l.self.state j l.deadline

@@ -1,0 +1,5 @@
+mod SpreadDates
+mod SpreadFacts
+mod Earlier
+pub mod Placing
+mod OneSpread

@@ -1,0 +1,47 @@
+//! Laws of plans on several processors, as functions that do nothing: the contract of each is the law, over the definitions alone.
+
+ghost use Rattle.std.specs.Prelude.{◌≡◌, List};
+ghost use Rattle.prl_plan.specs.declared.events.Event.{Event as AnyEvent};
+ghost use Rattle.prl_plan.specs.declared.horizons.Horizon.{Horizon as AnyHorizon};
+ghost use Rattle.prl_plan.specs.Facts.{HasPlanFacts};
+ghost use Rattle.prl_plan.specs.Horizons.{IsHorizon, Placement, constants_of, constants_on};
+ghost use Rattle.prl_plan.specs.Plans.{PlanView, IsPlan};
+ghost use Rattle.prl_plan.specs.Rules.{IsGated, IsLegal};
+ghost use Rattle.prl_plan.specs.Runs.{opening};
+ghost use Rattle.prl_plan.specs.Spread.{IsSpread};
+ghost use Rattle.prl_cores.specs.Spreads.{LeavesRoom};
+
+use prl_plan::{legal_list_is_gated, plans_keep_facts};
+
+/// In a spread of a plan each job has room for its WCET, windows along an edge from another processor do not overlap, and the
+/// cells of the plan still fit.
+pub fn spread_leaves_room()
+    ensures { (plan : PlanView) (placement : Placement) → IsPlan plan → IsSpread plan placement → LeavesRoom plan placement }
+{}
+
+/// The jobs of a spread of a plan keep what those of the plan do.
+pub fn spread_plans_keep_facts()
+    ensures { (plan : PlanView) (horizon : AnyHorizon) (placement : Placement) → IsPlan plan → IsHorizon plan horizon → IsSpread plan placement →
+        HasPlanFacts (constants_on plan placement horizon) }
+{
+    plans_keep_facts();
+}
+
+/// A list of events that is legal where the tasks are spread is a gated list of the plan: so each of its reads finds its instance,
+/// and no write replaces an instance that a horizon job has still to read. On a processor priority brings the producer first; across
+/// processors deadlines do.
+pub fn spread_list_is_gated()
+    ensures { (plan : PlanView) (horizon : AnyHorizon) (placement : Placement) → IsPlan plan → IsHorizon plan horizon → IsSpread plan placement →
+        (events : List AnyEvent) → IsLegal (constants_on plan placement horizon) (opening (constants_on plan placement horizon)) events →
+        IsGated (constants_of plan horizon) (opening (constants_of plan horizon)) events }
+{
+    plans_keep_facts();
+    spread_plans_keep_facts();
+    legal_list_is_gated();
+}
+
+/// The tasks' processors determine a spread: two spreads with the same ones have the same constants of a run.
+pub fn spreads_are_one()
+    ensures { (plan : PlanView) (horizon : AnyHorizon) (a b : Placement) → IsSpread plan a → IsSpread plan b → a.processors ≡ b.processors →
+        constants_on plan a horizon ≡ constants_on plan b horizon }
+{}

@@ -1,0 +1,54 @@
+use Rattle.std.proofs.Common.{◌≡◌, ◌+◌, ◌∙◌, ℕ, List, length, Some, sym, subst, arith}
+use Rattle.std.specs.Prelude.{◌==◌, slice_get, slice_index}
+use Rattle.std.proofs.lemmas.Bool.{eq-eqb, eqb-true, both_ways}
+use Rattle.prl_plan.specs.Jobs.{task_at}
+use Rattle.prl_dates.specs.code.Tables.{AreRaised}
+use Rattle.prl_dates.specs.code.Spreads.{AreRaisedAcross}
+use Rattle.prl_dates.proofs.Readings.{item_stands}
+use Rattle.prl_dates.proofs.RoundSteps.{links_from, links_to}
+use Rattle.prl_dates.proofs.SpreadRounds.{across_more, across_same}
+use Rattle.prl_dates.proofs.spreads.raise_across.Goals as goal
+use Rattle.prl_dates.proofs.spreads.raise_across.Goals.{then-not-is_within, else-not-is_within}
+
+pub wcet_of-wcet-requires : goal.wcet_of-wcet-requires
+wcet_of-wcet-requires c =
+    (c.requires.lanes c.loop-l.l c.index-lanes-l.result (item_stands c.args.lanes.now c.loop-l.l c.index-lanes-l.result c.loop-l-test.true c.index-lanes-l.is)).to
+
+pub raise-requires-clause-from : goal.raise-requires-clause-from
+raise-requires-clause-from c k inside =
+    let is = c.requires.lanes c.loop-l.l c.index-lanes-l.result (item_stands c.args.lanes.now c.loop-l.l c.index-lanes-l.result c.loop-l-test.true c.index-lanes-l.is) in
+    let f = links_from c.args.graph.now c.requires.well c.index-lanes-l.result is k inside in
+    let m = c.requires.deadlines in
+    omega (arith, f, m)
+
+pub raise-requires-clause-to : goal.raise-requires-clause-to
+raise-requires-clause-to c =
+    let is = c.requires.lanes c.loop-l.l c.index-lanes-l.result (item_stands c.args.lanes.now c.loop-l.l c.index-lanes-l.result c.loop-l-test.true c.index-lanes-l.is) in
+    let t = links_to c.args.graph.now c.requires.well c.index-lanes-l.result is in
+    let m = c.requires.ends in
+    let n = c.loop-l.invariant.long in
+    omega (arith, t, m, n)
+
+pub loop-l-preserved : goal.loop-l-preserved
+loop-l-preserved c =
+    let graph = c.args.graph.now in
+    let lanes = c.args.lanes.now in
+    let processors = c.args.processors.now in
+    let now = c.args.deadlines.now in
+    let old = c.args.ends.now in
+    let l = c.loop-l.l in
+    let lane = c.index-lanes-l.result in
+    let stands : slice_get lanes l ≡ Some lane = item_stands lanes l lane c.loop-l-test.true c.index-lanes-l.is in
+    elim c.if-not-is_within.branch [
+      | then-not-is_within w ↦
+          (let raised : AreRaised lane (task_at graph lane.to.0).wcet (length lane.links) now c.loop-l.ends w.raise.new.next =
+          subst (λ (x : ℕ). AreRaised lane x (length lane.links) now c.loop-l.ends w.raise.new.next) c.wcet_of-wcet.ensures w.raise.ensures in
+          subst (λ (xs : List ℕ). AreRaisedAcross graph lanes processors (l + 1) now old xs) (sym w.ends-is)
+          (across_more graph lanes processors l lane stands now old c.loop-l.ends c.loop-l.invariant
+          (λ together. both_ways (slice_index processors lane.from.0 == slice_index processors lane.to.0) (sym c.is_within.ensures ∙ w.if-not-is_within.true)
+          (eq-eqb (slice_index processors lane.from.0) (slice_index processors lane.to.0) together)) w.raise.new.next raised))
+      | else-not-is_within w ↦
+          subst (λ (xs : List ℕ). AreRaisedAcross graph lanes processors (l + 1) now old xs) (sym w.ends-is)
+          (across_same graph lanes processors l lane stands now old c.loop-l.ends c.loop-l.invariant
+          (eqb-true (slice_index processors lane.from.0) (slice_index processors lane.to.0) (sym c.is_within.ensures ∙ w.if-not-is_within.false)))
+    ]

@@ -1,0 +1,37 @@
+use Rattle.std.proofs.Common.{rules, ◌≡◌, ◌-◌, ◌*◌, ◌<◌, ◌^◌, ℕ, List, length, sym, ◌∙◌, ap, subst, arith}
+use Rattle.std.specs.Prelude.{sum}
+use Rattle.prl_dates.specs.code.Tables.{AreSettled}
+use Rattle.prl_dates.specs.code.Spreads.{IsRising}
+use Rattle.prl_dates.proofs.RoundSteps.{next_settled}
+use Rattle.prl_dates.proofs.SpreadRounds.{ceiling_within, rising_more, rising_less}
+use Rattle.prl_dates.proofs.spreads.raise_to_end.Goals as goal
+
+pub round-requires-clause-small : goal.round-requires-clause-small
+round-requires-clause-small c q =
+    let w = ceiling_within c.args.graph.now c.requires.well c.args.lanes.now c.requires.lanes c.loop-now.now c.loop-now.invariant.long c.loop-now.invariant.rising.ceiling q in
+    omega (arith, w)
+
+pub loop-now-smaller : goal.loop-now-smaller
+loop-now-smaller c =
+    let less = rising_less c.args.graph.now c.requires.well c.args.lanes.now c.requires.lanes c.loop-now.now c.round.new.next c.loop-now.invariant.long c.loop-now.invariant.rising.ceiling
+    c.round.ensures (search rules) in
+    subst (λ (xs : List ℕ). length xs * 2 ^ 31 - sum xs < length c.loop-now.now * 2 ^ 31 - sum c.loop-now.now) (sym c.copy_from_slice.ensures.after) less
+
+pub loop-now-preserved : goal.loop-now-preserved
+loop-now-preserved c =
+    let graph = c.args.graph.now in
+    let lanes = c.args.lanes.now in
+    let now = c.loop-now.now in
+    let next = c.round.new.next in
+    let copied : c.copy_from_slice.new.self ≡ next = c.copy_from_slice.ensures.after in
+    let settled : AreSettled graph lanes c.mark.new.rose next =
+    next_settled graph c.requires.well lanes c.requires.lanes now next c.round.ensures c.mark.new.rose c.mark.ensures.marked in
+    record {
+      marks = c.mark.ensures.marks ∙ c.loop-now.invariant.marks;
+      long = ap (λ (xs : List ℕ). length xs) copied ∙ c.round.ensures.long ∙ c.loop-now.invariant.long;
+      rising =
+          subst (λ (xs : List ℕ). IsRising graph lanes c.args.now.now xs) (sym copied)
+          (rising_more graph c.requires.well lanes c.requires.lanes c.args.now.now now next c.loop-now.invariant.rising c.round.ensures);
+      settled = subst (λ (xs : List ℕ). AreSettled graph lanes c.mark.new.rose xs) (sym copied) settled;
+      copy = sym copied;
+    }

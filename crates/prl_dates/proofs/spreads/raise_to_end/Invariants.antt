@@ -1,0 +1,18 @@
+use Rattle.std.proofs.Common.{◌≡◌, ◌-◌, ◌*◌, ◌^◌, length}
+use Rattle.std.specs.Prelude.{sum}
+use Rattle.prl_plan.specs.Graphs.{jobs_in_hyperperiod}
+use Rattle.prl_dates.specs.code.Spreads.{IsRising}
+use Rattle.prl_dates.specs.code.Tables.{AreSettled}
+use Rattle.prl_dates.proofs.spreads.raise_to_end.Given as goal
+
+abbrev pub invariant-loop-now : goal.invariant-loop-now
+invariant-loop-now l = record {
+  marks : length l.rose ≡ length l.graph.tasks;
+  long : length l.now ≡ jobs_in_hyperperiod l.graph;
+  rising : IsRising l.graph l.lanes l.fn.now l.now;
+  settled : AreSettled l.graph l.lanes l.rose l.now;
+  copy : l.next ≡ l.now;
+}
+
+abbrev pub decreases-loop-now : goal.decreases-loop-now
+decreases-loop-now l = length l.now * 2 ^ 31 - sum l.now

@@ -1,0 +1,2 @@
+-- what private functions say to one another
+pub mod code

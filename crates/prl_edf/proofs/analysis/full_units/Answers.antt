@@ -1,0 +1,21 @@
+use Rattle.std.proofs.Common.{◌≡◌, length, map, vec_items, refl, ap, arith}
+use Rattle.std.proofs.lemmas.List.{length-map}
+use Rattle.prl_plan.specs.declared.graphs.TaskGraph.{TaskGraph}
+use Rattle.prl_plan.specs.Horizons.{constants_of}
+use Rattle.prl_plan.specs.Jobs.{task_at}
+use Rattle.prl_edf.specs.UnitLists.{wcets_of}
+use Rattle.prl_edf.proofs.FullUnits.{wcet_bounds, full_lists}
+use Rattle.prl_edf.proofs.analysis.full_units.Goals as goal
+
+pub returns : goal.returns
+returns c =
+    let long = c.loop-i.invariant.long in
+    let ended = c.loop-i-test.false in
+    let bound = c.loop-i.auto.i-end in
+    let tasks = c.len-i-end.ensures in
+    let same : length c.graph.result.now.tasks ≡ length c.args.plan.now.graph.tasks = ap (λ (x : TaskGraph). length x.tasks) c.graph.ensures.graph in
+    full_lists (constants_of c.args.plan.now c.args.horizon) (wcets_of c.args.plan.now) (map vec_items c.loop-i.lists.items) (λ i. (task_at c.args.plan.now.graph i).wcet)
+    (simp length-map (omega (arith, long, ended, bound, tasks, same)))
+    (λ i n. refl)
+    (λ i task. (wcet_bounds c.args.plan.now c.plan_is_one.ensures i task).0)
+    (λ i task. c.loop-i.invariant.each i (omega (arith, task, long, ended, bound, tasks, same)))

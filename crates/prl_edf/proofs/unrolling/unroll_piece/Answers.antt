@@ -1,0 +1,38 @@
+use Rattle.std.proofs.Common.{sym, ◌∙◌, arith}
+use Rattle.prl_plan.specs.Horizons.{constants_of}
+use Rattle.prl_edf.specs.UnitLists.{wcets_of}
+use Rattle.prl_edf.proofs.Skips.{room, passes, tells}
+use Rattle.prl_edf.proofs.unrolling.unroll_piece.Goals as goal
+
+pub overflow_sub-piece : goal.overflow_sub-piece
+overflow_sub-piece c =
+    let s = c.requires.so_far in
+    let h = room (constants_of c.args.plan.now c.args.horizon) c.plan_facts.ensures (wcets_of c.args.plan.now) c.args.pieces.now
+    c.requires.longest c.requires.run s.0 c.args.piece s.1 s.2 c.args.now c.args.list.now.items s.4 in
+    omega (arith, h)
+
+pub overflow_sub-piece-then-last : goal.overflow_sub-piece-then-last
+overflow_sub-piece-then-last c =
+    let s = c.requires.so_far in
+    let h = room (constants_of c.args.plan.now c.args.horizon) c.plan_facts.ensures (wcets_of c.args.plan.now) c.args.pieces.now
+    c.requires.longest c.requires.run s.0 c.args.piece s.1 s.2 c.args.now c.args.list.now.items s.4 in
+    omega (arith, h)
+
+pub overflow_sub-result : goal.overflow_sub-result
+overflow_sub-result c =
+    let s = c.requires.so_far in
+    let h = room (constants_of c.args.plan.now c.args.horizon) c.plan_facts.ensures (wcets_of c.args.plan.now) c.args.pieces.now
+    c.requires.longest c.requires.run s.0 c.args.piece s.1 s.2 c.args.now c.args.list.now.items s.4 in
+    omega (arith, h)
+
+pub returns-then-last : goal.returns-then-last
+returns-then-last c = λ k rest at is so_far.
+    tells (constants_of c.args.plan.now c.args.horizon) c.plan_facts.ensures (wcets_of c.args.plan.now) c.args.pieces.now
+    c.requires.longest c.requires.run k c.args.piece rest at c.args.now c.args.list.now.items so_far
+    (sym is ∙ c.if-last.true) c.push_ticks.new.events.items c.push_acts.new.events.items c.in_ok-push_ticks.ensures c.in_ok-push_acts.ensures
+
+pub returns : goal.returns
+returns c = λ k rest at is so_far.
+    passes (constants_of c.args.plan.now c.args.horizon) c.plan_facts.ensures (wcets_of c.args.plan.now) c.args.pieces.now
+    c.requires.longest c.requires.run k c.args.piece rest at c.args.now c.args.list.now.items so_far
+    (sym is ∙ c.if-last.false)

@@ -1,0 +1,79 @@
+-- The seats that a worker has, after one of them was polled.
+use Rattle.std.proofs.Common.{◌≡◌, ◌≢◌, ◌<◌, ◌⊎◌, ◌++◌, ℕ, zero, suc, List, [], ◌∷◌, Option, Some, None, length, length-set, get_or, set, refl, sym, ◌∙◌, ap, subst, arith, inl, inr, ⊎_elim}
+use Rattle.std.specs.Prelude.{slice_get}
+use Rattle.std.proofs.lemmas.Bool.{cases_eq}
+use Rattle.std.proofs.lemmas.Option.{slice_get_read}
+use Rattle.prl_seats.specs.Boards.{BoardView}
+use Rattle.prl_seats.specs.JobSeats.{IsSeatOf, JobSeatView}
+use Rattle.prl_exec.specs.code.Hands.{AreHeld, KeepSeats}
+use Rattle.prl_exec.specs.code.Polls.{IsSlotOf, IsSlotPolled}
+
+-- what stands in a list of which one place was set
+pub set_at : {A : Type 0} (xs : List A) (i j : ℕ) (a b : A) → slice_get (set xs i a) j ≡ Some b → ((j ≡ i) × (a ≡ b)) ⊎ ((j ≢ i) × (slice_get xs j ≡ Some b))
+set_at [] i j a b e = absurd (cc e)
+set_at (x ∷ xs) zero zero a b e = inl (refl, cc e)
+set_at (x ∷ xs) zero (suc j) a b e = inr ((λ h. omega arith), e)
+set_at (x ∷ xs) (suc i) zero a b e = inr ((λ h. omega arith), e)
+set_at (x ∷ xs) (suc i) (suc j) a b e = ⊎_elim (λ t. inl (ap suc t.0, t.1)) (λ t. let n = t.0 in inr ((λ h. n (omega arith)), t.1)) (set_at xs i j a b e)
+
+pub set_here : {A : Type 0} (xs : List A) (i : ℕ) (a b : A) → slice_get xs i ≡ Some b → slice_get (set xs i a) i ≡ Some a
+set_here [] i a b e = absurd (cc e)
+set_here (x ∷ xs) zero a b e = refl
+set_here (x ∷ xs) (suc i) a b e = set_here xs i a b e
+
+pub set_else : {A : Type 0} (xs : List A) (i j : ℕ) (a : A) → j ≢ i → slice_get (set xs i a) j ≡ slice_get xs j
+set_else [] i j a ne = refl
+set_else (x ∷ xs) zero zero a ne = absurd (ne refl)
+set_else (x ∷ xs) zero (suc j) a ne = refl
+set_else (x ∷ xs) (suc i) zero a ne = refl
+set_else (x ∷ xs) (suc i) (suc j) a ne = set_else xs i j a (λ e. ne (ap suc e))
+
+pub read_there : {A : Type 0} (xs : List A) (i : ℕ) (x : A) → i < length xs → x ≡ get_or xs i x → slice_get xs i ≡ Some x
+read_there xs i x below is = slice_get_read xs (length xs) i x refl below is
+
+module _ (b : BoardView) (seats : List (Option JobSeatView)) (held : AreHeld b seats) (i : ℕ) where
+  -- a slot for a seat of the board
+  pub slot_of : (o : Option JobSeatView) → slice_get seats i ≡ Some o → IsSlotOf b o
+  slot_of (Some s) has = (held.each i s has).0
+  slot_of None has = tt
+
+  polled_slot : (o p : Option JobSeatView) → slice_get seats i ≡ Some o → IsSlotPolled b o p → (s : JobSeatView) → p ≡ Some s →
+      IsSeatOf b s × (s.task ≡ record { 0 = i })
+  polled_slot (Some s) (Some t) has did u is =
+      let same : t ≡ u = cc is in
+      (subst (IsSeatOf b) same did.0, sym (ap (λ (x : JobSeatView). x.task) same) ∙ (did.1 ∙ (held.each i s has).1))
+  polled_slot (Some s) None has did u is = absurd did
+  polled_slot None (Some t) has did u is = absurd did
+  polled_slot None None has did u is = absurd (cc is)
+
+  kept_slot : (o p : Option JobSeatView) → IsSlotPolled b o p → (s : JobSeatView) → o ≡ Some s → (t : JobSeatView) × (p ≡ Some t)
+  kept_slot (Some s) (Some t) did u is = (t, refl)
+  kept_slot (Some s) None did u is = absurd did
+  kept_slot None p did u is = absurd (cc is)
+
+  pub polled_held : (o p : Option JobSeatView) → slice_get seats i ≡ Some o → IsSlotPolled b o p → AreHeld b (set seats i p)
+  polled_held o p has did = record {
+    wide = length-set seats i p ∙ held.wide;
+    each = λ j s there. ⊎_elim
+        (λ here. let mine = polled_slot o p has did s here.1 in (mine.0, mine.1 ∙ ap (λ n. record { 0 = n }) (sym here.0)))
+        (λ apart. held.each j s apart.1)
+        (set_at seats i j p (Some s) there);
+  }
+
+  pub polled_kept : (o p : Option JobSeatView) → slice_get seats i ≡ Some o → IsSlotPolled b o p → KeepSeats seats (set seats i p)
+  polled_kept o p has did j was = elim (cases_eq j i) [
+    | inl same ↦
+        (let one : o ≡ Some was.0 = (let e : Some o ≡ Some (Some was.0) = sym has ∙ (ap (slice_get seats) (sym same) ∙ was.1) in cc e) in
+        let now = kept_slot o p did was.0 one in
+        (now.0, ap (slice_get (set seats i p)) same ∙ (set_here seats i p o has ∙ ap Some now.1)))
+    | inr apart ↦ (was.0, set_else seats i j p apart ∙ was.1)
+  ]
+
+pub get_last : {A : Type 0} (xs : List A) (x : A) → slice_get (xs ++ x ∷ []) (length xs) ≡ Some x
+get_last [] x = refl
+get_last (y ∷ xs) x = get_last xs x
+
+pub get_front : {A : Type 0} (xs : List A) (x y : A) (j : ℕ) → slice_get xs j ≡ Some y → slice_get (xs ++ x ∷ []) j ≡ Some y
+get_front [] x y j has = absurd (cc has)
+get_front (z ∷ xs) x y zero has = has
+get_front (z ∷ xs) x y (suc j) has = get_front xs x y j has

@@ -1,0 +1,15 @@
+//! The executive: one thread, or several at once, run all jobs of a plan in a horizon on a board.
+//! It stands on the board with its seats, on plans with their laws, and on the probe of what is
+//! outside.
+#![tactic(auto)]
+
+mod alone;
+mod crews;
+mod dealing;
+mod overruns;
+mod polls;
+mod runs;
+mod workers;
+
+pub use alone::{look_all, poll, run_alone, tick};
+pub use runs::{RunFault, Stopped, run_threads};

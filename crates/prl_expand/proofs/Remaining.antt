@@ -1,0 +1,228 @@
+-- Lists of expressions and of equations of which some are made.
+use Rattle.std.proofs.Common.{◌≡◌, ◌+◌, ℕ, List, [], ◌∷◌, ◌++◌, map, length, refl, sym, ap, ◌∙◌, subst, arith, append_assoc}
+use Rattle.std.proofs.lemmas.List.{append-nil, map-append, length-append}
+use Rattle.prl_base.specs.declared.values.Ty.{Ty}
+use Rattle.prl_ast.specs.Trees.{Tree, tree, Trees, none, more, EquationTree, NodeTree, ProgramTree}
+use Rattle.prl_flow.specs.declared.programs.App.{App}
+use Rattle.prl_flow.specs.declared.programs.Arg.{Arg}
+use Rattle.prl_flow.specs.declared.programs.Flow.{Flow}
+use Rattle.prl_types.specs.Flows as types
+use Rattle.prl_behaviours.specs.Annotations.{Entered, entered, Rights, done, next, Part, part, Core, Parts}
+use Rattle.prl_behaviours.specs.Annotations as notes
+use Rattle.prl_behaviours.specs.Asked.{given}
+use Rattle.prl_behaviours.specs.Texts.{node_at}
+use Rattle.prl_expand.specs.Flats as flats
+use Rattle.prl_expand.specs.Flats.{Numbered, Types, arguments, copy_of, equated, flow_no, import_at, ports_of, operator_flows, output_flows, paired, placed, resolved}
+use Rattle.prl_expand.specs.declared.counts.ExpandFault.{ExpandFault}
+use Rattle.prl_expand.specs.declared.counts.Next.{Next}
+use Rattle.prl_expand.specs.declared.nodes.Made.{Made}
+use Rattle.prl_expand.specs.declared.terms.Term as given_term
+use Rattle.prl_expand.specs.code.Adding.{Adds}
+use Rattle.prl_expand.specs.code.Limits.{IsFew, IsPast}
+use Rattle.prl_expand.specs.code.Made.{a_part, all_parts, all_resolved, the_rights, types_given, types_of}
+use Rattle.prl_expand.specs.code.Numbering.{past, past_part, past_parts, past_rights}
+use Rattle.prl_expand.specs.code.Terms.{arg_of, flow_of, flows_of}
+use Rattle.prl_expand.proofs.Adding.{past_more}
+use Rattle.prl_expand.specs.declared.variables.Pair.{Pair}
+use Rattle.prl_expand.specs.code.Variables.{pairs_of}
+
+abbrev next_of : ℕ → ℕ → ℕ → Next
+next_of f a n = record { flow = f; app = a; node = n }
+
+past_none : (s : Next) → record { flow = s.flow + 0; app = s.app + 0; node = s.node + 0 } ≡ s
+past_none s =
+    let f : s.flow + 0 ≡ s.flow = omega arith in
+    let a : s.app + 0 ≡ s.app = omega arith in
+    let n : s.node + 0 ≡ s.node = omega arith in
+    ap (λ x. next_of x (s.app + 0) (s.node + 0)) f ∙ ap (λ x. next_of s.flow x (s.node + 0)) a ∙ ap (λ x. next_of s.flow s.app x) n
+
+-- numbers past two lists, one after the other
+pub past_both : (s : Next) (fs gs rs us ns ms : List ℕ) → past (past s fs rs ns) gs us ms ≡ past s (fs ++ gs) (rs ++ us) (ns ++ ms)
+past_both s fs gs rs us ns ms =
+    let f = length-append fs gs in
+    let r = length-append rs us in
+    let n = length-append ns ms in
+    let a : (s.flow + length fs) + length gs ≡ s.flow + length (fs ++ gs) = omega (arith, f) in
+    let b : (s.app + length rs) + length us ≡ s.app + length (rs ++ us) = omega (arith, r) in
+    let c : (s.node + length ns) + length ms ≡ s.node + length (ns ++ ms) = omega (arith, n) in
+    ap (λ x. next_of x ((s.app + length rs) + length us) ((s.node + length ns) + length ms)) a
+    ∙ ap (λ x. next_of (s.flow + length (fs ++ gs)) x ((s.node + length ns) + length ms)) b
+    ∙ ap (λ x. next_of (s.flow + length (fs ++ gs)) (s.app + length (rs ++ us)) x) c
+
+-- one more piece of a list, and what is left
+piece : {A : Type 0} (xs ys zs whole : List A) → xs ++ (ys ++ zs) ≡ whole → (xs ++ ys) ++ zs ≡ whole
+piece xs ys zs whole e = append_assoc xs ys zs ∙ e
+
+piece_of_flows : (old new : List Flow) (fs gs : List Numbered) (whole : List Flow) → new ≡ old ++ flows_of fs → old ++ flows_of (fs ++ gs) ≡ whole → new ++ flows_of gs ≡ whole
+piece_of_flows old new fs gs whole n e =
+    ap (λ xs. xs ++ flows_of gs) n ∙ append_assoc old (flows_of fs) (flows_of gs) ∙ ap (λ xs. old ++ xs) (sym (map-append (λ (f : Numbered). f.1) fs gs)) ∙ e
+
+module _ (p : ProgramTree) (tys : Types) (levels k : ℕ) (env : List ℕ) where
+  abbrev node : NodeTree
+  node = node_at p k
+
+  abbrev flows_left : Trees → Next → List Numbered
+  flows_left ts s = flats.all_flows p tys k node env ts (all_parts p levels ts s)
+
+  abbrev apps_left : Trees → Next → List App
+  apps_left ts s = flats.all_apps p node env ts (all_parts p levels ts s)
+
+  -- with the rest of the expressions it is what all of them make
+  pub record PartsLeft (list : List given_term.Term) (m m₀ : Made) (ts all : Trees) : Type 0 where
+    pub args : map arg_of list ++ arguments node env ts (all_parts p levels ts m.next) ≡ arguments node env all (all_parts p levels all m₀.next)
+    pub types_are : types_of list ++ all_resolved tys (types.all_flows p k ts) ≡ all_resolved tys (types.all_flows p k all)
+    pub flows : m.flows.items ++ flows_of (flows_left ts m.next) ≡ m₀.flows.items ++ flows_of (flows_left all m₀.next)
+    pub apps : m.apps.items ++ apps_left ts m.next ≡ m₀.apps.items ++ apps_left all m₀.next
+    pub numbers : past_parts m.next (all_parts p levels ts m.next) ≡ past_parts m₀.next (all_parts p levels all m₀.next)
+    pub few : IsFew m.next
+
+  pub parts_begun : (list : List given_term.Term) (m : Made) (ts : Trees) → list ≡ [] → IsFew m.next → PartsLeft list m m ts ts
+  parts_begun list m ts e few = record {
+    args = ap (λ xs. map arg_of xs ++ arguments node env ts (all_parts p levels ts m.next)) e;
+    types_are = ap (λ xs. types_of xs ++ all_resolved tys (types.all_flows p k ts)) e;
+    flows = refl;
+    apps = refl;
+    numbers = refl;
+    few = few;
+  }
+
+  pub parts_step : (list terms list' : List given_term.Term) (m m' m₀ : Made) (t : Tree) (ts rest all : Trees) → PartsLeft list m m₀ rest all → rest ≡ more t ts → list' ≡ list ++ terms
+      → map arg_of terms ≡ placed t (given node env t (a_part p levels t m.next)) → types_of terms ≡ all_resolved tys (types_given p k t)
+      → Adds m m' (flats.part_flows p tys k node env t (a_part p levels t m.next)) (flats.part_apps p node env t (a_part p levels t m.next)) (past_part m.next (a_part p levels t m.next))
+      → PartsLeft list' m' m₀ ts all
+  parts_step list terms list' m m' m₀ t ts rest all before is longer args types_are adds =
+      let q : Part ℕ ℕ ℕ = a_part p levels t m.next in
+      let s : Next = past_part m.next q in
+      let left = subst (λ r. PartsLeft list m m₀ r all) is before in
+      let next_is = adds.next_is in
+      let tail : Parts ℕ ℕ ℕ = all_parts p levels ts s in
+      record {
+        args = ap (λ xs. map arg_of xs ++ arguments node env ts (all_parts p levels ts m'.next)) longer
+            ∙ ap (λ x. map arg_of (list ++ terms) ++ arguments node env ts (all_parts p levels ts x)) next_is
+            ∙ ap (λ xs. xs ++ arguments node env ts tail) (map-append arg_of list terms ∙ ap (λ xs. map arg_of list ++ xs) args)
+            ∙ piece (map arg_of list) (placed t (given node env t q)) (arguments node env ts tail) _ left.args;
+        types_are = ap (λ xs. types_of xs ++ all_resolved tys (types.all_flows p k ts)) longer
+            ∙ ap (λ (xs : List Ty). xs ++ all_resolved tys (types.all_flows p k ts)) (map-append (λ (u : given_term.Term). u.ty) list terms ∙ ap (λ (xs : List Ty). types_of list ++ xs) types_are)
+            ∙ append_assoc (types_of list) (all_resolved tys (types_given p k t)) (all_resolved tys (types.all_flows p k ts))
+            ∙ ap (λ (xs : List Ty). types_of list ++ xs) (sym (map-append (resolved tys) (types_given p k t) (types.all_flows p k ts)))
+            ∙ left.types_are;
+        flows = ap (λ x. m'.flows.items ++ flows_of (flows_left ts x)) next_is
+            ∙ piece_of_flows m.flows.items m'.flows.items (flats.part_flows p tys k node env t q) (flows_left ts s) _ adds.flows_are left.flows;
+        apps = ap (λ x. m'.apps.items ++ apps_left ts x) next_is ∙ ap (λ xs. xs ++ apps_left ts s) adds.apps_are
+            ∙ piece m.apps.items (flats.part_apps p node env t q) (apps_left ts s) _ left.apps;
+        numbers = ap (λ x. past_parts x (all_parts p levels ts x)) next_is
+            ∙ past_both m.next (notes.part_flows q) (notes.parts_flows tail) (notes.part_imports q) (notes.parts_imports tail) (notes.part_nodes q) (notes.parts_nodes tail)
+            ∙ left.numbers;
+        few = adds.few;
+      }
+
+  pub parts_made : (list : List given_term.Term) (m m₀ : Made) (ts all : Trees) → ts ≡ none → PartsLeft list m m₀ ts all
+      → Adds m₀ m (flows_left all m₀.next) (apps_left all m₀.next) (past_parts m₀.next (all_parts p levels all m₀.next))
+  parts_made list m m₀ ts all is before =
+      let left = subst (λ r. PartsLeft list m m₀ r all) is before in
+      record {
+        flows_are = sym (append-nil m.flows.items) ∙ left.flows;
+        apps_are = sym (append-nil m.apps.items) ∙ left.apps;
+        next_is = sym (past_none m.next) ∙ left.numbers;
+        few = left.few;
+      }
+
+  pub parts_args : (list : List given_term.Term) (m m₀ : Made) (ts all : Trees) → ts ≡ none → PartsLeft list m m₀ ts all → map arg_of list ≡ arguments node env all (all_parts p levels all m₀.next)
+  parts_args list m m₀ ts all is before = let left = subst (λ r. PartsLeft list m m₀ r all) is before in sym (append-nil (map arg_of list)) ∙ left.args
+
+  pub parts_types : (list : List given_term.Term) (m m₀ : Made) (ts all : Trees) → ts ≡ none → PartsLeft list m m₀ ts all → types_of list ≡ all_resolved tys (types.all_flows p k all)
+  parts_types list m m₀ ts all is before = let left = subst (λ r. PartsLeft list m m₀ r all) is before in sym (append-nil (types_of list)) ∙ left.types_are
+
+  pub parts_past : (list : List given_term.Term) (m m₀ : Made) (t : Tree) (ts rest all : Trees) (e : ExpandFault) → PartsLeft list m m₀ rest all → rest ≡ more t ts
+      → IsPast (m.next.flow + length (notes.part_flows (a_part p levels t m.next))) e → IsPast (m₀.next.flow + length (notes.parts_flows (all_parts p levels all m₀.next))) e
+  parts_past list m m₀ t ts rest all e before is h =
+      let left = subst (λ r. PartsLeft list m m₀ r all) is before in
+      let q : Part ℕ ℕ ℕ = a_part p levels t m.next in
+      let tail : Parts ℕ ℕ ℕ = all_parts p levels ts (past_part m.next q) in
+      let sum = length-append (notes.part_flows q) (notes.parts_flows tail) in
+      let number : m.next.flow + length (notes.part_flows q ++ notes.parts_flows tail) ≡ m₀.next.flow + length (notes.parts_flows (all_parts p levels all m₀.next)) = ap (λ (x : Next). x.flow) left.numbers in
+      past_more _ _ e (omega (arith, sum, number)) h
+
+  abbrev right_flows_left : List EquationTree → Next → List Numbered
+  right_flows_left es s = flats.right_flows p tys k node env es (the_rights p levels es s)
+
+  abbrev right_apps_left : List EquationTree → Next → List App
+  right_apps_left es s = flats.right_apps p node env es (the_rights p levels es s)
+
+  -- with the rest of the equations it is what all of them make
+  pub record RightsLeft (pairs : List Pair) (m m₀ : Made) (es all : List EquationTree) : Type 0 where
+    pub names : pairs_of pairs ++ equated node env es (the_rights p levels es m.next) ≡ equated node env all (the_rights p levels all m₀.next)
+    pub flows : m.flows.items ++ flows_of (right_flows_left es m.next) ≡ m₀.flows.items ++ flows_of (right_flows_left all m₀.next)
+    pub apps : m.apps.items ++ right_apps_left es m.next ≡ m₀.apps.items ++ right_apps_left all m₀.next
+    pub numbers : past_rights m.next (the_rights p levels es m.next) ≡ past_rights m₀.next (the_rights p levels all m₀.next)
+    pub few : IsFew m.next
+
+  pub rights_begun : (pairs : List Pair) (m : Made) (es : List EquationTree) → pairs ≡ [] → IsFew m.next → RightsLeft pairs m m es es
+  rights_begun pairs m es e few = record {
+    names = ap (λ xs. pairs_of xs ++ equated node env es (the_rights p levels es m.next)) e;
+    flows = refl;
+    apps = refl;
+    numbers = refl;
+    few = few;
+  }
+
+  placed_numbers : (t : Tree) (terms : List given_term.Term) (is : List ℕ) → map arg_of terms ≡ placed t is → map flow_of terms ≡ is
+  placed_numbers (tree pre root post at) terms is e = flows_of_args terms ∙ ap (map (λ (a : Arg). a.flow.0)) e ∙ args_back is
+    where
+      flows_of_args : (ts : List given_term.Term) → map flow_of ts ≡ map (λ (a : Arg). a.flow.0) (map arg_of ts)
+      flows_of_args [] = refl
+      flows_of_args (t ∷ ts) = ap (λ xs. t.flow ∷ xs) (flows_of_args ts)
+
+      args_back : (is : List ℕ) → map (λ (a : Arg). a.flow.0) (map (λ (i : ℕ). record { flow = flow_no i; at = at }) is) ≡ is
+      args_back [] = refl
+      args_back (i ∷ is) = ap (λ xs. i ∷ xs) (args_back is)
+
+  pub rights_step : (pairs pairs' : List Pair) (terms : List given_term.Term) (m m' m₀ : Made) (e : EquationTree) (es rest all : List EquationTree) → RightsLeft pairs m m₀ rest all → rest ≡ e ∷ es
+      → pairs_of pairs' ≡ pairs_of pairs ++ paired e.lefts (map flow_of terms)
+      → map arg_of terms ≡ placed e.right (given node env e.right (a_part p levels e.right m.next))
+      → Adds m m' (flats.part_flows p tys k node env e.right (a_part p levels e.right m.next)) (flats.part_apps p node env e.right (a_part p levels e.right m.next)) (past_part m.next (a_part p levels e.right m.next))
+      → RightsLeft pairs' m' m₀ es all
+  rights_step pairs pairs' terms m m' m₀ e es rest all before is longer args adds =
+      let q : Part ℕ ℕ ℕ = a_part p levels e.right m.next in
+      let s : Next = past_part m.next q in
+      let left = subst (λ r. RightsLeft pairs m m₀ r all) is before in
+      let next_is = adds.next_is in
+      let tail : Rights ℕ ℕ ℕ = the_rights p levels es s in
+      let gs = placed_numbers e.right terms (given node env e.right q) args in
+      record {
+        names = ap (λ xs. xs ++ equated node env es (the_rights p levels es m'.next)) (longer ∙ ap (λ is. pairs_of pairs ++ paired e.lefts is) gs)
+            ∙ ap (λ x. (pairs_of pairs ++ paired e.lefts (given node env e.right q)) ++ equated node env es (the_rights p levels es x)) next_is
+            ∙ piece (pairs_of pairs) (paired e.lefts (given node env e.right q)) (equated node env es tail) _ left.names;
+        flows = ap (λ x. m'.flows.items ++ flows_of (right_flows_left es x)) next_is
+            ∙ piece_of_flows m.flows.items m'.flows.items (flats.part_flows p tys k node env e.right q) (right_flows_left es s) _ adds.flows_are left.flows;
+        apps = ap (λ x. m'.apps.items ++ right_apps_left es x) next_is ∙ ap (λ xs. xs ++ right_apps_left es s) adds.apps_are
+            ∙ piece m.apps.items (flats.part_apps p node env e.right q) (right_apps_left es s) _ left.apps;
+        numbers = ap (λ x. past_rights x (the_rights p levels es x)) next_is
+            ∙ past_both m.next (notes.part_flows q) (notes.right_flows tail) (notes.part_imports q) (notes.right_imports tail) (notes.part_nodes q) (notes.right_nodes tail)
+            ∙ left.numbers;
+        few = adds.few;
+      }
+
+  pub rights_made : (pairs : List Pair) (m m₀ : Made) (es all : List EquationTree) → es ≡ [] → RightsLeft pairs m m₀ es all
+      → Adds m₀ m (right_flows_left all m₀.next) (right_apps_left all m₀.next) (past_rights m₀.next (the_rights p levels all m₀.next))
+  rights_made pairs m m₀ es all is before =
+      let left = subst (λ r. RightsLeft pairs m m₀ r all) is before in
+      record {
+        flows_are = sym (append-nil m.flows.items) ∙ left.flows;
+        apps_are = sym (append-nil m.apps.items) ∙ left.apps;
+        next_is = sym (past_none m.next) ∙ left.numbers;
+        few = left.few;
+      }
+
+  pub rights_pairs : (pairs : List Pair) (m m₀ : Made) (es all : List EquationTree) → es ≡ [] → RightsLeft pairs m m₀ es all → pairs_of pairs ≡ equated node env all (the_rights p levels all m₀.next)
+  rights_pairs pairs m m₀ es all is before = let left = subst (λ r. RightsLeft pairs m m₀ r all) is before in sym (append-nil (pairs_of pairs)) ∙ left.names
+
+  pub rights_past : (pairs : List Pair) (m m₀ : Made) (e : EquationTree) (es rest all : List EquationTree) (x : ExpandFault) → RightsLeft pairs m m₀ rest all → rest ≡ e ∷ es
+      → IsPast (m.next.flow + length (notes.part_flows (a_part p levels e.right m.next))) x → IsPast (m₀.next.flow + length (notes.right_flows (the_rights p levels all m₀.next))) x
+  rights_past pairs m m₀ e es rest all x before is h =
+      let left = subst (λ r. RightsLeft pairs m m₀ r all) is before in
+      let q : Part ℕ ℕ ℕ = a_part p levels e.right m.next in
+      let tail : Rights ℕ ℕ ℕ = the_rights p levels es (past_part m.next q) in
+      let sum = length-append (notes.part_flows q) (notes.right_flows tail) in
+      let number : m.next.flow + length (notes.part_flows q ++ notes.right_flows tail) ≡ m₀.next.flow + length (notes.right_flows (the_rights p levels all m₀.next)) = ap (λ (y : Next). y.flow) left.numbers in
+      past_more _ _ x (omega (arith, sum, number)) h

@@ -1,0 +1,85 @@
+-- The flat program of the whole.
+use Rattle.std.proofs.Common.{◌≡◌, ◌<◌, ◌+◌, ◌++◌, ◌∷◌, [], ℕ, zero, suc, List, map, length, sym, ap, ◌∙◌, arith}
+use Rattle.std.specs.List.{range_with_len}
+use Rattle.prl_base.specs.declared.numbers.FlowNo.{FlowNo}
+use Rattle.prl_base.specs.declared.values.Ty.{Ty}
+use Rattle.prl_ast.specs.Trees.{NodeTree, ProgramTree}
+use Rattle.prl_flow.specs.declared.programs.App.{App}
+use Rattle.prl_flow.specs.declared.programs.Flow.{Flow}
+use Rattle.prl_flow.specs.Programs.{FlatProgram}
+use Rattle.prl_flow.specs.Programs as flat_programs
+use Rattle.prl_names.specs.Named.{IsNamed}
+use Rattle.prl_names.proofs.Right.{named}
+use Rattle.prl_types.specs.Typing.{IsRight}
+use Rattle.prl_behaviours.specs.Annotations.{flows_in}
+use Rattle.prl_behaviours.specs.Asked.{outputs_of}
+use Rattle.prl_behaviours.specs.Texts.{node_at}
+use Rattle.prl_expand.specs.Expansions.{Expansion, IsExpansion}
+use Rattle.prl_expand.specs.Flats.{devices_of, entered_apps, entered_flows, flat_of, flow_no, sensors_from}
+use Rattle.prl_flow.specs.declared.programs.Def.TheVariants as definitions
+use Rattle.prl_flow.specs.declared.programs.Def.{Def}
+use Rattle.prl_expand.specs.declared.counts.ExpandFault.{ExpandFault}
+use Rattle.prl_expand.specs.Expanding.{IsExpandFault}
+use Rattle.prl_expand.specs.code.Limits.{IsPast}
+use Rattle.prl_expand.specs.code.Made.{a_node}
+use Rattle.prl_expand.specs.code.Terms.{flows_of}
+use Rattle.prl_expand.specs.code.Within.{IsSound, MayApply}
+use Rattle.prl_expand.proofs.Within.{all_levels}
+use Rattle.prl_ast.specs.InRange.{IsInRange}
+use Rattle.prl_names.specs.Applications.{applies}
+use Rattle.prl_expand.proofs.Adding.{past_more}
+use Rattle.prl_expand.proofs.Entering.{variables_past}
+use Rattle.prl_expand.proofs.Expanded.{first, is_expansion, past_is}
+
+pub sensors_suc : (a f n : ℕ) → sensors_from a (range_with_len f (suc n)) ≡ sensors_from a (range_with_len f n) ++ definitions.Sensor (a + n) ∷ []
+sensors_suc a f zero = let here : a ≡ a + 0 = omega arith in ap (λ k. definitions.Sensor k ∷ []) here
+sensors_suc a f (suc n) =
+    let here : (a + 1) + n ≡ a + suc n = omega arith in
+    ap (λ (ds : List Def). definitions.Sensor a ∷ ds) (sensors_suc (a + 1) (f + 1) n ∙ ap (λ k. sensors_from (a + 1) (range_with_len (f + 1) n) ++ definitions.Sensor k ∷ []) here)
+
+pub sensors_more : (n : ℕ) → sensors_from 0 (range_with_len 0 (n + 1)) ≡ sensors_from 0 (range_with_len 0 n) ++ definitions.Sensor n ∷ []
+sensors_more n =
+    let next : n + 1 ≡ suc n = omega arith in
+    let here : 0 + n ≡ n = omega arith in
+    ap (λ k. sensors_from 0 (range_with_len 0 k)) next ∙ sensors_suc 0 0 n ∙ ap (λ k. sensors_from 0 (range_with_len 0 n) ++ definitions.Sensor k ∷ []) here
+
+abbrev a_flat : List Flow → List App → List FlowNo → List FlowNo → List flat_programs.Device → List flat_programs.Device → FlatProgram
+a_flat flows apps ins outs in_devices out_devices = record { flows = flows; apps = apps; ins = ins; outs = outs; in_devices = in_devices; out_devices = out_devices }
+
+module _ (p : ProgramTree) (main : ℕ) (tys : List Ty) (right : IsRight p main tys) where
+  abbrev pub whole : Expansion
+  whole = a_node p (length p.nodes) main first
+
+  is_named : IsNamed p main
+  is_named = named p right.main main right.typed.names
+
+  pub main_there : main < length p.nodes
+  main_there = is_named.main_below
+
+  pub sound_is : IsInRange p → IsSound p
+  sound_is range = record { main = main; named = is_named; range = range }
+
+  pub levels_do : MayApply p (length p.nodes) (λ j. applies p main j)
+  levels_do = all_levels p main main is_named
+
+  pub expansion_is : IsExpansion p main whole
+  expansion_is = is_expansion p main is_named
+
+  pub flat_is : (flows : List Flow) (apps : List App) (ins outs : List FlowNo) (in_devices out_devices : List flat_programs.Device) (d : NodeTree) → node_at p main ≡ d
+      → flows ≡ flows_of (entered_flows p tys [] main (sensors_from 0 (range_with_len 0 (length d.ins))) whole) → apps ≡ entered_apps p main whole
+      → ins ≡ map flow_no (range_with_len 0 (length d.ins)) → outs ≡ map flow_no (outputs_of whole) → in_devices ≡ devices_of p.sensors d.ins → out_devices ≡ devices_of p.actuators d.outs
+      → a_flat flows apps ins outs in_devices out_devices ≡ flat_of p tys main whole
+  flat_is flows apps ins outs in_devices out_devices d is a b c e f g =
+      ap (λ x. a_flat x apps ins outs in_devices out_devices) (a ∙ ap (λ (x : NodeTree). flows_of (entered_flows p tys [] main (sensors_from 0 (range_with_len 0 (length x.ins))) whole)) (sym is))
+      ∙ ap (λ x. a_flat (flat_of p tys main whole).flows x ins outs in_devices out_devices) b
+      ∙ ap (λ x. a_flat (flat_of p tys main whole).flows (flat_of p tys main whole).apps x outs in_devices out_devices) (c ∙ ap (λ (x : NodeTree). map flow_no (range_with_len 0 (length x.ins))) (sym is))
+      ∙ ap (λ x. a_flat (flat_of p tys main whole).flows (flat_of p tys main whole).apps (flat_of p tys main whole).ins x in_devices out_devices) e
+      ∙ ap (λ x. a_flat (flat_of p tys main whole).flows (flat_of p tys main whole).apps (flat_of p tys main whole).ins (flat_of p tys main whole).outs x out_devices) (f ∙ ap (λ (x : NodeTree). devices_of p.sensors x.ins) (sym is))
+      ∙ ap (λ x. a_flat (flat_of p tys main whole).flows (flat_of p tys main whole).apps (flat_of p tys main whole).ins (flat_of p tys main whole).outs (flat_of p tys main whole).in_devices x) (g ∙ ap (λ (x : NodeTree). devices_of p.actuators x.outs) (sym is))
+
+  pub fault_is : (e : ExpandFault) → IsPast (0 + length (flows_in whole)) e → IsExpandFault p main e
+  fault_is e h = past_is p main is_named (0 + length (flows_in whole)) e (omega arith) h
+
+  pub inputs_fault : (e : ExpandFault) (d : NodeTree) (n : ℕ) → node_at p main ≡ d → n ≡ length d.ins → IsPast (0 + n) e → IsExpandFault p main e
+  inputs_fault e d n is count h =
+      fault_is e (variables_past p tys (length p.nodes) main first d e is (past_more (0 + n) (((0 + length d.ins) + length d.outs) + length d.locals) e (omega (arith, count)) h))

@@ -1,0 +1,197 @@
+-- Parts of what fits, and nodes for which the levels suffice.
+use Rattle.std.proofs.Common.{◌≡◌, ◌+◌, ◌-◌, ◌<◌, ◌≤◌, ℕ, zero, suc, Bool, true, false, List, [], ◌∷◌, length, map, slice_get, Option, Some, None, IsSome, refl, sym, ap, ◌∙◌, subst, arith}
+use Rattle.std.specs.List.{AllByRecursion}
+use Rattle.prl_base.specs.declared.places.Span.{Span}
+use Rattle.prl_ast.specs.declared.declarations.Equation.{Equation}
+use Rattle.prl_ast.specs.declared.declarations.Import.{Import}
+use Rattle.prl_ast.specs.declared.expressions.Expr.{Expr}
+use Rattle.prl_ast.specs.declared.expressions.PlacedOp.{PlacedOp}
+use Rattle.prl_ast.specs.InRange.{IsImportInRange, IsNodeInRange}
+use Rattle.prl_ast.specs.Trees.{Tree, tree, tree_of, Root, apply, group, Trees, none, more, equation_tree, NodeTree, ProgramTree}
+use Rattle.std.proofs.lemmas.Option.{slice_get_within}
+use Rattle.prl_names.specs.Applications.{is_node, applied_in, applied_trees, applied_equations, applied_by, applies, reaches}
+use Rattle.prl_names.specs.declared.lookups.Callee.TheVariants as callees
+use Rattle.prl_names.specs.ExprLists.{all_trees}
+use Rattle.prl_names.specs.Lookups.{callee_of, index_of, param_at, param_names, params_of}
+use Rattle.prl_names.specs.Named.{IsNamed}
+use Rattle.prl_names.proofs.Marking.{callee_below, index_below}
+use Rattle.prl_ast.specs.declared.declarations.Param.{Param}
+use Rattle.prl_behaviours.specs.Texts.{node_at, node_or}
+use Rattle.prl_expand.proofs.Existence.{true_or, or_true, same_node, import_found}
+use Rattle.prl_expand.proofs.Ranks.{rank, rank_falls, passing, one_if}
+use Rattle.prl_expand.specs.declared.counts.Next.{Next}
+use Rattle.prl_expand.specs.code.Limits.{IsFew, IsFewBefore}
+use Rattle.prl_expand.specs.code.Within.{CallFits, EquationsFit, IsSound, MayApply, MayEnter, RootFits, TreeFits, TreesFit}
+
+-- a node that reaches fewer nodes than there are levels
+ranked : (p : ProgramTree) (main : ℕ) → IsNamed p main → (levels k : ℕ) → rank p k < levels → MayEnter p levels k
+ranked p main named zero k h = absurd (omega (arith, h))
+ranked p main named (suc levels) k h = λ j applied below. ranked p main named levels j (omega (arith, h, rank_falls p named.acyclic k j applied below))
+
+one_few : (b : Bool) → one_if b ≤ 1
+one_few true = omega arith
+one_few false = omega arith
+
+passing_few : (f : ℕ → Bool) (m : ℕ) → passing f m ≤ m
+passing_few f zero = omega arith
+passing_few f (suc m) = omega (arith, passing_few f m, one_few (f m))
+
+-- as many levels as there are nodes
+pub all_levels : (p : ProgramTree) (main k : ℕ) → IsNamed p main → MayApply p (length p.nodes) (λ j. applies p k j)
+all_levels p main k named =
+    let few : rank p k ≤ length p.nodes = passing_few (reaches p k) (length p.nodes) in
+    λ j applied below. ranked p main named (length p.nodes) j (omega (arith, rank_falls p named.acyclic k j applied below, few))
+
+module _ (p : ProgramTree) (levels k depth : ℕ) where
+  pub root_fits : (pre post : List PlacedOp) (root : Root) (at : Span) → TreeFits p levels k depth (tree pre root post at) → RootFits p levels k depth root
+  root_fits pre post root at h = record { known = h.known; reach = h.reach; opened = h.opened; few = h.few; depth_is = h.depth_is; range = h.range.1 }
+
+  pub args_fit : (name : List ℕ) (at : Span) (args : Trees) → RootFits p levels k depth (apply name at args) → TreesFit p levels k depth args
+  args_fit name at args h =
+      let sum = h.depth_is in
+      record {
+        known = h.known.1;
+        reach = λ j applied below. h.reach j (or_true (is_node j (callee_of p name)) (applied_trees p j args) applied) below;
+        opened = h.opened + 1;
+        few = h.range.1;
+        depth_is = omega (arith, sum);
+        range = h.range.2;
+      }
+
+  pub call_fits : (name : List ℕ) (at : Span) (args : Trees) → RootFits p levels k depth (apply name at args) → CallFits p levels name
+  call_fits name at args h = record {
+    known = h.known.0;
+    reach = λ j e. h.reach j (true_or (is_node j (callee_of p name)) (applied_trees p j args) (same_node j (callee_of p name) e)) (callee_below p name j e);
+  }
+
+  pub parts_fit : (parts : Trees) → RootFits p levels k depth (group parts) → TreesFit p levels k depth parts
+  parts_fit none h = absurd h.range
+  parts_fit (more t ts) h =
+      let sum = h.depth_is in
+      record { known = h.known; reach = h.reach; opened = h.opened + 1; few = h.range.0; depth_is = omega (arith, sum); range = (h.range.1, h.range.2) }
+
+  pub deep : (ts : Trees) → TreesFit p levels k depth ts → 0 < depth
+  deep ts h = omega (arith, h.depth_is, h.few)
+
+  first_fits : (t : Tree) (ts : Trees) → TreesFit p levels k depth (more t ts) → TreeFits p levels k (depth - 1) t
+  first_fits t ts h =
+      let sum = h.depth_is in
+      let few = h.few in
+      record {
+        known = h.known.0;
+        reach = λ j applied below. h.reach j (true_or (applied_in p j t) (applied_trees p j ts) applied) below;
+        opened = h.opened;
+        few = h.few;
+        depth_is = omega (arith, sum, few);
+        range = h.range.0;
+      }
+
+  rest_fits : (t : Tree) (ts : Trees) → TreesFit p levels k depth (more t ts) → TreesFit p levels k depth ts
+  rest_fits t ts h = record {
+    known = h.known.1;
+    reach = λ j applied below. h.reach j (or_true (applied_in p j t) (applied_trees p j ts) applied) below;
+    opened = h.opened;
+    few = h.few;
+    depth_is = h.depth_is;
+    range = h.range.1;
+  }
+
+  pub tree_fits : (es : List Expr) (i : ℕ) (e : Expr) → slice_get es i ≡ Some e → TreesFit p levels k depth (all_trees es) → TreeFits p levels k (depth - 1) (tree_of e)
+  tree_fits [] i e found h = cc
+  tree_fits (x ∷ es) zero e found h =
+      let same : x ≡ e = cc in
+      subst (λ (o : Expr). TreeFits p levels k (depth - 1) (tree_of o)) same (first_fits (tree_of x) (all_trees es) h)
+  tree_fits (x ∷ es) (suc i) e found h = tree_fits es i e found (rest_fits (tree_of x) (all_trees es) h)
+
+module _ (p : ProgramTree) (levels k : ℕ) where
+  pub right_fits : (es : List Equation) (i : ℕ) (e : Equation) → slice_get es i ≡ Some e → EquationsFit p levels k (map equation_tree es) → TreeFits p levels k 65 (tree_of e.right)
+  right_fits [] i e found h = cc
+  right_fits (x ∷ es) zero e found h =
+      let same : x ≡ e = cc in
+      subst (λ (o : Equation). TreeFits p levels k 65 (tree_of o.right)) same (record {
+        known = h.known.1;
+        reach = λ j applied below. h.reach j (true_or (applied_in p j (tree_of x.right)) (applied_equations p j (map equation_tree es)) applied) below;
+        opened = 0;
+        few = omega arith;
+        depth_is = omega arith;
+        range = h.range.0.right;
+      })
+  right_fits (x ∷ es) (suc i) e found h = right_fits es i e found (record {
+    known = h.known.2;
+    reach = λ j applied below. h.reach j (or_true (applied_in p j (tree_of x.right)) (applied_equations p j (map equation_tree es)) applied) below;
+    range = h.range.1;
+  })
+
+-- the element, where all are so
+all_at : {A : Type 0} (P : A → Type 0) (xs : List A) (i : ℕ) (x : A) → slice_get xs i ≡ Some x → AllByRecursion P xs → P x
+all_at P [] i x found h = cc
+all_at P (y ∷ xs) zero x found h = let same : y ≡ x = cc in subst P same h.0
+all_at P (y ∷ xs) (suc i) x found h = all_at P xs i x found h.1
+
+pub equations_fit : (p : ProgramTree) (levels k : ℕ) (d : NodeTree) → IsSound p → slice_get p.nodes k ≡ Some d → MayApply p levels (λ j. applies p k j) → EquationsFit p levels k d.eqs
+equations_fit p levels k d sound found reach = record {
+  known = (sound.named.nodes k d found).known;
+  reach = λ j applied below. reach j (ap (applied_by p j) found ∙ applied) below;
+  range = (all_at IsNodeInRange p.nodes k d found sound.range.nodes).eqs;
+}
+
+pub levels_left : (p : ProgramTree) (levels j : ℕ) → MayEnter p levels j → 0 < levels
+levels_left p zero j h = absurd h
+levels_left p (suc levels) j h = omega arith
+
+pub may_apply : (p : ProgramTree) (levels left j : ℕ) → levels ≡ left + 1 → MayEnter p levels j → MayApply p left (λ i. applies p j i)
+may_apply p zero left j e h = absurd h
+may_apply p (suc levels) left j e h =
+    let same : levels ≡ left = omega (arith, e) in
+    subst (λ n. MayApply p n (λ i. applies p j i)) same h
+
+pub few_nodes : (p : ProgramTree) (k : ℕ) → IsSound p → k < length p.nodes → k < 256
+few_nodes p k sound below = omega (arith, below, sound.range.few)
+
+pub import_below : (p : ProgramTree) (name : List ℕ) (j : ℕ) → callee_of p name ≡ Some (callees.Import j) → j < length p.imports
+import_below p name j e = let i = import_found p name j e in slice_get_within p.imports j i.0 i.1
+
+is_some : {A : Type 0} (o : Option A) → IsSome o → (x : A) × (o ≡ Some x)
+is_some None h = cc
+is_some (Some x) h = (x, refl)
+
+-- where the variable stands
+pub variable_at : (p : ProgramTree) (k : ℕ) (name : List ℕ) (d : NodeTree) → slice_get p.nodes k ≡ Some d → IsSome (param_at p k name) → (i : ℕ) × (param_at p k name ≡ Some i) × (i < length (params_of (node_at p k)))
+variable_at p k name d found known =
+    let there = is_some (param_at p k name) known in
+    let here : param_at p k name ≡ index_of (param_names d) name = cc in
+    let at : node_at p k ≡ d = ap node_or found in
+    (there.0, there.1, subst (λ (n : NodeTree). there.0 < length (params_of n)) (sym at) (index_below (λ (q : Param). q.name) (params_of d) name there.0 (sym here ∙ there.1)))
+
+pub outputs_some : (p : ProgramTree) (k : ℕ) (d : NodeTree) → IsSound p → slice_get p.nodes k ≡ Some d → 1 ≤ length d.outs
+outputs_some p k d sound found = (all_at IsNodeInRange p.nodes k d found sound.range.nodes).some
+
+pub ports_some : (p : ProgramTree) (k : ℕ) (i : Import) → IsSound p → slice_get p.imports k ≡ Some i → 1 ≤ length i.outs
+ports_some p k i sound found = (all_at IsImportInRange p.imports k i found sound.range.imports).some
+
+pub node_few : (s t : Next) → t ≡ record { flow = s.flow; app = s.app; node = s.node + 1 } → IsFew s → IsFewBefore t
+node_few s t e h =
+    let nodes = h.nodes in
+    subst IsFewBefore (sym e) (record { flows = h.flows; apps = h.apps; nodes = omega (arith, nodes) })
+
+-- a node has an output
+pub variables_few : (s t : Next) (d : NodeTree) → t ≡ record { flow = ((s.flow + length d.ins) + length d.outs) + length d.locals; app = s.app; node = s.node }
+    → ((s.flow + length d.ins) + length d.outs) + length d.locals ≤ 4096 → 1 ≤ length d.outs → IsFewBefore s → IsFew t
+variables_few s t d e below some h =
+    let apps = h.apps in
+    let nodes = h.nodes in
+    subst IsFew (sym e) (record { flows = below; apps = omega (arith, apps, some); nodes = omega (arith, nodes, some) })
+
+-- as many more flows and one more application, of which the flows are outputs
+pub import_few : (s : Next) (n : ℕ) → s.flow + n ≤ 4096 → 1 ≤ n → IsFew s → IsFew (record { flow = s.flow + n; app = s.app + 1; node = s.node })
+import_few s n below some h =
+    let apps = h.apps in
+    let nodes = h.nodes in
+    record { flows = below; apps = omega (arith, apps, some); nodes = omega (arith, nodes) }
+
+-- more flows
+pub more_few : (s : Next) (n m : ℕ) → (s.flow + n) + m ≤ 4096 → IsFew s → IsFew (record { flow = (s.flow + n) + m; app = s.app; node = s.node })
+more_few s n m below h =
+    let apps = h.apps in
+    let nodes = h.nodes in
+    record { flows = below; apps = omega (arith, apps); nodes = omega (arith, nodes) }

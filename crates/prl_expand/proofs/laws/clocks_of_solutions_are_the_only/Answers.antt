@@ -1,0 +1,8 @@
+use Rattle.prl_solutions.specs.Conditions.{clocks_in}
+use Rattle.prl_expand.proofs.laws.clocks_of_solutions_are_the_only.Goals as goal
+
+pub returns : goal.returns
+returns c = λ p clocks flat agree only. record {
+  agree = agree;
+  only = λ bodies rows until s h. only (clocks_in s) (c.solutions_are_of_their_clocks.ensures p bodies rows until s flat h).0;
+}

@@ -1,7 +1,0 @@
-use Rattle.std.proofs.Common.{◌≡◌, map}
-use Rattle.std.specs.List.{range_with_len}
-use Rattle.prl_expand.specs.Flats.{flow_no}
-use Rattle.prl_expansion.proofs.expanding.flow_numbers.Given as goal
-
-abbrev pub invariant-loop-k : goal.invariant-loop-k
-invariant-loop-k l = l.list.items ≡ map flow_no (range_with_len 0 l.k)

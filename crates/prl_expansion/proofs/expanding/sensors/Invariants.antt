@@ -1,8 +1,0 @@
-use Rattle.std.proofs.Common.{◌≡◌, map}
-use Rattle.std.specs.List.{range_with_len}
-use Rattle.prl_expand.specs.Flats.{sensors_from}
-use Rattle.prl_expansion.specs.code.Variables.{def_of}
-use Rattle.prl_expansion.proofs.expanding.sensors.Given as goal
-
-abbrev pub invariant-loop-k : goal.invariant-loop-k
-invariant-loop-k l = map def_of l.defs.items ≡ sensors_from 0 (range_with_len 0 l.k)

@@ -1,4 +1,0 @@
--- What the call answers.
-pub mod Expanding
--- What private functions say to one another.
-pub mod code

@@ -1,5 +1,0 @@
-mod Telling
-mod Keeping
-mod Opening
-mod Given
-mod Stored

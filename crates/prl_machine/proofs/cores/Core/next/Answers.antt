@@ -1,7 +1,0 @@
-use Rattle.std.proofs.Common.{subst}
-use Rattle.prl_core.specs.Tracks.{IsNext}
-use Rattle.prl_machine.specs.Cores.{CoreView, constants}
-use Rattle.prl_machine.proofs.cores.Core.next.Goals as goal
-
-pub returns : goal.returns
-returns c = subst (λ (v : CoreView). IsNext (constants v) v.state c.next.result) c.self.view_is c.next.ensures

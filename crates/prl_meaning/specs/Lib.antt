@@ -1,2 +1,0 @@
--- that a flat program leaves one choice of clocks
-pub mod Clocks

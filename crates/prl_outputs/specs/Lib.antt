@@ -1,2 +1,0 @@
--- The flows of main's outputs.
-pub mod Outputs

@@ -1,0 +1,6 @@
+mod Found
+mod Schedules
+mod AcceptedLines
+mod Stops
+mod Preparing
+mod Summaries

@@ -1,0 +1,99 @@
+-- What a run needs, from what the texts mean.
+use Rattle.std.proofs.Common.{◌≡◌, ◌∙◌, ℕ, List, Some, length, refl, sym, ap, subst}
+use Rattle.prl_body.specs.declared.bodies.CheckedBody.{CheckedBody}
+use Rattle.prl_flow.specs.Rows.{Rows}
+use Rattle.prl_plan.specs.declared.horizons.Horizon.{Horizon}
+use Rattle.prl_plan.specs.Plans.{PlanView}
+use Rattle.prl_board.specs.Closings.{ClosedView, IsClosed, IsLastState}
+use Rattle.prl_exec.specs.Runs.{HasEnded, HasStopped}
+use Rattle.prl_exec.specs.declared.runs.Stopped.{Stopped}
+use Rattle.prl_flow.specs.declared.programs.OutFlow.{OutFlow}
+use Rattle.prl_flow.specs.Actuators.{AreUpTo, actuator_text}
+use Rattle.prl_plan.specs.Horizons.{IsHorizon}
+use Rattle.prl_plan.specs.Plans.{IsPlan}
+use Rattle.prl_plan.specs.Rules.{IsComplete}
+use Rattle.prl_plan.specs.Runs.{ExecState}
+use Rattle.prl_replay.specs.Replays.{AreFlowsBelow}
+use Rattle.prl_results.specs.Shown.{AreShown, core_in}
+use Rattle.prl_rule.specs.declared.views.Constants.{Constants}
+use Rattle.prl_rule.specs.declared.views.Gate.{Gate}
+use Rattle.prl_rule.specs.Known.{known, run_of}
+use Rattle.prl_values.specs.Fitting.{HaveTaskBodies, HaveTypedRows}
+use Rattle.prl_stages.specs.declared.ran.Ran.TheVariants as runs
+use Rattle.prl_stages.specs.Ran.{HasOverrun, HasRun, IsRunText}
+use Rattle.prl_stages.specs.Given.{Given}
+use Rattle.prl_stages.specs.Replayed.{Execution}
+use Rattle.prl_pipeline.specs.declared.ready.Ready.{Ready}
+use Rattle.prl_stages.specs.Runs.{meant_flows}
+use Rattle.prl_pipeline.specs.code.Ready.{IsReady, ready_of}
+
+abbrev parts : PlanView → List CheckedBody → Rows → Horizon → Ready
+parts plan bodies rows horizon = record { plan = plan; bodies = bodies; sensors = rows; horizon = horizon }
+
+-- what has the parts of an execution is what it needs
+pub same_ready : (g : Given) (r : Ready) (e : Execution g) → e.plan ≡ r.plan → e.meaning.bodies ≡ r.bodies → e.meaning.rows ≡ r.sensors → e.horizon ≡ r.horizon → r ≡ ready_of g e
+same_ready g r e p b s h =
+    ap (λ (x : PlanView). parts x r.bodies r.sensors r.horizon) (sym p)
+    ∙ ap (λ (x : List CheckedBody). parts e.plan x r.sensors r.horizon) (sym b)
+    ∙ ap (λ (x : Rows). parts e.plan e.meaning.bodies x r.horizon) (sym s)
+    ∙ ap (λ (x : Horizon). parts e.plan e.meaning.bodies e.meaning.rows x) (sym h)
+
+-- the laws of the crates below
+pub record ShownLaws : Type 0 where
+  pub flows : (k : Constants) (closed : ClosedView) (s : ExecState) (outs : List OutFlow) → closed.constants ≡ Some k → IsPlan k.plan → IsHorizon k.plan k.horizon
+      → HaveTaskBodies k.plan.graph k.bodies → HaveTypedRows k.plan.graph k.horizon.until k.sensors → IsClosed k closed.words closed.seats
+      → IsLastState k closed.words closed.seats s → AreShown closed k.plan.graph outs → AreFlowsBelow (core_in k s) (length k.plan.graph.tasks) outs
+  pub up_to : (k : Constants) (closed : ClosedView) (s : ExecState) (outs : List OutFlow) → closed.constants ≡ Some k → IsPlan k.plan → IsHorizon k.plan k.horizon
+      → HaveTaskBodies k.plan.graph k.bodies → HaveTypedRows k.plan.graph k.horizon.until k.sensors → IsClosed k closed.words closed.seats
+      → IsLastState k closed.words closed.seats s → AreShown closed k.plan.graph outs → IsComplete (run_of k) s → AreUpTo k.horizon.until outs
+
+abbrev pub known_of : Ready → Gate → Constants
+known_of r gate = known r.plan r.horizon gate r.sensors r.bodies
+
+module _ (g : Given) (r : Ready) (ready : IsReady g r) where
+  pub plan_there : IsPlan r.plan
+  plan_there = subst (λ (x : Ready). IsPlan x.plan) (sym ready.made) ready.execution.has_horizon.has_plan.is_plan
+
+  pub horizon_there : IsHorizon r.plan r.horizon
+  horizon_there = subst (λ (x : Ready). IsHorizon x.plan x.horizon) (sym ready.made) ready.execution.has_horizon.is_horizon
+
+  until_is : r.horizon.until ≡ g.until
+  until_is = subst (λ (x : Ready). x.horizon.until ≡ g.until) (sym ready.made) ready.execution.has_horizon.until
+
+  module _ (law : ShownLaws) (gate : Gate) (closed : ClosedView) (its : closed.constants ≡ Some (known_of r gate)) (ended : HasEnded closed)
+      (is_closed : IsClosed (known_of r gate) closed.words closed.seats) (outs : List OutFlow) (shown : AreShown closed r.plan.graph outs) where
+    -- what the closed board shows is up to the date
+    pub shown_up_to : AreUpTo r.horizon.until outs
+    shown_up_to =
+        let last = is_closed.last in
+        law.up_to (known_of r gate) closed last.0 outs its plan_there horizon_there ready.serve ready.rows is_closed last.1 shown (ended (known_of r gate) last.0 its last.1)
+
+    -- and main's outputs
+    pub shown_meant : outs ≡ meant_flows g ready.execution.meaning
+    shown_meant =
+        let last = is_closed.last in
+        ready.outs last.0 outs (law.flows (known_of r gate) closed last.0 outs its plan_there horizon_there ready.serve ready.rows is_closed last.1 shown) shown_up_to
+
+    pub board_has_run : HasRun g ready.execution gate closed
+    board_has_run = record {
+      constants = subst (λ (x : Ready). closed.constants ≡ Some (known_of x gate)) ready.made its;
+      ended = ended;
+      shown = subst (λ (x : Ready). AreShown closed x.plan.graph (meant_flows g ready.execution.meaning)) ready.made
+          (subst (AreShown closed r.plan.graph) shown_meant shown);
+    }
+
+    pub run_text_is : (text : List ℕ) → text ≡ actuator_text r.horizon.until outs → IsRunText g gate text (runs.Ended closed)
+    run_text_is text written = record {
+      execution = ready.execution;
+      closed = closed;
+      ended = refl;
+      run = board_has_run;
+      written = written ∙ ap (λ (until : ℕ). actuator_text until outs) until_is ∙ ap (actuator_text g.until) shown_meant;
+    }
+
+  pub overrun_is : (gate : Gate) (stopped : Stopped) → HasStopped (known_of r gate) stopped → HasOverrun g gate r.plan stopped
+  overrun_is gate stopped has = record {
+    execution = ready.execution;
+    plan_is = sym (ap (λ (x : Ready). x.plan) ready.made);
+    run = subst (λ (x : Ready). HasStopped (known_of x gate) stopped) ready.made has;
+  }

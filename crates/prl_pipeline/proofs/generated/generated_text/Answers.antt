@@ -1,0 +1,20 @@
+use Rattle.std.proofs.Common.{refl}
+use Rattle.std.proofs.lemmas.Result.{err_from_is_err_and}
+use Rattle.prl_pipeline.proofs.Stops.{generated_answered, generated_stop}
+use Rattle.prl_pipeline.proofs.generated.generated_text.Goals as goal
+
+pub returns-in_err-ready-clause-stop : goal.returns-in_err-ready-clause-stop
+returns-in_err-ready-clause-stop c =
+    let p = err_from_is_err_and c.from_residual-in_err-ready.result c.from_residual-in_err-ready.ensures.1 in
+    rw (p.1, p.2)
+    (generated_stop c.args.command.now c.requires.mode c.in_ok-request.request c.in_ok-request.ensures.given c.in_err-ready.field-0.0 c.in_err-ready.ensures.stop)
+
+pub returns-in_err-made-clause-stop : goal.returns-in_err-made-clause-stop
+returns-in_err-made-clause-stop c =
+    let p = err_from_is_err_and c.from_residual-in_err-made.result c.from_residual-in_err-made.ensures.1 in
+    rw (p.1, p.2) (λ old. refl)
+
+pub returns-clause-text : goal.returns-clause-text
+returns-clause-text c = λ told.
+    generated_answered told c.args.command.now c.requires.mode c.in_ok-request.request c.in_ok-request.ensures.given c.in_ok-made.made.0.items c.in_ok-made.made.1
+    c.in_ok-made.ensures c.in_ok-ready.ensures.holds

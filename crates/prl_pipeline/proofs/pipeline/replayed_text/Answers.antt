@@ -1,0 +1,40 @@
+use Rattle.std.proofs.Common.{◌++◌, List, [], ◌∷◌, inr}
+use Rattle.std.specs.Prelude.{is_some}
+use Rattle.std.proofs.lemmas.Result.{err_from_is_err_and}
+use Rattle.prl_stages.specs.declared.stages.Stage.{Stage}
+use Rattle.prl_stages.specs.declared.stages.Stage.TheVariants as stages
+use Rattle.prl_stages.specs.Stages.{executed, stages_after}
+use Rattle.prl_arguments.specs.declared.arguments.Mode.TheVariants as modes
+use Rattle.prl_pipeline.specs.code.Stops.{given_of, AllHold, StopsIn}
+use Rattle.prl_pipeline.proofs.Stops.{both_hold, err_map, ok_map, stops_first, stops_rest}
+use Rattle.prl_pipeline.proofs.pipeline.replayed_text.Goals as goal
+
+-- the stages of the flat program
+abbrev flat : List Stage
+flat = stages.Expansion ∷ stages.Causality ∷ stages.Clocks ∷ []
+
+pub returns-in_err-front-clause-stop : goal.returns-in_err-front-clause-stop
+returns-in_err-front-clause-stop c =
+    let g = given_of c.args.request.now in
+    let p = err_from_is_err_and c.from_residual-in_err-front.result c.from_residual-in_err-front.ensures.1 in
+    rw (p.1, p.2) (inr (
+      c.in_ok-program.ensures.holds,
+      inr (c.in_ok-typed.ensures.holds, stops_first g flat executed c.in_err-front.field-0.0 c.in_err-front.ensures.stop),
+    ))
+
+pub returns-clause-holds : goal.returns-clause-holds
+returns-clause-holds c =
+    let g = given_of c.args.request.now in
+    ok_map c.executed_text.result (λ _. AllHold g executed) (λ _. AllHold g (stages_after modes.Replay (c.args.request.now.named)))
+    (λ text rest. (c.in_ok-program.ensures.holds, (c.in_ok-typed.ensures.holds, both_hold g flat executed c.in_ok-front.ensures.holds rest)))
+    c.executed_text.ensures.holds
+
+pub returns-clause-stop : goal.returns-clause-stop
+returns-clause-stop c =
+    let g = given_of c.args.request.now in
+    err_map c.executed_text.result (StopsIn g executed) (StopsIn g (stages_after modes.Replay (c.args.request.now.named)))
+    (λ stop at. inr (
+      c.in_ok-program.ensures.holds,
+      inr (c.in_ok-typed.ensures.holds, stops_rest g flat executed stop c.in_ok-front.ensures.holds at),
+    ))
+    c.executed_text.ensures.stop

@@ -1,0 +1,54 @@
+use Rattle.std.proofs.Common.{◌++◌, ◌∙◌, ℕ, ap}
+use Rattle.prl_ast.specs.Trees.{program_tree}
+use Rattle.prl_flow.specs.Actuators.{actuator_text}
+use Rattle.prl_schedules.specs.ReadTexts.{text_of_reads}
+use Rattle.prl_schedules.specs.ScheduleTexts.{task_names}
+use Rattle.prl_pipeline.specs.code.Stops.{given_of}
+use Rattle.prl_stages.proofs.Running.{Laws, bodies_there, cores_text_is, rows_there, text_is}
+use Rattle.prl_pipeline.proofs.replayed.accepted_program_runs.Goals as goal
+
+pub returns : goal.returns
+returns c =
+    let g = given_of c.args.request.now in
+    let t = c.args.typed.now in
+    let p = program_tree t.program in
+    let run = c.args.run.now in
+    let plan = c.args.plan.now in
+    let horizon = c.args.horizon in
+    let q = c.requires in
+    let law : Laws = record {
+      meaning_laws = record {
+        solutions = c.behaviours_are_solutions.ensures;
+        states = c.behaviours_are_of_their_states.ensures;
+        clocks = c.clocks_are_unique.ensures.solutions;
+      };
+      fitted = c.expansions_have_bodies.ensures;
+      solved = c.programs_have_one_solution.ensures;
+      solves = c.solutions_are_of_their_clocks.ensures;
+      read = c.rows_are_typed_and_enough.ensures;
+      task_bodies = c.bodies_and_rows_serve_tasks.ensures.bodies;
+      task_rows = c.bodies_and_rows_serve_tasks.ensures.rows;
+      exist = c.job_values_exist.ensures;
+      agree = c.job_values_are_one.ensures.edges;
+      given = c.solutions_give_job_values.ensures.given;
+      operands = c.solutions_give_job_values.ensures.operands;
+      got = c.actuators_get_the_outputs.ensures;
+    } in
+    let range = c.main-main.ensures.range in
+    let well_formed = c.flows-flows.ensures.well_formed in
+    record {
+      bodies =
+          bodies_there law g p t.main t.types run.flat q.typed q.expanded range well_formed run.clocks.of run.order.flows q.order run.bodies q.bodies q.have
+          run.sensors q.rows plan c.plan_is_one.ensures q.graph;
+      rows =
+          rows_there law g p t.main t.types run.flat q.typed q.expanded range well_formed run.clocks.of run.order.flows q.order run.bodies q.bodies q.have
+          run.sensors q.rows plan c.plan_is_one.ensures q.graph horizon q.horizon.until;
+      text = λ events reads outs text listed trace up_to written.
+          text_is law g p t.main t.types run.flat q.typed q.expanded range well_formed run.clocks.of run.order.flows q.order run.bodies q.bodies q.have
+          run.sensors q.rows plan c.plan_is_one.ensures q.graph horizon q.horizon q.main events listed reads outs trace up_to text
+          (written ∙ ap (λ (until : ℕ). text_of_reads (task_names plan) reads ++ actuator_text until outs) q.horizon.until);
+      cores = λ placement events reads outs text placed listed gated trace up_to written.
+          cores_text_is law g p t.main t.types run.flat q.typed q.expanded range well_formed run.clocks.of run.order.flows q.order run.bodies q.bodies q.have
+          run.sensors q.rows plan c.plan_is_one.ensures q.graph horizon q.horizon q.main placement placed events listed gated reads outs trace up_to text
+          (written ∙ ap (λ (until : ℕ). text_of_reads (task_names plan) reads ++ actuator_text until outs) q.horizon.until);
+    }

@@ -1,0 +1,4 @@
+pub mod Stops
+pub mod Placed
+pub mod Ready
+pub mod Generated

@@ -1,0 +1,48 @@
+-- What private functions say of what a run needs.
+use Rattle.std.specs.Prelude.{◌≡◌, List, length}
+use Rattle.prl_arguments.specs.declared.arguments.Mode.{Mode}
+use Rattle.prl_arguments.specs.declared.arguments.Mode.TheVariants as modes
+use Rattle.prl_core.specs.Cores.{opened}
+use Rattle.prl_flow.specs.declared.programs.OutFlow.{OutFlow}
+use Rattle.prl_flow.specs.Actuators.{AreUpTo}
+use Rattle.prl_plan.specs.Runs.{ExecState}
+use Rattle.prl_replay.specs.Replays.{AreFlowsBelow}
+use Rattle.prl_values.specs.Fitting.{HaveTaskBodies, HaveTypedRows}
+use Rattle.prl_stages.specs.Given.{Given}
+use Rattle.prl_stages.specs.Replayed.{Execution}
+use Rattle.prl_stages.specs.Runs.{meant_flows}
+use Rattle.prl_stages.specs.Ran.{HasOverrun, IsRunText}
+use Rattle.prl_rule.specs.declared.views.Gate.{Gate}
+use Rattle.prl_pipeline.specs.declared.ready.Ready.{Ready}
+use Rattle.prl_pipeline.specs.declared.running.Outcome.{Outcome}
+use Rattle.prl_pipeline.specs.declared.running.Outcome.TheVariants as outcomes
+
+-- what the texts mean with the program's plan, as what a run needs
+abbrev pub ready_of : (g : Given) → Execution g → Ready
+ready_of g e = record { plan = e.plan; bodies = e.meaning.bodies; sensors = e.meaning.rows; horizon = e.horizon }
+
+-- It is what the texts mean, with bodies and rows that serve the tasks; and what the actuators have got in a state, where it is
+-- up to the date, are main's outputs.
+pub record IsReady (g : Given) (r : Ready) : Type 0 where
+  pub execution : Execution g
+  pub made : r ≡ ready_of g execution
+  pub serve : HaveTaskBodies r.plan.graph r.bodies
+  pub rows : HaveTypedRows r.plan.graph r.horizon.until r.sensors
+  pub outs : (s : ExecState) (flows : List OutFlow) → AreFlowsBelow (record (opened r.plan r.bodies r.sensors r.horizon) { state = s }) (length r.plan.graph.tasks) flows
+      → AreUpTo r.horizon.until flows → flows ≡ meant_flows g execution.meaning
+
+-- all jobs have ended, or the run has stopped at a read that was overrun
+abbrev pub IsOutcome : Given → Gate → Outcome → Type 0
+IsOutcome g gate (outcomes.Ended text ran) = IsRunText g gate text.items ran
+IsOutcome g gate (outcomes.Overrun plan stopped) = HasOverrun g gate plan stopped
+
+-- the mode runs nothing
+abbrev pub RunsNothing : Mode → Type 0
+RunsNothing modes.Run = ⊥
+RunsNothing modes.Generate = ⊥
+RunsNothing mode = Unit {0}
+
+-- the texts of the mode are those of files
+abbrev pub HasFiles : Mode → Type 0
+HasFiles modes.Generate = ⊥
+HasFiles mode = Unit {0}

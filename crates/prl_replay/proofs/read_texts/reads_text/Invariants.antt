@@ -1,9 +1,0 @@
-use Rattle.std.proofs.Common.{◌≡◌, take}
-use Rattle.std.specs.List.{flat_map}
-use Rattle.prl_replay.specs.ScheduleTexts.{task_names}
-use Rattle.prl_replay.specs.ReadTexts.{read_line}
-use Rattle.prl_replay.proofs.read_texts.reads_text.Given as goal
-
--- the lines of the reads so far
-abbrev pub invariant-loop-seen : goal.invariant-loop-seen
-invariant-loop-seen l = l.text.items ≡ flat_map (read_line (task_names l.plan)) (take l.seen-index l.reads)

@@ -1,0 +1,27 @@
+//! The text of a replay.
+
+ghost use Rattle.std.specs.Prelude.{◌≡◌, ◌++◌, ◌<◌, ◌^◌, ℕ, All, IfOk, length};
+ghost use Rattle.prl_flow.specs.Actuators.{AreUpTo, actuator_text};
+ghost use Rattle.prl_schedules.specs.ReadTexts.{ReadsOfTasks, text_of_reads};
+ghost use Rattle.prl_schedules.specs.ScheduleTexts.{task_names};
+
+use crate::Trace;
+use prl_plan::Plan;
+use prl_schedules::reads_text;
+use prl_sensors::actuator_text;
+use std::alloc::{AllocError, Global};
+
+/// The text of a replay: a line `read TASK JOB PORT INSTANCE CELL VALUE` for each read of an instance and a line
+/// `const TASK JOB PORT VALUE` for each read of a constant, in the order of the events, and then the rows
+/// `NAME,INSTANCE,DATE,VALUE` of the actuators by date.
+pub fn trace_text(alloc: Global, plan: &Plan, trace: &Trace) -> Result<Vec<u8>, AllocError>
+    requires reads { All (ReadsOfTasks (length plan.now.graph.tasks)) trace.now.reads }
+    requires outputs { (until : ℕ) × (until < 2 ^ 64) × AreUpTo until trace.now.outputs }
+    ensures { (until : ℕ) → AreUpTo until trace.now.outputs →
+        IfOk result (λ text. text.items ≡ text_of_reads (task_names plan.now) trace.now.reads ++ actuator_text until trace.now.outputs) }
+{
+    let mut text = reads_text(alloc, plan, trace.reads.as_slice())?;
+    let rows = actuator_text(alloc, trace.outputs.as_slice())?;
+    text.extend_from_slice(rows.as_slice())?;
+    Ok(text)
+}

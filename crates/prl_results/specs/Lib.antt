@@ -1,0 +1,2 @@
+-- What a closed board shows of the actuators.
+pub mod Shown

@@ -1,0 +1,25 @@
+//! Laws of dispatched lists, as functions that do nothing: the contract of each is the law, over the definitions alone.
+
+ghost use Rattle.std.specs.Prelude.{List};
+ghost use Rattle.prl_plan.specs.declared.horizons.Horizon.{Horizon as AnyHorizon};
+ghost use Rattle.prl_plan.specs.Facts.{HasPlanFacts};
+ghost use Rattle.prl_plan.specs.Horizons.{IsHorizon, constants_of};
+ghost use Rattle.prl_plan.specs.Plans.{PlanView, IsPlan};
+ghost use Rattle.prl_plan.specs.Rules.{IsLegal, IsComplete};
+ghost use Rattle.prl_plan.specs.Runs.{RunConstants, ExecState, opening, after_events};
+ghost use Rattle.prl_schedules.specs.Dispatches.{IsDispatched};
+ghost use Rattle.prl_plan.specs.declared.events.Event.{Event as AnyEvent};
+
+use prl_plan::{events_are_decided, plans_keep_facts};
+
+/// Each plan has a dispatched list in each of its horizons, and a dispatched list is legal and complete. So a legal and complete
+/// list exists.
+pub fn plans_are_dispatched()
+    ensures some { (plan : PlanView) (horizon : AnyHorizon) → IsPlan plan → IsHorizon plan horizon →
+        (events : List AnyEvent) × IsDispatched (constants_of plan horizon) (opening (constants_of plan horizon)) events }
+    ensures legal { (c : RunConstants) → HasPlanFacts c → (s : ExecState) (events : List AnyEvent) → IsDispatched c s events → IsLegal c s events }
+    ensures complete { (c : RunConstants) (s : ExecState) (events : List AnyEvent) → IsDispatched c s events → IsComplete c (after_events c s events) }
+{
+    events_are_decided();
+    plans_keep_facts();
+}

@@ -1,0 +1,113 @@
+-- Main's inputs and outputs: how many there are, their names, types and needs one by one, and what is known of their rows.
+use Rattle.std.proofs.Common.{◌≡◌, ℕ, ◌+◌, ◌<◌, ◌≤◌, List, [], ◌∷◌, ◌++◌, length, map, take, Some, Ok, sym, ap, ◌∙◌, arith, slice_get}
+use Rattle.std.specs.Option.{option_map}
+use Rattle.std.proofs.lemmas.List.{length-map, length-append, map_more}
+use Rattle.std.proofs.lemmas.Option.{get_or_from_slice_get, slice_get-map, slice_get_within}
+use Rattle.prl_base.specs.Clocks.{IsClock}
+use Rattle.prl_base.specs.declared.numbers.FlowNo.{FlowNo}
+use Rattle.prl_base.specs.declared.operators.Clock.{Clock}
+use Rattle.prl_base.specs.declared.values.Ty.{Ty}
+use Rattle.prl_base.specs.declared.values.Ty.TheVariants as types
+use Rattle.prl_ast.specs.Trees.{ProgramTree}
+use Rattle.prl_behaviours.specs.Annotations.{Entered, entered, flows_in, right_flows}
+use Rattle.prl_behaviours.specs.Asked.{inputs_of as entered_inputs, outputs_of as entered_outputs}
+use Rattle.prl_expand.specs.Flats.{flow_no}
+use Rattle.prl_expand.specs.Expanding.{IsExpanded}
+use Rattle.prl_flow.specs.Counts.{dates_before}
+use Rattle.prl_flow.specs.Programs.{Device, FlatProgram, IsFlat, name_of}
+use Rattle.prl_flow.specs.Rows.{Rows}
+use Rattle.prl_flow.specs.Solutions.{AreClocks, HasRows, clock_of}
+use Rattle.prl_flow.proofs.ClockDates.{dates_before_number}
+use Rattle.prl_sensors.specs.Facts.{AreRowsFor}
+use Rattle.prl_sensors.specs.SensorRows.{Inputs, sensors_of}
+use Rattle.prl_solutions.specs.Conditions.{AreTypedRows}
+use Rattle.prl_stages.specs.Runs.{inputs_of, needs_of, type_of_flow}
+
+-- the variables of a node are no more than all flows
+inputs_within : {F R N : Type 0} (e : Entered F R N) → length (entered_inputs e) ≤ length (flows_in e)
+inputs_within (entered ins outs locals rights) =
+    let a = length-append ins outs in
+    let b = length-append (ins ++ outs) locals in
+    let c = length-append ((ins ++ outs) ++ locals) (right_flows rights) in omega (arith, a, b, c)
+
+outputs_within : {F R N : Type 0} (e : Entered F R N) → length (entered_outputs e) ≤ length (flows_in e)
+outputs_within (entered ins outs locals rights) =
+    let a = length-append ins outs in
+    let b = length-append (ins ++ outs) locals in
+    let c = length-append ((ins ++ outs) ++ locals) (right_flows rights) in omega (arith, a, b, c)
+
+-- main has no more inputs and outputs than a program may have flows
+pub few_inputs : (p : ProgramTree) (main : ℕ) (tys : List Ty) (flat : FlatProgram) → IsExpanded p main tys flat → length flat.ins ≤ 4096
+few_inputs p main tys flat x =
+    let few = x.few in
+    let within = inputs_within x.expansion in
+    let count : length flat.ins ≡ length (entered_inputs x.expansion) =
+    ap (λ (f : FlatProgram). length f.ins) x.flat_is ∙ length-map (entered_inputs x.expansion) flow_no in
+    omega (arith, few, within, count)
+
+pub few_outputs : (p : ProgramTree) (main : ℕ) (tys : List Ty) (flat : FlatProgram) → IsExpanded p main tys flat → length flat.outs ≤ 4096
+few_outputs p main tys flat x =
+    let few = x.few in
+    let within = outputs_within x.expansion in
+    let count : length flat.outs ≡ length (entered_outputs x.expansion) =
+    ap (λ (f : FlatProgram). length f.outs) x.flat_is ∙ length-map (entered_outputs x.expansion) flow_no in
+    omega (arith, few, within, count)
+
+abbrev no_flow : FlowNo
+no_flow = record { 0 = 0 }
+
+-- one name, one type and one need more
+pub one_name : (devices : List Device) (k : ℕ) → k < length devices
+    → map (λ (d : Device). d.0) (take (k + 1) devices) ≡ map (λ (d : Device). d.0) (take k devices) ++ name_of devices k ∷ []
+one_name devices k below = map_more (λ (d : Device). d.0) devices k ([], 0) below
+
+module _ (p : FlatProgram) (clocks : List Clock) (until : ℕ) where
+  abbrev type_at : FlowNo → Ty
+  type_at flow = type_of_flow (slice_get p.flows flow.0)
+
+  abbrev need_at : FlowNo → ℕ
+  need_at flow = dates_before until (clock_of clocks flow.0)
+
+  pub one_type : (k : ℕ) (flow : FlowNo) → slice_get p.ins k ≡ Some flow → map type_at (take (k + 1) p.ins) ≡ map type_at (take k p.ins) ++ type_at flow ∷ []
+  one_type k flow found =
+      map_more type_at p.ins k no_flow (slice_get_within p.ins k flow found)
+      ∙ ap (λ (f : FlowNo). map type_at (take k p.ins) ++ type_at f ∷ []) (get_or_from_slice_get p.ins k flow no_flow found)
+
+  pub one_need : (k : ℕ) (flow : FlowNo) → slice_get p.ins k ≡ Some flow → map need_at (take (k + 1) p.ins) ≡ map need_at (take k p.ins) ++ need_at flow ∷ []
+  one_need k flow found =
+      map_more need_at p.ins k no_flow (slice_get_within p.ins k flow found)
+      ∙ ap (λ (f : FlowNo). map need_at (take k p.ins) ++ need_at f ∷ []) (get_or_from_slice_get p.ins k flow no_flow found)
+
+  module _ (flat : IsFlat p) where
+    -- the flow of an input is there
+    pub input_within : (k : ℕ) (flow : FlowNo) → slice_get p.ins k ≡ Some flow → flow.0 < length p.flows
+    input_within k flow found = let (f, at, is) = flat.ins k flow found in slice_get_within p.flows flow.0 f at
+
+    pub as_many_types : length (inputs_of p).types ≡ length (inputs_of p).names
+    as_many_types = length-map p.ins type_at ∙ sym flat.in_count ∙ sym (length-map p.in_devices (λ (d : Device). d.0))
+
+    pub as_many_needs : length (needs_of p clocks until) ≡ length (inputs_of p).names
+    as_many_needs = length-map p.ins need_at ∙ sym flat.in_count ∙ sym (length-map p.in_devices (λ (d : Device). d.0))
+
+    module _ (law : (inputs : Inputs) (needs text : List ℕ) (rows : Rows) → length needs ≡ length inputs.names → sensors_of inputs needs text ≡ Ok rows → AreRowsFor inputs needs rows)
+        (text : List ℕ) (rows : Rows) (read : sensors_of (inputs_of p) (needs_of p clocks until) text ≡ Ok rows) where
+      are : AreRowsFor (inputs_of p) (needs_of p clocks until) rows
+      are = law (inputs_of p) (needs_of p clocks until) text rows as_many_needs read
+
+      -- the rows have the types of their flows
+      pub typed_rows : AreTypedRows p rows
+      typed_rows = λ k flow found n v here.
+          let (f, at, is) = flat.ins k flow found in
+          let read_type = get_or_from_slice_get (map type_at p.ins) k (type_at flow) types.Int (slice_get-map type_at p.ins k ∙ ap (option_map type_at) found) in
+          let ty = (are.types k n v here).0 in
+          (f, at, sym (ap type_of_flow at) ∙ sym read_type ∙ sym ty)
+
+      -- and there is one for each date
+      pub enough_rows : AreClocks p clocks → HasRows p clocks rows until
+      enough_rows of = λ k flow found n before.
+          let inside = input_within k flow found in
+          let counted = of.count in
+          let clock : IsClock (clock_of clocks flow.0) = of.clock flow.0 (omega (arith, inside, counted)) in
+          let number = (dates_before_number until (clock_of clocks flow.0) n clock).1 before in
+          let enough = are.enough k (need_at flow) (slice_get-map need_at p.ins k ∙ ap (option_map need_at) found) in
+          omega (arith, number, enough)

@@ -1,0 +1,282 @@
+-- A program that is accepted runs on its plan: the machine has what it needs, and what it tells is of the one behaviour.
+use Rattle.std.proofs.Common.{◌≡◌, ◌++◌, ◌<◌, ℕ, List, Option, Some, Ok, length, map, slice_get, refl, sym, ap, ◌∙◌, subst, arith}
+use Rattle.std.specs.List.{AllByRecursion}
+use Rattle.std.proofs.lemmas.Option.{get_or_from_slice_get, slice_get_within}
+use Rattle.prl_base.specs.Clocks.{date_at}
+use Rattle.prl_base.specs.Values.{type_of}
+use Rattle.prl_base.specs.declared.numbers.FlowNo.{FlowNo}
+use Rattle.prl_base.specs.declared.operators.Clock.{Clock}
+use Rattle.prl_base.specs.declared.values.Ty.{Ty}
+use Rattle.prl_base.specs.declared.values.Value.{Value}
+use Rattle.prl_ast.specs.InRange.{IsInRange}
+use Rattle.prl_ast.specs.Trees.{ProgramTree}
+use Rattle.prl_body.specs.declared.bodies.CheckedBody.{CheckedBody}
+use Rattle.prl_body.specs.Bodies.{IsWellTyped}
+use Rattle.prl_body.specs.Checks.{body_tree}
+use Rattle.prl_body.specs.Used.{HaveBodiesOf}
+use Rattle.prl_track.specs.declared.seen.Seen.{Seen}
+use Rattle.prl_evaluation.specs.Evaluations.{AreSolution}
+use Rattle.prl_expand.specs.Expansions.{Expansion, IsExpansion}
+use Rattle.prl_expand.specs.Flats.{flat_of}
+use Rattle.prl_expand.specs.Expanding.{IsExpanded}
+use Rattle.prl_flow.specs.declared.programs.OutFlow.{OutFlow}
+use Rattle.prl_flow.specs.Actuators.{AreUpTo, actuator_text}
+use Rattle.prl_flow.specs.Applications.{HaveBodies}
+use Rattle.prl_flow.specs.Programs.{FlatProgram, HasType, IsFlat}
+use Rattle.prl_flow.specs.Rows.{Rows, rows_of}
+use Rattle.prl_flow.specs.Solutions.{AreClocks, HasRows as HaveRows, Solves, clock_of}
+use Rattle.prl_flow.specs.States.{IsSolution, State, Timed}
+use Rattle.prl_flow.specs.Uses.{IsOrder}
+use Rattle.prl_flow.proofs.Lists.{element_at}
+use Rattle.prl_graph.specs.EdgeValues.{value_on_date}
+use Rattle.prl_graph.specs.JobDates.{values_on_dates}
+use Rattle.prl_graph.specs.Ports.{InputPort, ports_of}
+use Rattle.prl_graph.specs.TaskGraphs.{AreSmallClocks, IsGraphOf}
+use Rattle.prl_core.specs.Cores.{CoreView, opened, opened_on}
+use Rattle.prl_names.specs.Uses.{used_imports}
+use Rattle.prl_replay.specs.Outputs.{out_flows}
+use Rattle.prl_plan.specs.declared.events.Event.{Event}
+use Rattle.prl_plan.specs.declared.graphs.Edge.{Edge}
+use Rattle.prl_plan.specs.declared.graphs.TaskGraph.{TaskGraph}
+use Rattle.prl_plan.specs.declared.horizons.Horizon.{Horizon}
+use Rattle.prl_plan.specs.Graphs.{IsWellFormed}
+use Rattle.prl_plan.specs.Horizons.{Placement, alone, constants_of}
+use Rattle.prl_plan.specs.Rules.{IsGated}
+use Rattle.prl_plan.specs.Jobs.{IsHorizonJob}
+use Rattle.prl_plan.specs.Plans.{IsPlan, PlanView, edge_at, no_edge}
+use Rattle.prl_plan.specs.Runs.{ExecState, opening}
+use Rattle.prl_schedules.specs.ReadTexts.{text_of_reads}
+use Rattle.prl_schedules.specs.Schedules.{schedule_of}
+use Rattle.prl_schedules.specs.ScheduleTexts.{task_names}
+use Rattle.prl_sensors.specs.Facts.{AreRowsFor}
+use Rattle.prl_sensors.specs.SensorRows.{Inputs, sensors_of}
+use Rattle.prl_solutions.specs.Conditions.{AreTypedRows, HaveTypedBodies, clocks_in, values_in}
+use Rattle.prl_solutions.specs.Uniqueness.{ExactlyOne}
+use Rattle.prl_replay.specs.Replays.{AreFlowsBelow, IsTrace, after_all}
+use Rattle.prl_types.specs.Typing.{IsTyped}
+use Rattle.prl_values.specs.Fitting.{HaveTaskBodies, HaveTypedRows}
+use Rattle.prl_values.specs.JobValues.{AreJobValues, JobValues, job_values, value_on}
+use Rattle.prl_stages.specs.declared.faults.InputFile.TheVariants as parts
+use Rattle.prl_stages.specs.Given.{Given, text_of}
+use Rattle.prl_stages.specs.Parts.{AreBodies, IsMain}
+use Rattle.prl_stages.specs.Placed.{HasPlacement, IsCoresText, Lists}
+use Rattle.prl_stages.specs.Replayed.{Execution, IsReplayText, ReadFlows}
+use Rattle.prl_stages.specs.Runs.{HasRows, meant_flows}
+use Rattle.prl_stages.specs.Scheduled.{HasHorizon}
+use Rattle.prl_stages.proofs.Inputs.{enough_rows, typed_rows}
+use Rattle.prl_stages.proofs.Meaning as meaning
+use Rattle.prl_stages.proofs.SmallClocks.{small_clocks}
+use Rattle.prl_stages.proofs.TypedBodies.{checked_are_typed, named_typed}
+
+-- the laws of the crates below
+pub record Laws : Type 0 where
+  pub meaning_laws : meaning.Laws
+  pub fitted : (p : ProgramTree) (asked : Option (List ℕ)) (main : ℕ) (types : List Ty) (e : Expansion) → IsInRange p → IsTyped p asked main types
+      → IsExpansion p main e → (bodies : List CheckedBody) → HaveBodiesOf p.imports (used_imports p main) bodies → HaveBodies (flat_of p types main e) bodies
+  pub solved : (p : FlatProgram) (clocks : List Clock) (order : List FlowNo) (bodies : List CheckedBody) (rows : Rows) (until : ℕ)
+      → IsFlat p → AreClocks p clocks → IsOrder p order → HaveBodies p bodies → HaveTypedBodies p bodies → HaveRows p clocks rows until
+      → ExactlyOne (λ (s : State). IsSolution p bodies rows until s × (clocks_in s ≡ clocks))
+  pub solves : (p : FlatProgram) (bodies : List CheckedBody) (rows : Rows) (until : ℕ) (s : State) → IsFlat p → IsSolution p bodies rows until s
+      → AreClocks p (map (λ (f : Timed). f.clock) s.flows)
+      × Solves p (map (λ (f : Timed). f.clock) s.flows) bodies rows until (map (λ (f : Timed). f.values) s.flows)
+  pub read : (inputs : Inputs) (needs text : List ℕ) (rows : Rows) → length needs ≡ length inputs.names → sensors_of inputs needs text ≡ Ok rows → AreRowsFor inputs needs rows
+  pub task_bodies : (p : FlatProgram) (clocks : List Clock) (bodies : List CheckedBody) (graph : TaskGraph) → IsFlat p → IsGraphOf p clocks graph
+      → HaveBodies p bodies → AllByRecursion IsWellTyped bodies → HaveTaskBodies graph bodies
+  pub task_rows : (p : FlatProgram) (clocks : List Clock) (rows : Rows) (until : ℕ) (graph : TaskGraph) → IsFlat p → IsGraphOf p clocks graph
+      → HaveRows p clocks rows until
+      → ((k : ℕ) (flow : FlowNo) → slice_get p.ins k ≡ Some flow → (n : ℕ) (v : Value) → slice_get (rows_of rows k) n ≡ Some v → HasType p (type_of v) flow)
+      → HaveTypedRows graph until rows
+  pub exist : (plan : PlanView) → IsPlan plan → (bodies : List CheckedBody) (rows : Rows) (until : ℕ)
+      → AreJobValues plan.graph bodies rows until (job_values plan.graph bodies rows until)
+  pub agree : (plan : PlanView) → IsPlan plan → (bodies : List CheckedBody) (rows : Rows) (until : ℕ) (v w : JobValues) → AreJobValues plan.graph bodies rows until v
+      → AreJobValues plan.graph bodies rows until w → (e n : ℕ) → e < length plan.graph.edges → IsHorizonJob plan.graph until (edge_at plan.graph e).to.0 n
+      → value_on v (edge_at plan.graph e) n ≡ value_on w (edge_at plan.graph e) n
+  pub given : (p : FlatProgram) (clocks : List Clock) (bodies : List CheckedBody) (rows : Rows) (until : ℕ) (flows : List (List Value)) → IsFlat p → AreClocks p clocks
+      → AreSmallClocks clocks → HaveBodies p bodies → AllByRecursion IsWellTyped bodies → Solves p clocks bodies rows until flows → (graph : TaskGraph)
+      → IsGraphOf p clocks graph → IsWellFormed graph → AreJobValues graph bodies rows until (values_on_dates p clocks flows graph)
+  pub operands : (p : FlatProgram) (clocks : List Clock) (bodies : List CheckedBody) (rows : Rows) (until : ℕ) (flows : List (List Value)) → IsFlat p → AreClocks p clocks
+      → AreSmallClocks clocks → Solves p clocks bodies rows until flows → (graph : TaskGraph) → IsGraphOf p clocks graph → (e : ℕ) (port : InputPort) (edge : Edge)
+      → slice_get (ports_of p) e ≡ Some port → slice_get graph.edges e ≡ Some edge → (n : ℕ) → date_at (clock_of clocks port.flow) n < until
+      → value_on (values_on_dates p clocks flows graph) edge n ≡ value_on_date clocks flows port.flow n
+  pub got : (p : FlatProgram) (clocks : List Clock) (flows : List (List Value)) (core : CoreView) (outs : List OutFlow) → IsFlat p → AreClocks p clocks
+      → AreSmallClocks clocks → HaveBodies p core.bodies → AllByRecursion IsWellTyped core.bodies → Solves p clocks core.bodies core.rows core.horizon.until flows
+      → IsGraphOf p clocks core.plan.graph → IsPlan core.plan → AreFlowsBelow core (length core.plan.graph.tasks) outs → AreUpTo core.horizon.until outs
+      → outs ≡ out_flows p.out_devices clocks flows 0 p.outs
+
+module _ (law : Laws) (g : Given) (p : ProgramTree) (main : ℕ) (types : List Ty) (flat : FlatProgram) (typed : IsTyped p g.node main types)
+    (expanded : IsExpanded p main types flat) (range : IsInRange p) (well_formed : IsFlat flat) (clocks : List Clock) (order : List FlowNo)
+    (ordered : IsOrder flat order) (bodies : List CheckedBody) (trees : AreBodies g (map body_tree bodies))
+    (have : HaveBodiesOf p.imports (used_imports p main) bodies) (rows : Rows) (has : HasRows g flat clocks rows) where
+  all_typed : AllByRecursion IsWellTyped bodies
+  all_typed = checked_are_typed trees.program.imports (used_imports trees.program trees.main) trees.texts bodies trees.fitting
+
+  fitting : HaveBodies flat bodies
+  fitting =
+      subst (λ (f : FlatProgram). HaveBodies f bodies) (sym expanded.flat_is)
+      (law.fitted p g.node main types expanded.expansion range typed expanded.is bodies have)
+
+  are : AreClocks flat clocks
+  are = has.clocked.only.are
+
+  small : AreSmallClocks clocks
+  small = small_clocks flat clocks has.clocked.only
+
+  enough : HaveRows flat clocks rows g.until
+  enough = enough_rows flat clocks g.until well_formed law.read (text_of g parts.Sensors) rows has.read are
+
+  row_types : AreTypedRows flat rows
+  row_types = typed_rows flat clocks g.until well_formed law.read (text_of g parts.Sensors) rows has.read
+
+  one_state : ExactlyOne (λ (s : State). IsSolution flat bodies rows g.until s × (clocks_in s ≡ clocks))
+  one_state =
+      law.solved flat clocks order bodies rows g.until well_formed are ordered fitting
+      (λ k app body found named. named_typed bodies app.name body all_typed named) enough
+
+  abbrev table : List (List Value)
+  table = values_in one_state.one
+
+  solution : AreSolution flat clocks bodies rows g.until table
+  solution = record {
+    state = one_state.one;
+    is = one_state.is.0;
+    clocks_are = one_state.is.1;
+    values_are = refl;
+    only = λ other is on. one_state.only other (is, on);
+  }
+
+  solved : Solves flat clocks bodies rows g.until table
+  solved =
+      subst (λ (cs : List Clock). Solves flat cs bodies rows g.until table) one_state.is.1
+      (law.solves flat bodies rows g.until one_state.one well_formed one_state.is.0).1
+
+  module _ (plan : PlanView) (is_plan : IsPlan plan) (is_graph : IsGraphOf flat clocks plan.graph) where
+    -- the machine of the plan in a state
+    abbrev core_at : Placement → Horizon → ExecState → CoreView
+    core_at placement horizon s = record (opened_on plan placement bodies rows horizon) { state = s }
+
+    pub bodies_there : HaveTaskBodies plan.graph bodies
+    bodies_there = law.task_bodies flat clocks bodies plan.graph well_formed is_graph fitting all_typed
+
+    rows_up_to : HaveTypedRows plan.graph g.until rows
+    rows_up_to = law.task_rows flat clocks rows g.until plan.graph well_formed is_graph enough row_types
+
+    pub rows_there : (horizon : Horizon) → horizon.until ≡ g.until → HaveTypedRows plan.graph horizon.until rows
+    rows_there horizon same = subst (λ (n : ℕ). HaveTypedRows plan.graph n rows) (sym same) rows_up_to
+
+    -- what is read on an edge is what the flow of its port has
+    reads_are : ReadFlows flat clocks plan.graph bodies rows g.until table
+    reads_are e n port found job early =
+        let below = slice_get_within (ports_of flat) e port found in
+        let count = is_graph.edges.count in
+        let inside : e < length plan.graph.edges = omega (arith, below, count) in
+        let x = element_at plan.graph.edges e inside in
+        let edge_is : edge_at plan.graph e ≡ x.0 = get_or_from_slice_get plan.graph.edges e x.0 no_edge x.1 in
+        let into : (edge_at plan.graph e).to.0 ≡ port.task = ap (λ (y : Edge). y.to.0) edge_is ∙ (is_graph.edges.each e port x.0 found x.1).to in
+        let reads : IsHorizonJob plan.graph g.until (edge_at plan.graph e).to.0 n = subst (λ (k : ℕ). IsHorizonJob plan.graph g.until k n) (sym into) job in
+        let dates = values_on_dates flat clocks table plan.graph in
+        law.agree plan is_plan bodies rows g.until (job_values plan.graph bodies rows g.until) dates (law.exist plan is_plan bodies rows g.until)
+        (law.given flat clocks bodies rows g.until table well_formed are small fitting all_typed solved plan.graph is_graph is_plan.graph) e n inside reads
+        ∙ ap (λ (y : Edge). value_on dates y n) edge_is
+        ∙ law.operands flat clocks bodies rows g.until table well_formed are small solved plan.graph is_graph e port x.0 found x.1 n early
+
+    -- what the actuators get are main's outputs
+    outputs_are : (placement : Placement) (horizon : Horizon) → horizon.until ≡ g.until → (s : ExecState) (outs : List OutFlow)
+        → AreFlowsBelow (core_at placement horizon s) (length plan.graph.tasks) outs → AreUpTo horizon.until outs
+        → outs ≡ out_flows flat.out_devices clocks table 0 flat.outs
+    outputs_are placement horizon same s outs below up_to =
+        law.got flat clocks table (core_at placement horizon s) outs well_formed are small fitting all_typed
+        (subst (λ (n : ℕ). Solves flat clocks bodies rows n table) (sym same) solved) is_graph is_plan below up_to
+
+    -- what the texts mean, with the plan
+    pub execution : (horizon : Horizon) → HasHorizon g plan horizon → IsMain g p main → Execution g
+    unfolding solution one_state
+    execution horizon has_horizon is_main =
+        let only = has.clocked.only in
+        let one = meaning.one law.meaning_laws p g.node main types flat typed expanded well_formed clocks only bodies rows g.until table solution in
+        let state = meaning.state_is law.meaning_laws p g.node main types flat typed expanded well_formed clocks only bodies rows g.until table solution in
+        record {
+          meaning = record {
+            program = p;
+            main = main;
+            is_main = is_main;
+            bodies = bodies;
+            are_bodies = trees;
+            flat = flat;
+            clocks = clocks;
+            rows = rows;
+            has_rows = has;
+            one = one;
+          };
+          plan = plan;
+          horizon = horizon;
+          has_horizon = has_horizon;
+          is_graph = is_graph;
+          meant = subst (λ (s : State). ReadFlows flat clocks plan.graph bodies rows g.until (values_in s)) (sym state) reads_are;
+        }
+
+    module _ (horizon : Horizon) (has_horizon : HasHorizon g plan horizon) (is_main : IsMain g p main) where
+      -- it is that of this plan and its horizon, of these bodies and of these rows
+      pub plan_is : (execution horizon has_horizon is_main).plan ≡ plan
+      unfolding execution
+      plan_is = refl
+
+      pub horizon_is : (execution horizon has_horizon is_main).horizon ≡ horizon
+      unfolding execution
+      horizon_is = refl
+
+      pub bodies_are : (execution horizon has_horizon is_main).meaning.bodies ≡ bodies
+      unfolding execution
+      bodies_are = refl
+
+      pub rows_are : (execution horizon has_horizon is_main).meaning.rows ≡ rows
+      unfolding execution
+      rows_are = refl
+
+      -- what the actuators have got in a state, where it is up to the date, are main's outputs in what the texts mean
+      placed_outs : (placement : Placement) (s : ExecState) (outs : List OutFlow) → AreFlowsBelow (core_at placement horizon s) (length plan.graph.tasks) outs
+          → AreUpTo horizon.until outs
+          → outs ≡ meant_flows g (execution horizon has_horizon is_main).meaning
+      unfolding execution solution one_state
+      placed_outs placement s outs below up_to =
+          outputs_are placement horizon has_horizon.until s outs below up_to
+          ∙ meaning.outs law.meaning_laws p g.node main types flat typed expanded well_formed clocks has.clocked.only bodies rows g.until table solution
+
+      pub outs_meant : (s : ExecState) (outs : List OutFlow) → AreFlowsBelow (core_at (alone plan) horizon s) (length plan.graph.tasks) outs → AreUpTo horizon.until outs
+          → outs ≡ meant_flows g (execution horizon has_horizon is_main).meaning
+      outs_meant s outs below up_to = placed_outs (alone plan) s outs below up_to
+
+      pub text_is : (events : List Event)
+          → schedule_of (task_names plan) (text_of g parts.Schedule) ≡ Ok events → (reads : List Seen) (outs : List OutFlow)
+          → IsTrace (opened plan bodies rows horizon) events reads outs → AreUpTo horizon.until outs → (text : List ℕ)
+          → text ≡ text_of_reads (task_names plan) reads ++ actuator_text g.until outs → IsReplayText g text
+      unfolding execution
+      text_is events listed reads outs trace up_to text written = record {
+        execution = execution horizon has_horizon is_main;
+        events = events;
+        listed = listed;
+        reads = reads;
+        outs = outs;
+        trace = trace;
+        outputs = outs_meant (after_all (opened plan bodies rows horizon) events).state outs trace.flows up_to;
+        written = written;
+      }
+
+      -- the same on several processors
+      pub cores_text_is : (placement : Placement) → HasPlacement g plan placement → (events : List Event) → Lists g.listed g plan placement horizon events
+          → IsGated (constants_of plan horizon) (opening (constants_of plan horizon)) events → (reads : List Seen) (outs : List OutFlow)
+          → IsTrace (opened_on plan placement bodies rows horizon) events reads outs → AreUpTo horizon.until outs → (text : List ℕ)
+          → text ≡ text_of_reads (task_names plan) reads ++ actuator_text g.until outs → IsCoresText g text
+      unfolding execution
+      cores_text_is placement has_placement events listed gated reads outs trace up_to text written = record {
+        execution = execution horizon has_horizon is_main;
+        placement = placement;
+        has_placement = has_placement;
+        events = events;
+        listed = listed;
+        gated = gated;
+        reads = reads;
+        outs = outs;
+        trace = trace;
+        outputs = placed_outs placement (after_all (opened_on plan placement bodies rows horizon) events).state outs trace.flows up_to;
+        written = written;
+      }

@@ -1,0 +1,64 @@
+use Rattle.prl_stages.proofs.OneEnd as ends
+use Rattle.prl_stages.proofs.Running as running
+use Rattle.prl_stages.proofs.Replaying.{Laws, some_text}
+use Rattle.prl_stages.proofs.laws.whole_schedules_are_replayed.Goals as goal
+
+pub returns : goal.returns
+returns c =
+    let one : ends.Laws = record {
+      programs = c.each_text_has_one_outcome.ensures.one;
+      bodies = c.each_text_has_one_outcome-2.ensures.one;
+      one = c.outcome_is_unique.ensures;
+      ranges = c.programs_are_in_range.ensures;
+      expansions = c.expansions_are_unique.ensures;
+      formed = c.flats_are_well_formed.ensures;
+      clocks = c.outcomes_are_unique.ensures;
+      plans = record {
+        one_graph = c.graphs_end_one_way.ensures.one_graph;
+        one_fault = c.graphs_end_one_way.ensures.one_fault;
+        not_both = c.graphs_end_one_way.ensures.not_both;
+        first = c.words_begin_with_constants.ensures.first;
+        one_first = c.words_begin_with_constants.ensures.one;
+        narrow = c.faults_tell_of_narrow_chains.ensures.fault;
+        room = c.faults_tell_of_narrow_chains.ensures.room;
+        best = c.room_leaves_no_narrow_chain.ensures.best;
+        dates = c.plan_is_unique.ensures.dates;
+      };
+      runs = record {
+        plan = c.plan_is_unique.ensures.plan;
+        one_horizon = c.horizons_end_one_way.ensures.one_horizon;
+        horizon_or_limit = c.horizons_end_one_way.ensures.not_both;
+        one_limit = c.horizons_end_one_way.ensures.one_limit;
+        whole_or_fault = c.replays_end_one_way.ensures.not_both;
+        one_fault = c.replays_end_one_way.ensures.one_fault;
+        one_spread = c.spreads_are_one.ensures;
+      };
+    } in
+    let law : running.Laws = record {
+      meaning_laws = record {
+        solutions = c.behaviours_are_solutions.ensures;
+        states = c.behaviours_are_of_their_states.ensures;
+        clocks = c.clocks_are_unique.ensures.solutions;
+      };
+      fitted = c.expansions_have_bodies.ensures;
+      solved = c.programs_have_one_solution.ensures;
+      solves = c.solutions_are_of_their_clocks.ensures;
+      read = c.rows_are_typed_and_enough.ensures;
+      task_bodies = c.bodies_and_rows_serve_tasks.ensures.bodies;
+      task_rows = c.bodies_and_rows_serve_tasks.ensures.rows;
+      exist = c.job_values_exist.ensures;
+      agree = c.job_values_are_one.ensures.edges;
+      given = c.solutions_give_job_values.ensures.given;
+      operands = c.solutions_give_job_values.ensures.operands;
+      got = c.actuators_get_the_outputs.ensures;
+    } in
+    let whole : Laws = record {
+      used = c.used_imports_have_bodies.ensures;
+      facts = c.plans_keep_facts.ensures;
+      gated = c.legal_list_is_gated.ensures;
+      few = c.gated_list_keeps_halves.ensures.counted;
+      counted = c.horizon_jobs_are_counted.ensures;
+      replayed = c.whole_lists_are_replayed.ensures;
+    } in
+    λ g bodies trees flat clocks rows has order ordered plan horizon run.
+    some_text one law whole g bodies trees flat clocks rows has order ordered plan horizon run

@@ -1,0 +1,22 @@
+//! The stages of the command: what each finds, why it refuses, the modes as lists of them, and the laws that each list comes to
+//! one end. The calls that do them stand in `prl_pipeline`. It stands on the crates whose calls the stages are.
+#![tactic(auto)]
+
+mod faults;
+mod laws;
+mod ran;
+mod sizes;
+mod stages;
+mod telling;
+
+pub use faults::{
+    BodiesRefusal, ClocksRefusal, CoresRefusal, DatesRefusal, Fault, GrammarRefusal, GraphRefusal,
+    InputFile, ScheduleRefusal, SensorsRefusal, TypesRefusal,
+};
+pub use laws::{
+    front_is_decided, plans_have_schedules, stages_come_to_an_end, stages_end_one_way,
+    whole_schedules_are_replayed,
+};
+pub use ran::Ran;
+pub use sizes::{MAX_BODIES, MAX_CORES, MAX_PROGRAM, MAX_SCHEDULE, MAX_SENSORS, most_of};
+pub use stages::{Stage, Stop};

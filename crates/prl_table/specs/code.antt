@@ -1,0 +1,6 @@
+-- what the entries of a class come to
+pub mod Sums
+-- where entries stand in the hyperperiod
+pub mod Spots
+-- what the ticks of a run go to
+pub mod Ticks

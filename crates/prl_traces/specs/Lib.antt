@@ -1,2 +1,0 @@
--- what it is to replay a schedule
-pub mod Replays

@@ -1,0 +1,5 @@
+mod RouteLaws
+pub mod Places
+mod TrackSteps
+pub mod NextLaws
+pub mod Falls

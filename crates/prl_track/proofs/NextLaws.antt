@@ -1,0 +1,184 @@
+-- The event that comes next: the choice of its task, and that it is legal.
+use Rattle.std.proofs.Common.{◌≡◌, ◌+◌, ◌<◌, ◌≤◌, ◌⊎◌, ℕ, zero, suc, Option, Some, None, refl, sym, ap, subst, arith, inl, inr}
+use Rattle.std.proofs.lemmas.Bool.{cases_lt, cases_eq}
+use Rattle.prl_plan.specs.declared.events.Event.{Event}
+use Rattle.prl_plan.specs.declared.events.Event.TheVariants as events
+use Rattle.prl_plan.specs.Facts.{HasPlanFacts, IsJob}
+use Rattle.prl_plan.specs.Rules.{first_unfinished, IsUnfinished, HasJob, ActsReleased, KeepsLegal, IsComplete, IsFirstUnfinished}
+use Rattle.prl_plan.specs.Runs.{RunConstants, ExecState}
+use Rattle.prl_track.specs.declared.firsts.First.{First}
+use Rattle.prl_track.specs.declared.firsts.Chosen.{Chosen}
+use Rattle.prl_track.specs.Tracks.{IsEarliest, IsIdle, IsNext}
+use Rattle.prl_track.specs.code.Firsts.{IsFirst}
+use Rattle.prl_track.specs.code.Nexts.{IsChosen, NoneReleased, IsChoice}
+
+module _ (c : RunConstants) (facts : HasPlanFacts c) (s : ExecState) where
+  -- an unfinished job has no earlier dates than the first one of its task
+  rises : (j n : ℕ) → HasJob c s j → IsUnfinished c s j n →
+      (c.release j (first_unfinished s j) ≤ c.release j n) × (c.deadline j (first_unfinished s j) ≤ c.deadline j n)
+  rises j n has left = elim (cases_eq n (first_unfinished s j)) [
+    | inl same ↦
+        (let r = ap (λ (k : ℕ). c.release j k) same in
+        let d = ap (λ (k : ℕ). c.deadline j k) same in
+        (omega (arith, r), omega (arith, d)))
+    | inr other ↦
+        (let below = left.unfinished in
+        let job : IsJob c j n = record { task = left.task; job = left.job } in
+        let apart = facts.apart j (first_unfinished s j) n job (omega (arith, other, below)) in
+        let later = facts.window j n job in
+        let now = facts.window j (first_unfinished s j) (record { task = has.task; job = has.job }) in
+        (omega (arith, apart, now), omega (arith, apart, later)))
+  ]
+
+  module _ (j : ℕ) where
+    -- a fact of the jobs of one task more
+    one_more : (P : ℕ → ℕ → Type 0) → ((k n : ℕ) → k < j → P k n) → ((n : ℕ) → P j n) → (k n : ℕ) → k < j + 1 → P k n
+    one_more P all here k n below = elim (cases_lt k j) [
+      | inl earlier ↦ all k n earlier
+      | inr past ↦ (let same : j ≡ k = omega (arith, below, past) in subst (λ (x : ℕ). P x n) same (here n))
+    ]
+
+    chosen_stays : (chosen : Chosen) → IsChosen c s j chosen → ((n : ℕ) → IsUnfinished c s j n → c.release j n ≤ s.now → chosen.deadline ≤ c.deadline j n) →
+        IsChosen c s (j + 1) chosen
+    chosen_stays chosen is later = record {
+      below = (let b = is.below in omega (arith, b));
+      job = is.job;
+      released = is.released;
+      deadline = is.deadline;
+      first = λ k n below left at. one_more (λ k n. IsUnfinished c s k n → c.release k n ≤ s.now → chosen.deadline ≤ c.deadline k n)
+          (λ k n earlier. is.first k n earlier) later k n below left at;
+      lowest = is.lowest;
+    }
+
+    none_stays : NoneReleased c s j → ((n : ℕ) → IsUnfinished c s j n → s.now < c.release j n) → NoneReleased c s (j + 1)
+    none_stays none later k n below left =
+        one_more (λ k n. IsUnfinished c s k n → s.now < c.release k n) (λ k n earlier. none k n earlier) later k n below left
+
+    -- a task that has no released unfinished job changes nothing
+    choice_stays : (best : Option Chosen) → IsChoice c s j best → ((n : ℕ) → IsUnfinished c s j n → s.now < c.release j n) → IsChoice c s (j + 1) best
+    choice_stays None is later = none_stays is later
+    choice_stays (Some chosen) is later = chosen_stays chosen is (λ n left at. absurd (let l = later n left in omega (arith, l, at)))
+
+    pub choice_without : (best : Option Chosen) → IsChoice c s j best → c.jobs j ≤ first_unfinished s j → IsChoice c s (j + 1) best
+    choice_without best is done =
+        choice_stays best is (λ n left. absurd (let b = left.job in let u = left.unfinished in omega (arith, b, u, done)))
+
+    module _ (first : First) (is_first : IsFirst c s j first) where
+      no_earlier : (n : ℕ) → IsUnfinished c s j n → (first.release ≤ c.release j n) × (first.deadline ≤ c.deadline j n)
+      no_earlier n left =
+          (let r = rises j n is_first.left left in
+          let a = r.0 in
+          let b = r.1 in
+          let at = is_first.release in
+          let due = is_first.deadline in
+          (omega (arith, a, at), omega (arith, b, due)))
+
+      pub choice_unreleased : (best : Option Chosen) → IsChoice c s j best → s.now < first.release → IsChoice c s (j + 1) best
+      choice_unreleased best is early = choice_stays best is (λ n left. let r = (no_earlier n left).0 in omega (arith, r, early))
+
+      pub choice_kept : (chosen : Chosen) → IsChosen c s j chosen → chosen.deadline ≤ first.deadline → IsChosen c s (j + 1) chosen
+      choice_kept chosen is due = chosen_stays chosen is (λ n left at. let r = (no_earlier n left).1 in omega (arith, r, due))
+
+      module _ (released : first.release ≤ s.now) (next : Chosen) (task : next.task.0 ≡ j) (deadline : next.deadline ≡ first.deadline) where
+        next_is : ((k n : ℕ) → k < j → IsUnfinished c s k n → c.release k n ≤ s.now → first.deadline < c.deadline k n) → IsChosen c s (j + 1) next
+        next_is earlier = record {
+          below = omega (arith, task);
+          job = subst (λ (k : ℕ). HasJob c s k) (sym task) is_first.left;
+          released = subst (λ (k : ℕ). ActsReleased c s k) (sym task) (let r = is_first.release in omega (arith, r, released));
+          deadline = (let d = is_first.deadline in let t = ap (λ (k : ℕ). c.deadline k (first_unfinished s k)) task in omega (arith, d, t, deadline));
+          first = λ k n below left at. one_more (λ k n. IsUnfinished c s k n → c.release k n ≤ s.now → next.deadline ≤ c.deadline k n)
+              (λ k n below left at. let e = earlier k n below left at in omega (arith, e, deadline))
+              (λ n left at. let r = (no_earlier n left).1 in omega (arith, r, deadline)) k n below left at;
+          lowest = λ k below has at. (let e = earlier k (first_unfinished s k) (omega (arith, below, task)) has at in omega (arith, e, deadline));
+        }
+
+        pub choice_first : NoneReleased c s j → IsChosen c s (j + 1) next
+        choice_first none = next_is (λ k n below left at. absurd (let l = none k n below left in omega (arith, l, at)))
+
+        pub choice_earlier : (chosen : Chosen) → IsChosen c s j chosen → first.deadline < chosen.deadline → IsChosen c s (j + 1) next
+        choice_earlier chosen is due = next_is (λ k n below left at. let f = is.first k n below left at in omega (arith, f, due))
+
+  pub chosen_is_earliest : (chosen : Chosen) → IsChosen c s c.tasks chosen → IsEarliest c s chosen.task.0
+  chosen_is_earliest chosen is = record {
+    job = is.job;
+    released = is.released;
+    first = λ j n left at. (let f = is.first j n left.task left at in let d = is.deadline in omega (arith, f, d));
+    lowest = λ j below has at. (let l = is.lowest j below has at in let d = is.deadline in omega (arith, l, d));
+  }
+
+  pub none_is_idle : NoneReleased c s c.tasks → (i n : ℕ) → IsUnfinished c s i n → IsIdle c s
+  none_is_idle none i n left = record { left = (i, n, left); none = λ j m unfinished. none j m unfinished.task unfinished }
+
+  -- the event that comes next is legal
+  pub next_keeps_legal : (event : Event) → IsNext c s (Some event) → KeepsLegal c s event
+  next_keeps_legal (events.Act task) is = (is.job, is.released, λ j n together left released. is.first j n left released)
+  next_keeps_legal events.Tick is = record {
+    within = (let left = is.left.2 in let d = due is.left.0 is.left.1 left in
+        let w = facts.within is.left.0 is.left.1 (record { task = left.task; job = left.job }) in omega (arith, d, w));
+    ended = due;
+  }
+    where
+      due : (j n : ℕ) → IsUnfinished c s j n → s.now + 1 < c.deadline j n
+      due j n left =
+          let later = is.none j n left in
+          let window = facts.window j n (record { task = left.task; job = left.job }) in
+          omega (arith, later, window)
+
+module _ (c : RunConstants) (facts : HasPlanFacts c) (s : ExecState) where
+  -- the first unfinished job of a task that has one
+  abbrev first_job : ℕ → First
+  first_job j = record {
+    job = first_unfinished s j;
+    release = c.release j (first_unfinished s j);
+    deadline = c.deadline j (first_unfinished s j);
+  }
+
+  is_first_job : (j : ℕ) → HasJob c s j → IsFirst c s j (first_job j)
+  is_first_job j has = record { job = refl; left = has; release = refl; deadline = refl }
+
+  -- the choice with one task more
+  choice_more : (j : ℕ) → j < c.tasks → (best : Option Chosen) → IsChoice c s j best → (more : Option Chosen) × IsChoice c s (j + 1) more
+  choice_more j inside best is = elim (cases_lt (first_unfinished s j) (c.jobs j)) [
+    | inr done ↦ (best, choice_without c facts s j best is done)
+    | inl below ↦
+        (let has : HasJob c s j = record { task = inside; job = below; unfinished = omega arith } in
+        elim (cases_lt s.now (c.release j (first_unfinished s j))) [
+          | inl early ↦ (best, choice_unreleased c facts s j (first_job j) (is_first_job j has) best is early)
+          | inr released ↦ at_release j has released best is
+        ])
+  ]
+    where
+      at_release : (j : ℕ) → HasJob c s j → c.release j (first_unfinished s j) ≤ s.now → (best : Option Chosen) → IsChoice c s j best →
+          (more : Option Chosen) × IsChoice c s (j + 1) more
+      at_release j has released None is = (
+        Some (record { task = record { 0 = j }; deadline = c.deadline j (first_unfinished s j) }),
+        choice_first c facts s j (first_job j) (is_first_job j has) released (record { task = record { 0 = j }; deadline = c.deadline j (first_unfinished s j) }) refl refl is,
+      )
+      at_release j has released (Some chosen) is = elim (cases_lt (c.deadline j (first_unfinished s j)) chosen.deadline) [
+        | inl earlier ↦ (
+          Some (record { task = record { 0 = j }; deadline = c.deadline j (first_unfinished s j) }),
+          choice_earlier c facts s j (first_job j) (is_first_job j has) released (record { task = record { 0 = j }; deadline = c.deadline j (first_unfinished s j) }) refl refl chosen is earlier,
+        )
+        | inr kept ↦ (Some chosen, choice_kept c facts s j (first_job j) (is_first_job j has) chosen is kept)
+      ]
+
+  choice_up_to : (bound : ℕ) → bound ≤ c.tasks → (best : Option Chosen) × IsChoice c s bound best
+  choice_up_to zero within = (None, λ j n below left. absurd (omega (arith, below)))
+  choice_up_to (suc j) within =
+      let before = choice_up_to j (omega (arith, within)) in
+      let e : j + 1 ≡ suc j = omega arith in
+      subst (λ (k : ℕ). (best : Option Chosen) × IsChoice c s k best) e (choice_more j (omega (arith, within)) before.0 before.1)
+
+  -- in each state some event comes next, or none does since all is done
+  pub some_next : (IsComplete c s ⊎ ((i : ℕ) × (n : ℕ) × IsFirstUnfinished c s i n)) → (next : Option Event) × IsNext c s next
+  some_next decided = by_choice (choice_up_to c.tasks (omega arith)).0 (choice_up_to c.tasks (omega arith)).1
+    where
+      by_choice : (best : Option Chosen) → IsChoice c s c.tasks best → (next : Option Event) × IsNext c s next
+      by_choice (Some chosen) is = (Some (events.Act chosen.task), chosen_is_earliest c facts s chosen is)
+      by_choice None is = elim decided [
+        | inl complete ↦ (None, complete)
+        | inr first ↦
+            (let f = first.2 in
+            let now = f.first in
+            (Some events.Tick, none_is_idle c facts s is first.0 first.1 (record { task = f.task; job = f.job; unfinished = omega (arith, now) })))
+      ]

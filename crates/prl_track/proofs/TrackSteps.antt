@@ -1,0 +1,276 @@
+-- What a track keeps is kept by each event that the rules allow.
+use Rattle.std.proofs.Common.{◌≡◌, ◌≢◌, ◌+◌, ◌<◌, ◌≤◌, ◌⊎◌, ◌++◌, ℕ, zero, suc, List, [], ◌∷◌, length, replicate, get_or, set, take, Option, Some, None, refl, sym, ◌∙◌, ap, subst, arith, inl, inr}
+use Rattle.std.specs.Prelude.{slice_get, MatchOption}
+use Rattle.std.proofs.lemmas.Bool.{cases_eq}
+use Rattle.std.proofs.lemmas.Grind.{get_or-set_at}
+use Rattle.std.proofs.lemmas.List.{length-set, get_or-set_other, length-replicate}
+use Rattle.prl_base.specs.declared.numbers.EdgeNo.{EdgeNo}
+use Rattle.prl_base.specs.declared.numbers.TaskNo.{TaskNo}
+use Rattle.prl_plan.specs.declared.events.Action.{Action}
+use Rattle.prl_plan.specs.declared.events.Action.TheVariants as actions
+use Rattle.prl_plan.specs.declared.events.Event.TheVariants as events
+use Rattle.prl_plan.specs.declared.events.SlotNo.{SlotNo}
+use Rattle.prl_plan.specs.Facts.{HasPlanFacts}
+use Rattle.prl_plan.specs.declared.horizons.Horizon.{Horizon}
+use Rattle.prl_plan.specs.Horizons.{IsHorizon, Placement, constants_on}
+use Rattle.prl_plan.specs.Plans.{PlanView, IsActionOf}
+use Rattle.prl_plan.specs.Rules.{MayTick, HasJob, KeepsLegal, first_unfinished}
+use Rattle.prl_plan.specs.Runs.{RunConstants, ExecState, next_action, moved, after_action}
+use Rattle.prl_plan.specs.States.{IsSound}
+use Rattle.prl_plan.proofs.StateLaws.{gated_event_keeps_sound, legal_event_is_gated, opening_is_sound, action_is_as_defined}
+use Rattle.prl_track.specs.declared.firsts.First.{First}
+use Rattle.prl_track.specs.declared.routes.Access.{Access}
+use Rattle.prl_track.specs.declared.routes.Cursor.{Cursor}
+use Rattle.prl_track.specs.Tracks.{TrackView, run_of}
+use Rattle.prl_track.specs.code.Firsts.{IsFirstAt, AreFirsts, IsFirstOf}
+use Rattle.prl_track.specs.code.Cursors.{IsReading, AreCursors}
+use Rattle.prl_track.specs.Routes.{IsAt, AreRoutes, on_route, route_of}
+use Rattle.prl_track.specs.code.Tracks.{IsTrack}
+use Rattle.prl_track.proofs.Places.{slice_get_set_same, slice_get_set_other}
+
+reading_moves : (s : ExecState) (i : ℕ) (action : Action) → IsReading action → after_action s i action ≡ moved s i
+reading_moves s i (actions.ReadConst port value) h = refl
+reading_moves s i (actions.Read port e m slot) h = refl
+reading_moves s i (actions.Write e m slot) h = absurd h
+reading_moves s i actions.End h = absurd h
+
+-- a cursor one action further
+pub cursor_moves : (plan : PlanView) (i n place : ℕ) (cursor next : Cursor) → IsAt plan i n place cursor → next.index ≡ cursor.index → next.rest ≡ cursor.rest + 1 →
+    IsAt plan i n (place + 1) next
+cursor_moves plan i n place cursor next at index rest =
+    let p = at.stands in
+    let b = at.inside in
+    let l = ap (λ (k : ℕ). length (on_route plan n (take k (route_of plan.graph i)))) index in
+    record { inside = omega (arith, b, index); stands = omega (arith, p, l, rest) }
+
+pub cursor_opens : (plan : PlanView) (i n : ℕ) → IsAt plan i n 0 (record { index = 0; rest = 0 })
+cursor_opens plan i n = record { inside = omega arith; stands = refl }
+
+-- the element of a list where one was set
+set_at : {A : Type 0} (xs : List A) (i j : ℕ) (v x : A) → i < length xs → slice_get (set xs i v) j ≡ Some x → j ≡ i → x ≡ v
+set_at xs i j v x inside here same =
+    let at : slice_get (set xs i v) i ≡ Some v = slice_get_set_same xs i v inside in
+    let there : slice_get (set xs i v) i ≡ Some x = sym (ap (λ (k : ℕ). slice_get (set xs i v) k) same) ∙ here in
+    cc
+
+pub cursors_set : (plan : PlanView) (ended places ended' places' : List ℕ) (cursors : List Cursor) (i : ℕ) (next : Cursor) → i < length plan.graph.tasks →
+    AreCursors plan ended places cursors → ((j : ℕ) → j ≢ i → get_or ended' j 0 ≡ get_or ended j 0) → ((j : ℕ) → j ≢ i → get_or places' j 0 ≡ get_or places j 0) →
+    IsAt plan i (get_or ended' i 0) (get_or places' i 0) next → AreCursors plan ended' places' (set cursors i next)
+cursors_set plan ended places ended' places' cursors i next inside are same_ended same_places at = record {
+  tasks = length-set cursors i next ∙ are.tasks;
+  each = each;
+}
+  where
+    each : (j : ℕ) (cursor : Cursor) → slice_get (set cursors i next) j ≡ Some cursor → IsAt plan j (get_or ended' j 0) (get_or places' j 0) cursor
+    each j cursor here = elim (cases_eq j i) [
+      | inl same ↦
+          (let l = are.tasks in
+          let is : cursor ≡ next = set_at cursors i j next cursor (omega (arith, l, inside)) here same in
+          subst (λ (x : Cursor). IsAt plan j (get_or ended' j 0) (get_or places' j 0) x) (sym is)
+          (subst (λ (k : ℕ). IsAt plan k (get_or ended' k 0) (get_or places' k 0) next) (sym same) at))
+      | inr other ↦
+          (let old : IsAt plan j (get_or ended j 0) (get_or places j 0) cursor = are.each j cursor (sym (slice_get_set_other cursors i j next other) ∙ here) in
+          subst (λ (n : ℕ). IsAt plan j n (get_or places' j 0) cursor) (sym (same_ended j other))
+          (subst (λ (p : ℕ). IsAt plan j (get_or ended j 0) p cursor) (sym (same_places j other)) old))
+    ]
+
+pub firsts_set : (c : RunConstants) (ended ended' : List ℕ) (firsts : List (Option First)) (i : ℕ) (next : Option First) → i < c.tasks → AreFirsts c ended firsts →
+    ((j : ℕ) → j ≢ i → get_or ended' j 0 ≡ get_or ended j 0) →
+    MatchOption next (c.jobs i ≤ get_or ended' i 0) (IsFirstAt c i (get_or ended' i 0)) → AreFirsts c ended' (set firsts i next)
+firsts_set c ended ended' firsts i next inside are same_ended is = record {
+  tasks = length-set firsts i next ∙ are.tasks;
+  each = each;
+}
+  where
+    each : (j : ℕ) (kept : Option First) → slice_get (set firsts i next) j ≡ Some kept →
+        MatchOption kept (c.jobs j ≤ get_or ended' j 0) (IsFirstAt c j (get_or ended' j 0))
+    each j kept here = elim (cases_eq j i) [
+      | inl same ↦
+          (let l = are.tasks in
+          let its : kept ≡ next = set_at firsts i j next kept (omega (arith, l, inside)) here same in
+          subst (λ (x : Option First). MatchOption x (c.jobs j ≤ get_or ended' j 0) (IsFirstAt c j (get_or ended' j 0))) (sym its)
+          (subst (λ (k : ℕ). MatchOption next (c.jobs k ≤ get_or ended' k 0) (IsFirstAt c k (get_or ended' k 0))) (sym same) is))
+      | inr other ↦
+          subst (λ (n : ℕ). MatchOption kept (c.jobs j ≤ n) (IsFirstAt c j n)) (sym (same_ended j other))
+          (are.each j kept (sym (slice_get_set_other firsts i j next other) ∙ here))
+    ]
+
+module _ (track : TrackView) (facts : HasPlanFacts (run_of track)) (firsts : List (Option First)) (routes : List (List Access)) (cursors : List Cursor)
+    (is : IsTrack track firsts routes cursors) where
+  pub tick_kept : MayTick (run_of track) track.state → IsTrack (record track { state = record track.state { now = track.state.now + 1 } }) firsts routes cursors
+  tick_kept may = record {
+    horizon = is.horizon;
+    windows = is.windows;
+    facts = is.facts;
+    sound = gated_event_keeps_sound (run_of track) facts track.state is.sound events.Tick may;
+    first_jobs = is.first_jobs;
+    edges = is.edges;
+    standing = is.standing;
+  }
+
+  -- an act that the rules allow keeps a sound state
+  sound_act : (task : TaskNo) → KeepsLegal (run_of track) track.state (events.Act task) → (action : Action) →
+      next_action (run_of track) track.state task.0 ≡ action → IsSound (run_of track) (after_action track.state task.0 action)
+  sound_act task keeps action its =
+      subst (λ (a : Action). IsSound (run_of track) (after_action track.state task.0 a)) its
+      (gated_event_keeps_sound (run_of track) facts track.state is.sound (events.Act task)
+      (legal_event_is_gated (run_of track) facts track.state is.sound (events.Act task) keeps))
+
+  module _ (task : TaskNo) (keeps : KeepsLegal (run_of track) track.state (events.Act task)) where
+    has : HasJob (run_of track) track.state task.0
+    has = keeps.0
+
+    in_places : task.0 < length track.state.places
+    in_places = (let l = is.sound.tagged.places in let t = has.task in omega (arith, l, t))
+
+    in_ended : task.0 < length track.state.ended
+    in_ended = (let l = is.sound.tagged.ended in let t = has.task in omega (arith, l, t))
+
+    -- the cursors after an action that does not end the job
+    moved_cursors : (next : Cursor) → IsAt track.plan task.0 (get_or track.state.ended task.0 0) (get_or track.state.places task.0 0 + 1) next →
+        AreCursors track.plan track.state.ended (set track.state.places task.0 (get_or track.state.places task.0 0 + 1)) (set cursors task.0 next)
+    moved_cursors next at =
+        cursors_set track.plan track.state.ended track.state.places track.state.ended (set track.state.places task.0 (get_or track.state.places task.0 0 + 1)) cursors task.0 next has.task is.standing
+        (λ j other. refl) (λ j other. get_or-set_other track.state.places task.0 j (get_or track.state.places task.0 0 + 1) 0 other)
+        (subst (λ (p : ℕ). IsAt track.plan task.0 (get_or track.state.ended task.0 0) p next)
+        (sym (get_or-set_at track.state.places task.0 task.0 (get_or track.state.places task.0 0 + 1) 0 refl in_places)) at)
+
+    pub pass_kept : IsReading (next_action (run_of track) track.state task.0) → (next : Cursor) →
+        IsAt track.plan task.0 (get_or track.state.ended task.0 0) (get_or track.state.places task.0 0 + 1) next →
+        IsTrack (record track { state = moved track.state task.0 }) firsts routes (set cursors task.0 next)
+    pass_kept reads next at = record {
+      horizon = is.horizon;
+      windows = is.windows;
+      facts = is.facts;
+      sound = subst (IsSound (run_of track)) (reading_moves track.state task.0 (next_action (run_of track) track.state task.0) reads)
+          (sound_act task keeps (next_action (run_of track) track.state task.0) refl);
+      first_jobs = is.first_jobs;
+      edges = is.edges;
+      standing = moved_cursors next at;
+    }
+
+    pub write_kept : (edge : EdgeNo) (m : ℕ) (slot : SlotNo) → next_action (run_of track) track.state task.0 ≡ actions.Write edge m slot → (next : Cursor) →
+        IsAt track.plan task.0 (get_or track.state.ended task.0 0) (get_or track.state.places task.0 0 + 1) next →
+        IsTrack (record track { state = after_action track.state task.0 (actions.Write edge m slot) }) firsts routes (set cursors task.0 next)
+    write_kept edge m slot its next at = record {
+      horizon = is.horizon;
+      windows = is.windows;
+      facts = is.facts;
+      sound = sound_act task keeps (actions.Write edge m slot) its;
+      first_jobs = is.first_jobs;
+      edges = is.edges;
+      standing = moved_cursors next at;
+    }
+
+    -- the half that is written is there
+    pub written_in_tags : (edge : EdgeNo) (m : ℕ) (slot : SlotNo) → next_action (run_of track) track.state task.0 ≡ actions.Write edge m slot → slot.0 < length track.state.tags
+    written_in_tags edge m slot its =
+        let t = is.sound.tagged.tags in
+        let inside = facts.write_cell task.0 (first_unfinished track.state task.0) (get_or track.state.places task.0 0) m slot.0
+        (record { job = record { task = has.task; job = has.job }; action = (edge, its) }) in
+        omega (arith, t, inside)
+
+    pub end_kept : next_action (run_of track) track.state task.0 ≡ actions.End → (next : Option First) →
+        MatchOption next ((run_of track).jobs task.0 ≤ get_or track.state.ended task.0 0 + 1) (IsFirstAt (run_of track) task.0 (get_or track.state.ended task.0 0 + 1)) →
+        IsTrack (record track { state = after_action track.state task.0 actions.End }) (set firsts task.0 next) routes (set cursors task.0 (record { index = 0; rest = 0 }))
+    end_kept its next first = record {
+      horizon = is.horizon;
+      windows = is.windows;
+      facts = is.facts;
+      sound = sound_act task keeps actions.End its;
+      first_jobs = firsts_set (run_of track) track.state.ended (set track.state.ended task.0 (get_or track.state.ended task.0 0 + 1)) firsts task.0 next has.task is.first_jobs
+          (λ j other. get_or-set_other track.state.ended task.0 j (get_or track.state.ended task.0 0 + 1) 0 other)
+          (subst (λ (n : ℕ). MatchOption next ((run_of track).jobs task.0 ≤ n) (IsFirstAt (run_of track) task.0 n))
+          (sym (get_or-set_at track.state.ended task.0 task.0 (get_or track.state.ended task.0 0 + 1) 0 refl in_ended)) first);
+      edges = is.edges;
+      standing = cursors_set track.plan track.state.ended track.state.places (set track.state.ended task.0 (get_or track.state.ended task.0 0 + 1)) (set track.state.places task.0 0) cursors task.0
+          (record { index = 0; rest = 0 }) has.task is.standing
+          (λ j other. get_or-set_other track.state.ended task.0 j (get_or track.state.ended task.0 0 + 1) 0 other)
+          (λ j other. get_or-set_other track.state.places task.0 j 0 0 other)
+          (subst (λ (p : ℕ). IsAt track.plan task.0 (get_or (set track.state.ended task.0 (get_or track.state.ended task.0 0 + 1)) task.0 0) p (record { index = 0; rest = 0 }))
+          (sym (get_or-set_at track.state.places task.0 task.0 0 0 refl in_places))
+          (cursor_opens track.plan task.0 (get_or (set track.state.ended task.0 (get_or track.state.ended task.0 0 + 1)) task.0 0)));
+    }
+
+-- what is kept of a task is its first unfinished job
+pub first_of : (c : RunConstants) (s : ExecState) (j : ℕ) (kept : Option First) → j < c.tasks →
+    MatchOption kept (c.jobs j ≤ get_or s.ended j 0) (IsFirstAt c j (get_or s.ended j 0)) → IsFirstOf c s j kept
+first_of c s j None inside is = is
+first_of c s j (Some first) inside is = record {
+  job = is.job;
+  left = record { task = inside; job = is.inside; unfinished = omega arith };
+  release = is.release;
+  deadline = is.deadline;
+}
+
+-- an element of a list with one more is one of the list, or the last
+push_cases : {A : Type 0} (xs : List A) (y x : A) (j : ℕ) → slice_get (xs ++ y ∷ []) j ≡ Some x → (slice_get xs j ≡ Some x) ⊎ ((j ≡ length xs) × (y ≡ x))
+push_cases [] y x zero h = inr (refl, cc)
+push_cases [] y x (suc j) h = absurd cc
+push_cases (z ∷ xs) y x zero h = inl h
+push_cases (z ∷ xs) y x (suc j) h = elim (push_cases xs y x j h) [
+  | inl before ↦ inl before
+  | inr last ↦ inr (let e = last.0 in omega (arith, e), last.1)
+]
+
+pub zeros : (n j : ℕ) → ◌≡◌ {A = ℕ} (get_or (replicate n 0) j 0) 0
+zeros zero zero = refl
+zeros zero (suc j) = refl
+zeros (suc n) zero = refl
+zeros (suc n) (suc j) = zeros n j
+
+-- one task more
+pub firsts_more : (P : ℕ → Option First → Type 0) (before after : List (Option First)) (i : ℕ) (next : Option First) → after ≡ before ++ next ∷ [] → length before ≡ i →
+    ((j : ℕ) (kept : Option First) → slice_get before j ≡ Some kept → P j kept) → P i next → (j : ℕ) (kept : Option First) → slice_get after j ≡ Some kept → P j kept
+firsts_more P before after i next is long each here j kept at =
+    elim (push_cases before next kept j (ap (λ (xs : List (Option First)). slice_get xs j) (sym is) ∙ at)) [
+      | inl old ↦ each j kept old
+      | inr new ↦
+          (let e : i ≡ j = (let l = new.0 in omega (arith, l, long)) in
+          subst (λ (x : Option First). P j x) new.1 (subst (λ (k : ℕ). P k next) e here))
+    ]
+
+replicated : {A : Type 0} (n j : ℕ) (y x : A) → slice_get (replicate n y) j ≡ Some x → x ≡ y
+replicated zero zero y x h = absurd cc
+replicated zero (suc j) y x h = absurd cc
+replicated (suc n) zero y x h = cc
+replicated (suc n) (suc j) y x h = replicated n j y x h
+
+pub cursors_open : (plan : PlanView) (ended places : List ℕ) (cursors : List Cursor) → cursors ≡ replicate (length plan.graph.tasks) (record { index = 0; rest = 0 }) →
+    places ≡ replicate (length plan.graph.tasks) 0 → AreCursors plan ended places cursors
+cursors_open plan ended places cursors is none = record {
+  tasks = ap length is ∙ length-replicate (length plan.graph.tasks) (record { index = 0; rest = 0 });
+  each = λ i cursor at.
+      (let start : Cursor = record { index = 0; rest = 0 } in
+      let its : cursor ≡ start = replicated (length plan.graph.tasks) i start cursor (ap (λ (xs : List Cursor). slice_get xs i) (sym is) ∙ at) in
+      let zero_place : get_or places i 0 ≡ 0 = ap (λ (xs : List ℕ). get_or xs i 0) none ∙ zeros (length plan.graph.tasks) i in
+      subst (λ (x : Cursor). IsAt plan i (get_or ended i 0) (get_or places i 0) x) (sym its)
+      (subst (λ (p : ℕ). IsAt plan i (get_or ended i 0) p start) (sym zero_place) (cursor_opens plan i (get_or ended i 0))));
+}
+
+-- a job writes its own instance
+pub writes_own : (plan : PlanView) (placement : Placement) (horizon : Horizon) (s : ExecState) (i n : ℕ) (e : EdgeNo) (m : ℕ) (slot : SlotNo) → n ≡ first_unfinished s i →
+    next_action (constants_on plan placement horizon) s i ≡ actions.Write e m slot → next_action (constants_on plan placement horizon) s i ≡ actions.Write e n slot
+writes_own plan placement horizon s i n e m slot now is =
+    let fits : IsActionOf plan i (first_unfinished s i) (actions.Write e m slot) =
+    subst (λ (a : Action). IsActionOf plan i (first_unfinished s i) a) is (action_is_as_defined plan i (first_unfinished s i) (get_or s.places i 0)) in
+    is ∙ ap (λ (x : ℕ). actions.Write e x slot) (fits.2 ∙ sym now)
+
+-- a track before the first event
+pub opened_at : (plan : PlanView) (placement : Placement) (horizon : Horizon) → IsHorizon plan horizon → length placement.windows ≡ length plan.graph.tasks → HasPlanFacts (constants_on plan placement horizon) →
+    (firsts : List (Option First)) (routes : List (List Access)) (cursors : List Cursor) → AreFirsts (constants_on plan placement horizon) (replicate (length plan.graph.tasks) 0) firsts →
+    AreRoutes plan.graph routes → cursors ≡ replicate (length plan.graph.tasks) (record { index = 0; rest = 0 }) → (ended places tags : List ℕ) →
+    ended ≡ replicate (length plan.graph.tasks) 0 → places ≡ replicate (length plan.graph.tasks) 0 → tags ≡ replicate (constants_on plan placement horizon).slots 0 →
+    IsTrack (record { plan = plan; placement = placement; horizon = horizon; state = record { now = 0; ended = ended; places = places; tags = tags } }) firsts routes cursors
+opened_at plan placement horizon is windows facts firsts routes cursors are_firsts are_routes are_cursors ended places tags is_ended is_places is_tags = record {
+  horizon = is;
+  windows = windows;
+  facts = facts;
+  sound = subst (λ (x : List ℕ). IsSound (constants_on plan placement horizon) (record { now = 0; ended = x; places = places; tags = tags })) (sym is_ended)
+      (subst (λ (x : List ℕ). IsSound (constants_on plan placement horizon) (record { now = 0; ended = replicate (length plan.graph.tasks) 0; places = x; tags = tags })) (sym is_places)
+      (subst (λ (x : List ℕ). IsSound (constants_on plan placement horizon) (record { now = 0; ended = replicate (length plan.graph.tasks) 0; places = replicate (length plan.graph.tasks) 0; tags = x })) (sym is_tags)
+      (opening_is_sound (constants_on plan placement horizon) facts)));
+  first_jobs = subst (λ (x : List ℕ). AreFirsts (constants_on plan placement horizon) x firsts) (sym is_ended) are_firsts;
+  edges = are_routes;
+  standing = cursors_open plan ended places cursors are_cursors is_places;
+}

@@ -1,0 +1,8 @@
+use Rattle.std.proofs.Common.{◌<◌, ℕ}
+use Rattle.prl_track.specs.Tracks.{run_of}
+use Rattle.prl_track.specs.code.Tests.{IsInTime}
+use Rattle.prl_track.proofs.tracks.Track.has_due.Given as goal
+
+-- the tasks so far are in time
+abbrev pub invariant-loop-j : goal.invariant-loop-j
+invariant-loop-j l = (j : ℕ) → j < l.j → IsInTime (run_of l.self) l.self.state j

@@ -1,0 +1,8 @@
+use Rattle.std.proofs.Common.{◌<◌, ℕ}
+use Rattle.prl_track.specs.Tracks.{run_of}
+use Rattle.prl_track.specs.code.Tests.{IsNotEarlier}
+use Rattle.prl_track.proofs.tracks.Track.is_overtaken.Given as goal
+
+-- the tasks so far stay after
+abbrev pub invariant-loop-j : goal.invariant-loop-j
+invariant-loop-j l = (j : ℕ) → j < l.j → IsNotEarlier (run_of l.self) l.self.state j l.processor l.deadline

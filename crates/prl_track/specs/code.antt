@@ -1,0 +1,5 @@
+pub mod Firsts
+pub mod Nexts
+pub mod Cursors
+pub mod Tests
+pub mod Tracks

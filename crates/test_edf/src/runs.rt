@@ -1,0 +1,95 @@
+//! Runs of the sampling program with other units than the WCETs, and the events of its run.
+
+use crate::units::units_up_to;
+use prl_edf::{Outcome, Verdict, analyse, events_of, run_units};
+use prl_plan::{Event, plan_is_one};
+use std::alloc::Global;
+use std::test::Fail;
+use test_plans::{SAMPLING_PLAN, horizon_of, plan_of};
+
+/// The sampling program with a slow task that asks for a tick more than there is: its jobs are due
+/// at 30, released at 3, and the other jobs within these ticks take 9 of them.
+const NO_ROOM: &[u8] = b"plan 1
+hyperperiod 30
+task 0 i sensor period 10 start 0 due 10 wcet 1
+task 1 F@0 node period 10 start 0 due 10 wcet 2
+task 2 S@1 node period 30 start 0 due 30 wcet 19
+task 3 o actuator period 10 start 0 due 10 wcet 1
+dates 0 0:7
+dates 1 1:9
+dates 2 3:30
+dates 3 3:10
+edge 0 from 0.0 to 1.0 type int period 10 ops none
+edge 1 from 2.0 to 1.1 type int period 30 ops up 3 fby 0
+edge 2 from 1.1 to 2.0 type int period 10 ops down 3
+edge 3 from 1.0 to 3.0 type int period 10 ops none
+word 0 prefix 0 repeat 0 step 1 1
+word 1 prefix 3 0 0 0 repeat 0 0 0 step 3 1
+word 2 prefix 0 repeat 0 step 1 3
+word 3 prefix 0 repeat 0 step 1 1
+cells 0 base 0 count 1
+cells 1 base 1 count 2
+cells 2 base 3 count 1
+cells 3 base 4 count 1
+";
+
+/// How many of the events are ticks.
+fn ticks_of(events: &[Event]) -> usize {
+    let mut ticks: usize = 0;
+    for event in events {
+        if *event == Event::Tick {
+            ticks = ticks.saturating_add(1);
+        }
+    }
+    ticks
+}
+
+/// The job that misses its window first, by its task and its number, or how many pieces the run has.
+fn told(outcome: &Outcome) -> Result<usize, (u32, u64)> {
+    match outcome {
+        Outcome::Met(timed) => Ok(timed.pieces.len()),
+        Outcome::Missed { task, job } => Err((task.0, *job)),
+    }
+}
+
+/// What the plain run of a plan's jobs up to 60 comes to, where they have at most so many units.
+fn outcome_of(alloc: Global, text: &[u8], most: u32) -> Result<Result<usize, (u32, u64)>, Fail> {
+    let plan = plan_of(alloc, text)?;
+    let horizon = horizon_of(&plan, 60)?;
+    let units = units_up_to(alloc, &plan, horizon, most.max(1))?;
+    let outcome = run_units(alloc, &plan, horizon, &units)?;
+    Ok(told(&outcome))
+}
+
+#[test]
+fn jobs_that_take_less_than_their_wcets_are_in_time(rt: HostRuntime) -> Result<(), Fail> {
+    let alloc = rt.alloc();
+    // a piece for each of the 20 jobs
+    assert!(rt; outcome_of(alloc, SAMPLING_PLAN.as_bytes(), 1)? == Ok(20));
+    assert!(rt; outcome_of(alloc, SAMPLING_PLAN.as_bytes(), 10)? == Ok(22));
+    // at 30 the slow task's job and the actuator's third one are due; the lower task goes first, so it
+    // is the actuator that is late, and with a tick less of the slow task it is not
+    assert!(rt; outcome_of(alloc, NO_ROOM, 19)? == Err((3, 2)));
+    assert!(rt; outcome_of(alloc, NO_ROOM, 18)? == Ok(24));
+    Ok(())
+}
+
+/// How many events the run of a plan's jobs up to 60 has, and how many ticks among them.
+fn events_counted(alloc: Global, text: &[u8]) -> Result<(usize, usize), Fail> {
+    let plan = plan_of(alloc, text)?;
+    let horizon = horizon_of(&plan, 60)?;
+    match analyse(alloc, &plan, horizon)? {
+        Verdict::Run(timed) => {
+            plan_is_one(&plan);
+            let events = events_of(alloc, &plan, horizon, &timed)?;
+            Ok((events.len(), ticks_of(&events)))
+        }
+        Verdict::Overload { .. } => Err("overloaded".into()),
+    }
+}
+
+#[test]
+fn run_has_its_acts_and_the_ticks_between(rt: HostRuntime) -> Result<(), Fail> {
+    assert!(rt; events_counted(rt.alloc(), SAMPLING_PLAN.as_bytes())? == (142, 53));
+    Ok(())
+}

@@ -1,0 +1,7 @@
+//! Tests of the executive.
+#![tactic(auto)]
+
+#[cfg(test)]
+mod plans;
+#[cfg(test)]
+mod runs;

@@ -1,0 +1,304 @@
+//! Runs by one thread and by several: what an actuator gets, and where a run stops.
+
+ghost use Rattle.std.specs.Prelude.{◌≡◌, ◌<◌, ◌≤◌, [], IfOk, length, Some, true};
+ghost use Rattle.prl_plan.specs.declared.graphs.Kind.TheVariants as kinds;
+ghost use Rattle.prl_plan.specs.Horizons.{IsHorizon};
+ghost use Rattle.prl_plan.specs.Jobs.{task_at};
+ghost use Rattle.prl_rule.specs.Known.{known};
+ghost use Rattle.prl_values.specs.Fitting.{HaveTaskBodies, HaveTypedRows};
+
+use crate::plans::{COPIED, FAR, LANES};
+use holders::{Hold, Holder};
+use prl_base::{CellNo, Seq, TaskNo, Value};
+use prl_board::{Closed, Gate, Steps};
+use prl_body::Bodies;
+use prl_exec::{RunFault, run_alone, run_threads};
+use prl_flow::Sensors;
+use prl_io::{NoProbe, Probe};
+use prl_plan::{Horizon, Kind, Plan, plan_is_one};
+use std::alloc::{AllocError, Global};
+use std::marker::Brand;
+use std::sync::Wait;
+use std::sync::ledger::{Blank, Ledger};
+use std::test::Fail;
+use std::thread::Threads;
+use test_plans::{are_served, horizon_of, plan_of};
+
+/// A run: the text of a plan, how many sensors it has with the rows 1, 2, 3, which actuator is looked
+/// at, with its task, and how the run goes. With no worker one thread runs alone.
+#[derive(Clone, Copy)]
+struct Run {
+    plan: &'static [u8],
+    sensors: u32,
+    actuator: u32,
+    task: u32,
+    until: u32,
+    gate: Gate,
+    workers: u32,
+}
+
+/// What came of a run: what the actuator has got, or where it stopped: task, job, port, cell, and the
+/// tags wanted and found.
+#[derive(Debug, Drop, PartialEq)]
+enum Outcome {
+    Got(Vec<Value>),
+    Stopped(TaskNo, u64, u32, CellNo, u32, u32),
+    NoMemory,
+}
+
+/// So many sensors, each with the rows 1, 2, 3.
+fn rows(alloc: Global, sensors: u32) -> Result<Vec<Seq<Value>>, AllocError> {
+    let mut all = Vec::new(alloc);
+    for _ in 0..sensors {
+        let rows = vec![in alloc; Value::Int(1), Value::Int(2), Value::Int(3)]?;
+        all.push(Seq::new(rows))?;
+    }
+    Ok(all)
+}
+
+/// Whether the task drives the actuator.
+fn drives(plan: &Plan, task: u32, actuator: u32) -> bool
+    ensures { result ≡ true → (task < length plan.now.graph.tasks) × ((task_at plan.now.graph task).kind ≡ kinds.Actuator actuator) }
+{
+    plan_is_one(plan);
+    let tasks = plan.graph().tasks.as_slice();
+    (task as usize) < tasks.len() && tasks[task as usize].kind == Kind::Actuator(actuator)
+}
+
+/// One thread runs the plan.
+fn alone<L: Ledger>(
+    alloc: Global,
+    plan: &Plan,
+    sensors: &Sensors,
+    horizon: Horizon,
+    gate: Gate,
+    blank: Blank,
+) -> Result<Closed, AllocError>
+    requires horizon { IsHorizon plan.now horizon }
+    requires bodies { HaveTaskBodies plan.now.graph [] }
+    requires rows { HaveTypedRows plan.now.graph horizon.until sensors.now }
+    requires name { blank.name ≡ L.name }
+    requires parts { (blank.parts ≡ L.parts) × (0 < blank.parts) }
+    ensures { IfOk result (λ closed. closed.constants ≡ Some (known plan.now horizon gate sensors.now [])) }
+{
+    let bodies = Bodies::none(alloc);
+    let mut steps = Steps::<L>::new(blank);
+    run_alone(alloc, plan, &bodies, sensors, horizon, gate, &mut steps)
+}
+
+/// Several threads run the plan, of which no task runs a body.
+fn several<R: Threads + Wait + Sync, P: Probe>(
+    rt: &R,
+    alloc: Global,
+    plan: &Plan,
+    sensors: &Sensors,
+    horizon: Horizon,
+    gate: Gate,
+    workers: u32,
+    probe: &P,
+) -> Result<Closed, RunFault>
+    requires horizon { IsHorizon plan.now horizon }
+    requires bodies { HaveTaskBodies plan.now.graph [] }
+    requires rows { HaveTypedRows plan.now.graph horizon.until sensors.now }
+    requires workers { (1 ≤ workers) × (workers ≤ 16) }
+    ensures { IfOk result (λ closed. closed.constants ≡ Some (known plan.now horizon gate sensors.now [])) }
+{
+    let bodies = Bodies::none(alloc);
+    run_threads(
+        rt, alloc, plan, &bodies, sensors, horizon, gate, workers, probe,
+    )
+}
+
+/// Several threads run the plan, or one thread alone.
+fn ran<R: Threads + Wait + Sync, P: Probe>(
+    rt: &R,
+    alloc: Global,
+    plan: &Plan,
+    sensors: &Sensors,
+    horizon: Horizon,
+    run: Run,
+    probe: &P,
+) -> Result<Closed, RunFault>
+    requires horizon { IsHorizon plan.now horizon }
+    requires bodies { HaveTaskBodies plan.now.graph [] }
+    requires rows { HaveTypedRows plan.now.graph horizon.until sensors.now }
+    requires workers { run.workers ≤ 16 }
+    ensures { IfOk result (λ closed. closed.constants ≡ Some (known plan.now horizon run.gate sensors.now [])) }
+{
+    if run.workers > 0 {
+        return several(
+            rt,
+            alloc,
+            plan,
+            sensors,
+            horizon,
+            run.gate,
+            run.workers,
+            probe,
+        );
+    }
+    let blank = Blank::new(1);
+    match alone::<Brand>(alloc, plan, sensors, horizon, run.gate, blank) {
+        Ok(closed) => Ok(closed),
+        Err(AllocError) => Err(RunFault::Memory),
+    }
+}
+
+/// What comes of a run.
+fn outcome_of<R: Threads + Wait + Sync, P: Probe>(
+    rt: &R,
+    alloc: Global,
+    run: Run,
+    probe: &P,
+) -> Result<Outcome, Fail>
+    requires { run.workers ≤ 16 }
+{
+    let plan = plan_of(alloc, run.plan)?;
+    let horizon = horizon_of(&plan, run.until)?;
+    let rows = rows(alloc, run.sensors)?;
+    if !drives(&plan, run.task, run.actuator) || !are_served(&plan, horizon, rows.as_slice()) {
+        return Err("another plan, or too few rows".into());
+    }
+    let sensors = Sensors::new(rows);
+    match ran(rt, alloc, &plan, &sensors, horizon, run, probe) {
+        Ok(closed) => Ok(Outcome::Got(closed.output(run.actuator).to_vec(alloc)?)),
+        Err(RunFault::Overrun(stopped)) => Ok(Outcome::Stopped(
+            stopped.task,
+            stopped.job,
+            stopped.port,
+            stopped.cell,
+            stopped.wanted,
+            stopped.found,
+        )),
+        Err(RunFault::Memory) => Ok(Outcome::NoMemory),
+    }
+}
+
+/// What an actuator has got that takes the first rows of its sensor.
+fn got(alloc: Global, rows: u32) -> Result<Outcome, AllocError> {
+    let mut values = Vec::new(alloc);
+    for n in 0..rows {
+        values.push(Value::Int(i64::from(n) + 1))?;
+    }
+    Ok(Outcome::Got(values))
+}
+
+const COPY: Run = Run {
+    plan: COPIED,
+    sensors: 1,
+    actuator: 0,
+    task: 1,
+    until: 20,
+    gate: Gate::Gated,
+    workers: 0,
+};
+
+/// A hold of a job that no plan here has.
+const NO_HOLD: Hold = Hold {
+    task: 9,
+    job: 0,
+    other: 9,
+    begun: 0,
+};
+
+#[test]
+fn one_thread_runs_to_the_end(rt: HostRuntime) -> Result<(), Fail> {
+    let alloc = rt.alloc();
+    assert_eq!(rt; outcome_of(&rt, alloc, COPY, &NoProbe)?, got(alloc, 2)?);
+    let free = Run {
+        gate: Gate::Free,
+        ..COPY
+    };
+    assert_eq!(rt; outcome_of(&rt, alloc, free, &NoProbe)?, got(alloc, 2)?);
+    Ok(())
+}
+
+#[test]
+fn two_workers_run_at_once(rt: HostRuntime) -> Result<(), Fail> {
+    let lanes = Run {
+        plan: LANES,
+        sensors: 2,
+        task: 2,
+        workers: 2,
+        ..COPY
+    };
+    let holder = Holder::new([
+        Hold {
+            task: 0,
+            job: 1,
+            other: 1,
+            begun: 1,
+        },
+        Hold {
+            task: 1,
+            job: 1,
+            other: 0,
+            begun: 1,
+        },
+    ]);
+    assert_eq!(rt;
+        outcome_of(&rt, rt.alloc(), lanes, &holder)?,
+        got(rt.alloc(), 2)?
+    );
+    assert_eq!(rt; holder.calls(), 8);
+    assert!(rt; !holder.in_vain());
+    Ok(())
+}
+
+#[test]
+fn a_reader_that_is_held_is_overrun(rt: HostRuntime) -> Result<(), Fail> {
+    let free = Run {
+        until: 30,
+        gate: Gate::Free,
+        workers: 2,
+        ..COPY
+    };
+    let holder = Holder::new([
+        Hold {
+            task: 1,
+            job: 0,
+            other: 0,
+            begun: 2,
+        },
+        NO_HOLD,
+    ]);
+    let outcome = outcome_of(&rt, rt.alloc(), free, &holder)?;
+    let second = Outcome::Stopped(TaskNo(1), 0, 0, CellNo(0), 1, 2);
+    let third = Outcome::Stopped(TaskNo(1), 0, 0, CellNo(0), 1, 3);
+    assert!(rt; outcome == second || outcome == third);
+    assert!(rt; !holder.in_vain());
+    Ok(())
+}
+
+#[test]
+fn four_workers_of_a_free_board_end(rt: HostRuntime) -> Result<(), Fail> {
+    let far = Run {
+        plan: FAR,
+        sensors: 2,
+        actuator: 1,
+        task: 3,
+        until: 30,
+        gate: Gate::Free,
+        workers: 4,
+    };
+    let holder = Holder::new([
+        Hold {
+            task: 1,
+            job: 1,
+            other: 3,
+            begun: 1,
+        },
+        Hold {
+            task: 1,
+            job: 2,
+            other: 3,
+            begun: 2,
+        },
+    ]);
+    assert_eq!(rt;
+        outcome_of(&rt, rt.alloc(), far, &holder)?,
+        got(rt.alloc(), 3)?
+    );
+    assert!(rt; !holder.in_vain());
+    Ok(())
+}

@@ -1,0 +1,52 @@
+//! The plans and horizons of texts.
+
+ghost use Rattle.std.specs.Prelude.{◌≡◌, IfOk};
+ghost use Rattle.prl_plan.specs.Horizons.{IsHorizon};
+
+use prl_plan::{Horizon, Plan};
+use prl_plantext::read_plan;
+use std::alloc::Global;
+use std::test::Fail;
+
+/// The plan of the sampling program: a fast task between a sensor and an actuator reads a slow one that reads it.
+pub const SAMPLING_PLAN: &str = "plan 1
+hyperperiod 30
+task 0 i sensor period 10 start 0 due 10 wcet 1
+task 1 F@0 node period 10 start 0 due 10 wcet 2
+task 2 S@1 node period 30 start 0 due 30 wcet 10
+task 3 o actuator period 10 start 0 due 10 wcet 1
+dates 0 0:7
+dates 1 1:9
+dates 2 3:30
+dates 3 3:10
+edge 0 from 0.0 to 1.0 type int period 10 ops none
+edge 1 from 2.0 to 1.1 type int period 30 ops up 3 fby 0
+edge 2 from 1.1 to 2.0 type int period 10 ops down 3
+edge 3 from 1.0 to 3.0 type int period 10 ops none
+word 0 prefix 0 repeat 0 step 1 1
+word 1 prefix 3 0 0 0 repeat 0 0 0 step 3 1
+word 2 prefix 0 repeat 0 step 1 3
+word 3 prefix 0 repeat 0 step 1 1
+cells 0 base 0 count 1
+cells 1 base 1 count 2
+cells 2 base 3 count 1
+cells 3 base 4 count 1
+";
+
+/// The plan of a text.
+pub fn plan_of(alloc: Global, text: &[u8]) -> Result<Plan, Fail> {
+    match read_plan(alloc, text) {
+        Ok(plan) => Ok(plan),
+        Err(_) => Err("no plan".into()),
+    }
+}
+
+/// The horizon of the plan up to a date.
+pub fn horizon_of(plan: &Plan, until: u32) -> Result<Horizon, Fail>
+    ensures { IfOk result (IsHorizon plan.now) }
+{
+    match Horizon::new(plan, until) {
+        Ok(horizon) => Ok(horizon),
+        Err(_) => Err("past a limit".into()),
+    }
+}
