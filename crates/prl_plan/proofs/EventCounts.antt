@@ -38,8 +38,7 @@ get_after (x ∷ xs) a = get_after xs a
 pub plan_ends_last : (plan : PlanView) (on : Placement) (h : Horizon) → EndsLast (constants_on plan on h)
 plan_ends_last plan on h i n job =
     let front : List Action = reads_of plan i n 0 plan.graph.edges ++ writes_of plan i n 0 plan.graph.edges in
-    let same : actions_of plan i n ≡ front ++ actions.End ∷ [] = refl in
-    (
+    let same : actions_of plan i n ≡ front ++ actions.End ∷ [] = refl in (
       length front,
       (ap length same ∙ length-append front (actions.End ∷ [])),
       (ap (λ (xs : List Action). get_or xs (length front) actions.End) same ∙ get_after front actions.End),
@@ -106,8 +105,8 @@ module _ (c : RunConstants) (ends : EndsLast c) where
   opening_has_none : events_in c (opening c) ≡ 0
   opening_has_none =
       let each : (i : ℕ) → i < c.tasks → actions_before c i (get_or (opening c).ended i 0) + get_or (opening c).ended i 0 ≡ 0 = λ i inside.
-          (let e = zero_at i inside in
-          let b = ap (actions_before c i) e in omega (arith, e, b)) in
+      (let e = zero_at i inside in
+      let b = ap (actions_before c i) e in omega (arith, e, b)) in
       let all : sum_below (λ i. actions_before c i (get_or (opening c).ended i 0) + get_or (opening c).ended i 0) c.tasks ≡ 0 = sum_none (λ i. actions_before c i (get_or (opening c).ended i 0) + get_or (opening c).ended i 0) c.tasks each in
       omega (arith, all)
 
@@ -170,10 +169,10 @@ module _ (c : RunConstants) (ends : EndsLast c) where
       moved_more : events_in c s + 1 ≤ events_in c t
       moved_more =
           let sums : sum_below (λ j. actions_before c j (get_or s.ended j 0) + get_or s.places j 0) c.tasks
-              < sum_below (λ j. actions_before c j (get_or t.ended j 0) + get_or t.places j 0) c.tasks =
-              sum_grows (λ j. actions_before c j (get_or s.ended j 0) + get_or s.places j 0) (λ j. actions_before c j (get_or t.ended j 0) + get_or t.places j 0) i c.tasks has.task
-              (let e = ap (actions_before c i) (same_ended i) in let p = here_place in omega (arith, e, p))
-              (λ j ne. let e = ap (actions_before c j) (same_ended j) in let p = other_place j ne in omega (arith, e, p)) in
+          < sum_below (λ j. actions_before c j (get_or t.ended j 0) + get_or t.places j 0) c.tasks =
+          sum_grows (λ j. actions_before c j (get_or s.ended j 0) + get_or s.places j 0) (λ j. actions_before c j (get_or t.ended j 0) + get_or t.places j 0) i c.tasks has.task
+          (let e = ap (actions_before c i) (same_ended i) in let p = here_place in omega (arith, e, p))
+          (λ j ne. let e = ap (actions_before c j) (same_ended j) in let p = other_place j ne in omega (arith, e, p)) in
           omega (arith, sums, now)
 
     abbrev after_end : ExecState
@@ -216,13 +215,13 @@ module _ (c : RunConstants) (ends : EndsLast c) where
     end_more : events_in c s + 1 ≤ events_in c after_end
     end_more =
         let sums : sum_below (λ j. actions_before c j (get_or s.ended j 0) + get_or s.places j 0) c.tasks
-            < sum_below (λ j. actions_before c j (get_or after_end.ended j 0) + get_or after_end.places j 0) c.tasks =
-            sum_grows (λ j. actions_before c j (get_or s.ended j 0) + get_or s.places j 0) (λ j. actions_before c j (get_or after_end.ended j 0) + get_or after_end.places j 0) i c.tasks has.task
-            (let at = fits.inside i has.task has.job in
-            let e : actions_before c i (get_or after_end.ended i 0) ≡ actions_before c i (suc (get_or s.ended i 0)) =
-            ap (actions_before c i) (let u = end_ended in let v : get_or after_end.ended i 0 ≡ suc (get_or s.ended i 0) = omega (arith, u) in v) in
-            let p = end_place in omega (arith, e, p, at))
-            (λ j ne. let e = ap (actions_before c j) (else_ended j ne) in let p = else_place j ne in omega (arith, e, p)) in
+        < sum_below (λ j. actions_before c j (get_or after_end.ended j 0) + get_or after_end.places j 0) c.tasks =
+        sum_grows (λ j. actions_before c j (get_or s.ended j 0) + get_or s.places j 0) (λ j. actions_before c j (get_or after_end.ended j 0) + get_or after_end.places j 0) i c.tasks has.task
+        (let at = fits.inside i has.task has.job in
+        let e : actions_before c i (get_or after_end.ended i 0) ≡ actions_before c i (suc (get_or s.ended i 0)) =
+        ap (actions_before c i) (let u = end_ended in let v : get_or after_end.ended i 0 ≡ suc (get_or s.ended i 0) = omega (arith, u) in v) in
+        let p = end_place in omega (arith, e, p, at))
+        (λ j ne. let e = ap (actions_before c j) (else_ended j ne) in let p = else_place j ne in omega (arith, e, p)) in
         omega (arith, sums)
 
     act_counts : (action : Action) → next_action c s i ≡ action → Fits (after_action s i action) × (events_in c s + 1 ≤ events_in c (after_action s i action))
@@ -254,16 +253,16 @@ module _ (c : RunConstants) (ends : EndsLast c) where
   fits_within : (s : ExecState) → Fits s → events_in c s ≤ all_events c
   fits_within s fits =
       let each : (i : ℕ) → i < c.tasks → actions_before c i (get_or s.ended i 0) + get_or s.places i 0 ≤ actions_before c i (c.jobs i) = λ i inside.
-          (let k = fits.counted i inside in
-          elim (cases_lt (get_or s.ended i 0) (c.jobs i)) [
-            | inl some ↦
-                (let at = fits.inside i inside some in
-                let one = sum_more (λ m. length (c.actions i m)) (suc (get_or s.ended i 0)) (c.jobs i) some in
-                omega (arith, at, one))
-            | inr none ↦
-                (let all : get_or s.ended i 0 ≡ c.jobs i = omega (arith, k, none) in
-                let p = fits.over i inside all in let e = ap (actions_before c i) all in omega (arith, p, e))
-          ]) in
+      (let k = fits.counted i inside in
+      elim (cases_lt (get_or s.ended i 0) (c.jobs i)) [
+        | inl some ↦
+            (let at = fits.inside i inside some in
+            let one = sum_more (λ m. length (c.actions i m)) (suc (get_or s.ended i 0)) (c.jobs i) some in
+            omega (arith, at, one))
+        | inr none ↦
+            (let all : get_or s.ended i 0 ≡ c.jobs i = omega (arith, k, none) in
+            let p = fits.over i inside all in let e = ap (actions_before c i) all in omega (arith, p, e))
+      ]) in
       let sums = sum_most (λ i. actions_before c i (get_or s.ended i 0) + get_or s.places i 0) (λ i. actions_before c i (c.jobs i)) c.tasks each in
       let w = fits.within in
       omega (arith, sums, w)

@@ -155,9 +155,9 @@ pub fn gated_list_goes_on()
     ensures round { (c : RunConstants) → HasPlanFacts c → (list : List Event) → IsGated c (opening c) list →
         (IsComplete c (after_events c (opening c) list) → ⊥) →
         ((i : ℕ) × IsLeastReleased c (after_events c (opening c) list) i
-            × KeepsGated c (after_events c (opening c) list) (events.Act (record { 0 = i })))
+        × KeepsGated c (after_events c (opening c) list) (events.Act (record { 0 = i })))
         ⊎ (((i : ℕ) → HasJob c (after_events c (opening c) list) i → ActsReleased c (after_events c (opening c) list) i → ⊥)
-            × KeepsGated c (after_events c (opening c) list) events.Tick) }
+        × KeepsGated c (after_events c (opening c) list) events.Tick) }
 {}
 
 /// Instances of an edge that stand in one cell take turns: no job that reads the one, of any horizon, is due after the

@@ -40,11 +40,11 @@ use prl_plan::{
     Action, Horizon, Plan, Producer, SlotNo, actions_are_as_defined, plan_facts, plan_is_one,
 };
 use prl_ranges::horizons_are_small;
-use prl_track::Routes;
 use prl_rule::{
     About, Gate, Running, View, bare_seat_may_enter, join_takes_all_parts, plan_laws,
     rule_holds_at_the_opening, run_values_keep_facts,
 };
+use prl_track::Routes;
 use prl_workers::{Worker, jobs_have_work_laws};
 use std::alloc::{AllocError, Global};
 use std::marker::{Brand, Model, PhantomData};
