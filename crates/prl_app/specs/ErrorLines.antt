@@ -1,5 +1,5 @@
 -- The line on err that tells how a call ended.
-use Rattle.std.specs.Prelude.{ℕ, ℤ, List, [], ◌∷◌, Option, Some, None, unwrap_or, codes}
+use Rattle.std.specs.Prelude.{◌-◌, ℕ, ℤ, List, [], ◌∷◌, Option, Some, None, unwrap_or, codes}
 use Rattle.std.specs.List.{concat}
 use Rattle.std.specs.Fmt.{decimal, signed_decimal}
 use Rattle.prl_base.specs.Limits.{what_text}
@@ -29,6 +29,10 @@ use Rattle.prl_stages.specs.declared.faults.SensorsRefusal.{SensorsRefusal}
 use Rattle.prl_stages.specs.declared.faults.SensorsRefusal.TheVariants as bad_rows
 use Rattle.prl_stages.specs.declared.faults.CoresRefusal.{CoresRefusal}
 use Rattle.prl_stages.specs.declared.faults.CoresRefusal.TheVariants as bad_cores
+use Rattle.prl_stages.specs.declared.faults.MakeRefusal.{MakeRefusal}
+use Rattle.prl_stages.specs.declared.faults.MakeRefusal.TheVariants as bad_making
+use Rattle.prl_stages.specs.declared.faults.TableRefusal.{TableRefusal}
+use Rattle.prl_stages.specs.declared.faults.TableRefusal.TheVariants as bad_table
 use Rattle.prl_stages.specs.declared.faults.ScheduleRefusal.{ScheduleRefusal}
 use Rattle.prl_stages.specs.declared.faults.ScheduleRefusal.TheVariants as bad_schedule
 use Rattle.prl_stages.specs.declared.faults.InputFile.{InputFile}
@@ -141,6 +145,35 @@ schedule_line (bad_schedule.Syntax line) = placed_line (codes "70 schedule synta
 schedule_line (bad_schedule.Illegal line rule) = illegal_line line rule
 schedule_line (bad_schedule.Unfinished name job) = unfinished_line name job
 
+abbrev pub overload_line : ℕ → ℕ → ℕ → List ℕ
+overload_line from to demand =
+    concat (
+    codes "90 overload " ∷ decimal from ∷ codes " " ∷ decimal to ∷ codes " demand " ∷ decimal demand ∷ codes " has " ∷ decimal (to - from)
+    ∷ codes "\n" ∷ []
+    )
+
+abbrev pub make_line : MakeRefusal → List ℕ
+make_line (bad_making.TooFar tick) = placed_line (codes "92 too far ") tick
+make_line (bad_making.Limit limit) = limit_line limit
+make_line (bad_making.Overload from to demand) = overload_line from to demand
+make_line (bad_making.Unsteady tick) = placed_line (codes "91 unsteady at ") tick
+
+abbrev pub units_line : List ℕ → ℕ → List ℕ
+units_line name job = concat (codes "95 units " ∷ name ∷ codes " " ∷ decimal job ∷ codes "\n" ∷ [])
+
+abbrev pub clash_line : ℕ → ℕ → List ℕ
+clash_line first second = concat (codes "96 clash " ∷ decimal first ∷ codes " " ∷ decimal second ∷ codes "\n" ∷ [])
+
+abbrev pub order_line : ℕ → ℕ → List ℕ
+order_line edge job = concat (codes "97 order edge " ∷ decimal edge ∷ codes " job " ∷ decimal job ∷ codes "\n" ∷ [])
+
+abbrev pub table_line : TableRefusal → List ℕ
+table_line (bad_table.Syntax line) = placed_line (codes "93 table syntax line ") line
+table_line (bad_table.Piece line) = placed_line (codes "94 piece ") line
+table_line (bad_table.Units name job) = units_line name job
+table_line (bad_table.Clash first second) = clash_line first second
+table_line (bad_table.Order edge job) = order_line edge.0 job
+
 abbrev pub cores_line : CoresRefusal → List ℕ
 cores_line (bad_cores.Syntax line) = placed_line (codes "98 core syntax line ") line
 cores_line (bad_cores.Missing name) = named_line (codes "99 core missing ") name
@@ -158,6 +191,8 @@ line_of_fault command (faults.Bodies refusal) = bodies_line refusal
 line_of_fault command (faults.Sensors refusal) = sensors_line refusal
 line_of_fault command (faults.Limit limit) = limit_line limit
 line_of_fault command (faults.Schedule refusal) = schedule_line refusal
+line_of_fault command (faults.Made refusal) = make_line refusal
+line_of_fault command (faults.Table refusal) = table_line refusal
 line_of_fault command (faults.Cores refusal) = cores_line refusal
 
 -- the line that tells why there is no text

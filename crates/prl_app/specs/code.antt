@@ -1,2 +1,2 @@
 pub mod Performed
-pub mod Ratios
+pub mod Pieces

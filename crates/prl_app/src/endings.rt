@@ -28,7 +28,7 @@ pub struct Status {
     /// 0: all done and all written. 1: the program or its bodies are refused. 2: the words are no command. 3: a
     /// reading failed. 4: a writing failed. 5: a run with free clock and several workers was overrun. 6: memory
     /// ran out. 7: a file is absent or too long. 8: the schedule is refused. 9: the sensor rows are refused.
-    /// 10: the text of processors is refused.
+    /// 10: no table is made of the plan, or the text of a table or of processors is refused.
     pub code: u8,
     /// What was run on a board: the board, closed, at 0 and 4 where the mode runs the tasks, and at 5.
     pub ran: Ran,
@@ -45,7 +45,7 @@ fn status_of_stage(stage: Stage) -> u8
         Stage::Horizon => 1,
         Stage::Rows => 9,
         Stage::Schedule | Stage::Placed => 8,
-        Stage::Cores => 10,
+        Stage::Made | Stage::Table | Stage::Cores => 10,
         Stage::Values => 1,
     }
 }

@@ -4,6 +4,7 @@
 
 mod endings;
 mod lines;
+mod pieces;
 mod top;
 
 pub use endings::{Ending, Status};

@@ -2,21 +2,20 @@
 
 ghost use Rattle.std.specs.Prelude.{◌≡◌, ◌<◌, ◌≤◌, [], unwrap_or, OnErr};
 ghost use Rattle.prl_io.specs.Growth.{IsWritten};
-ghost use Rattle.prl_app.specs.ErrorLines.{file_name, named_line, placed_line, grammar_line, mismatch_line, type_free_line, types_line, limit_line, bodies_line, short_line, sensors_line, not_whole_line, clocks_line, due_range_line, graph_line, narrow_line, loop_line, dates_line, illegal_line, unfinished_line, schedule_line, cores_line, line_of_fault, line_of_stop, line_of, overrun_line};
+ghost use Rattle.prl_app.specs.ErrorLines.{file_name, named_line, placed_line, grammar_line, types_line, limit_line, bodies_line, sensors_line, clocks_line, graph_line, dates_line, schedule_line, make_line, table_line, cores_line, line_of_fault, line_of_stop, line_of, overrun_line};
 ghost use Rattle.prl_plan.specs.Jobs.{task_at};
 ghost use Rattle.prl_app.specs.Endings.{IsTold};
-ghost use Rattle.prl_app.specs.code.Ratios.{unless_whole};
 
 use crate::endings::Ending;
-use itoa::Buffer;
+use crate::pieces::{Piece, write_line};
 use prl_arguments::Command;
-use prl_base::{Label, Limit, Ratio, TaskNo, Ty};
+use prl_base::{Label, Limit, TaskNo};
 use prl_exec::Stopped;
-use prl_io::{Failed, Sink, write_all, write_pieces};
-use prl_plan::{Plan, Rule};
+use prl_io::{Failed, Sink, write_all};
+use prl_plan::Plan;
 use prl_stages::{
     BodiesRefusal, ClocksRefusal, CoresRefusal, DatesRefusal, Fault, GrammarRefusal, GraphRefusal,
-    InputFile, ScheduleRefusal, SensorsRefusal, Stop, TypesRefusal,
+    InputFile, MakeRefusal, ScheduleRefusal, SensorsRefusal, Stop, TableRefusal, TypesRefusal,
 };
 
 fn label_bytes(label: &Option<Label>) -> &[u8]
@@ -39,6 +38,7 @@ fn file_name(command: &Option<Command>, part: InputFile) -> &[u8]
             InputFile::Bodies => label_bytes(&command.bodies),
             InputFile::Sensors => label_bytes(&command.sensors),
             InputFile::Schedule => label_bytes(&command.schedule),
+            InputFile::Table => label_bytes(&command.table),
             InputFile::Cores => label_bytes(&command.cores),
         },
     }
@@ -50,7 +50,10 @@ fn write_two<E: Sink>(err: &mut E, front: &[u8], name: &[u8]) -> Result<(), Fail
     ensures counted { (E.seen err.old).faults ≤ (E.seen err.new).faults }
     ensures failed { OnErr result ((E.seen err.old).faults < (E.seen err.new).faults) }
 {
-    write_pieces(err, &[front, name, b"\n".as_slice()])
+    write_line(
+        err,
+        &[Piece::Text(front), Piece::Text(name), Piece::Text(b"\n")],
+    )
 }
 
 /// Writes a line that ends in a place of the text, or in the number of a line or a record.
@@ -59,8 +62,28 @@ fn write_placed<E: Sink>(err: &mut E, front: &[u8], at: u64) -> Result<(), Faile
     ensures counted { (E.seen err.old).faults ≤ (E.seen err.new).faults }
     ensures failed { OnErr result ((E.seen err.old).faults < (E.seen err.new).faults) }
 {
-    let mut buffer = Buffer::new();
-    write_two(err, front, buffer.format(at).as_bytes())
+    write_line(
+        err,
+        &[Piece::Text(front), Piece::Number(at), Piece::Text(b"\n")],
+    )
+}
+
+/// Writes the line of a limit that is passed.
+fn write_limit<E: Sink>(err: &mut E, limit: Limit) -> Result<(), Failed>
+    ensures grown { IsWritten (E.seen err.old).written (E.seen err.new).written (limit_line limit) result }
+    ensures counted { (E.seen err.old).faults ≤ (E.seen err.new).faults }
+    ensures failed { OnErr result ((E.seen err.old).faults < (E.seen err.new).faults) }
+{
+    write_line(
+        err,
+        &[
+            Piece::Text(b"4 limit "),
+            Piece::Text(limit.what.text().as_bytes()),
+            Piece::Text(b" found "),
+            Piece::Number(limit.found),
+            Piece::Text(b"\n"),
+        ],
+    )
 }
 
 /// Writes the line of a fault of the grammar.
@@ -70,40 +93,11 @@ fn write_grammar<E: Sink>(err: &mut E, fault: GrammarRefusal) -> Result<(), Fail
     ensures failed { OnErr result ((E.seen err.old).faults < (E.seen err.new).faults) }
 {
     match fault {
-        GrammarRefusal::BadToken(at) => write_placed(err, b"1 bad token at ", at as u64),
-        GrammarRefusal::Unexpected(at) => write_placed(err, b"2 unexpected at ", at as u64),
-        GrammarRefusal::NumberRange(at) => write_placed(err, b"3 number range at ", at as u64),
+        GrammarRefusal::BadToken(at) => write_placed(err, b"1 bad token at ", u64::from(at)),
+        GrammarRefusal::Unexpected(at) => write_placed(err, b"2 unexpected at ", u64::from(at)),
+        GrammarRefusal::NumberRange(at) => write_placed(err, b"3 number range at ", u64::from(at)),
         GrammarRefusal::Limit(limit) => write_limit(err, limit),
     }
-}
-
-/// Writes the line of a type that is not the wanted one.
-fn write_mismatch<E: Sink>(err: &mut E, at: u32, wanted: Ty, found: Ty) -> Result<(), Failed>
-    ensures grown { IsWritten (E.seen err.old).written (E.seen err.new).written (mismatch_line at wanted found) result }
-    ensures counted { (E.seen err.old).faults ≤ (E.seen err.new).faults }
-    ensures failed { OnErr result ((E.seen err.old).faults < (E.seen err.new).faults) }
-{
-    let mut buffer = Buffer::new();
-    let at = buffer.format(at).as_bytes();
-    let front = b"13 mismatch at ".as_slice();
-    let wanting = b" wanted ".as_slice();
-    let finding = b" found ".as_slice();
-    let end = b"\n".as_slice();
-    let wanted = wanted.text().as_bytes();
-    let found = found.text().as_bytes();
-    write_pieces(err, &[front, at, wanting, wanted, finding, found, end])
-}
-
-/// Writes the line of a variable whose type the rules leave open.
-fn write_type_free<E: Sink>(err: &mut E, node: &[u8], name: &[u8]) -> Result<(), Failed>
-    ensures grown { IsWritten (E.seen err.old).written (E.seen err.new).written (type_free_line node.now name.now) result }
-    ensures counted { (E.seen err.old).faults ≤ (E.seen err.new).faults }
-    ensures failed { OnErr result ((E.seen err.old).faults < (E.seen err.new).faults) }
-{
-    let front = b"17 type free ".as_slice();
-    let dot = b".".as_slice();
-    let end = b"\n".as_slice();
-    write_pieces(err, &[front, node, dot, name, end])
 }
 
 /// Writes the line of a fault of names or types.
@@ -118,120 +112,30 @@ fn write_types<E: Sink>(err: &mut E, fault: &TypesRefusal) -> Result<(), Failed>
         TypesRefusal::Undefined(name) => write_two(err, b"15 undefined ", name.bytes()),
         TypesRefusal::Recursive(name) => write_two(err, b"16 recursive ", name.bytes()),
         TypesRefusal::NoMain => write_all(err, b"14 no main\n"),
-        TypesRefusal::Arity(at) => write_placed(err, b"12 arity at ", *at as u64),
-        TypesRefusal::Mismatch { at, wanted, found } => write_mismatch(err, *at, *wanted, *found),
-        TypesRefusal::TypeFree { node, name } => write_type_free(err, node.bytes(), name.bytes()),
+        TypesRefusal::Arity(at) => write_placed(err, b"12 arity at ", u64::from(*at)),
+        TypesRefusal::Mismatch { at, wanted, found } => write_line(
+            err,
+            &[
+                Piece::Text(b"13 mismatch at "),
+                Piece::Number(u64::from(*at)),
+                Piece::Text(b" wanted "),
+                Piece::Text(wanted.text().as_bytes()),
+                Piece::Text(b" found "),
+                Piece::Text(found.text().as_bytes()),
+                Piece::Text(b"\n"),
+            ],
+        ),
+        TypesRefusal::TypeFree { node, name } => write_line(
+            err,
+            &[
+                Piece::Text(b"17 type free "),
+                Piece::Text(node.bytes()),
+                Piece::Text(b"."),
+                Piece::Text(name.bytes()),
+                Piece::Text(b"\n"),
+            ],
+        ),
     }
-}
-
-/// Writes the line of a sensor that has too few rows.
-fn write_short<E: Sink>(err: &mut E, name: &[u8], have: u64, need: u64) -> Result<(), Failed>
-    ensures grown { IsWritten (E.seen err.old).written (E.seen err.new).written (short_line name.now have need) result }
-    ensures counted { (E.seen err.old).faults ≤ (E.seen err.new).faults }
-    ensures failed { OnErr result ((E.seen err.old).faults < (E.seen err.new).faults) }
-{
-    let mut first = Buffer::new();
-    let mut second = Buffer::new();
-    let have = first.format(have).as_bytes();
-    let need = second.format(need).as_bytes();
-    let front = b"84 short ".as_slice();
-    let blank = b" ".as_slice();
-    let end = b"\n".as_slice();
-    write_pieces(err, &[front, name, blank, have, blank, need, end])
-}
-
-/// Writes the line of rows that are not right, or too few.
-fn write_sensors<E: Sink>(err: &mut E, fault: &SensorsRefusal) -> Result<(), Failed>
-    ensures grown { IsWritten (E.seen err.old).written (E.seen err.new).written (sensors_line fault.now) result }
-    ensures counted { (E.seen err.old).faults ≤ (E.seen err.new).faults }
-    ensures failed { OnErr result ((E.seen err.old).faults < (E.seen err.new).faults) }
-{
-    match fault {
-        SensorsRefusal::Row(number) => write_placed(err, b"80 row ", *number),
-        SensorsRefusal::NoSensor(number) => write_placed(err, b"81 no sensor ", *number),
-        SensorsRefusal::Order(number) => write_placed(err, b"82 order ", *number),
-        SensorsRefusal::Value(number) => write_placed(err, b"83 value ", *number),
-        SensorsRefusal::Short { name, have, need } => write_short(err, name.bytes(), *have, *need),
-    }
-}
-
-/// Writes the line of a limit that is passed.
-fn write_limit<E: Sink>(err: &mut E, limit: Limit) -> Result<(), Failed>
-    ensures grown { IsWritten (E.seen err.old).written (E.seen err.new).written (limit_line limit) result }
-    ensures counted { (E.seen err.old).faults ≤ (E.seen err.new).faults }
-    ensures failed { OnErr result ((E.seen err.old).faults < (E.seen err.new).faults) }
-{
-    let mut buffer = Buffer::new();
-    let found = buffer.format(limit.found).as_bytes();
-    let front = b"4 limit ".as_slice();
-    let middle = b" found ".as_slice();
-    let end = b"\n".as_slice();
-    write_pieces(
-        err,
-        &[front, limit.what.text().as_bytes(), middle, found, end],
-    )
-}
-
-/// This part of the text of a ratio that follows its numerator: none where the ratio is whole.
-fn unless_whole<'a>(ratio: Ratio, part: &'a [u8]) -> &'a [u8]
-    ensures { result.now ≡ unless_whole ratio part.now }
-{
-    if ratio.den == 1 { &[] } else { part }
-}
-
-/// The numerator and the denominator of a ratio.
-fn parts(ratio: Ratio) -> (i64, u64)
-    ensures { result ≡ (ratio.num, ratio.den) }
-{
-    (ratio.num, ratio.den)
-}
-
-/// Writes the line of a flow whose clock is not whole or starts below 0.
-fn write_not_whole<E: Sink>(
-    err: &mut E,
-    label: &[u8],
-    period: Ratio,
-    start: Ratio,
-) -> Result<(), Failed>
-    ensures grown { IsWritten (E.seen err.old).written (E.seen err.new).written (not_whole_line label.now period start) result }
-    ensures counted { (E.seen err.old).faults ≤ (E.seen err.new).faults }
-    ensures failed { OnErr result ((E.seen err.old).faults < (E.seen err.new).faults) }
-{
-    let mut first = Buffer::new();
-    let mut second = Buffer::new();
-    let mut third = Buffer::new();
-    let mut fourth = Buffer::new();
-    let period_parts = parts(period);
-    let start_parts = parts(start);
-    let period_top = first.format(period_parts.0).as_bytes();
-    let period_rest = second.format(period_parts.1).as_bytes();
-    let start_top = third.format(start_parts.0).as_bytes();
-    let start_rest = fourth.format(start_parts.1).as_bytes();
-    let front = b"42 not whole ".as_slice();
-    let middle = b" period ".as_slice();
-    let starting = b" start ".as_slice();
-    let slash = b"/".as_slice();
-    let end = b"\n".as_slice();
-    let period_mark = unless_whole(period, slash);
-    let period_rest = unless_whole(period, period_rest);
-    let start_mark = unless_whole(start, slash);
-    let start_rest = unless_whole(start, start_rest);
-    write_pieces(
-        err,
-        &[
-            front,
-            label,
-            middle,
-            period_top,
-            period_mark,
-            period_rest,
-            starting,
-            start_top,
-            start_mark,
-            start_rest,
-            end,
-        ],
-    )
 }
 
 /// Writes the line of flows without clocks.
@@ -241,32 +145,26 @@ fn write_clocks<E: Sink>(err: &mut E, fault: &ClocksRefusal) -> Result<(), Faile
     ensures failed { OnErr result ((E.seen err.old).faults < (E.seen err.new).faults) }
 {
     match fault {
-        ClocksRefusal::Mismatch(at) => write_placed(err, b"40 clock mismatch at ", *at as u64),
+        ClocksRefusal::Mismatch(at) => write_placed(err, b"40 clock mismatch at ", u64::from(*at)),
         ClocksRefusal::Limit(limit) => write_limit(err, *limit),
         ClocksRefusal::Free(label) => write_two(err, b"41 clock free ", label.bytes()),
         ClocksRefusal::NotWhole {
             flow,
             period,
             start,
-        } => write_not_whole(err, flow.bytes(), *period, *start),
+        } => write_line(
+            err,
+            &[
+                Piece::Text(b"42 not whole "),
+                Piece::Text(flow.bytes()),
+                Piece::Text(b" period "),
+                Piece::Ratio(*period),
+                Piece::Text(b" start "),
+                Piece::Ratio(*start),
+                Piece::Text(b"\n"),
+            ],
+        ),
     }
-}
-
-/// Writes the line of a due that is out of its range.
-fn write_due_range<E: Sink>(err: &mut E, label: &[u8], due: u32, period: u64) -> Result<(), Failed>
-    ensures grown { IsWritten (E.seen err.old).written (E.seen err.new).written (due_range_line label.now due period) result }
-    ensures counted { (E.seen err.old).faults ≤ (E.seen err.new).faults }
-    ensures failed { OnErr result ((E.seen err.old).faults < (E.seen err.new).faults) }
-{
-    let mut first = Buffer::new();
-    let mut second = Buffer::new();
-    let due = first.format(due).as_bytes();
-    let period = second.format(period).as_bytes();
-    let front = b"51 due range ".as_slice();
-    let middle = b" due ".as_slice();
-    let before = b" period ".as_slice();
-    let end = b"\n".as_slice();
-    write_pieces(err, &[front, label, middle, due, before, period, end])
 }
 
 /// Writes the line of a program without a task graph.
@@ -276,57 +174,21 @@ fn write_graph<E: Sink>(err: &mut E, fault: &GraphRefusal) -> Result<(), Failed>
     ensures failed { OnErr result ((E.seen err.old).faults < (E.seen err.new).faults) }
 {
     match fault {
-        GraphRefusal::DueOnNonTask(label) => {
-            write_two(err, b"50 due on non-task ", label.bytes())
-        }
-        GraphRefusal::DueRange { flow, due, period } => {
-            write_due_range(err, flow.bytes(), *due, *period)
-        }
+        GraphRefusal::DueOnNonTask(label) => write_two(err, b"50 due on non-task ", label.bytes()),
+        GraphRefusal::DueRange { flow, due, period } => write_line(
+            err,
+            &[
+                Piece::Text(b"51 due range "),
+                Piece::Text(flow.bytes()),
+                Piece::Text(b" due "),
+                Piece::Number(u64::from(*due)),
+                Piece::Text(b" period "),
+                Piece::Number(*period),
+                Piece::Text(b"\n"),
+            ],
+        ),
         GraphRefusal::Limit(limit) => write_limit(err, *limit),
     }
-}
-
-/// Writes the line of a job that has too little time.
-fn write_narrow<E: Sink>(
-    err: &mut E,
-    name: &[u8],
-    job: i64,
-    needs: i64,
-    has: i64,
-) -> Result<(), Failed>
-    ensures grown { IsWritten (E.seen err.old).written (E.seen err.new).written (narrow_line name.now job needs has) result }
-    ensures counted { (E.seen err.old).faults ≤ (E.seen err.new).faults }
-    ensures failed { OnErr result ((E.seen err.old).faults < (E.seen err.new).faults) }
-{
-    let mut first = Buffer::new();
-    let mut second = Buffer::new();
-    let mut third = Buffer::new();
-    let job = first.format(job).as_bytes();
-    let needs = second.format(needs).as_bytes();
-    let has = third.format(has).as_bytes();
-    let front = b"60 narrow ".as_slice();
-    let blank = b" ".as_slice();
-    let needing = b" needs ".as_slice();
-    let having = b" has ".as_slice();
-    let end = b"\n".as_slice();
-    write_pieces(
-        err,
-        &[front, name, blank, job, needing, needs, having, has, end],
-    )
-}
-
-/// Writes the line of a job whose chains need longer the more jobs they have.
-fn write_loop<E: Sink>(err: &mut E, name: &[u8], job: i64) -> Result<(), Failed>
-    ensures grown { IsWritten (E.seen err.old).written (E.seen err.new).written (loop_line name.now job) result }
-    ensures counted { (E.seen err.old).faults ≤ (E.seen err.new).faults }
-    ensures failed { OnErr result ((E.seen err.old).faults < (E.seen err.new).faults) }
-{
-    let mut buffer = Buffer::new();
-    let job = buffer.format(job).as_bytes();
-    let front = b"61 loop ".as_slice();
-    let blank = b" ".as_slice();
-    let end = b"\n".as_slice();
-    write_pieces(err, &[front, name, blank, job, end])
 }
 
 /// Writes the line of jobs without encoded dates.
@@ -341,8 +203,30 @@ fn write_dates<E: Sink>(err: &mut E, fault: &DatesRefusal) -> Result<(), Failed>
             job,
             needs,
             has,
-        } => write_narrow(err, name.bytes(), *job, *needs, *has),
-        DatesRefusal::Loop { name, job } => write_loop(err, name.bytes(), *job),
+        } => write_line(
+            err,
+            &[
+                Piece::Text(b"60 narrow "),
+                Piece::Text(name.bytes()),
+                Piece::Text(b" "),
+                Piece::Signed(*job),
+                Piece::Text(b" needs "),
+                Piece::Signed(*needs),
+                Piece::Text(b" has "),
+                Piece::Signed(*has),
+                Piece::Text(b"\n"),
+            ],
+        ),
+        DatesRefusal::Loop { name, job } => write_line(
+            err,
+            &[
+                Piece::Text(b"61 loop "),
+                Piece::Text(name.bytes()),
+                Piece::Text(b" "),
+                Piece::Signed(*job),
+                Piece::Text(b"\n"),
+            ],
+        ),
     }
 }
 
@@ -353,41 +237,39 @@ fn write_bodies<E: Sink>(err: &mut E, fault: &BodiesRefusal) -> Result<(), Faile
     ensures failed { OnErr result ((E.seen err.old).faults < (E.seen err.new).faults) }
 {
     match fault {
-        BodiesRefusal::Syntax(at) => write_placed(err, b"23 body syntax at ", *at as u64),
+        BodiesRefusal::Syntax(at) => write_placed(err, b"23 body syntax at ", u64::from(*at)),
         BodiesRefusal::Limit(limit) => write_limit(err, *limit),
-        BodiesRefusal::BodyName(at) => write_placed(err, b"24 body name at ", *at as u64),
-        BodiesRefusal::BodyType(at) => write_placed(err, b"22 body type at ", *at as u64),
-        BodiesRefusal::BodyArity(at) => write_placed(err, b"21 body arity at ", *at as u64),
+        BodiesRefusal::BodyName(at) => write_placed(err, b"24 body name at ", u64::from(*at)),
+        BodiesRefusal::BodyType(at) => write_placed(err, b"22 body type at ", u64::from(*at)),
+        BodiesRefusal::BodyArity(at) => write_placed(err, b"21 body arity at ", u64::from(*at)),
         BodiesRefusal::Missing(name) => write_two(err, b"20 body missing ", name.bytes()),
     }
 }
 
-/// Writes the line of an event that breaks a rule.
-fn write_illegal<E: Sink>(err: &mut E, line: u64, rule: Rule) -> Result<(), Failed>
-    ensures grown { IsWritten (E.seen err.old).written (E.seen err.new).written (illegal_line line rule) result }
+/// Writes the line of rows that are not right, or too few.
+fn write_sensors<E: Sink>(err: &mut E, fault: &SensorsRefusal) -> Result<(), Failed>
+    ensures grown { IsWritten (E.seen err.old).written (E.seen err.new).written (sensors_line fault.now) result }
     ensures counted { (E.seen err.old).faults ≤ (E.seen err.new).faults }
     ensures failed { OnErr result ((E.seen err.old).faults < (E.seen err.new).faults) }
 {
-    let mut buffer = Buffer::new();
-    let line = buffer.format(line).as_bytes();
-    let front = b"71 illegal line ".as_slice();
-    let middle = b" rule ".as_slice();
-    let end = b"\n".as_slice();
-    write_pieces(err, &[front, line, middle, rule.text().as_bytes(), end])
-}
-
-/// Writes the line of a job that has not ended.
-fn write_unfinished<E: Sink>(err: &mut E, name: &[u8], job: u64) -> Result<(), Failed>
-    ensures grown { IsWritten (E.seen err.old).written (E.seen err.new).written (unfinished_line name.now job) result }
-    ensures counted { (E.seen err.old).faults ≤ (E.seen err.new).faults }
-    ensures failed { OnErr result ((E.seen err.old).faults < (E.seen err.new).faults) }
-{
-    let mut buffer = Buffer::new();
-    let job = buffer.format(job).as_bytes();
-    let front = b"72 unfinished ".as_slice();
-    let blank = b" ".as_slice();
-    let end = b"\n".as_slice();
-    write_pieces(err, &[front, name, blank, job, end])
+    match fault {
+        SensorsRefusal::Row(number) => write_placed(err, b"80 row ", *number),
+        SensorsRefusal::NoSensor(number) => write_placed(err, b"81 no sensor ", *number),
+        SensorsRefusal::Order(number) => write_placed(err, b"82 order ", *number),
+        SensorsRefusal::Value(number) => write_placed(err, b"83 value ", *number),
+        SensorsRefusal::Short { name, have, need } => write_line(
+            err,
+            &[
+                Piece::Text(b"84 short "),
+                Piece::Text(name.bytes()),
+                Piece::Text(b" "),
+                Piece::Number(*have),
+                Piece::Text(b" "),
+                Piece::Number(*need),
+                Piece::Text(b"\n"),
+            ],
+        ),
+    }
 }
 
 /// Writes the line of a schedule that is no whole run.
@@ -398,8 +280,95 @@ fn write_schedule<E: Sink>(err: &mut E, fault: &ScheduleRefusal) -> Result<(), F
 {
     match fault {
         ScheduleRefusal::Syntax(line) => write_placed(err, b"70 schedule syntax line ", *line),
-        ScheduleRefusal::Illegal { line, rule } => write_illegal(err, *line, *rule),
-        ScheduleRefusal::Unfinished { name, job } => write_unfinished(err, name.bytes(), *job),
+        ScheduleRefusal::Illegal { line, rule } => write_line(
+            err,
+            &[
+                Piece::Text(b"71 illegal line "),
+                Piece::Number(*line),
+                Piece::Text(b" rule "),
+                Piece::Text(rule.text().as_bytes()),
+                Piece::Text(b"\n"),
+            ],
+        ),
+        ScheduleRefusal::Unfinished { name, job } => write_line(
+            err,
+            &[
+                Piece::Text(b"72 unfinished "),
+                Piece::Text(name.bytes()),
+                Piece::Text(b" "),
+                Piece::Number(*job),
+                Piece::Text(b"\n"),
+            ],
+        ),
+    }
+}
+
+/// Writes the line of a plan of which no table is made.
+fn write_make<E: Sink>(err: &mut E, fault: MakeRefusal) -> Result<(), Failed>
+    ensures grown { IsWritten (E.seen err.old).written (E.seen err.new).written (make_line fault) result }
+    ensures counted { (E.seen err.old).faults ≤ (E.seen err.new).faults }
+    ensures failed { OnErr result ((E.seen err.old).faults < (E.seen err.new).faults) }
+{
+    match fault {
+        MakeRefusal::TooFar(tick) => write_placed(err, b"92 too far ", tick),
+        MakeRefusal::Limit(limit) => write_limit(err, limit),
+        MakeRefusal::Overload { from, to, demand } => write_line(
+            err,
+            &[
+                Piece::Text(b"90 overload "),
+                Piece::Number(from),
+                Piece::Text(b" "),
+                Piece::Number(to),
+                Piece::Text(b" demand "),
+                Piece::Number(demand),
+                Piece::Text(b" has "),
+                Piece::Number(to.saturating_sub(from)),
+                Piece::Text(b"\n"),
+            ],
+        ),
+        MakeRefusal::Unsteady(tick) => write_placed(err, b"91 unsteady at ", tick),
+    }
+}
+
+/// Writes the line of a text that is no good table.
+fn write_table<E: Sink>(err: &mut E, fault: &TableRefusal) -> Result<(), Failed>
+    ensures grown { IsWritten (E.seen err.old).written (E.seen err.new).written (table_line fault.now) result }
+    ensures counted { (E.seen err.old).faults ≤ (E.seen err.new).faults }
+    ensures failed { OnErr result ((E.seen err.old).faults < (E.seen err.new).faults) }
+{
+    match fault {
+        TableRefusal::Syntax(line) => write_placed(err, b"93 table syntax line ", *line),
+        TableRefusal::Piece(line) => write_placed(err, b"94 piece ", *line),
+        TableRefusal::Units { name, job } => write_line(
+            err,
+            &[
+                Piece::Text(b"95 units "),
+                Piece::Text(name.bytes()),
+                Piece::Text(b" "),
+                Piece::Number(*job),
+                Piece::Text(b"\n"),
+            ],
+        ),
+        TableRefusal::Clash { first, second } => write_line(
+            err,
+            &[
+                Piece::Text(b"96 clash "),
+                Piece::Number(*first),
+                Piece::Text(b" "),
+                Piece::Number(*second),
+                Piece::Text(b"\n"),
+            ],
+        ),
+        TableRefusal::Order { edge, job } => write_line(
+            err,
+            &[
+                Piece::Text(b"97 order edge "),
+                Piece::Number(u64::from(edge.0)),
+                Piece::Text(b" job "),
+                Piece::Number(*job),
+                Piece::Text(b"\n"),
+            ],
+        ),
     }
 }
 
@@ -434,6 +403,8 @@ fn write_fault<E: Sink>(err: &mut E, command: &Option<Command>, fault: &Fault) -
         Fault::Sensors(fault) => write_sensors(err, fault),
         Fault::Limit(limit) => write_limit(err, *limit),
         Fault::Schedule(fault) => write_schedule(err, fault),
+        Fault::Made(fault) => write_make(err, *fault),
+        Fault::Table(fault) => write_table(err, fault),
         Fault::Cores(fault) => write_cores(err, fault),
     }
 }
@@ -467,28 +438,22 @@ fn write_overrun<E: Sink>(err: &mut E, name: &[u8], stopped: &Stopped) -> Result
     ensures counted { (E.seen err.old).faults ≤ (E.seen err.new).faults }
     ensures failed { OnErr result ((E.seen err.old).faults < (E.seen err.new).faults) }
 {
-    let mut first = Buffer::new();
-    let mut second = Buffer::new();
-    let mut third = Buffer::new();
-    let mut fourth = Buffer::new();
-    let mut fifth = Buffer::new();
-    let job = first.format(stopped.job).as_bytes();
-    let port = second.format(stopped.port).as_bytes();
-    let cell = third.format(stopped.cell.0).as_bytes();
-    let wanted = fourth.format(stopped.wanted).as_bytes();
-    let found = fifth.format(stopped.found).as_bytes();
-    let front = b"overrun ".as_slice();
-    let blank = b" ".as_slice();
-    let porting = b" port ".as_slice();
-    let celling = b" cell ".as_slice();
-    let wanting = b" wanted ".as_slice();
-    let finding = b" found ".as_slice();
-    let end = b"\n".as_slice();
-    write_pieces(
+    write_line(
         err,
         &[
-            front, name, blank, job, porting, port, celling, cell, wanting, wanted, finding, found,
-            end,
+            Piece::Text(b"overrun "),
+            Piece::Text(name),
+            Piece::Text(b" "),
+            Piece::Number(stopped.job),
+            Piece::Text(b" port "),
+            Piece::Number(u64::from(stopped.port)),
+            Piece::Text(b" cell "),
+            Piece::Number(u64::from(stopped.cell.0)),
+            Piece::Text(b" wanted "),
+            Piece::Number(stopped.wanted),
+            Piece::Text(b" found "),
+            Piece::Number(stopped.found),
+            Piece::Text(b"\n"),
         ],
     )
 }

@@ -2,5 +2,6 @@ mod Found
 mod Schedules
 mod AcceptedLines
 mod Stops
+mod Contents
 mod Preparing
 mod Summaries

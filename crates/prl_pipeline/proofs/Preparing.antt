@@ -1,5 +1,5 @@
 -- What a run needs, from what the texts mean.
-use Rattle.std.proofs.Common.{◌≡◌, ◌∙◌, ℕ, List, Some, length, refl, sym, ap, subst}
+use Rattle.std.proofs.Common.{◌≡◌, ◌∙◌, ℕ, List, Some, Ok, length, refl, sym, ap, subst}
 use Rattle.prl_body.specs.declared.bodies.CheckedBody.{CheckedBody}
 use Rattle.prl_flow.specs.Rows.{Rows}
 use Rattle.prl_plan.specs.declared.horizons.Horizon.{Horizon}
@@ -9,23 +9,30 @@ use Rattle.prl_exec.specs.Runs.{HasEnded, HasStopped}
 use Rattle.prl_exec.specs.declared.runs.Stopped.{Stopped}
 use Rattle.prl_flow.specs.declared.programs.OutFlow.{OutFlow}
 use Rattle.prl_flow.specs.Actuators.{AreUpTo, actuator_text}
-use Rattle.prl_plan.specs.Horizons.{IsHorizon}
+use Rattle.prl_plan.specs.Horizons.{IsHorizon, constants_of}
 use Rattle.prl_plan.specs.Plans.{IsPlan}
-use Rattle.prl_plan.specs.Rules.{IsComplete}
-use Rattle.prl_plan.specs.Runs.{ExecState}
+use Rattle.prl_plan.specs.Rules.{IsComplete, IsGated}
+use Rattle.prl_plan.specs.Runs.{ExecState, after_events, opening}
 use Rattle.prl_replay.specs.Replays.{AreFlowsBelow}
 use Rattle.prl_results.specs.Shown.{AreShown, core_in}
 use Rattle.prl_rule.specs.declared.views.Constants.{Constants}
 use Rattle.prl_rule.specs.declared.views.Gate.{Gate}
 use Rattle.prl_rule.specs.Known.{known, run_of}
 use Rattle.prl_values.specs.Fitting.{HaveTaskBodies, HaveTypedRows}
+use Rattle.prl_rule.specs.declared.views.Gate.TheVariants as gates
+use Rattle.prl_stages.specs.declared.faults.InputFile.TheVariants as files
+use Rattle.prl_stages.specs.declared.ran.Ran.{Ran}
 use Rattle.prl_stages.specs.declared.ran.Ran.TheVariants as runs
-use Rattle.prl_stages.specs.Ran.{HasOverrun, HasRun, IsRunText}
-use Rattle.prl_stages.specs.Given.{Given}
+use Rattle.prl_stages.specs.Ran.{HasOverrun, HasRun, IsCycleText, list_of}
+use Rattle.prl_stages.specs.Given.{Given, text_of}
+use Rattle.prl_stages.specs.Planned.{HasPlan}
 use Rattle.prl_stages.specs.Replayed.{Execution}
+use Rattle.prl_tables.specs.declared.tables.Entry.{Entry}
+use Rattle.prl_tables.specs.Tables.{IsGood}
+use Rattle.prl_tables.specs.TableTexts.{entries_of}
 use Rattle.prl_pipeline.specs.declared.ready.Ready.{Ready}
 use Rattle.prl_stages.specs.Runs.{meant_flows}
-use Rattle.prl_pipeline.specs.code.Ready.{IsReady, ready_of}
+use Rattle.prl_pipeline.specs.code.Ready.{IsReady, IsTextOf, ready_of}
 
 abbrev parts : PlanView → List CheckedBody → Rows → Horizon → Ready
 parts plan bodies rows horizon = record { plan = plan; bodies = bodies; sensors = rows; horizon = horizon }
@@ -57,6 +64,9 @@ module _ (g : Given) (r : Ready) (ready : IsReady g r) where
   pub horizon_there : IsHorizon r.plan r.horizon
   horizon_there = subst (λ (x : Ready). IsHorizon x.plan x.horizon) (sym ready.made) ready.execution.has_horizon.is_horizon
 
+  pub has_plan_there : HasPlan g r.plan
+  has_plan_there = subst (λ (x : Ready). HasPlan g x.plan) (sym ready.made) ready.execution.has_horizon.has_plan
+
   until_is : r.horizon.until ≡ g.until
   until_is = subst (λ (x : Ready). x.horizon.until ≡ g.until) (sym ready.made) ready.execution.has_horizon.until
 
@@ -82,14 +92,13 @@ module _ (g : Given) (r : Ready) (ready : IsReady g r) where
           (subst (AreShown closed r.plan.graph) shown_meant shown);
     }
 
-    pub run_text_is : (text : List ℕ) → text ≡ actuator_text r.horizon.until outs → IsRunText g gate text (runs.Ended closed)
-    run_text_is text written = record {
-      execution = ready.execution;
+    pub text_of_is : (text : List ℕ) → text ≡ actuator_text r.horizon.until outs → IsTextOf g r gate text (runs.Ended closed)
+    text_of_is text written = (ready.execution, ready.made, record {
       closed = closed;
       ended = refl;
       run = board_has_run;
       written = written ∙ ap (λ (until : ℕ). actuator_text until outs) until_is ∙ ap (actuator_text g.until) shown_meant;
-    }
+    })
 
   pub overrun_is : (gate : Gate) (stopped : Stopped) → HasStopped (known_of r gate) stopped → HasOverrun g gate r.plan stopped
   overrun_is gate stopped has = record {
@@ -97,3 +106,29 @@ module _ (g : Given) (r : Ready) (ready : IsReady g r) where
     plan_is = sym (ap (λ (x : Ready). x.plan) ready.made);
     run = subst (λ (x : Ready). HasStopped (known_of x gate) stopped) ready.made has;
   }
+
+-- the law of the lists of tables
+pub record ListLaws : Type 0 where
+  pub gated : (plan : PlanView) (horizon : Horizon) → IsPlan plan → IsHorizon plan horizon → (entries : List Entry) → IsGood plan entries
+      → IsGated (constants_of plan horizon) (opening (constants_of plan horizon)) (list_of plan horizon entries)
+  pub complete : (plan : PlanView) (horizon : Horizon) → IsPlan plan → IsHorizon plan horizon → (entries : List Entry) → IsGood plan entries
+      → IsComplete (constants_of plan horizon) (after_events (constants_of plan horizon) (opening (constants_of plan horizon)) (list_of plan horizon entries))
+
+-- a run by the good table that the text tells
+pub cycle_text_is : ListLaws → (g : Given) (r : Ready) (entries : List Entry) → entries_of r.plan.graph.hyper (text_of g files.Table) ≡ Ok entries
+    → IsGood r.plan entries → (text : List ℕ) (done : Ran) → IsTextOf g r gates.Gated text done → IsCycleText g text done
+cycle_text_is law g r entries read good text done is =
+    let e = is.0 in
+    let plans : r.plan ≡ e.plan = ap (λ (x : Ready). x.plan) is.1 in
+    let good : IsGood e.plan entries = subst (λ (p : PlanView). IsGood p entries) plans good in
+    let read : entries_of e.plan.graph.hyper (text_of g files.Table) ≡ Ok entries =
+    subst (λ (p : PlanView). entries_of p.graph.hyper (text_of g files.Table) ≡ Ok entries) plans read in
+    let plan = e.has_horizon.has_plan in
+    record {
+      execution = e;
+      entries = entries;
+      has_table = record { has_plan = plan; read = read; good = good };
+      gated = law.gated e.plan e.horizon plan.is_plan e.has_horizon.is_horizon entries good;
+      complete = law.complete e.plan e.horizon plan.is_plan e.has_horizon.is_horizon entries good;
+      run = is.2;
+    }

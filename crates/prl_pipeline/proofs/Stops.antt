@@ -221,12 +221,13 @@ first_refused g (s ∷ first) rest e h = elim h [ inl k ↦ inl (k.0, first_refu
 
 -- the files of a command whose texts are read
 files_hold : (r : Request) → AllHold (given_of r) files
-files_hold r = ((r.texts.program.items, refl), ((r.texts.bodies.items, refl), ((r.texts.sensors.items, refl), ((r.texts.schedule.items, refl), ((r.texts.cores.items, refl), tt)))))
+files_hold r = ((r.texts.program.items, refl), ((r.texts.bodies.items, refl), ((r.texts.sensors.items, refl), ((r.texts.schedule.items, refl), ((r.texts.table.items, refl), ((r.texts.cores.items, refl), tt))))))
 
 -- texts of files are what is given to a command in a mode that has files
 pub given_to : (mode : Mode) → HasFiles mode → (told : Option Folder) (c : Command) (g : Given) → IsGiven told c g → IsGivenIn mode told c g
 given_to modes.Check h told c g is = is
 given_to modes.Cores h told c g is = is
+given_to modes.Cycle h told c g is = is
 given_to modes.Edf h told c g is = is
 given_to modes.Flows h told c g is = is
 given_to modes.Plan h told c g is = is
@@ -234,6 +235,7 @@ given_to modes.Print h told c g is = is
 given_to modes.Replay h told c g is = is
 given_to modes.Run h told c g is = is
 given_to modes.Schedule h told c g is = is
+given_to modes.Table h told c g is = is
 given_to modes.Generate h told c g is = absurd h
 
 -- what a mode that runs nothing means is its text
@@ -246,7 +248,9 @@ meant_alone modes.Plan h g c text done is none = (is, none)
 meant_alone modes.Print h g c text done is none = (is, none)
 meant_alone modes.Replay h g c text done is none = (is, none)
 meant_alone modes.Schedule h g c text done is none = (is, none)
+meant_alone modes.Table h g c text done is none = (is, none)
 meant_alone modes.Run h g c text done is none = absurd h
+meant_alone modes.Cycle h g c text done is none = absurd h
 meant_alone modes.Generate h g c text done is none = absurd h
 
 -- the stages after the files hold
@@ -320,22 +324,25 @@ generated_stop c mode r given (stops.Refused stage fault) k old =
     )
 generated_stop c mode r given stops.Memory k old = refl
 
--- a mode that has files and is not `run` runs nothing
-pub nothing_run : (mode : Mode) → HasFiles mode → (mode ≡ modes.Run → ⊥) → RunsNothing mode
-nothing_run modes.Check h other = tt
-nothing_run modes.Cores h other = tt
-nothing_run modes.Edf h other = tt
-nothing_run modes.Flows h other = tt
-nothing_run modes.Plan h other = tt
-nothing_run modes.Print h other = tt
-nothing_run modes.Replay h other = tt
-nothing_run modes.Schedule h other = tt
-nothing_run modes.Run h other = other refl
-nothing_run modes.Generate h other = h
+-- a mode that has files and is neither `run` nor `cycle` runs nothing
+pub nothing_run : (mode : Mode) → HasFiles mode → (mode ≡ modes.Run → ⊥) → (mode ≡ modes.Cycle → ⊥) → RunsNothing mode
+nothing_run modes.Check h other more = tt
+nothing_run modes.Cores h other more = tt
+nothing_run modes.Edf h other more = tt
+nothing_run modes.Flows h other more = tt
+nothing_run modes.Plan h other more = tt
+nothing_run modes.Print h other more = tt
+nothing_run modes.Replay h other more = tt
+nothing_run modes.Schedule h other more = tt
+nothing_run modes.Table h other more = tt
+nothing_run modes.Run h other more = other refl
+nothing_run modes.Cycle h other more = more refl
+nothing_run modes.Generate h other more = h
 
 pub has_files : (mode : Mode) → (mode ≡ modes.Generate → ⊥) → HasFiles mode
 has_files modes.Check other = tt
 has_files modes.Cores other = tt
+has_files modes.Cycle other = tt
 has_files modes.Edf other = tt
 has_files modes.Flows other = tt
 has_files modes.Plan other = tt
@@ -343,113 +350,8 @@ has_files modes.Print other = tt
 has_files modes.Replay other = tt
 has_files modes.Run other = tt
 has_files modes.Schedule other = tt
+has_files modes.Table other = tt
 has_files modes.Generate other = other refl
-
--- each file gives something
-some_content : (told : Option Folder) (part : InputFile) (name : Option (List ℕ)) → (content : Result (List ℕ) Fault) × IsContent told part name content
-some_content told part None = (Ok [], refl)
-some_content (Some folder) part (Some name) = (read_as part (folder name), refl)
-some_content None part (Some name) = (Ok [], omega arith)
-
-by_part : (told : Option Folder) (c : Command) (g : Given) → IsContent told parts.Program c.program g.program → IsContent told parts.Bodies c.bodies g.bodies
-    → IsContent told parts.Sensors c.sensors g.sensors → IsContent told parts.Schedule c.schedule g.schedule → IsContent told parts.Cores c.cores g.cores
-    → (part : InputFile) → IsContent told part (file_of c part) (content_of g part)
-by_part told c g p b s e k parts.Program = p
-by_part told c g p b s e k parts.Bodies = b
-by_part told c g p b s e k parts.Sensors = s
-by_part told c g p b s e k parts.Schedule = e
-by_part told c g p b s e k parts.Cores = k
-
--- what a command is given where its files give this
-abbrev with_files : Command → Result (List ℕ) Fault → Result (List ℕ) Fault → Result (List ℕ) Fault → Result (List ℕ) Fault → Result (List ℕ) Fault → Given
-with_files c program bodies sensors schedule cores = record {
-  program = program;
-  bodies = bodies;
-  sensors = sensors;
-  schedule = schedule;
-  cores = cores;
-  listed = is_some c.schedule;
-  node = c.node;
-  until = c.until;
-}
-
--- what the files give, part by part
-pub given_by : (told : Option Folder) (c : Command) (program bodies sensors schedule cores : Result (List ℕ) Fault)
-    → IsContent told parts.Program c.program program → IsContent told parts.Bodies c.bodies bodies → IsContent told parts.Sensors c.sensors sensors
-    → IsContent told parts.Schedule c.schedule schedule → IsContent told parts.Cores c.cores cores
-    → IsGiven told c (with_files c program bodies sensors schedule cores)
-given_by told c program bodies sensors schedule cores p b s e k = record {
-  contents = by_part told c (with_files c program bodies sensors schedule cores) p b s e k;
-  listed = refl;
-  node = refl;
-  until = refl;
-}
-
--- a command comes to a refusal of this file
-abbrev pub RefusesFile : Option Folder → Command → InputFile → Fault → Type 0
-RefusesFile told c part fault = (g : Given) × IsGiven told c g × Comes g files (Some (stages.File part, fault))
-
-pub program_refused : (told : Option Folder) (c : Command) (fault : Fault) → IsContent told parts.Program c.program (Err fault) → RefusesFile told c parts.Program fault
-program_refused told c fault h =
-    let b = some_content told parts.Bodies c.bodies in
-    let s = some_content told parts.Sensors c.sensors in
-    let e = some_content told parts.Schedule c.schedule in
-    let k = some_content told parts.Cores c.cores in (
-      with_files c (Err fault) b.0 s.0 e.0 k.0,
-      given_by told c (Err fault) b.0 s.0 e.0 k.0 h b.1 s.1 e.1 k.1,
-      inr (fault, refl, refl),
-    )
-
-pub bodies_refused : (told : Option Folder) (c : Command) (p : List ℕ) → IsContent told parts.Program c.program (Ok p)
-    → (fault : Fault) → IsContent told parts.Bodies c.bodies (Err fault) → RefusesFile told c parts.Bodies fault
-bodies_refused told c p hp fault h =
-    let s = some_content told parts.Sensors c.sensors in
-    let e = some_content told parts.Schedule c.schedule in
-    let k = some_content told parts.Cores c.cores in (
-      with_files c (Ok p) (Err fault) s.0 e.0 k.0,
-      given_by told c (Ok p) (Err fault) s.0 e.0 k.0 hp h s.1 e.1 k.1,
-      inl ((p, refl), inr (fault, refl, refl)),
-    )
-
-pub sensors_refused : (told : Option Folder) (c : Command) (p b : List ℕ) → IsContent told parts.Program c.program (Ok p) → IsContent told parts.Bodies c.bodies (Ok b)
-    → (fault : Fault) → IsContent told parts.Sensors c.sensors (Err fault) → RefusesFile told c parts.Sensors fault
-sensors_refused told c p b hp hb fault h =
-    let e = some_content told parts.Schedule c.schedule in
-    let k = some_content told parts.Cores c.cores in (
-      with_files c (Ok p) (Ok b) (Err fault) e.0 k.0,
-      given_by told c (Ok p) (Ok b) (Err fault) e.0 k.0 hp hb h e.1 k.1,
-      inl ((p, refl), inl ((b, refl), inr (fault, refl, refl))),
-    )
-
-pub schedule_refused : (told : Option Folder) (c : Command) (p b s : List ℕ) → IsContent told parts.Program c.program (Ok p) → IsContent told parts.Bodies c.bodies (Ok b)
-    → IsContent told parts.Sensors c.sensors (Ok s) → (fault : Fault) → IsContent told parts.Schedule c.schedule (Err fault) → RefusesFile told c parts.Schedule fault
-schedule_refused told c p b s hp hb hs fault h =
-    let k = some_content told parts.Cores c.cores in (
-      with_files c (Ok p) (Ok b) (Ok s) (Err fault) k.0,
-      given_by told c (Ok p) (Ok b) (Ok s) (Err fault) k.0 hp hb hs h k.1,
-      inl ((p, refl), inl ((b, refl), inl ((s, refl), inr (fault, refl, refl)))),
-    )
-
-pub cores_refused : (told : Option Folder) (c : Command) (p b s e : List ℕ) → IsContent told parts.Program c.program (Ok p) → IsContent told parts.Bodies c.bodies (Ok b)
-    → IsContent told parts.Sensors c.sensors (Ok s) → IsContent told parts.Schedule c.schedule (Ok e) → (fault : Fault) → IsContent told parts.Cores c.cores (Err fault)
-    → RefusesFile told c parts.Cores fault
-cores_refused told c p b s e hp hb hs he fault h = (
-  with_files c (Ok p) (Ok b) (Ok s) (Ok e) (Err fault),
-  given_by told c (Ok p) (Ok b) (Ok s) (Ok e) (Err fault) hp hb hs he h,
-  inl ((p, refl), inl ((b, refl), inl ((s, refl), inl ((e, refl), inr (fault, refl, refl))))),
-)
-
--- the reading of one of the files stops
-pub file_stop : (old mid new : FolderView) (c : Command) (part : InputFile) (stop : Stop) → mid.folder ≡ old.folder → mid.failed ≡ old.failed
-    → ((fault : Fault) → IsContent old.folder part (file_of c part) (Err fault) → RefusesFile old.folder c part fault)
-    → IsFileStop mid new part (file_of c part) stop → IsStopOfFiles old new c stop
-file_stop old mid new c part (stops.Unread at) folder failed refused h =
-    subst (λ (p : InputFile). IsStopOfFiles old new c (stops.Unread p)) (sym h.0)
-    (h.1, h.2, h.3 ∙ ap (λ (names : List (List ℕ)). names ++ (h.1 ∷ [])) failed)
-file_stop old mid new c part (stops.Refused stage fault) folder failed refused h =
-    subst (λ (s : Stage). IsStopOfFiles old new c (stops.Refused s fault)) (sym h.0)
-    (refused fault (subst (λ (told : Option Folder). IsContent told part (file_of c part) (Err fault)) folder h.1), h.2 ∙ failed)
-file_stop old mid new c part stops.Memory folder failed refused h = h ∙ failed
 
 -- what holds of results
 pub ok_map : {X F : Type 0} (r : Result X F) (P Q : X → Type 0) → ((x : X) → P x → Q x) → IfOk r P → IfOk r Q

@@ -46,6 +46,7 @@ fn generated_request(alloc: Global, seed: u64, size: u32) -> Result<Request, All
         bodies: made.bodies,
         sensors: made.sensors,
         schedule: Vec::new(alloc),
+        table: Vec::new(alloc),
         cores: Vec::new(alloc),
     };
     Ok(Request {

@@ -16,6 +16,7 @@ mod replayed;
 mod running;
 mod runs;
 mod scheduled;
+mod tabled;
 
 pub use pipeline::{answer, answer_threads};
 pub use plans::plan_of;

@@ -32,6 +32,7 @@ use crate::replayed::replay_of;
 use crate::running::{Outcome, run_outcome, run_text};
 use crate::runs::{Run, flows_of, read_rows};
 use crate::scheduled::{dispatched, make_horizon};
+use crate::tabled::{cycle_text, made_text};
 use prl_arguments::{Command, Mode};
 use prl_ast::Program;
 use prl_body::Bodies;
@@ -434,7 +435,8 @@ fn mode_text(alloc: Global, mode: Mode, request: &Request) -> Result<Vec<u8>, St
         Mode::Replay => replayed_text(alloc, request),
         Mode::Edf => edf_text(alloc, request),
         Mode::Cores => cores_text(alloc, request),
-        Mode::Run => unreachable!(),
+        Mode::Table => made_text(alloc, request),
+        Mode::Run | Mode::Cycle => unreachable!(),
         Mode::Generate => unreachable!(),
     }
 }
@@ -464,10 +466,10 @@ fn requested(alloc: Global, command: &Command, request: &Request) -> Result<(Vec
     ensures holds { IfOk result (λ _. AllHold (given_of request.now) (stages_after command.now.mode request.now.named)) }
     ensures stop { IfErr result (StopsIn (given_of request.now) (stages_after command.now.mode request.now.named)) }
 {
-    if command.mode == Mode::Run {
-        run_text(alloc, request, command.clock)
-    } else {
-        text_alone(alloc, command.mode, request)
+    match command.mode {
+        Mode::Run => run_text(alloc, request, command.clock),
+        Mode::Cycle => cycle_text(alloc, request),
+        mode => text_alone(alloc, mode, request),
     }
 }
 

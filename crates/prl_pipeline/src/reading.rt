@@ -17,6 +17,7 @@ pub struct Texts {
     pub bodies: Vec<u8>,
     pub sensors: Vec<u8>,
     pub schedule: Vec<u8>,
+    pub table: Vec<u8>,
     pub cores: Vec<u8>,
 }
 
@@ -69,12 +70,14 @@ fn read_texts<F: Files>(alloc: Global, files: &mut F, command: &Command) -> Resu
     let bodies = read_part(alloc, files, InputFile::Bodies, &command.bodies)?;
     let sensors = read_part(alloc, files, InputFile::Sensors, &command.sensors)?;
     let schedule = read_part(alloc, files, InputFile::Schedule, &command.schedule)?;
+    let table = read_part(alloc, files, InputFile::Table, &command.table)?;
     let cores = read_part(alloc, files, InputFile::Cores, &command.cores)?;
     Ok(Texts {
         program,
         bodies,
         sensors,
         schedule,
+        table,
         cores,
     })
 }

@@ -7,7 +7,7 @@ ghost use Rattle.prl_rule.specs.Known.{known};
 ghost use Rattle.prl_stages.specs.Ran.{IsRunText};
 ghost use Rattle.prl_stages.specs.Stages.{front, ran};
 ghost use Rattle.prl_values.specs.Fitting.{HaveTaskBodies, HaveTypedRows};
-ghost use Rattle.prl_pipeline.specs.code.Ready.{IsOutcome, IsReady};
+ghost use Rattle.prl_pipeline.specs.code.Ready.{IsOutcome, IsReady, IsTextOf};
 ghost use Rattle.prl_pipeline.specs.code.Stops.{given_of, AllHold, StopsIn};
 
 use crate::reading::Request;
@@ -65,7 +65,7 @@ pub(crate) fn closed_alone(alloc: Global, ready: &Ready, gate: Gate) -> Result<C
 }
 
 /// The text of the actuators of a board on which all jobs have ended.
-fn text_of(
+pub(crate) fn text_of(
     alloc: Global,
     request: &Request,
     ready: &Ready,
@@ -75,7 +75,8 @@ fn text_of(
     requires ready { IsReady (given_of request.now) ready.now }
     requires known { closed.now.constants ≡ Some (known ready.now.plan ready.now.horizon gate ready.now.sensors ready.now.bodies) }
     requires ended { HasEnded closed.now }
-    ensures { IfOk result (λ text. IsRunText (given_of request.now) gate text.items (Ran.Ended closed.now)) }
+    ensures text { IfOk result (λ text. IsRunText (given_of request.now) gate text.items (Ran.Ended closed.now)) }
+    ensures of { IfOk result (λ text. IsTextOf (given_of request.now) ready.now gate text.items (Ran.Ended closed.now)) }
 {
     ended_boards_show_flows();
     plan_is_one(&ready.plan);

@@ -9,6 +9,8 @@ pub mod SmallClocks
 mod OnePlan
 mod OneRun
 mod OnePlaced
+mod OneParts
+mod OneTable
 mod OneEnd
 mod Decided
 mod Replaying

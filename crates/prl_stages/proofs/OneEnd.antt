@@ -37,123 +37,34 @@ use Rattle.prl_stages.specs.Told.{told_parse, told_types, told_clocks, told_body
 use Rattle.prl_stages.proofs.OneCycle.{no_label, one_label}
 use Rattle.prl_stages.proofs.OnePlan.{PlanLaws, cells_apart, cells_one, dates_apart, dates_one, graph_apart, graph_one, one_graph, words_apart, words_one}
 use Rattle.prl_stages.proofs.OnePlaced.{cores_apart, cores_one, placed_apart, placed_one}
+use Rattle.prl_stages.proofs.OneTable.{TableLaws, made_apart, made_one, table_apart, table_one}
 use Rattle.prl_stages.proofs.OneRun.{RunLaws, horizon_apart, horizon_one, schedule_apart, schedule_one}
 use Rattle.prl_stages.proofs.Told.{grammar_told, types_told, clocks_told, bodies_told, sensors_told, same_told}
 use Rattle.prl_stages.specs.Stages.{Holds, Refuses, Comes}
 
+use Rattle.prl_stages.proofs.OneParts as ones
+use Rattle.prl_stages.proofs.OneParts.{PartLaws, ok_ok, ok_err, err_err}
+
 -- the laws of the crates below
 pub record Laws : Type 0 where
-  pub programs : (text : List ℕ) (a b : Result ProgramTree ParseFault) → IsParsedProgram text a → IsParsedProgram text b → a ≡ b
-  pub bodies : (text : List ℕ) (a b : Result (List TextTree) BodyFault) → IsParsed text a → IsParsed text b → a ≡ b
-  pub one : (p : ProgramTree) (main : Option (List ℕ)) (r s : Result (ℕ × List Ty) TypeFault) → IsOutcome p main r → IsOutcome p main s → r ≡ s
-  pub ranges : (text : List ℕ) (p : ProgramTree) → IsProgramOf text p → IsInRange p
-  pub expansions : (p : ProgramTree) (main : ℕ) (one other : Expansion) → IsExpansion p main one → IsExpansion p main other → one ≡ other
-  pub formed : (p : ProgramTree) (asked : Option (List ℕ)) (main : ℕ) (types : List Ty) (e : Expansion) → IsInRange p → IsTyped p asked main types
-      → IsExpansion p main e → length (flows_in e) ≤ 4096 → IsFlat (flat_of p types main e)
-  pub clocks : (p : FlatProgram) → IsFlat p → (one other : Result (List Clock) ClockFault) → IsClockOutcome p one → IsClockOutcome p other → one ≡ other
+  pub parts : PartLaws
   pub plans : PlanLaws
   pub runs : RunLaws
-
-ok_ok : {A F : Type 0} (r : Result A F) (a b : A) → r ≡ Ok a → r ≡ Ok b → a ≡ b
-ok_ok r a b h k = cc
-
-err_err : {A F : Type 0} (r : Result A F) (a b : F) → r ≡ Err a → r ≡ Err b → a ≡ b
-err_err r a b h k = cc
-
-ok_err : {A F : Type 0} (r : Result A F) (a : A) (b : F) → r ≡ Ok a → r ≡ Err b → ⊥
-ok_err r a b h k = cc
-
-abbrev failed : TypeFault → Result (ℕ × List Ty) TypeFault
-failed fault = Err fault
-
-abbrev typed_as : ℕ × List Ty → Result (ℕ × List Ty) TypeFault
-typed_as t = Ok t
-
-err_same : (a b : TypeFault) → failed a ≡ failed b → a ≡ b
-err_same a b e = cc
-
-ok_main : (a b : ℕ × List Ty) → typed_as a ≡ typed_as b → a.0 ≡ b.0
-ok_main a b e = cc
-
-ok_types : (a b : ℕ × List Ty) → typed_as a ≡ typed_as b → a.1 ≡ b.1
-ok_types a b e = cc
-
-no_ok_err : (t : ℕ × List Ty) (fault : TypeFault) → typed_as t ≡ failed fault → ⊥
-no_ok_err t fault e = cc
+  pub tables : TableLaws
 
 module _ (law : Laws) (g : Given) where
-  typed_is_no_fault : (p : ProgramTree) (node : ℕ) (types : List Ty) (fault : TypeFault) → IsTyped p g.node node types → IsFault p g.node fault → ⊥
-  typed_is_no_fault p node types fault typed h =
-      no_ok_err (node, types) fault (law.one p g.node (Ok (node, types)) (Err fault) typed h)
-
-  one_type_fault : (p : ProgramTree) (a b : TypeFault) → IsFault p g.node a → IsFault p g.node b → a ≡ b
-  one_type_fault p a b h k = err_same a b (law.one p g.node (Err a) (Err b) h k)
-
-  one_node : (p : ProgramTree) (a b : ℕ) (s t : List Ty) → IsTyped p g.node a s → IsTyped p g.node b t → a ≡ b
-  one_node p a b s t h k =
-      ok_main (a, s) (b, t) (law.one p g.node (Ok (a, s)) (Ok (b, t)) h k)
-
-  pub one_program : (p q : ProgramTree) → IsProgram g p → IsProgram g q → p ≡ q
-  one_program p q h k = ok_ok (Ok p) p q refl (law.programs (text_of g parts.Program) (Ok p) (Ok q) h.written k.written)
-
-  pub one_main : (p : ProgramTree) (main : ℕ) (q : ProgramTree) (other : ℕ) → IsMain g p main → IsMain g q other → main ≡ other
-  one_main p main q other h k =
-      let same = one_program q p k.program h.program in
-      let typed : IsTyped p g.node other k.types = subst (λ (x : ProgramTree). IsTyped x g.node other k.types) same k.typed in
-      one_node p main other h.types k.types h.typed typed
-
-  -- the types of a program's variables
-  one_typing : (p : ProgramTree) (main : ℕ) (q : ProgramTree) (other : ℕ) (h : IsMain g p main) (k : IsMain g q other) → h.types ≡ k.types
-  one_typing p main q other h k =
-      let same = one_program q p k.program h.program in
-      let typed : IsTyped p g.node other k.types = subst (λ (x : ProgramTree). IsTyped x g.node other k.types) same k.typed in
-      ok_types (main, h.types) (other, k.types) (law.one p g.node (Ok (main, h.types)) (Ok (other, k.types)) h.typed typed)
-
-  -- the expansion of one program
-  one_expansion : (p : ProgramTree) (main : ℕ) (q : ProgramTree) (other : ℕ) (a b : Expansion) → IsMain g p main → IsMain g q other
-      → IsExpansion p main a → IsExpansion q other b → a ≡ b
-  one_expansion p main q other a b h k is are =
-      let at : IsExpansion p other b = subst (λ (x : ProgramTree). IsExpansion x other b) (one_program q p k.program h.program) are in
-      let here : IsExpansion p main b = subst (λ (x : ℕ). IsExpansion p x b) (one_main q other p main k h) at in
-      law.expansions p main a b is here
-
-  pub one_flat : (a b : FlatProgram) → IsFlattened g a → IsFlattened g b → a ≡ b
-  one_flat a b h k =
-      let programs = one_program h.program k.program h.is_main.program k.is_main.program in
-      let mains = one_main h.program h.main k.program k.main h.is_main k.is_main in
-      let types = one_typing h.program h.main k.program k.main h.is_main k.is_main in
-      let expansions = one_expansion h.program h.main k.program k.main h.expanded.expansion k.expanded.expansion h.is_main k.is_main h.expanded.is k.expanded.is in
-      h.expanded.flat_is
-      ∙ (ap (λ (x : ProgramTree). flat_of x h.is_main.types h.main h.expanded.expansion) programs
-      ∙ ap (λ (x : List Ty). flat_of k.program x h.main h.expanded.expansion) types
-      ∙ ap (λ (x : ℕ). flat_of k.program k.is_main.types x h.expanded.expansion) mains
-      ∙ ap (λ (x : Expansion). flat_of k.program k.is_main.types k.main x) expansions)
-      ∙ sym k.expanded.flat_is
-
-  pub is_flat : (flat : FlatProgram) → IsFlattened g flat → IsFlat flat
-  is_flat flat h =
-      let range = law.ranges (text_of g parts.Program) h.program h.is_main.program.written in
-      subst IsFlat (sym h.expanded.flat_is)
-      (law.formed h.program g.node h.main h.is_main.types h.expanded.expansion range h.is_main.typed h.expanded.is h.expanded.few)
-
-  pub one_clocks : (p q : FlatProgram) (a b : List Clock) → HasClocks g p a → HasClocks g q b → a ≡ b
-  one_clocks p q a b h k =
-      let same = one_flat q p k.causal.flattened h.causal.flattened in
-      let only : AreOnlyClocks p b = subst (λ (x : FlatProgram). AreOnlyClocks x b) same k.only in
-      ok_ok (Ok a) a b refl (law.clocks p (is_flat p h.causal.flattened) (Ok a) (Ok b) h.only only)
-
   -- the faults of two texts of bodies that are one
   moved_bodies : (p : ProgramTree) (main : ℕ) (q : ProgramTree) (other : ℕ) (fault : BodyFault) → IsMain g p main → IsMain g q other
       → RefusesBodies p main (text_of g parts.Bodies) fault → RefusesBodies q other (text_of g parts.Bodies) fault
   moved_bodies p main q other fault h k e =
-      let at = subst (λ (x : ProgramTree). RefusesBodies x main (text_of g parts.Bodies) fault) (one_program p q h.program k.program) e in
-      subst (λ (x : ℕ). RefusesBodies q x (text_of g parts.Bodies) fault) (one_main p main q other h k) at
+      let at = subst (λ (x : ProgramTree). RefusesBodies x main (text_of g parts.Bodies) fault) ((ones.one_program law.parts g) p q h.program k.program) e in
+      subst (λ (x : ℕ). RefusesBodies q x (text_of g parts.Bodies) fault) ((ones.one_main law.parts g) p main q other h k) at
 
   one_text : (s t : List TextTree) → IsParsed (text_of g parts.Bodies) (Ok s) → IsParsed (text_of g parts.Bodies) (Ok t) → s ≡ t
-  one_text s t h k = ok_ok (Ok s) s t refl (law.bodies (text_of g parts.Bodies) (Ok s) (Ok t) h k)
+  one_text s t h k = ok_ok (Ok s) s t refl (law.parts.bodies (text_of g parts.Bodies) (Ok s) (Ok t) h k)
 
   read_apart : (s : List TextTree) (fault : BodyFault) → IsParsed (text_of g parts.Bodies) (Ok s) → IsParsed (text_of g parts.Bodies) (Err fault) → ⊥
-  read_apart s fault h k = ok_err (Ok s) s fault refl (law.bodies (text_of g parts.Bodies) (Ok s) (Err fault) h k)
+  read_apart s fault h k = ok_err (Ok s) s fault refl (law.parts.bodies (text_of g parts.Bodies) (Ok s) (Err fault) h k)
 
   bodies_apart : (trees : List BodyTree) (fault : BodyFault) (h : AreBodies g trees) → RefusesBodies h.program h.main (text_of g parts.Bodies) fault → ⊥
   bodies_apart trees fault h k = elim k [
@@ -167,7 +78,7 @@ module _ (law : Laws) (g : Given) where
   one_body_fault : (p : ProgramTree) (main : ℕ) (a b : BodyFault) → RefusesBodies p main (text_of g parts.Bodies) a → RefusesBodies p main (text_of g parts.Bodies) b → a ≡ b
   one_body_fault p main a b h k = elim h [
     | inl u ↦ elim k [
-      | inl v ↦ err_err (Err a) a b refl (law.bodies (text_of g parts.Bodies) (Err a) (Err b) u v)
+      | inl v ↦ err_err (Err a) a b refl (law.parts.bodies (text_of g parts.Bodies) (Err a) (Err b) u v)
       | inr v ↦ absurd (read_apart v.0 a v.1 u)
     ]
     | inr u ↦ elim k [
@@ -180,95 +91,99 @@ module _ (law : Laws) (g : Given) where
 
   moved_rows : (p q : FlatProgram) (a b : List Clock) (r : Result Rows SensorFault) → HasClocks g p a → HasClocks g q b → rows_for g p a ≡ r → rows_for g q b ≡ r
   moved_rows p q a b r h k e =
-      let at : rows_for g q a ≡ r = subst (λ (x : FlatProgram). rows_for g x a ≡ r) (one_flat p q h.causal.flattened k.causal.flattened) e in
-      subst (λ (clocks : List Clock). rows_for g q clocks ≡ r) (one_clocks p q a b h k) at
+      let at : rows_for g q a ≡ r = subst (λ (x : FlatProgram). rows_for g x a ≡ r) ((ones.one_flat law.parts g) p q h.causal.flattened k.causal.flattened) e in
+      subst (λ (clocks : List Clock). rows_for g q clocks ≡ r) ((ones.one_clocks law.parts g) p q a b h k) at
 
   apart : (s : Stage) (f : Fault) → Holds g s → Refuses g s f → ⊥
   apart (stages.File part) f h k = ok_err (content_of g part) h.0 f h.1 k
   apart stages.Grammar f h k =
       let fault = grammar_fault k.0 in
-      ok_err (Ok h.0) h.0 fault refl (law.programs (text_of g parts.Program) (Ok h.0) (Err fault) h.1.written k.1)
+      ok_err (Ok h.0) h.0 fault refl (law.parts.programs (text_of g parts.Program) (Ok h.0) (Err fault) h.1.written k.1)
   apart stages.Types f h k =
-      let same = one_program k.0 h.0 k.1 h.2.program in
+      let same = (ones.one_program law.parts g) k.0 h.0 k.1 h.2.program in
       let fault = types_fault k.2 in
-      typed_is_no_fault h.0 h.1 h.2.types fault h.2.typed (subst (λ (p : ProgramTree). IsFault p g.node fault) same k.3)
+      (ones.typed_is_no_fault law.parts g) h.0 h.1 h.2.types fault h.2.typed (subst (λ (p : ProgramTree). IsFault p g.node fault) same k.3)
   apart stages.Expansion f h k =
-      let same = one_expansion h.1.program h.1.main k.0 k.1 h.1.expanded.expansion k.4.1.expansion h.1.is_main k.2 h.1.expanded.is k.4.1.is in
+      let same = (ones.one_expansion law.parts g) h.1.program h.1.main k.0 k.1 h.1.expanded.expansion k.4.1.expansion h.1.is_main k.2 h.1.expanded.is k.4.1.is in
       let few = h.1.expanded.few in
       let many : 4096 < length (flows_in h.1.expanded.expansion) = subst (λ (e : Expansion). 4096 < length (flows_in e)) (sym same) k.4.1.many in
       omega (arith, few, many)
   apart stages.Causality f h k =
-      let same = one_flat k.0 h.0 k.1 h.1.flattened in
+      let same = (ones.one_flat law.parts g) k.0 h.0 k.1 h.1.flattened in
       no_label h.0 h.1.acyclic k.2 (subst (λ (x : FlatProgram). IsCycleLabel x k.2) same k.3)
   apart stages.Clocks f h k =
-      let same = one_flat k.0 h.0 k.1.flattened h.2.causal.flattened in
+      let same = (ones.one_flat law.parts g) k.0 h.0 k.1.flattened h.2.causal.flattened in
       let fault = clock_fault k.2 in
       let at : IsClockOutcome h.0 (Err fault) = subst (λ (x : FlatProgram). IsClockOutcome x (Err fault)) same k.3 in
-      ok_err (Ok h.1) h.1 fault refl (law.clocks h.0 (is_flat h.0 h.2.causal.flattened) (Ok h.1) (Err fault) h.2.only at)
-  apart stages.Graph f h k = graph_apart law.plans g one_flat one_clocks h.0 f h.1 k
-  apart stages.Words f h k = words_apart law.plans g one_flat one_clocks h.0 h.1 f h.2 k
-  apart stages.Dates f h k = dates_apart law.plans g one_flat one_clocks h.0 h.1 f h.2 k
-  apart stages.Cells f h k = cells_apart law.plans g one_flat one_clocks h.0 f h.1 k
+      ok_err (Ok h.1) h.1 fault refl (law.parts.clocks h.0 ((ones.is_flat law.parts g) h.0 h.2.causal.flattened) (Ok h.1) (Err fault) h.2.only at)
+  apart stages.Graph f h k = graph_apart law.plans g (ones.one_flat law.parts g) (ones.one_clocks law.parts g) h.0 f h.1 k
+  apart stages.Words f h k = words_apart law.plans g (ones.one_flat law.parts g) (ones.one_clocks law.parts g) h.0 h.1 f h.2 k
+  apart stages.Dates f h k = dates_apart law.plans g (ones.one_flat law.parts g) (ones.one_clocks law.parts g) h.0 h.1 f h.2 k
+  apart stages.Cells f h k = cells_apart law.plans g (ones.one_flat law.parts g) (ones.one_clocks law.parts g) h.0 f h.1 k
   apart stages.Bodies f h k =
       let fault = bodies_fault k.3 in
       bodies_apart h.0 fault h.1 (moved_bodies k.0 k.1 h.1.program h.1.main fault k.2 h.1.is_main k.4)
-  apart stages.Horizon f h k = horizon_apart law.runs g (one_graph law.plans g one_flat one_clocks) h.0 h.1 f h.2 k
+  apart stages.Horizon f h k = horizon_apart law.runs g (one_graph law.plans g (ones.one_flat law.parts g) (ones.one_clocks law.parts g)) h.0 h.1 f h.2 k
   apart stages.Rows f h k =
       let fault = sensors_fault k.3 in
       let at = moved_rows k.0 h.0 k.1 h.1 (Err fault) k.2 h.3.clocked k.4 in
       ok_err (rows_for g h.0 h.1) h.2 fault h.3.read at
-  apart stages.Schedule f h k = schedule_apart law.runs g (one_graph law.plans g one_flat one_clocks) h.0 h.1 f h.2 k
-  apart stages.Cores f h k = cores_apart law.runs g (one_graph law.plans g one_flat one_clocks) h.0 h.1 f h.2 k
-  apart stages.Placed f h k = placed_apart law.runs g (one_graph law.plans g one_flat one_clocks) h.0 h.1 h.2 f h.3 k
+  apart stages.Schedule f h k = schedule_apart law.runs g (one_graph law.plans g (ones.one_flat law.parts g) (ones.one_clocks law.parts g)) h.0 h.1 f h.2 k
+  apart stages.Made f h k = made_apart law.tables law.runs g (one_graph law.plans g (ones.one_flat law.parts g) (ones.one_clocks law.parts g)) h.0 h.1 f h.2 k
+  apart stages.Table f h k = table_apart law.tables law.runs g (one_graph law.plans g (ones.one_flat law.parts g) (ones.one_clocks law.parts g)) h.0 h.1 f h.2 k
+  apart stages.Cores f h k = cores_apart law.runs g (one_graph law.plans g (ones.one_flat law.parts g) (ones.one_clocks law.parts g)) h.0 h.1 f h.2 k
+  apart stages.Placed f h k = placed_apart law.runs g (one_graph law.plans g (ones.one_flat law.parts g) (ones.one_clocks law.parts g)) h.0 h.1 h.2 f h.3 k
   apart stages.Values f h k =
       let few = h.3 in
-      let many = subst (λ (clocks : List Clock). MAX_VALUES < values_before g.until clocks) (one_clocks k.0 h.0 k.1 h.1 k.2 h.2) k.3 in omega (arith, few, many)
+      let many = subst (λ (clocks : List Clock). MAX_VALUES < values_before g.until clocks) ((ones.one_clocks law.parts g) k.0 h.0 k.1 h.1 k.2 h.2) k.3 in omega (arith, few, many)
 
   one : (s : Stage) (a b : Fault) → Refuses g s a → Refuses g s b → a ≡ b
   one (stages.File part) a b h k = err_err (content_of g part) a b h k
   one stages.Grammar a b h k =
       let x = grammar_fault h.0 in
       let y = grammar_fault k.0 in
-      let same = err_err (Err x) x y refl (law.programs (text_of g parts.Program) (Err x) (Err y) h.1 k.1) in
+      let same = err_err (Err x) x y refl (law.parts.programs (text_of g parts.Program) (Err x) (Err y) h.1 k.1) in
       same_told told_parse x y (faults.Grammar h.0) (faults.Grammar k.0) a b same (grammar_told h.0) h.2 (grammar_told k.0) k.2
   one stages.Types a b h k =
-      let same = one_program k.0 h.0 k.1 h.1 in
+      let same = (ones.one_program law.parts g) k.0 h.0 k.1 h.1 in
       let x = types_fault h.2 in
       let y = types_fault k.2 in
       let fault = subst (λ (p : ProgramTree). IsFault p g.node y) same k.3 in
-      same_told told_types x y (faults.Types h.2) (faults.Types k.2) a b (one_type_fault h.0 x y h.3 fault) (types_told h.2) h.4 (types_told k.2) k.4
+      same_told told_types x y (faults.Types h.2) (faults.Types k.2) a b ((ones.one_type_fault law.parts g) h.0 x y h.3 fault) (types_told h.2) h.4 (types_told k.2) k.4
   one stages.Expansion a b h k = h.5 ∙ ap faults.Limit (h.4.0 ∙ sym k.4.0) ∙ sym k.5
   one stages.Causality a b h k =
-      let same = one_flat k.0 h.0 k.1 h.1 in
+      let same = (ones.one_flat law.parts g) k.0 h.0 k.1 h.1 in
       let label = subst (λ (x : FlatProgram). IsCycleLabel x k.2) same k.3 in
       h.4 ∙ ap faults.Cycle (one_label h.0 h.2 k.2 h.3 label) ∙ sym k.4
   one stages.Clocks a b h k =
-      let same = one_flat k.0 h.0 k.1.flattened h.1.flattened in
+      let same = (ones.one_flat law.parts g) k.0 h.0 k.1.flattened h.1.flattened in
       let x = clock_fault h.2 in
       let y = clock_fault k.2 in
       let at : IsClockOutcome h.0 (Err y) = subst (λ (p : FlatProgram). IsClockOutcome p (Err y)) same k.3 in
-      let faulty = err_err (Err x) x y refl (law.clocks h.0 (is_flat h.0 h.1.flattened) (Err x) (Err y) h.3 at) in
+      let faulty = err_err (Err x) x y refl (law.parts.clocks h.0 ((ones.is_flat law.parts g) h.0 h.1.flattened) (Err x) (Err y) h.3 at) in
       same_told told_clocks x y (faults.Clocks h.2) (faults.Clocks k.2) a b faulty (clocks_told h.2) h.4 (clocks_told k.2) k.4
-  one stages.Graph a b h k = graph_one law.plans g one_flat one_clocks a b h k
-  one stages.Words a b h k = words_one law.plans g one_flat one_clocks a b h k
-  one stages.Dates a b h k = dates_one law.plans g one_flat one_clocks a b h k
-  one stages.Cells a b h k = cells_one law.plans g one_flat one_clocks a b h k
+  one stages.Graph a b h k = graph_one law.plans g (ones.one_flat law.parts g) (ones.one_clocks law.parts g) a b h k
+  one stages.Words a b h k = words_one law.plans g (ones.one_flat law.parts g) (ones.one_clocks law.parts g) a b h k
+  one stages.Dates a b h k = dates_one law.plans g (ones.one_flat law.parts g) (ones.one_clocks law.parts g) a b h k
+  one stages.Cells a b h k = cells_one law.plans g (ones.one_flat law.parts g) (ones.one_clocks law.parts g) a b h k
   one stages.Bodies a b h k =
       let x = bodies_fault h.3 in
       let y = bodies_fault k.3 in
       let at = moved_bodies k.0 k.1 h.0 h.1 y k.2 h.2 k.4 in
       same_told told_body x y (faults.Bodies h.3) (faults.Bodies k.3) a b (one_body_fault h.0 h.1 x y h.4 at) (bodies_told h.3) h.5 (bodies_told k.3) k.5
-  one stages.Horizon a b h k = horizon_one law.runs g (one_graph law.plans g one_flat one_clocks) a b h k
+  one stages.Horizon a b h k = horizon_one law.runs g (one_graph law.plans g (ones.one_flat law.parts g) (ones.one_clocks law.parts g)) a b h k
   one stages.Rows a b h k =
       let x = sensors_fault h.3 in
       let y = sensors_fault k.3 in
       let at = moved_rows k.0 h.0 k.1 h.1 (Err y) k.2 h.2 k.4 in
       same_told told_sensors x y (faults.Sensors h.3) (faults.Sensors k.3) a b (err_err (rows_for g h.0 h.1) x y h.4 at) (sensors_told h.3) h.5 (sensors_told k.3) k.5
-  one stages.Schedule a b h k = schedule_one law.runs g (one_graph law.plans g one_flat one_clocks) a b h k
-  one stages.Cores a b h k = cores_one law.runs g (one_graph law.plans g one_flat one_clocks) a b h k
-  one stages.Placed a b h k = placed_one law.runs g (one_graph law.plans g one_flat one_clocks) a b h k
+  one stages.Schedule a b h k = schedule_one law.runs g (one_graph law.plans g (ones.one_flat law.parts g) (ones.one_clocks law.parts g)) a b h k
+  one stages.Made a b h k = made_one law.tables law.runs g (one_graph law.plans g (ones.one_flat law.parts g) (ones.one_clocks law.parts g)) a b h k
+  one stages.Table a b h k = table_one law.tables law.runs g (one_graph law.plans g (ones.one_flat law.parts g) (ones.one_clocks law.parts g)) a b h k
+  one stages.Cores a b h k = cores_one law.runs g (one_graph law.plans g (ones.one_flat law.parts g) (ones.one_clocks law.parts g)) a b h k
+  one stages.Placed a b h k = placed_one law.runs g (one_graph law.plans g (ones.one_flat law.parts g) (ones.one_clocks law.parts g)) a b h k
   one stages.Values a b h k =
-      h.4 ∙ ap (λ (clocks : List Clock). too_many (values_before g.until clocks)) (one_clocks h.0 k.0 h.1 k.1 h.2 k.2) ∙ sym k.4
+      h.4 ∙ ap (λ (clocks : List Clock). too_many (values_before g.until clocks)) ((ones.one_clocks law.parts g) h.0 k.0 h.1 k.1 h.2 k.2) ∙ sym k.4
 
   -- a list of stages comes to one end
   pub one_end : (list : List Stage) (a b : Option (Stage × Fault)) → Comes g list a → Comes g list b → a ≡ b

@@ -39,7 +39,7 @@ use Rattle.prl_stages.specs.Parts.{AreBodies}
 use Rattle.prl_stages.specs.Planned.{HasGraph}
 use Rattle.prl_stages.specs.Replayed.{IsReplayText, IsWholeRun}
 use Rattle.prl_stages.specs.Runs.{HasRows}
-use Rattle.prl_stages.proofs.OneEnd as ends
+use Rattle.prl_stages.proofs.OneParts as ones
 use Rattle.prl_stages.proofs.Running as running
 
 -- the laws of the crates below
@@ -58,7 +58,7 @@ pub record Laws : Type 0 where
       → IsComplete (constants_of plan horizon) (after_events (constants_of plan horizon) (opening (constants_of plan horizon)) events)
       → (reads : List Seen) × (outs : List OutFlow) × IsTrace (opened plan bodies rows horizon) events reads outs
 
-module _ (one : ends.Laws) (law : running.Laws) (whole : Laws) (g : Given) (bodies : List CheckedBody) (trees : AreBodies g (map body_tree bodies))
+module _ (one : ones.PartLaws) (law : running.Laws) (whole : Laws) (g : Given) (bodies : List CheckedBody) (trees : AreBodies g (map body_tree bodies))
     (flat : FlatProgram) (clocks : List Clock) (rows : Rows) (has : HasRows g flat clocks rows) (order : List FlowNo) (ordered : IsOrder flat order)
     (plan : PlanView) (horizon : Horizon) (run : IsWholeRun g plan horizon) where
   made : IsFlattened g flat
@@ -67,16 +67,16 @@ module _ (one : ends.Laws) (law : running.Laws) (whole : Laws) (g : Given) (bodi
   have : HaveBodiesOf made.program.imports (used_imports made.program made.main) bodies
   have =
       let first = whole.used trees.program.imports (used_imports trees.program trees.main) trees.texts bodies trees.fitting in
-      let programs = ends.one_program one g trees.program made.program trees.is_main.program made.is_main.program in
-      let mains = ends.one_main one g trees.program trees.main made.program made.main trees.is_main made.is_main in
+      let programs = ones.one_program one g trees.program made.program trees.is_main.program made.is_main.program in
+      let mains = ones.one_main one g trees.program trees.main made.program made.main trees.is_main made.is_main in
       let at = subst (λ (x : ProgramTree). HaveBodiesOf x.imports (used_imports x trees.main) bodies) programs first in
       subst (λ (m : ℕ). HaveBodiesOf made.program.imports (used_imports made.program m) bodies) mains at
 
   is_graph : IsGraphOf flat clocks plan.graph
   is_graph =
       let of : HasGraph g plan.graph = run.has_horizon.has_plan.has_graph in
-      let flats = ends.one_flat one g of.flat flat of.clocked.causal.flattened made in
-      let same = ends.one_clocks one g of.flat flat of.clocks clocks of.clocked has.clocked in
+      let flats = ones.one_flat one g of.flat flat of.clocked.causal.flattened made in
+      let same = ones.one_clocks one g of.flat flat of.clocks clocks of.clocked has.clocked in
       let at : IsGraphOf flat of.clocks plan.graph = subst (λ (p : FlatProgram). IsGraphOf p of.clocks plan.graph) flats of.is_graph in
       subst (λ (cs : List Clock). IsGraphOf flat cs plan.graph) same at
 
@@ -87,7 +87,7 @@ module _ (one : ends.Laws) (law : running.Laws) (whole : Laws) (g : Given) (bodi
   some_text =
       let types = made.is_main.types in
       let range = one.ranges (text_of g parts.Program) made.program made.is_main.program.written in
-      let formed : IsFlat flat = ends.is_flat one g flat made in
+      let formed : IsFlat flat = ones.is_flat one g flat made in
       let is_plan = run.has_horizon.has_plan.is_plan in
       let bodies_there = running.bodies_there law g made.program made.main types flat made.is_main.typed made.expanded range formed clocks order ordered bodies trees have
       rows has plan is_plan is_graph in

@@ -4,7 +4,7 @@ use Rattle.prl_stages.specs.declared.faults.InputFile.{InputFile}
 use Rattle.prl_stages.specs.declared.faults.InputFile.TheVariants as parts
 use Rattle.prl_stages.specs.declared.faults.Fault.{Fault}
 use Rattle.prl_stages.specs.declared.faults.Fault.TheVariants as faults
-use Rattle.prl_stages.specs.declared.sizes.TheConstants.{MAX_PROGRAM, MAX_BODIES, MAX_SENSORS, MAX_SCHEDULE, MAX_CORES}
+use Rattle.prl_stages.specs.declared.sizes.TheConstants.{MAX_PROGRAM, MAX_BODIES, MAX_SENSORS, MAX_SCHEDULE, MAX_TABLE, MAX_CORES}
 use Rattle.prl_arguments.specs.declared.arguments.Command.{Command}
 use Rattle.prl_arguments.specs.declared.arguments.Mode.{Mode}
 use Rattle.prl_arguments.specs.declared.arguments.Mode.TheVariants as modes
@@ -17,6 +17,7 @@ pub record Given : Type 0 where
   pub bodies : Result (List ℕ) Fault
   pub sensors : Result (List ℕ) Fault
   pub schedule : Result (List ℕ) Fault
+  pub table : Result (List ℕ) Fault
   pub cores : Result (List ℕ) Fault
   pub listed : Bool
   pub node : Option (List ℕ)
@@ -28,6 +29,7 @@ content_of g parts.Program = g.program
 content_of g parts.Bodies = g.bodies
 content_of g parts.Sensors = g.sensors
 content_of g parts.Schedule = g.schedule
+content_of g parts.Table = g.table
 content_of g parts.Cores = g.cores
 
 abbrev pub bytes_of : Result (List ℕ) Fault → List ℕ
@@ -44,6 +46,7 @@ file_of c parts.Program = c.program
 file_of c parts.Bodies = c.bodies
 file_of c parts.Sensors = c.sensors
 file_of c parts.Schedule = c.schedule
+file_of c parts.Table = c.table
 file_of c parts.Cores = c.cores
 
 -- the most bytes that a file may have
@@ -52,6 +55,7 @@ most_of parts.Program = MAX_PROGRAM
 most_of parts.Bodies = MAX_BODIES
 most_of parts.Sensors = MAX_SENSORS
 most_of parts.Schedule = MAX_SCHEDULE
+most_of parts.Table = MAX_TABLE
 most_of parts.Cores = MAX_CORES
 
 -- what is known of a folder: the bytes of each file by its name
@@ -89,6 +93,7 @@ generated seed size = record {
   bodies = Ok (generated_bodies seed size);
   sensors = Ok (generated_sensors seed size);
   schedule = Ok [];
+  table = Ok [];
   cores = Ok [];
   listed = false;
   node = None;

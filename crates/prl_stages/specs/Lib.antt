@@ -14,6 +14,8 @@ pub mod Scheduled
 pub mod Feasible
 -- Which schedules are refused, and the text of a replay.
 pub mod Replayed
+-- the static cyclic table of a plan
+pub mod Tabled
 -- a run on several processors
 pub mod Placed
 -- The stages, and the modes as lists of them.

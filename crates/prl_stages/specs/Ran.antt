@@ -14,9 +14,11 @@ use Rattle.prl_exec.specs.declared.runs.Stopped.{Stopped}
 use Rattle.prl_flow.specs.declared.programs.OutFlow.{OutFlow}
 use Rattle.prl_flow.specs.Actuators.{actuator_text}
 use Rattle.prl_plan.specs.declared.events.Event.{Event}
+use Rattle.prl_plan.specs.declared.horizons.Horizon.{Horizon}
 use Rattle.prl_plan.specs.Horizons.{constants_of}
 use Rattle.prl_plan.specs.Plans.{PlanView}
-use Rattle.prl_plan.specs.Runs.{opening}
+use Rattle.prl_plan.specs.Rules.{IsComplete, IsGated}
+use Rattle.prl_plan.specs.Runs.{opening, after_events}
 use Rattle.prl_replay.specs.Replays.{IsTrace}
 use Rattle.prl_results.specs.Shown.{AreShown}
 use Rattle.prl_rule.specs.declared.views.Constants.{Constants}
@@ -31,6 +33,10 @@ use Rattle.prl_stages.specs.Given.{Given}
 use Rattle.prl_stages.specs.Replayed.{Execution}
 use Rattle.prl_stages.specs.Runs.{meant_flows}
 use Rattle.prl_stages.specs.Stages.{IsText}
+use Rattle.prl_stages.specs.Tabled.{HasTable}
+use Rattle.prl_tables.specs.declared.tables.Entry.{Entry}
+use Rattle.prl_tables.specs.Tables.{last_unit}
+use Rattle.prl_tables.specs.Unrolled.{unrolled}
 
 -- the constants of a board on which the texts are executed
 abbrev pub board_of : (g : Given) → Execution g → Gate → Constants
@@ -43,13 +49,32 @@ pub record HasRun (g : Given) (e : Execution g) (gate : Gate) (closed : ClosedVi
   pub ended : HasEnded closed
   pub shown : AreShown closed e.plan.graph (meant_flows g e.meaning)
 
--- the text is that of the actuators of a board on which the tasks have run
-pub record IsRunText (g : Given) (gate : Gate) (text : List ℕ) (ran : Ran) : Type 0 where
-  pub execution : Execution g
+-- the text is that of the actuators of this board, on which the tasks have run
+pub record IsRunOf (g : Given) (e : Execution g) (gate : Gate) (text : List ℕ) (ran : Ran) : Type 0 where
   pub closed : ClosedView
   pub ended : ran ≡ runs.Ended closed
-  pub run : HasRun g execution gate closed
-  pub written : text ≡ actuator_text g.until (meant_flows g execution.meaning)
+  pub run : HasRun g e gate closed
+  pub written : text ≡ actuator_text g.until (meant_flows g e.meaning)
+
+abbrev pub IsRunText : Given → Gate → List ℕ → Ran → Type 0
+IsRunText g gate text ran = (e : Execution g) × IsRunOf g e gate text ran
+
+-- the list of a table: each job does all its actions at the beginning of its last unit
+abbrev pub list_of : PlanView → Horizon → List Entry → List Event
+list_of plan horizon entries = unrolled (constants_of plan horizon) (last_unit plan.graph entries)
+
+-- The tasks have run by the good table of the text on a gated board: its list is a gated list of the plan in which every job of the
+-- horizon ends. The text is that of the actuators.
+pub record IsCycleText (g : Given) (text : List ℕ) (ran : Ran) : Type 0 where
+  pub execution : Execution g
+  pub entries : List Entry
+  pub has_table : HasTable g execution.plan entries
+  pub gated : IsGated (constants_of execution.plan execution.horizon) (opening (constants_of execution.plan execution.horizon))
+      (list_of execution.plan execution.horizon entries)
+  pub complete : IsComplete (constants_of execution.plan execution.horizon)
+      (after_events (constants_of execution.plan execution.horizon) (opening (constants_of execution.plan execution.horizon))
+      (list_of execution.plan execution.horizon entries))
+  pub run : IsRunOf g execution gates.Gated text ran
 
 -- a run on the plan with this gate has stopped at a read that was overrun
 pub record HasOverrun (g : Given) (gate : Gate) (plan : PlanView) (stopped : Stopped) : Type 0 where
@@ -95,6 +120,7 @@ pub record IsSummary (g : Given) (seed size : ℕ) (text : List ℕ) (ran : Ran)
 abbrev pub IsMeantIn : Mode → Given → Command → List ℕ → Ran → Type 0
 IsMeantIn modes.Run g c text ran = IsRunText g c.clock text ran
 IsMeantIn modes.Generate g c text ran = IsSummary g c.seed c.size text ran
+IsMeantIn modes.Cycle g c text ran = IsCycleText g text ran
 IsMeantIn mode g c text ran = IsText g mode text × (ran ≡ runs.Not)
 
 -- the text that a command means where its stages hold, with what it has run

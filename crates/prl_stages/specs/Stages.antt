@@ -35,6 +35,8 @@ use Rattle.prl_stages.specs.Placed.{HasPlacement, IsPlacedRun, IsCoresText, Refu
 use Rattle.prl_stages.specs.Replayed.{IsReplayText, IsWholeRun, RefusesSchedule}
 use Rattle.prl_stages.specs.Runs.{HasRows, HasFewValues, IsFlowsText, RefusesRows, RefusesValues}
 use Rattle.prl_stages.specs.Scheduled.{HasHorizon, IsScheduleText, RefusesHorizon}
+use Rattle.prl_stages.specs.Tabled.{HasMadeTable, HasTable, IsTableText, RefusesMade, RefusesTable}
+use Rattle.prl_tables.specs.declared.tables.Entry.{Entry}
 
 -- a stage finds what it looks for
 abbrev pub Holds : Given → Stage → Type 0
@@ -52,6 +54,8 @@ Holds g stages.Cells = (plan : PlanView) × HasPlan g plan
 Holds g stages.Horizon = (plan : PlanView) × (horizon : Horizon) × HasHorizon g plan horizon
 Holds g stages.Rows = (flat : FlatProgram) × (clocks : List Clock) × (rows : Rows) × HasRows g flat clocks rows
 Holds g stages.Schedule = (plan : PlanView) × (horizon : Horizon) × IsWholeRun g plan horizon
+Holds g stages.Made = (plan : PlanView) × (entries : List Entry) × HasMadeTable g plan entries
+Holds g stages.Table = (plan : PlanView) × (entries : List Entry) × HasTable g plan entries
 Holds g stages.Cores = (plan : PlanView) × (placement : Placement) × HasPlacement g plan placement
 Holds g stages.Placed = (plan : PlanView) × (placement : Placement) × (horizon : Horizon) × IsPlacedRun g plan placement horizon
 Holds g stages.Values = HasFewValues g
@@ -76,6 +80,8 @@ Refuses g stages.Cells fault = RefusesCells g fault
 Refuses g stages.Horizon fault = RefusesHorizon g fault
 Refuses g stages.Rows fault = RefusesRows g fault
 Refuses g stages.Schedule fault = RefusesSchedule g fault
+Refuses g stages.Made fault = RefusesMade g fault
+Refuses g stages.Table fault = RefusesTable g fault
 Refuses g stages.Cores fault = RefusesCores g fault
 Refuses g stages.Placed fault = RefusesPlaced g fault
 Refuses g stages.Values fault = RefusesValues g fault
@@ -99,7 +105,7 @@ AreDecided g (stage ∷ rest) = IsDecided g stage × (Holds g stage → AreDecid
 abbrev pub files : List Stage
 files =
     stages.File parts.Program ∷ stages.File parts.Bodies ∷ stages.File parts.Sensors ∷ stages.File parts.Schedule
-    ∷ stages.File parts.Cores ∷ []
+    ∷ stages.File parts.Table ∷ stages.File parts.Cores ∷ []
 
 -- what modes that take a program have in common
 abbrev pub front : List Stage
@@ -136,16 +142,18 @@ stages_after modes.Check bodies = front ++ graphed ++ named_bodies bodies ++ pla
 stages_after modes.Flows bodies = front ++ stages.Bodies ∷ stages.Rows ∷ stages.Values ∷ []
 stages_after modes.Schedule bodies = front ++ graphed ++ planned ++ (stages.Horizon ∷ [])
 stages_after modes.Edf bodies = front ++ graphed ++ planned ++ (stages.Horizon ∷ [])
+stages_after modes.Table bodies = front ++ graphed ++ planned ++ (stages.Made ∷ [])
 stages_after modes.Replay bodies = front ++ executed
 stages_after modes.Cores bodies = front ++ spread
 stages_after modes.Run bodies = front ++ ran
 stages_after modes.Generate bodies = front ++ ran
+stages_after modes.Cycle bodies = (front ++ ran) ++ (stages.Table ∷ [])
 
 -- the stages of a command
 abbrev pub stages_of : Command → List Stage
 stages_of c = files ++ stages_after c.mode (is_some c.bodies)
 
--- the text that a mode means where its stages hold; that of `run` and `generate` goes with what they have run
+-- the text that a mode means where its stages hold; that of `run`, `generate` and `cycle` goes with what they have run
 abbrev pub IsText : Given → Mode → List ℕ → Type 0
 IsText g modes.Print text = (p : ProgramTree) × IsProgram g p × (text ≡ printed p)
 IsText g modes.Plan text = (plan : PlanView) × HasPlan g plan × (text ≡ plan_text plan)
@@ -154,6 +162,8 @@ IsText g modes.Flows text = IsFlowsText g text
 IsText g modes.Schedule text = IsScheduleText g text
 IsText g modes.Cores text = IsCoresText g text
 IsText g modes.Edf text = IsEdfText g text
+IsText g modes.Table text = IsTableText g text
 IsText g modes.Replay text = IsReplayText g text
 IsText g modes.Run text = ⊥
 IsText g modes.Generate text = ⊥
+IsText g modes.Cycle text = ⊥

@@ -1,6 +1,6 @@
 //! Why a stage of a command refuses. Want of memory is no refusal, so the faults of the crates below are told here without it.
 
-use prl_base::{Label, Limit, Name, Ratio, Ty};
+use prl_base::{EdgeNo, Label, Limit, Name, Ratio, Ty};
 use prl_plan::Rule;
 
 /// A file that a command names.
@@ -10,6 +10,7 @@ pub enum InputFile {
     Bodies,
     Sensors,
     Schedule,
+    Table,
     Cores,
 }
 
@@ -136,6 +137,35 @@ pub enum ScheduleRefusal {
     Unfinished { name: Label, job: u64 },
 }
 
+/// Why no table is made of a plan, as `MakeFault` of `prl_table` has it. Ticks count from 0.
+#[derive(Clone, Copy, Debug, PartialEq, Eq)]
+pub enum MakeRefusal {
+    /// The run from which a table is cut would go up to this tick, which is above 2147483647.
+    TooFar(u64),
+    /// That run would have too many jobs or events.
+    Limit(Limit),
+    /// The jobs that have to run between these ticks ask for `demand` ticks, which is more than there are.
+    Overload { from: u64, to: u64, demand: u64 },
+    /// The first tick at which the run does not go on as it does a hyperperiod later.
+    Unsteady(u64),
+}
+
+/// Why a text is no good table of the plan, as `TableFault` of `prl_tables` has it, with the name of the task for its number.
+/// Lines count from 1, classes from 0.
+#[derive(Debug, Drop)]
+pub enum TableRefusal {
+    /// The line of this number is not of the text.
+    Syntax(u64),
+    /// The entry of the line of this number is no piece of a job.
+    Piece(u64),
+    /// The units of this class are not the WCET of its task.
+    Units { name: Label, job: u64 },
+    /// The entries of these lines have a tick in common.
+    Clash { first: u64, second: u64 },
+    /// On this edge this class of the consumer does not come after the job that precedes it.
+    Order { edge: EdgeNo, job: u64 },
+}
+
 /// Why a text does not place the tasks on processors, as `CoresFault` of `prl_cores` has it, with the name of the task for its
 /// number. Lines count from 1.
 #[derive(Debug, Drop)]
@@ -173,6 +203,10 @@ pub enum Fault {
     Limit(Limit),
     /// The schedule is no whole run.
     Schedule(ScheduleRefusal),
+    /// No table is made of the plan.
+    Made(MakeRefusal),
+    /// The text is no good table of the plan.
+    Table(TableRefusal),
     /// The text of processors does not place the tasks.
     Cores(CoresRefusal),
 }

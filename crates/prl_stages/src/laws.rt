@@ -41,6 +41,7 @@ use prl_replay::{actuators_get_the_outputs, replays_end_one_way, whole_lists_are
 use prl_schedules::plans_are_dispatched;
 use prl_sensors::rows_are_typed_and_enough;
 use prl_solutions::programs_have_one_solution;
+use prl_table::{checks_end_one_way, makes_end_one_way};
 use prl_syntax::each_text_has_one_outcome as programs_outcome;
 use prl_types::{each_program_has_an_outcome, outcome_is_unique};
 use prl_values::{job_values_are_one, job_values_exist};
@@ -65,6 +66,8 @@ pub fn stages_end_one_way()
     horizons_end_one_way();
     replays_end_one_way();
     spreads_are_one();
+    makes_end_one_way();
+    checks_end_one_way();
 }
 
 /// A list of stages comes to some end, where each is decided once those before it hold.
@@ -109,14 +112,6 @@ pub fn whole_schedules_are_replayed()
     expansions_are_unique();
     flats_are_well_formed();
     outcomes_are_unique();
-    graphs_end_one_way();
-    words_begin_with_constants();
-    faults_tell_of_narrow_chains();
-    room_leaves_no_narrow_chain();
-    plan_is_unique();
-    horizons_end_one_way();
-    replays_end_one_way();
-    spreads_are_one();
     behaviours_are_solutions();
     behaviours_are_of_their_states();
     clocks_are_unique();

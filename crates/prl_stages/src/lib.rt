@@ -11,12 +11,12 @@ mod telling;
 
 pub use faults::{
     BodiesRefusal, ClocksRefusal, CoresRefusal, DatesRefusal, Fault, GrammarRefusal, GraphRefusal,
-    InputFile, ScheduleRefusal, SensorsRefusal, TypesRefusal,
+    InputFile, MakeRefusal, ScheduleRefusal, SensorsRefusal, TableRefusal, TypesRefusal,
 };
 pub use laws::{
     front_is_decided, plans_have_schedules, stages_come_to_an_end, stages_end_one_way,
     whole_schedules_are_replayed,
 };
 pub use ran::Ran;
-pub use sizes::{MAX_BODIES, MAX_CORES, MAX_PROGRAM, MAX_SCHEDULE, MAX_SENSORS, most_of};
+pub use sizes::{MAX_BODIES, MAX_CORES, MAX_PROGRAM, MAX_SCHEDULE, MAX_SENSORS, MAX_TABLE, most_of};
 pub use stages::{Stage, Stop};

@@ -17,6 +17,9 @@ pub const MAX_SENSORS: u64 = 33_554_432;
 /// The most bytes that a schedule may have.
 pub const MAX_SCHEDULE: u64 = 83_886_080;
 
+/// The most bytes that the text of a table may have.
+pub const MAX_TABLE: u64 = 16_777_216;
+
 /// The most bytes that a text of processors may have.
 pub const MAX_CORES: u64 = 65_536;
 
@@ -29,6 +32,7 @@ pub fn most_of(file: InputFile) -> u64
         InputFile::Bodies => MAX_BODIES,
         InputFile::Sensors => MAX_SENSORS,
         InputFile::Schedule => MAX_SCHEDULE,
+        InputFile::Table => MAX_TABLE,
         InputFile::Cores => MAX_CORES,
     }
 }

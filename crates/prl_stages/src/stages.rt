@@ -36,6 +36,10 @@ pub enum Stage {
     Horizon,
     /// The events of the schedule.
     Schedule,
+    /// The static cyclic table that is made of the plan.
+    Made,
+    /// The static cyclic table of a text.
+    Table,
     /// The processors of the tasks.
     Cores,
     /// The events of the schedule on several processors, where one is named.

@@ -1,5 +1,5 @@
 -- What private functions say of what a run needs.
-use Rattle.std.specs.Prelude.{◌≡◌, List, length}
+use Rattle.std.specs.Prelude.{◌≡◌, ℕ, List, length}
 use Rattle.prl_arguments.specs.declared.arguments.Mode.{Mode}
 use Rattle.prl_arguments.specs.declared.arguments.Mode.TheVariants as modes
 use Rattle.prl_core.specs.Cores.{opened}
@@ -11,7 +11,8 @@ use Rattle.prl_values.specs.Fitting.{HaveTaskBodies, HaveTypedRows}
 use Rattle.prl_stages.specs.Given.{Given}
 use Rattle.prl_stages.specs.Replayed.{Execution}
 use Rattle.prl_stages.specs.Runs.{meant_flows}
-use Rattle.prl_stages.specs.Ran.{HasOverrun, IsRunText}
+use Rattle.prl_stages.specs.declared.ran.Ran.{Ran}
+use Rattle.prl_stages.specs.Ran.{HasOverrun, IsRunOf, IsRunText}
 use Rattle.prl_rule.specs.declared.views.Gate.{Gate}
 use Rattle.prl_pipeline.specs.declared.ready.Ready.{Ready}
 use Rattle.prl_pipeline.specs.declared.running.Outcome.{Outcome}
@@ -31,6 +32,10 @@ pub record IsReady (g : Given) (r : Ready) : Type 0 where
   pub outs : (s : ExecState) (flows : List OutFlow) → AreFlowsBelow (record (opened r.plan r.bodies r.sensors r.horizon) { state = s }) (length r.plan.graph.tasks) flows
       → AreUpTo r.horizon.until flows → flows ≡ meant_flows g execution.meaning
 
+-- the text is that of a run of what is ready
+abbrev pub IsTextOf : (g : Given) → Ready → Gate → List ℕ → Ran → Type 0
+IsTextOf g r gate text ran = (e : Execution g) × (r ≡ ready_of g e) × IsRunOf g e gate text ran
+
 -- all jobs have ended, or the run has stopped at a read that was overrun
 abbrev pub IsOutcome : Given → Gate → Outcome → Type 0
 IsOutcome g gate (outcomes.Ended text ran) = IsRunText g gate text.items ran
@@ -40,6 +45,7 @@ IsOutcome g gate (outcomes.Overrun plan stopped) = HasOverrun g gate plan stoppe
 abbrev pub RunsNothing : Mode → Type 0
 RunsNothing modes.Run = ⊥
 RunsNothing modes.Generate = ⊥
+RunsNothing modes.Cycle = ⊥
 RunsNothing mode = Unit {0}
 
 -- the texts of the mode are those of files

@@ -13,6 +13,8 @@ use Rattle.prl_arguments.specs.declared.arguments.Command.{Command}
 use Rattle.prl_stages.specs.declared.faults.InputFile.{InputFile}
 use Rattle.prl_stages.specs.declared.stages.Stage.TheVariants as stages
 use Rattle.prl_stages.specs.Given.{Folder, Given, IsContent, IsGiven, file_of}
+use Rattle.prl_tables.specs.declared.reading.TableFault.{TableFault}
+use Rattle.prl_tables.specs.declared.reading.TableFault.TheVariants as checking
 use Rattle.prl_stages.specs.Stages.{Holds, Refuses, Comes, IsText, files, stages_of}
 
 -- what the texts give, where a schedule is named or not, with this node and date
@@ -22,6 +24,7 @@ texts_give t listed node until = record {
   bodies = Ok t.bodies.items;
   sensors = Ok t.sensors.items;
   schedule = Ok t.schedule.items;
+  table = Ok t.table.items;
   cores = Ok t.cores.items;
   listed = listed;
   node = node;
@@ -54,6 +57,15 @@ IsOfTask tasks (causes.Syntax line) = Unit {0}
 IsOfTask tasks (causes.Illegal line rule) = Unit {0}
 IsOfTask tasks (causes.Unfinished task job) = task.0 < tasks
 IsOfTask tasks causes.Memory = Unit {0}
+
+-- units that are not the WCET are of one of so many tasks
+abbrev pub AreOfTask : ℕ → TableFault → Type 0
+AreOfTask tasks (checking.Syntax line) = Unit {0}
+AreOfTask tasks (checking.Piece line) = Unit {0}
+AreOfTask tasks (checking.Units task job) = task.0 < tasks
+AreOfTask tasks (checking.Clash first second) = Unit {0}
+AreOfTask tasks (checking.Order edge job) = Unit {0}
+AreOfTask tasks checking.Memory = Unit {0}
 
 -- a stage of the list refuses, or memory ran out
 abbrev pub StopsIn : Given → List Stage → Stop → Type 0

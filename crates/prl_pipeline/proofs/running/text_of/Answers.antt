@@ -3,7 +3,8 @@ use Rattle.prl_flow.specs.Actuators.{AreUpTo, actuator_text}
 use Rattle.prl_stages.specs.declared.ran.Ran.TheVariants as runs
 use Rattle.prl_stages.specs.Ran.{IsRunText}
 use Rattle.prl_pipeline.specs.code.Stops.{given_of}
-use Rattle.prl_pipeline.proofs.Preparing.{ShownLaws, horizon_there, known_of, run_text_is, shown_up_to}
+use Rattle.prl_pipeline.specs.code.Ready.{IsTextOf}
+use Rattle.prl_pipeline.proofs.Preparing.{ShownLaws, horizon_there, known_of, shown_up_to, text_of_is}
 use Rattle.prl_pipeline.proofs.Stops.{ok_map}
 use Rattle.prl_pipeline.proofs.running.text_of.Goals as goal
 
@@ -21,8 +22,8 @@ actuator_text-requires c =
     c.in_ok-flows.flows.items c.in_ok-flows.ensures in
     (r.horizon.until, omega (arith, small), subst (AreUpTo r.horizon.until) (sym c.deref.ensures.value) up)
 
-pub returns : goal.returns
-returns c =
+pub returns-clause-of : goal.returns-clause-of
+returns-clause-of c =
     let g = given_of c.args.request.now in
     let r = c.args.ready.now in
     let k = known_of r c.args.gate in
@@ -30,7 +31,13 @@ returns c =
     let stands = c.stands.ensures k c.requires.known in
     let up = shown_up_to g r c.requires.ready law c.args.gate c.args.closed.now c.requires.known c.requires.ended stands c.in_ok-flows.flows.items c.in_ok-flows.ensures in
     ok_map c.actuator_text.result (λ text. text.items ≡ actuator_text r.horizon.until c.deref.result.now)
-    (λ text. IsRunText g c.args.gate text.items (runs.Ended c.args.closed.now))
-    (λ text is. run_text_is g r c.requires.ready law c.args.gate c.args.closed.now c.requires.known c.requires.ended stands c.in_ok-flows.flows.items c.in_ok-flows.ensures
+    (λ text. IsTextOf g r c.args.gate text.items (runs.Ended c.args.closed.now))
+    (λ text is. text_of_is g r c.requires.ready law c.args.gate c.args.closed.now c.requires.known c.requires.ended stands c.in_ok-flows.flows.items c.in_ok-flows.ensures
     text.items (is ∙ ap (actuator_text r.horizon.until) c.deref.ensures.value))
     (c.actuator_text.ensures r.horizon.until (subst (AreUpTo r.horizon.until) (sym c.deref.ensures.value) up))
+
+pub returns-clause-text : goal.returns-clause-text
+returns-clause-text c =
+    let g = given_of c.args.request.now in
+    ok_map c.actuator_text.result (λ text. IsTextOf g c.args.ready.now c.args.gate text.items (runs.Ended c.args.closed.now))
+    (λ text. IsRunText g c.args.gate text.items (runs.Ended c.args.closed.now)) (λ text of. (of.0, of.2)) (returns-clause-of c)

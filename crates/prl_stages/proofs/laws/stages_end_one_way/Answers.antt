@@ -3,13 +3,15 @@ use Rattle.prl_stages.proofs.laws.stages_end_one_way.Goals as goal
 
 pub returns : goal.returns
 returns c = one_end (record {
-  programs = c.each_text_has_one_outcome.ensures.one;
-  bodies = c.each_text_has_one_outcome-2.ensures.one;
-  one = c.outcome_is_unique.ensures;
-  ranges = c.programs_are_in_range.ensures;
-  expansions = c.expansions_are_unique.ensures;
-  formed = c.flats_are_well_formed.ensures;
-  clocks = c.outcomes_are_unique.ensures;
+  parts = record {
+    programs = c.each_text_has_one_outcome.ensures.one;
+    bodies = c.each_text_has_one_outcome-2.ensures.one;
+    one = c.outcome_is_unique.ensures;
+    ranges = c.programs_are_in_range.ensures;
+    expansions = c.expansions_are_unique.ensures;
+    formed = c.flats_are_well_formed.ensures;
+    clocks = c.outcomes_are_unique.ensures;
+  };
   plans = record {
     one_graph = c.graphs_end_one_way.ensures.one_graph;
     one_fault = c.graphs_end_one_way.ensures.one_fault;
@@ -29,5 +31,11 @@ returns c = one_end (record {
     whole_or_fault = c.replays_end_one_way.ensures.not_both;
     one_fault = c.replays_end_one_way.ensures.one_fault;
     one_spread = c.spreads_are_one.ensures;
+  };
+  tables = record {
+    made_or_fault = c.makes_end_one_way.ensures.not_both;
+    one_make_fault = c.makes_end_one_way.ensures.one;
+    good_or_fault = c.checks_end_one_way.ensures.not_both;
+    one_fault = c.checks_end_one_way.ensures.one;
   };
 })

@@ -1,11 +1,11 @@
-use Rattle.prl_stages.proofs.OneEnd as ends
+use Rattle.prl_stages.proofs.OneParts.{PartLaws}
 use Rattle.prl_stages.proofs.Running as running
 use Rattle.prl_stages.proofs.Replaying.{Laws, some_text}
 use Rattle.prl_stages.proofs.laws.whole_schedules_are_replayed.Goals as goal
 
 pub returns : goal.returns
 returns c =
-    let one : ends.Laws = record {
+    let one : PartLaws = record {
       programs = c.each_text_has_one_outcome.ensures.one;
       bodies = c.each_text_has_one_outcome-2.ensures.one;
       one = c.outcome_is_unique.ensures;
@@ -13,26 +13,6 @@ returns c =
       expansions = c.expansions_are_unique.ensures;
       formed = c.flats_are_well_formed.ensures;
       clocks = c.outcomes_are_unique.ensures;
-      plans = record {
-        one_graph = c.graphs_end_one_way.ensures.one_graph;
-        one_fault = c.graphs_end_one_way.ensures.one_fault;
-        not_both = c.graphs_end_one_way.ensures.not_both;
-        first = c.words_begin_with_constants.ensures.first;
-        one_first = c.words_begin_with_constants.ensures.one;
-        narrow = c.faults_tell_of_narrow_chains.ensures.fault;
-        room = c.faults_tell_of_narrow_chains.ensures.room;
-        best = c.room_leaves_no_narrow_chain.ensures.best;
-        dates = c.plan_is_unique.ensures.dates;
-      };
-      runs = record {
-        plan = c.plan_is_unique.ensures.plan;
-        one_horizon = c.horizons_end_one_way.ensures.one_horizon;
-        horizon_or_limit = c.horizons_end_one_way.ensures.not_both;
-        one_limit = c.horizons_end_one_way.ensures.one_limit;
-        whole_or_fault = c.replays_end_one_way.ensures.not_both;
-        one_fault = c.replays_end_one_way.ensures.one_fault;
-        one_spread = c.spreads_are_one.ensures;
-      };
     } in
     let law : running.Laws = record {
       meaning_laws = record {
