@@ -450,9 +450,9 @@ fn write_overrun<E: Sink>(err: &mut E, name: &[u8], stopped: &Stopped) -> Result
             Piece::Text(b" cell "),
             Piece::Number(u64::from(stopped.cell.0)),
             Piece::Text(b" wanted "),
-            Piece::Number(stopped.wanted),
+            Piece::Number(u64::from(stopped.wanted)),
             Piece::Text(b" found "),
-            Piece::Number(stopped.found),
+            Piece::Number(u64::from(stopped.found)),
             Piece::Text(b"\n"),
         ],
     )

@@ -34,6 +34,7 @@ pub fn plan_of(alloc: Global, program: Vec<u8>, node: Option<Label>) -> Result<P
         bodies: Vec::new(alloc),
         sensors: Vec::new(alloc),
         schedule: Vec::new(alloc),
+        table: Vec::new(alloc),
         cores: Vec::new(alloc),
     };
     let request = Request {

@@ -12,6 +12,7 @@ program_alone text node = record {
   bodies = Ok [];
   sensors = Ok [];
   schedule = Ok [];
+  table = Ok [];
   cores = Ok [];
   listed = false;
   node = node;
