@@ -41,7 +41,7 @@ Found mode s = (arg_by_long (rules mode) (name_of s) ≡ rule_if (has mode s) mo
 abbrev pub Each : (Setting → Type 0) → Type 0
 Each P =
     P settings.Program × P settings.Bodies × P settings.Sensors × P settings.Schedule × P settings.Node
-    × P settings.Until × P settings.Workers × P settings.Clock × P settings.Seed × P settings.Size × P settings.Cores
+    × P settings.Until × P settings.Workers × P settings.Clock × P settings.Seed × P settings.Size × P settings.Cores × P settings.Table
 
 pub pick : (P : Setting → Type 0) → Each P → (s : Setting) → P s
 pick P h settings.Program = h.0
@@ -55,28 +55,33 @@ pick P h settings.Clock = h.7
 pick P h settings.Seed = h.8
 pick P h settings.Size = h.9
 pick P h settings.Cores = h.10
+pick P h settings.Table = h.11
 
 each_found : (mode : Mode) → Each (Found mode)
 each_found modes.Print =
-    ((refl, refl), (refl, refl), (refl, refl), (refl, refl), (refl, refl), (refl, refl), (refl, refl), (refl, refl), (refl, refl), (refl, refl), (refl, refl))
+    ((refl, refl), (refl, refl), (refl, refl), (refl, refl), (refl, refl), (refl, refl), (refl, refl), (refl, refl), (refl, refl), (refl, refl), (refl, refl), (refl, refl))
 each_found modes.Plan =
-    ((refl, refl), (refl, refl), (refl, refl), (refl, refl), (refl, refl), (refl, refl), (refl, refl), (refl, refl), (refl, refl), (refl, refl), (refl, refl))
+    ((refl, refl), (refl, refl), (refl, refl), (refl, refl), (refl, refl), (refl, refl), (refl, refl), (refl, refl), (refl, refl), (refl, refl), (refl, refl), (refl, refl))
 each_found modes.Check =
-    ((refl, refl), (refl, refl), (refl, refl), (refl, refl), (refl, refl), (refl, refl), (refl, refl), (refl, refl), (refl, refl), (refl, refl), (refl, refl))
+    ((refl, refl), (refl, refl), (refl, refl), (refl, refl), (refl, refl), (refl, refl), (refl, refl), (refl, refl), (refl, refl), (refl, refl), (refl, refl), (refl, refl))
 each_found modes.Flows =
-    ((refl, refl), (refl, refl), (refl, refl), (refl, refl), (refl, refl), (refl, refl), (refl, refl), (refl, refl), (refl, refl), (refl, refl), (refl, refl))
+    ((refl, refl), (refl, refl), (refl, refl), (refl, refl), (refl, refl), (refl, refl), (refl, refl), (refl, refl), (refl, refl), (refl, refl), (refl, refl), (refl, refl))
 each_found modes.Replay =
-    ((refl, refl), (refl, refl), (refl, refl), (refl, refl), (refl, refl), (refl, refl), (refl, refl), (refl, refl), (refl, refl), (refl, refl), (refl, refl))
+    ((refl, refl), (refl, refl), (refl, refl), (refl, refl), (refl, refl), (refl, refl), (refl, refl), (refl, refl), (refl, refl), (refl, refl), (refl, refl), (refl, refl))
 each_found modes.Schedule =
-    ((refl, refl), (refl, refl), (refl, refl), (refl, refl), (refl, refl), (refl, refl), (refl, refl), (refl, refl), (refl, refl), (refl, refl), (refl, refl))
+    ((refl, refl), (refl, refl), (refl, refl), (refl, refl), (refl, refl), (refl, refl), (refl, refl), (refl, refl), (refl, refl), (refl, refl), (refl, refl), (refl, refl))
 each_found modes.Cores =
-    ((refl, refl), (refl, refl), (refl, refl), (refl, refl), (refl, refl), (refl, refl), (refl, refl), (refl, refl), (refl, refl), (refl, refl), (refl, refl))
+    ((refl, refl), (refl, refl), (refl, refl), (refl, refl), (refl, refl), (refl, refl), (refl, refl), (refl, refl), (refl, refl), (refl, refl), (refl, refl), (refl, refl))
 each_found modes.Edf =
-    ((refl, refl), (refl, refl), (refl, refl), (refl, refl), (refl, refl), (refl, refl), (refl, refl), (refl, refl), (refl, refl), (refl, refl), (refl, refl))
+    ((refl, refl), (refl, refl), (refl, refl), (refl, refl), (refl, refl), (refl, refl), (refl, refl), (refl, refl), (refl, refl), (refl, refl), (refl, refl), (refl, refl))
 each_found modes.Run =
-    ((refl, refl), (refl, refl), (refl, refl), (refl, refl), (refl, refl), (refl, refl), (refl, refl), (refl, refl), (refl, refl), (refl, refl), (refl, refl))
+    ((refl, refl), (refl, refl), (refl, refl), (refl, refl), (refl, refl), (refl, refl), (refl, refl), (refl, refl), (refl, refl), (refl, refl), (refl, refl), (refl, refl))
 each_found modes.Generate =
-    ((refl, refl), (refl, refl), (refl, refl), (refl, refl), (refl, refl), (refl, refl), (refl, refl), (refl, refl), (refl, refl), (refl, refl), (refl, refl))
+    ((refl, refl), (refl, refl), (refl, refl), (refl, refl), (refl, refl), (refl, refl), (refl, refl), (refl, refl), (refl, refl), (refl, refl), (refl, refl), (refl, refl))
+each_found modes.Cycle =
+    ((refl, refl), (refl, refl), (refl, refl), (refl, refl), (refl, refl), (refl, refl), (refl, refl), (refl, refl), (refl, refl), (refl, refl), (refl, refl), (refl, refl))
+each_found modes.Table =
+    ((refl, refl), (refl, refl), (refl, refl), (refl, refl), (refl, refl), (refl, refl), (refl, refl), (refl, refl), (refl, refl), (refl, refl), (refl, refl), (refl, refl))
 
 found : (mode : Mode) (s : Setting) → Found mode s
 found mode s = pick (Found mode) (each_found mode) s
@@ -103,6 +108,8 @@ no_defaults modes.Cores = (refl, (refl, (refl, (refl, (refl, (refl, (refl, tt)))
 no_defaults modes.Edf = (refl, (refl, (refl, tt)))
 no_defaults modes.Run = (refl, (refl, (refl, (refl, (refl, (refl, (refl, tt)))))))
 no_defaults modes.Generate = (refl, (refl, tt))
+no_defaults modes.Cycle = (refl, (refl, (refl, (refl, (refl, (refl, tt))))))
+no_defaults modes.Table = (refl, (refl, tt))
 
 no_default : (a : Rule) (rows : List Row) → a.defaults ≡ [] → with_default rows a ≡ rows
 no_default a rows e = elim (has_row a.id rows) as (λ b. (if b then rows else default_rows a.id (reading_by a) a.defaults rows) ≡ rows) [
@@ -143,6 +150,8 @@ required modes.Cores rows = refl
 required modes.Edf rows = refl
 required modes.Run rows = refl
 required modes.Generate rows = refl
+required modes.Cycle rows = refl
+required modes.Table rows = refl
 
 tail_is : (mode : Mode) (rows : List Row) → tail (rules mode) rows ≡ check_kinds false false (lacks mode (λ s. is_given (name_of s) rows))
 tail_is mode rows =
@@ -229,6 +238,7 @@ shows_more mode settings.Program v rows given h =
       u settings.Seed ∙ h.8,
       u settings.Size ∙ h.9,
       u settings.Cores ∙ h.10,
+      u settings.Table ∙ h.11,
     )
 shows_more mode settings.Bodies v rows given h =
     let u = λ (t : Setting). used_given mode settings.Bodies v rows (name_of t) in (
@@ -243,6 +253,7 @@ shows_more mode settings.Bodies v rows given h =
       u settings.Seed ∙ h.8,
       u settings.Size ∙ h.9,
       u settings.Cores ∙ h.10,
+      u settings.Table ∙ h.11,
     )
 shows_more mode settings.Sensors v rows given h =
     let u = λ (t : Setting). used_given mode settings.Sensors v rows (name_of t) in (
@@ -257,6 +268,7 @@ shows_more mode settings.Sensors v rows given h =
       u settings.Seed ∙ h.8,
       u settings.Size ∙ h.9,
       u settings.Cores ∙ h.10,
+      u settings.Table ∙ h.11,
     )
 shows_more mode settings.Schedule v rows given h =
     let u = λ (t : Setting). used_given mode settings.Schedule v rows (name_of t) in (
@@ -271,6 +283,7 @@ shows_more mode settings.Schedule v rows given h =
       u settings.Seed ∙ h.8,
       u settings.Size ∙ h.9,
       u settings.Cores ∙ h.10,
+      u settings.Table ∙ h.11,
     )
 shows_more mode settings.Node v rows given h =
     let u = λ (t : Setting). used_given mode settings.Node v rows (name_of t) in (
@@ -285,6 +298,7 @@ shows_more mode settings.Node v rows given h =
       u settings.Seed ∙ h.8,
       u settings.Size ∙ h.9,
       u settings.Cores ∙ h.10,
+      u settings.Table ∙ h.11,
     )
 shows_more mode settings.Until v rows given h =
     let u = λ (t : Setting). used_given mode settings.Until v rows (name_of t) in (
@@ -299,6 +313,7 @@ shows_more mode settings.Until v rows given h =
       u settings.Seed ∙ h.8,
       u settings.Size ∙ h.9,
       u settings.Cores ∙ h.10,
+      u settings.Table ∙ h.11,
     )
 shows_more mode settings.Workers v rows given h =
     let u = λ (t : Setting). used_given mode settings.Workers v rows (name_of t) in (
@@ -313,6 +328,7 @@ shows_more mode settings.Workers v rows given h =
       u settings.Seed ∙ h.8,
       u settings.Size ∙ h.9,
       u settings.Cores ∙ h.10,
+      u settings.Table ∙ h.11,
     )
 shows_more mode settings.Clock v rows given h =
     let u = λ (t : Setting). used_given mode settings.Clock v rows (name_of t) in (
@@ -327,6 +343,7 @@ shows_more mode settings.Clock v rows given h =
       u settings.Seed ∙ h.8,
       u settings.Size ∙ h.9,
       u settings.Cores ∙ h.10,
+      u settings.Table ∙ h.11,
     )
 shows_more mode settings.Seed v rows given h =
     let u = λ (t : Setting). used_given mode settings.Seed v rows (name_of t) in (
@@ -341,6 +358,7 @@ shows_more mode settings.Seed v rows given h =
       u settings.Seed,
       u settings.Size ∙ h.9,
       u settings.Cores ∙ h.10,
+      u settings.Table ∙ h.11,
     )
 shows_more mode settings.Size v rows given h =
     let u = λ (t : Setting). used_given mode settings.Size v rows (name_of t) in (
@@ -355,6 +373,7 @@ shows_more mode settings.Size v rows given h =
       u settings.Seed ∙ h.8,
       u settings.Size,
       u settings.Cores ∙ h.10,
+      u settings.Table ∙ h.11,
     )
 shows_more mode settings.Cores v rows given h =
     let u = λ (t : Setting). used_given mode settings.Cores v rows (name_of t) in (
@@ -369,6 +388,22 @@ shows_more mode settings.Cores v rows given h =
       u settings.Seed ∙ h.8,
       u settings.Size ∙ h.9,
       u settings.Cores,
+      u settings.Table ∙ h.11,
+    )
+shows_more mode settings.Table v rows given h =
+    let u = λ (t : Setting). used_given mode settings.Table v rows (name_of t) in (
+      u settings.Program ∙ h.0,
+      u settings.Bodies ∙ h.1,
+      u settings.Sensors ∙ h.2,
+      u settings.Schedule ∙ h.3,
+      u settings.Node ∙ h.4,
+      u settings.Until ∙ h.5,
+      u settings.Workers ∙ h.6,
+      u settings.Clock ∙ h.7,
+      u settings.Seed ∙ h.8,
+      u settings.Size ∙ h.9,
+      u settings.Cores ∙ h.10,
+      u settings.Table,
     )
 
 -- the value of an option is in its range, where it has one
@@ -393,6 +428,7 @@ cost_is settings.Clock v = refl
 cost_is settings.Seed v = refl
 cost_is settings.Size v = or_nil (kinds_if (is_fine settings.Size v))
 cost_is settings.Cores v = refl
+cost_is settings.Table v = refl
 
 -- a number that is given is in a range
 abbrev pub ranged : ℕ → ℕ → Option Text → Bool
@@ -448,6 +484,7 @@ fine_more settings.Seed v given e = and_true (are_fine given)
 fine_more settings.Size v given e =
     at_third (ranged 0 MAX_UNTIL given.until) (ranged 1 MAX_WORKERS given.workers) (ranged 1 MAX_SIZE given.size) (is_fine settings.Size v) (ap (ranged 1 MAX_SIZE) e)
 fine_more settings.Cores v given e = and_true (are_fine given)
+fine_more settings.Table v given e = and_true (are_fine given)
 
 -- what the values are refused for
 abbrev pub values_kinds : Values → Kinds
@@ -497,23 +534,26 @@ walk_is modes.Edf name words = by_stop (rules modes.Edf) words (walk (rules mode
 walk_is modes.Cores name words = by_stop (rules modes.Cores) words (walk (rules modes.Cores) [] nothing_held words).stopped
 walk_is modes.Run name words = by_stop (rules modes.Run) words (walk (rules modes.Run) [] nothing_held words).stopped
 walk_is modes.Generate name words = by_stop (rules modes.Generate) words (walk (rules modes.Generate) [] nothing_held words).stopped
+walk_is modes.Cycle name words = by_stop (rules modes.Cycle) words (walk (rules modes.Cycle) [] nothing_held words).stopped
+walk_is modes.Table name words = by_stop (rules modes.Table) words (walk (rules modes.Table) [] nothing_held words).stopped
 
 -- the options of the words are the mode's
 abbrev Allowed : Mode → Values → Type 0
 Allowed mode given = Each (λ s. is_some (value_of given s) ≡ true → has mode s ≡ true)
 
 allowed_more : (mode : Mode) (s : Setting) (v : Text) (given : Values) → has mode s ≡ true → Allowed mode given → Allowed mode (with_value given s v)
-allowed_more mode settings.Program v given h a = (λ e. h, a.1, a.2, a.3, a.4, a.5, a.6, a.7, a.8, a.9, a.10)
-allowed_more mode settings.Bodies v given h a = (a.0, λ e. h, a.2, a.3, a.4, a.5, a.6, a.7, a.8, a.9, a.10)
-allowed_more mode settings.Sensors v given h a = (a.0, a.1, λ e. h, a.3, a.4, a.5, a.6, a.7, a.8, a.9, a.10)
-allowed_more mode settings.Schedule v given h a = (a.0, a.1, a.2, λ e. h, a.4, a.5, a.6, a.7, a.8, a.9, a.10)
-allowed_more mode settings.Node v given h a = (a.0, a.1, a.2, a.3, λ e. h, a.5, a.6, a.7, a.8, a.9, a.10)
-allowed_more mode settings.Until v given h a = (a.0, a.1, a.2, a.3, a.4, λ e. h, a.6, a.7, a.8, a.9, a.10)
-allowed_more mode settings.Workers v given h a = (a.0, a.1, a.2, a.3, a.4, a.5, λ e. h, a.7, a.8, a.9, a.10)
-allowed_more mode settings.Clock v given h a = (a.0, a.1, a.2, a.3, a.4, a.5, a.6, λ e. h, a.8, a.9, a.10)
-allowed_more mode settings.Seed v given h a = (a.0, a.1, a.2, a.3, a.4, a.5, a.6, a.7, λ e. h, a.9, a.10)
-allowed_more mode settings.Size v given h a = (a.0, a.1, a.2, a.3, a.4, a.5, a.6, a.7, a.8, λ e. h, a.10)
-allowed_more mode settings.Cores v given h a = (a.0, a.1, a.2, a.3, a.4, a.5, a.6, a.7, a.8, a.9, λ e. h)
+allowed_more mode settings.Program v given h a = (λ e. h, a.1, a.2, a.3, a.4, a.5, a.6, a.7, a.8, a.9, a.10, a.11)
+allowed_more mode settings.Bodies v given h a = (a.0, λ e. h, a.2, a.3, a.4, a.5, a.6, a.7, a.8, a.9, a.10, a.11)
+allowed_more mode settings.Sensors v given h a = (a.0, a.1, λ e. h, a.3, a.4, a.5, a.6, a.7, a.8, a.9, a.10, a.11)
+allowed_more mode settings.Schedule v given h a = (a.0, a.1, a.2, λ e. h, a.4, a.5, a.6, a.7, a.8, a.9, a.10, a.11)
+allowed_more mode settings.Node v given h a = (a.0, a.1, a.2, a.3, λ e. h, a.5, a.6, a.7, a.8, a.9, a.10, a.11)
+allowed_more mode settings.Until v given h a = (a.0, a.1, a.2, a.3, a.4, λ e. h, a.6, a.7, a.8, a.9, a.10, a.11)
+allowed_more mode settings.Workers v given h a = (a.0, a.1, a.2, a.3, a.4, a.5, λ e. h, a.7, a.8, a.9, a.10, a.11)
+allowed_more mode settings.Clock v given h a = (a.0, a.1, a.2, a.3, a.4, a.5, a.6, λ e. h, a.8, a.9, a.10, a.11)
+allowed_more mode settings.Seed v given h a = (a.0, a.1, a.2, a.3, a.4, a.5, a.6, a.7, λ e. h, a.9, a.10, a.11)
+allowed_more mode settings.Size v given h a = (a.0, a.1, a.2, a.3, a.4, a.5, a.6, a.7, a.8, λ e. h, a.10, a.11)
+allowed_more mode settings.Cores v given h a = (a.0, a.1, a.2, a.3, a.4, a.5, a.6, a.7, a.8, a.9, λ e. h, a.11)
+allowed_more mode settings.Table v given h a = (a.0, a.1, a.2, a.3, a.4, a.5, a.6, a.7, a.8, a.9, a.10, λ e. h)
 
 abbrev HadIn : Mode → List Spelled → Type 0
 HadIn mode os = Had (rules mode) mode (by_long mode) (by_id mode) os
@@ -530,20 +570,21 @@ abbrev Kept : Values → Values → Type 0
 Kept given final = Each (λ s. is_some (value_of given s) ≡ true → is_some (value_of final s) ≡ true)
 
 kept_more : (s : Setting) (v : Text) (given final : Values) → Kept (with_value given s v) final → Kept given final
-kept_more settings.Program v given final k = (λ e. k.0 refl, k.1, k.2, k.3, k.4, k.5, k.6, k.7, k.8, k.9, k.10)
-kept_more settings.Bodies v given final k = (k.0, λ e. k.1 refl, k.2, k.3, k.4, k.5, k.6, k.7, k.8, k.9, k.10)
-kept_more settings.Sensors v given final k = (k.0, k.1, λ e. k.2 refl, k.3, k.4, k.5, k.6, k.7, k.8, k.9, k.10)
-kept_more settings.Schedule v given final k = (k.0, k.1, k.2, λ e. k.3 refl, k.4, k.5, k.6, k.7, k.8, k.9, k.10)
-kept_more settings.Node v given final k = (k.0, k.1, k.2, k.3, λ e. k.4 refl, k.5, k.6, k.7, k.8, k.9, k.10)
-kept_more settings.Until v given final k = (k.0, k.1, k.2, k.3, k.4, λ e. k.5 refl, k.6, k.7, k.8, k.9, k.10)
-kept_more settings.Workers v given final k = (k.0, k.1, k.2, k.3, k.4, k.5, λ e. k.6 refl, k.7, k.8, k.9, k.10)
-kept_more settings.Clock v given final k = (k.0, k.1, k.2, k.3, k.4, k.5, k.6, λ e. k.7 refl, k.8, k.9, k.10)
-kept_more settings.Seed v given final k = (k.0, k.1, k.2, k.3, k.4, k.5, k.6, k.7, λ e. k.8 refl, k.9, k.10)
-kept_more settings.Size v given final k = (k.0, k.1, k.2, k.3, k.4, k.5, k.6, k.7, k.8, λ e. k.9 refl, k.10)
-kept_more settings.Cores v given final k = (k.0, k.1, k.2, k.3, k.4, k.5, k.6, k.7, k.8, k.9, λ e. k.10 refl)
+kept_more settings.Program v given final k = (λ e. k.0 refl, k.1, k.2, k.3, k.4, k.5, k.6, k.7, k.8, k.9, k.10, k.11)
+kept_more settings.Bodies v given final k = (k.0, λ e. k.1 refl, k.2, k.3, k.4, k.5, k.6, k.7, k.8, k.9, k.10, k.11)
+kept_more settings.Sensors v given final k = (k.0, k.1, λ e. k.2 refl, k.3, k.4, k.5, k.6, k.7, k.8, k.9, k.10, k.11)
+kept_more settings.Schedule v given final k = (k.0, k.1, k.2, λ e. k.3 refl, k.4, k.5, k.6, k.7, k.8, k.9, k.10, k.11)
+kept_more settings.Node v given final k = (k.0, k.1, k.2, k.3, λ e. k.4 refl, k.5, k.6, k.7, k.8, k.9, k.10, k.11)
+kept_more settings.Until v given final k = (k.0, k.1, k.2, k.3, k.4, λ e. k.5 refl, k.6, k.7, k.8, k.9, k.10, k.11)
+kept_more settings.Workers v given final k = (k.0, k.1, k.2, k.3, k.4, k.5, λ e. k.6 refl, k.7, k.8, k.9, k.10, k.11)
+kept_more settings.Clock v given final k = (k.0, k.1, k.2, k.3, k.4, k.5, k.6, λ e. k.7 refl, k.8, k.9, k.10, k.11)
+kept_more settings.Seed v given final k = (k.0, k.1, k.2, k.3, k.4, k.5, k.6, k.7, λ e. k.8 refl, k.9, k.10, k.11)
+kept_more settings.Size v given final k = (k.0, k.1, k.2, k.3, k.4, k.5, k.6, k.7, k.8, λ e. k.9 refl, k.10, k.11)
+kept_more settings.Cores v given final k = (k.0, k.1, k.2, k.3, k.4, k.5, k.6, k.7, k.8, k.9, λ e. k.10 refl, k.11)
+kept_more settings.Table v given final k = (k.0, k.1, k.2, k.3, k.4, k.5, k.6, k.7, k.8, k.9, k.10, λ e. k.11 refl)
 
 kept : (os : List Spelled) (given final : Values) → Follows given os final → Kept given final
-kept [] given final follows = subst (Kept given) follows (λ e. e, λ e. e, λ e. e, λ e. e, λ e. e, λ e. e, λ e. e, λ e. e, λ e. e, λ e. e, λ e. e)
+kept [] given final follows = subst (Kept given) follows (λ e. e, λ e. e, λ e. e, λ e. e, λ e. e, λ e. e, λ e. e, λ e. e, λ e. e, λ e. e, λ e. e, λ e. e)
 kept (o ∷ os) given final follows = kept_more o.1 o.2 given final (kept os (with_value given o.1 o.2) final follows.2)
 
 now_given : (s : Setting) (v : Text) (given : Values) → is_some (value_of (with_value given s v) s) ≡ true
@@ -558,6 +599,7 @@ now_given settings.Clock v given = refl
 now_given settings.Seed v given = refl
 now_given settings.Size v given = refl
 now_given settings.Cores v given = refl
+now_given settings.Table v given = refl
 
 had_by : (mode : Mode) (os : List Spelled) (given final : Values) → Follows given os final → ((s : Setting) → is_some (value_of final s) ≡ true → has mode s ≡ true) → HadIn mode os
 had_by mode [] given final follows h = tt
@@ -602,6 +644,7 @@ each_from P f = (
   f settings.Seed,
   f settings.Size,
   f settings.Cores,
+  f settings.Table,
 )
 
 pub all_at : (p : Setting → Bool) → list_all p all_settings ≡ true → Each (λ s. p s ≡ true)
@@ -615,7 +658,8 @@ all_at p e =
     let clock_on = and_right (p settings.Workers) _ workers_on in
     let seed_on = and_right (p settings.Clock) _ clock_on in
     let size_on = and_right (p settings.Seed) _ seed_on in
-    let cores_on = and_right (p settings.Size) _ size_on in (
+    let cores_on = and_right (p settings.Size) _ size_on in
+    let table_on = and_right (p settings.Cores) _ cores_on in (
       and_left (p settings.Program) _ e,
       and_left (p settings.Bodies) _ bodies_on,
       and_left (p settings.Sensors) _ sensors_on,
@@ -627,11 +671,12 @@ all_at p e =
       and_left (p settings.Seed) _ seed_on,
       and_left (p settings.Size) _ size_on,
       and_left (p settings.Cores) _ cores_on,
+      and_left (p settings.Table) _ table_on,
     )
 
 all_from : (p : Setting → Bool) → Each (λ s. p s ≡ true) → list_all p all_settings ≡ true
 all_from p h =
-    and_both (p settings.Program) _ h.0 (and_both (p settings.Bodies) _ h.1 (and_both (p settings.Sensors) _ h.2 (and_both (p settings.Schedule) _ h.3 (and_both (p settings.Node) _ h.4 (and_both (p settings.Until) _ h.5 (and_both (p settings.Workers) _ h.6 (and_both (p settings.Clock) _ h.7 (and_both (p settings.Seed) _ h.8 (and_both (p settings.Size) _ h.9 (and_both (p settings.Cores) _ h.10 refl))))))))))
+    and_both (p settings.Program) _ h.0 (and_both (p settings.Bodies) _ h.1 (and_both (p settings.Sensors) _ h.2 (and_both (p settings.Schedule) _ h.3 (and_both (p settings.Node) _ h.4 (and_both (p settings.Until) _ h.5 (and_both (p settings.Workers) _ h.6 (and_both (p settings.Clock) _ h.7 (and_both (p settings.Seed) _ h.8 (and_both (p settings.Size) _ h.9 (and_both (p settings.Cores) _ h.10 (and_both (p settings.Table) _ h.11 refl)))))))))))
 
 none_at : (p : Setting → Bool) → list_any p all_settings ≡ false → Each (λ s. p s ≡ false)
 none_at p e =
@@ -644,7 +689,8 @@ none_at p e =
     let clock_on = or_right (p settings.Workers) _ workers_on in
     let seed_on = or_right (p settings.Clock) _ clock_on in
     let size_on = or_right (p settings.Seed) _ seed_on in
-    let cores_on = or_right (p settings.Size) _ size_on in (
+    let cores_on = or_right (p settings.Size) _ size_on in
+    let table_on = or_right (p settings.Cores) _ cores_on in (
       or_left (p settings.Program) _ e,
       or_left (p settings.Bodies) _ bodies_on,
       or_left (p settings.Sensors) _ sensors_on,
@@ -656,11 +702,12 @@ none_at p e =
       or_left (p settings.Seed) _ seed_on,
       or_left (p settings.Size) _ size_on,
       or_left (p settings.Cores) _ cores_on,
+      or_left (p settings.Table) _ table_on,
     )
 
 none_from : (p : Setting → Bool) → Each (λ s. p s ≡ false) → list_any p all_settings ≡ false
 none_from p h =
-    or_both (p settings.Program) _ h.0 (or_both (p settings.Bodies) _ h.1 (or_both (p settings.Sensors) _ h.2 (or_both (p settings.Schedule) _ h.3 (or_both (p settings.Node) _ h.4 (or_both (p settings.Until) _ h.5 (or_both (p settings.Workers) _ h.6 (or_both (p settings.Clock) _ h.7 (or_both (p settings.Seed) _ h.8 (or_both (p settings.Size) _ h.9 (or_both (p settings.Cores) _ h.10 refl))))))))))
+    or_both (p settings.Program) _ h.0 (or_both (p settings.Bodies) _ h.1 (or_both (p settings.Sensors) _ h.2 (or_both (p settings.Schedule) _ h.3 (or_both (p settings.Node) _ h.4 (or_both (p settings.Until) _ h.5 (or_both (p settings.Workers) _ h.6 (or_both (p settings.Clock) _ h.7 (or_both (p settings.Seed) _ h.8 (or_both (p settings.Size) _ h.9 (or_both (p settings.Cores) _ h.10 (or_both (p settings.Table) _ h.11 refl)))))))))))
 
 -- whether an option that is given, needed, or one that the mode may have, fits
 abbrev fit : Bool → Bool → Bool → Bool
@@ -704,12 +751,12 @@ agrees mode name words final e =
     let walk_eq : faults_of mode (name ∷ words) ≡ total c (walk_from nothing_held) (words_of os) = walk_is mode name words ∙ ap (total c (walk_from nothing_held)) p.1 in
     let v = valued mode os nothing final p.2 in
     let whole : HadIn mode os → faults_of mode (name ∷ words) ≡ verdict mode final = λ h.
-    walk_eq ∙ total_is c mode (by_long mode) (by_id mode) os nothing_held h v ∙ ends mode os nothing final [] p.2 (refl, refl, refl, refl, refl, refl, refl, refl, refl, refl, refl) in
+    walk_eq ∙ total_is c mode (by_long mode) (by_id mode) os nothing_held h v ∙ ends mode os nothing final [] p.2 (refl, refl, refl, refl, refl, refl, refl, refl, refl, refl, refl, refl) in
     record {
       taken = λ none.
           let h = had c mode (by_long mode) (by_id mode) os nothing_held v (sym walk_eq ∙ none) in
           let whole_is : verdict mode final ≡ [] = sym (whole h) ∙ none in
-          let a = allowed mode os nothing final p.2 h (λ e. cc, λ e. cc, λ e. cc, λ e. cc, λ e. cc, λ e. cc, λ e. cc, λ e. cc, λ e. cc, λ e. cc, λ e. cc) in
+          let a = allowed mode os nothing final p.2 h (λ e. cc, λ e. cc, λ e. cc, λ e. cc, λ e. cc, λ e. cc, λ e. cc, λ e. cc, λ e. cc, λ e. cc, λ e. cc, λ e. cc) in
           let n = none_at missing (not_missing (lacks mode given) (later_none (values_kinds final) _ whole_is)) in (
             all_from (fits mode final) (each_from (λ s. fits mode final s ≡ true) (λ s.
                 fit_by (given s) (needs mode s) (may mode s) (pick (λ s. is_some (value_of final s) ≡ true → has mode s ≡ true) a s) (pick (λ s. missing s ≡ false) n s))),

@@ -88,6 +88,7 @@ long_own settings.Clock v = refl
 long_own settings.Seed v = refl
 long_own settings.Size v = refl
 long_own settings.Cores v = refl
+long_own settings.Table v = refl
 
 long_bare : (s : Setting) → long_of (dashed s []) ≡ Some (name_of s, None)
 long_bare settings.Program = refl
@@ -101,6 +102,7 @@ long_bare settings.Clock = refl
 long_bare settings.Seed = refl
 long_bare settings.Size = refl
 long_bare settings.Cores = refl
+long_bare settings.Table = refl
 
 abbrev dashes : Text
 dashes = 45 ∷ 45 ∷ []
@@ -117,6 +119,7 @@ not_dashes settings.Clock rest = refl
 not_dashes settings.Seed rest = refl
 not_dashes settings.Size rest = refl
 not_dashes settings.Cores rest = refl
+not_dashes settings.Table rest = refl
 
 -- what a value looks like
 not_minus : (b : ℕ) → not (b == 45) ≡ true → (b == 45) ≡ false

@@ -18,6 +18,7 @@ abbrev pub mode_named : List ℕ → Option Mode
 mode_named name =
     if bytes_eq name (codes "check") then Some modes.Check
     else if bytes_eq name (codes "cores") then Some modes.Cores
+    else if bytes_eq name (codes "cycle") then Some modes.Cycle
     else if bytes_eq name (codes "edf") then Some modes.Edf
     else if bytes_eq name (codes "flows") then Some modes.Flows
     else if bytes_eq name (codes "generate") then Some modes.Generate
@@ -26,6 +27,7 @@ mode_named name =
     else if bytes_eq name (codes "replay") then Some modes.Replay
     else if bytes_eq name (codes "run") then Some modes.Run
     else if bytes_eq name (codes "schedule") then Some modes.Schedule
+    else if bytes_eq name (codes "table") then Some modes.Table
     else None
 
 -- the options that a mode needs, and those that it may have
@@ -53,6 +55,11 @@ needs modes.Cores settings.Sensors = true
 needs modes.Cores settings.Until = true
 needs modes.Cores settings.Cores = true
 needs modes.Cores other = false
+needs modes.Cycle settings.Program = true
+needs modes.Cycle settings.Sensors = true
+needs modes.Cycle settings.Until = true
+needs modes.Cycle settings.Table = true
+needs modes.Cycle other = false
 needs modes.Edf settings.Program = true
 needs modes.Edf settings.Until = true
 needs modes.Edf other = false
@@ -63,6 +70,8 @@ needs modes.Run other = false
 needs modes.Generate settings.Seed = true
 needs modes.Generate settings.Size = true
 needs modes.Generate other = false
+needs modes.Table settings.Program = true
+needs modes.Table other = false
 
 abbrev pub may : Mode → Setting → Bool
 may modes.Print other = false
@@ -83,6 +92,9 @@ may modes.Cores settings.Bodies = true
 may modes.Cores settings.Schedule = true
 may modes.Cores settings.Node = true
 may modes.Cores other = false
+may modes.Cycle settings.Bodies = true
+may modes.Cycle settings.Node = true
+may modes.Cycle other = false
 may modes.Edf settings.Node = true
 may modes.Edf other = false
 may modes.Run settings.Bodies = true
@@ -91,11 +103,13 @@ may modes.Run settings.Workers = true
 may modes.Run settings.Clock = true
 may modes.Run other = false
 may modes.Generate other = false
+may modes.Table settings.Node = true
+may modes.Table other = false
 
 abbrev pub all_settings : List Setting
 all_settings =
     settings.Program ∷ settings.Bodies ∷ settings.Sensors ∷ settings.Schedule ∷ settings.Node ∷ settings.Until
-    ∷ settings.Workers ∷ settings.Clock ∷ settings.Seed ∷ settings.Size ∷ settings.Cores ∷ []
+    ∷ settings.Workers ∷ settings.Clock ∷ settings.Seed ∷ settings.Size ∷ settings.Cores ∷ settings.Table ∷ []
 
 -- the name of an option, which is written after `--`
 abbrev pub name_of : Setting → List ℕ
@@ -110,6 +124,7 @@ name_of settings.Clock = codes "clock"
 name_of settings.Seed = codes "seed"
 name_of settings.Size = codes "size"
 name_of settings.Cores = codes "cores"
+name_of settings.Table = codes "table"
 
 -- what stands after the front, where the text begins with it
 abbrev pub after_front : List ℕ → List ℕ → Option (List ℕ)
@@ -153,6 +168,7 @@ pub record Values : Type 0 where
   pub seed : Option (List ℕ)
   pub size : Option (List ℕ)
   pub cores : Option (List ℕ)
+  pub table : Option (List ℕ)
 
 abbrev pub nothing : Values
 nothing = record {
@@ -167,6 +183,7 @@ nothing = record {
   seed = None;
   size = None;
   cores = None;
+  table = None;
 }
 
 abbrev pub value_of : Values → Setting → Option (List ℕ)
@@ -181,6 +198,7 @@ value_of given settings.Clock = given.clock
 value_of given settings.Seed = given.seed
 value_of given settings.Size = given.size
 value_of given settings.Cores = given.cores
+value_of given settings.Table = given.table
 
 abbrev pub with_value : Values → Setting → List ℕ → Values
 with_value given settings.Program value = record given { program = Some value }
@@ -194,6 +212,7 @@ with_value given settings.Clock value = record given { clock = Some value }
 with_value given settings.Seed value = record given { seed = Some value }
 with_value given settings.Size value = record given { size = Some value }
 with_value given settings.Cores value = record given { cores = Some value }
+with_value given settings.Table value = record given { table = Some value }
 
 -- the value of an option is not empty and does not begin with `-`
 abbrev pub is_value : List ℕ → Bool
@@ -293,6 +312,7 @@ command_with mode given numbers = record {
   seed = numbers.seed;
   size = numbers.size;
   cores = given.cores;
+  table = given.table;
 }
 
 -- the command of a mode with these options

@@ -28,6 +28,8 @@ pub enum Mode {
     /// Runs the tasks on several processors, by a schedule or by priorities: writes what the jobs read, and the flows of the
     /// actuators.
     Cores,
+    /// Runs the tasks of the program by a static cyclic table, and writes the flows of the actuators.
+    Cycle,
     /// Says whether one processor can meet the plan's dates with the WCETs.
     Edf,
     /// Writes the flows of the actuators.
@@ -44,6 +46,8 @@ pub enum Mode {
     Run,
     /// Writes a schedule of the program's plan.
     Schedule,
+    /// Writes a static cyclic table of the program's plan.
+    Table,
 }
 
 /// What an option of the command line gives.
@@ -71,6 +75,8 @@ pub enum Setting {
     Size,
     /// `--cores`: the file that tells which processor each task runs on.
     Cores,
+    /// `--table`: the file of the static cyclic table.
+    Table,
 }
 
 /// What the arguments of a command line ask for. An option that is not given is None, and a number that is
@@ -100,6 +106,8 @@ pub struct Command {
     pub size: u32,
     /// The file that tells which processor each task runs on.
     pub cores: Option<Label>,
+    /// The file of the static cyclic table.
+    pub table: Option<Label>,
 }
 
 /// Why arguments are no command.
@@ -135,6 +143,7 @@ struct Given<'a> {
     seed: Option<&'a [u8]>,
     size: Option<&'a [u8]>,
     cores: Option<&'a [u8]>,
+    table: Option<&'a [u8]>,
 }
 
 /// An option, with its value where that stands in the same word.
@@ -146,8 +155,11 @@ type Taken<'a> = (&'a [u8], &'a [String]);
 /// Values of options, and the words after them.
 type Read<'a> = (Given<'a>, &'a [String]);
 
+/// The names of three files, where they are given.
+type Files = (Option<Label>, Option<Label>, Option<Label>);
+
 /// All options.
-static SETTINGS: [Setting; 11] = [
+static SETTINGS: [Setting; 12] = [
     Setting::Program,
     Setting::Bodies,
     Setting::Sensors,
@@ -159,6 +171,7 @@ static SETTINGS: [Setting; 11] = [
     Setting::Seed,
     Setting::Size,
     Setting::Cores,
+    Setting::Table,
 ];
 
 /// The mode of a name.
@@ -169,6 +182,8 @@ fn mode_named(name: &[u8]) -> Option<Mode>
         Some(Mode::Check)
     } else if name == b"cores".as_slice() {
         Some(Mode::Cores)
+    } else if name == b"cycle".as_slice() {
+        Some(Mode::Cycle)
     } else if name == b"edf".as_slice() {
         Some(Mode::Edf)
     } else if name == b"flows".as_slice() {
@@ -185,6 +200,8 @@ fn mode_named(name: &[u8]) -> Option<Mode>
         Some(Mode::Run)
     } else if name == b"schedule".as_slice() {
         Some(Mode::Schedule)
+    } else if name == b"table".as_slice() {
+        Some(Mode::Table)
     } else {
         None
     }
@@ -195,8 +212,8 @@ pub(crate) fn needs(mode: Mode, setting: Setting) -> bool
     ensures { result ≡ needs mode setting }
 {
     match (mode, setting) {
-        (Mode::Print | Mode::Plan | Mode::Check, Setting::Program) => true,
-        (Mode::Print | Mode::Plan | Mode::Check, _) => false,
+        (Mode::Print | Mode::Plan | Mode::Check | Mode::Table, Setting::Program) => true,
+        (Mode::Print | Mode::Plan | Mode::Check | Mode::Table, _) => false,
         (Mode::Flows, Setting::Program | Setting::Sensors | Setting::Until) => true,
         (Mode::Flows, _) => false,
         (Mode::Replay, Setting::Program | Setting::Sensors | Setting::Schedule | Setting::Until) =>
@@ -205,6 +222,9 @@ pub(crate) fn needs(mode: Mode, setting: Setting) -> bool
         (Mode::Cores, Setting::Program | Setting::Sensors | Setting::Until | Setting::Cores) =>
             true,
         (Mode::Cores, _) => false,
+        (Mode::Cycle, Setting::Program | Setting::Sensors | Setting::Until | Setting::Table) =>
+            true,
+        (Mode::Cycle, _) => false,
         (Mode::Schedule | Mode::Edf, Setting::Program | Setting::Until) => true,
         (Mode::Schedule | Mode::Edf, _) => false,
         (Mode::Run, Setting::Program | Setting::Sensors | Setting::Until) => true,
@@ -220,12 +240,13 @@ pub(crate) fn may(mode: Mode, setting: Setting) -> bool
 {
     match (mode, setting) {
         (Mode::Print, _) => false,
-        (Mode::Plan | Mode::Schedule | Mode::Edf, Setting::Node) => true,
-        (Mode::Plan | Mode::Schedule | Mode::Edf, _) => false,
+        (Mode::Plan | Mode::Schedule | Mode::Edf | Mode::Table, Setting::Node) => true,
+        (Mode::Plan | Mode::Schedule | Mode::Edf | Mode::Table, _) => false,
         (Mode::Cores, Setting::Bodies | Setting::Schedule | Setting::Node) => true,
         (Mode::Cores, _) => false,
-        (Mode::Check | Mode::Flows | Mode::Replay, Setting::Bodies | Setting::Node) => true,
-        (Mode::Check | Mode::Flows | Mode::Replay, _) => false,
+        (Mode::Check | Mode::Flows | Mode::Replay | Mode::Cycle, Setting::Bodies | Setting::Node) =>
+            true,
+        (Mode::Check | Mode::Flows | Mode::Replay | Mode::Cycle, _) => false,
         (Mode::Run, Setting::Bodies | Setting::Node | Setting::Workers | Setting::Clock) => true,
         (Mode::Run, _) => false,
         (Mode::Generate, _) => false,
@@ -248,6 +269,7 @@ pub(crate) fn name_of<'a>(setting: Setting) -> &'a str
         Setting::Seed => "seed",
         Setting::Size => "size",
         Setting::Cores => "cores",
+        Setting::Table => "table",
     }
 }
 
@@ -313,6 +335,7 @@ fn nothing<'a>() -> Given<'a>
         seed: None,
         size: None,
         cores: None,
+        table: None,
     }
 }
 
@@ -333,6 +356,7 @@ impl<'a> Given<'a> {
             Setting::Seed => self.seed,
             Setting::Size => self.size,
             Setting::Cores => self.cores,
+            Setting::Table => self.table,
         }
     }
 
@@ -353,6 +377,7 @@ impl<'a> Given<'a> {
             Setting::Seed => more.seed = Some(value),
             Setting::Size => more.size = Some(value),
             Setting::Cores => more.cores = Some(value),
+            Setting::Table => more.table = Some(value),
         }
         more
     }
@@ -538,6 +563,30 @@ fn label_of(alloc: Global, name: Option<&[u8]>) -> Result<Option<Label>, AllocEr
     }
 }
 
+/// The names of the files of the program, the bodies and the sensor rows.
+fn sources_of(alloc: Global, given: Given<'_>) -> Result<Files, AllocError>
+    ensures program { IfOk result (λ files. files.0 ≡ (given_by given.entry).program) }
+    ensures bodies { IfOk result (λ files. files.1 ≡ (given_by given.entry).bodies) }
+    ensures sensors { IfOk result (λ files. files.2 ≡ (given_by given.entry).sensors) }
+{
+    let program = label_of(alloc, given.program)?;
+    let bodies = label_of(alloc, given.bodies)?;
+    let sensors = label_of(alloc, given.sensors)?;
+    Ok((program, bodies, sensors))
+}
+
+/// The names of the files of the schedule, the processors and the table.
+fn orders_of(alloc: Global, given: Given<'_>) -> Result<Files, AllocError>
+    ensures schedule { IfOk result (λ files. files.0 ≡ (given_by given.entry).schedule) }
+    ensures cores { IfOk result (λ files. files.1 ≡ (given_by given.entry).cores) }
+    ensures table { IfOk result (λ files. files.2 ≡ (given_by given.entry).table) }
+{
+    let schedule = label_of(alloc, given.schedule)?;
+    let cores = label_of(alloc, given.cores)?;
+    let table = label_of(alloc, given.table)?;
+    Ok((schedule, cores, table))
+}
+
 /// The command that the words of a command line ask for. The first word is the program's own name, which is passed over, and
 /// the second is the mode. After it come the options, in whatever order and none twice: all that the mode needs, and any
 /// of those that it may have. The value of an option stands in the next word, or in its own word after `=`; it is not
@@ -551,14 +600,18 @@ pub fn read_words(alloc: Global, words: &[String]) -> Result<Command, WordsFault
     let Some(wanted) = read_command(alloc, words)? else {
         return Err(WordsFault::Refused);
     };
+    let sources = sources_of(alloc, wanted.given)?;
+    let orders = orders_of(alloc, wanted.given)?;
+    let node = label_of(alloc, wanted.given.node)?;
     Ok(Command {
         mode: wanted.mode,
-        program: label_of(alloc, wanted.given.program)?,
-        bodies: label_of(alloc, wanted.given.bodies)?,
-        sensors: label_of(alloc, wanted.given.sensors)?,
-        schedule: label_of(alloc, wanted.given.schedule)?,
-        cores: label_of(alloc, wanted.given.cores)?,
-        node: label_of(alloc, wanted.given.node)?,
+        program: sources.0,
+        bodies: sources.1,
+        sensors: sources.2,
+        schedule: orders.0,
+        cores: orders.1,
+        table: orders.2,
+        node,
         until: wanted.counts.until as u32,
         workers: wanted.counts.workers as u32,
         clock: wanted.counts.clock,

@@ -83,7 +83,8 @@ fn command_of<'a>(alloc: Global, mode: Mode) -> Result<Command<'a>, AllocError>
     let command = with_setting(alloc, command, mode, Setting::Clock)?;
     let command = with_setting(alloc, command, mode, Setting::Seed)?;
     let command = with_setting(alloc, command, mode, Setting::Size)?;
-    with_setting(alloc, command, mode, Setting::Cores)
+    let command = with_setting(alloc, command, mode, Setting::Cores)?;
+    with_setting(alloc, command, mode, Setting::Table)
 }
 
 /// The words after the first.

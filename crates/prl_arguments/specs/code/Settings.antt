@@ -28,6 +28,7 @@ given_by given = record {
   seed = bytes_of given.seed;
   size = bytes_of given.size;
   cores = bytes_of given.cores;
+  table = bytes_of given.table;
 }
 
 abbrev pub named_as : Setting × Option (Bor (List ℕ)) → Named

@@ -19,6 +19,8 @@ simple modes.Edf = refl
 simple modes.Cores = refl
 simple modes.Run = refl
 simple modes.Generate = refl
+simple modes.Cycle = refl
+simple modes.Table = refl
 
 mapped : {A : Type 0} (f : A → List ℕ) (words : List A) → map f (drop 1 words) ≡ drop 1 (map f words)
 mapped f [] = refl
