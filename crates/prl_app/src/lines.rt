@@ -45,7 +45,7 @@ fn file_name(command: &Option<Command>, part: InputFile) -> &[u8]
 }
 
 /// Writes a line of two parts.
-fn write_two<E: Sink>(err: &mut E, front: &[u8], name: &[u8]) -> Result<(), Failed>
+fn write_two<'a, E: Sink>(err: &mut E, front: &'a [u8], name: &'a [u8]) -> Result<(), Failed>
     ensures grown { IsWritten (E.seen err.old).written (E.seen err.new).written (named_line front.now name.now) result }
     ensures counted { (E.seen err.old).faults ≤ (E.seen err.new).faults }
     ensures failed { OnErr result ((E.seen err.old).faults < (E.seen err.new).faults) }
@@ -93,9 +93,9 @@ fn write_grammar<E: Sink>(err: &mut E, fault: GrammarRefusal) -> Result<(), Fail
     ensures failed { OnErr result ((E.seen err.old).faults < (E.seen err.new).faults) }
 {
     match fault {
-        GrammarRefusal::BadToken(at) => write_placed(err, b"1 bad token at ", u64::from(at)),
-        GrammarRefusal::Unexpected(at) => write_placed(err, b"2 unexpected at ", u64::from(at)),
-        GrammarRefusal::NumberRange(at) => write_placed(err, b"3 number range at ", u64::from(at)),
+        GrammarRefusal::BadToken(at) => write_placed(err, b"1 bad token at ", at as u64),
+        GrammarRefusal::Unexpected(at) => write_placed(err, b"2 unexpected at ", at as u64),
+        GrammarRefusal::NumberRange(at) => write_placed(err, b"3 number range at ", at as u64),
         GrammarRefusal::Limit(limit) => write_limit(err, limit),
     }
 }
@@ -112,12 +112,12 @@ fn write_types<E: Sink>(err: &mut E, fault: &TypesRefusal) -> Result<(), Failed>
         TypesRefusal::Undefined(name) => write_two(err, b"15 undefined ", name.bytes()),
         TypesRefusal::Recursive(name) => write_two(err, b"16 recursive ", name.bytes()),
         TypesRefusal::NoMain => write_all(err, b"14 no main\n"),
-        TypesRefusal::Arity(at) => write_placed(err, b"12 arity at ", u64::from(*at)),
+        TypesRefusal::Arity(at) => write_placed(err, b"12 arity at ", *at as u64),
         TypesRefusal::Mismatch { at, wanted, found } => write_line(
             err,
             &[
                 Piece::Text(b"13 mismatch at "),
-                Piece::Number(u64::from(*at)),
+                Piece::Number(*at as u64),
                 Piece::Text(b" wanted "),
                 Piece::Text(wanted.text().as_bytes()),
                 Piece::Text(b" found "),
@@ -145,7 +145,7 @@ fn write_clocks<E: Sink>(err: &mut E, fault: &ClocksRefusal) -> Result<(), Faile
     ensures failed { OnErr result ((E.seen err.old).faults < (E.seen err.new).faults) }
 {
     match fault {
-        ClocksRefusal::Mismatch(at) => write_placed(err, b"40 clock mismatch at ", u64::from(*at)),
+        ClocksRefusal::Mismatch(at) => write_placed(err, b"40 clock mismatch at ", *at as u64),
         ClocksRefusal::Limit(limit) => write_limit(err, *limit),
         ClocksRefusal::Free(label) => write_two(err, b"41 clock free ", label.bytes()),
         ClocksRefusal::NotWhole {
@@ -181,7 +181,7 @@ fn write_graph<E: Sink>(err: &mut E, fault: &GraphRefusal) -> Result<(), Failed>
                 Piece::Text(b"51 due range "),
                 Piece::Text(flow.bytes()),
                 Piece::Text(b" due "),
-                Piece::Number(u64::from(*due)),
+                Piece::Number(*due as u64),
                 Piece::Text(b" period "),
                 Piece::Number(*period),
                 Piece::Text(b"\n"),
@@ -237,11 +237,11 @@ fn write_bodies<E: Sink>(err: &mut E, fault: &BodiesRefusal) -> Result<(), Faile
     ensures failed { OnErr result ((E.seen err.old).faults < (E.seen err.new).faults) }
 {
     match fault {
-        BodiesRefusal::Syntax(at) => write_placed(err, b"23 body syntax at ", u64::from(*at)),
+        BodiesRefusal::Syntax(at) => write_placed(err, b"23 body syntax at ", *at as u64),
         BodiesRefusal::Limit(limit) => write_limit(err, *limit),
-        BodiesRefusal::BodyName(at) => write_placed(err, b"24 body name at ", u64::from(*at)),
-        BodiesRefusal::BodyType(at) => write_placed(err, b"22 body type at ", u64::from(*at)),
-        BodiesRefusal::BodyArity(at) => write_placed(err, b"21 body arity at ", u64::from(*at)),
+        BodiesRefusal::BodyName(at) => write_placed(err, b"24 body name at ", *at as u64),
+        BodiesRefusal::BodyType(at) => write_placed(err, b"22 body type at ", *at as u64),
+        BodiesRefusal::BodyArity(at) => write_placed(err, b"21 body arity at ", *at as u64),
         BodiesRefusal::Missing(name) => write_two(err, b"20 body missing ", name.bytes()),
     }
 }
@@ -363,7 +363,7 @@ fn write_table<E: Sink>(err: &mut E, fault: &TableRefusal) -> Result<(), Failed>
             err,
             &[
                 Piece::Text(b"97 order edge "),
-                Piece::Number(u64::from(edge.0)),
+                Piece::Number(edge.0 as u64),
                 Piece::Text(b" job "),
                 Piece::Number(*job),
                 Piece::Text(b"\n"),
@@ -446,13 +446,13 @@ fn write_overrun<E: Sink>(err: &mut E, name: &[u8], stopped: &Stopped) -> Result
             Piece::Text(b" "),
             Piece::Number(stopped.job),
             Piece::Text(b" port "),
-            Piece::Number(u64::from(stopped.port)),
+            Piece::Number(stopped.port as u64),
             Piece::Text(b" cell "),
-            Piece::Number(u64::from(stopped.cell.0)),
+            Piece::Number(stopped.cell.0 as u64),
             Piece::Text(b" wanted "),
-            Piece::Number(u64::from(stopped.wanted)),
+            Piece::Number(stopped.wanted as u64),
             Piece::Text(b" found "),
-            Piece::Number(u64::from(stopped.found)),
+            Piece::Number(stopped.found as u64),
             Piece::Text(b"\n"),
         ],
     )

@@ -21,8 +21,8 @@ pub enum Piece<'a> {
 }
 
 /// Writes a ratio: its numerator, and its denominator after `/` where it is not whole.
-fn write_ratio<S: Sink>(sink: &mut S, ratio: Ratio) -> Result<(), Failed>
-    ensures grown { IsWritten (S.seen sink.old).written (S.seen sink.new).written (fraction_text ratio) result }
+fn write_ratio<S: Sink>(sink: &mut S, ratio: &Ratio) -> Result<(), Failed>
+    ensures grown { IsWritten (S.seen sink.old).written (S.seen sink.new).written (fraction_text ratio.now) result }
     ensures counted { (S.seen sink.old).faults ≤ (S.seen sink.new).faults }
     ensures failed { OnErr result ((S.seen sink.old).faults < (S.seen sink.new).faults) }
 {
@@ -58,15 +58,15 @@ fn write_signed<S: Sink>(sink: &mut S, number: i64) -> Result<(), Failed>
 }
 
 /// Writes a piece.
-fn write_piece<S: Sink>(sink: &mut S, piece: Piece<'_>) -> Result<(), Failed>
-    ensures grown { IsWritten (S.seen sink.old).written (S.seen sink.new).written (piece_text piece) result }
+fn write_piece<S: Sink>(sink: &mut S, piece: &Piece<'_>) -> Result<(), Failed>
+    ensures grown { IsWritten (S.seen sink.old).written (S.seen sink.new).written (piece_text piece.now) result }
     ensures counted { (S.seen sink.old).faults ≤ (S.seen sink.new).faults }
     ensures failed { OnErr result ((S.seen sink.old).faults < (S.seen sink.new).faults) }
 {
     match piece {
         Piece::Text(text) => write_all(sink, text),
-        Piece::Number(number) => write_number(sink, number),
-        Piece::Signed(number) => write_signed(sink, number),
+        Piece::Number(number) => write_number(sink, *number),
+        Piece::Signed(number) => write_signed(sink, *number),
         Piece::Ratio(ratio) => write_ratio(sink, ratio),
     }
 }
@@ -78,7 +78,7 @@ pub fn write_line<S: Sink>(sink: &mut S, pieces: &[Piece<'_>]) -> Result<(), Fai
     ensures failed { OnErr result ((S.seen sink.old).faults < (S.seen sink.new).faults) }
 {
     for piece in pieces {
-        write_piece(sink, *piece)?;
+        write_piece(sink, piece)?;
     }
     Ok(())
 }

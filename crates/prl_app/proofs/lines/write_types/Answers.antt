@@ -16,8 +16,7 @@ pub returns-in-Arity-clause-grown : goal.returns-in-Arity-clause-grown
 returns-in-Arity-clause-grown g c = rw c.in-Arity.is c.write_placed.ensures.grown
 
 pub returns-in-Mismatch-clause-grown : goal.returns-in-Mismatch-clause-grown
-returns-in-Mismatch-clause-grown g c = rw c.in-Mismatch.is c.write_mismatch.ensures.grown
+returns-in-Mismatch-clause-grown g c = rw (c.in-Mismatch.is, ← c.text.ensures, ← c.as_bytes.ensures.value, ← c.text-in-Mismatch.ensures, ← c.as_bytes-in-Mismatch.ensures.value) c.write_line.ensures.grown
 
 pub returns-in-TypeFree-clause-grown : goal.returns-in-TypeFree-clause-grown
-returns-in-TypeFree-clause-grown g c =
-    rw (c.in-TypeFree.is, ← c.bytes-in-TypeFree.ensures.bytes, ← c.bytes-in-TypeFree-2.ensures.bytes) c.write_type_free.ensures.grown
+returns-in-TypeFree-clause-grown g c = rw (c.in-TypeFree.is, ← c.bytes-in-TypeFree.ensures.bytes, ← c.bytes-in-TypeFree-2.ensures.bytes) c.write_line-in-TypeFree.ensures.grown
