@@ -1,5 +1,5 @@
 -- Words of the form of a command, and what `clap` takes of them.
-use Rattle.std.proofs.Common.{◌≡◌, ◌&&◌, ◌==◌, ◌≤◌, ◌-◌, ◌^◌, ℕ, Bool, true, false, List, [], ◌∷◌, drop, length, Option, Some, None, is_some, nat_le, nat_lt, if◌then◌else◌, refl, sym, ap, subst, ◌∙◌, inl, inr, ◌⊎◌, cond, arith, le-ltb, lt-ltb, le-leb, leb-true, ne_eqb}
+use Rattle.std.proofs.Common.{◌≡◌, ◌&&◌, ◌==◌, ◌≤◌, ◌-◌, ◌^◌, ℕ, Bool, true, false, List, [], ◌∷◌, drop, length, Option, Some, None, is_some, nat_le, nat_lt, if◌then◌else◌, refl, sym, ap, subst, ◌∙◌, inl, inr, ◌⊎◌, cond, arith, le-ltb, lt-ltb, leb-true, ne_eqb}
 use Rattle.std.specs.Char.{digit_value, is_ascii_digit}
 use Rattle.std.specs.List.{list_all}
 use Rattle.std.specs.Str.Parse.{digits_value, without_leading_plus}

@@ -159,7 +159,7 @@ type Read<'a> = (Given<'a>, &'a [String]);
 type Files = (Option<Label>, Option<Label>, Option<Label>);
 
 /// All options.
-static SETTINGS: [Setting; 12] = [
+pub(crate) static SETTINGS: [Setting; 12] = [
     Setting::Program,
     Setting::Bodies,
     Setting::Sensors,

@@ -1,12 +1,14 @@
 //! What `clap` decides of a command line: whether the mode has each option and has each that it needs, and whether the
 //! date, the workers and the size are in their ranges.
 
-ghost use Rattle.std.specs.Prelude.{◌≡◌, IfOk, drop, false, map};
+ghost use Rattle.std.specs.Prelude.{◌≡◌, IfOk, drop, false, fold, map};
 ghost use Rattle.std.specs.String.{string_bytes};
 ghost use Rattle.clap.specs.Words.{app_of, new_app, rule_of};
-ghost use Rattle.prl_arguments.specs.code.Options.{app_of_mode, app_of_names, faults_of, is_taken, no_options, option_rule, parser_of, with_setting};
+ghost use Rattle.prl_arguments.specs.code.Options.{app_of_mode, faults_of, is_taken, no_options, option_rule, parser_of, with_setting};
 
-use crate::arguments::{MAX_SIZE, MAX_UNTIL, MAX_WORKERS, Mode, Setting, may, name_of, needs};
+use crate::arguments::{
+    MAX_SIZE, MAX_UNTIL, MAX_WORKERS, Mode, SETTINGS, Setting, may, name_of, needs,
+};
 use clap::builder::ValueParser;
 use clap::error::ErrorKind;
 use clap::{Arg, ArgAction, Command};
@@ -62,29 +64,29 @@ fn no_options<'a>(alloc: Global) -> Command<'a>
         .args_override_self(true)
 }
 
-/// The command of a mode with its options that name files and the main node.
-fn names_of<'a>(alloc: Global, mode: Mode) -> Result<Command<'a>, AllocError>
-    ensures { IfOk result (λ c. app_of c ≡ app_of_names mode) }
+/// A command with those of these options that the mode has.
+fn with_settings<'a>(
+    alloc: Global,
+    command: Command<'a>,
+    mode: Mode,
+    settings: &[Setting],
+) -> Result<Command<'a>, AllocError>
+    ensures { IfOk result (λ c. app_of c ≡ fold (with_setting mode) (app_of command.entry) settings.now) }
 {
-    let command = with_setting(alloc, no_options(alloc), mode, Setting::Program)?;
-    let command = with_setting(alloc, command, mode, Setting::Bodies)?;
-    let command = with_setting(alloc, command, mode, Setting::Sensors)?;
-    let command = with_setting(alloc, command, mode, Setting::Schedule)?;
-    with_setting(alloc, command, mode, Setting::Node)
+    match settings {
+        [] => Ok(command),
+        [first, rest @ ..] => {
+            let more = with_setting(alloc, command, mode, *first)?;
+            with_settings(alloc, more, mode, rest)
+        }
+    }
 }
 
 /// The command of a mode.
 fn command_of<'a>(alloc: Global, mode: Mode) -> Result<Command<'a>, AllocError>
     ensures { IfOk result (λ c. app_of c ≡ app_of_mode mode) }
 {
-    let command = names_of(alloc, mode)?;
-    let command = with_setting(alloc, command, mode, Setting::Until)?;
-    let command = with_setting(alloc, command, mode, Setting::Workers)?;
-    let command = with_setting(alloc, command, mode, Setting::Clock)?;
-    let command = with_setting(alloc, command, mode, Setting::Seed)?;
-    let command = with_setting(alloc, command, mode, Setting::Size)?;
-    let command = with_setting(alloc, command, mode, Setting::Cores)?;
-    with_setting(alloc, command, mode, Setting::Table)
+    with_settings(alloc, no_options(alloc), mode, &SETTINGS)
 }
 
 /// The words after the first.

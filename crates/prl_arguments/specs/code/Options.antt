@@ -38,11 +38,6 @@ with_setting mode app setting =
 abbrev pub no_options : App
 no_options = on_top (λ s. record s { disable_help_flag = true; args_override_self = true }) (new_app (codes "prelude"))
 
--- the command of a mode with its options that name files and the main node
-abbrev pub app_of_names : Mode → App
-app_of_names mode =
-    fold (with_setting mode) no_options (settings.Program ∷ settings.Bodies ∷ settings.Sensors ∷ settings.Schedule ∷ settings.Node ∷ [])
-
 -- the command of a mode
 abbrev pub app_of_mode : Mode → App
 app_of_mode mode = fold (with_setting mode) no_options all_settings
