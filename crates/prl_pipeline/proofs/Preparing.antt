@@ -93,12 +93,16 @@ module _ (g : Given) (r : Ready) (ready : IsReady g r) where
     }
 
     pub text_of_is : (text : List ℕ) → text ≡ actuator_text r.horizon.until outs → IsTextOf g r gate text (runs.Ended closed)
-    text_of_is text written = (ready.execution, ready.made, record {
-      closed = closed;
-      ended = refl;
-      run = board_has_run;
-      written = written ∙ ap (λ (until : ℕ). actuator_text until outs) until_is ∙ ap (actuator_text g.until) shown_meant;
-    })
+    text_of_is text written = (
+      ready.execution,
+      ready.made,
+      record {
+        closed = closed;
+        ended = refl;
+        run = board_has_run;
+        written = written ∙ ap (λ (until : ℕ). actuator_text until outs) until_is ∙ ap (actuator_text g.until) shown_meant;
+      },
+    )
 
   pub overrun_is : (gate : Gate) (stopped : Stopped) → HasStopped (known_of r gate) stopped → HasOverrun g gate r.plan stopped
   overrun_is gate stopped has = record {

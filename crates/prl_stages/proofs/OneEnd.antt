@@ -41,7 +41,6 @@ use Rattle.prl_stages.proofs.OneTable.{TableLaws, made_apart, made_one, table_ap
 use Rattle.prl_stages.proofs.OneRun.{RunLaws, horizon_apart, horizon_one, schedule_apart, schedule_one}
 use Rattle.prl_stages.proofs.Told.{grammar_told, types_told, clocks_told, bodies_told, sensors_told, same_told}
 use Rattle.prl_stages.specs.Stages.{Holds, Refuses, Comes}
-
 use Rattle.prl_stages.proofs.OneParts as ones
 use Rattle.prl_stages.proofs.OneParts.{PartLaws, ok_ok, ok_err, err_err}
 

@@ -76,7 +76,7 @@ module _ (law : TableLaws) (runs : RunLaws) (g : Given) (one_graph : (a b : Task
   one_table_fault plan a b h k s t =
       let read = entries_of plan.graph.hyper (text_of g parts.Table) in
       elim s [
-        | inl u ↦ elim t [ | inl v ↦ one_cause read a b u v | inr v ↦ absurd (read_apart read v.0 a v.1 u) ]
+        | inl u ↦ elim t [ inl v ↦ one_cause read a b u v | inr v ↦ absurd (read_apart read v.0 a v.1 u) ]
         | inr u ↦ elim t [
           | inl v ↦ absurd (read_apart read u.0 b u.1 v)
           | inr v ↦ law.one_fault plan u.0 a b h k u.2 (subst (λ (x : List Entry). IsFault plan x b) (one_read read v.0 u.0 v.1 u.1) v.2)

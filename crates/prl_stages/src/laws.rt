@@ -41,8 +41,8 @@ use prl_replay::{actuators_get_the_outputs, replays_end_one_way, whole_lists_are
 use prl_schedules::plans_are_dispatched;
 use prl_sensors::rows_are_typed_and_enough;
 use prl_solutions::programs_have_one_solution;
-use prl_table::{checks_end_one_way, makes_end_one_way};
 use prl_syntax::each_text_has_one_outcome as programs_outcome;
+use prl_table::{checks_end_one_way, makes_end_one_way};
 use prl_types::{each_program_has_an_outcome, outcome_is_unique};
 use prl_values::{job_values_are_one, job_values_exist};
 

@@ -18,5 +18,7 @@ pub use laws::{
     whole_schedules_are_replayed,
 };
 pub use ran::Ran;
-pub use sizes::{MAX_BODIES, MAX_CORES, MAX_PROGRAM, MAX_SCHEDULE, MAX_SENSORS, MAX_TABLE, most_of};
+pub use sizes::{
+    MAX_BODIES, MAX_CORES, MAX_PROGRAM, MAX_SCHEDULE, MAX_SENSORS, MAX_TABLE, most_of,
+};
 pub use stages::{Stage, Stop};

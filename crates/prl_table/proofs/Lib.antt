@@ -5,4 +5,5 @@ mod MadeRuns
 mod Cuts
 mod MadeLaw
 mod MadeCode
+mod OneMake
 mod Driven

@@ -39,6 +39,7 @@ pub record IsFirstUnsteady (plan : PlanView) (run : ℕ → Option (ℕ × ℕ))
 pub record IsLongRun (plan : PlanView) (horizon : Horizon) (timed : Timed) : Type 0 where
   pub is_horizon : IsHorizon plan horizon
   pub until : horizon.until ≡ run_until plan
+  pub near : run_until plan ≤ 2147483647
   pub run : IsFeasibleRun (constants_of plan horizon) (wcets_of plan) timed
 
 -- the pieces of that run in the hyperperiod that is cut out, in order
@@ -55,7 +56,7 @@ abbrev pub IsMakeFault : PlanView → MakeFault → Type 0
 IsMakeFault plan (faults.TooFar tick) = (tick ≡ run_until plan) × (2147483647 < tick)
 IsMakeFault plan (faults.Limit limit) = (run_until plan ≤ 2147483647) × IsPastLimit plan (run_until plan) limit
 IsMakeFault plan (faults.Overload from to demand) =
-    (horizon : Horizon) × IsHorizon plan horizon × (horizon.until ≡ run_until plan)
+    (run_until plan ≤ 2147483647) × (horizon : Horizon) × IsHorizon plan horizon × (horizon.until ≡ run_until plan)
     × IsVerdict (constants_of plan horizon) (wcets_of plan) (verdicts.Overload from to demand)
 IsMakeFault plan (faults.Unsteady at first second) =
     (horizon : Horizon) × (timed : Timed) × IsLongRun plan horizon timed × IsFirstUnsteady plan (run_of timed.pieces) at first second

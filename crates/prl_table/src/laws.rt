@@ -1,6 +1,6 @@
 //! Laws of tables that are cut out of runs.
 
-ghost use Rattle.std.specs.Prelude.{◌≡◌, ◌+◌, ◌*◌, ◌<◌, ◌≤◌, ℕ, List, Option, length};
+ghost use Rattle.std.specs.Prelude.{◌≡◌, ◌≢◌, ◌+◌, ◌*◌, ◌<◌, ◌≤◌, ℕ, List, Option, length};
 ghost use Rattle.std.specs.List.Sorted.{IsPermutation};
 ghost use Rattle.prl_plan.specs.declared.horizons.Horizon.{Horizon};
 ghost use Rattle.prl_plan.specs.Horizons.{constants_of};
@@ -11,9 +11,13 @@ ghost use Rattle.prl_edf.specs.MetWindows.{MeetsAllWindows};
 ghost use Rattle.prl_edf.specs.UnitLists.{wcets_of};
 ghost use Rattle.prl_tables.specs.declared.tables.Entry.{Entry as AnyEntry};
 ghost use Rattle.prl_tables.specs.Tables.{classes, IsGood};
+ghost use Rattle.prl_table.specs.declared.making.MakeFault.{MakeFault as AnyFault};
+ghost use Rattle.prl_table.specs.declared.making.MakeFault.TheVariants as faults;
+ghost use Rattle.prl_table.specs.MakeFaults.{IsMade, IsMakeFault};
 ghost use Rattle.prl_table.specs.Made.{Run, cut_from, cut_to, run_until, IsRun, IsTimed, IsEdf, IsSteady, IsSteadyRun, IsCut};
 
-use prl_plan::horizon_jobs_are_counted;
+use prl_edf::{feasibility, verdicts_are_one};
+use prl_plan::{horizon_jobs_are_counted, horizons_end_one_way, plans_keep_facts};
 
 /// A timed run by earliest deadlines that meets all windows is such a run.
 pub fn edf_run_is_run()
@@ -37,4 +41,17 @@ pub fn made_table_is_good()
         IsSteadyRun plan run → (entries : List AnyEntry) → IsPermutation (cut_to plan run (cut_from plan) plan.graph.hyper) entries → IsGood plan entries }
 {
     horizon_jobs_are_counted();
+}
+
+/// Of a plan a table is made or there is a fault, not both; and there is one fault. Want of memory is none.
+pub fn makes_end_one_way()
+    ensures not_both { (plan : PlanView) → IsPlan plan → (entries : List AnyEntry) → IsMade plan entries → (fault : AnyFault) → fault ≢ faults.Memory →
+        IsMakeFault plan fault → ⊥ }
+    ensures one { (plan : PlanView) → IsPlan plan → (a b : AnyFault) → a ≢ faults.Memory → b ≢ faults.Memory →
+        IsMakeFault plan a → IsMakeFault plan b → a ≡ b }
+{
+    horizons_end_one_way();
+    plans_keep_facts();
+    feasibility();
+    verdicts_are_one();
 }

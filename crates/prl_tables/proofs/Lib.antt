@@ -1,5 +1,6 @@
 pub mod Unrolling
 mod GoodTables
+mod OneFault
 pub mod Ends
 pub mod Shifts
 mod FourTests

@@ -12,6 +12,9 @@ ghost use Rattle.prl_tables.specs.declared.tables.Entry.{Entry as AnyEntry};
 ghost use Rattle.prl_edf.specs.Unrolled.{HaveOneEnd};
 ghost use Rattle.prl_tables.specs.Tables.{classes, end_of, last_unit, IsGood, IsPiece};
 ghost use Rattle.prl_tables.specs.TableTexts.{entries_of, text_of, AreOrdered, FitsEntry};
+ghost use Rattle.prl_tables.specs.declared.reading.TableFault.{TableFault as AnyFault};
+ghost use Rattle.prl_tables.specs.declared.reading.TableFault.TheVariants as faults;
+ghost use Rattle.prl_tables.specs.Checks.{IsFault};
 ghost use Rattle.prl_tables.specs.Unrolled.{Placing, unrolled, IsPlacing};
 
 use prl_edf::actions_end_once;
@@ -89,4 +92,12 @@ pub fn pieces_are_short()
 pub fn class_has_end()
     ensures { (plan : PlanView) → IsPlan plan → (entries : List AnyEntry) → IsGood plan entries → (i c : ℕ) → i < length plan.graph.tasks →
         c < classes plan.graph i → 1 ≤ end_of entries i c }
+{}
+
+/// A table of a plan is good or has a fault, not both; and it has one fault. Want of memory is none.
+pub fn checks_end_one_way()
+    ensures not_both { (plan : PlanView) (entries : List AnyEntry) → IsGood plan entries → (fault : AnyFault) → fault ≢ faults.Memory →
+        IsFault plan entries fault → ⊥ }
+    ensures one { (plan : PlanView) (entries : List AnyEntry) (a b : AnyFault) → a ≢ faults.Memory → b ≢ faults.Memory →
+        IsFault plan entries a → IsFault plan entries b → a ≡ b }
 {}
