@@ -376,8 +376,8 @@ impl TaskSeat {
         self.worker.end();
     }
 
-    /// The machine of a node task's body. It has made one step for each ended job, and one more where
-    /// the body has run for the open job.
+    /// The machine of a node task's body, as many steps on as jobs have ended; and a step more once the
+    /// open job has run its body.
     pub fn machine(&self) -> &Machine
         requires { (k : Constants) × (self.now.view.constants ≡ Some k) × IsNodeTask k self.now.task.0 }
         ensures { (k : Constants) → self.entry.now.view.constants ≡ Some k → IsMachineOf k self.entry.now result.now }

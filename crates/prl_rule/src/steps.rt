@@ -256,7 +256,7 @@ pub fn bare_seat_may_enter()
 
 /// Words, views and the state of the list of events agree: no part stands in two views, each view
 /// that is not spent has the constants of the run, each part says how its task or the clock stands,
-/// and no task has ended more than its horizon jobs. On a gated board each horizon job that is due
+/// and no task has more ended jobs than jobs of the horizon. On a gated board each horizon job that is due
 /// has ended.
 pub fn parts_agree_with_one_state()
     ensures tasks { (k : Constants) (c : RunConstants) (v : RunValues) (w : Witness) (es : List Event)
