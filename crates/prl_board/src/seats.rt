@@ -205,8 +205,8 @@ impl TaskSeat {
         self.job.stands();
     }
 
-    /// Where the task stands. It is `Over` exactly where no horizon job of the task is left, and `Idle` exactly where one is
-    /// left and none is open; else it is the open job's next action.
+    /// Where the task stands: the next action of its open job, else `Idle` where a job of the horizon
+    /// has still to come, and `Over` where none has.
     pub fn place(&self) -> Place
         ensures { result ≡ place_of self.now.stage }
     {
