@@ -24,7 +24,7 @@ pub record ClosedView : Type 0 where
   pub seats : List JobSeatView
 
 -- The run has come to this state: a list of events has led to it, a free one, and on a gated board a gated one. The words and the seats show it:
--- each half's word has the tag of the latest instance that was written to it, with this half of its value.
+-- the word of a half tells which instance was written there last, and that half of its value.
 pub record IsLastState (k : Constants) (words : List ℕ) (seats : List JobSeatView) (s : ExecState) : Type 0 where
   pub events : List Event
   pub free : IsFree (run_of k) (opening (run_of k)) events

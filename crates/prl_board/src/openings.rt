@@ -34,7 +34,7 @@ fn task_seats(alloc: Global, board: &Board, seat: &mut Seat) -> Result<Vec<TaskS
 }
 
 /// The board of a run at its opening, with a seat for each task, in their order, and the clock's seat: `now` is 0, no job has
-/// begun, and every cell is empty. All memory of the run is taken here.
+/// begun, and every cell is empty. What follows takes no memory.
 pub fn open_board<'a>(
     alloc: Global,
     plan: &'a Plan,

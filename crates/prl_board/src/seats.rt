@@ -205,8 +205,8 @@ impl TaskSeat {
         self.job.stands();
     }
 
-    /// Where the task stands. It is `Over` exactly where no horizon job of the task is left, and `Idle` exactly where one is
-    /// left and none is open; else it is the open job's next action.
+    /// Where the task stands: the next action of its open job, else `Idle` where a job of the horizon
+    /// has still to come, and `Over` where none has.
     pub fn place(&self) -> Place
         ensures { result ≡ place_of self.now.stage }
     {
@@ -376,8 +376,8 @@ impl TaskSeat {
         self.worker.end();
     }
 
-    /// The machine of a node task's body. It has made one step for each ended job, and one more where
-    /// the body has run for the open job.
+    /// The machine of a node task's body, as many steps on as jobs have ended; and a step more once the
+    /// open job has run its body.
     pub fn machine(&self) -> &Machine
         requires { (k : Constants) × (self.now.view.constants ≡ Some k) × IsNodeTask k self.now.task.0 }
         ensures { (k : Constants) → self.entry.now.view.constants ≡ Some k → IsMachineOf k self.entry.now result.now }

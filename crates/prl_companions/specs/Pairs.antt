@@ -12,7 +12,7 @@ abbrev pub is_option : List ℕ → List (List ℕ) → Bool
 is_option word [] = false
 is_option word (option ∷ options) = bytes_eq option word || is_option word options
 
--- a value is not empty, and does not begin with `-`
+-- a value has some bytes, of which the first is no `-`
 abbrev pub is_value : List ℕ → Bool
 is_value [] = false
 is_value (b ∷ bs) = not (b == 45)

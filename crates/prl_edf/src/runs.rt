@@ -155,9 +155,9 @@ fn go_on(
 }
 
 /// What the plain run by earliest deadline first comes to in which the jobs have these units: a
-/// list for each task, with a number from 1 to its WCET for each of its jobs. Each tick goes to a
-/// released job with units left that is due first, of several the one of the lowest task, and to
-/// none only where there is none.
+/// list for each task, with a number from 1 to its WCET for each of its jobs. A tick goes to the
+/// job that is due first of those that are released and not done, of several to that of the lowest
+/// task; it is idle where all are done.
 pub fn run_units(
     alloc: Global,
     plan: &Plan,

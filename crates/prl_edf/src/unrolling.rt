@@ -165,8 +165,8 @@ fn unroll(
 }
 
 /// The events of a run by earliest deadline first that meets all windows, in which no job has more
-/// units than its WCET: all acts of a job at the beginning of its last unit, and the ticks between.
-/// The list is legal and complete.
+/// units than its WCET. Where the last unit of a job begins, the job does all that it has to do; ticks
+/// lead from one such place to the next. They are a whole schedule.
 pub fn events_of(
     alloc: Global,
     plan: &Plan,

@@ -10,7 +10,7 @@ use prl_base::TaskNo;
 use prl_board::{Board, Got, Place, Release, TaskSeat};
 use prl_io::Probe;
 
-/// What one worker calls after a job is opened and before its first action.
+/// What one worker calls for each job that it opens, ahead of what the job does.
 pub(crate) trait Watch {
     fn before(&self, task: TaskNo, job: u64);
 }

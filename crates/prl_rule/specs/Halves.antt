@@ -17,7 +17,7 @@ low_half value = bits_of value % 2 ^ 32
 abbrev pub high_half : Value → ℕ
 high_half value = bits_of value / 2 ^ 32 % 2 ^ 32
 
--- a value of this type has these halves: a Boolean's low half is 0 or 1, and its high half is 0
+-- a value of this type has these halves: of a Boolean the low one tells it, as 0 or 1, and the high one is 0
 abbrev pub AreHalves : Ty → ℕ → ℕ → Type 0
 AreHalves types.Int low high = (low < 2 ^ 32) × (high < 2 ^ 32)
 AreHalves types.Bool low high = (low < 2) × (high ≡ 0)

@@ -164,8 +164,8 @@ pub fn load_of_done_is_kept()
         slice_index words (done_word i) ≡ p.stand.ended }
 {}
 
-/// A raise is no event. It comes where the seat stands at a read of a half, of which it has loaded
-/// a later tag than the wanted one; on a gated board no seat ever does.
+/// A raise is no event. It comes from a seat that wants to read a half and has loaded a tag of it
+/// past the one that it wants; on a gated board no seat ever does.
 pub fn raise_is_no_event()
     ensures keeps { (k : Constants) (c : RunConstants) (v : RunValues) (w : Witness) (es : List Event)
         (words : List ℕ) (views : List View) (id i count : ℕ) (view : View) (p : TaskPart) →
@@ -256,7 +256,7 @@ pub fn bare_seat_may_enter()
 
 /// Words, views and the state of the list of events agree: no part stands in two views, each view
 /// that is not spent has the constants of the run, each part says how its task or the clock stands,
-/// and no task has ended more than its horizon jobs. On a gated board each horizon job that is due
+/// and no task has more ended jobs than jobs of the horizon. On a gated board each horizon job that is due
 /// has ended.
 pub fn parts_agree_with_one_state()
     ensures tasks { (k : Constants) (c : RunConstants) (v : RunValues) (w : Witness) (es : List Event)

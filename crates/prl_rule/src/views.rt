@@ -42,7 +42,7 @@ pub struct KeptHalf {
     pub word: u64,
     /// Of which half: twice the cell's number, and 1 more where it is the high half.
     pub slot: u64,
-    /// The low half of an operand that is half read.
+    /// The low half of the operand that is being read, once it is there.
     pub low: u64,
 }
 

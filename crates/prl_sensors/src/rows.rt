@@ -239,8 +239,8 @@ fn kept(alloc: Global, rows: Vec<Vec<Value>>) -> Result<Sensors, AllocError>
 /// The rows of the sensors of main's inputs, whose names, types and numbers of rows that are needed stand in the order
 /// of the inputs. A text has records as `csv` reads them, with any number of fields and no header, after a byte order
 /// mark. Each is a row: the name of an input, the number of its next instance in decimal, and a value of its type, where
-/// an integer is digits after at most one `-`, with leading zeros or without. A first record `name,instance,value` is
-/// passed over. More rows than are needed are kept. The first record that is no row is refused, by its fields, its name,
+/// an integer is digits after at most one `-`, with leading zeros or without. The first record may be
+/// the header `name,instance,value`. More rows than are needed are kept. The first record that is no row is refused, by its fields, its name,
 /// its instance and its value in this order; and after all records the first input with too few rows.
 pub fn read_sensors(
     alloc: Global,
