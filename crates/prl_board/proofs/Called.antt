@@ -30,7 +30,8 @@ use Rattle.prl_seats.specs.JobSeats.{reseated}
 use Rattle.prl_board.specs.code.Lent.{AreLent, IsClockReturned, IsElsewhere, IsLent, IsLentClock, IsReturned}
 use Rattle.atomic_table.proofs.Lists.{set_else as part_else}
 use Rattle.prl_seats.proofs.Following.{ended_is, known_once}
-use Rattle.prl_board.proofs.Lending.{follows_with, read_there, relent, set_else, set_here}
+use Rattle.prl_board.proofs.Lending.{follows_with, relent}
+use Rattle.prl_board.proofs.Lists.{read_there, set_else, set_here}
 
 -- a view with no part has none of the clock
 pub bare_has_no_clock : (k : Constants) (u : View) (r : ClockPart) {A : Type 0} → u ≡ bare k → u.clock ≡ Some r → A
@@ -106,7 +107,7 @@ write_elsewhere k s t wrote stages.Over answer = absurd answer
 write_elsewhere k s t wrote stages.Idle answer = absurd answer
 write_elsewhere k s t wrote (stages.At (actions.ReadConst port value)) answer = absurd answer
 write_elsewhere k s t wrote (stages.At (actions.Read port e m slot)) answer = absurd answer
-write_elsewhere k s t wrote (stages.At (actions.Write e m slot)) answer = elsewhere_with s.task.0 _ s.view t.view answer.1
+write_elsewhere k s t wrote (stages.At (actions.Write e m slot)) answer = elsewhere_with s.task.0 _ s.view t.view answer.1.view
 write_elsewhere k s t wrote (stages.At actions.End) answer = absurd answer
 
 -- the seat of a task gives the view back

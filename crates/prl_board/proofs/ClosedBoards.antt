@@ -1,25 +1,29 @@
 -- What the table says at the end is what a closed board shows.
-use Rattle.std.proofs.Common.{◌≡◌, ◌<◌, ℕ, zero, suc, List, [], ◌∷◌, length, get_or, refl, sym, ◌∙◌, subst, arith, Bool, Some}
+use Rattle.std.proofs.Common.{◌≡◌, ◌<◌, ℕ, zero, suc, List, [], ◌∷◌, length, get_or, inl, inr, refl, sym, ◌∙◌, subst, arith, Bool, Some}
+use Rattle.std.proofs.lemmas.Bool.{cases_lt}
+use Rattle.std.proofs.lemmas.List.{get_or_past}
 use Rattle.std.proofs.lemmas.Option.{slice_get_within}
 use mathlib.Core.Option.{some, some-injective, some-ne-none}
 use lib.ListN.{get_elem?}
 use Rattle.std.specs.Prelude.{slice_get}
 use Rattle.prl_rule.specs.declared.views.ClockPart.{ClockPart}
 use Rattle.prl_rule.specs.declared.views.Constants.{Constants}
+use Rattle.prl_rule.specs.declared.views.TaskPart.{TaskPart}
 use Rattle.prl_rule.specs.declared.views.View.{View}
 use Rattle.prl_rule.specs.Told.{part_of}
 use Rattle.prl_plan.specs.Rules.{IsComplete}
 use Rattle.prl_plan.specs.Runs.{ExecState, RunConstants}
 use Rattle.prl_seats.specs.declared.jobs.Stage.{Stage}
 use Rattle.prl_seats.specs.declared.jobs.Stage.TheVariants as stages
-use Rattle.prl_board.specs.Closings.{IsClosed, IsLastState}
+use Rattle.prl_board.specs.Closings.{IsClosed, IsLastState, KeepsTag}
 use Rattle.prl_seats.specs.JobSeats.{IsStage, JobSeatView}
-use Rattle.prl_rule.specs.Known.{run_of}
+use Rattle.prl_rule.specs.Known.{run_of, values_of}
 use Rattle.prl_rule.specs.Rule.{reached}
 use Rattle.prl_seats.specs.Boards.{IsClosing}
 use Rattle.prl_board.specs.code.Lent.{IsLent, IsSettled}
 use Rattle.prl_rule.specs.PlanLaws.{PlanLaws}
-use Rattle.prl_board.proofs.Lending.{seat_there}
+use Rattle.prl_rule.proofs.HalfSteps.{loaded_tag}
+use Rattle.prl_board.proofs.Lists.{seat_there}
 
 pub closed_from : (k : Constants) → PlanLaws → (view : View) (words : List ℕ) (seats : List JobSeatView) → IsClosing k view words →
     length seats ≡ (run_of k).tasks → ((i : ℕ) (s : JobSeatView) → slice_get seats i ≡ Some s → IsLent k view i s) →
@@ -97,3 +101,17 @@ not_over k words seats i t closed has left s last complete =
 pub closing_clock : (k : Constants) (view : View) (words : List ℕ) → IsClosing k view words → (r : ClockPart) → view.clock ≡ Some r → get_or words 0 0 ≡ r.now
 closing_clock k view words closing r part =
     closing.4.shows.now ∙ sym ((closing.4.each_view closing.3 view closing.5).clock r part).2.now
+
+-- what was loaded of a half, its word has not fallen below
+pub closing_tags : (k : Constants) → PlanLaws → (view : View) (words : List ℕ) → IsClosing k view words → (i : ℕ) (p : TaskPart) → get_elem? view.tasks i ≡ some (Some p) → KeepsTag k p.kept words
+closing_tags k laws view words closing i p has =
+    let a = closing.4 in
+    let es = closing.1 in
+    let tag = ((a.each_view closing.3 view closing.5).task i p has).2.kept.tag in
+    elim (cases_lt p.kept.slot (run_of k).slots) [
+      | inl inside ↦ (let same = loaded_tag k (run_of k) (values_of k) closing.0 es words closing.2 p.kept.slot a inside in omega (arith, tag, same))
+      | inr outside ↦
+          (let wide = (laws.tagged (run_of k) a.facts es a.free).tags in
+          let none : get_or (reached (run_of k) es).tags p.kept.slot 0 ≡ 0 = get_or_past (reached (run_of k) es).tags p.kept.slot 0 (omega (arith, wide, outside)) in
+          omega (arith, tag, none))
+    ]

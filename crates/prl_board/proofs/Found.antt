@@ -1,26 +1,28 @@
--- What a read finds is what its half holds in the whole state.
-use Rattle.std.proofs.Common.{◌≡◌, ◌+◌, ◌-◌, ◌/◌, ◌%◌, ◌^◌, ◌<◌, ℕ, zero, suc, List, [], ◌∷◌, get_or, take, refl, sym, ap, ◌∙◌, subst, arith, Some}
-use Rattle.std.proofs.Math.Nat.{mod-lt}
+-- What a read finds is what its half holds in the whole state, and what a write leaves.
+use Rattle.std.proofs.Common.{◌≡◌, ◌+◌, ◌-◌, ◌/◌, ◌^◌, ◌<◌, ℕ, zero, suc, Bool, List, [], ◌∷◌, cond, eq-eqb, get_or, take, refl, sym, ap, ◌∙◌, subst, arith, Some}
 use Rattle.std.specs.Prelude.{slice_get}
+use Rattle.prl_base.specs.declared.numbers.EdgeNo.{EdgeNo}
 use Rattle.prl_base.specs.declared.values.Value.{Value}
 use Rattle.prl_plan.specs.declared.events.Action.{Action}
 use Rattle.prl_plan.specs.declared.events.Action.TheVariants as actions
 use Rattle.prl_plan.specs.declared.events.SlotNo.{SlotNo}
 use Rattle.prl_plan.specs.LastTags.{last_in, last_tag, tag_after, tag_of_jobs}
-use Rattle.prl_plan.specs.Runs.{RunConstants}
+use Rattle.prl_plan.specs.Facts.{HasPlanFacts}
+use Rattle.prl_plan.specs.Runs.{RunConstants, action_at}
 use Rattle.prl_rule.specs.declared.views.Constants.{Constants}
 use Rattle.prl_rule.specs.declared.views.Standing.{Standing}
 use Rattle.prl_rule.specs.declared.views.TaskPart.{TaskPart}
 use Rattle.prl_rule.specs.declared.views.View.{View}
 use Rattle.prl_rule.specs.Known.{run_of, values_of}
-use Rattle.prl_rule.specs.Halves.{bits_of, tagged}
-use Rattle.prl_rule.specs.RunValues.{RunValues, half_of, half_with, word_of}
-use Rattle.prl_rule.specs.Told.{part_of}
+use Rattle.prl_rule.specs.Told.{part_at, part_of}
 use Rattle.prl_board.specs.declared.seats.Got.{Got}
 use Rattle.prl_board.specs.declared.seats.Got.TheVariants as gots
-use Rattle.prl_seats.specs.JobSeats.{Follows, JobSeatView}
-use Rattle.prl_board.specs.Lones.{FindsTag, tag_found}
-use Rattle.prl_board.specs.TaskSeats.{AnswersHalf, AnswersRead, ReadsHalf}
+use Rattle.prl_board.specs.declared.seats.Wrote.{Wrote}
+use Rattle.prl_seats.specs.declared.jobs.Stage.{Stage}
+use Rattle.prl_seats.specs.JobSeats.{Follows, IsStage, JobSeatView}
+use Rattle.prl_board.specs.Lones.{FindsTag, LeavesTag, tag_found}
+use Rattle.prl_board.specs.TaskSeats.{AnswersHalf, AnswersRead, AnswersWrite, ReadsHalf, WritesAction}
+use Rattle.prl_rule.proofs.HalfSteps.{word_tag}
 use Rattle.prl_seats.proofs.Following.{ended_is}
 
 abbrev IsConstant : Action → Type 0
@@ -29,25 +31,31 @@ IsConstant action = (port : ℕ) × (value : Value) × (action ≡ actions.ReadC
 constant_leaves : (slot tag : ℕ) (action : Action) → IsConstant action → tag_after slot tag action ≡ tag
 constant_leaves slot tag action is = ap (tag_after slot tag) is.2
 
-nothing_left : (slot tag n : ℕ) → last_in slot tag (take n []) ≡ tag
-nothing_left slot tag zero = refl
-nothing_left slot tag (suc n) = refl
+-- one more action
+last_more : (slot tag : ℕ) (list : List Action) (p : ℕ) → last_in slot tag (take (p + 1) list) ≡ tag_after slot (last_in slot tag (take p list)) (get_or list p actions.End)
+last_more slot tag list p = subst (λ (q : ℕ). last_in slot tag (take q list) ≡ tag_after slot (last_in slot tag (take p list)) (get_or list p actions.End)) (let e : suc p ≡ p + 1 = omega arith in e) (go tag list p)
+  where
+    go : (tag : ℕ) (xs : List Action) (n : ℕ) → last_in slot tag (take (suc n) xs) ≡ tag_after slot (last_in slot tag (take n xs)) (get_or xs n actions.End)
+    go tag [] zero = refl
+    go tag [] (suc n) = refl
+    go tag (x ∷ xs) zero = refl
+    go tag (x ∷ xs) (suc n) = go (tag_after slot tag x) xs n
 
 -- the reads of constants leave each tag
 list_leaves : (slot tag : ℕ) (list : List Action) (p count : ℕ) → ((j : ℕ) → j < count → IsConstant (get_or list (p + j) actions.End)) → last_in slot tag (take (p + count) list) ≡ last_in slot tag (take p list)
 list_leaves slot tag list p zero all = (let e : p + 0 ≡ p = omega arith in λ h. last_in slot tag (take (e h) list))
-list_leaves slot tag [] p (suc count) all = nothing_left slot tag (p + suc count) ∙ sym (nothing_left slot tag p)
-list_leaves slot tag (x ∷ list) (suc p) (suc count) all =
-    let e : suc p + suc count ≡ suc (p + suc count) = omega arith in
-    (λ h. last_in slot tag (take (e h) (x ∷ list)))
-    ∙ list_leaves slot (tag_after slot tag x) list p (suc count)
-    (λ j below. let at : suc p + j ≡ suc (p + j) = omega arith in subst (λ (n : ℕ). IsConstant (get_or (x ∷ list) n actions.End)) at (all j below))
-list_leaves slot tag (x ∷ list) zero (suc count) all =
-    let e : 0 + suc count ≡ suc (0 + count) = omega arith in
-    (λ h. last_in slot tag (take (e h) (x ∷ list)))
-    ∙ list_leaves slot (tag_after slot tag x) list 0 count
-    (λ j below. let at : 0 + suc j ≡ suc (0 + j) = omega arith in subst (λ (n : ℕ). IsConstant (get_or (x ∷ list) n actions.End)) at (all (suc j) (omega (arith, below))))
-    ∙ constant_leaves slot tag x (all 0 (omega arith))
+list_leaves slot tag list p (suc count) all =
+    let e : p + suc count ≡ p + count + 1 = omega arith in
+    (λ h. last_in slot tag (take (e h) list)) ∙ last_more slot tag list (p + count)
+    ∙ constant_leaves slot (last_in slot tag (take (p + count) list)) (get_or list (p + count) actions.End) (all count (omega arith))
+    ∙ list_leaves slot tag list p count (λ j below. all j (omega (arith, below)))
+
+-- a write leaves the tag of its instance
+write_leaves : (c : RunConstants) (i n place m : ℕ) (e : EdgeNo) (slot : SlotNo) → action_at c i n place ≡ actions.Write e m slot → last_tag c i slot.0 n (place + 1) ≡ m + 1
+write_leaves c i n place m e slot is =
+    last_more slot.0 (tag_of_jobs c i slot.0 n) (c.actions i n) place
+    ∙ ap (tag_after slot.0 (last_tag c i slot.0 n place)) is
+    ∙ ap (λ (b : Bool). cond b (m + 1) (last_tag c i slot.0 n place)) (eq-eqb slot.0 slot.0 refl)
 
 -- the tag that a task left is the same by its part and by its seat
 pub lag_leaves : (k : Constants) (u : View) (i job place slot : ℕ) {stage : _} → Follows k u i job place stage →
@@ -60,18 +68,6 @@ lag_leaves k u i job place slot follows =
     let ended : at.ended ≡ job = ended_is k i place u ∙ follows.ended in
     sym (list_leaves slot (tag_of_jobs c i slot at.ended) (c.actions i at.ended) at.place (place - at.place) follows.at.read.constants)
     ∙ (λ h. last_tag c i slot (ended h) (sym all h))
-
-half_small : (value : Value) (h : ℕ) → half_with value h < 2 ^ 32
-half_small value zero = mod-lt (bits_of value) (omega arith)
-half_small value (suc h) = mod-lt (bits_of value / 2 ^ 32) (omega arith)
-
-tag_back : (tag half : ℕ) → half < 2 ^ 32 → tagged tag half / 2 ^ 32 ≡ tag
-tag_back tag half small = omega (arith, small)
-
--- the tag of a word
-word_tag : (v : RunValues) (h tag : ℕ) → word_of v h tag / 2 ^ 32 ≡ tag
-word_tag v h zero = refl
-word_tag v h (suc m) = tag_back (suc m) (half_of v h m) (half_small (v.stored (h / 2) m) (h % 2))
 
 -- the tag that an answer names was loaded
 found_is : (k : Constants) (m : ℕ) (slot : SlotNo) (before after : JobSeatView) (word : ℕ) (got : Got) → AnswersHalf k m slot before after word got → tag_found m got ≡ word / 2 ^ 32
@@ -91,3 +87,14 @@ read_is_exact k before after got seats follows answer = λ port e m slot is j x 
     ∙ ap (λ (n : ℕ). n / 2 ^ 32) (told.told.own j part its.at.part writer)
     ∙ word_tag (values_of k) slot.0 (last_tag (run_of k) j slot.0 part.stand.ended part.stand.place)
     ∙ lag_leaves k before.view j x.job x.place slot.0 its
+
+pub write_is_exact : (k : Constants) → HasPlanFacts (run_of k) → (i : ℕ) (before after t : JobSeatView) (wrote : Wrote) (seats : List JobSeatView) → Follows k before.view i before.job before.place before.stage →
+    AnswersWrite k before after wrote before.stage → slice_get seats i ≡ Some t → t.job ≡ after.job → t.place ≡ after.place → LeavesTag (run_of k) seats before.stage
+write_is_exact k facts i before after t wrote seats follows answer there job place = λ e m slot is j x writer has.
+    let c : RunConstants = run_of k in
+    let shown = subst (λ (z : Stage). IsStage c i before.job before.place (part_at k i before.place before.view).stand.is_open z) is follows.shown in
+    let told : WritesAction k before after wrote (actions.Write e m slot) = subst (AnswersWrite k before after wrote) is answer in
+    let own : i ≡ j = writer i before.job before.place m (record { job = record { task = follows.task; job = shown.1 }; action = (e, shown.2) }) in
+    let one : t ≡ x = (let same : Some t ≡ Some x = sym there ∙ ap (slice_get seats) own ∙ has in cc same) in
+    sym (write_leaves c i before.job before.place m e slot shown.2)
+    ∙ (λ h. last_tag c (own h) slot.0 ((sym (told.2.job) ∙ sym job ∙ ap (λ (s : JobSeatView). s.job) one) h) ((sym (told.2.place) ∙ sym place ∙ ap (λ (s : JobSeatView). s.place) one) h))

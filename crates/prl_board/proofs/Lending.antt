@@ -1,7 +1,7 @@
 -- A seat stands by another view with its part as it stood by its own.
-use Rattle.std.proofs.Common.{◌≡◌, ◌≢◌, ℕ, zero, suc, ◌+◌, ◌-◌, ◌<◌, ◌≤◌, ◌⊎◌, refl, sym, ap, ◌∙◌, subst, inl, inr, ⊎_elim, arith, set, get_or, length, length-set, List, [], ◌∷◌, Some}
+use Rattle.std.proofs.Common.{◌≡◌, ℕ, ◌+◌, ◌-◌, ◌<◌, ◌≤◌, refl, sym, ap, ◌∙◌, subst, ⊎_elim, arith, set, length-set, List, Some}
 use Rattle.std.specs.Prelude.{slice_get}
-use Rattle.std.proofs.lemmas.Option.{slice_get_read, slice_get_within}
+use Rattle.std.proofs.lemmas.Option.{slice_get_within}
 use mathlib.Core.Logic.{dite}
 use mathlib.Core.Option.{some, some-ne-none}
 use native.Mathlib.Decide.{ℕ_discrete}
@@ -18,10 +18,11 @@ use Rattle.prl_board.specs.Lones.{IsWhole, LoneView, StandAs}
 use Rattle.prl_seats.specs.JobSeats.{Follows, HasPartOf, IsStage, JobSeatView, StaysAt}
 use Rattle.prl_rule.specs.Known.{run_of, values_of}
 use Rattle.prl_rule.specs.Steps.{HasRead, bare, caught_up, stop_loaded, with_part}
-use Rattle.prl_board.specs.code.Lent.{AreLent, IsLent, IsSettled}
+use Rattle.prl_board.specs.code.Lent.{AreLent, IsLent, IsSettled, KeepHalves}
 use Rattle.atomic_table.proofs.Lists.{set_else as part_else}
 use Rattle.prl_seats.proofs.Following.{part_is}
-use Rattle.prl_rule.proofs.Parts.{part_there}
+use Rattle.prl_rule.proofs.Parts.{caught_kept, part_there, set_found}
+use Rattle.prl_board.proofs.Lists.{seat_there, set_at, set_else, set_here}
 
 pub follows_with : (k : Constants) (i job place : ℕ) (stage : Stage) (u v : View) → Follows k u i job place stage → v.constants ≡ Some k → get_elem? v.tasks i ≡ some (Some (part_of i u)) →
     Follows k v i job place stage
@@ -42,18 +43,6 @@ follows_with k i job place stage u v follows known has =
 -- a view with no part has none of a task
 pub bare_has_none : (k : Constants) (i : ℕ) → HasPartOf i (bare k) → ⊥
 bare_has_none k i has = some-ne-none (Some (part_of i (bare k))) (sym has)
-
--- what is read at a place stands there
-pub read_there : {A : Type 0} (xs : List A) (i : ℕ) (x : A) → i < length xs → x ≡ get_or xs i x → slice_get xs i ≡ Some x
-read_there xs i x below is = slice_get_read xs (length xs) i x refl below is
-
--- what stands in a list of which one place was set
-pub set_at : {A : Type 0} (xs : List A) (i j : ℕ) (a b : A) → slice_get (set xs i a) j ≡ Some b → ((j ≡ i) × (a ≡ b)) ⊎ ((j ≢ i) × (slice_get xs j ≡ Some b))
-set_at [] i j a b e = absurd (cc e)
-set_at (x ∷ xs) zero zero a b e = inl (refl, cc e)
-set_at (x ∷ xs) zero (suc j) a b e = inr ((λ h. omega arith), e)
-set_at (x ∷ xs) (suc i) zero a b e = inr ((λ h. omega arith), e)
-set_at (x ∷ xs) (suc i) (suc j) a b e = ⊎_elim (λ t. inl (ap suc t.0, t.1)) (λ t. let n = t.0 in inr ((λ h. n (omega arith)), t.1)) (set_at xs i j a b e)
 
 -- what one thread keeps, after a step of the task i
 pub relent : (k : Constants) (u v : View) (i : ℕ) (seats : List JobSeatView) (s : JobSeatView) (clock : ClockSeatView) → AreLent k u seats clock → u.constants ≡ Some k → v.constants ≡ Some k →
@@ -78,18 +67,6 @@ relent k u v i seats s clock lent was known others same mine = record {
     };
   };
 }
-
-pub set_here : {A : Type 0} (xs : List A) (i : ℕ) (a b : A) → slice_get xs i ≡ Some b → slice_get (set xs i a) i ≡ Some a
-set_here [] i a b e = absurd (cc e)
-set_here (x ∷ xs) zero a b e = refl
-set_here (x ∷ xs) (suc i) a b e = set_here xs i a b e
-
-pub set_else : {A : Type 0} (xs : List A) (i j : ℕ) (a : A) → j ≢ i → slice_get (set xs i a) j ≡ slice_get xs j
-set_else [] i j a ne = refl
-set_else (x ∷ xs) zero zero a ne = absurd (ne refl)
-set_else (x ∷ xs) zero (suc j) a ne = refl
-set_else (x ∷ xs) (suc i) zero a ne = refl
-set_else (x ∷ xs) (suc i) (suc j) a ne = set_else xs i j a (λ e. ne (ap suc e))
 
 pub stays_same : (s : JobSeatView) → StaysAt s s
 stays_same s = record { job = refl; place = refl; stage = refl }
@@ -123,6 +100,19 @@ lent_more k u v i seats before after done known others task stands given same st
       stands = follows_with k j s.job s.place s.stage u v its.stands known (others j (part_of j u) its.stands.at.part);
     })
     (set_at seats i j after s has)
+
+-- one part more is in the view
+pub parts_more : (u v : View) (i : ℕ) (initial : List JobSeatView) (before : JobSeatView) →
+    ((j : ℕ) (s : JobSeatView) → j < i → slice_get initial j ≡ Some s → get_elem? u.tasks j ≡ some (Some (part_of j s.view))) → slice_get initial i ≡ Some before → before.task ≡ record { 0 = i } →
+    ((j : ℕ) (p : TaskPart) → get_elem? u.tasks j ≡ some (Some p) → get_elem? v.tasks j ≡ some (Some p)) → get_elem? v.tasks before.task.0 ≡ some (Some (part_of before.task.0 before.view)) →
+    (j : ℕ) (s : JobSeatView) → j < i + 1 → slice_get initial j ≡ Some s → get_elem? v.tasks j ≡ some (Some (part_of j s.view))
+parts_more u v i initial before done there task others new j s below has =
+    dite (ℕ_discrete j i)
+    (λ here.
+    let one : before ≡ s = (let e : Some before ≡ Some s = sym there ∙ ap (slice_get initial) (sym here) ∙ has in cc e) in
+    let P : ℕ × JobSeatView → Type 0 = λ z. get_elem? v.tasks z.0 ≡ some (Some (part_of z.0 z.1.view)) in
+    subst P (λ h. ((ap (λ (t : TaskNo). t.0) task ∙ sym here) h, one h)) new)
+    (λ ne. others j (part_of j s.view) (done j s (omega (arith, below, ne)) has))
 
 pub stand_more : (initial seats : List JobSeatView) (i : ℕ) (before after : JobSeatView) →
     ((j : ℕ) (s : JobSeatView) → slice_get initial j ≡ Some s → (t : JobSeatView) × (slice_get seats j ≡ Some t) × (t.task ≡ s.task) × StaysAt s t) → slice_get seats i ≡ Some before →
@@ -189,11 +179,6 @@ clock_moves k u v r now looks own mine theirs here there = record {
   wide = λ other has. own.wide other (mine ∙ (sym theirs ∙ has));
 }
 
-pub seat_there : {A : Type 0} (xs : List A) (i : ℕ) → i < length xs → (a : A) × (slice_get xs i ≡ Some a)
-seat_there [] i below = absurd (omega (arith, below))
-seat_there (x ∷ xs) zero below = (x, refl)
-seat_there (x ∷ xs) (suc i) below = seat_there xs i (omega (arith, below))
-
 -- a part that stays stands where its seat does, which stays too
 pub settled_stays : (k : Constants) (before after : LoneView) (j : ℕ) (s : JobSeatView) → IsWhole k before → StandAs before.seats after.seats →
     ((p : TaskPart) → get_elem? before.view.tasks j ≡ some (Some p) → get_elem? after.view.tasks j ≡ some (Some p)) →
@@ -209,3 +194,23 @@ settled_stays k before after j s whole stand other settled has =
     let set_ = settled was.0 was.1 in
     subst (IsSettled after.view j) one
     (ap (λ (p : TaskPart). p.stand.ended) part ∙ set_.0 ∙ sym now.3.job, ap (λ (p : TaskPart). p.stand.place) part ∙ set_.1 ∙ sym now.3.place)
+
+-- the half that a task has loaded last stays over a load of the stop word
+pub stop_keeps_halves : (k : Constants) (u v : View) (i place n : ℕ) → HasPartOf i u → v ≡ with_part i (stop_loaded n (part_at k i place u)) u → KeepHalves u v
+stop_keeps_halves k u v i place n mine is j p has =
+    let q : TaskPart = stop_loaded n (part_at k i place u) in
+    dite (ℕ_discrete j i)
+    (λ here.
+    let one : part_of i u ≡ p = ap part_or (part_there u.tasks i p (ap (get_elem? u.tasks) (sym here) ∙ has)) in (
+      q,
+      ap (λ (w : View). get_elem? w.tasks j) is ∙ ap (get_elem? (set u.tasks i (Some q))) here ∙ set_found u.tasks i (Some (part_of i u)) (Some q) mine,
+      caught_kept (run_of k) (values_of k) i (place - (part_of i u).stand.place) (part_of i u) ∙ ap (λ (r : TaskPart). r.kept) one,
+    ))
+    (λ ne. (p, ap (λ (w : View). get_elem? w.tasks j) is ∙ part_else u.tasks i j (Some q) ne ∙ has, refl))
+
+pub keep_halves : (u : View) → KeepHalves u u
+keep_halves u j p has = (p, has, refl)
+
+pub keep_then : (u v w : View) → KeepHalves u v → KeepHalves v w → KeepHalves u w
+keep_then u v w first second j p has =
+    let a = first j p has in let b = second j a.0 a.1 in (b.0, b.1, b.2 ∙ a.2)

@@ -1,3 +1,5 @@
+-- For the crates above: lists of which one place is read or set.
+pub mod Lists
 mod Unseen
 mod Opened
 mod Lows

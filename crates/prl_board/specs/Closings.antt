@@ -1,5 +1,5 @@
 -- What a closed board shows, and how it agrees with what has happened.
-use Rattle.std.specs.Prelude.{◌≡◌, ◌<◌, ◌≤◌, ℕ, Bool, List, length, Option, Some, slice_get, slice_index}
+use Rattle.std.specs.Prelude.{◌≡◌, ◌/◌, ◌^◌, ◌<◌, ◌≤◌, ℕ, Bool, List, length, Option, Some, slice_get, slice_index}
 use Rattle.prl_base.specs.declared.values.Value.{Value}
 use Rattle.prl_plan.specs.declared.events.Event.{Event}
 use Rattle.prl_plan.specs.declared.graphs.Kind.TheVariants as kinds
@@ -11,6 +11,7 @@ use Rattle.prl_board.specs.declared.seats.Half.{Half}
 use Rattle.prl_board.specs.declared.seats.Half.TheVariants as halves
 use Rattle.prl_rule.specs.declared.views.Constants.{Constants}
 use Rattle.prl_rule.specs.declared.views.Gate.TheVariants as gates
+use Rattle.prl_rule.specs.declared.views.KeptHalf.{KeptHalf}
 use Rattle.prl_rule.specs.Agreement.{done_word, now_word, slot_word, word_count}
 use Rattle.prl_seats.specs.JobSeats.{IsStage, JobSeatView}
 use Rattle.prl_rule.specs.Known.{run_of, values_of}
@@ -42,6 +43,10 @@ pub record IsClosed (k : Constants) (words : List ℕ) (seats : List JobSeatView
   pub each : (i : ℕ) (s : JobSeatView) → slice_get seats i ≡ Some s →
       (s.task ≡ record { 0 = i }) × (s.job ≤ (run_of k).jobs i) × ((is_open : Bool) × IsStage (run_of k) i s.job s.place is_open s.stage)
   pub last : (s : ExecState) × IsLastState k words seats s
+
+-- the half that a task has loaded last holds at the end the tag that was loaded, or a later one
+abbrev pub KeepsTag : Constants → KeptHalf → List ℕ → Type 0
+KeepsTag k kept words = kept.word / 2 ^ 32 ≤ slice_index words (slot_word (run_of k) kept.slot) / 2 ^ 32
 
 -- the slot of a half of a cell
 abbrev pub slot_of : ℕ → Half → ℕ

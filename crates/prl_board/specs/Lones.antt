@@ -107,3 +107,7 @@ tag_found m (gots.Overrun cell wanted found) = found
 abbrev pub FindsTag : RunConstants → List JobSeatView → Stage → Got → Type 0
 FindsTag c seats stage got = (port : ℕ) (e : EdgeNo) (m : ℕ) (slot : SlotNo) → stage ≡ stages.At (actions.Read port e m slot) →
     HoldsTag c seats slot.0 (tag_found m got)
+
+-- after a write of a half of instance m this half holds its tag
+abbrev pub LeavesTag : RunConstants → List JobSeatView → Stage → Type 0
+LeavesTag c seats stage = (e : EdgeNo) (m : ℕ) (slot : SlotNo) → stage ≡ stages.At (actions.Write e m slot) → HoldsTag c seats slot.0 (m + 1)

@@ -10,9 +10,10 @@ ghost use Rattle.prl_rule.specs.Agreement.{done_word, now_word, slot_word};
 ghost use Rattle.prl_rule.specs.declared.views.ClockPart.{ClockPart};
 ghost use Rattle.prl_rule.specs.declared.views.Constants.{Constants};
 ghost use Rattle.prl_board.specs.ClockSeats.{IsClockOf};
-ghost use Rattle.prl_board.specs.Closings.{AreOutputs, Drives, IsClosed, IsLastState, slot_of};
+ghost use Rattle.prl_board.specs.Closings.{AreOutputs, Drives, IsClosed, IsLastState, KeepsTag, slot_of};
 ghost use Rattle.prl_seats.specs.JobSeats.{JobSeatView};
 ghost use Rattle.prl_rule.specs.Known.{run_of};
+ghost use Rattle.prl_rule.specs.Told.{part_of};
 ghost use Rattle.prl_board.specs.Lones.{AreSeatsOf, IsLoneOf, StandAs};
 ghost use Rattle.prl_board.specs.TaskSeats.{IsMachineOf, IsNodeTask};
 ghost use Rattle.prl_board.specs.code.Lent.{IsLeft};
@@ -74,12 +75,14 @@ fn slot(cell: CellNo, half: Half) -> usize
     }
 }
 
-/// Closes a board with its seats, which are exactly those that came with it. Takes no memory, and cannot be refused.
+/// Closes a board with its seats, which are exactly those that came with it. What a seat has loaded of a half, its word at the
+/// end has not fallen below. Takes no memory, and cannot be refused.
 pub fn close(board: Board, seats: Vec<TaskSeat>, clock: ClockSeat) -> Closed
     requires seats { AreSeatsOf board (vec_items seats) }
     requires clock { (r : ClockPart) × IsClockOf board clock r }
     ensures known { result.constants ≡ Some board.entry.known }
     ensures seats { StandAs (vec_items seats) result.seats }
+    ensures tags { (i : ℕ) (s : JobSeatView) → slice_get (vec_items seats) i ≡ Some s → KeepsTag board.entry.known (part_of i s.view).kept result.words }
     ensures clock { (r : ClockPart) → IsClockOf board.entry clock r → slice_index result.words now_word ≡ r.now }
 {
     gather(&board, seats, clock).close(board)

@@ -10,12 +10,13 @@ ghost use Rattle.prl_rule.specs.declared.views.TaskPart.{TaskPart};
 ghost use Rattle.prl_board.specs.ClockSeats.{IsClockOf};
 ghost use Rattle.prl_rule.specs.Agreement.{now_word};
 ghost use Rattle.prl_seats.specs.JobSeats.{AnswersRelease, Ends, Follows, IsSeatOf, JobSeatView, StaysAt};
-ghost use Rattle.prl_board.specs.Lones.{AreSeatsOf, FindsTag, IsClockCall, IsLoneOf, IsPlacedAt, IsReleasedBy, IsTaskCall, IsTicked, IsWhole, StandAs};
+ghost use Rattle.prl_board.specs.Closings.{KeepsTag};
+ghost use Rattle.prl_board.specs.Lones.{AreSeatsOf, FindsTag, IsClockCall, IsLoneOf, IsPlacedAt, IsReleasedBy, IsTaskCall, IsTicked, IsWhole, LeavesTag, StandAs};
 ghost use Rattle.prl_board.specs.TaskSeats.{AnswersRead, AnswersWrite, MayFinish, MayRead, MayRelease, MayWrite, place_of};
 ghost use Rattle.prl_rule.specs.Known.{run_of};
 ghost use Rattle.prl_rule.specs.Steps.{bare};
-ghost use Rattle.prl_rule.specs.Told.{LookTold};
-ghost use Rattle.prl_board.specs.code.Lent.{IsLent, IsSettled};
+ghost use Rattle.prl_rule.specs.Told.{LookTold, part_of};
+ghost use Rattle.prl_board.specs.code.Lent.{IsLent, IsSettled, KeepHalves};
 
 use crate::clocks::{ClockSeat, Ticked};
 use crate::closing::Closed;
@@ -61,6 +62,7 @@ fn take_in(board: &Board, whole: &mut Seat, seat: &mut TaskSeat)
     ensures same { (whole.new.table_id ≡ whole.old.table_id) × (whole.new.me.1 ≡ whole.old.me.1) × (whole.new.me.0.constants ≡ Some board.now.known) }
     ensures clock { (r : ClockPart) → whole.old.me.0.clock ≡ Some r → whole.new.me.0.clock ≡ Some r }
     ensures others { (j : ℕ) (p : TaskPart) → get_elem? whole.old.me.0.tasks j ≡ some (Some p) → get_elem? whole.new.me.0.tasks j ≡ some (Some p) }
+    ensures part { get_elem? whole.new.me.0.tasks seat.old.task.0 ≡ some (Some (part_of seat.old.task.0 seat.old.view)) }
     ensures stands { Follows board.now.known whole.new.me.0 seat.old.task.0 seat.old.job seat.old.place seat.old.stage }
     ensures bare { (seat.new.view ≡ bare board.now.known) × (seat.new.task ≡ seat.old.task) × StaysAt seat.old seat.new }
 {
@@ -76,6 +78,7 @@ fn take_in_all(board: &Board, whole: &mut Seat, seats: &mut Vec<TaskSeat>)
     requires seats { AreSeatsOf board.now (vec_items seats.old) }
     ensures same { (whole.new.table_id ≡ whole.old.table_id) × (whole.new.me.1 ≡ whole.old.me.1) × (whole.new.me.0.constants ≡ Some board.now.known) }
     ensures clock { (r : ClockPart) → whole.old.me.0.clock ≡ Some r → whole.new.me.0.clock ≡ Some r }
+    ensures parts { (i : ℕ) (s : JobSeatView) → slice_get (vec_items seats.old) i ≡ Some s → get_elem? whole.new.me.0.tasks i ≡ some (Some (part_of i s.view)) }
     ensures stand { StandAs (vec_items seats.old) (vec_items seats.new) }
     ensures lent { (i : ℕ) (s : JobSeatView) → slice_get (vec_items seats.new) i ≡ Some s → IsLent board.now.known whole.new.me.0 i s }
 {
@@ -92,6 +95,7 @@ fn settle_seat(board: &Board, whole: &mut Seat, seat: &mut TaskSeat)
     ensures others { (j : ℕ) (p : TaskPart) → (j ≡ seat.old.task.0 → ⊥) → get_elem? whole.old.me.0.tasks j ≡ some (Some p) → get_elem? whole.new.me.0.tasks j ≡ some (Some p) }
     ensures lent { IsLent board.now.known whole.new.me.0 seat.old.task.0 seat.new }
     ensures settled { IsSettled whole.new.me.0 seat.old.task.0 seat.new }
+    ensures halves { KeepHalves whole.old.me.0 whole.new.me.0 }
     ensures stays { (seat.new.task ≡ seat.old.task) × StaysAt seat.old seat.new }
 {
     seat.exchange(whole);
@@ -100,12 +104,13 @@ fn settle_seat(board: &Board, whole: &mut Seat, seat: &mut TaskSeat)
     seat.exchange(whole);
 }
 
-/// One thread takes all seats of a board. Takes no memory.
+/// One thread takes all seats of a board, with the part of each. Takes no memory.
 pub fn gather(board: &Board, mut seats: Vec<TaskSeat>, mut clock: ClockSeat) -> Lone
     requires seats { AreSeatsOf board.now (vec_items seats) }
     requires clock { (r : ClockPart) × IsClockOf board.now clock r }
     ensures lone { IsLoneOf board.now result }
     ensures seats { StandAs (vec_items seats) result.seats }
+    ensures parts { (i : ℕ) (s : JobSeatView) → slice_get (vec_items seats) i ≡ Some s → get_elem? result.view.tasks i ≡ some (Some (part_of i s.view)) }
     ensures clock { (r : ClockPart) → IsClockOf board.now clock r → result.view.clock ≡ Some r }
 {
     let mut whole = board.bare();
@@ -151,6 +156,7 @@ impl Lone {
         ensures seats { StandAs self.old.seats self.new.seats }
         ensures clock { self.new.view.clock ≡ self.old.view.clock }
         ensures settled { (s : JobSeatView) → slice_get self.new.seats i ≡ Some s → IsSettled self.new.view i s }
+        ensures halves { KeepHalves self.old.view self.new.view }
         ensures others { (j : ℕ) (p : TaskPart) → (j ≡ i → ⊥) → get_elem? self.old.view.tasks j ≡ some (Some p) → get_elem? self.new.view.tasks j ≡ some (Some p) }
     {
         settle_seat(board, &mut self.whole, &mut self.seats[i]);
@@ -163,6 +169,7 @@ impl Lone {
         ensures seats { StandAs self.old.seats self.new.seats }
         ensures clock { self.new.view.clock ≡ self.old.view.clock }
         ensures settled { (i : ℕ) (s : JobSeatView) → slice_get self.new.seats i ≡ Some s → IsSettled self.new.view i s }
+        ensures halves { KeepHalves self.old.view self.new.view }
     {
         for i in 0..self.seats.len() {
             self.stands();
@@ -206,14 +213,16 @@ impl Lone {
     }
 
     /// Does the next action of the task's job, which is the write of one half of its instance, as
-    /// `TaskSeat::write` does. Takes no memory.
+    /// `TaskSeat::write` does. After it this half holds the tag of the instance. Takes no memory.
     pub fn write<L: Ledger>(&mut self, board: &Board, task: TaskNo, steps: &mut Steps<L>) -> Wrote
         requires lone { IsLoneOf board.now self.old }
         requires place { IsPlacedAt MayWrite self.old task.0 }
         ensures lone { IsLoneOf board.now self.new }
         ensures call { IsTaskCall task.0 self.old self.new (λ s t. AnswersWrite board.now.known s t result s.stage) }
+        ensures exact { (s : JobSeatView) → slice_get self.old.seats task.0 ≡ Some s → LeavesTag (run_of board.now.known) self.new.seats s.stage }
         ensures step { steps.new ≡ steps.old + 1 }
     {
+        board.keeps_facts();
         steps.tick();
         write_lent(board, &mut self.whole, &mut self.seats[task.0 as usize])
     }
@@ -257,11 +266,13 @@ impl Lone {
         tick_lent(board, &mut self.whole, &mut self.clock)
     }
 
-    /// Closes the board, which is the one that the seats belong to. Takes no memory, and cannot be refused.
+    /// Closes the board, which is the one that the seats belong to. What was loaded of a half, its word at the end has not
+    /// fallen below. Takes no memory, and cannot be refused.
     pub fn close(mut self, board: Board) -> Closed
         requires { IsLoneOf board self }
         ensures known { result.constants ≡ Some board.entry.known }
         ensures seats { StandAs self.seats result.seats }
+        ensures tags { (i : ℕ) (p : TaskPart) → get_elem? self.view.tasks i ≡ some (Some p) → KeepsTag board.entry.known p.kept result.words }
         ensures clock { (r : ClockPart) → self.view.clock ≡ Some r → slice_index result.words now_word ≡ r.now }
     {
         self.settle_all(&board);

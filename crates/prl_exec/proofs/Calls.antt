@@ -1,7 +1,7 @@
 -- What the calls of one thread leave of how it stands.
-use Rattle.std.proofs.Common.{◌≡◌, ◌+◌, ◌<◌, ◌≤◌, ◌++◌, ℕ, Bool, true, false, List, [], ◌∷◌, length, get_or, refl, sym, ◌∙◌, ap, subst, arith, Some}
+use Rattle.std.proofs.Common.{◌≡◌, ◌+◌, ◌<◌, ◌≤◌, ◌++◌, ℕ, Bool, true, false, List, [], ◌∷◌, length, refl, sym, ◌∙◌, ap, subst, arith, Some}
 use Rattle.std.specs.Prelude.{slice_get, slice_index}
-use Rattle.std.proofs.lemmas.Option.{slice_get-get_or, slice_get_within}
+use Rattle.std.proofs.lemmas.Option.{slice_get_within}
 use Rattle.prl_base.specs.declared.numbers.EdgeNo.{EdgeNo}
 use Rattle.prl_plan.specs.declared.events.Action.{Action}
 use Rattle.prl_plan.specs.declared.events.Action.TheVariants as actions
@@ -29,6 +29,7 @@ use Rattle.prl_exec.specs.Standing.{RunLaws, StandsIn, act_of}
 use Rattle.prl_exec.specs.code.Alone.{IsIdle}
 use Rattle.prl_exec.specs.Standing.{IsPolled}
 use Rattle.prl_exec.proofs.Standing.{IsElse, acted, stayed}
+use Rattle.prl_board.proofs.Lists.{seat_there}
 use Rattle.prl_exec.proofs.Finding.{found_there}
 
 -- whether a read went on
@@ -37,10 +38,6 @@ went gots.Half = true
 went (gots.Value value) = true
 went (gots.NotYet cell wanted found) = false
 went (gots.Overrun cell wanted found) = false
-
-pub seat_there : (seats : List JobSeatView) (i : ℕ) → i < length seats → (s : JobSeatView) × (slice_get seats i ≡ Some s)
-seat_there [] i inside = absurd (omega (arith, inside))
-seat_there (x ∷ seats) i inside = (get_or (x ∷ seats) i x, slice_get-get_or (x ∷ seats) i x inside)
 
 -- the seat is there, and stands so
 pub placed : (may : Place → Type 0) (place : Place) (l : LoneView) (i : ℕ) → i < length l.seats → may place →
@@ -108,28 +105,22 @@ module _ (k : Constants) (laws : RunLaws (run_of k)) where
     writes (stages.At (actions.Write e n slot)) wrote is may shown answer = went_on (actions.Write e n slot) (λ f. cc) is shown tt answer.2
     writes (stages.At actions.End) wrote is may shown answer = absurd may
 
-    -- a task of which no job is open stands at the first place
-    shut_place : (j n place : ℕ) (shut : Bool) (stage : Stage) → IsStage c i j 0 false stage → IsStage c i n place shut stage → place ≡ 0
-    shut_place j n place shut stages.Over closed shown = shown.2
-    shut_place j n place shut stages.Idle closed shown = shown.2
-    shut_place j n place shut (stages.At action) closed shown = absurd (let e : false ≡ true = closed.0 in cc e)
-
+    -- a task of which no job is open has no next action
     no_action : (j : ℕ) (stage : Stage) (next : Action) → IsStage c i j 0 false stage → stage ≡ stages.At next → {A : Type 0} → A
     no_action j stages.Over next closed is = absurd (cc is)
     no_action j stages.Idle next closed is = absurd (cc is)
     no_action j (stages.At action) next closed is = absurd (let e : false ≡ true = closed.0 in cc e)
 
-    finishes : (stage : Stage) (shut : Bool) → s.stage ≡ stage → MayFinish (place_of stage) → IsStage c i s.job s.place is_open stage →
-        t.job ≡ s.job + 1 → IsStage c i (s.job + 1) 0 false t.stage → IsStage c i t.job t.place shut t.stage → StandsIn c m r (list ++ act_of i ∷ [])
-    finishes stages.Over shut is may shown job after then = absurd may
-    finishes stages.Idle shut is may shown job after then = absurd may
-    finishes (stages.At (actions.ReadConst port value)) shut is may shown job after then = absurd may
-    finishes (stages.At (actions.Read port e n slot)) shut is may shown job after then = absurd may
-    finishes (stages.At (actions.Write e n slot)) shut is may shown job after then = absurd may
-    finishes (stages.At actions.End) shut is may shown job after then =
+    finishes : (stage : Stage) → s.stage ≡ stage → MayFinish (place_of stage) → IsStage c i s.job s.place is_open stage →
+        t.job ≡ s.job + 1 → t.place ≡ 0 → IsStage c i (s.job + 1) 0 false t.stage → StandsIn c m r (list ++ act_of i ∷ [])
+    finishes stages.Over is may shown job place after = absurd may
+    finishes stages.Idle is may shown job place after = absurd may
+    finishes (stages.At (actions.ReadConst port value)) is may shown job place after = absurd may
+    finishes (stages.At (actions.Read port e n slot)) is may shown job place after = absurd may
+    finishes (stages.At (actions.Write e n slot)) is may shown job place after = absurd may
+    finishes (stages.At actions.End) is may shown job place after =
         acted c laws l m r list i s t stands other actions.End is shown.2 shown.1 tt
-        (record { goes = λ none. absurd (none refl); ends = λ _. (job, shut_place (s.job + 1) t.job t.place shut t.stage after then) })
-        (λ next at. no_action (s.job + 1) t.stage next after at)
+        (record { goes = λ none. absurd (none refl); ends = λ _. (job, place) }) (λ next at. no_action (s.job + 1) t.stage next after at)
 
   -- task i's seat, by a call of the task
   elsewhere : (i : ℕ) (l m : LoneView) (answers : JobSeatView → JobSeatView → Type 0) (call : IsTaskCall i l m answers) (s : JobSeatView) (has : slice_get l.seats i ≡ Some s) →
@@ -161,16 +152,15 @@ module _ (k : Constants) (laws : RunLaws (run_of k)) where
       let follows = (whole.each i s has).1 in
       writes i l m s answer.0 (elsewhere i l m (λ s t. AnswersWrite k s t wrote s.stage) call s has) r list stands _ s.stage wrote refl at.2 follows.shown answer.3
 
-  pub finish_polled : (i : ℕ) (l m : LoneView) → IsWhole k l → IsWhole k m → IsPlacedAt MayFinish l i → IsTaskCall i l m (λ s t. Ends k s t) →
+  pub finish_polled : (i : ℕ) (l m : LoneView) → IsWhole k l → IsPlacedAt MayFinish l i → IsTaskCall i l m (λ s t. Ends k s t) →
       (r : ClockPart) (list : List Event) → StandsIn c l r list → StandsIn c m r (list ++ act_of i ∷ [])
-  finish_polled i l m whole after at call r list stands =
+  finish_polled i l m whole at call r list stands =
       let s = at.0 in let has = at.1 in let answer = call.answer s has in
       let follows = (whole.each i s has).1 in
-      let then = (after.each i answer.0 answer.1).1 in
       let task = (whole.each i s has).0 in
       let ends = answer.3 in
-      finishes i l m s answer.0 (elsewhere i l m (λ s t. Ends k s t) call s has) r list stands _ s.stage _ refl at.2 follows.shown ends.job
-      (subst (λ (n : ℕ). IsStage c n (s.job + 1) 0 false answer.0.stage) (ap (λ x. x.0) task) ends.stage) then.shown
+      finishes i l m s answer.0 (elsewhere i l m (λ s t. Ends k s t) call s has) r list stands _ s.stage refl at.2 follows.shown ends.job ends.place
+      (subst (λ (n : ℕ). IsStage c n (s.job + 1) 0 false answer.0.stage) (ap (λ x. x.0) task) ends.stage)
 
   -- after a release that opened the job
   pub open_stands : (i : ℕ) (l m : LoneView) (job : ℕ) → IsWhole k l → IsPlacedAt IsIdle l i →

@@ -6,7 +6,8 @@ use Rattle.std.proofs.lemmas.Bool.{cases_eq}
 use Rattle.prl_seats.specs.JobSeats.{JobSeatView}
 use Rattle.prl_exec.specs.code.Hands.{Has}
 use Rattle.prl_exec.specs.code.Polls.{IsPut, IsTaken}
-use Rattle.prl_exec.proofs.Holding.{get_last, set_at, set_else, set_here}
+use Rattle.prl_board.proofs.Lists.{set_at, set_else, set_here}
+use Rattle.prl_exec.proofs.Holding.{get_last}
 
 abbrev Slots : Type 0
 Slots = List (Option JobSeatView)

@@ -1,35 +1,12 @@
 -- The seats that a worker has, after one of them was polled.
-use Rattle.std.proofs.Common.{◌≡◌, ◌≢◌, ◌<◌, ◌⊎◌, ◌++◌, ℕ, zero, suc, List, [], ◌∷◌, Option, Some, None, length, length-set, get_or, set, refl, sym, ◌∙◌, ap, subst, arith, inl, inr, ⊎_elim}
+use Rattle.std.proofs.Common.{◌≡◌, ◌++◌, ℕ, zero, suc, List, [], ◌∷◌, Option, Some, None, length, length-set, set, refl, sym, ◌∙◌, ap, subst, inl, inr, ⊎_elim}
 use Rattle.std.specs.Prelude.{slice_get}
 use Rattle.std.proofs.lemmas.Bool.{cases_eq}
-use Rattle.std.proofs.lemmas.Option.{slice_get_read}
 use Rattle.prl_seats.specs.Boards.{BoardView}
 use Rattle.prl_seats.specs.JobSeats.{IsSeatOf, JobSeatView}
+use Rattle.prl_board.proofs.Lists.{set_at, set_else, set_here}
 use Rattle.prl_exec.specs.code.Hands.{AreHeld, KeepSeats}
 use Rattle.prl_exec.specs.code.Polls.{IsSlotOf, IsSlotPolled}
-
--- what stands in a list of which one place was set
-pub set_at : {A : Type 0} (xs : List A) (i j : ℕ) (a b : A) → slice_get (set xs i a) j ≡ Some b → ((j ≡ i) × (a ≡ b)) ⊎ ((j ≢ i) × (slice_get xs j ≡ Some b))
-set_at [] i j a b e = absurd (cc e)
-set_at (x ∷ xs) zero zero a b e = inl (refl, cc e)
-set_at (x ∷ xs) zero (suc j) a b e = inr ((λ h. omega arith), e)
-set_at (x ∷ xs) (suc i) zero a b e = inr ((λ h. omega arith), e)
-set_at (x ∷ xs) (suc i) (suc j) a b e = ⊎_elim (λ t. inl (ap suc t.0, t.1)) (λ t. let n = t.0 in inr ((λ h. n (omega arith)), t.1)) (set_at xs i j a b e)
-
-pub set_here : {A : Type 0} (xs : List A) (i : ℕ) (a b : A) → slice_get xs i ≡ Some b → slice_get (set xs i a) i ≡ Some a
-set_here [] i a b e = absurd (cc e)
-set_here (x ∷ xs) zero a b e = refl
-set_here (x ∷ xs) (suc i) a b e = set_here xs i a b e
-
-pub set_else : {A : Type 0} (xs : List A) (i j : ℕ) (a : A) → j ≢ i → slice_get (set xs i a) j ≡ slice_get xs j
-set_else [] i j a ne = refl
-set_else (x ∷ xs) zero zero a ne = absurd (ne refl)
-set_else (x ∷ xs) zero (suc j) a ne = refl
-set_else (x ∷ xs) (suc i) zero a ne = refl
-set_else (x ∷ xs) (suc i) (suc j) a ne = set_else xs i j a (λ e. ne (ap suc e))
-
-pub read_there : {A : Type 0} (xs : List A) (i : ℕ) (x : A) → i < length xs → x ≡ get_or xs i x → slice_get xs i ≡ Some x
-read_there xs i x below is = slice_get_read xs (length xs) i x refl below is
 
 module _ (b : BoardView) (seats : List (Option JobSeatView)) (held : AreHeld b seats) (i : ℕ) where
   -- a slot for a seat of the board

@@ -19,7 +19,7 @@ use Rattle.prl_board.specs.Lones.{FindsTag, HoldsTag, IsPlacedAt, IsTaskCall, Is
 use Rattle.prl_board.specs.TaskSeats.{AnswersRead, MayRead, place_of}
 use Rattle.prl_exec.specs.declared.overruns.Missed.{Missed}
 use Rattle.prl_exec.specs.code.Overruns.{IsOverrunIn, IsReadingAt}
-use Rattle.prl_exec.proofs.Calls.{seat_there}
+use Rattle.prl_board.proofs.Lists.{seat_there}
 
 -- it may read
 pub reading_may : (l : LoneView) (i port : ℕ) → IsReadingAt l i port → IsPlacedAt MayRead l i

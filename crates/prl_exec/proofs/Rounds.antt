@@ -33,7 +33,7 @@ use Rattle.prl_board.specs.TaskSeats.{place_of}
 use Rattle.prl_exec.specs.Standing.{HasSeen, RunLaws, StandsIn, act_of}
 use Rattle.prl_exec.specs.code.Alone.{IsLeftOver}
 use Rattle.prl_exec.proofs.Standing.{appended}
-use Rattle.prl_exec.proofs.Calls.{seat_there}
+use Rattle.prl_board.proofs.Lists.{seat_there}
 
 -- a task that stands elsewhere is left
 pub left_over : (l : LoneView) (i : ℕ) (place : Place) → i < length l.seats → ((s : JobSeatView) → slice_get l.seats i ≡ Some s → place ≡ place_of s.stage) →

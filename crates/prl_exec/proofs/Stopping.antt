@@ -26,7 +26,7 @@ use Rattle.prl_exec.specs.declared.runs.Stopped.{Stopped}
 use Rattle.prl_exec.specs.Runs.{HasStopped, IsGivenTo}
 use Rattle.prl_exec.specs.Standing.{RunLaws}
 use Rattle.prl_exec.specs.code.Overruns.{IsOverrunIn}
-use Rattle.prl_exec.proofs.Calls.{seat_there}
+use Rattle.prl_board.proofs.Lists.{seat_there}
 
 half_of_cell : (cell slot : ℕ) → IsHalfOf cell slot → slot / 2 ≡ cell
 half_of_cell cell slot (inl is) = omega (arith, is)

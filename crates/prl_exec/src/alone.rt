@@ -89,7 +89,6 @@ fn finish<L: Ledger>(lone: &mut Lone, board: &Board, task: TaskNo, steps: &mut S
     run_laws(board);
     lone.stands();
     lone.finish(board, task, steps);
-    lone.stands();
     true
 }
 

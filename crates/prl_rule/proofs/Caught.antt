@@ -8,6 +8,9 @@ use Rattle.prl_plan.specs.declared.events.Action.TheVariants as actions
 use Rattle.prl_plan.specs.declared.events.Event.{Event}
 use Rattle.prl_plan.specs.Runs.{RunConstants}
 use Rattle.prl_plan.specs.Facts.{ReadsAt}
+use Rattle.prl_plan.specs.Horizons.{IsHorizon}
+use Rattle.prl_plan.specs.Plans.{IsPlan}
+use Rattle.prl_plan.specs.declared.events.SlotNo.{SlotNo}
 use Rattle.prl_rule.specs.declared.views.Constants.{Constants}
 use Rattle.prl_rule.specs.declared.views.Gate.TheVariants as gates
 use Rattle.prl_rule.specs.declared.views.TaskPart.{TaskPart}
@@ -18,36 +21,25 @@ use Rattle.prl_rule.specs.Agreement.{done_word, slot_word, stop_word, Witness, A
 use Rattle.prl_rule.specs.Rule.{AgreesWith, HasPart, StandsAt, reached}
 use Rattle.prl_rule.specs.Steps.{HasRead, acts, caught_up, done_counted, half_loaded, half_stored, moved_on, part_raised, raised_by, stop_loaded, with_part}
 use Rattle.prl_rule.specs.PlanLaws.{PlanLaws}
-use Rattle.prl_rule.proofs.Parts.{set_found}
+use Rattle.prl_rule.proofs.Parts.{caught_ended, caught_kept, caught_now, set_found}
 use Rattle.prl_rule.proofs.Catching.{catch_up, settled}
 use Rattle.prl_rule.proofs.HalfSteps.{load_half_keeps, no_later_loaded, store_half_keeps, value_loaded}
 use Rattle.prl_rule.proofs.JobSteps.{store_done_keeps}
 use Rattle.prl_rule.proofs.StopSteps.{no_overrun, raise_keeps, load_stop_keeps}
-use Rattle.prl_rule.proofs.Telling.{replaced_is_over}
+use Rattle.prl_rule.specs.Known.{run_of}
+use Rattle.prl_rule.specs.Told.{IsReadBy, LeftIsRead}
+use Rattle.prl_rule.proofs.Telling.{left_is_read, replaced_is_over, replaced_is_read}
 
 module _ (k : Constants) (c : RunConstants) (v : RunValues) where
-  -- the reads of constants leave all but the place and the values as they are
-  caught_kept : (i count : ℕ) (p : TaskPart) → (caught_up c v i count p).kept ≡ p.kept
-  caught_kept i zero p = refl
-  caught_kept i (suc count) p = caught_kept i count (moved_on c v i 0 p)
-
-  caught_ended : (i count : ℕ) (p : TaskPart) → (caught_up c v i count p).stand.ended ≡ p.stand.ended
-  caught_ended i zero p = refl
-  caught_ended i (suc count) p = caught_ended i count (moved_on c v i 0 p)
-
-  caught_now : (i count : ℕ) (p : TaskPart) → (caught_up c v i count p).stand.now ≡ p.stand.now
-  caught_now i zero p = refl
-  caught_now i (suc count) p = caught_now i count (moved_on c v i 0 p)
-
   module _ (laws : PlanLaws) (w : Witness) (es : List Event) (words : List ℕ) (views : List View) (id i count : ℕ) (u : View) (p : TaskPart)
       (a : AgreesWith k c v w es words views) (has : HasPart views id i u p) (read : HasRead c i p count) where
-    caught : AgreesWith k c v w (es ++ acts i count) words (set views id (with_part i (caught_up c v i count p) u))
+    pub caught : AgreesWith k c v w (es ++ acts i count) words (set views id (with_part i (caught_up c v i count p) u))
     caught = catch_up k c v laws count w es words views id i u p a has.seat has.part read.opened read.constants
 
-    seat : get_elem? (set views id (with_part i (caught_up c v i count p) u)) id ≡ some (with_part i (caught_up c v i count p) u)
+    pub seat : get_elem? (set views id (with_part i (caught_up c v i count p) u)) id ≡ some (with_part i (caught_up c v i count p) u)
     seat = set_found views id u (with_part i (caught_up c v i count p) u) has.seat
 
-    part : get_elem? (with_part i (caught_up c v i count p) u).tasks i ≡ some (Some (caught_up c v i count p))
+    pub part : get_elem? (with_part i (caught_up c v i count p) u).tasks i ≡ some (Some (caught_up c v i count p))
     part = set_found u.tasks i (Some p) (Some (caught_up c v i count p)) has.part
 
     agrees : AgreesTask c v w.raised (reached c (es ++ acts i count)) i (caught_up c v i count p)
@@ -73,7 +65,7 @@ module _ (k : Constants) (c : RunConstants) (v : RunValues) where
         let reads : ReadsAt c i (caught_up c v i count p).stand.ended (caught_up c v i count p).stand.place m h =
         record { job = record { task = agrees.stand.task; job = agrees.stand.job at.opened }; action = (port, e, at.next) } in
         let inside : h < c.slots = a.facts.read_cell i (caught_up c v i count p).stand.ended (caught_up c v i count p).stand.place m h reads in
-        (λ x. value_of_halves (v.types e.0) (sym (caught_kept i count p) x).low (get_or words (slot_word c h) 0 % 2 ^ 32))
+        (λ x. value_of_halves (v.types e.0) (sym (caught_kept c v i count p) x).low (get_or words (slot_word c h) 0 % 2 ^ 32))
         ∙ value_loaded k c v w (es ++ acts i count) words (set views id (with_part i (caught_up c v i count p) u)) i port e m h (caught_up c v i count p) caught agrees at.opened at.next inside tag odd
 
     pub gated_law : (port : ℕ) (e : EdgeNo) (m h : ℕ) → k.gate ≡ gates.Gated → StandsAt c i (caught_up c v i count p).stand (actions.Read port e m (record { 0 = h })) →
@@ -92,7 +84,7 @@ module _ (k : Constants) (c : RunConstants) (v : RunValues) where
     pub replaces_law : (e : EdgeNo) (m h : ℕ) → StandsAt c i (caught_up c v i count p).stand (actions.Write e m (record { 0 = h })) →
         (j n place l : ℕ) → ReadsAt c j n place l h → get_or words (slot_word c h) 0 / 2 ^ 32 ≡ l + 1 → c.deadline j n ≤ p.stand.now
     replaces_law e m h at j n place l reads tag =
-        subst (λ (x : ℕ). c.deadline j n ≤ x) (caught_now i count p)
+        subst (λ (x : ℕ). c.deadline j n ≤ x) (caught_now c v i count p)
         (replaced_is_over k c v laws w (es ++ acts i count) words (set views id (with_part i (caught_up c v i count p) u)) id i e m h (with_part i (caught_up c v i count p) u) (caught_up c v i count p)
         caught seat part at.opened at.next j n place l reads tag)
 
@@ -100,7 +92,7 @@ module _ (k : Constants) (c : RunConstants) (v : RunValues) where
         AgreesWith k c v w (es ++ (acts i count ++ acts i 1)) (set words (done_word i) (p.stand.ended + 1)) (set views id (with_part i (done_counted v i (caught_up c v i count p)) u))
     store_done_law at =
         subst (λ (n : ℕ). AgreesWith k c v w (es ++ (acts i count ++ acts i 1)) (set words (done_word i) (n + 1)) (set views id (with_part i (done_counted v i (caught_up c v i count p)) u)))
-        (caught_ended i count p)
+        (caught_ended c v i count p)
         (settled k c v w es (acts i count) (acts i 1) (set words (done_word i) ((caught_up c v i count p).stand.ended + 1)) views id i u (caught_up c v i count p) (done_counted v i (caught_up c v i count p))
         (store_done_keeps k c v laws w (es ++ acts i count) words (set views id (with_part i (caught_up c v i count p) u)) id i (with_part i (caught_up c v i count p) u) (caught_up c v i count p)
         caught seat part at.opened at.next))
@@ -115,7 +107,7 @@ module _ (k : Constants) (c : RunConstants) (v : RunValues) where
         (sym (append-nil (es ++ acts i count))) b))
 
     overrun : IsOverrun c i (caught_up c v i count p).stand p.kept → IsOverrun c i (caught_up c v i count p).stand (caught_up c v i count p).kept
-    overrun o = subst (IsOverrun c i (caught_up c v i count p).stand) (sym (caught_kept i count p)) o
+    overrun o = subst (IsOverrun c i (caught_up c v i count p).stand) (sym (caught_kept c v i count p)) o
 
     pub raise_law : IsOverrun c i (caught_up c v i count p).stand p.kept →
         AgreesWith k c v (raised_by i w) (es ++ acts i count) (set words (stop_word c) (i + 1)) (set views id (with_part i (part_raised (caught_up c v i count p)) u))
@@ -133,3 +125,24 @@ module _ (k : Constants) (c : RunConstants) (v : RunValues) where
     load_stop_law =
         without_event w words (stop_loaded (get_or words (stop_word c) 0) (caught_up c v i count p))
         (load_stop_keeps k c v w (es ++ acts i count) words (set views id (with_part i (caught_up c v i count p) u)) id i (with_part i (caught_up c v i count p) u) (caught_up c v i count p) caught seat part)
+
+-- what a write replaces, for every reader
+module _ (k : Constants) (v : RunValues) (laws : PlanLaws) (whole : IsPlan k.plan) (horizon : IsHorizon k.plan k.horizon)
+    (w : Witness) (es : List Event) (words : List ℕ) (views : List View) (id i count : ℕ) (u : View) (p : TaskPart)
+    (a : AgreesWith k (run_of k) v w es words views) (has : HasPart views id i u p) (read : HasRead (run_of k) i p count) (e : EdgeNo) (m : ℕ) where
+  pub over_law : (h : ℕ) → StandsAt (run_of k) i (caught_up (run_of k) v i count p).stand (actions.Write e m (record { 0 = h })) →
+      (l : ℕ) → get_or words (slot_word (run_of k) h) 0 / 2 ^ 32 ≡ l + 1 → IsReadBy k.plan e.0 l p.stand.now
+  over_law h at l tag =
+      subst (λ (x : ℕ). IsReadBy k.plan e.0 l x) (caught_now (run_of k) v i count p)
+      (replaced_is_read k v laws whole horizon w (es ++ acts i count) words (set views id (with_part i (caught_up (run_of k) v i count p) u)) id i e m (record { 0 = h })
+      (with_part i (caught_up (run_of k) v i count p) u) (caught_up (run_of k) v i count p)
+      (caught k (run_of k) v laws w es words views id i count u p a has read) (seat k (run_of k) v laws w es words views id i count u p a has read)
+      (part k (run_of k) v laws w es words views id i count u p a has read) at.opened at.next l tag)
+
+  pub left_law : (slot : SlotNo) → StandsAt (run_of k) i (caught_up (run_of k) v i count p).stand (actions.Write e m slot) →
+      LeftIsRead k i (caught_up (run_of k) v i count p).stand e slot
+  left_law slot at =
+      left_is_read k v laws whole horizon w (es ++ acts i count) words (set views id (with_part i (caught_up (run_of k) v i count p) u)) id i e m slot
+      (with_part i (caught_up (run_of k) v i count p) u) (caught_up (run_of k) v i count p)
+      (caught k (run_of k) v laws w es words views id i count u p a has read) (seat k (run_of k) v laws w es words views id i count u p a has read)
+      (part k (run_of k) v laws w es words views id i count u p a has read) at.opened at.next

@@ -9,6 +9,8 @@ use Rattle.prl_plan.specs.declared.events.Action.TheVariants as actions
 use Rattle.prl_plan.specs.declared.events.Event.{Event}
 use Rattle.prl_plan.specs.declared.events.Event.TheVariants as events
 use Rattle.prl_plan.specs.Facts.{IsJob}
+use Rattle.prl_plan.specs.Horizons.{IsHorizon}
+use Rattle.prl_plan.specs.Plans.{IsPlan}
 use Rattle.prl_rule.specs.declared.views.Constants.{Constants}
 use Rattle.prl_rule.specs.declared.views.Gate.TheVariants as gates
 use Rattle.prl_rule.specs.declared.views.ClockPart.{ClockPart}
@@ -21,7 +23,7 @@ use Rattle.prl_rule.specs.Steps.{acts, clock_stop_loaded, done_counted, half_loa
 use Rattle.prl_rule.specs.Told.{ClockStopTold, EndTold, HalfTold, IsAt, IsStopFor, LookTold, NowTold, RaiseTold, StopTold, TickTold, WriteTold, part_at, part_of}
 use Rattle.prl_rule.specs.PlanLaws.{PlanLaws}
 use Rattle.prl_rule.proofs.Allowed.{Grants, GrantsLoad}
-use Rattle.prl_rule.proofs.Caught.{gated_law, inside_law, load_half_law, load_stop_law, raise_law, store_done_law, store_half_law, value_law}
+use Rattle.prl_rule.proofs.Caught.{gated_law, inside_law, left_law, load_half_law, load_stop_law, raise_law, store_done_law, store_half_law, value_law}
 use Rattle.prl_rule.proofs.ClockSteps.{look_finds_own, look_keeps, now_is_own, tick_keeps}
 use Rattle.prl_rule.proofs.HalfSteps.{fits_loaded, found_loaded, half_of_loaded}
 use Rattle.prl_rule.proofs.JobSteps.{load_now_keeps, load_now_tells}
@@ -83,13 +85,18 @@ module _ (k : Constants) (laws : PlanLaws) (id : ℕ) (me : Me (Unit {0}) View) 
               subst P (λ x. (same.0 x, (same.1 x, same.2 x))) r.3),
         )
 
-    pub grants_write : (e : EdgeNo) (m h : ℕ) → StandsAt (run_of k) i (part_at k i place me.0).stand (actions.Write e m (record { 0 = h })) → FitsValue ((values_of k).stored (h / 2) m) →
+    pub grants_write : IsPlan k.plan → IsHorizon k.plan k.horizon → (e : EdgeNo) (m h : ℕ) → StandsAt (run_of k) i (part_at k i place me.0).stand (actions.Write e m (record { 0 = h })) → FitsValue ((values_of k).stored (h / 2) m) →
         Grants k id me (slot_word (run_of k) h) (λ n. word_of (values_of k) h (m + 1)) (λ n. with_part i (half_stored (run_of k) (values_of k) i (part_at k i place me.0)) me.0) (λ n after. WriteTold k i place me.0 after)
-    grants_write e m h stands fits w es words views a at = (
+    grants_write whole horizon e m h stands fits w es words views a at = (
       w,
       es ++ (acts i (place - (part_of i me.0).stand.place) ++ acts i 1),
       store_half_law k (run_of k) (values_of k) laws w es words views id i (place - (part_of i me.0).stand.place) me.0 (part_of i me.0) a (has_part views at) is.read e m h stands fits,
-      refl,
+      record {
+        view = refl;
+        replaces = λ e' m' slot next.
+            left_law k (values_of k) laws whole horizon w es words views id i (place - (part_of i me.0).stand.place) me.0 (part_of i me.0) a (has_part views at) is.read e' m' slot
+            (record { opened = stands.opened; next = next });
+      },
     )
 
     pub grants_end : StandsAt (run_of k) i (part_at k i place me.0).stand actions.End →

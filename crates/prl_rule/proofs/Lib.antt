@@ -6,13 +6,14 @@ pub mod Allowed
 pub mod Parts
 -- For the crates above: what stands before the read of a high half.
 pub mod Reading
+-- For the crates above: the tag of a word.
+pub mod HalfSteps
 -- For the crates above: the edge of a cell.
 pub mod CellEdges
 mod Exact
 mod ValueSteps
 mod Keeps
 mod Catching
-mod HalfSteps
 mod JobSteps
 mod ClockSteps
 mod StopSteps

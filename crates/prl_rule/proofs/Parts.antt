@@ -19,7 +19,19 @@ set_found [] i a b e = absurd (some-ne-none a (sym e))
 set_found (x ∷ xs) zero a b e = refl
 set_found (x ∷ xs) (suc i) a b e = set_found xs i a b e
 
--- the reads of constants leave a job open
+-- the reads of constants leave all but the place and the values as they are
 pub caught_open : (c : RunConstants) (v : RunValues) (i count : ℕ) (p : TaskPart) → (caught_up c v i count p).stand.is_open ≡ p.stand.is_open
 caught_open c v i zero p = refl
 caught_open c v i (suc count) p = caught_open c v i count (moved_on c v i 0 p)
+
+pub caught_kept : (c : RunConstants) (v : RunValues) (i count : ℕ) (p : TaskPart) → (caught_up c v i count p).kept ≡ p.kept
+caught_kept c v i zero p = refl
+caught_kept c v i (suc count) p = caught_kept c v i count (moved_on c v i 0 p)
+
+pub caught_ended : (c : RunConstants) (v : RunValues) (i count : ℕ) (p : TaskPart) → (caught_up c v i count p).stand.ended ≡ p.stand.ended
+caught_ended c v i zero p = refl
+caught_ended c v i (suc count) p = caught_ended c v i count (moved_on c v i 0 p)
+
+pub caught_now : (c : RunConstants) (v : RunValues) (i count : ℕ) (p : TaskPart) → (caught_up c v i count p).stand.now ≡ p.stand.now
+caught_now c v i zero p = refl
+caught_now c v i (suc count) p = caught_now c v i count (moved_on c v i 0 p)

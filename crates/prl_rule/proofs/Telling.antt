@@ -4,6 +4,9 @@ use Rattle.std.proofs.lemmas.Bool.{cases_lt}
 use mathlib.Core.Option.{some}
 use lib.ListN.{get_elem?}
 use Rattle.prl_base.specs.declared.numbers.EdgeNo.{EdgeNo}
+use Rattle.prl_plan.specs.Horizons.{IsHorizon}
+use Rattle.prl_plan.specs.Plans.{IsPlan}
+use Rattle.prl_plan.specs.declared.events.SlotNo.{SlotNo}
 use Rattle.prl_plan.specs.declared.events.Action.{Action}
 use Rattle.prl_plan.specs.declared.events.Action.TheVariants as actions
 use Rattle.prl_plan.specs.declared.events.Event.{Event}
@@ -21,8 +24,11 @@ use Rattle.prl_rule.specs.declared.views.View.{View}
 use Rattle.prl_rule.specs.RunValues.{RunValues, word_of}
 use Rattle.prl_rule.specs.Agreement.{now_word, done_word, slot_word, Witness, AgreesTask, AgreesClock}
 use Rattle.prl_rule.specs.Rule.{AgreesWith, reached}
+use Rattle.prl_rule.specs.Known.{run_of}
 use Rattle.prl_rule.specs.PlanLaws.{PlanLaws}
+use Rattle.prl_rule.specs.Told.{IsReadBy, LeftIsRead}
 use Rattle.prl_rule.proofs.HalfSteps.{loaded_tag}
+use Rattle.prl_rule.proofs.Keeps.{next_of}
 
 -- `now` stays within the end
 move_keeps_now : (s : ExecState) (i : ℕ) (x : Action) → (after_action s i x).now ≡ s.now
@@ -116,3 +122,32 @@ module _ (k : Constants) (c : RunConstants) (v : RunValues) where
   count_in_jobs laws w es words views i a task =
       let done : get_or words (done_word i) 0 ≡ get_or (reached c es).ended i 0 = a.shows.done i task in
       let counted = (laws.tagged c a.facts es a.free).counted i task in omega (arith, counted, done)
+
+-- what a write replaces, no job reads, of the horizon or not, that is due after the `now` that its task has loaded; and its task has left it there
+module _ (k : Constants) (v : RunValues) (laws : PlanLaws) (whole : IsPlan k.plan) (horizon : IsHorizon k.plan k.horizon)
+    (w : Witness) (es : List Event) (words : List ℕ) (views : List View) (id i : ℕ) (e : EdgeNo) (m : ℕ) (slot : SlotNo) (u : View) (p : TaskPart)
+    (a : AgreesWith k (run_of k) v w es words views) (at : get_elem? views id ≡ some u) (has : get_elem? u.tasks i ≡ some (Some p))
+    (opened : p.stand.is_open ≡ true) (is : action_at (run_of k) i p.stand.ended p.stand.place ≡ actions.Write e m slot) where
+  part : AgreesTask (run_of k) v w.raised (reached (run_of k) es) i p
+  part = ((a.each_view id u at).task i p has).2
+
+  writes : WritesAt (run_of k) i p.stand.ended p.stand.place m slot.0
+  writes = record { job = record { task = part.stand.task; job = part.stand.job opened }; action = (e, is) }
+
+  held_is_read : (l : ℕ) → get_or (reached (run_of k) es).tags slot.0 0 ≡ l + 1 → IsReadBy k.plan e.0 l p.stand.now
+  held_is_read l holds n reads =
+      let next = next_of k (run_of k) v (reached (run_of k) es) i p.stand (actions.Write e m slot) part.stand opened is in
+      let over = laws.replaced k.plan whole k.horizon horizon (reached (run_of k) es) (laws.tagged (run_of k) a.facts es a.free) i e.0 m slot.0 l n next.has next.is holds reads in
+      let own : m ≡ p.stand.ended = a.facts.own i p.stand.ended p.stand.place m slot.0 writes in
+      let released : (run_of k).release i m ≤ p.stand.now = subst (λ (x : ℕ). (run_of k).release i x ≤ p.stand.now) (sym own) (part.stand.released opened) in
+      omega (arith, over, released)
+
+  pub replaced_is_read : (l : ℕ) → get_or words (slot_word (run_of k) slot.0) 0 / 2 ^ 32 ≡ l + 1 → IsReadBy k.plan e.0 l p.stand.now
+  replaced_is_read l tag =
+      held_is_read l (sym (loaded_tag k (run_of k) v w es words views slot.0 a (a.facts.write_cell i p.stand.ended p.stand.place m slot.0 writes)) ∙ tag)
+
+  pub left_is_read : LeftIsRead k i p.stand e slot
+  left_is_read l tag =
+      let c = run_of k in
+      let writer : IsWriter c i slot.0 = λ j n place l other. a.facts.writer j n place l i p.stand.ended p.stand.place m slot.0 other writes in
+      held_is_read l ((laws.left c a.facts es a.free).left i slot.0 writer ∙ sym (λ x. last_tag c i slot.0 (part.stand.ended x) (part.stand.place x)) ∙ tag)

@@ -3,11 +3,19 @@ use Rattle.std.specs.Prelude.{◌≡◌, ◌≢◌, ◌+◌, ◌-◌, ◌/◌, �
 use mathlib.Core.Option.{some}
 use lib.ListN.{get_elem?}
 use Rattle.prl_base.specs.Values.{FitsValue}
+use Rattle.prl_base.specs.declared.numbers.EdgeNo.{EdgeNo}
 use Rattle.prl_plan.specs.Facts.{WritesAt}
 use Rattle.prl_plan.specs.LastTags.{IsWriter, last_tag}
+use Rattle.prl_plan.specs.Operands.{operand_of}
+use Rattle.prl_plan.specs.Plans.{PlanView, deadline_at, edge_at}
+use Rattle.prl_plan.specs.Runs.{action_at}
+use Rattle.prl_plan.specs.declared.events.Action.TheVariants as actions
+use Rattle.prl_plan.specs.declared.events.SlotNo.{SlotNo}
+use Rattle.prl_plan.specs.declared.walks.Operand.TheVariants as operands
 use Rattle.prl_rule.specs.declared.views.Constants.{Constants}
 use Rattle.prl_rule.specs.declared.views.Gate.TheVariants as gates
 use Rattle.prl_rule.specs.declared.views.ClockPart.{ClockPart}
+use Rattle.prl_rule.specs.declared.views.Standing.{Standing}
 use Rattle.prl_rule.specs.declared.views.TaskPart.{TaskPart}
 use Rattle.prl_rule.specs.declared.views.View.{View}
 use Rattle.prl_rule.specs.Halves.{value_of_halves}
@@ -58,10 +66,22 @@ pub record HalfTold (k : Constants) (i place e m h : ℕ) (before : View) (n : �
   pub own : (j : ℕ) (q : TaskPart) → get_elem? before.tasks j ≡ some (Some q) → IsWriter (run_of k) j h →
       n ≡ word_of (values_of k) h (last_tag (run_of k) j h q.stand.ended q.stand.place)
 
--- after a store of a half, and of a done word
-abbrev pub WriteTold : Constants → ℕ → ℕ → View → View → Type 0
-WriteTold k i place before after = after ≡ with_part i (half_stored (run_of k) (values_of k) i (part_at k i place before)) before
+-- no job that reads instance l of edge e, of the horizon or not, is due after this date
+abbrev pub IsReadBy : PlanView → ℕ → ℕ → ℕ → Type 0
+IsReadBy plan e l date = (n : ℕ) → operand_of (edge_at plan.graph e) n ≡ operands.From l → deadline_at plan (edge_at plan.graph e).to.0 n ≤ date
 
+-- what the task itself left in a slot, as it stands, is nothing, or an instance that is read by the `now` that it has loaded
+abbrev pub LeftIsRead : Constants → ℕ → Standing → EdgeNo → SlotNo → Type 0
+LeftIsRead k i at e slot = (l : ℕ) → last_tag (run_of k) i slot.0 at.ended at.place ≡ l + 1 → IsReadBy k.plan e.0 l at.now
+
+-- after a store of a half, which replaces what its task left there
+pub record WriteTold (k : Constants) (i place : ℕ) (before after : View) : Type 0 where
+  pub view : after ≡ with_part i (half_stored (run_of k) (values_of k) i (part_at k i place before)) before
+  pub replaces : (e : EdgeNo) (m : ℕ) (slot : SlotNo) →
+      action_at (run_of k) i (part_at k i place before).stand.ended (part_at k i place before).stand.place ≡ actions.Write e m slot →
+      LeftIsRead k i (part_at k i place before).stand e slot
+
+-- after a store of a done word
 abbrev pub EndTold : Constants → ℕ → ℕ → View → View → Type 0
 EndTold k i place before after = after ≡ with_part i (done_counted (values_of k) i (part_at k i place before)) before
 

@@ -15,7 +15,8 @@ ghost use Rattle.prl_rule.specs.PlanLaws.{PlanLaws};
 
 use prl_plan::{
     actions_are_as_defined, free_events_keep_tags, free_list_leaves_tags, gated_list_keeps_halves,
-    horizon_jobs_are_counted, run_of_two_lists, tag_is_of_the_latest_instance,
+    horizon_jobs_are_counted, replaced_instance_is_over, run_of_two_lists,
+    tag_is_of_the_latest_instance,
 };
 use prl_values::{job_values_are_typed, job_values_exist};
 
@@ -60,4 +61,5 @@ pub fn plan_laws()
     gated_list_keeps_halves();
     tag_is_of_the_latest_instance();
     free_list_leaves_tags();
+    replaced_instance_is_over();
 }

@@ -11,7 +11,9 @@ ghost use Rattle.prl_plan.specs.declared.events.Action.TheVariants as actions;
 ghost use Rattle.prl_plan.specs.declared.events.Event.{Event};
 ghost use Rattle.prl_plan.specs.declared.events.Event.TheVariants as events;
 ghost use Rattle.prl_plan.specs.Facts.{HasPlanFacts, IsJob, ReadsAt, WritesAt};
+ghost use Rattle.prl_plan.specs.Horizons.{IsHorizon};
 ghost use Rattle.prl_plan.specs.LastTags.{IsWriter, last_tag};
+ghost use Rattle.prl_plan.specs.Plans.{IsPlan};
 ghost use Rattle.prl_plan.specs.Runs.{RunConstants};
 ghost use Rattle.prl_rule.specs.declared.views.Constants.{Constants};
 ghost use Rattle.prl_rule.specs.declared.views.Gate.TheVariants as gates;
@@ -23,6 +25,7 @@ ghost use Rattle.prl_rule.specs.RunValues.{RunValues, HasValueFacts, half_of, wo
 ghost use Rattle.prl_rule.specs.Agreement.{now_word, done_word, slot_word, stop_word, word_count, AgreesClock, AgreesTask, IsOverrun, Witness};
 ghost use Rattle.prl_rule.specs.Known.{run_of, values_of};
 ghost use Rattle.prl_rule.specs.Rule.{Agreed, AgreesWith, HasClock, HasPart, StandsAt, all_parts, first_view, first_witness, reached};
+ghost use Rattle.prl_rule.specs.Told.{IsReadBy};
 ghost use Rattle.prl_rule.specs.Steps.{HasRead, acts, bare, caught_up, clock_stop_loaded, done_counted, given_to, half_loaded, half_stored, joined, looked, now_loaded, only_part, part_raised, raised_by, spent, stop_loaded, taken_in, ticked, with_clock, with_part, without_part};
 
 use crate::laws::plan_laws;
@@ -106,7 +109,8 @@ pub fn gated_read_is_never_overrun()
 }
 
 /// A store of a half, of an instance of 64 bits, is the write of this half. It replaces nothing, or
-/// an instance whose horizon readers are all due by the `now` that the seat has loaded.
+/// an instance whose readers, of the horizon or not, are all due by the `now` that the seat has
+/// loaded; `replaces` says so of horizon readers over any constants.
 pub fn store_of_half_is_a_write()
     ensures keeps { (k : Constants) (c : RunConstants) (v : RunValues) (w : Witness) (es : List Event)
         (words : List ℕ) (views : List View) (id i count : ℕ) (e : EdgeNo) (m h : ℕ) (view : View) (p : TaskPart) →
@@ -121,6 +125,12 @@ pub fn store_of_half_is_a_write()
         StandsAt c i (caught_up c v i count p).stand (actions.Write e m (record { 0 = h })) →
         (j n place l : ℕ) → ReadsAt c j n place l h → slice_index words (slot_word c h) / 2 ^ 32 ≡ l + 1 →
         c.deadline j n ≤ p.stand.now }
+    ensures over { (k : Constants) (v : RunValues) (w : Witness) (es : List Event)
+        (words : List ℕ) (views : List View) (id i count : ℕ) (e : EdgeNo) (m h : ℕ) (view : View) (p : TaskPart) →
+        IsPlan k.plan → IsHorizon k.plan k.horizon →
+        AgreesWith k (run_of k) v w es words views → HasPart views id i view p → HasRead (run_of k) i p count →
+        StandsAt (run_of k) i (caught_up (run_of k) v i count p).stand (actions.Write e m (record { 0 = h })) →
+        (l : ℕ) → slice_index words (slot_word (run_of k) h) / 2 ^ 32 ≡ l + 1 → IsReadBy k.plan e.0 l p.stand.now }
 {
     plan_laws();
 }

@@ -21,7 +21,7 @@ use Rattle.prl_rule.specs.Rule.{StandsAt, first_part}
 use Rattle.prl_rule.specs.Steps.{caught_up, done_counted, half_loaded, half_missed, half_stored, half_taken, moved_on, now_loaded, with_part}
 use Rattle.prl_rule.specs.Told.{EndTold, HalfTold, IsAt, NowTold, WriteTold, part_at, part_of, part_or}
 use Rattle.prl_seats.specs.JobSeats.{Follows, HasFirstPart, IsStage}
-use Rattle.prl_rule.proofs.Parts.{caught_open, part_there, set_found}
+use Rattle.prl_rule.proofs.Parts.{caught_ended, caught_open, part_there, set_found}
 
 -- the part of a view with this part
 pub part_is : (i : ℕ) (view : View) (p q : TaskPart) → get_elem? view.tasks i ≡ some (Some p) → part_of i (with_part i q view) ≡ q
@@ -169,7 +169,7 @@ module _ (k : Constants) (i : ℕ) where
   pub write_follows : (view after : View) (job place : ℕ) (action : Action) → Follows k view i job place (stages.At action) → WriteTold k i place view after →
       Follows k after i job (place + 1) (stages.At (action_at (run_of k) i job (place + 1)))
   write_follows view after job place action f told =
-      subst (λ (v : View). Follows k v i job (place + 1) (stages.At (action_at (run_of k) i job (place + 1)))) (sym told)
+      subst (λ (v : View). Follows k v i job (place + 1) (stages.At (action_at (run_of k) i job (place + 1)))) (sym told.view)
       (follows_fresh view (part_of i view) (half_stored (run_of k) (values_of k) i (part_at k i place view)) job (place + 1) (stages.At (action_at (run_of k) i job (place + 1)))
       f.at.known f.at.part f.task f.ended (ap (λ (n : ℕ). n + 1) f.stands) (f.shown.0, f.shown.1, refl))
 
@@ -191,10 +191,6 @@ module _ (k : Constants) (i : ℕ) where
 caught_more : (c : RunConstants) (v : RunValues) (i count : ℕ) (p : TaskPart) → caught_up c v i (suc count) p ≡ moved_on c v i 0 (caught_up c v i count p)
 caught_more c v i zero p = refl
 caught_more c v i (suc count) p = caught_more c v i count (moved_on c v i 0 p)
-
-caught_ended : (c : RunConstants) (v : RunValues) (i count : ℕ) (p : TaskPart) → (caught_up c v i count p).stand.ended ≡ p.stand.ended
-caught_ended c v i zero p = refl
-caught_ended c v i (suc count) p = caught_ended c v i count (moved_on c v i 0 p)
 
 module _ (k : Constants) (i : ℕ) where
   pub const_follows : (view : View) (job place port : ℕ) (value : Value) → Follows k view i job place (stages.At (actions.ReadConst port value)) →

@@ -97,6 +97,7 @@ pub record LoadsHalf (k : Constants) (e : EdgeNo) (m : ℕ) (slot : SlotNo) (bef
 pub record Ends (k : Constants) (before after : JobSeatView) : Type 0 where
   pub told : EndTold k before.task.0 before.place before.view after.view
   pub job : after.job ≡ before.job + 1
+  pub place : after.place ≡ 0
   pub stage : IsStage (run_of k) before.task.0 (before.job + 1) 0 false after.stage
 
 -- it stands at a read of a half, of which it has loaded a later instance than the wanted one

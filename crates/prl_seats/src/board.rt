@@ -526,6 +526,7 @@ impl<'a> Board<'a> {
         ensures told { WriteTold self.now.known task.0 place seat.old.me.0 seat.new.me.0 }
     {
         plan_facts(self.plan, self.horizon);
+        plan_is_one(self.plan);
         plan_laws();
         let at = self.word_of_half(slot);
         self.store::<Brand>(seat, task.0, place, at, word);

@@ -237,7 +237,6 @@ impl JobSeat {
         ensures seat { IsSeatOf board.now self.new }
         ensures same { IsSameSeat self.old self.new }
         ensures told { Ends board.now.known self.old self.new }
-        ensures place { self.new.place ≡ 0 }
     {
         let ended = u64::from(board.tag_of(self.task, self.job));
         board.store_done(&mut self.seat, self.task, self.place, ended);

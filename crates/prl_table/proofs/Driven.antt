@@ -20,7 +20,7 @@ use Rattle.prl_seats.specs.declared.jobs.Stage.TheVariants as stages
 use Rattle.prl_seats.specs.JobSeats.{JobSeatView, IsStage}
 use Rattle.prl_board.specs.Lones.{LoneView, IsWhole}
 use Rattle.prl_exec.specs.Standing.{IsPolled, StandsIn, act_of}
-use Rattle.prl_exec.proofs.Calls.{seat_there}
+use Rattle.prl_board.proofs.Lists.{seat_there}
 use Rattle.prl_tables.specs.CheckedTables.{CheckedView}
 use Rattle.prl_tables.specs.Tables.{last_unit}
 use Rattle.prl_tables.specs.Unrolled.{HaveActed}

@@ -1,9 +1,11 @@
 -- What one thread that holds all seats keeps: each seat has lent what it knew to one seat of the table.
 use Rattle.std.specs.Prelude.{◌≡◌, ℕ, List, length, Some, slice_get}
+use mathlib.Core.Option.{some}
 use lib.ListN.{get_elem?}
 use Rattle.prl_plan.specs.Plans.{IsPlan}
 use Rattle.prl_rule.specs.declared.views.ClockPart.{ClockPart}
 use Rattle.prl_rule.specs.declared.views.Constants.{Constants}
+use Rattle.prl_rule.specs.declared.views.TaskPart.{TaskPart}
 use Rattle.prl_rule.specs.declared.views.View.{View}
 use Rattle.prl_rule.specs.Agreement.{word_count}
 use Rattle.prl_rule.specs.Told.{part_of}
@@ -33,6 +35,10 @@ pub record AreLent (k : Constants) (view : View) (seats : List JobSeatView) (clo
 -- the part of task i stands where its seat does
 abbrev pub IsSettled : View → ℕ → JobSeatView → Type 0
 IsSettled view i s = ((part_of i view).stand.ended ≡ s.job) × ((part_of i view).stand.place ≡ s.place)
+
+-- the half that a task has loaded last is the same in both views
+abbrev pub KeepHalves : View → View → Type 0
+KeepHalves before after = (i : ℕ) (p : TaskPart) → get_elem? before.tasks i ≡ some (Some p) → (q : TaskPart) × (get_elem? after.tasks i ≡ some (Some q)) × (q.kept ≡ p.kept)
 
 -- two views differ by the part of task i at most
 pub record IsElsewhere (i : ℕ) (before after : View) : Type 0 where

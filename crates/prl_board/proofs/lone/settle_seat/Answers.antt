@@ -6,7 +6,7 @@ use Rattle.prl_rule.specs.Told.{part_at, part_of}
 use Rattle.prl_seats.specs.declared.jobs.Stage.{Stage}
 use Rattle.prl_seats.specs.JobSeats.{Follows, HasPartOf, JobSeatView}
 use Rattle.prl_seats.proofs.Following.{known_once}
-use Rattle.prl_board.proofs.Lending.{bare_has_none, stop_settles}
+use Rattle.prl_board.proofs.Lending.{bare_has_none, stop_keeps_halves, stop_settles}
 use Rattle.prl_board.proofs.lone.settle_seat.Goals as goal
 
 pub exchange-requires-clause-run : goal.exchange-requires-clause-run
@@ -92,3 +92,10 @@ returns-clause-settled c =
       ap (λ m. (part_of c.args.seat.now.task.0 m.0).stand.place) c.exchange-2.ensures.given.2 ∙ settles.4
           ∙ sym (ap (λ (s : JobSeatView). s.place) second ∙ c.stopped.ensures.stays.place ∙ ap (λ (s : JobSeatView). s.place) first),
     )
+
+pub returns-clause-halves : goal.returns-clause-halves
+returns-clause-halves c =
+    let told : c.stopped.new.self.view ≡ with_part c.args.seat.now.task.0 (stop_loaded c.stopped.ensures.answer.word (part_at c.args.board.now.known c.args.seat.now.task.0 c.args.seat.now.place c.args.whole.now.me.0)) c.args.whole.now.me.0 =
+    subst (λ (s : JobSeatView). c.stopped.new.self.view ≡ with_part s.task.0 (stop_loaded c.stopped.ensures.answer.word (part_at c.args.board.now.known s.task.0 s.place s.view)) s.view) c.exchange.ensures.taken c.stopped.ensures.answer.told.view in
+    stop_keeps_halves c.args.board.now.known c.args.whole.now.me.0 c.exchange-2.new.other.me.0 c.args.seat.now.task.0 c.args.seat.now.place c.stopped.ensures.answer.word c.requires.lent.stands.at.part
+    (ap (λ m. m.0) c.exchange-2.ensures.given.2 ∙ told)

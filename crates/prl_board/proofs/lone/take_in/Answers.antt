@@ -29,15 +29,19 @@ returns-clause-clock c = λ r has. ap (λ m. m.0.clock) c.join.ensures.view ∙ 
 pub returns-clause-others : goal.returns-clause-others
 returns-clause-others c = λ j p has. ap (λ m. get_elem? m.0.tasks j) c.join.ensures.view ∙ mine_stays c.args.whole.now.me.0.tasks c.exchange.new.other.me.0.tasks j p has
 
-pub returns-clause-stands : goal.returns-clause-stands
-returns-clause-stands c =
+pub returns-clause-part : goal.returns-clause-part
+returns-clause-part c =
     let i = c.args.seat.now.task.0 in
     let has : get_elem? c.exchange.new.other.me.0.tasks i ≡ some (Some (part_of i c.args.seat.now.view)) = ap (λ m. get_elem? m.0.tasks i) c.exchange.ensures.given.2 ∙ c.requires.seat.part in
-    follows_with c.args.board.now.known i c.args.seat.now.job c.args.seat.now.place c.args.seat.now.stage c.args.seat.now.view c.join.new.seat.me.0
+    ap (λ m. get_elem? m.0.tasks i) c.join.ensures.view
+    ∙ theirs_comes c.args.whole.now.me.0.tasks c.exchange.new.other.me.0.tasks i (part_of i c.args.seat.now.view) (tasks_apart c.args.whole.now.me.0 c.exchange.new.other.me.0 c.join.ensures.apart) has
+
+pub returns-clause-stands : goal.returns-clause-stands
+returns-clause-stands c =
+    follows_with c.args.board.now.known c.args.seat.now.task.0 c.args.seat.now.job c.args.seat.now.place c.args.seat.now.stage c.args.seat.now.view c.join.new.seat.me.0
     (c.stands.ensures c.args.board.now.known c.requires.seat.known c.requires.seat.part)
     (ap (λ m. m.0.constants) c.join.ensures.view ∙ c.requires.whole.1)
-    (ap (λ m. get_elem? m.0.tasks i) c.join.ensures.view
-    ∙ theirs_comes c.args.whole.now.me.0.tasks c.exchange.new.other.me.0.tasks i (part_of i c.args.seat.now.view) (tasks_apart c.args.whole.now.me.0 c.exchange.new.other.me.0 c.join.ensures.apart) has)
+    (returns-clause-part c)
 
 pub returns-clause-bare : goal.returns-clause-bare
 returns-clause-bare c = (

@@ -1,7 +1,8 @@
 use Rattle.std.proofs.Common.{arith, ◌≡◌, length-set, vec_items, sym, ◌∙◌, Some}
 use Rattle.std.specs.Prelude.{slice_get}
 use Rattle.std.proofs.lemmas.Option.{slice_get_within}
-use Rattle.prl_board.proofs.Lending.{lent_more, read_there, rest_more, stand_more}
+use Rattle.prl_board.proofs.Lending.{lent_more, parts_more, rest_more, stand_more}
+use Rattle.prl_board.proofs.Lists.{read_there}
 use Rattle.prl_board.proofs.lone.take_in_all.Goals as goal
 
 pub take_in-requires-clause-seat : goal.take_in-requires-clause-seat
@@ -24,6 +25,7 @@ loop-i-preserved c =
       long = length-set (vec_items c.loop-i.seats) c.loop-i.i c.take_in.new.seat ∙ inv.long;
       done = lent_more c.args.board.now.known c.loop-i.whole.me.0 c.take_in.new.whole.me.0 c.loop-i.i (vec_items c.loop-i.seats) c.index_mut.result.now c.take_in.new.seat inv.done
           c.take_in.ensures.same.2 c.take_in.ensures.others task c.take_in.ensures.stands c.take_in.ensures.bare.0 c.take_in.ensures.bare.1 c.take_in.ensures.bare.2;
+      parts = parts_more c.loop-i.whole.me.0 c.take_in.new.whole.me.0 c.loop-i.i (vec_items c.args.seats.now) c.index_mut.result.now inv.parts was task c.take_in.ensures.others c.take_in.ensures.part;
       stand = stand_more (vec_items c.args.seats.now) (vec_items c.loop-i.seats) c.loop-i.i c.index_mut.result.now c.take_in.new.seat inv.stand there c.take_in.ensures.bare.1 c.take_in.ensures.bare.2;
       rest = rest_more (vec_items c.args.seats.now) (vec_items c.loop-i.seats) c.loop-i.i c.take_in.new.seat inv.rest;
     }
@@ -33,3 +35,9 @@ returns-clause-lent c = λ i s has.
     let test = c.loop-i-test.false in let end = c.len-i-end.ensures in let ok = c.args.seats.now.ok in let long = c.loop-i.invariant.long in
     let inside = slice_get_within (vec_items c.loop-i.seats) i s has in
     c.loop-i.invariant.done i s (omega (arith, inside, test, end, ok, long)) has
+
+pub returns-clause-parts : goal.returns-clause-parts
+returns-clause-parts c = λ i s has.
+    let test = c.loop-i-test.false in let end = c.len-i-end.ensures in let ok = c.args.seats.now.ok in
+    let inside = slice_get_within (vec_items c.args.seats.now) i s has in
+    c.loop-i.invariant.parts i s (omega (arith, inside, test, end, ok)) has

@@ -3,7 +3,7 @@ use Rattle.std.specs.Prelude.{slice_get}
 use Rattle.std.specs.Vec.{vec_items}
 use Rattle.prl_seats.specs.JobSeats.{JobSeatView}
 use Rattle.prl_exec.proofs.Dealt.{get_more}
-use Rattle.prl_exec.proofs.Holding.{read_there, set_else}
+use Rattle.prl_board.proofs.Lists.{read_there, set_else}
 use Rattle.prl_exec.proofs.dealing.collected.Goals as goal
 
 pub unreachable-requires : goal.unreachable-requires

@@ -4,7 +4,7 @@ use Rattle.std.specs.Vec.{vec_items}
 use Rattle.std.proofs.lemmas.Bool.Decides.{nat_tests}
 use Rattle.std.proofs.lemmas.Option.{slice_get_within}
 use Rattle.prl_seats.specs.JobSeats.{JobSeatView}
-use Rattle.prl_exec.proofs.Holding.{read_there}
+use Rattle.prl_board.proofs.Lists.{read_there}
 use Rattle.prl_exec.proofs.Dealt.{IsDealt, more_dealt}
 use Rattle.prl_exec.proofs.dealing.deal.Goals as goal
 

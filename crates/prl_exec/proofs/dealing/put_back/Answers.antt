@@ -3,7 +3,7 @@ use Rattle.std.specs.Prelude.{slice_set}
 use Rattle.prl_seats.specs.JobSeats.{JobSeatView}
 use Rattle.std.specs.Vec.{vec_items}
 use Rattle.std.proofs.lemmas.Option.{slice_get_within}
-use Rattle.prl_exec.proofs.Holding.{read_there}
+use Rattle.prl_board.proofs.Lists.{read_there}
 use Rattle.prl_exec.proofs.Dealt.{ArePut, more_put}
 use Rattle.prl_exec.proofs.dealing.put_back.Goals as goal
 

@@ -3,7 +3,8 @@ use Rattle.std.specs.Prelude.{slice_get}
 use Rattle.std.specs.Vec.{vec_items}
 use Rattle.std.proofs.lemmas.Bool.{cases_eq}
 use Rattle.prl_seats.specs.JobSeats.{JobSeatView}
-use Rattle.prl_exec.proofs.Holding.{get_front, get_last, read_there, set_at, set_else, set_here}
+use Rattle.prl_board.proofs.Lists.{read_there, set_at, set_else, set_here}
+use Rattle.prl_exec.proofs.Holding.{get_front, get_last}
 use Rattle.prl_exec.proofs.dealing.slots.Goals as goal
 
 pub loop-seat-init : goal.loop-seat-init

@@ -1,6 +1,7 @@
 use Rattle.std.proofs.Common.{arith}
 use Rattle.std.specs.Vec.{vec_items}
-use Rattle.prl_exec.proofs.Holding.{polled_held, polled_kept, read_there}
+use Rattle.prl_board.proofs.Lists.{read_there}
+use Rattle.prl_exec.proofs.Holding.{polled_held, polled_kept}
 use Rattle.prl_exec.proofs.workers.is_stopped.Goals as goal
 
 pub returns-then-is_some-clause-held : goal.returns-then-is_some-clause-held

@@ -1,7 +1,8 @@
 use Rattle.std.proofs.Common.{arith, ◌≡◌, Some}
 use Rattle.std.specs.Prelude.{slice_get}
 use Rattle.std.specs.Vec.{vec_items}
-use Rattle.prl_exec.proofs.Holding.{polled_held, polled_kept, read_there}
+use Rattle.prl_board.proofs.Lists.{read_there}
+use Rattle.prl_exec.proofs.Holding.{polled_held, polled_kept}
 use Rattle.prl_exec.proofs.workers.poll_all.Goals as goal
 
 pub returns-in-Overrun-clause-held : goal.returns-in-Overrun-clause-held

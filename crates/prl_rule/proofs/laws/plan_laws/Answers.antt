@@ -10,4 +10,5 @@ returns c = record {
   left = c.free_list_leaves_tags.ensures;
   kept = c.gated_list_keeps_halves.ensures.kept;
   held = c.gated_list_keeps_halves.ensures.halves;
+  replaced = c.replaced_instance_is_over.ensures;
 }

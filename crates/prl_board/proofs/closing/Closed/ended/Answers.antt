@@ -5,7 +5,7 @@ use native.Mathlib.Decide.{ℕ_discrete}
 use Rattle.prl_board.specs.Closings.{ClosedView}
 use Rattle.prl_seats.specs.JobSeats.{JobSeatView}
 use Rattle.prl_board.proofs.ClosedBoards.{all_over, not_over}
-use Rattle.prl_board.proofs.Lending.{read_there}
+use Rattle.prl_board.proofs.Lists.{read_there}
 use Rattle.prl_board.proofs.closing.Closed.ended.Goals as goal
 
 pub returns-then-not-is_over-clause-no : goal.returns-then-not-is_over-clause-no

@@ -9,7 +9,7 @@ use Rattle.prl_rule.specs.declared.views.Constants.{Constants}
 use Rattle.prl_rule.specs.declared.views.View.{View}
 use Rattle.prl_board.specs.Closings.{ClosedView, IsNoActuator}
 use Rattle.prl_board.proofs.Actuators.{first_drives}
-use Rattle.prl_board.proofs.Lending.{read_there}
+use Rattle.prl_board.proofs.Lists.{read_there}
 use Rattle.prl_board.proofs.closing.Closed.first_actuator.Goals as goal
 
 pub returns-then-has_output : goal.returns-then-has_output

@@ -5,7 +5,7 @@ use Rattle.prl_rule.specs.declared.views.View.{View}
 use Rattle.prl_board.specs.Closings.{ClosedView}
 use Rattle.prl_seats.specs.JobSeats.{JobSeatView}
 use Rattle.prl_board.specs.TaskSeats.{IsMachineOf, IsNodeTask}
-use Rattle.prl_board.proofs.Lending.{read_there}
+use Rattle.prl_board.proofs.Lists.{read_there}
 use Rattle.prl_board.proofs.closing.Closed.machine.Goals as goal
 
 pub machine-requires : goal.machine-requires

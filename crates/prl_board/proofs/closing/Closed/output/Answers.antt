@@ -8,7 +8,7 @@ use Rattle.prl_rule.specs.declared.views.View.{View}
 use Rattle.prl_board.specs.Closings.{AreOutputs, ClosedView, Drives}
 use Rattle.prl_seats.specs.JobSeats.{JobSeatView}
 use Rattle.prl_board.proofs.Actuators.{drives_after}
-use Rattle.prl_board.proofs.Lending.{read_there}
+use Rattle.prl_board.proofs.Lists.{read_there}
 use Rattle.prl_board.proofs.closing.Closed.output.Goals as goal
 
 pub overflow_add-task : goal.overflow_add-task

@@ -1,11 +1,13 @@
-use Rattle.std.proofs.Common.{◌≡◌, ℕ, get_or, sym, ap, subst, ◌∙◌, vec_items, Some}
+use Rattle.std.proofs.Common.{◌≡◌, ℕ, List, get_or, sym, ap, subst, ◌∙◌, vec_items, Some}
 use Rattle.std.specs.Mem.Slots.{slots_items}
 use Rattle.std.specs.Prelude.{slice_get}
-use Rattle.prl_board.specs.Closings.{ClosedView}
+use lib.ListN.{get_elem?}
+use Rattle.prl_rule.specs.declared.views.KeptHalf.{KeptHalf}
+use Rattle.prl_board.specs.Closings.{ClosedView, KeepsTag}
 use Rattle.prl_seats.specs.JobSeats.{JobSeatView}
 use Rattle.prl_board.specs.Lones.{LoneView}
 use Rattle.prl_board.specs.code.Lent.{IsSettled}
-use Rattle.prl_board.proofs.ClosedBoards.{closed_from, closing_clock}
+use Rattle.prl_board.proofs.ClosedBoards.{closed_from, closing_clock, closing_tags}
 use Rattle.prl_board.proofs.lone.Lone.close.Goals as goal
 
 pub new-requires-clause-left : goal.new-requires-clause-left
@@ -27,3 +29,12 @@ pub returns-clause-clock : goal.returns-clause-clock
 returns-clause-clock c = λ r has.
     ap (λ (d : ClosedView). get_or d.words 0 0) c.new.ensures
     ∙ closing_clock c.args.board.known c.self.inside.whole.me.0 (slots_items c.close.result.words) c.close.ensures.closing r (ap (λ (l : LoneView). l.view.clock) c.self.view_is ∙ c.settle_all.ensures.clock ∙ has)
+
+pub returns-clause-tags : goal.returns-clause-tags
+returns-clause-tags c = λ i p has.
+    let known = c.args.board.known in
+    let kept = c.settle_all.ensures.halves i p has in
+    let whole = ap (λ (l : LoneView). get_elem? l.view.tasks i) c.self.view_is ∙ kept.1 in
+    let P : List ℕ × KeptHalf → Type 0 = λ z. KeepsTag known z.1 z.0 in
+    subst P (λ h. (ap (λ (d : ClosedView). d.words) (sym c.new.ensures) h, kept.2 h))
+    (closing_tags known c.plan_laws.ensures c.self.inside.whole.me.0 (slots_items c.close.result.words) c.close.ensures.closing i kept.0 whole)

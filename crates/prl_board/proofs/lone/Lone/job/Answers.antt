@@ -2,7 +2,7 @@ use Rattle.std.proofs.Common.{◌≡◌, ◌<◌, length, sym, ap, subst, ◌∙
 use Rattle.std.specs.Prelude.{slice_get}
 use Rattle.prl_seats.specs.JobSeats.{JobSeatView}
 use Rattle.prl_board.specs.Lones.{LoneView}
-use Rattle.prl_board.proofs.Lending.{read_there}
+use Rattle.prl_board.proofs.Lists.{read_there}
 use Rattle.prl_board.proofs.lone.Lone.job.Goals as goal
 
 pub returns : goal.returns

@@ -3,7 +3,7 @@ use Rattle.std.specs.Prelude.{slice_get}
 use Rattle.prl_seats.specs.JobSeats.{JobSeatView}
 use Rattle.prl_board.specs.Lones.{LoneView}
 use Rattle.prl_board.specs.TaskSeats.{place_of}
-use Rattle.prl_board.proofs.Lending.{read_there}
+use Rattle.prl_board.proofs.Lists.{read_there}
 use Rattle.prl_board.proofs.lone.Lone.place.Goals as goal
 
 pub returns : goal.returns

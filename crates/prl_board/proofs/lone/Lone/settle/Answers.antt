@@ -3,9 +3,10 @@ use lib.ListN.{get_elem?}
 use Rattle.prl_base.specs.declared.numbers.TaskNo.{TaskNo}
 use Rattle.prl_seats.specs.JobSeats.{JobSeatView}
 use Rattle.prl_board.specs.Lones.{LoneView, StandAs}
-use Rattle.prl_board.specs.code.Lent.{AreLent, IsLent, IsSettled}
+use Rattle.prl_board.specs.code.Lent.{AreLent, IsLent, IsSettled, KeepHalves}
 use Rattle.prl_seats.proofs.Following.{known_once}
-use Rattle.prl_board.proofs.Lending.{read_there, relent, set_is, stands_set}
+use Rattle.prl_board.proofs.Lending.{relent, set_is, stands_set}
+use Rattle.prl_board.proofs.Lists.{read_there}
 use Rattle.prl_board.proofs.lone.Lone.settle.Goals as goal
 
 pub settle_seat-requires-clause-whole : goal.settle_seat-requires-clause-whole
@@ -69,3 +70,6 @@ returns-clause-others c = λ j p ne has.
     let its = (c.self.invariant.1 c.args.board.now.known known).each c.args.i c.index_mut.result.now there in
     let task : c.index_mut.result.now.task.0 ≡ c.args.i = ap (λ (t : TaskNo). t.0) its.task in
     c.settle_seat.ensures.others j p (λ e. ne (e ∙ task)) (ap (λ (l : LoneView). get_elem? l.view.tasks j) c.self.view_is ∙ has)
+
+pub returns-clause-halves : goal.returns-clause-halves
+returns-clause-halves c = subst (λ (l : LoneView). KeepHalves l.view c.settle_seat.new.whole.me.0) c.self.view_is c.settle_seat.ensures.halves

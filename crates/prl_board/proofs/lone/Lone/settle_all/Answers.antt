@@ -4,7 +4,7 @@ use mathlib.Core.Logic.{dite}
 use native.Mathlib.Decide.{ℕ_discrete}
 use Rattle.prl_board.specs.Lones.{LoneView}
 use Rattle.prl_board.specs.code.Lent.{IsSettled}
-use Rattle.prl_board.proofs.Lending.{settled_stays, stands_then}
+use Rattle.prl_board.proofs.Lending.{keep_then, settled_stays, stands_then}
 use Rattle.prl_board.proofs.lone.Lone.settle_all.Goals as goal
 
 pub settle-requires-clause-lone : goal.settle-requires-clause-lone
@@ -25,6 +25,7 @@ loop-i-preserved c =
       lone = c.settle.ensures.lone;
       stand = stands_then c.args.self.now.seats c.loop-i.self.seats c.settle.new.self.seats inv.stand c.settle.ensures.seats;
       clock = c.settle.ensures.clock ∙ inv.clock;
+      halves = keep_then c.args.self.now.view c.loop-i.self.view c.settle.new.self.view inv.halves c.settle.ensures.halves;
       settled = λ j s below has. dite (ℕ_discrete j c.loop-i.i)
           (λ same. subst (λ (n : ℕ). IsSettled c.settle.new.self.view n s) (sym same) (c.settle.ensures.settled s (sym (ap (slice_get c.settle.new.self.seats) same) ∙ has)))
           (λ ne. settled_stays c.args.board.now.known c.loop-i.self c.settle.new.self j s (c.stands.ensures c.args.board.now.known inv.lone.known) c.settle.ensures.seats

@@ -33,6 +33,6 @@ invariant_of-self c =
     let stage : c.self.inside.job.stage ≡ stages.At actions.End = ending_is_end c.self.inside.job.stage (subst (λ (v : JobSeatView). MayFinish (place_of v.stage)) (sym c.self.view_is) c.requires.place) in
     let shown : IsStage (run_of c.args.board.now.known) c.self.inside.job.task.0 c.self.inside.job.job c.self.inside.job.place _ (stages.At actions.End) = subst (IsStage (run_of c.args.board.now.known) c.self.inside.job.task.0 c.self.inside.job.job c.self.inside.job.place _) stage follows.shown in
     let job : IsJob (run_of c.args.board.now.known) c.self.inside.job.task.0 c.self.inside.job.job = record { task = follows.task; job = shown.1 } in
-    known_once c.finish.new.self.view c.args.board.now.known (λ k. Keeps k c.finish.new.self c.self.inside.low c.end.new.self) c.finish.ensures.seat.known (end_kept c.args.board.now.known c.self.inside.job c.finish.new.self c.self.inside.low c.end.new.self c.finish.ensures.same c.finish.ensures.told.job c.finish.ensures.place
+    known_once c.finish.new.self.view c.args.board.now.known (λ k. Keeps k c.finish.new.self c.self.inside.low c.end.new.self) c.finish.ensures.seat.known (end_kept c.args.board.now.known c.self.inside.job c.finish.new.self c.self.inside.low c.end.new.self c.finish.ensures.same c.finish.ensures.told.job c.finish.ensures.told.place
     (low_shut c.args.board.now.known (run_of c.args.board.now.known) c.self.inside.job.task.0 (c.self.inside.job.job + 1) 0 c.self.inside.low c.finish.new.self.stage c.finish.ensures.told.stage)
     (end_left c.args.board.now.known c.keeps_values.ensures.work c.keeps_values.ensures.values c.self.inside.job.task.0 c.self.inside.job.job c.self.inside.job.place job c.self.inside.worker kept.1 shown.2 c.begin.new.self c.end.new.self (begun_with c.args.board.now.known.sensors c.sensors.result.now c.args.board.now.known.bodies c.bodies.result.now c.self.inside.job.job c.job.result c.sensors.ensures c.bodies.ensures c.job.ensures c.self.inside.worker c.begin.new.self c.begin.ensures) c.end.ensures))

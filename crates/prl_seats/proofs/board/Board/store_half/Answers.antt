@@ -1,6 +1,8 @@
 use Rattle.std.proofs.Common.{arith, ◌≡◌, ◌+◌, ◌<◌, ℕ, sym, ap, subst}
 use Rattle.atomic_table.specs.Table.{Allows}
 use Rattle.prl_plan.specs.Facts.{HasPlanFacts}
+use Rattle.prl_plan.specs.Horizons.{IsHorizon}
+use Rattle.prl_plan.specs.Plans.{IsPlan}
 use Rattle.prl_rule.specs.declared.views.Constants.{Constants}
 use Rattle.prl_rule.specs.Agreement.{slot_word}
 use Rattle.prl_rule.specs.RunValues.{word_of}
@@ -18,6 +20,8 @@ store-requires c =
     let s = c.requires.stands in
     let same : known c.self.inside.plan.now c.self.inside.horizon c.self.inside.gate c.self.inside.sensors.now c.self.inside.bodies.now ≡ c.args.self.now.known = ap (λ (d : BoardView). d.known) c.self.view_is in
     let facts : HasPlanFacts (run_of c.args.self.now.known) = subst (λ (k : Constants). HasPlanFacts (run_of k)) same c.plan_facts.ensures in
+    let whole : IsPlan c.args.self.now.known.plan = subst (λ (k : Constants). IsPlan k.plan) same c.plan_is_one.ensures in
+    let horizon : IsHorizon c.args.self.now.known.plan c.args.self.now.known.horizon = subst (λ (k : Constants). IsHorizon k.plan k.horizon) same c.self.invariant.horizon in
     let inside : c.args.slot.0 < (run_of c.args.self.now.known).slots =
     facts.write_cell c.args.task.0 (part_at c.args.self.now.known c.args.task.0 c.args.place c.args.seat.now.me.0).stand.ended (part_at c.args.self.now.known c.args.task.0 c.args.place c.args.seat.now.me.0).stand.place s.1 c.args.slot.0 (record { job = c.requires.job; action = (s.0, s.2.next) }) in
     let word = c.word_of_half-at.ensures in record {
@@ -27,5 +31,5 @@ store-requires c =
           (allowed c.args.self.now.known slots c.args.seat.now.id c.args.seat.now.me (slot_word (run_of c.args.self.now.known) c.args.slot.0) (λ n. word_of (values_of c.args.self.now.known) c.args.slot.0 (s.1 + 1))
           (λ n. with_part c.args.task.0 (half_stored (run_of c.args.self.now.known) (values_of c.args.self.now.known) c.args.task.0 (part_at c.args.self.now.known c.args.task.0 c.args.place c.args.seat.now.me.0)) c.args.seat.now.me.0)
           (λ n after. WriteTold c.args.self.now.known c.args.task.0 c.args.place c.args.seat.now.me.0 after)
-          (grants_write c.args.self.now.known c.plan_laws.ensures c.args.seat.now.id c.args.seat.now.me c.args.task.0 c.args.place c.requires.at s.0 s.1 c.args.slot.0 s.2 s.4));
+          (grants_write c.args.self.now.known c.plan_laws.ensures c.args.seat.now.id c.args.seat.now.me c.args.task.0 c.args.place c.requires.at whole horizon s.0 s.1 c.args.slot.0 s.2 s.4));
     }

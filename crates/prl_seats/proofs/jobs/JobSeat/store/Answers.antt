@@ -42,7 +42,7 @@ invariant_of-self c =
     let place : c.place_after-self-inside.result ≡ c.self.inside.place + 1 = c.place_after-self-inside.ensures in
     let action : c.action.result ≡ action_at (run_of c.args.board.now.known) c.self.inside.task.0 c.self.inside.job (c.self.inside.place + 1) = c.action.ensures ∙ ap (action_at (run_of c.args.board.now.known) c.self.inside.task.0 c.self.inside.job) place in (
       c.store_half.ensures.same.2 ∙ c.self.invariant.0,
-      known_once c.store_half.new.seat.me.0 c.args.board.now.known (λ k. HasPartOf c.self.inside.task.0 c.store_half.new.seat.me.0 → Follows k c.store_half.new.seat.me.0 c.self.inside.task.0 c.self.inside.job c.place_after-self-inside.result (stages.At c.action.result)) (ap (λ (v : View). v.constants) c.store_half.ensures.told ∙ known)
+      known_once c.store_half.new.seat.me.0 c.args.board.now.known (λ k. HasPartOf c.self.inside.task.0 c.store_half.new.seat.me.0 → Follows k c.store_half.new.seat.me.0 c.self.inside.task.0 c.self.inside.job c.place_after-self-inside.result (stages.At c.action.result)) (ap (λ (v : View). v.constants) c.store_half.ensures.told.view ∙ known)
           (λ has. subst (λ (z : ℕ × Action). Follows c.args.board.now.known c.store_half.new.seat.me.0 c.self.inside.task.0 c.self.inside.job z.0 (stages.At z.1)) (λ x. (sym place x, sym action x))
           (write_follows c.args.board.now.known c.self.inside.task.0 c.self.inside.seat.me.0 c.store_half.new.seat.me.0 c.self.inside.job c.self.inside.place (actions.Write c.requires.writes.0 c.requires.writes.1 c.args.slot) follows c.store_half.ensures.told)),
     )
@@ -53,6 +53,6 @@ returns-clause-seat c =
     let part : HasPartOf c.self.inside.task.0 c.self.inside.seat.me.0 = subst (λ (v : JobSeatView). HasPartOf v.task.0 v.view) (sym c.self.view_is) c.requires.seat.part in
     record {
       table = c.store_half.ensures.same.0 ∙ (ap (λ (v : JobSeatView). v.table) c.self.view_is ∙ c.requires.seat.table);
-      known = ap (λ (v : View). v.constants) c.store_half.ensures.told ∙ known;
-      part = part_after c.args.board.now.known c.self.inside.task.0 c.self.inside.seat.me.0 c.store_half.new.seat.me.0 (half_stored (run_of c.args.board.now.known) (values_of c.args.board.now.known) c.self.inside.task.0 (part_at c.args.board.now.known c.self.inside.task.0 c.self.inside.place c.self.inside.seat.me.0)) part c.store_half.ensures.told;
+      known = ap (λ (v : View). v.constants) c.store_half.ensures.told.view ∙ known;
+      part = part_after c.args.board.now.known c.self.inside.task.0 c.self.inside.seat.me.0 c.store_half.new.seat.me.0 (half_stored (run_of c.args.board.now.known) (values_of c.args.board.now.known) c.self.inside.task.0 (part_at c.args.board.now.known c.self.inside.task.0 c.self.inside.place c.self.inside.seat.me.0)) part c.store_half.ensures.told.view;
     }
