@@ -1,7 +1,7 @@
 -- One thread does the list of a table.
-use Rattle.std.proofs.Common.{◌≡◌, ◌≢◌, ◌+◌, ◌-◌, ◌<◌, ◌≤◌, ◌++◌, ◌^◌, ◌⊎◌, ℕ, zero, suc, Bool, true, false, List, [], ◌∷◌, length, get_or, refl, sym, ◌∙◌, ap, subst, arith, inl, inr, Some}
+use Rattle.std.proofs.Common.{◌≡◌, ◌≢◌, ◌+◌, ◌-◌, ◌<◌, ◌≤◌, ◌++◌, ◌^◌, ℕ, suc, Bool, true, false, List, [], ◌∷◌, length, get_or, refl, sym, ◌∙◌, ap, subst, arith, inl, inr, Some}
 use Rattle.std.specs.Prelude.{slice_get}
-use Rattle.std.proofs.lemmas.Bool.{cases_eq, cases_lt}
+use Rattle.std.proofs.lemmas.Bool.{cases_lt}
 use Rattle.std.proofs.lemmas.Option.{slice_get_within}
 use Rattle.prl_plan.specs.declared.events.Event.{Event}
 use Rattle.prl_plan.specs.declared.events.Event.TheVariants as events
@@ -19,11 +19,11 @@ use Rattle.prl_seats.specs.declared.jobs.Stage.{Stage}
 use Rattle.prl_seats.specs.declared.jobs.Stage.TheVariants as stages
 use Rattle.prl_seats.specs.JobSeats.{JobSeatView, IsStage}
 use Rattle.prl_board.specs.Lones.{LoneView, IsWhole}
-use Rattle.prl_exec.specs.Standing.{HasSeen, IsPolled, StandsIn, act_of}
+use Rattle.prl_exec.specs.Standing.{IsPolled, StandsIn, act_of}
 use Rattle.prl_exec.proofs.Calls.{seat_there}
 use Rattle.prl_tables.specs.CheckedTables.{CheckedView}
 use Rattle.prl_tables.specs.Tables.{last_unit}
-use Rattle.prl_tables.specs.Unrolled.{HaveActed, IsPlacing}
+use Rattle.prl_tables.specs.Unrolled.{HaveActed}
 use Rattle.prl_tables.proofs.Ends.{has_ends}
 use Rattle.prl_tables.proofs.Unrolling as unrolling
 use Rattle.prl_table.specs.code.Driving.{acts_at, IsBoardOf, IsDriven, IsNextJob}

@@ -1,5 +1,5 @@
 -- How one thread stands that does the unrolled list of a table.
-use Rattle.std.specs.Prelude.{◌≡◌, ◌<◌, ℕ, List, Some, slice_get}
+use Rattle.std.specs.Prelude.{◌≡◌, ℕ, List, Some, slice_get}
 use Rattle.prl_edf.specs.Unrolled.{HaveOneEnd}
 use Rattle.prl_plan.specs.declared.events.Event.{Event}
 use Rattle.prl_plan.specs.Facts.{IsJob}

@@ -1,5 +1,4 @@
-use Rattle.std.proofs.Common.{◌≡◌, ◌+◌, ◌<◌, ◌≤◌, ℕ, length, sym, ◌∙◌, ap, subst, arith}
-use Rattle.prl_plan.specs.declared.horizons.Horizon.{Horizon}
+use Rattle.std.proofs.Common.{length, sym, ◌∙◌, ap, subst, arith}
 use Rattle.prl_plan.specs.Horizons.{IsHorizon}
 use Rattle.prl_plan.specs.Plans.{PlanView}
 use Rattle.prl_rule.specs.Known.{run_of}

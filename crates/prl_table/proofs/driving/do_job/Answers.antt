@@ -1,4 +1,4 @@
-use Rattle.std.proofs.Common.{◌≡◌, ◌+◌, ◌<◌, ◌≤◌, ◌^◌, ℕ, length, refl, sym, ◌∙◌, subst, arith}
+use Rattle.std.proofs.Common.{refl, ◌∙◌, arith}
 use Rattle.prl_rule.specs.Known.{run_of}
 use Rattle.prl_table.proofs.Driven.{begun, bounded, done_now, goes_on}
 use Rattle.prl_table.proofs.driving.do_job.Goals as goal

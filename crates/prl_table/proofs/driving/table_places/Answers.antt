@@ -1,4 +1,4 @@
-use Rattle.std.proofs.Common.{sym, ◌∙◌, subst}
+use Rattle.std.proofs.Common.{◌∙◌, subst}
 use Rattle.prl_plan.specs.Plans.{IsPlan, PlanView}
 use Rattle.prl_tables.specs.Tables.{IsGood}
 use Rattle.prl_table.proofs.driving.table_places.Goals as goal
