@@ -1,8 +1,8 @@
 use Rattle.std.proofs.Common.{◌≡◌, ◌++◌, ◌-◌, codes, rules}
-use Rattle.prl_picture.specs.Shown.{x_within}
-use Rattle.prl_picture.specs.Windows.{attribute_text}
-use Rattle.prl_picture.proofs.Five.{five}
-use Rattle.prl_picture.proofs.verdicts.push_box.Goals as goal
+use Rattle.prl_drawing.specs.Scales.{x_within}
+use Rattle.prl_drawing.specs.Texts.{attribute_text}
+use Rattle.prl_drawing.proofs.Five.{five}
+use Rattle.prl_drawing.proofs.boxes.push_box.Goals as goal
 
 pub returns : goal.returns
 returns c =
