@@ -12,7 +12,7 @@ mod shapes;
 mod texts;
 mod window_texts;
 
-pub use boxes::{push_box, push_coloured};
+pub use boxes::{push_box, push_coloured, push_place};
 pub use frames::{push_name, push_opening, push_processor, push_ticks};
 pub use marks::{is_followed, push_arrow, push_bar, push_frame, push_own_dates};
 pub use numbers::push_numbers;

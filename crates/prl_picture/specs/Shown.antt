@@ -12,7 +12,7 @@ use Rattle.prl_edf.specs.UnitLists.{wcets_of}
 use Rattle.prl_edf.specs.Verdicts.{IsVerdict}
 use Rattle.prl_drawing.specs.declared.rows.TheConstants.{GAP}
 use Rattle.prl_drawing.specs.declared.scales.Scale.{Scale}
-use Rattle.prl_drawing.specs.Boxes.{coloured_text}
+use Rattle.prl_drawing.specs.Boxes.{box_text}
 use Rattle.prl_drawing.specs.Rows.{row_of}
 use Rattle.prl_drawing.specs.Scales.{is_seen}
 use Rattle.prl_picture.specs.declared.shown.Shown.{Shown}
@@ -40,7 +40,7 @@ IsAsked words shown = MatchOption (value_of (codes "--edf") words) (IsEvents sho
 
 -- a rectangle over the ticks of a piece, in the colour of its task
 abbrev pub box_of : Scale → Piece → ℕ → ℕ → List ℕ
-box_of scale piece top height = coloured_text scale piece.task.0 piece.from piece.to top height
+box_of scale piece top height = box_text scale piece.task.0 piece.from piece.to top height
 
 -- a piece of a run: below the windows of its task, and in the row of the processor
 abbrev pub piece_text : Scale → ℕ → Piece → List ℕ

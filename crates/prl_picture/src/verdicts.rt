@@ -5,7 +5,7 @@ ghost use Rattle.std.specs.Prelude.{◌≡◌, ◌++◌, ◌<◌, ◌^◌, OnOk}
 ghost use Rattle.prl_picture.specs.Shown.{piece_text};
 
 use prl_drawing::{
-    GAP, Scale, Shape, TOP, is_seen, push, push_attribute, push_box, push_coloured, push_frame,
+    GAP, Scale, Shape, TOP, is_seen, push, push_attribute, push_box, push_frame, push_place,
     push_processor, row_of, x_within,
 };
 use prl_edf::Piece;
@@ -48,8 +48,8 @@ pub(crate) fn push_piece(
         return Ok(());
     }
     let (task, from, to) = (piece.task.0, piece.from, piece.to);
-    push_coloured(text, scale, task, from, to, row_of(task) + BELOW, LOW)?;
-    push_coloured(text, scale, task, from, to, row_of(row) + GAP, HIGH)
+    push_box(text, scale, task, from, to, row_of(task) + BELOW, LOW)?;
+    push_box(text, scale, task, from, to, row_of(row) + GAP, HIGH)
 }
 
 /// Appends the load of the processor: for how many ticks it is busy up to the end.
@@ -136,7 +136,9 @@ pub(crate) fn push_overload(
         return Ok(());
     }
     push(text, "<rect class=\"b")?;
-    push_box(text, scale, from, to, TOP, row_of(row) + 400 - TOP)?;
+    let left = x_within(scale, from);
+    let width = x_within(scale, to).saturating_sub(left);
+    push_place(text, left, TOP, width, row_of(row) + 400 - TOP)?;
     push_inside(text, scale, row, from, to, demand)
 }
 
