@@ -9,12 +9,12 @@ use Rattle.prl_base.specs.Decimals.{decimal_of}
 use Rattle.prl_plan.specs.Plans.{PlanView}
 use Rattle.prl_plantext.specs.ReadTexts.{IsTextOf}
 use Rattle.prl_picture.specs.declared.ranges.TheConstants.{MAX_UNTIL}
-use Rattle.prl_picture.specs.declared.scales.Scale.{Scale}
+use Rattle.prl_drawing.specs.declared.scales.Scale.{Scale}
 use Rattle.prl_picture.specs.declared.shown.Shown.{Shown}
 use Rattle.prl_picture.specs.Ranges.{IsRange}
 use Rattle.prl_picture.specs.Shapes.{shapes_of}
 use Rattle.prl_picture.specs.Shown.{IsAsked, IsOfPlan, pieces_text}
-use Rattle.prl_picture.specs.Windows.{window_text}
+use Rattle.prl_drawing.specs.Windows.{window_text}
 
 -- the text has the window of each job of the range once, in one piece, and then each piece of the run that is shown
 abbrev pub IsPictureOf : PlanView → Scale → Shown → List ℕ → Type 0

@@ -1,6 +1,6 @@
 -- The range of ticks that is drawn.
 use Rattle.std.specs.Prelude.{◌≡◌, ◌+◌, ◌<◌, ◌≤◌, ◌^◌, ℕ}
-use Rattle.prl_picture.specs.declared.scales.Scale.{Scale}
+use Rattle.prl_drawing.specs.declared.scales.Scale.{Scale}
 
 -- the range from its first tick on, up to its last or to an earlier tick, and ticks enough for the latter
 pub record IsRange (first last : ℕ) (scale : Scale) : Type 0 where

@@ -3,9 +3,9 @@ use Rattle.std.specs.Prelude.{◌+◌, ◌-◌, ◌*◌, ℕ, List, length, map}
 use Rattle.std.specs.List.{flat_map, range_with_len}
 use Rattle.prl_plan.specs.Jobs.{job_count, task_at}
 use Rattle.prl_plan.specs.Plans.{PlanView, deadline_at, release_at}
-use Rattle.prl_picture.specs.declared.scales.Scale.{Scale}
-use Rattle.prl_picture.specs.declared.shapes.Shape.{Shape}
-use Rattle.prl_picture.specs.Scales.{x_of}
+use Rattle.prl_drawing.specs.declared.scales.Scale.{Scale}
+use Rattle.prl_drawing.specs.declared.shapes.Shape.{Shape}
+use Rattle.prl_drawing.specs.Scales.{x_of}
 
 -- job n of task i, where the scale puts its dates
 abbrev pub shape_of : PlanView → Scale → ℕ → ℕ → Shape

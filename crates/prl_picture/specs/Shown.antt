@@ -1,5 +1,5 @@
 -- What is drawn beside the windows: a schedule, or the run of one processor.
-use Rattle.std.specs.Prelude.{◌≡◌, ◌+◌, ◌-◌, ◌%◌, ◌++◌, ◌&&◌, ℕ, Bool, min, nat_lt, List, [], length, Some, MatchOption, codes, if◌then◌else◌}
+use Rattle.std.specs.Prelude.{◌≡◌, ◌+◌, ◌++◌, ℕ, List, [], length, Some, MatchOption, codes, if◌then◌else◌}
 use Rattle.std.specs.List.{flat_map}
 use Rattle.prl_base.specs.Decimals.{decimal_of}
 use Rattle.prl_companions.specs.Pairs.{value_of}
@@ -10,13 +10,14 @@ use Rattle.prl_edf.specs.declared.analysis.Verdict.TheVariants as verdicts
 use Rattle.prl_edf.specs.declared.pieces.Piece.{Piece}
 use Rattle.prl_edf.specs.UnitLists.{wcets_of}
 use Rattle.prl_edf.specs.Verdicts.{IsVerdict}
-use Rattle.prl_picture.specs.declared.scales.Scale.{Scale}
+use Rattle.prl_drawing.specs.declared.rows.TheConstants.{GAP}
+use Rattle.prl_drawing.specs.declared.scales.Scale.{Scale}
+use Rattle.prl_drawing.specs.Boxes.{box_text}
+use Rattle.prl_drawing.specs.Rows.{row_of}
+use Rattle.prl_drawing.specs.Scales.{is_seen}
 use Rattle.prl_picture.specs.declared.shown.Shown.{Shown}
 use Rattle.prl_picture.specs.declared.shown.Shown.TheVariants as kinds
-use Rattle.prl_picture.specs.declared.windows.TheConstants.{COLOURS, GAP}
 use Rattle.prl_picture.specs.declared.verdicts.TheConstants.{BELOW, HIGH, LOW}
-use Rattle.prl_picture.specs.Scales.{x_of}
-use Rattle.prl_picture.specs.Windows.{attribute_text, row_of}
 
 -- a verdict is the one of the plan's jobs in the horizon
 abbrev pub IsOfPlan : PlanView → Shown → Type 0
@@ -37,33 +38,15 @@ IsUpTo word (kinds.Verdict horizon verdict) = decimal_of word ≡ Some horizon.u
 abbrev pub IsAsked : List (List ℕ) → Shown → Type 0
 IsAsked words shown = MatchOption (value_of (codes "--edf") words) (IsEvents shown) (λ word. IsUpTo word shown)
 
--- some ticks of an interval are drawn
-abbrev pub is_seen : Scale → ℕ → ℕ → Bool
-is_seen scale from to = nat_lt scale.from to && nat_lt from (scale.from + scale.span)
-
--- where a tick stands; one behind the last stands where that does
-abbrev pub x_within : Scale → ℕ → ℕ
-x_within scale tick = x_of scale (min tick (scale.from + scale.span))
-
--- the rest of a rectangle over the ticks of an interval
-abbrev pub box_text : Scale → ℕ → ℕ → ℕ → ℕ → List ℕ
-box_text scale from to top height =
-    attribute_text (codes "\" x=\"") (x_within scale from)
-    ++ attribute_text (codes "\" y=\"") top
-    ++ attribute_text (codes "\" width=\"") (x_within scale to - x_within scale from)
-    ++ attribute_text (codes "\" height=\"") height
-    ++ codes "\"/>\n"
-
--- a rectangle in the colour of its task
-abbrev pub coloured_text : Scale → Piece → ℕ → ℕ → List ℕ
-coloured_text scale piece top height =
-    attribute_text (codes "<rect class=\"s t") (piece.task.0 % COLOURS) ++ box_text scale piece.from piece.to top height
+-- a rectangle over the ticks of a piece, in the colour of its task
+abbrev pub box_of : Scale → Piece → ℕ → ℕ → List ℕ
+box_of scale piece top height = box_text scale piece.task.0 piece.from piece.to top height
 
 -- a piece of a run: below the windows of its task, and in the row of the processor
 abbrev pub piece_text : Scale → ℕ → Piece → List ℕ
 piece_text scale row piece =
     if is_seen scale piece.from piece.to
-    then coloured_text scale piece (row_of piece.task.0 + BELOW) LOW ++ coloured_text scale piece (row_of row + GAP) HIGH
+    then box_of scale piece (row_of piece.task.0 + BELOW) LOW ++ box_of scale piece (row_of row + GAP) HIGH
     else []
 
 -- the pieces of the run, each once, where there is one

@@ -2,11 +2,9 @@
 
 ghost use Rattle.std.specs.Prelude.{◌<◌, ◌+◌, ◌^◌, length};
 
-use crate::frames::push;
 use crate::look_ups::task_of;
-use crate::scales::{Scale, x_of};
-use crate::windows::{colour_of, push_attribute, row_of};
 use prl_base::TaskNo;
+use prl_drawing::{Scale, colour_of, push, push_attribute, row_of, x_of};
 use prl_plan::{Event, Plan};
 use std::alloc::{AllocError, Global};
 

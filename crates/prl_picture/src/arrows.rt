@@ -4,17 +4,12 @@ ghost use Rattle.std.specs.Prelude.{◌≡◌, ◌<◌, ◌≤◌, ◌^◌, leng
 ghost use Rattle.prl_plan.specs.Jobs.{job_count, task_at};
 ghost use Rattle.prl_plan.specs.Plans.{edge_at};
 
-use crate::frames::push;
 use crate::look_ups::{edge_of, job_count, operand_of};
-use crate::scales::Scale;
-use crate::shapes::{Shape, shape_of};
-use crate::windows::{push_attribute, row_of};
+use crate::shapes::shape_of;
 use prl_base::{EdgeNo, Op, TaskNo};
+use prl_drawing::{Scale, is_followed, push, push_arrow, push_attribute};
 use prl_plan::{Edge, Operand, Plan, Producer, plan_is_one};
 use std::alloc::AllocError;
-
-/// From which width on, in tenths of a pixel, a window has the arrows that begin and end there.
-const WIDE: u64 = 200;
 
 /// Whether a delay lies on an edge: an operator that puts initial values before a flow.
 fn is_delayed(edge: &Edge) -> bool {
@@ -29,39 +24,6 @@ fn is_delayed(edge: &Edge) -> bool {
         }
     }
     false
-}
-
-/// Appends an arrow from the bar of one job to the window of another.
-fn push_arrow(
-    text: &mut Vec<u8>,
-    delayed: bool,
-    before: &Shape,
-    after: &Shape,
-) -> Result<(), AllocError> {
-    let start = before.bar.min(before.right);
-    push(
-        text,
-        if delayed {
-            "<path class=\"a d\" d=\""
-        } else {
-            "<path class=\"a\" d=\""
-        },
-    )?;
-    push_attribute(text, "M", start)?;
-    push_attribute(text, " ", row_of(before.task) + 220)?;
-    push_attribute(text, "C", start.saturating_add(160))?;
-    push_attribute(text, " ", row_of(before.task) + 220)?;
-    push_attribute(text, " ", after.left.saturating_sub(160))?;
-    push_attribute(text, " ", row_of(after.task) + 150)?;
-    push_attribute(text, " ", after.left)?;
-    push_attribute(text, " ", row_of(after.task) + 150)?;
-    push(text, "\"/>\n")
-}
-
-/// Whether the windows of both jobs are wide enough for an arrow to be followed.
-fn can_be_followed(before: &Shape, after: &Shape) -> bool {
-    before.right.saturating_sub(before.left) >= WIDE
-        && after.right.saturating_sub(after.left) >= WIDE
 }
 
 /// Appends an arrow from the job that gives what job `n` of the consumer reads on an edge, where both are drawn. Answers how
@@ -94,7 +56,7 @@ fn push_reading(
     }
     let before = shape_of(plan, scale, task, m);
     let after = shape_of(plan, scale, edge.to, n);
-    if !can_be_followed(&before, &after) {
+    if !is_followed(&before, &after) {
         return Ok(1);
     }
     push_arrow(text, is_delayed(edge), &before, &after)?;

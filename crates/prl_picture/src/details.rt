@@ -2,45 +2,11 @@
 
 ghost use Rattle.std.specs.Prelude.{◌<◌, ◌^◌, length};
 
-use crate::frames::push;
 use crate::look_ups::{edge_of, job_count, operand_of, task_of};
-use crate::scales::Scale;
-use crate::shapes::Shape;
-use crate::windows::{colour_of, push_attribute, row_of};
 use prl_base::{EdgeNo, TaskNo};
+use prl_drawing::{Scale, Shape, push, push_attribute, push_bar, push_own_dates, row_of};
 use prl_plan::{Operand, Plan, Producer, plan_is_one};
 use std::alloc::AllocError;
-
-/// Appends the bar of a job's WCET, at least so wide that it can be seen.
-fn push_bar(text: &mut Vec<u8>, shape: &Shape) -> Result<(), AllocError> {
-    push_attribute(text, "<rect class=\"t", colour_of(shape.task))?;
-    push_attribute(text, "\" x=\"", shape.left)?;
-    push_attribute(text, "\" y=\"", row_of(shape.task) + 180)?;
-    push_attribute(
-        text,
-        "\" width=\"",
-        shape.bar.saturating_sub(shape.left).max(20),
-    )?;
-    push(text, "\" height=\"80\"/>\n")
-}
-
-/// Appends a line at an own date of a job.
-fn push_own(text: &mut Vec<u8>, x: u64, task: u32) -> Result<(), AllocError> {
-    push_attribute(text, "<path class=\"o\" d=\"M", x)?;
-    push_attribute(text, " ", row_of(task) + 30)?;
-    push(text, "v260\"/>\n")
-}
-
-/// Appends lines at the own release and the own deadline of a job, where they are not the encoded ones.
-fn push_own_dates(text: &mut Vec<u8>, shape: &Shape) -> Result<(), AllocError> {
-    if shape.own_left != shape.left {
-        push_own(text, shape.own_left, shape.task)?;
-    }
-    if shape.own_right != shape.right {
-        push_own(text, shape.own_right, shape.task)?;
-    }
-    Ok(())
-}
 
 /// Appends the name of a task.
 fn push_name(text: &mut Vec<u8>, plan: &Plan, i: TaskNo) -> Result<(), AllocError> {

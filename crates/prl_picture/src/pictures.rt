@@ -8,15 +8,13 @@ ghost use Rattle.prl_picture.specs.Shown.{IsAsked, IsOfPlan, IsUpTo};
 
 use crate::arrows::push_arrows;
 use crate::details::push_details;
-use crate::frames::{push, push_head};
-use crate::numbers::push_numbers;
+use crate::heads::push_head;
 use crate::ranges::{MAX_UNTIL, left_out, scale_of};
-use crate::scales::Scale;
-use crate::shapes::{Shape, shapes_of};
+use crate::shapes::shapes_of;
 use crate::shown::{Shown, pieces, push_shown, rows_of};
-use crate::windows::windows;
 use prl_base::decimal_of;
 use prl_companions::{Stop, after_name, are_pairs, finish, read_named, value_of};
+use prl_drawing::{Scale, Shape, push, push_numbers, windows};
 use prl_edf::analyse;
 use prl_io::{Files, Sink};
 use prl_plan::{Event, Horizon, Plan};

@@ -4,8 +4,8 @@ ghost use Rattle.std.specs.Prelude.{◌≡◌, ◌<◌, ◌≤◌, ◌^◌, leng
 ghost use Rattle.prl_picture.specs.Ranges.{IsRange};
 
 use crate::look_ups::{job_count, own_release, task_of};
-use crate::scales::Scale;
 use prl_base::TaskNo;
+use prl_drawing::Scale;
 use prl_plan::{Plan, plan_is_one};
 
 /// How many jobs of a task can be read in its row.

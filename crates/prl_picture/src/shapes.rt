@@ -5,31 +5,10 @@ ghost use Rattle.prl_plan.specs.Jobs.{job_count, task_at};
 ghost use Rattle.prl_picture.specs.Shapes.{shape_of, shapes_of, shapes_of_task};
 
 use crate::look_ups::{deadline_of, job_count, own_release, release_of, task_of};
-use crate::scales::{Scale, x_of};
 use prl_base::TaskNo;
+use prl_drawing::{Scale, Shape, x_of};
 use prl_plan::{Plan, plan_is_one};
 use std::alloc::{AllocError, Global};
-
-/// A job, its dates in ticks, and where they stand.
-#[derive(Clone, Copy, Debug, PartialEq, Eq)]
-pub struct Shape {
-    pub task: u32,
-    pub job: u64,
-    /// The encoded release.
-    pub release: u64,
-    /// The encoded deadline.
-    pub deadline: u64,
-    /// Where the window begins: at the encoded release.
-    pub left: u64,
-    /// Where the window ends: at the encoded deadline.
-    pub right: u64,
-    /// Where the bar of the WCET ends that begins at the encoded release.
-    pub bar: u64,
-    /// Where the job's own release stands.
-    pub own_left: u64,
-    /// Where the job's own deadline stands.
-    pub own_right: u64,
-}
 
 /// A job of the picture.
 pub(crate) fn shape_of(plan: &Plan, scale: Scale, i: TaskNo, n: u64) -> Shape

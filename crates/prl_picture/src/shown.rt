@@ -6,9 +6,8 @@ ghost use Rattle.prl_edf.specs.Pieces.{AreLongest};
 ghost use Rattle.prl_picture.specs.Shown.{IsOfPlan, piece_text, pieces_text};
 
 use crate::acts::push_acts;
-use crate::scales::Scale;
-use crate::shapes::Shape;
 use crate::verdicts::{push_all_counted, push_load, push_overload, push_piece};
+use prl_drawing::{Scale, Shape};
 use prl_edf::{Piece, Verdict};
 use prl_plan::{Event, Horizon, Plan, plan_is_one};
 use std::alloc::{AllocError, Global};

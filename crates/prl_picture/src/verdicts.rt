@@ -2,12 +2,12 @@
 //! processor; or the overloaded interval that shows that there is none.
 
 ghost use Rattle.std.specs.Prelude.{◌≡◌, ◌++◌, ◌<◌, ◌^◌, OnOk};
-ghost use Rattle.prl_picture.specs.Shown.{box_text, coloured_text, is_seen, piece_text, x_within};
+ghost use Rattle.prl_picture.specs.Shown.{piece_text};
 
-use crate::frames::push;
-use crate::scales::{LEFT, Scale, WIDTH, x_of};
-use crate::shapes::Shape;
-use crate::windows::{GAP, TOP, colour_of, push_attribute, row_of};
+use prl_drawing::{
+    GAP, Scale, Shape, TOP, is_seen, push, push_attribute, push_box, push_frame, push_place,
+    push_processor, row_of, x_within,
+};
 use prl_edf::Piece;
 use std::alloc::AllocError;
 
@@ -33,63 +33,6 @@ const OVERLOAD_LEGEND: &str = "<rect class=\"b\" x=\"1600\" y=\"590\" width=\"30
     <rect class=\"c\" x=\"3200\" y=\"590\" width=\"300\" height=\"80\"/>\
     <text x=\"3560\" y=\"670\">windows inside</text>\n";
 
-/// Where a tick stands; one behind the last stands where that does.
-fn x_within(scale: Scale, tick: u64) -> u64
-    requires from { scale.from < 2 ^ 32 }
-    requires span { (0 < scale.span) × (scale.span < 2 ^ 33) }
-    ensures { result ≡ x_within scale tick }
-{
-    x_of(scale, tick.min(scale.from + scale.span))
-}
-
-/// Appends the rest of a rectangle over the ticks of an interval.
-fn push_box(
-    text: &mut Vec<u8>,
-    scale: Scale,
-    from: u64,
-    to: u64,
-    top: u64,
-    height: u64,
-) -> Result<(), AllocError>
-    requires from { scale.from < 2 ^ 32 }
-    requires span { (0 < scale.span) × (scale.span < 2 ^ 33) }
-    ensures { OnOk result (text.new.items ≡ text.old.items ++ box_text scale from to top height) }
-{
-    let left = x_within(scale, from);
-    let right = x_within(scale, to);
-    push_attribute(text, "\" x=\"", left)?;
-    push_attribute(text, "\" y=\"", top)?;
-    push_attribute(text, "\" width=\"", right.saturating_sub(left))?;
-    push_attribute(text, "\" height=\"", height)?;
-    text.extend_from_slice(b"\"/>\n")?;
-    Ok(())
-}
-
-/// Whether some ticks of an interval are drawn.
-fn is_seen(scale: Scale, from: u64, to: u64) -> bool
-    requires from { scale.from < 2 ^ 32 }
-    requires span { scale.span < 2 ^ 33 }
-    ensures { result ≡ is_seen scale from to }
-{
-    scale.from < to && from < scale.from + scale.span
-}
-
-/// Appends a rectangle in the colour of the task of a piece.
-fn push_coloured(
-    text: &mut Vec<u8>,
-    scale: Scale,
-    piece: &Piece,
-    top: u64,
-    height: u64,
-) -> Result<(), AllocError>
-    requires from { scale.from < 2 ^ 32 }
-    requires span { (0 < scale.span) × (scale.span < 2 ^ 33) }
-    ensures { OnOk result (text.new.items ≡ text.old.items ++ coloured_text scale piece.now top height) }
-{
-    push_attribute(text, "<rect class=\"s t", colour_of(piece.task.0))?;
-    push_box(text, scale, piece.from, piece.to, top, height)
-}
-
 /// Appends a piece: below the windows of its task, and in the row of the processor.
 pub(crate) fn push_piece(
     text: &mut Vec<u8>,
@@ -104,17 +47,9 @@ pub(crate) fn push_piece(
     if !is_seen(scale, piece.from, piece.to) {
         return Ok(());
     }
-    push_coloured(text, scale, piece, row_of(piece.task.0) + BELOW, LOW)?;
-    push_coloured(text, scale, piece, row_of(row) + GAP, HIGH)
-}
-
-/// Appends what a row of the processor begins with.
-fn push_processor(text: &mut Vec<u8>, row: u32) -> Result<(), AllocError> {
-    let y = row_of(row);
-    push_attribute(text, "<path class=\"l\" d=\"M100 ", y)?;
-    push_attribute(text, "H", LEFT + WIDTH + 200)?;
-    push_attribute(text, "\"/><text x=\"100\" y=\"", y + 190)?;
-    push(text, "\">processor: ")
+    let (task, from, to) = (piece.task.0, piece.from, piece.to);
+    push_box(text, scale, task, from, to, row_of(task) + BELOW, LOW)?;
+    push_box(text, scale, task, from, to, row_of(row) + GAP, HIGH)
 }
 
 /// Appends the load of the processor: for how many ticks it is busy up to the end.
@@ -201,7 +136,9 @@ pub(crate) fn push_overload(
         return Ok(());
     }
     push(text, "<rect class=\"b")?;
-    push_box(text, scale, from, to, TOP, row_of(row) + 400 - TOP)?;
+    let left = x_within(scale, from);
+    let width = x_within(scale, to).saturating_sub(left);
+    push_place(text, left, TOP, width, row_of(row) + 400 - TOP)?;
     push_inside(text, scale, row, from, to, demand)
 }
 
@@ -210,11 +147,7 @@ fn push_counted(text: &mut Vec<u8>, shape: &Shape, from: u64, to: u64) -> Result
     if shape.release < from || to < shape.deadline {
         return Ok(());
     }
-    push_attribute(text, "<rect class=\"c\" x=\"", shape.left)?;
-    push_attribute(text, "\" y=\"", row_of(shape.task) + GAP)?;
-    push_attribute(text, "\" width=\"", shape.right.saturating_sub(shape.left))?;
-    push_attribute(text, "\" height=\"", HIGH)?;
-    push(text, "\"/>\n")
+    push_frame(text, shape)
 }
 
 /// Appends frames round the windows that lie within an overloaded interval: those whose jobs make up

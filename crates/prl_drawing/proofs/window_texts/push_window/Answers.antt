@@ -1,8 +1,9 @@
 use Rattle.std.proofs.Common.{◌≡◌, ◌++◌, ◌-◌, ◌+◌, ◌%◌, codes, rules}
-use Rattle.prl_picture.specs.declared.windows.TheConstants.{COLOURS, GAP}
-use Rattle.prl_picture.specs.Windows.{attribute_text, row_of}
-use Rattle.prl_picture.proofs.Five.{five}
-use Rattle.prl_picture.proofs.windows.push_window.Goals as goal
+use Rattle.prl_drawing.specs.declared.rows.TheConstants.{COLOURS, GAP}
+use Rattle.prl_drawing.specs.Rows.{row_of}
+use Rattle.prl_drawing.specs.Texts.{attribute_text}
+use Rattle.prl_drawing.proofs.Five.{five}
+use Rattle.prl_drawing.proofs.window_texts.push_window.Goals as goal
 
 pub returns : goal.returns
 returns c =

@@ -1,7 +1,7 @@
 //! Where a tick stands in a picture.
 
 ghost use Rattle.std.specs.Prelude.{◌≡◌, ◌<◌, ◌^◌};
-ghost use Rattle.prl_picture.specs.Scales.{x_of};
+ghost use Rattle.prl_drawing.specs.Scales.{is_seen, x_of, x_within};
 
 /// Where the first tick stands, in tenths of a pixel.
 pub const LEFT: u64 = 1_600;
@@ -27,4 +27,22 @@ pub fn x_of(scale: Scale, tick: u64) -> u64
     ensures { result ≡ x_of scale tick }
 {
     LEFT + tick.saturating_sub(scale.from) * WIDTH / scale.span
+}
+
+/// Where a tick stands; one behind the last stands where that does.
+pub fn x_within(scale: Scale, tick: u64) -> u64
+    requires from { scale.from < 2 ^ 32 }
+    requires span { (0 < scale.span) × (scale.span < 2 ^ 33) }
+    ensures { result ≡ x_within scale tick }
+{
+    x_of(scale, tick.min(scale.from + scale.span))
+}
+
+/// Whether some ticks of an interval are drawn.
+pub fn is_seen(scale: Scale, from: u64, to: u64) -> bool
+    requires from { scale.from < 2 ^ 32 }
+    requires span { scale.span < 2 ^ 33 }
+    ensures { result ≡ is_seen scale from to }
+{
+    scale.from < to && from < scale.from + scale.span
 }

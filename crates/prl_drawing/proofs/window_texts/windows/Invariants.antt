@@ -1,7 +1,7 @@
 use Rattle.std.proofs.Common.{◌≡◌, take}
 use Rattle.std.specs.List.{flat_map}
-use Rattle.prl_picture.specs.Windows.{window_text}
-use Rattle.prl_picture.proofs.windows.windows.Given as goal
+use Rattle.prl_drawing.specs.Windows.{window_text}
+use Rattle.prl_drawing.proofs.window_texts.windows.Given as goal
 
 -- the windows of the jobs that were passed
 abbrev pub invariant-loop-shape : goal.invariant-loop-shape

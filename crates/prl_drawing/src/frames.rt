@@ -1,10 +1,10 @@
-//! What stands around the windows of a picture: its head, the ticks, and the names of the tasks.
+//! What stands around the windows of a picture: its head, the ticks, and the names of rows.
 
 ghost use Rattle.std.specs.Prelude.{◌<◌, ◌^◌};
 
+use crate::rows::{TOP, row_of};
 use crate::scales::{LEFT, Scale, WIDTH, x_of};
-use crate::windows::{TOP, push_attribute, row_of};
-use prl_plan::{Plan, plan_is_one};
+use crate::texts::{push, push_attribute};
 use std::alloc::AllocError;
 
 /// How wide a picture is, in tenths of a pixel.
@@ -81,18 +81,14 @@ const LEGEND: &str = "<rect class=\"w t7\" x=\"1600\" y=\"330\" width=\"300\" he
     <path class=\"a\" d=\"M8400 415h320\"/><text x=\"8780\" y=\"455\">precedes</text>\
     <path class=\"a d\" d=\"M9500 415h320\"/><text x=\"9880\" y=\"455\">after a delay</text>\n";
 
-/// Appends a text.
-pub(crate) fn push(text: &mut Vec<u8>, piece: &str) -> Result<(), AllocError> {
-    text.extend_from_slice(piece.as_bytes())
-}
-
 /// How high a picture of so many rows is.
 fn height_of(rows: u32) -> u64 {
     row_of(rows) + 200
 }
 
-/// Appends what a picture begins with.
-fn push_opening(text: &mut Vec<u8>, height: u64) -> Result<(), AllocError> {
+/// Appends what a picture of so many rows begins with.
+pub fn push_opening(text: &mut Vec<u8>, rows: u32) -> Result<(), AllocError> {
+    let height = height_of(rows);
     push(
         text,
         "<svg xmlns=\"http://www.w3.org/2000/svg\" width=\"1200\"",
@@ -103,31 +99,6 @@ fn push_opening(text: &mut Vec<u8>, height: u64) -> Result<(), AllocError> {
     push(text, "\">\n")?;
     push(text, STYLE)?;
     push(text, LEGEND)
-}
-
-/// Appends the line that says what is drawn, and how many jobs are not.
-fn push_title(
-    text: &mut Vec<u8>,
-    plan: &Plan,
-    scale: Scale,
-    left_out: u64,
-) -> Result<(), AllocError> {
-    push_attribute(
-        text,
-        "<text x=\"100\" y=\"190\">hyperperiod ",
-        plan.graph().hyper,
-    )?;
-    push_attribute(
-        text,
-        " ticks; jobs that are released from tick ",
-        scale.from,
-    )?;
-    push_attribute(text, " on and before tick ", scale.until)?;
-    if left_out > 0 {
-        push_attribute(text, "; ", left_out)?;
-        push(text, " later jobs of the range are not drawn")?;
-    }
-    push(text, "</text>\n")
 }
 
 /// How far the numbers of ticks lie apart.
@@ -154,7 +125,7 @@ fn push_tick(text: &mut Vec<u8>, x: u64, tick: u64, bottom: u64) -> Result<(), A
 }
 
 /// Appends lines at some ticks, and their numbers.
-fn push_ticks(text: &mut Vec<u8>, scale: Scale, bottom: u64) -> Result<(), AllocError>
+pub fn push_ticks(text: &mut Vec<u8>, scale: Scale, bottom: u64) -> Result<(), AllocError>
     requires from { scale.from < 2 ^ 32 }
     requires span { (0 < scale.span) × (scale.span < 2 ^ 33) }
 {
@@ -169,7 +140,7 @@ fn push_ticks(text: &mut Vec<u8>, scale: Scale, bottom: u64) -> Result<(), Alloc
 }
 
 /// Appends the name of a task, its period and its WCET, and a line above its row.
-fn push_name(
+pub fn push_name(
     text: &mut Vec<u8>,
     name: &[u8],
     y: u64,
@@ -196,29 +167,11 @@ fn push_name(
     push(text, "</text>\n")
 }
 
-/// Appends the names of the tasks.
-fn push_names(text: &mut Vec<u8>, plan: &Plan) -> Result<(), AllocError> {
-    plan_is_one(plan);
-    for (i, task) in plan.graph().tasks.as_slice().iter().enumerate() {
-        let y = row_of(i as u32);
-        push_name(text, task.name.bytes(), y, task.clock.period, task.wcet)?;
-    }
-    Ok(())
-}
-
-/// Appends what stands below the windows of a picture of so many rows.
-pub(crate) fn push_head(
-    text: &mut Vec<u8>,
-    plan: &Plan,
-    scale: Scale,
-    left_out: u64,
-    rows: u32,
-) -> Result<(), AllocError>
-    requires from { scale.from < 2 ^ 32 }
-    requires span { (0 < scale.span) × (scale.span < 2 ^ 33) }
-{
-    push_opening(text, height_of(rows))?;
-    push_title(text, plan, scale, left_out)?;
-    push_ticks(text, scale, row_of(rows))?;
-    push_names(text, plan)
+/// Appends what a row of the processor begins with.
+pub fn push_processor(text: &mut Vec<u8>, row: u32) -> Result<(), AllocError> {
+    let y = row_of(row);
+    push_attribute(text, "<path class=\"l\" d=\"M100 ", y)?;
+    push_attribute(text, "H", LEFT + WIDTH + 200)?;
+    push_attribute(text, "\"/><text x=\"100\" y=\"", y + 190)?;
+    push(text, "\">processor: ")
 }

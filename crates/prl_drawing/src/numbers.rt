@@ -1,8 +1,8 @@
 //! The numbers of jobs, in the windows that are wide enough for them.
 
-use crate::frames::push;
+use crate::rows::row_of;
 use crate::shapes::Shape;
-use crate::windows::{push_attribute, row_of};
+use crate::texts::{push, push_attribute};
 use std::alloc::AllocError;
 
 /// How wide a digit is, in tenths of a pixel.
@@ -52,7 +52,7 @@ fn push_number(text: &mut Vec<u8>, shape: &Shape) -> Result<(), AllocError> {
 }
 
 /// Appends the numbers of the jobs, over all else.
-pub(crate) fn push_numbers(text: &mut Vec<u8>, shapes: &[Shape]) -> Result<(), AllocError> {
+pub fn push_numbers(text: &mut Vec<u8>, shapes: &[Shape]) -> Result<(), AllocError> {
     for shape in shapes {
         push_number(text, shape)?;
     }

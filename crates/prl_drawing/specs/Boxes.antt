@@ -1,0 +1,25 @@
+-- Rectangles in the colours of tasks, and over the ticks of an interval.
+use Rattle.std.specs.Prelude.{◌-◌, ◌%◌, ◌++◌, ℕ, List, codes}
+use Rattle.prl_drawing.specs.declared.rows.TheConstants.{COLOURS}
+use Rattle.prl_drawing.specs.declared.scales.Scale.{Scale}
+use Rattle.prl_drawing.specs.Texts.{attribute_text}
+use Rattle.prl_drawing.specs.Scales.{x_within}
+
+-- the rest of a rectangle
+abbrev pub place_text : ℕ → ℕ → ℕ → ℕ → List ℕ
+place_text left top width height =
+    attribute_text (codes "\" x=\"") left
+    ++ attribute_text (codes "\" y=\"") top
+    ++ attribute_text (codes "\" width=\"") width
+    ++ attribute_text (codes "\" height=\"") height
+    ++ codes "\"/>\n"
+
+-- a rectangle in the colour of a task
+abbrev pub coloured_text : ℕ → ℕ → ℕ → ℕ → ℕ → List ℕ
+coloured_text task left top width height =
+    attribute_text (codes "<rect class=\"s t") (task % COLOURS) ++ place_text left top width height
+
+-- a rectangle in the colour of a task over the ticks of an interval
+abbrev pub box_text : Scale → ℕ → ℕ → ℕ → ℕ → ℕ → List ℕ
+box_text scale task from to top height =
+    coloured_text task (x_within scale from) top (x_within scale to - x_within scale from) height

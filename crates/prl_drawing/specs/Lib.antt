@@ -1,0 +1,10 @@
+-- where a tick stands
+pub mod Scales
+-- where a row stands
+pub mod Rows
+-- attributes with a number
+pub mod Texts
+-- the windows of jobs as text
+pub mod Windows
+-- rectangles over ticks
+pub mod Boxes

@@ -1,0 +1,61 @@
+//! Rectangles in the colours of tasks, and over the ticks of an interval.
+
+ghost use Rattle.std.specs.Prelude.{◌≡◌, ◌++◌, ◌<◌, ◌^◌, OnOk};
+ghost use Rattle.prl_drawing.specs.Boxes.{box_text, coloured_text, place_text};
+
+use crate::rows::colour_of;
+use crate::scales::{Scale, x_within};
+use crate::texts::push_attribute;
+use std::alloc::AllocError;
+
+/// Appends the rest of a rectangle.
+pub fn push_place(
+    text: &mut Vec<u8>,
+    left: u64,
+    top: u64,
+    width: u64,
+    height: u64,
+) -> Result<(), AllocError>
+    ensures { OnOk result (text.new.items ≡ text.old.items ++ place_text left top width height) }
+{
+    push_attribute(text, "\" x=\"", left)?;
+    push_attribute(text, "\" y=\"", top)?;
+    push_attribute(text, "\" width=\"", width)?;
+    push_attribute(text, "\" height=\"", height)?;
+    text.extend_from_slice(b"\"/>\n")?;
+    Ok(())
+}
+
+/// Appends a rectangle in the colour of a task.
+pub fn push_coloured(
+    text: &mut Vec<u8>,
+    task: u32,
+    left: u64,
+    top: u64,
+    width: u64,
+    height: u64,
+) -> Result<(), AllocError>
+    ensures { OnOk result (text.new.items ≡ text.old.items ++ coloured_text task left top width height) }
+{
+    push_attribute(text, "<rect class=\"s t", colour_of(task))?;
+    push_place(text, left, top, width, height)
+}
+
+/// Appends a rectangle in the colour of a task over the ticks of an interval.
+pub fn push_box(
+    text: &mut Vec<u8>,
+    scale: Scale,
+    task: u32,
+    from: u64,
+    to: u64,
+    top: u64,
+    height: u64,
+) -> Result<(), AllocError>
+    requires from { scale.from < 2 ^ 32 }
+    requires span { (0 < scale.span) × (scale.span < 2 ^ 33) }
+    ensures { OnOk result (text.new.items ≡ text.old.items ++ box_text scale task from to top height) }
+{
+    let left = x_within(scale, from);
+    let right = x_within(scale, to);
+    push_coloured(text, task, left, top, right.saturating_sub(left), height)
+}

@@ -1,0 +1,23 @@
+//! Drawing: where a tick and a row stand in a picture, and the pieces of SVG that pictures are made
+//! of. It stands on `prl_base` and knows no plan.
+#![tactic(auto)]
+
+mod boxes;
+mod frames;
+mod marks;
+mod numbers;
+mod rows;
+mod scales;
+mod shapes;
+mod texts;
+mod window_texts;
+
+pub use boxes::{push_box, push_coloured, push_place};
+pub use frames::{push_name, push_opening, push_processor, push_ticks};
+pub use marks::{is_followed, push_arrow, push_bar, push_frame, push_own_dates};
+pub use numbers::push_numbers;
+pub use rows::{COLOURS, GAP, ROW, TOP, colour_of, row_of};
+pub use scales::{LEFT, Scale, WIDTH, is_seen, x_of, x_within};
+pub use shapes::Shape;
+pub use texts::{push, push_attribute};
+pub use window_texts::windows;

@@ -1,0 +1,22 @@
+//! A job as a picture shows it.
+
+/// A job, its dates in ticks, and where they stand.
+#[derive(Clone, Copy, Debug, PartialEq, Eq)]
+pub struct Shape {
+    pub task: u32,
+    pub job: u64,
+    /// The encoded release.
+    pub release: u64,
+    /// The encoded deadline.
+    pub deadline: u64,
+    /// Where the window begins: at the encoded release.
+    pub left: u64,
+    /// Where the window ends: at the encoded deadline.
+    pub right: u64,
+    /// Where the bar of the WCET ends that begins at the encoded release.
+    pub bar: u64,
+    /// Where the job's own release stands.
+    pub own_left: u64,
+    /// Where the job's own deadline stands.
+    pub own_right: u64,
+}
