@@ -17,25 +17,27 @@ fn words(rt: &HostRuntime) -> io::Result<Vec<String>> {
     Ok(env::args(rt)?.collect(rt.alloc())?)
 }
 
-fn main(rt: HostRuntime) -> ExitCode {
-    let words = match words(&rt) {
-        Ok(words) => words,
-        Err(error) if error.kind() == io::ErrorKind::OutOfMemory => {
-            return ExitCode::from(NO_MEMORY);
-        }
-        Err(_) => return ExitCode::from(NO_WORDS),
-    };
-    let mut files = HostFiles::new(&rt);
+/// Does what the words ask for, on the files and the streams of the process: the status.
+fn run(rt: &HostRuntime, words: &[String]) -> u8 {
+    let mut files = HostFiles::new(rt);
     let mut out = HostSink::new(rt.stdout());
     let mut err = HostSink::new(rt.stderr());
     let status = prelude(
-        &rt,
+        rt,
         rt.alloc(),
-        &words,
+        words,
         &mut files,
         &mut out,
         &mut err,
         &NoProbe,
     );
-    ExitCode::from(status.code)
+    status.code
+}
+
+fn main(rt: HostRuntime) -> ExitCode {
+    match words(&rt) {
+        Ok(words) => ExitCode::from(run(&rt, &words)),
+        Err(error) if error.kind() == io::ErrorKind::OutOfMemory => ExitCode::from(NO_MEMORY),
+        Err(_) => ExitCode::from(NO_WORDS),
+    }
 }
