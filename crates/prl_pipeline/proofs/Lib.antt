@@ -4,4 +4,5 @@ mod AcceptedLines
 mod Stops
 mod Contents
 mod Preparing
+mod TableFaults
 mod Summaries

@@ -24,5 +24,10 @@ returns-in_err-table-clause-stop c =
     let x = err_from_is_err_and c.from_residual-in_err-table.result c.from_residual-in_err-table.ensures.1 in
     rw (x.1, x.2) (stops_rest (given_of c.args.request.now) first last c.in_err-table.field-0.0 c.in_ok-plan.ensures.holds (inl c.in_err-table.ensures.stop))
 
+pub returns-in_err-table_text-clause-stop : goal.returns-in_err-table_text-clause-stop
+returns-in_err-table_text-clause-stop c =
+    let x = err_from_is_err_and c.from_residual-in_err-table_text.result c.from_residual-in_err-table_text.ensures.1 in
+    rw (x.1, x.2) (inl tt)
+
 pub returns-clause-holds : goal.returns-clause-holds
 returns-clause-holds c = both_hold (given_of c.args.request.now) first last c.in_ok-plan.ensures.holds (c.in_ok-table.ensures.holds, tt)
