@@ -4,7 +4,7 @@ use Rattle.std.proofs.lemmas.Slice.Eq.{bytes_eq-Decides}
 use Rattle.std.specs.Str.{bytes_eq}
 use Rattle.prl_base.specs.Options.{◌>>=◌}
 use Rattle.prl_arguments.specs.declared.arguments.Setting.{Setting}
-use Rattle.prl_arguments.specs.Arguments.{Named, Values, after_front, all_settings, first_option, is_value, name_of, named_by, named_in, or_else, own_value, value_from, value_of, with_option, with_options, with_value}
+use Rattle.prl_arguments.specs.Arguments.{Named, Values, after_front, all_settings, first_option, is_value, name_of, named_by, named_in, or_else, own_value, value_from, with_option, with_options, with_value}
 
 -- whether the value stands in the option's own word, the option, and its value
 abbrev pub Spelled : Type 0
@@ -25,7 +25,7 @@ words_of (o ∷ os) = word_of o.1 o.2 o.0 (words_of os)
 -- these options are given, none twice
 abbrev pub Follows : Values → List Spelled → Values → Type 0
 Follows given [] final = given ≡ final
-Follows given (o ∷ os) final = (is_value o.2 ≡ true) × (value_of given o.1 ≡ None) × Follows (with_value given o.1 o.2) os final
+Follows given (o ∷ os) final = (is_value o.2 ≡ true) × (given o.1 ≡ None) × Follows (with_value given o.1 o.2) os final
 
 pub bound : {A B : Type 0} (o : Option A) (f : A → Option B) (y : B) → (o >>= f) ≡ Some y → (x : A) × (o ≡ Some x) × (f x ≡ Some y)
 bound None f y e = cc
@@ -89,7 +89,7 @@ own_some (b ∷ value) v e =
 -- an option that stands first among words
 abbrev pub IsFirst : Values → List ℕ → List (List ℕ) → Values × List (List ℕ) → Type 0
 IsFirst given word later read =
-    (o : Spelled) × (word ∷ later ≡ word_of o.1 o.2 o.0 read.1) × (is_value o.2 ≡ true) × (value_of given o.1 ≡ None) × (read.0 ≡ with_value given o.1 o.2)
+    (o : Spelled) × (word ∷ later ≡ word_of o.1 o.2 o.0 read.1) × (is_value o.2 ≡ true) × (given o.1 ≡ None) × (read.0 ≡ with_value given o.1 o.2)
 
 pub and_left : (a b : Bool) → (a && b) ≡ true → a ≡ true
 and_left true b e = refl
@@ -99,16 +99,20 @@ pub and_right : (a b : Bool) → (a && b) ≡ true → b ≡ true
 and_right true b e = e
 and_right false b e = cc
 
+pub and_both : (a b : Bool) → a ≡ true → b ≡ true → (a && b) ≡ true
+and_both true b e f = f
+and_both false b e f = e
+
 not_some : {A : Type 0} (o : Option A) → not (is_some o) ≡ true → o ≡ None
 not_some None e = refl
 not_some (Some x) e = cc
 
 option_is : (given : Values) (s : Setting) (v : List ℕ) (more : Values) → with_option given s v ≡ Some more
-    → (is_value v ≡ true) × (value_of given s ≡ None) × (more ≡ with_value given s v)
+    → (is_value v ≡ true) × (given s ≡ None) × (more ≡ with_value given s v)
 option_is given s v more e =
-    elim (is_value v && not (is_some (value_of given s))) as (λ b. (is_value v && not (is_some (value_of given s))) ≡ b
-    → (if b then Some (with_value given s v) else None) ≡ Some more → (is_value v ≡ true) × (value_of given s ≡ None) × (more ≡ with_value given s v)) [
-      | true ↦ λ is h. (and_left (is_value v) _ is, not_some (value_of given s) (and_right (is_value v) _ is), sym (the (with_value given s v) more h))
+    elim (is_value v && not (is_some (given s))) as (λ b. (is_value v && not (is_some (given s))) ≡ b
+    → (if b then Some (with_value given s v) else None) ≡ Some more → (is_value v ≡ true) × (given s ≡ None) × (more ≡ with_value given s v)) [
+      | true ↦ λ is h. (and_left (is_value v) _ is, not_some (given s) (and_right (is_value v) _ is), sym (the (with_value given s v) more h))
       | false ↦ λ is h. absurd (no_some more h)
     ] refl e
 
