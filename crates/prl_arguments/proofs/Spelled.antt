@@ -57,7 +57,7 @@ named_by_is s word named e =
     let value = bound (own_value name.0) (λ value. Some (s, value)) named name.2 in
     let is = the (s, value.0) named value.2 in
     let word_is = after_is (codes "--") word front.0 front.1 ∙ ap (λ x. 45 ∷ 45 ∷ x) (after_is (name_of s) front.0 name.0 name.1) in
-    subst (IsNamed word) is (name.0, word_is, value.1)
+    subst (IsNamed word) {x = (s, value.0)} is (name.0, word_is, value.1)
 
 either : (a b : Option Named) (n : Named) → or_else a b ≡ Some n → (a ≡ Some n) ⊎ (b ≡ Some n)
 either None b n e = inr e
@@ -138,7 +138,7 @@ first_is given word later read e =
     let taken = bound (value_from named.0.1 later) (λ taken. with_option given named.0.0 taken.0 >>= λ more. Some (more, taken.1)) read named.2 in
     let more = bound (with_option given named.0.0 taken.0.0) (λ more. Some (more, taken.0.1)) read taken.2 in
     let word_is = named_in_is all_settings word named.0 named.1 in
-    subst (IsFirst given word later) (the (more.0, taken.0.1) read more.2)
+    subst (IsFirst given word later) {x = (more.0, taken.0.1)} (the (more.0, taken.0.1) read more.2)
     (first_by given named.0.0 named.0.1 word word_is.0 later taken.0 more.0 word_is.1 word_is.2 taken.1 more.1)
 
 -- words that are read as options are the words of these options
