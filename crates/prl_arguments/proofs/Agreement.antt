@@ -1,6 +1,7 @@
 -- `clap` decides on options as the tables of options do.
 use Rattle.std.proofs.Common.{◌≡◌, ◌++◌, ◌&&◌, ◌||◌, ℕ, Bool, true, false, not, List, [], ◌∷◌, length, Option, Some, None, is_some, fold, find, nat_le, if◌then◌else◌, refl, sym, ap, subst, ◌∙◌}
 use Rattle.std.proofs.Math.Path.{fun_ext}
+use Rattle.std.proofs.lemmas.Option.{none-some}
 use Rattle.std.specs.Option.{option_map_or}
 use Rattle.std.specs.List.{list_all, list_any}
 use Rattle.std.specs.Str.{bytes_eq}
@@ -26,7 +27,7 @@ use Rattle.prl_arguments.specs.Arguments.{Values, all_fit, all_settings, fits, h
 use Rattle.prl_arguments.specs.code.Options.{app_of_mode, faults_of, is_taken, parser_by}
 use Rattle.prl_arguments.proofs.Names.{all_at, same_is, same_self}
 use Rattle.prl_arguments.proofs.Numerals.{in_range}
-use Rattle.prl_arguments.proofs.Spelled.{Follows, Spelled, and_both, and_left, and_right, no_some, spelled, the, words_of}
+use Rattle.prl_arguments.proofs.Spelled.{and_both, and_left, and_right, Follows, Spelled, spelled, the, words_of}
 use Rattle.prl_arguments.proofs.Walked.{Each, after, assoc, cost, had, rule, rule_if, shape, tail, total, total_is}
 
 -- the rules of the command of a mode when it is built
@@ -217,7 +218,7 @@ told_more p s v given is h t w e =
 
 told_less : (p : Setting → Text → Bool) (s : Setting) (v : Text) (given : Values) → given s ≡ None → Told p (with_value given s v) → Told p given
 told_less p s v given fresh h t w e = h t w (elim (is_same s t) as (λ b. is_same s t ≡ b → (if b then Some v else given t) ≡ Some w) [
-  | true ↦ λ same. absurd (no_some w (sym fresh ∙ ap given (same_is s t same) ∙ e))
+  | true ↦ λ same. absurd (none-some w (sym fresh ∙ ap given (same_is s t same) ∙ e))
   | false ↦ λ other. e
 ] refl)
 

@@ -1,5 +1,5 @@
 -- Options are told by their names, and each is among all of them.
-use Rattle.std.proofs.Common.{◌≡◌, ◌<◌, ℕ, Bool, true, false, List, [], ◌∷◌, Option, Some, find, get_or, if◌then◌else◌, nat_lt, refl, sym, ap, subst, ◌∙◌}
+use Rattle.std.proofs.Common.{◌≡◌, ◌<◌, ℕ, Bool, true, false, List, [], ◌∷◌, Option, Some, find, get_or, length, if◌then◌else◌, nat_lt, refl, sym, ap, subst, ◌∙◌}
 use Rattle.std.specs.List.{list_all}
 use Rattle.std.specs.Str.{bytes_eq}
 use Rattle.std.proofs.lemmas.Bool.{ltb-true}
@@ -38,12 +38,12 @@ unfolding setting_named
 all_at p all s = found_passes (λ t. bytes_eq (name_of t) (name_of s)) p all_settings s (named_back s) all
 
 -- where an option stands
-place_is : (s : Setting) → nat_lt (place_of s) 12 ≡ true
+place_is : (s : Setting) → nat_lt (place_of s) (length all_settings) ≡ true
 place_is settings.Program = refl
 place_is _ = refl
 
-pub inside : (s : Setting) → place_of s < 12
-inside s = ltb-true (place_of s) 12 (place_is s)
+pub inside : (s : Setting) → place_of s < length all_settings
+inside s = ltb-true (place_of s) (length all_settings) (place_is s)
 
 stands : (s : Setting) → get_or all_settings (place_of s) settings.Program ≡ s
 stands settings.Program = refl

@@ -1,11 +1,12 @@
 -- Numbers of digits as `clap` reads them.
 use Rattle.std.proofs.Common.{◌≡◌, ◌&&◌, ◌==◌, ◌-◌, ◌^◌, ℕ, true, false, List, [], ◌∷◌, drop, length, Some, None, nat_le, nat_lt, if◌then◌else◌, refl, ap, ◌∙◌, cond, arith, le-ltb, lt-ltb, leb-true, ne_eqb}
+use Rattle.std.proofs.lemmas.Option.{none-some}
 use Rattle.std.specs.Char.{digit_value, is_ascii_digit}
 use Rattle.std.specs.List.{list_all}
 use Rattle.std.specs.Str.Parse.{digits_value, without_leading_plus}
 use Rattle.clap.specs.ValueTests.{is_numeral, is_unsigned_in}
 use Rattle.prl_base.specs.Decimals.{are_digits, decimal_of}
-use Rattle.prl_arguments.proofs.Spelled.{and_left, and_right, no_some, the}
+use Rattle.prl_arguments.proofs.Spelled.{and_left, and_right, the}
 
 small : (d : ℕ) → is_ascii_digit d ≡ true → nat_lt (digit_value d) 10 ≡ true
 small d e =
@@ -46,5 +47,5 @@ in_range text n least most e =
           ∙ ap (λ b. b && (nat_lt value (2 ^ 64) && (nat_le least value && nat_le value most))) digits.1
           ∙ ap (λ b. b && (nat_le least value && nat_le value most)) fits
           ∙ ap (λ v. nat_le least v && nat_le v most) (the value n h)
-      | false ↦ λ is h. absurd (no_some n h)
+      | false ↦ λ is h. absurd (none-some n h)
     ] refl e

@@ -1,6 +1,7 @@
 -- Words as options: each with its value in its own word, or in the next.
 use Rattle.std.proofs.Common.{◌≡◌, ◌++◌, ◌&&◌, ℕ, zero, suc, Bool, true, false, not, List, [], ◌∷◌, drop, length, take, Option, Some, None, is_some, if◌then◌else◌, refl, sym, ap, subst, ◌∙◌, inl, inr, ◌⊎◌, take-append-drop, eqb-true, ◌==◌, codes}
 use Rattle.std.proofs.lemmas.Slice.Eq.{bytes_eq-Decides}
+use Rattle.std.proofs.lemmas.Option.{none-some}
 use Rattle.std.specs.Str.{bytes_eq}
 use Rattle.prl_base.specs.Options.{◌>>=◌}
 use Rattle.prl_arguments.specs.declared.arguments.Setting.{Setting}
@@ -34,16 +35,13 @@ bound (Some x) f y e = (x, refl, e)
 pub the : {A : Type 0} (a b : A) → Some a ≡ Some b → a ≡ b
 the a b e = cc
 
-pub no_some : {A : Type 0} (a : A) → None ≡ Some a → ⊥
-no_some a e = cc
-
 after_is : (f text rest : List ℕ) → after_front f text ≡ Some rest → text ≡ f ++ rest
 after_is f text rest e =
     elim (bytes_eq (take (length f) text) f) as (λ b. bytes_eq (take (length f) text) f ≡ b → (if b then Some (drop (length f) text) else None) ≡ Some rest → text ≡ f ++ rest) [
       | true ↦ λ same h.
           let front = (bytes_eq-Decides (take (length f) text) f).0 same in
           sym (take-append-drop (length f) text) ∙ ap (λ x. x ++ drop (length f) text) front ∙ ap (λ x. f ++ x) (the (drop (length f) text) rest h)
-      | false ↦ λ same h. absurd (no_some rest h)
+      | false ↦ λ same h. absurd (none-some rest h)
     ] refl e
 
 -- a word that names an option
@@ -64,7 +62,7 @@ either None b n e = inr e
 either (Some x) b n e = inl e
 
 named_in_is : (list : List Setting) (word : List ℕ) (named : Named) → named_in list word ≡ Some named → IsNamed word named
-named_in_is [] word named e = absurd (no_some named e)
+named_in_is [] word named e = absurd (none-some named e)
 named_in_is (s ∷ list) word named e = elim (either (named_by s word) (named_in list word) named e) [
   | inl h ↦ named_by_is s word named h
   | inr h ↦ named_in_is list word named h
@@ -113,7 +111,7 @@ option_is given s v more e =
     elim (is_value v && not (is_some (given s))) as (λ b. (is_value v && not (is_some (given s))) ≡ b
     → (if b then Some (with_value given s v) else None) ≡ Some more → (is_value v ≡ true) × (given s ≡ None) × (more ≡ with_value given s v)) [
       | true ↦ λ is h. (and_left (is_value v) _ is, not_some (given s) (and_right (is_value v) _ is), sym (the (with_value given s v) more h))
-      | false ↦ λ is h. absurd (no_some more h)
+      | false ↦ λ is h. absurd (none-some more h)
     ] refl e
 
 first_by : (given : Values) (s : Setting) (own : Option (List ℕ)) (word rest : List ℕ) (later : List (List ℕ)) (taken : List ℕ × List (List ℕ)) (more : Values)
@@ -124,7 +122,7 @@ first_by given s (Some v) word rest later taken more is own got added =
     let option = option_is given s v more (ap (λ (t : List ℕ × List (List ℕ)). with_option given s t.0) value ∙ added) in
     let rest_is = own_some rest v own in
     ((true, s, v), ap (λ x. x ∷ later) (is ∙ ap (dashed s) rest_is) ∙ ap (λ (t : List ℕ × List (List ℕ)). dashed s (61 ∷ v) ∷ t.1) value, option.0, option.1, option.2)
-first_by given s None word rest [] taken more is own got added = absurd (no_some taken got)
+first_by given s None word rest [] taken more is own got added = absurd (none-some taken got)
 first_by given s None word rest (v ∷ later) taken more is own got added =
     let value = the (v, later) taken got in
     let option = option_is given s v more (ap (λ (t : List ℕ × List (List ℕ)). with_option given s t.0) value ∙ added) in
@@ -146,7 +144,7 @@ pub spelled : (n : ℕ) (given : Values) (words : List (List ℕ)) (final : Valu
     → (os : List Spelled) × (words ≡ words_of os) × Follows given os final
 spelled zero given [] final e = ([], refl, the given final e)
 spelled (suc n) given [] final e = ([], refl, the given final e)
-spelled zero given (word ∷ later) final e = absurd (no_some final e)
+spelled zero given (word ∷ later) final e = absurd (none-some final e)
 spelled (suc n) given (word ∷ later) final e =
     let read = bound (first_option given word later) (λ read. with_options n read.0 read.1) final e in
     let first = first_is given word later read.0 read.1 in

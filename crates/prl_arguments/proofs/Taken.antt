@@ -1,5 +1,6 @@
 -- Words of the form of a command, and what `clap` takes of them.
-use Rattle.std.proofs.Common.{◌≡◌, ◌&&◌, ◌≤◌, ℕ, Bool, true, false, List, [], ◌∷◌, drop, length, Option, Some, None, is_some, nat_le, if◌then◌else◌, refl, sym, ap, subst, ◌∙◌, inl, inr, ◌⊎◌, arith, leb-true}
+use Rattle.std.proofs.Common.{◌≡◌, ◌&&◌, ◌≤◌, ℕ, true, false, List, [], ◌∷◌, drop, length, Option, Some, None, is_some, nat_le, if◌then◌else◌, refl, sym, ap, subst, ◌∙◌, inl, inr, ◌⊎◌, arith, leb-true}
+use Rattle.std.proofs.lemmas.Option.{cond_some, none-some}
 use Rattle.std.specs.Option.{option_map_or}
 use Rattle.prl_base.specs.Decimals.{decimal_of}
 use Rattle.prl_base.specs.Options.{◌>>=◌}
@@ -12,19 +13,15 @@ use Rattle.prl_arguments.specs.declared.arguments.TheConstants.{MAX_SIZE, MAX_UN
 use Rattle.prl_rule.specs.declared.views.Gate.{Gate}
 use Rattle.prl_arguments.specs.Arguments.{AreInRange, Values, all_fit, asked_of, asked_of_mode, asked_with, command_of, command_with, fits, has, is_in, mode_named, nothing, number_or, range_of, with_words}
 use Rattle.prl_arguments.specs.code.Options.{faults_of, is_taken}
-use Rattle.prl_arguments.proofs.Spelled.{and_left, and_right, bound, no_some, the}
+use Rattle.prl_arguments.proofs.Spelled.{and_left, and_right, bound, the}
 use Rattle.prl_arguments.proofs.Agreement.{Told, agrees, fits_some, spells}
 use Rattle.prl_arguments.proofs.Names.{all_at}
-
-some_by : {A : Type 0} (b : Bool) (n m : A) → (if b then Some n else None) ≡ Some m → n ≡ m
-some_by true n m e = the n m e
-some_by false n m e = absurd (no_some m e)
 
 -- the number that a value spells
 decimal_is : (other : ℕ) (text : List ℕ) (n : ℕ) → number_or other (Some text) ≡ Some n → decimal_of text ≡ Some n
 decimal_is other text n e =
     let number = bound (decimal_of text) (λ number. if nat_le (length text) 20 then Some number else None) n e in
-    subst (λ m. decimal_of text ≡ Some m) (some_by (nat_le (length text) 20) number.0 n number.2) number.1
+    subst (λ m. decimal_of text ≡ Some m) (cond_some (nat_le (length text) 20) number.0 n number.2).1 number.1
 
 bounds : (least most n : ℕ) → (nat_le least n && nat_le n most) ≡ true → (least ≤ n) × (n ≤ most)
 bounds least most n e = (leb-true least n (and_left (nat_le least n) _ e), leb-true n most (and_right (nat_le least n) _ e))
@@ -48,13 +45,9 @@ gathered mode given u w c s z = u >>= λ until. w >>= λ workers. c >>= λ clock
 
 gathered_is : (mode : Mode) (given : Values) (u w : Option ℕ) (c : Option Gate) (s z : Option ℕ) (x : Values × Command) → gathered mode given u w c s z ≡ Some x
     → (y : Command) × (x ≡ (given, y)) × (y.mode ≡ mode) × (u ≡ Some y.until) × (w ≡ Some y.workers) × (z ≡ Some y.size)
-gathered_is mode given None w c s z x e = absurd (no_some x e)
-gathered_is mode given (Some u) None c s z x e = absurd (no_some x e)
-gathered_is mode given (Some u) (Some w) None s z x e = absurd (no_some x e)
-gathered_is mode given (Some u) (Some w) (Some c) None z x e = absurd (no_some x e)
-gathered_is mode given (Some u) (Some w) (Some c) (Some s) None x e = absurd (no_some x e)
 gathered_is mode given (Some u) (Some w) (Some c) (Some s) (Some z) x e =
     let y = command_with mode given u w c s z in (y, sym (the (given, y) x e), refl, refl, refl, refl)
+gathered_is mode given _ _ _ _ _ x e = absurd (none-some x e)
 
 spelling : (mode : Mode) (given : Values) (x : Values × Command) → asked_with mode given ≡ Some x → (y : Command) × (x ≡ (given, y)) × Spells mode given y
 spelling mode given x e =
@@ -118,8 +111,8 @@ unfolding asked_of_mode
 form_by mode rest = refl
 
 pub decided : (words : List (List ℕ)) (asked : Values × Command) → asked_of words ≡ Some asked → Decided words asked
-decided [] asked e = absurd (no_some asked e)
-decided (own ∷ []) asked e = absurd (no_some asked e)
+decided [] asked e = absurd (none-some asked e)
+decided (own ∷ []) asked e = absurd (none-some asked e)
 decided (own ∷ name ∷ rest) asked e =
     let m = bound (mode_named name) (λ mode. asked_of_mode mode rest) asked e in
     let g = bound (with_words nothing rest) (λ given. asked_with m.0 given) asked (sym (form_by m.0 rest) ∙ m.2) in

@@ -20,6 +20,9 @@ pub const MAX_WORKERS: u32 = 16;
 /// The greatest size of a generated program, in lanes.
 pub const MAX_SIZE: u32 = 20;
 
+/// How many options there are.
+const OPTIONS: usize = 12;
+
 /// What the command is to do.
 #[derive(Clone, Copy, Debug, PartialEq, Eq)]
 pub enum Mode {
@@ -132,7 +135,7 @@ impl From<AllocError> for WordsFault {
 /// The values of options, where they are given, in the order of `SETTINGS`.
 #[derive(Clone, Copy)]
 struct Given<'a> {
-    values: [Option<&'a [u8]>; 12],
+    values: [Option<&'a [u8]>; OPTIONS],
 }
 
 /// An option, with its value where that stands in the same word.
@@ -148,7 +151,7 @@ type Read<'a> = (Given<'a>, &'a [String]);
 type Labels = (Option<Label>, Option<Label>, Option<Label>);
 
 /// All options.
-pub(crate) static SETTINGS: [Setting; 12] = [
+pub(crate) static SETTINGS: [Setting; OPTIONS] = [
     Setting::Program,
     Setting::Bodies,
     Setting::Sensors,
@@ -337,7 +340,9 @@ fn place_of(setting: Setting) -> usize
 fn nothing<'a>() -> Given<'a>
     ensures { given_by result ≡ nothing }
 {
-    Given { values: [None; 12] }
+    Given {
+        values: [None; OPTIONS],
+    }
 }
 
 impl<'a> Given<'a> {

@@ -3,7 +3,7 @@ use Rattle.std.proofs.Math.Path.{fun_ext}
 use Rattle.std.proofs.lemmas.List.{get_or-set_other, get_or-set_same, length-map}
 use denote.Ref.{Bor}
 use Rattle.prl_arguments.specs.declared.arguments.Setting.{Setting}
-use Rattle.prl_arguments.specs.Arguments.{is_same, with_value}
+use Rattle.prl_arguments.specs.Arguments.{all_settings, is_same, with_value}
 use Rattle.prl_arguments.specs.code.Settings.{bytes_of, given_by, place_of}
 use Rattle.prl_arguments.proofs.Names.{inside, same_is, same_place}
 use Rattle.prl_arguments.proofs.arguments.Given.with_value.Goals as goal
@@ -14,7 +14,7 @@ length_is f xs n e = sym (length-map xs f) ∙ e
 no_truth : (b : Bool) → b ≡ true → b ≡ false → ⊥
 no_truth b e f = cc
 
-one_more : (values : List (Option (Bor (List ℕ)))) (s t : Setting) (v : Bor (List ℕ)) → length values ≡ 12
+one_more : (values : List (Option (Bor (List ℕ)))) (s t : Setting) (v : Bor (List ℕ)) → length values ≡ length all_settings
     → bytes_of (get_or (slice_set values (place_of s) (Some v)) (place_of t) None) ≡ (if is_same s t then Some v.now else bytes_of (get_or values (place_of t) None))
 one_more values s t v len =
     let set = slice_set values (place_of s) (Some v) in
