@@ -1,5 +1,7 @@
 -- `clap` decides on options as the tables of options do.
-use Rattle.std.proofs.Common.{◌≡◌, ◌++◌, ◌&&◌, ◌||◌, ℕ, Bool, true, false, not, List, [], ◌∷◌, length, Option, Some, None, is_some, fold, find, if◌then◌else◌, refl, sym, ap, subst, ◌∙◌}
+use Rattle.std.proofs.Common.{◌≡◌, ◌++◌, ◌&&◌, ◌||◌, ℕ, Bool, true, false, not, List, [], ◌∷◌, length, Option, Some, None, is_some, fold, find, nat_le, if◌then◌else◌, refl, sym, ap, subst, ◌∙◌}
+use Rattle.std.proofs.Math.Path.{fun_ext}
+use Rattle.std.proofs.lemmas.Option.{none-some}
 use Rattle.std.specs.Option.{option_map_or}
 use Rattle.std.specs.List.{list_all, list_any}
 use Rattle.std.specs.Str.{bytes_eq}
@@ -11,20 +13,22 @@ use Rattle.clap.specs.declared.parser.matches.ValueSource.{ValueSource}
 use Rattle.clap.specs.declared.parser.matches.ValueSource.TheVariants as sources
 use Rattle.clap.specs.Simple.{App, built}
 use Rattle.clap.specs.Takes.{is_given}
-use Rattle.clap.specs.Kinds.{Kinds, check_kinds, or_else}
+use Rattle.clap.specs.Kinds.{Kinds, check_kinds, or_else, value_kinds}
 use Rattle.clap.specs.Faults.{check_fault, default_fault, defaults_fault, entered_fault, given_default_fault, level_fault}
 use Rattle.clap.specs.Simple.{entered}
 use Rattle.clap.specs.ValueTests.{is_unsigned_in}
-use Rattle.clap.specs.declared.error.kind.ErrorKind.TheVariants as kind
-use Rattle.prl_arguments.specs.declared.arguments.TheConstants.{MAX_SIZE, MAX_UNTIL, MAX_WORKERS}
+use Rattle.clap.specs.declared.error.kind.ErrorKind.{ErrorKind}
+use Rattle.prl_base.specs.Decimals.{decimal_of}
 use Rattle.prl_arguments.specs.declared.arguments.Mode.{Mode}
 use Rattle.prl_arguments.specs.declared.arguments.Mode.TheVariants as modes
 use Rattle.prl_arguments.specs.declared.arguments.Setting.{Setting}
 use Rattle.prl_arguments.specs.declared.arguments.Setting.TheVariants as settings
-use Rattle.prl_arguments.specs.Arguments.{Values, all_settings, fits, may, name_of, needs, nothing, value_of, with_value, with_words}
-use Rattle.prl_arguments.specs.code.Options.{app_of_mode, faults_of}
-use Rattle.prl_arguments.proofs.Spelled.{Follows, Spelled, and_left, and_right, spelled, words_of}
-use Rattle.prl_arguments.proofs.Walked.{Had, Valued, after, assoc, cost, had, has, later_none, or_nil, rule, rule_if, shape, tail, total, total_is}
+use Rattle.prl_arguments.specs.Arguments.{Values, all_fit, all_settings, fits, has, is_in, is_same, is_value, name_of, needs, nothing, range_of, with_value, with_words}
+use Rattle.prl_arguments.specs.code.Options.{app_of_mode, faults_of, is_taken, parser_by}
+use Rattle.prl_arguments.proofs.Names.{all_at, same_is, same_self}
+use Rattle.prl_arguments.proofs.Numerals.{in_range}
+use Rattle.prl_arguments.proofs.Spelled.{and_both, and_left, and_right, Follows, Spelled, spelled, the, words_of}
+use Rattle.prl_arguments.proofs.Walked.{Each, after, assoc, cost, had, rule, rule_if, shape, tail, total, total_is}
 
 -- the rules of the command of a mode when it is built
 abbrev rules : Mode → List Rule
@@ -34,82 +38,31 @@ abbrev built_app : List Rule → App
 built_app c = record { top = shape c; subs = [] }
 
 -- an option is found by its name where the mode has it
-abbrev Found : Mode → Setting → Type 0
-Found mode s = (arg_by_long (rules mode) (name_of s) ≡ rule_if (has mode s) mode s) × (arg_by_id (rules mode) (name_of s) ≡ rule_if (has mode s) mode s)
-
--- of each option
-abbrev pub Each : (Setting → Type 0) → Type 0
-Each P =
-    P settings.Program × P settings.Bodies × P settings.Sensors × P settings.Schedule × P settings.Node
-    × P settings.Until × P settings.Workers × P settings.Clock × P settings.Seed × P settings.Size × P settings.Cores × P settings.Table
-
-pub pick : (P : Setting → Type 0) → Each P → (s : Setting) → P s
-pick P h settings.Program = h.0
-pick P h settings.Bodies = h.1
-pick P h settings.Sensors = h.2
-pick P h settings.Schedule = h.3
-pick P h settings.Node = h.4
-pick P h settings.Until = h.5
-pick P h settings.Workers = h.6
-pick P h settings.Clock = h.7
-pick P h settings.Seed = h.8
-pick P h settings.Size = h.9
-pick P h settings.Cores = h.10
-pick P h settings.Table = h.11
-
-each_found : (mode : Mode) → Each (Found mode)
-each_found modes.Print =
-    ((refl, refl), (refl, refl), (refl, refl), (refl, refl), (refl, refl), (refl, refl), (refl, refl), (refl, refl), (refl, refl), (refl, refl), (refl, refl), (refl, refl))
-each_found modes.Plan =
-    ((refl, refl), (refl, refl), (refl, refl), (refl, refl), (refl, refl), (refl, refl), (refl, refl), (refl, refl), (refl, refl), (refl, refl), (refl, refl), (refl, refl))
-each_found modes.Check =
-    ((refl, refl), (refl, refl), (refl, refl), (refl, refl), (refl, refl), (refl, refl), (refl, refl), (refl, refl), (refl, refl), (refl, refl), (refl, refl), (refl, refl))
-each_found modes.Flows =
-    ((refl, refl), (refl, refl), (refl, refl), (refl, refl), (refl, refl), (refl, refl), (refl, refl), (refl, refl), (refl, refl), (refl, refl), (refl, refl), (refl, refl))
-each_found modes.Replay =
-    ((refl, refl), (refl, refl), (refl, refl), (refl, refl), (refl, refl), (refl, refl), (refl, refl), (refl, refl), (refl, refl), (refl, refl), (refl, refl), (refl, refl))
-each_found modes.Schedule =
-    ((refl, refl), (refl, refl), (refl, refl), (refl, refl), (refl, refl), (refl, refl), (refl, refl), (refl, refl), (refl, refl), (refl, refl), (refl, refl), (refl, refl))
-each_found modes.Cores =
-    ((refl, refl), (refl, refl), (refl, refl), (refl, refl), (refl, refl), (refl, refl), (refl, refl), (refl, refl), (refl, refl), (refl, refl), (refl, refl), (refl, refl))
-each_found modes.Edf =
-    ((refl, refl), (refl, refl), (refl, refl), (refl, refl), (refl, refl), (refl, refl), (refl, refl), (refl, refl), (refl, refl), (refl, refl), (refl, refl), (refl, refl))
-each_found modes.Run =
-    ((refl, refl), (refl, refl), (refl, refl), (refl, refl), (refl, refl), (refl, refl), (refl, refl), (refl, refl), (refl, refl), (refl, refl), (refl, refl), (refl, refl))
-each_found modes.Generate =
-    ((refl, refl), (refl, refl), (refl, refl), (refl, refl), (refl, refl), (refl, refl), (refl, refl), (refl, refl), (refl, refl), (refl, refl), (refl, refl), (refl, refl))
-each_found modes.Cycle =
-    ((refl, refl), (refl, refl), (refl, refl), (refl, refl), (refl, refl), (refl, refl), (refl, refl), (refl, refl), (refl, refl), (refl, refl), (refl, refl), (refl, refl))
-each_found modes.Table =
-    ((refl, refl), (refl, refl), (refl, refl), (refl, refl), (refl, refl), (refl, refl), (refl, refl), (refl, refl), (refl, refl), (refl, refl), (refl, refl), (refl, refl))
-
-found : (mode : Mode) (s : Setting) → Found mode s
-found mode s = pick (Found mode) (each_found mode) s
-
 by_long : (mode : Mode) (s : Setting) → arg_by_long (rules mode) (name_of s) ≡ rule_if (has mode s) mode s
-by_long mode s = (found mode s).0
+by_long modes.Print settings.Program = refl
+by_long _ settings.Program = refl
+by_long _ _ = refl
 
 by_id : (mode : Mode) (s : Setting) → arg_by_id (rules mode) (name_of s) ≡ rule_if (has mode s) mode s
-by_id mode s = (found mode s).1
+by_id modes.Print settings.Program = refl
+by_id _ settings.Program = refl
+by_id _ _ = refl
 
 -- no option has a value by default
+abbrev has_none : List Text → Bool
+has_none [] = true
+has_none (value ∷ values) = false
+
 abbrev NoDefaults : List Rule → Type 0
-NoDefaults [] = Unit {0}
-NoDefaults (a ∷ c) = (a.defaults ≡ []) × NoDefaults c
+NoDefaults c = list_all (λ a. has_none a.defaults) c ≡ true
 
 no_defaults : (mode : Mode) → NoDefaults (rules mode)
-no_defaults modes.Print = (refl, tt)
-no_defaults modes.Plan = (refl, (refl, tt))
-no_defaults modes.Check = (refl, (refl, (refl, tt)))
-no_defaults modes.Flows = (refl, (refl, (refl, (refl, (refl, tt)))))
-no_defaults modes.Replay = (refl, (refl, (refl, (refl, (refl, (refl, tt))))))
-no_defaults modes.Schedule = (refl, (refl, (refl, tt)))
-no_defaults modes.Cores = (refl, (refl, (refl, (refl, (refl, (refl, (refl, tt)))))))
-no_defaults modes.Edf = (refl, (refl, (refl, tt)))
-no_defaults modes.Run = (refl, (refl, (refl, (refl, (refl, (refl, (refl, tt)))))))
-no_defaults modes.Generate = (refl, (refl, tt))
-no_defaults modes.Cycle = (refl, (refl, (refl, (refl, (refl, (refl, tt))))))
-no_defaults modes.Table = (refl, (refl, tt))
+no_defaults modes.Print = refl
+no_defaults _ = refl
+
+none_is : (values : List Text) → has_none values ≡ true → values ≡ []
+none_is [] e = refl
+none_is (value ∷ values) e = cc
 
 no_default : (a : Rule) (rows : List Row) → a.defaults ≡ [] → with_default rows a ≡ rows
 no_default a rows e = elim (has_row a.id rows) as (λ b. (if b then rows else default_rows a.id (reading_by a) a.defaults rows) ≡ rows) [
@@ -125,15 +78,18 @@ no_default_fault a rows e = elim (has_row a.id rows) as (λ b. (if b || is_empty
 
 after_defaults : (c : List Rule) (rows : List Row) → NoDefaults c → fold with_default rows c ≡ rows
 after_defaults [] rows h = refl
-after_defaults (a ∷ c) rows h = ap (λ (r : List Row). fold with_default r c) (no_default a rows h.0) ∙ after_defaults c rows h.1
+after_defaults (a ∷ c) rows h =
+    ap (λ (r : List Row). fold with_default r c) (no_default a rows (none_is a.defaults (and_left (has_none a.defaults) _ h)))
+    ∙ after_defaults c rows (and_right (has_none a.defaults) _ h)
 
 defaults_none : (c : List Rule) (rows : List Row) → NoDefaults c → defaults_fault rows c ≡ []
 unfolding defaults_fault
 defaults_none [] rows h = refl
 defaults_none (a ∷ c) rows h =
-    ap (λ (k : Kinds). or_else k (defaults_fault (with_default rows a) c)) (no_default_fault a rows h.0)
-    ∙ ap (λ (r : List Row). defaults_fault r c) (no_default a rows h.0)
-    ∙ defaults_none c rows h.1
+    let none = none_is a.defaults (and_left (has_none a.defaults) _ h) in
+    ap (λ (k : Kinds). or_else k (defaults_fault (with_default rows a) c)) (no_default_fault a rows none)
+    ∙ ap (λ (r : List Row). defaults_fault r c) (no_default a rows none)
+    ∙ defaults_none c rows (and_right (has_none a.defaults) _ h)
 
 -- something that is needed is missing
 abbrev lacks : Mode → (Setting → Bool) → Bool
@@ -141,17 +97,7 @@ lacks mode given = list_any (λ s. needs mode s && not (given s)) all_settings
 
 required : (mode : Mode) (rows : List Row) → list_any (λ a. a.required && not (is_given a.id rows)) (rules mode) ≡ lacks mode (λ s. is_given (name_of s) rows)
 required modes.Print rows = refl
-required modes.Plan rows = refl
-required modes.Check rows = refl
-required modes.Flows rows = refl
-required modes.Replay rows = refl
-required modes.Schedule rows = refl
-required modes.Cores rows = refl
-required modes.Edf rows = refl
-required modes.Run rows = refl
-required modes.Generate rows = refl
-required modes.Cycle rows = refl
-required modes.Table rows = refl
+required _ rows = refl
 
 tail_is : (mode : Mode) (rows : List Row) → tail (rules mode) rows ≡ check_kinds false false (lacks mode (λ s. is_given (name_of s) rows))
 tail_is mode rows =
@@ -222,300 +168,32 @@ used_given mode s v rows x =
 
 -- the rows have the options that are given
 abbrev Shows : List Row → Values → Type 0
-Shows rows given = Each (λ s. is_given (name_of s) rows ≡ is_some (value_of given s))
+Shows rows given = (s : Setting) → is_given (name_of s) rows ≡ is_some (given s)
+
+some_if : (b : Bool) (v : Text) (o : Option Text) → (b || is_some o) ≡ is_some (if b then Some v else o)
+some_if true v o = refl
+some_if false v o = refl
 
 shows_more : (mode : Mode) (s : Setting) (v : Text) (rows : List Row) (given : Values) → Shows rows given → Shows (used (rule mode s) (v ∷ []) rows) (with_value given s v)
-shows_more mode settings.Program v rows given h =
-    let u = λ (t : Setting). used_given mode settings.Program v rows (name_of t) in (
-      u settings.Program,
-      u settings.Bodies ∙ h.1,
-      u settings.Sensors ∙ h.2,
-      u settings.Schedule ∙ h.3,
-      u settings.Node ∙ h.4,
-      u settings.Until ∙ h.5,
-      u settings.Workers ∙ h.6,
-      u settings.Clock ∙ h.7,
-      u settings.Seed ∙ h.8,
-      u settings.Size ∙ h.9,
-      u settings.Cores ∙ h.10,
-      u settings.Table ∙ h.11,
-    )
-shows_more mode settings.Bodies v rows given h =
-    let u = λ (t : Setting). used_given mode settings.Bodies v rows (name_of t) in (
-      u settings.Program ∙ h.0,
-      u settings.Bodies,
-      u settings.Sensors ∙ h.2,
-      u settings.Schedule ∙ h.3,
-      u settings.Node ∙ h.4,
-      u settings.Until ∙ h.5,
-      u settings.Workers ∙ h.6,
-      u settings.Clock ∙ h.7,
-      u settings.Seed ∙ h.8,
-      u settings.Size ∙ h.9,
-      u settings.Cores ∙ h.10,
-      u settings.Table ∙ h.11,
-    )
-shows_more mode settings.Sensors v rows given h =
-    let u = λ (t : Setting). used_given mode settings.Sensors v rows (name_of t) in (
-      u settings.Program ∙ h.0,
-      u settings.Bodies ∙ h.1,
-      u settings.Sensors,
-      u settings.Schedule ∙ h.3,
-      u settings.Node ∙ h.4,
-      u settings.Until ∙ h.5,
-      u settings.Workers ∙ h.6,
-      u settings.Clock ∙ h.7,
-      u settings.Seed ∙ h.8,
-      u settings.Size ∙ h.9,
-      u settings.Cores ∙ h.10,
-      u settings.Table ∙ h.11,
-    )
-shows_more mode settings.Schedule v rows given h =
-    let u = λ (t : Setting). used_given mode settings.Schedule v rows (name_of t) in (
-      u settings.Program ∙ h.0,
-      u settings.Bodies ∙ h.1,
-      u settings.Sensors ∙ h.2,
-      u settings.Schedule,
-      u settings.Node ∙ h.4,
-      u settings.Until ∙ h.5,
-      u settings.Workers ∙ h.6,
-      u settings.Clock ∙ h.7,
-      u settings.Seed ∙ h.8,
-      u settings.Size ∙ h.9,
-      u settings.Cores ∙ h.10,
-      u settings.Table ∙ h.11,
-    )
-shows_more mode settings.Node v rows given h =
-    let u = λ (t : Setting). used_given mode settings.Node v rows (name_of t) in (
-      u settings.Program ∙ h.0,
-      u settings.Bodies ∙ h.1,
-      u settings.Sensors ∙ h.2,
-      u settings.Schedule ∙ h.3,
-      u settings.Node,
-      u settings.Until ∙ h.5,
-      u settings.Workers ∙ h.6,
-      u settings.Clock ∙ h.7,
-      u settings.Seed ∙ h.8,
-      u settings.Size ∙ h.9,
-      u settings.Cores ∙ h.10,
-      u settings.Table ∙ h.11,
-    )
-shows_more mode settings.Until v rows given h =
-    let u = λ (t : Setting). used_given mode settings.Until v rows (name_of t) in (
-      u settings.Program ∙ h.0,
-      u settings.Bodies ∙ h.1,
-      u settings.Sensors ∙ h.2,
-      u settings.Schedule ∙ h.3,
-      u settings.Node ∙ h.4,
-      u settings.Until,
-      u settings.Workers ∙ h.6,
-      u settings.Clock ∙ h.7,
-      u settings.Seed ∙ h.8,
-      u settings.Size ∙ h.9,
-      u settings.Cores ∙ h.10,
-      u settings.Table ∙ h.11,
-    )
-shows_more mode settings.Workers v rows given h =
-    let u = λ (t : Setting). used_given mode settings.Workers v rows (name_of t) in (
-      u settings.Program ∙ h.0,
-      u settings.Bodies ∙ h.1,
-      u settings.Sensors ∙ h.2,
-      u settings.Schedule ∙ h.3,
-      u settings.Node ∙ h.4,
-      u settings.Until ∙ h.5,
-      u settings.Workers,
-      u settings.Clock ∙ h.7,
-      u settings.Seed ∙ h.8,
-      u settings.Size ∙ h.9,
-      u settings.Cores ∙ h.10,
-      u settings.Table ∙ h.11,
-    )
-shows_more mode settings.Clock v rows given h =
-    let u = λ (t : Setting). used_given mode settings.Clock v rows (name_of t) in (
-      u settings.Program ∙ h.0,
-      u settings.Bodies ∙ h.1,
-      u settings.Sensors ∙ h.2,
-      u settings.Schedule ∙ h.3,
-      u settings.Node ∙ h.4,
-      u settings.Until ∙ h.5,
-      u settings.Workers ∙ h.6,
-      u settings.Clock,
-      u settings.Seed ∙ h.8,
-      u settings.Size ∙ h.9,
-      u settings.Cores ∙ h.10,
-      u settings.Table ∙ h.11,
-    )
-shows_more mode settings.Seed v rows given h =
-    let u = λ (t : Setting). used_given mode settings.Seed v rows (name_of t) in (
-      u settings.Program ∙ h.0,
-      u settings.Bodies ∙ h.1,
-      u settings.Sensors ∙ h.2,
-      u settings.Schedule ∙ h.3,
-      u settings.Node ∙ h.4,
-      u settings.Until ∙ h.5,
-      u settings.Workers ∙ h.6,
-      u settings.Clock ∙ h.7,
-      u settings.Seed,
-      u settings.Size ∙ h.9,
-      u settings.Cores ∙ h.10,
-      u settings.Table ∙ h.11,
-    )
-shows_more mode settings.Size v rows given h =
-    let u = λ (t : Setting). used_given mode settings.Size v rows (name_of t) in (
-      u settings.Program ∙ h.0,
-      u settings.Bodies ∙ h.1,
-      u settings.Sensors ∙ h.2,
-      u settings.Schedule ∙ h.3,
-      u settings.Node ∙ h.4,
-      u settings.Until ∙ h.5,
-      u settings.Workers ∙ h.6,
-      u settings.Clock ∙ h.7,
-      u settings.Seed ∙ h.8,
-      u settings.Size,
-      u settings.Cores ∙ h.10,
-      u settings.Table ∙ h.11,
-    )
-shows_more mode settings.Cores v rows given h =
-    let u = λ (t : Setting). used_given mode settings.Cores v rows (name_of t) in (
-      u settings.Program ∙ h.0,
-      u settings.Bodies ∙ h.1,
-      u settings.Sensors ∙ h.2,
-      u settings.Schedule ∙ h.3,
-      u settings.Node ∙ h.4,
-      u settings.Until ∙ h.5,
-      u settings.Workers ∙ h.6,
-      u settings.Clock ∙ h.7,
-      u settings.Seed ∙ h.8,
-      u settings.Size ∙ h.9,
-      u settings.Cores,
-      u settings.Table ∙ h.11,
-    )
-shows_more mode settings.Table v rows given h =
-    let u = λ (t : Setting). used_given mode settings.Table v rows (name_of t) in (
-      u settings.Program ∙ h.0,
-      u settings.Bodies ∙ h.1,
-      u settings.Sensors ∙ h.2,
-      u settings.Schedule ∙ h.3,
-      u settings.Node ∙ h.4,
-      u settings.Until ∙ h.5,
-      u settings.Workers ∙ h.6,
-      u settings.Clock ∙ h.7,
-      u settings.Seed ∙ h.8,
-      u settings.Size ∙ h.9,
-      u settings.Cores ∙ h.10,
-      u settings.Table,
-    )
+shows_more mode s v rows given h t = used_given mode s v rows (name_of t) ∙ ap (λ b. is_same s t || b) (h t) ∙ some_if (is_same s t) v (given t)
 
--- the value of an option is in its range, where it has one
-abbrev pub is_fine : Setting → Text → Bool
-is_fine settings.Until text = is_unsigned_in 0 MAX_UNTIL text
-is_fine settings.Workers text = is_unsigned_in 1 MAX_WORKERS text
-is_fine settings.Size text = is_unsigned_in 1 MAX_SIZE text
-is_fine other text = true
+-- what a command line of the mode's options is refused for: its values, or what is missing
+abbrev costs : List Spelled → Kinds
+costs [] = []
+costs (o ∷ os) = or_else (cost o.1 o.2) (costs os)
 
-abbrev pub kinds_if : Bool → Kinds
-kinds_if b = if b then [] else kind.ValueValidation ∷ []
-
-cost_is : (s : Setting) (v : Text) → cost s v ≡ kinds_if (is_fine s v)
-cost_is settings.Program v = refl
-cost_is settings.Bodies v = refl
-cost_is settings.Sensors v = refl
-cost_is settings.Schedule v = refl
-cost_is settings.Node v = refl
-cost_is settings.Until v = or_nil (kinds_if (is_fine settings.Until v))
-cost_is settings.Workers v = or_nil (kinds_if (is_fine settings.Workers v))
-cost_is settings.Clock v = refl
-cost_is settings.Seed v = refl
-cost_is settings.Size v = or_nil (kinds_if (is_fine settings.Size v))
-cost_is settings.Cores v = refl
-cost_is settings.Table v = refl
-
--- a number that is given is in a range
-abbrev pub ranged : ℕ → ℕ → Option Text → Bool
-ranged least most None = true
-ranged least most (Some text) = is_unsigned_in least most text
-
--- all values that are given are in their ranges
-abbrev pub are_fine : Values → Bool
-are_fine given = ranged 0 MAX_UNTIL given.until && (ranged 1 MAX_WORKERS given.workers && ranged 1 MAX_SIZE given.size)
-
-both_kinds : (a b : Bool) → or_else (kinds_if a) (kinds_if b) ≡ kinds_if (a && b)
-both_kinds true b = refl
-both_kinds false b = refl
-
-and_true : (a : Bool) → (a && true) ≡ a
-and_true true = refl
-and_true false = refl
-
-at_first : (u w z b : Bool) → u ≡ true → ((u && (w && z)) && b) ≡ (b && (w && z))
-at_first true w z true e = and_true (w && z)
-at_first true true z false e = elim z as (λ z. ((true && (true && z)) && false) ≡ false) [
-  | true ↦ refl
-  | false ↦ refl
-]
-at_first true false z false e = refl
-at_first false w z b e = cc
-
-at_second : (u w z b : Bool) → w ≡ true → ((u && (w && z)) && b) ≡ (u && (b && z))
-at_second false w z b e = refl
-at_second true true true b e = sym (and_true b)
-at_second true true false true e = refl
-at_second true true false false e = refl
-at_second true false z b e = cc
-
-at_third : (u w z b : Bool) → z ≡ true → ((u && (w && z)) && b) ≡ (u && (w && b))
-at_third false w z b e = refl
-at_third true false z b e = refl
-at_third true true true b e = refl
-at_third true true false b e = cc
-
-fine_more : (s : Setting) (v : Text) (given : Values) → value_of given s ≡ None → (are_fine given && is_fine s v) ≡ are_fine (with_value given s v)
-fine_more settings.Program v given e = and_true (are_fine given)
-fine_more settings.Bodies v given e = and_true (are_fine given)
-fine_more settings.Sensors v given e = and_true (are_fine given)
-fine_more settings.Schedule v given e = and_true (are_fine given)
-fine_more settings.Node v given e = and_true (are_fine given)
-fine_more settings.Until v given e =
-    at_first (ranged 0 MAX_UNTIL given.until) (ranged 1 MAX_WORKERS given.workers) (ranged 1 MAX_SIZE given.size) (is_fine settings.Until v) (ap (ranged 0 MAX_UNTIL) e)
-fine_more settings.Workers v given e =
-    at_second (ranged 0 MAX_UNTIL given.until) (ranged 1 MAX_WORKERS given.workers) (ranged 1 MAX_SIZE given.size) (is_fine settings.Workers v) (ap (ranged 1 MAX_WORKERS) e)
-fine_more settings.Clock v given e = and_true (are_fine given)
-fine_more settings.Seed v given e = and_true (are_fine given)
-fine_more settings.Size v given e =
-    at_third (ranged 0 MAX_UNTIL given.until) (ranged 1 MAX_WORKERS given.workers) (ranged 1 MAX_SIZE given.size) (is_fine settings.Size v) (ap (ranged 1 MAX_SIZE) e)
-fine_more settings.Cores v given e = and_true (are_fine given)
-fine_more settings.Table v given e = and_true (are_fine given)
-
--- what the values are refused for
-abbrev pub values_kinds : Values → Kinds
-values_kinds given = kinds_if (are_fine given)
-
-cost_more : (s : Setting) (v : Text) (given : Values) → value_of given s ≡ None → or_else (values_kinds given) (cost s v) ≡ values_kinds (with_value given s v)
-cost_more s v given e =
-    ap (or_else (values_kinds given)) (cost_is s v) ∙ both_kinds (are_fine given) (is_fine s v) ∙ ap kinds_if (fine_more s v given e)
-
-any_same : (p q : Setting → Bool) → ((s : Setting) → p s ≡ q s) → (xs : List Setting) → list_any p xs ≡ list_any q xs
-any_same p q same [] = refl
-any_same p q same (x ∷ xs) = ap (λ b. b || list_any p xs) (same x) ∙ ap (λ b. q x || b) (any_same p q same xs)
-
--- what a command line of the mode's options is refused for
-abbrev verdict : Mode → Values → Kinds
-verdict mode final = or_else (values_kinds final) (check_kinds false false (lacks mode (λ s. is_some (value_of final s))))
+abbrev verdict : Mode → List Spelled → Values → Kinds
+verdict mode os final = or_else (costs os) (check_kinds false false (lacks mode (λ s. is_some (final s))))
 
 ends : (mode : Mode) (os : List Spelled) (given final : Values) (rows : List Row) → Follows given os final → Shows rows given
-    → or_else (values_kinds given) (after (rules mode) mode (by_long mode) (by_id mode) os rows) ≡ verdict mode final
+    → after (rules mode) mode (by_long mode) (by_id mode) os rows ≡ verdict mode os final
 ends mode [] given final rows follows shows =
-    ap (or_else (values_kinds given)) (
     tail_is mode rows
-    ∙ ap (check_kinds false false) (any_same (λ s. needs mode s && not (is_given (name_of s) rows)) (λ s. needs mode s && not (is_some (value_of given s))) (λ s. ap (λ b. needs mode s && not b) (pick (λ s. is_given (name_of s) rows ≡ is_some (value_of given s)) shows s)) all_settings)
-    )
-    ∙ ap (verdict mode) follows
+    ∙ ap (λ (g : Setting → Bool). check_kinds false false (lacks mode g)) (fun_ext shows)
+    ∙ ap (λ (g : Values). check_kinds false false (lacks mode (λ s. is_some (g s)))) follows
 ends mode (o ∷ os) given final rows follows shows =
-    let more = used (rule mode o.1) (o.2 ∷ []) rows in
-    let rest = after (rules mode) mode (by_long mode) (by_id mode) os more in
-    sym (assoc (values_kinds given) (cost o.1 o.2) rest)
-    ∙ ap (λ (k : Kinds). or_else k rest) (cost_more o.1 o.2 given follows.1)
-    ∙ ends mode os (with_value given o.1 o.2) final more follows.2 (shows_more mode o.1 o.2 rows given shows)
+    ap (or_else (cost o.1 o.2)) (ends mode os (with_value given o.1 o.2) final (used (rule mode o.1) (o.2 ∷ []) rows) follows.2 (shows_more mode o.1 o.2 rows given shows))
+    ∙ sym (assoc (cost o.1 o.2) (costs os) _)
 
 -- the whole parse is the walk over the words after the mode
 by_stop : (c : List Rule) (words : List Text) (stop : Option (Text × List Text))
@@ -525,246 +203,151 @@ by_stop c words (Some p) = refl
 
 walk_is : (mode : Mode) (name : Text) (words : List Text) → faults_of mode (name ∷ words) ≡ total (rules mode) (walk_from nothing_held) words
 walk_is modes.Print name words = by_stop (rules modes.Print) words (walk (rules modes.Print) [] nothing_held words).stopped
-walk_is modes.Plan name words = by_stop (rules modes.Plan) words (walk (rules modes.Plan) [] nothing_held words).stopped
-walk_is modes.Check name words = by_stop (rules modes.Check) words (walk (rules modes.Check) [] nothing_held words).stopped
-walk_is modes.Flows name words = by_stop (rules modes.Flows) words (walk (rules modes.Flows) [] nothing_held words).stopped
-walk_is modes.Replay name words = by_stop (rules modes.Replay) words (walk (rules modes.Replay) [] nothing_held words).stopped
-walk_is modes.Schedule name words = by_stop (rules modes.Schedule) words (walk (rules modes.Schedule) [] nothing_held words).stopped
-walk_is modes.Edf name words = by_stop (rules modes.Edf) words (walk (rules modes.Edf) [] nothing_held words).stopped
-walk_is modes.Cores name words = by_stop (rules modes.Cores) words (walk (rules modes.Cores) [] nothing_held words).stopped
-walk_is modes.Run name words = by_stop (rules modes.Run) words (walk (rules modes.Run) [] nothing_held words).stopped
-walk_is modes.Generate name words = by_stop (rules modes.Generate) words (walk (rules modes.Generate) [] nothing_held words).stopped
-walk_is modes.Cycle name words = by_stop (rules modes.Cycle) words (walk (rules modes.Cycle) [] nothing_held words).stopped
-walk_is modes.Table name words = by_stop (rules modes.Table) words (walk (rules modes.Table) [] nothing_held words).stopped
+walk_is mode name words = by_stop (rules mode) words (walk (rules mode) [] nothing_held words).stopped
 
--- the options of the words are the mode's
-abbrev Allowed : Mode → Values → Type 0
-Allowed mode given = Each (λ s. is_some (value_of given s) ≡ true → has mode s ≡ true)
+-- the values that are given pass a test
+abbrev pub Told : (Setting → Text → Bool) → Values → Type 0
+Told p given = (s : Setting) (v : Text) → given s ≡ Some v → p s v ≡ true
 
-allowed_more : (mode : Mode) (s : Setting) (v : Text) (given : Values) → has mode s ≡ true → Allowed mode given → Allowed mode (with_value given s v)
-allowed_more mode settings.Program v given h a = (λ e. h, a.1, a.2, a.3, a.4, a.5, a.6, a.7, a.8, a.9, a.10, a.11)
-allowed_more mode settings.Bodies v given h a = (a.0, λ e. h, a.2, a.3, a.4, a.5, a.6, a.7, a.8, a.9, a.10, a.11)
-allowed_more mode settings.Sensors v given h a = (a.0, a.1, λ e. h, a.3, a.4, a.5, a.6, a.7, a.8, a.9, a.10, a.11)
-allowed_more mode settings.Schedule v given h a = (a.0, a.1, a.2, λ e. h, a.4, a.5, a.6, a.7, a.8, a.9, a.10, a.11)
-allowed_more mode settings.Node v given h a = (a.0, a.1, a.2, a.3, λ e. h, a.5, a.6, a.7, a.8, a.9, a.10, a.11)
-allowed_more mode settings.Until v given h a = (a.0, a.1, a.2, a.3, a.4, λ e. h, a.6, a.7, a.8, a.9, a.10, a.11)
-allowed_more mode settings.Workers v given h a = (a.0, a.1, a.2, a.3, a.4, a.5, λ e. h, a.7, a.8, a.9, a.10, a.11)
-allowed_more mode settings.Clock v given h a = (a.0, a.1, a.2, a.3, a.4, a.5, a.6, λ e. h, a.8, a.9, a.10, a.11)
-allowed_more mode settings.Seed v given h a = (a.0, a.1, a.2, a.3, a.4, a.5, a.6, a.7, λ e. h, a.9, a.10, a.11)
-allowed_more mode settings.Size v given h a = (a.0, a.1, a.2, a.3, a.4, a.5, a.6, a.7, a.8, λ e. h, a.10, a.11)
-allowed_more mode settings.Cores v given h a = (a.0, a.1, a.2, a.3, a.4, a.5, a.6, a.7, a.8, a.9, λ e. h, a.11)
-allowed_more mode settings.Table v given h a = (a.0, a.1, a.2, a.3, a.4, a.5, a.6, a.7, a.8, a.9, a.10, λ e. h)
+told_more : (p : Setting → Text → Bool) (s : Setting) (v : Text) (given : Values) → p s v ≡ true → Told p given → Told p (with_value given s v)
+told_more p s v given is h t w e =
+    elim (is_same s t) as (λ b. is_same s t ≡ b → (if b then Some v else given t) ≡ Some w → p t w ≡ true) [
+      | true ↦ λ same e. subst (λ u. p u w ≡ true) (same_is s t same) (subst (λ x. p s x ≡ true) (the v w e) is)
+      | false ↦ λ other e. h t w e
+    ] refl e
 
-abbrev HadIn : Mode → List Spelled → Type 0
-HadIn mode os = Had (rules mode) mode (by_long mode) (by_id mode) os
+told_less : (p : Setting → Text → Bool) (s : Setting) (v : Text) (given : Values) → given s ≡ None → Told p (with_value given s v) → Told p given
+told_less p s v given fresh h t w e = h t w (elim (is_same s t) as (λ b. is_same s t ≡ b → (if b then Some v else given t) ≡ Some w) [
+  | true ↦ λ same. absurd (none-some w (sym fresh ∙ ap given (same_is s t same) ∙ e))
+  | false ↦ λ other. e
+] refl)
 
-abbrev ValuedIn : Mode → List Spelled → Type 0
-ValuedIn mode os = Valued (rules mode) mode (by_long mode) (by_id mode) os
+-- the words' options pass a test where the values that they give do
+told : (p : Setting → Text → Bool) (os : List Spelled) (given final : Values) → Follows given os final → Each p os → Told p given → Told p final
+told p [] given final follows each h = subst (Told p) follows h
+told p (o ∷ os) given final follows each h =
+    told p os (with_value given o.1 o.2) final follows.2 (and_right (p o.1 o.2) _ each) (told_more p o.1 o.2 given (and_left (p o.1 o.2) _ each) h)
 
-allowed : (mode : Mode) (os : List Spelled) (given final : Values) → Follows given os final → HadIn mode os → Allowed mode given → Allowed mode final
-allowed mode [] given final follows had a = subst (Allowed mode) follows a
-allowed mode (o ∷ os) given final follows had a = allowed mode os (with_value given o.1 o.2) final follows.2 had.1 (allowed_more mode o.1 o.2 given had.0 a)
-
--- options that are given stay so
-abbrev Kept : Values → Values → Type 0
-Kept given final = Each (λ s. is_some (value_of given s) ≡ true → is_some (value_of final s) ≡ true)
-
-kept_more : (s : Setting) (v : Text) (given final : Values) → Kept (with_value given s v) final → Kept given final
-kept_more settings.Program v given final k = (λ e. k.0 refl, k.1, k.2, k.3, k.4, k.5, k.6, k.7, k.8, k.9, k.10, k.11)
-kept_more settings.Bodies v given final k = (k.0, λ e. k.1 refl, k.2, k.3, k.4, k.5, k.6, k.7, k.8, k.9, k.10, k.11)
-kept_more settings.Sensors v given final k = (k.0, k.1, λ e. k.2 refl, k.3, k.4, k.5, k.6, k.7, k.8, k.9, k.10, k.11)
-kept_more settings.Schedule v given final k = (k.0, k.1, k.2, λ e. k.3 refl, k.4, k.5, k.6, k.7, k.8, k.9, k.10, k.11)
-kept_more settings.Node v given final k = (k.0, k.1, k.2, k.3, λ e. k.4 refl, k.5, k.6, k.7, k.8, k.9, k.10, k.11)
-kept_more settings.Until v given final k = (k.0, k.1, k.2, k.3, k.4, λ e. k.5 refl, k.6, k.7, k.8, k.9, k.10, k.11)
-kept_more settings.Workers v given final k = (k.0, k.1, k.2, k.3, k.4, k.5, λ e. k.6 refl, k.7, k.8, k.9, k.10, k.11)
-kept_more settings.Clock v given final k = (k.0, k.1, k.2, k.3, k.4, k.5, k.6, λ e. k.7 refl, k.8, k.9, k.10, k.11)
-kept_more settings.Seed v given final k = (k.0, k.1, k.2, k.3, k.4, k.5, k.6, k.7, λ e. k.8 refl, k.9, k.10, k.11)
-kept_more settings.Size v given final k = (k.0, k.1, k.2, k.3, k.4, k.5, k.6, k.7, k.8, λ e. k.9 refl, k.10, k.11)
-kept_more settings.Cores v given final k = (k.0, k.1, k.2, k.3, k.4, k.5, k.6, k.7, k.8, k.9, λ e. k.10 refl, k.11)
-kept_more settings.Table v given final k = (k.0, k.1, k.2, k.3, k.4, k.5, k.6, k.7, k.8, k.9, k.10, λ e. k.11 refl)
-
-kept : (os : List Spelled) (given final : Values) → Follows given os final → Kept given final
-kept [] given final follows = subst (Kept given) follows (λ e. e, λ e. e, λ e. e, λ e. e, λ e. e, λ e. e, λ e. e, λ e. e, λ e. e, λ e. e, λ e. e, λ e. e)
-kept (o ∷ os) given final follows = kept_more o.1 o.2 given final (kept os (with_value given o.1 o.2) final follows.2)
-
-now_given : (s : Setting) (v : Text) (given : Values) → is_some (value_of (with_value given s v) s) ≡ true
-now_given settings.Program v given = refl
-now_given settings.Bodies v given = refl
-now_given settings.Sensors v given = refl
-now_given settings.Schedule v given = refl
-now_given settings.Node v given = refl
-now_given settings.Until v given = refl
-now_given settings.Workers v given = refl
-now_given settings.Clock v given = refl
-now_given settings.Seed v given = refl
-now_given settings.Size v given = refl
-now_given settings.Cores v given = refl
-now_given settings.Table v given = refl
-
-had_by : (mode : Mode) (os : List Spelled) (given final : Values) → Follows given os final → ((s : Setting) → is_some (value_of final s) ≡ true → has mode s ≡ true) → HadIn mode os
-had_by mode [] given final follows h = tt
-had_by mode (o ∷ os) given final follows h =
+each_told : (p : Setting → Text → Bool) (os : List Spelled) (given final : Values) → Follows given os final → Told p final → Told p given × Each p os
+each_told p [] given final follows h = (subst (Told p) (sym follows) h, refl)
+each_told p (o ∷ os) given final follows h =
     let more = with_value given o.1 o.2 in
-    let k = kept os more final follows.2 in (
-      h o.1 (pick (λ s. is_some (value_of more s) ≡ true → is_some (value_of final s) ≡ true) k o.1 (now_given o.1 o.2 given)),
-      had_by mode os more final follows.2 h,
-    )
+    let r = each_told p os more final follows.2 h in
+    let mine = r.0 o.1 o.2 (ap (λ b. if b then Some o.2 else given o.1) (same_self o.1)) in
+    (told_less p o.1 o.2 given follows.1 r.0, and_both (p o.1 o.2) _ mine r.1)
 
-valued : (mode : Mode) (os : List Spelled) (given final : Values) → Follows given os final → ValuedIn mode os
-valued mode [] given final follows = tt
-valued mode (o ∷ os) given final follows = (follows.0, valued mode os (with_value given o.1 o.2) final follows.2)
+valued : (os : List Spelled) (given final : Values) → Follows given os final → Each (λ s v. is_value v) os
+valued [] given final follows = refl
+valued (o ∷ os) given final follows = and_both (is_value o.2) _ follows.0 (valued os (with_value given o.1 o.2) final follows.2)
+
+-- the value of an option with a range spells a number
+abbrev pub spells : Setting → Text → Bool
+spells s v = option_map_or (λ range. is_some (decimal_of v)) (range_of s) true
+
+-- such a value is refused where it is not in the range
+both_taken : (a b : Kinds) → is_taken (or_else a b) ≡ (is_taken a && is_taken b)
+both_taken [] b = refl
+both_taken (k ∷ ks) b = refl
+
+taken_if : (b : Bool) (k : ErrorKind) → is_taken (or_else (if b then [] else k ∷ []) []) ≡ b
+taken_if true k = refl
+taken_if false k = refl
+
+some_of : {A : Type 0} (o : Option A) → is_some o ≡ true → (x : A) × (o ≡ Some x)
+some_of None e = cc
+some_of (Some x) e = (x, refl)
+
+fair : (r : Option (ℕ × ℕ)) (v : Text) → option_map_or (λ range. is_some (decimal_of v)) r true ≡ true → is_taken (or_else (value_kinds false (parser_by r) v) []) ≡ is_in r v
+fair None v e = refl
+fair (Some r) v e =
+    let number = some_of (decimal_of v) e in
+    taken_if (is_unsigned_in r.0 r.1 v) _ ∙ in_range v number.0 r.0 r.1 number.1
+    ∙ sym (ap (λ (o : Option ℕ). option_map_or (λ n. nat_le r.0 n && nat_le n r.1) o false) number.1)
+
+costs_fair : (os : List Spelled) → Each spells os → is_taken (costs os) ≡ list_all (λ o. is_in (range_of o.1) o.2) os
+costs_fair [] e = refl
+costs_fair (o ∷ os) e =
+    both_taken (cost o.1 o.2) (costs os)
+    ∙ ap (λ b. b && is_taken (costs os)) (fair (range_of o.1) o.2 (and_left (spells o.1 o.2) _ e))
+    ∙ ap (λ b. is_in (range_of o.1) o.2 && b) (costs_fair os (and_right (spells o.1 o.2) _ e))
 
 -- tests of all options
-or_left : (a b : Bool) → (a || b) ≡ false → a ≡ false
-or_left true b e = e
-or_left false b e = refl
+all_from : (p : Setting → Bool) (xs : List Setting) → ((s : Setting) → p s ≡ true) → list_all p xs ≡ true
+all_from p [] h = refl
+all_from p (x ∷ xs) h = and_both (p x) _ (h x) (all_from p xs h)
 
-or_right : (a b : Bool) → (a || b) ≡ false → b ≡ false
-or_right true b e = cc
-or_right false b e = e
+none_lacks : (p : Setting → Bool) (xs : List Setting) → not (list_any p xs) ≡ list_all (λ s. not (p s)) xs
+none_lacks p [] = refl
+none_lacks p (x ∷ xs) = elim (p x) as (λ b. not (b || list_any p xs) ≡ (not b && list_all (λ s. not (p s)) xs)) [
+  | true ↦ refl
+  | false ↦ none_lacks p xs
+]
 
-pub and_both : (a b : Bool) → a ≡ true → b ≡ true → (a && b) ≡ true
-and_both true b e f = f
-and_both false b e f = e
+not_lacking : (b : Bool) → is_taken (check_kinds false false b) ≡ not b
+not_lacking true = refl
+not_lacking false = refl
 
-or_both : (a b : Bool) → a ≡ false → b ≡ false → (a || b) ≡ false
-or_both true b e f = e
-or_both false b e f = f
+-- an option fits by what it is where it is given, and by not being missing
+abbrev is_there : Bool → Bool → Bool
+is_there needed given = not (needed && not given)
 
-each_from : (P : Setting → Type 0) → ((s : Setting) → P s) → Each P
-each_from P f = (
-  f settings.Program,
-  f settings.Bodies,
-  f settings.Sensors,
-  f settings.Schedule,
-  f settings.Node,
-  f settings.Until,
-  f settings.Workers,
-  f settings.Clock,
-  f settings.Seed,
-  f settings.Size,
-  f settings.Cores,
-  f settings.Table,
-)
+fits_by : (mode : Mode) (s : Setting) (o : Option Text) → ((v : Text) → o ≡ Some v → (has mode s ≡ true) × (is_in (range_of s) v ≡ true)) → is_there (needs mode s) (is_some o) ≡ true
+    → fits mode s o ≡ true
+fits_by mode s None h there = elim (needs mode s) as (λ b. not (b && true) ≡ true → not b ≡ true) [
+  | true ↦ λ e. e
+  | false ↦ λ e. refl
+] there
+fits_by mode s (Some v) h there = and_both (has mode s) _ (h v refl).0 (h v refl).1
 
-pub all_at : (p : Setting → Bool) → list_all p all_settings ≡ true → Each (λ s. p s ≡ true)
-all_at p e =
-    let bodies_on = and_right (p settings.Program) _ e in
-    let sensors_on = and_right (p settings.Bodies) _ bodies_on in
-    let schedule_on = and_right (p settings.Sensors) _ sensors_on in
-    let node_on = and_right (p settings.Schedule) _ schedule_on in
-    let until_on = and_right (p settings.Node) _ node_on in
-    let workers_on = and_right (p settings.Until) _ until_on in
-    let clock_on = and_right (p settings.Workers) _ workers_on in
-    let seed_on = and_right (p settings.Clock) _ clock_on in
-    let size_on = and_right (p settings.Seed) _ seed_on in
-    let cores_on = and_right (p settings.Size) _ size_on in
-    let table_on = and_right (p settings.Cores) _ cores_on in (
-      and_left (p settings.Program) _ e,
-      and_left (p settings.Bodies) _ bodies_on,
-      and_left (p settings.Sensors) _ sensors_on,
-      and_left (p settings.Schedule) _ schedule_on,
-      and_left (p settings.Node) _ node_on,
-      and_left (p settings.Until) _ until_on,
-      and_left (p settings.Workers) _ workers_on,
-      and_left (p settings.Clock) _ clock_on,
-      and_left (p settings.Seed) _ seed_on,
-      and_left (p settings.Size) _ size_on,
-      and_left (p settings.Cores) _ cores_on,
-      and_left (p settings.Table) _ table_on,
-    )
+fits_there : (mode : Mode) (s : Setting) (o : Option Text) → fits mode s o ≡ true → is_there (needs mode s) (is_some o) ≡ true
+fits_there mode s None e = elim (needs mode s) as (λ b. not b ≡ true → not (b && true) ≡ true) [
+  | true ↦ λ e. e
+  | false ↦ λ e. refl
+] e
+fits_there mode s (Some v) e = elim (needs mode s) as (λ b. not (b && false) ≡ true) [
+  | true ↦ refl
+  | false ↦ refl
+]
 
-all_from : (p : Setting → Bool) → Each (λ s. p s ≡ true) → list_all p all_settings ≡ true
-all_from p h =
-    and_both (p settings.Program) _ h.0 (and_both (p settings.Bodies) _ h.1 (and_both (p settings.Sensors) _ h.2 (and_both (p settings.Schedule) _ h.3 (and_both (p settings.Node) _ h.4 (and_both (p settings.Until) _ h.5 (and_both (p settings.Workers) _ h.6 (and_both (p settings.Clock) _ h.7 (and_both (p settings.Seed) _ h.8 (and_both (p settings.Size) _ h.9 (and_both (p settings.Cores) _ h.10 (and_both (p settings.Table) _ h.11 refl)))))))))))
+pub fits_some : (mode : Mode) (s : Setting) (o : Option Text) (v : Text) → fits mode s o ≡ true → o ≡ Some v → (has mode s && is_in (range_of s) v) ≡ true
+fits_some mode s o v e is = ap (fits mode s) (sym is) ∙ e
 
-none_at : (p : Setting → Bool) → list_any p all_settings ≡ false → Each (λ s. p s ≡ false)
-none_at p e =
-    let bodies_on = or_right (p settings.Program) _ e in
-    let sensors_on = or_right (p settings.Bodies) _ bodies_on in
-    let schedule_on = or_right (p settings.Sensors) _ sensors_on in
-    let node_on = or_right (p settings.Schedule) _ schedule_on in
-    let until_on = or_right (p settings.Node) _ node_on in
-    let workers_on = or_right (p settings.Until) _ until_on in
-    let clock_on = or_right (p settings.Workers) _ workers_on in
-    let seed_on = or_right (p settings.Clock) _ clock_on in
-    let size_on = or_right (p settings.Seed) _ seed_on in
-    let cores_on = or_right (p settings.Size) _ size_on in
-    let table_on = or_right (p settings.Cores) _ cores_on in (
-      or_left (p settings.Program) _ e,
-      or_left (p settings.Bodies) _ bodies_on,
-      or_left (p settings.Sensors) _ sensors_on,
-      or_left (p settings.Schedule) _ schedule_on,
-      or_left (p settings.Node) _ node_on,
-      or_left (p settings.Until) _ until_on,
-      or_left (p settings.Workers) _ workers_on,
-      or_left (p settings.Clock) _ clock_on,
-      or_left (p settings.Seed) _ seed_on,
-      or_left (p settings.Size) _ size_on,
-      or_left (p settings.Cores) _ cores_on,
-      or_left (p settings.Table) _ table_on,
-    )
+taken : (kinds : Kinds) → is_taken kinds ≡ true → kinds ≡ []
+taken [] e = refl
+taken (k ∷ ks) e = cc
 
-none_from : (p : Setting → Bool) → Each (λ s. p s ≡ false) → list_any p all_settings ≡ false
-none_from p h =
-    or_both (p settings.Program) _ h.0 (or_both (p settings.Bodies) _ h.1 (or_both (p settings.Sensors) _ h.2 (or_both (p settings.Schedule) _ h.3 (or_both (p settings.Node) _ h.4 (or_both (p settings.Until) _ h.5 (or_both (p settings.Workers) _ h.6 (or_both (p settings.Clock) _ h.7 (or_both (p settings.Seed) _ h.8 (or_both (p settings.Size) _ h.9 (or_both (p settings.Cores) _ h.10 (or_both (p settings.Table) _ h.11 refl)))))))))))
+same_truth : (a b : Bool) → (a ≡ true → b ≡ true) → (b ≡ true → a ≡ true) → a ≡ b
+same_truth true b h g = sym (h refl)
+same_truth false true h g = g refl
+same_truth false false h g = refl
 
--- whether an option that is given, needed, or one that the mode may have, fits
-abbrev fit : Bool → Bool → Bool → Bool
-fit given needed possible = if given then needed || possible else not needed
-
-fit_by : (g n m : Bool) → (g ≡ true → (n || m) ≡ true) → (n && not g) ≡ false → fit g n m ≡ true
-fit_by true n m h e = h refl
-fit_by false true m h e = cc
-fit_by false false m h e = refl
-
-unfit_by : (g n m : Bool) → fit g n m ≡ true → (n && not g) ≡ false
-unfit_by true true m e = refl
-unfit_by true false m e = refl
-unfit_by false true m e = cc
-unfit_by false false m e = refl
-
-has_by : (g n m : Bool) → fit g n m ≡ true → g ≡ true → (n || m) ≡ true
-has_by true n m e given = e
-has_by false n m e given = cc
-
-not_missing : (b : Bool) → check_kinds false false b ≡ [] → b ≡ false
-not_missing true e = cc
-not_missing false e = refl
-
-first_none : (a b : Kinds) → or_else a b ≡ [] → a ≡ []
-first_none [] b e = refl
-first_none (k ∷ ks) b e = e
-
--- what `clap` takes has the form of the tables, and numbers in their ranges
-pub record Agrees (mode : Mode) (name : Text) (words : List Text) (final : Values) : Type 0 where
-  pub taken : faults_of mode (name ∷ words) ≡ [] → (list_all (fits mode final) all_settings ≡ true) × (values_kinds final ≡ [])
-  pub takes : list_all (fits mode final) all_settings ≡ true → values_kinds final ≡ [] → faults_of mode (name ∷ words) ≡ []
-
-pub agrees : (mode : Mode) (name : Text) (words : List Text) (final : Values) → with_words nothing words ≡ Some final → Agrees mode name words final
-agrees mode name words final e =
+-- `clap` takes exactly the options that fit the mode
+pub agrees : (mode : Mode) (name : Text) (words : List Text) (final : Values) → with_words nothing words ≡ Some final → Told spells final
+    → is_taken (faults_of mode (name ∷ words)) ≡ all_fit mode final
+agrees mode name words final e spell =
     let p = spelled (length words) nothing words final e in
     let os = p.0 in
     let c = rules mode in
-    let given = λ (s : Setting). is_some (value_of final s) in
-    let missing = λ (s : Setting). needs mode s && not (is_some (value_of final s)) in
+    let ranged = λ (s : Setting) (v : Text). is_in (range_of s) v in
+    let there = λ (s : Setting). is_there (needs mode s) (is_some (final s)) in
+    let v = valued os nothing final p.2 in
+    let none_told : (q : Setting → Text → Bool) → Told q nothing = λ q s w e. cc in
     let walk_eq : faults_of mode (name ∷ words) ≡ total c (walk_from nothing_held) (words_of os) = walk_is mode name words ∙ ap (total c (walk_from nothing_held)) p.1 in
-    let v = valued mode os nothing final p.2 in
-    let whole : HadIn mode os → faults_of mode (name ∷ words) ≡ verdict mode final = λ h.
-    walk_eq ∙ total_is c mode (by_long mode) (by_id mode) os nothing_held h v ∙ ends mode os nothing final [] p.2 (refl, refl, refl, refl, refl, refl, refl, refl, refl, refl, refl, refl) in
-    record {
-      taken = λ none.
-          let h = had c mode (by_long mode) (by_id mode) os nothing_held v (sym walk_eq ∙ none) in
-          let whole_is : verdict mode final ≡ [] = sym (whole h) ∙ none in
-          let a = allowed mode os nothing final p.2 h (λ e. cc, λ e. cc, λ e. cc, λ e. cc, λ e. cc, λ e. cc, λ e. cc, λ e. cc, λ e. cc, λ e. cc, λ e. cc, λ e. cc) in
-          let n = none_at missing (not_missing (lacks mode given) (later_none (values_kinds final) _ whole_is)) in (
-            all_from (fits mode final) (each_from (λ s. fits mode final s ≡ true) (λ s.
-                fit_by (given s) (needs mode s) (may mode s) (pick (λ s. is_some (value_of final s) ≡ true → has mode s ≡ true) a s) (pick (λ s. missing s ≡ false) n s))),
-            first_none (values_kinds final) _ whole_is,
-          );
-      takes = λ fit until.
-          let f = all_at (fits mode final) fit in
-          let h = had_by mode os nothing final p.2 (λ s is. has_by (given s) (needs mode s) (may mode s) (pick (λ s. fits mode final s ≡ true) f s) is) in
-          let none = none_from missing (each_from (λ s. missing s ≡ false) (λ s. unfit_by (given s) (needs mode s) (may mode s) (pick (λ s. fits mode final s ≡ true) f s))) in
-          whole h ∙ ap (λ (k : Kinds). or_else k (check_kinds false false (lacks mode given))) until ∙ ap (check_kinds false false) none;
-    }
+    let whole : Each (λ s v. has mode s) os → is_taken (faults_of mode (name ∷ words)) ≡ (list_all (λ o. is_in (range_of o.1) o.2) os && list_all there all_settings) = λ mine.
+    ap is_taken (walk_eq ∙ total_is c mode (by_long mode) (by_id mode) os nothing_held mine v ∙ ends mode os nothing final [] p.2 (λ s. refl))
+    ∙ both_taken (costs os) _
+    ∙ ap (λ b. b && is_taken (check_kinds false false (lacks mode (λ s. is_some (final s))))) (costs_fair os (each_told spells os nothing final p.2 spell).1)
+    ∙ ap (λ b. list_all (λ o. is_in (range_of o.1) o.2) os && b) (not_lacking _ ∙ none_lacks (λ s. needs mode s && not (is_some (final s))) all_settings) in
+    same_truth _ _
+    (λ none.
+    let mine = had c mode (by_long mode) (by_id mode) os nothing_held v (sym walk_eq ∙ taken _ none) in
+    let both = sym (whole mine) ∙ none in
+    let has_all = told (λ s v. has mode s) os nothing final p.2 mine (none_told _) in
+    let in_all = told ranged os nothing final p.2 (and_left (list_all (λ o. is_in (range_of o.1) o.2) os) _ both) (none_told ranged) in
+    let there_all = all_at there (and_right (list_all (λ o. is_in (range_of o.1) o.2) os) _ both) in
+    all_from (λ s. fits mode s (final s)) all_settings (λ s. fits_by mode s (final s) (λ w is. (has_all s w is, in_all s w is)) (there_all s)))
+    (λ fit.
+    let at = all_at (λ s. fits mode s (final s)) fit in
+    let mine = (each_told (λ s v. has mode s) os nothing final p.2 (λ s w is. and_left (has mode s) _ (fits_some mode s (final s) w (at s) is))).1 in
+    let in_all = (each_told ranged os nothing final p.2 (λ s w is. and_right (has mode s) _ (fits_some mode s (final s) w (at s) is))).1 in
+    whole mine ∙ and_both (list_all (λ o. is_in (range_of o.1) o.2) os) _ in_all (all_from there all_settings (λ s. fits_there mode s (final s) (at s))))

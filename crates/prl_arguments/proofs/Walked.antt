@@ -1,6 +1,7 @@
 -- The walk of `clap` over the words of options.
-use Rattle.std.proofs.Common.{◌≡◌, ◌&&◌, ◌||◌, ◌==◌, ℕ, Bool, true, false, not, List, [], ◌∷◌, Option, Some, None, fold, codes, nat_lt, if◌then◌else◌, refl, sym, ap, ◌∙◌, option_and_then, inl, inr, ◌⊎◌}
+use Rattle.std.proofs.Common.{◌≡◌, ◌&&◌, ◌==◌, ℕ, Bool, true, false, not, List, [], ◌∷◌, Option, Some, None, fold, codes, nat_lt, if◌then◌else◌, refl, sym, ap, ◌∙◌, option_and_then, inl, inr, ◌⊎◌}
 use Rattle.std.specs.Option.{option_map_or}
+use Rattle.std.specs.List.{list_all}
 use Rattle.std.specs.Str.{bytes_eq}
 use Rattle.std.proofs.lemmas.Slice.Eq.{bytes_eq-Decides}
 use Rattle.clap.specs.Lexer.{long_of, long_of_rest, short_of, short_of_rest, strip_byte}
@@ -13,9 +14,9 @@ use Rattle.clap.specs.declared.error.kind.ErrorKind.TheVariants as kind
 use Rattle.prl_arguments.specs.declared.arguments.Mode.{Mode}
 use Rattle.prl_arguments.specs.declared.arguments.Setting.{Setting}
 use Rattle.prl_arguments.specs.declared.arguments.Setting.TheVariants as settings
-use Rattle.prl_arguments.specs.Arguments.{is_value, may, name_of, needs}
-use Rattle.prl_arguments.specs.code.Options.{option_rule, parser_of}
-use Rattle.prl_arguments.proofs.Spelled.{Spelled, dashed, word_of, words_of}
+use Rattle.prl_arguments.specs.Arguments.{has, is_value, name_of, range_of}
+use Rattle.prl_arguments.specs.code.Options.{option_rule, parser_by}
+use Rattle.prl_arguments.proofs.Spelled.{Spelled, and_both, and_left, and_right, dashed, word_of, words_of}
 
 -- the command of a mode when it is built: its rules, and what it does with them
 abbrev pub shape : List Rule → Shape
@@ -42,15 +43,16 @@ shape c = record {
 abbrev pub rule : Mode → Setting → Rule
 rule mode s = filled (option_rule mode s)
 
-abbrev pub has : Mode → Setting → Bool
-has mode s = needs mode s || may mode s
-
 abbrev pub rule_if : Bool → Mode → Setting → Option Rule
 rule_if b mode s = if b then Some (rule mode s) else None
 
+-- each of the options passes a test
+abbrev pub Each : (Setting → Text → Bool) → List Spelled → Type 0
+Each p os = list_all (λ o. p o.1 o.2) os ≡ true
+
 -- what an option is refused for: its value
 abbrev pub cost : Setting → Text → Kinds
-cost s v = or_else (value_kinds false (parser_of s) v) []
+cost s v = or_else (value_kinds false (parser_by (range_of s)) v) []
 
 pub assoc : (a b c : Kinds) → or_else (or_else a b) c ≡ or_else a (or_else b c)
 assoc [] b c = refl
@@ -78,48 +80,18 @@ use_cost mode s v rows = no_repeat _ (cost s v)
 -- what the words of an option look like
 long_own : (s : Setting) (v : Text) → long_of (dashed s (61 ∷ v)) ≡ Some (name_of s, Some v)
 long_own settings.Program v = refl
-long_own settings.Bodies v = refl
-long_own settings.Sensors v = refl
-long_own settings.Schedule v = refl
-long_own settings.Node v = refl
-long_own settings.Until v = refl
-long_own settings.Workers v = refl
-long_own settings.Clock v = refl
-long_own settings.Seed v = refl
-long_own settings.Size v = refl
-long_own settings.Cores v = refl
-long_own settings.Table v = refl
+long_own _ v = refl
 
 long_bare : (s : Setting) → long_of (dashed s []) ≡ Some (name_of s, None)
 long_bare settings.Program = refl
-long_bare settings.Bodies = refl
-long_bare settings.Sensors = refl
-long_bare settings.Schedule = refl
-long_bare settings.Node = refl
-long_bare settings.Until = refl
-long_bare settings.Workers = refl
-long_bare settings.Clock = refl
-long_bare settings.Seed = refl
-long_bare settings.Size = refl
-long_bare settings.Cores = refl
-long_bare settings.Table = refl
+long_bare _ = refl
 
 abbrev dashes : Text
 dashes = 45 ∷ 45 ∷ []
 
 not_dashes : (s : Setting) (rest : Text) → bytes_eq (dashed s rest) dashes ≡ false
 not_dashes settings.Program rest = refl
-not_dashes settings.Bodies rest = refl
-not_dashes settings.Sensors rest = refl
-not_dashes settings.Schedule rest = refl
-not_dashes settings.Node rest = refl
-not_dashes settings.Until rest = refl
-not_dashes settings.Workers rest = refl
-not_dashes settings.Clock rest = refl
-not_dashes settings.Seed rest = refl
-not_dashes settings.Size rest = refl
-not_dashes settings.Cores rest = refl
-not_dashes settings.Table rest = refl
+not_dashes _ rest = refl
 
 -- what a value looks like
 not_minus : (b : ℕ) → not (b == 45) ≡ true → (b == 45) ≡ false
@@ -281,28 +253,19 @@ module _ (c : List Rule) where
         let turn = turn_named s None word h (long_bare s) (not_dashes s []) ∙ ap (λ (b : Bool). turn_of (rule_if b mode s) None word h) other in
         some_kinds kind.UnknownArgument [] (sym (ap (λ (k : Kinds). or_else k (total (walked c [] (walk_from h) word) (v ∷ words))) turn) ∙ sym (total_cons (walk_from h) word (v ∷ words)) ∙ none)
 
-    -- the mode has each of the options, and each has a value
-    abbrev pub Had : List Spelled → Type 0
-    Had [] = Unit {0}
-    Had (o ∷ os) = (has mode o.1 ≡ true) × Had os
-
-    abbrev pub Valued : List Spelled → Type 0
-    Valued [] = Unit {0}
-    Valued (o ∷ os) = (is_value o.2 ≡ true) × Valued os
-
     -- what the options are refused for after rows
     abbrev pub after : List Spelled → List Row → Kinds
     after [] rows = tail rows
     after (o ∷ os) rows = or_else (cost o.1 o.2) (after os (used (rule mode o.1) (o.2 ∷ []) rows))
 
-    pub total_is : (os : List Spelled) (h : Held) → Had os → Valued os → total (walk_from h) (words_of os) ≡ or_else (settle_fault c true h) (after os (settled c h).rows)
+    pub total_is : (os : List Spelled) (h : Held) → Each (λ s v. has mode s) os → Each (λ s v. is_value v) os → total (walk_from h) (words_of os) ≡ or_else (settle_fault c true h) (after os (settled c h).rows)
     unfolding walk_fault
     total_is [] h had valued = refl
     total_is (o ∷ os) h had valued =
-        let step = stepped o.1 o.2 o.0 h (words_of os) had.0 valued.0 in
+        let step = stepped o.1 o.2 o.0 h (words_of os) (and_left (has mode o.1) _ had) (and_left (is_value o.2) _ valued) in
         let rows = used (rule mode o.1) (o.2 ∷ []) (settled c h).rows in
         step.rest
-        ∙ ap (or_else step.refused) (total_is os step.held had.1 valued.1 ∙ ap (λ (r : List Row). or_else (settle_fault c true step.held) (after os r)) step.rows)
+        ∙ ap (or_else step.refused) (total_is os step.held (and_right (has mode o.1) _ had) (and_right (is_value o.2) _ valued) ∙ ap (λ (r : List Row). or_else (settle_fault c true step.held) (after os r)) step.rows)
         ∙ sym (assoc step.refused (settle_fault c true step.held) (after os rows))
         ∙ ap (λ (k : Kinds). or_else k (after os rows)) step.costs
         ∙ assoc (settle_fault c true h) (cost o.1 o.2) (after os rows)
@@ -311,11 +274,11 @@ module _ (c : List Rule) where
     has_or_not true = inl refl
     has_or_not false = inr refl
 
-    pub had : (os : List Spelled) (h : Held) → Valued os → total (walk_from h) (words_of os) ≡ [] → Had os
-    had [] h valued none = tt
+    pub had : (os : List Spelled) (h : Held) → Each (λ s v. is_value v) os → total (walk_from h) (words_of os) ≡ [] → Each (λ s v. has mode s) os
+    had [] h valued none = refl
     had (o ∷ os) h valued none = elim (has_or_not (has mode o.1)) [
       | inl mine ↦
-          let step = stepped o.1 o.2 o.0 h (words_of os) mine valued.0 in
-          (mine, had os step.held valued.1 (later_none step.refused _ (sym step.rest ∙ none)))
+          let step = stepped o.1 o.2 o.0 h (words_of os) mine (and_left (is_value o.2) _ valued) in
+          and_both (has mode o.1) _ mine (had os step.held (and_right (is_value o.2) _ valued) (later_none step.refused _ (sym step.rest ∙ none)))
       | inr other ↦ absurd (foreign o.1 o.2 o.0 h (words_of os) other none)
     ]

@@ -1,6 +1,7 @@
 -- The arguments of the command line.
 use Rattle.std.specs.Prelude.{◌==◌, ◌&&◌, ◌||◌, ◌≡◌, ◌≤◌, ℕ, zero, suc, Bool, true, false, not, List, [], ◌∷◌, drop, length, take, Option, Some, None, is_some, nat_le, if◌then◌else◌, codes}
-use Rattle.std.specs.List.{list_all}
+use Rattle.std.specs.List.{list_all, list_any}
+use Rattle.std.specs.Option.{option_map_or}
 use Rattle.std.specs.Str.{bytes_eq}
 use Rattle.prl_base.specs.Decimals.{decimal_of}
 use Rattle.prl_base.specs.Options.{◌>>=◌}
@@ -30,86 +31,40 @@ mode_named name =
     else if bytes_eq name (codes "table") then Some modes.Table
     else None
 
--- the options that a mode needs, and those that it may have
-abbrev pub needs : Mode → Setting → Bool
-needs modes.Print settings.Program = true
-needs modes.Print other = false
-needs modes.Plan settings.Program = true
-needs modes.Plan other = false
-needs modes.Check settings.Program = true
-needs modes.Check other = false
-needs modes.Flows settings.Program = true
-needs modes.Flows settings.Sensors = true
-needs modes.Flows settings.Until = true
-needs modes.Flows other = false
-needs modes.Replay settings.Program = true
-needs modes.Replay settings.Sensors = true
-needs modes.Replay settings.Schedule = true
-needs modes.Replay settings.Until = true
-needs modes.Replay other = false
-needs modes.Schedule settings.Program = true
-needs modes.Schedule settings.Until = true
-needs modes.Schedule other = false
-needs modes.Cores settings.Program = true
-needs modes.Cores settings.Sensors = true
-needs modes.Cores settings.Until = true
-needs modes.Cores settings.Cores = true
-needs modes.Cores other = false
-needs modes.Cycle settings.Program = true
-needs modes.Cycle settings.Sensors = true
-needs modes.Cycle settings.Until = true
-needs modes.Cycle settings.Table = true
-needs modes.Cycle other = false
-needs modes.Edf settings.Program = true
-needs modes.Edf settings.Until = true
-needs modes.Edf other = false
-needs modes.Run settings.Program = true
-needs modes.Run settings.Sensors = true
-needs modes.Run settings.Until = true
-needs modes.Run other = false
-needs modes.Generate settings.Seed = true
-needs modes.Generate settings.Size = true
-needs modes.Generate other = false
-needs modes.Table settings.Program = true
-needs modes.Table other = false
+-- the options that a mode needs
+abbrev pub needed : Mode → List Setting
+needed modes.Check = settings.Program ∷ []
+needed modes.Cores = settings.Program ∷ settings.Sensors ∷ settings.Cores ∷ settings.Until ∷ []
+needed modes.Cycle = settings.Program ∷ settings.Sensors ∷ settings.Table ∷ settings.Until ∷ []
+needed modes.Edf = settings.Program ∷ settings.Until ∷ []
+needed modes.Flows = settings.Program ∷ settings.Sensors ∷ settings.Until ∷ []
+needed modes.Generate = settings.Seed ∷ settings.Size ∷ []
+needed modes.Plan = settings.Program ∷ []
+needed modes.Print = settings.Program ∷ []
+needed modes.Replay = settings.Program ∷ settings.Sensors ∷ settings.Schedule ∷ settings.Until ∷ []
+needed modes.Run = settings.Program ∷ settings.Sensors ∷ settings.Until ∷ []
+needed modes.Schedule = settings.Program ∷ settings.Until ∷ []
+needed modes.Table = settings.Program ∷ []
 
-abbrev pub may : Mode → Setting → Bool
-may modes.Print other = false
-may modes.Plan settings.Node = true
-may modes.Plan other = false
-may modes.Check settings.Bodies = true
-may modes.Check settings.Node = true
-may modes.Check other = false
-may modes.Flows settings.Bodies = true
-may modes.Flows settings.Node = true
-may modes.Flows other = false
-may modes.Replay settings.Bodies = true
-may modes.Replay settings.Node = true
-may modes.Replay other = false
-may modes.Schedule settings.Node = true
-may modes.Schedule other = false
-may modes.Cores settings.Bodies = true
-may modes.Cores settings.Schedule = true
-may modes.Cores settings.Node = true
-may modes.Cores other = false
-may modes.Cycle settings.Bodies = true
-may modes.Cycle settings.Node = true
-may modes.Cycle other = false
-may modes.Edf settings.Node = true
-may modes.Edf other = false
-may modes.Run settings.Bodies = true
-may modes.Run settings.Node = true
-may modes.Run settings.Workers = true
-may modes.Run settings.Clock = true
-may modes.Run other = false
-may modes.Generate other = false
-may modes.Table settings.Node = true
-may modes.Table other = false
+-- the options that it may have beside those
+abbrev pub possible : Mode → List Setting
+possible modes.Check = settings.Bodies ∷ settings.Node ∷ []
+possible modes.Cores = settings.Bodies ∷ settings.Schedule ∷ settings.Node ∷ []
+possible modes.Cycle = settings.Bodies ∷ settings.Node ∷ []
+possible modes.Edf = settings.Node ∷ []
+possible modes.Flows = settings.Bodies ∷ settings.Node ∷ []
+possible modes.Generate = []
+possible modes.Plan = settings.Node ∷ []
+possible modes.Print = []
+possible modes.Replay = settings.Bodies ∷ settings.Node ∷ []
+possible modes.Run = settings.Bodies ∷ settings.Node ∷ settings.Workers ∷ settings.Clock ∷ []
+possible modes.Schedule = settings.Node ∷ []
+possible modes.Table = settings.Node ∷ []
 
 abbrev pub all_settings : List Setting
 all_settings =
-    settings.Program ∷ settings.Bodies ∷ settings.Sensors ∷ settings.Schedule ∷ settings.Node ∷ settings.Until
-    ∷ settings.Workers ∷ settings.Clock ∷ settings.Seed ∷ settings.Size ∷ settings.Cores ∷ settings.Table ∷ []
+    settings.Program ∷ settings.Bodies ∷ settings.Sensors ∷ settings.Schedule ∷ settings.Table ∷ settings.Cores ∷ settings.Node
+    ∷ settings.Until ∷ settings.Workers ∷ settings.Clock ∷ settings.Seed ∷ settings.Size ∷ []
 
 -- the name of an option, which is written after `--`
 abbrev pub name_of : Setting → List ℕ
@@ -117,14 +72,37 @@ name_of settings.Program = codes "program"
 name_of settings.Bodies = codes "bodies"
 name_of settings.Sensors = codes "sensors"
 name_of settings.Schedule = codes "schedule"
+name_of settings.Table = codes "table"
+name_of settings.Cores = codes "cores"
 name_of settings.Node = codes "node"
 name_of settings.Until = codes "until"
 name_of settings.Workers = codes "workers"
 name_of settings.Clock = codes "clock"
 name_of settings.Seed = codes "seed"
 name_of settings.Size = codes "size"
-name_of settings.Cores = codes "cores"
-name_of settings.Table = codes "table"
+
+-- options are the same where their names are
+abbrev pub is_same : Setting → Setting → Bool
+is_same one other = bytes_eq (name_of one) (name_of other)
+
+abbrev pub is_among : Setting → List Setting → Bool
+is_among setting list = list_any (λ other. is_same other setting) list
+
+abbrev pub needs : Mode → Setting → Bool
+needs mode setting = is_among setting (needed mode)
+
+abbrev pub may : Mode → Setting → Bool
+may mode setting = is_among setting (possible mode)
+
+abbrev pub has : Mode → Setting → Bool
+has mode setting = needs mode setting || may mode setting
+
+-- the least and the greatest number that an option may give, where it has a range
+abbrev pub range_of : Setting → Option (ℕ × ℕ)
+range_of settings.Until = Some (0, MAX_UNTIL)
+range_of settings.Workers = Some (1, MAX_WORKERS)
+range_of settings.Size = Some (1, MAX_SIZE)
+range_of other = None
 
 -- what stands after the front, where the text begins with it
 abbrev pub after_front : List ℕ → List ℕ → Option (List ℕ)
@@ -156,63 +134,15 @@ named_in [] word = None
 named_in (setting ∷ rest) word = or_else (named_by setting word) (named_in rest word)
 
 -- the values of options, where they are given
-pub record Values : Type 0 where
-  pub program : Option (List ℕ)
-  pub bodies : Option (List ℕ)
-  pub sensors : Option (List ℕ)
-  pub schedule : Option (List ℕ)
-  pub node : Option (List ℕ)
-  pub until : Option (List ℕ)
-  pub workers : Option (List ℕ)
-  pub clock : Option (List ℕ)
-  pub seed : Option (List ℕ)
-  pub size : Option (List ℕ)
-  pub cores : Option (List ℕ)
-  pub table : Option (List ℕ)
+abbrev pub Values : Type 0
+Values = Setting → Option (List ℕ)
 
 abbrev pub nothing : Values
-nothing = record {
-  program = None;
-  bodies = None;
-  sensors = None;
-  schedule = None;
-  node = None;
-  until = None;
-  workers = None;
-  clock = None;
-  seed = None;
-  size = None;
-  cores = None;
-  table = None;
-}
+nothing setting = None
 
-abbrev pub value_of : Values → Setting → Option (List ℕ)
-value_of given settings.Program = given.program
-value_of given settings.Bodies = given.bodies
-value_of given settings.Sensors = given.sensors
-value_of given settings.Schedule = given.schedule
-value_of given settings.Node = given.node
-value_of given settings.Until = given.until
-value_of given settings.Workers = given.workers
-value_of given settings.Clock = given.clock
-value_of given settings.Seed = given.seed
-value_of given settings.Size = given.size
-value_of given settings.Cores = given.cores
-value_of given settings.Table = given.table
-
+-- the values with one more
 abbrev pub with_value : Values → Setting → List ℕ → Values
-with_value given settings.Program value = record given { program = Some value }
-with_value given settings.Bodies value = record given { bodies = Some value }
-with_value given settings.Sensors value = record given { sensors = Some value }
-with_value given settings.Schedule value = record given { schedule = Some value }
-with_value given settings.Node value = record given { node = Some value }
-with_value given settings.Until value = record given { until = Some value }
-with_value given settings.Workers value = record given { workers = Some value }
-with_value given settings.Clock value = record given { clock = Some value }
-with_value given settings.Seed value = record given { seed = Some value }
-with_value given settings.Size value = record given { size = Some value }
-with_value given settings.Cores value = record given { cores = Some value }
-with_value given settings.Table value = record given { table = Some value }
+with_value given setting value other = if is_same setting other then Some value else given other
 
 -- the value of an option is not empty and does not begin with `-`
 abbrev pub is_value : List ℕ → Bool
@@ -222,7 +152,7 @@ is_value (b ∷ bs) = not (b == 45)
 -- one option more, which is not given yet
 abbrev pub with_option : Values → Setting → List ℕ → Option Values
 with_option given setting value =
-    if is_value value && not (is_some (value_of given setting)) then Some (with_value given setting value) else None
+    if is_value value && not (is_some (given setting)) then Some (with_value given setting value) else None
 
 -- the value of an option, from its own word or else the next one, and the words after it
 abbrev pub value_from : Option (List ℕ) → List (List ℕ) → Option (List ℕ × List (List ℕ))
@@ -250,11 +180,6 @@ with_options (suc n) given (word ∷ later) = do
 abbrev pub with_words : Values → List (List ℕ) → Option Values
 with_words given words = with_options (length words) given words
 
--- a mode has the options that it needs, and none but these and those that it may have
-abbrev pub fits : Mode → Values → Setting → Bool
-fits mode given setting =
-    if is_some (value_of given setting) then needs mode setting || may mode setting else not (needs mode setting)
-
 -- the number that 1 to 20 digits spell, below 2 ^ 64
 abbrev pub number_spelled : List ℕ → Option ℕ
 number_spelled text = do
@@ -266,13 +191,6 @@ abbrev pub number_or : ℕ → Option (List ℕ) → Option ℕ
 number_or other None = Some other
 number_or other (Some text) = number_spelled text
 
--- the same, where a number that is given is in a range
-abbrev pub number_within : ℕ → ℕ → ℕ → Option (List ℕ) → Option ℕ
-number_within least most other None = Some other
-number_within least most other (Some text) = do
-  number ← number_spelled text
-  if nat_le least number && nat_le number most then Some number else None
-
 -- whether the clock waits for the jobs that are due: it does where nothing is said of it
 abbrev pub clock_of : Option (List ℕ) → Option Gate
 clock_of None = Some gates.Gated
@@ -281,54 +199,66 @@ clock_of (Some text) =
     else if bytes_eq text (codes "free") then Some gates.Free
     else None
 
--- what options give beside files and names
-pub record Numbers : Type 0 where
-  pub until : ℕ
-  pub workers : ℕ
-  pub clock : Gate
-  pub seed : ℕ
-  pub size : ℕ
-
-abbrev pub numbers_of : Values → Option Numbers
-numbers_of given = do
-  until ← number_within 0 MAX_UNTIL 0 given.until
-  workers ← number_within 1 MAX_WORKERS 1 given.workers
-  clock ← clock_of given.clock
-  seed ← number_or 0 given.seed
-  size ← number_within 1 MAX_SIZE 0 given.size
-  Some (record { until = until; workers = workers; clock = clock; seed = seed; size = size })
-
-abbrev pub command_with : Mode → Values → Numbers → Command
-command_with mode given numbers = record {
+-- the command of a mode with these values, and with what some of them spell
+abbrev pub command_with : Mode → Values → ℕ → ℕ → Gate → ℕ → ℕ → Command
+command_with mode given until workers clock seed size = record {
   mode = mode;
-  program = given.program;
-  bodies = given.bodies;
-  sensors = given.sensors;
-  schedule = given.schedule;
-  node = given.node;
-  until = numbers.until;
-  workers = numbers.workers;
-  clock = numbers.clock;
-  seed = numbers.seed;
-  size = numbers.size;
-  cores = given.cores;
-  table = given.table;
+  program = given settings.Program;
+  bodies = given settings.Bodies;
+  sensors = given settings.Sensors;
+  schedule = given settings.Schedule;
+  table = given settings.Table;
+  cores = given settings.Cores;
+  node = given settings.Node;
+  until = until;
+  workers = workers;
+  clock = clock;
+  seed = seed;
+  size = size;
 }
 
--- the command of a mode with these options
-unfoldable pub command_of_mode : Mode → List (List ℕ) → Option Command
-command_of_mode mode words = do
-  given ← with_words nothing words
-  numbers ← numbers_of given
-  if list_all (fits mode given) all_settings then Some (command_with mode given numbers) else None
+-- Values of options, with the command that they spell. A number that is not given is 0, but there is one worker then.
+abbrev pub asked_with : Mode → Values → Option (Values × Command)
+asked_with mode given = do
+  until ← number_or 0 (given settings.Until)
+  workers ← number_or 1 (given settings.Workers)
+  clock ← clock_of (given settings.Clock)
+  seed ← number_or 0 (given settings.Seed)
+  size ← number_or 0 (given settings.Size)
+  Some (given, command_with mode given until workers clock seed size)
 
--- The command that the words ask for: the program's own name, which is not read, the mode, and its options.
-abbrev pub command_of : List (List ℕ) → Option Command
-command_of [] = None
-command_of (own ∷ []) = None
-command_of (own ∷ name ∷ rest) = do
+-- the same of the words after a mode
+unfoldable pub asked_of_mode : Mode → List (List ℕ) → Option (Values × Command)
+asked_of_mode mode words = do
+  given ← with_words nothing words
+  asked_with mode given
+
+-- the same of all words: the program's own name, which is not read, the mode, and its options
+abbrev pub asked_of : List (List ℕ) → Option (Values × Command)
+asked_of [] = None
+asked_of (own ∷ []) = None
+asked_of (own ∷ name ∷ rest) = do
   mode ← mode_named name
-  command_of_mode mode rest
+  asked_of_mode mode rest
+
+-- the value of an option is a number in its range, where it has one
+abbrev pub is_in : Option (ℕ × ℕ) → List ℕ → Bool
+is_in None text = true
+is_in (Some range) text = option_map_or (λ number. nat_le range.0 number && nat_le number range.1) (decimal_of text) false
+
+-- A mode has the options that it needs, and none but these and those that it may have. Their values are in their ranges.
+abbrev pub fits : Mode → Setting → Option (List ℕ) → Bool
+fits mode setting None = not (needs mode setting)
+fits mode setting (Some value) = has mode setting && is_in (range_of setting) value
+
+abbrev pub all_fit : Mode → Values → Bool
+all_fit mode given = list_all (λ setting. fits mode setting (given setting)) all_settings
+
+-- The command that the words ask for, where its options fit its mode.
+abbrev pub command_of : List (List ℕ) → Option Command
+command_of words = do
+  asked ← asked_of words
+  if all_fit asked.1.mode asked.0 then Some asked.1 else None
 
 -- the numbers are in the ranges that a command of the mode has
 pub record AreInRange (mode : Mode) (date threads lanes : ℕ) : Type 0 where

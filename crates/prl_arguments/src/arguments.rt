@@ -3,8 +3,8 @@
 ghost use Rattle.std.specs.Prelude.{◌≡◌, map, IfOk, IfSome, Some, Err, None};
 ghost use Rattle.std.specs.Option.{option_map};
 ghost use Rattle.std.specs.String.{string_bytes};
-ghost use Rattle.prl_arguments.specs.Arguments.{AreInRange, after_front, clock_of, command_of, first_option, is_value, may, mode_named, name_of, named_by, named_in, needs, nothing, number_or, own_value, value_from, value_of, with_option, with_options, with_value};
-ghost use Rattle.prl_arguments.specs.code.Settings.{bytes_of, form_of, form_of_mode, given_by, named_as, numbers_by, numbers_spelled, wanted_command, wanted_form};
+ghost use Rattle.prl_arguments.specs.Arguments.{AreInRange, after_front, asked_of, asked_of_mode, asked_with, clock_of, command_of, first_option, has, is_value, mode_named, name_of, named_by, named_in, needed, needs, nothing, number_or, own_value, possible, value_from, with_option, with_options, with_value};
+ghost use Rattle.prl_arguments.specs.code.Settings.{bytes_of, given_by, named_as, place_of, wanted_by, wanted_command};
 
 use crate::options::are_options_of;
 use prl_base::{Label, decimal_of};
@@ -19,6 +19,9 @@ pub const MAX_WORKERS: u32 = 16;
 
 /// The greatest size of a generated program, in lanes.
 pub const MAX_SIZE: u32 = 20;
+
+/// How many options there are.
+const OPTIONS: usize = 12;
 
 /// What the command is to do.
 #[derive(Clone, Copy, Debug, PartialEq, Eq)]
@@ -61,6 +64,10 @@ pub enum Setting {
     Sensors,
     /// `--schedule`: the file of the schedule.
     Schedule,
+    /// `--table`: the file of the static cyclic table.
+    Table,
+    /// `--cores`: the file that tells which processor each task runs on.
+    Cores,
     /// `--node`: the name of the main node.
     Node,
     /// `--until`: the date up to which the mode runs, in ticks.
@@ -73,10 +80,6 @@ pub enum Setting {
     Seed,
     /// `--size`: how many lanes the program has that is made.
     Size,
-    /// `--cores`: the file that tells which processor each task runs on.
-    Cores,
-    /// `--table`: the file of the static cyclic table.
-    Table,
 }
 
 /// What the arguments of a command line ask for. An option that is not given is None, and a number that is
@@ -92,6 +95,10 @@ pub struct Command {
     pub sensors: Option<Label>,
     /// The file of the schedule.
     pub schedule: Option<Label>,
+    /// The file of the static cyclic table.
+    pub table: Option<Label>,
+    /// The file that tells which processor each task runs on.
+    pub cores: Option<Label>,
     /// The name of the main node; where none is given it is the last node of the program.
     pub node: Option<Label>,
     /// The date up to which the mode runs, in ticks.
@@ -104,10 +111,6 @@ pub struct Command {
     pub seed: u64,
     /// How many lanes the program has that is made: 1 to `MAX_SIZE`.
     pub size: u32,
-    /// The file that tells which processor each task runs on.
-    pub cores: Option<Label>,
-    /// The file of the static cyclic table.
-    pub table: Option<Label>,
 }
 
 /// Why arguments are no command.
@@ -129,21 +132,10 @@ impl From<AllocError> for WordsFault {
     }
 }
 
-/// The values of options, where they are given.
+/// The values of options, where they are given, in the order of `SETTINGS`.
 #[derive(Clone, Copy)]
 struct Given<'a> {
-    program: Option<&'a [u8]>,
-    bodies: Option<&'a [u8]>,
-    sensors: Option<&'a [u8]>,
-    schedule: Option<&'a [u8]>,
-    node: Option<&'a [u8]>,
-    until: Option<&'a [u8]>,
-    workers: Option<&'a [u8]>,
-    clock: Option<&'a [u8]>,
-    seed: Option<&'a [u8]>,
-    size: Option<&'a [u8]>,
-    cores: Option<&'a [u8]>,
-    table: Option<&'a [u8]>,
+    values: [Option<&'a [u8]>; OPTIONS],
 }
 
 /// An option, with its value where that stands in the same word.
@@ -155,23 +147,23 @@ type Taken<'a> = (&'a [u8], &'a [String]);
 /// Values of options, and the words after them.
 type Read<'a> = (Given<'a>, &'a [String]);
 
-/// The names of three files, where they are given.
-type Files = (Option<Label>, Option<Label>, Option<Label>);
+/// The labels that three options give.
+type Labels = (Option<Label>, Option<Label>, Option<Label>);
 
 /// All options.
-pub(crate) static SETTINGS: [Setting; 12] = [
+pub(crate) static SETTINGS: [Setting; OPTIONS] = [
     Setting::Program,
     Setting::Bodies,
     Setting::Sensors,
     Setting::Schedule,
+    Setting::Table,
+    Setting::Cores,
     Setting::Node,
     Setting::Until,
     Setting::Workers,
     Setting::Clock,
     Setting::Seed,
     Setting::Size,
-    Setting::Cores,
-    Setting::Table,
 ];
 
 /// The mode of a name.
@@ -207,50 +199,68 @@ fn mode_named(name: &[u8]) -> Option<Mode>
     }
 }
 
+/// The options that a mode needs.
+fn needed<'a>(mode: Mode) -> &'a [Setting]
+    ensures { result.now ≡ needed mode }
+{
+    match mode {
+        Mode::Check | Mode::Plan | Mode::Print | Mode::Table => &[Setting::Program],
+        Mode::Edf | Mode::Schedule => &[Setting::Program, Setting::Until],
+        Mode::Flows | Mode::Run => &[Setting::Program, Setting::Sensors, Setting::Until],
+        Mode::Cores => &[
+            Setting::Program,
+            Setting::Sensors,
+            Setting::Cores,
+            Setting::Until,
+        ],
+        Mode::Cycle => &[
+            Setting::Program,
+            Setting::Sensors,
+            Setting::Table,
+            Setting::Until,
+        ],
+        Mode::Replay => &[
+            Setting::Program,
+            Setting::Sensors,
+            Setting::Schedule,
+            Setting::Until,
+        ],
+        Mode::Generate => &[Setting::Seed, Setting::Size],
+    }
+}
+
+/// The options that a mode may have beside those that it needs.
+fn possible<'a>(mode: Mode) -> &'a [Setting]
+    ensures { result.now ≡ possible mode }
+{
+    match mode {
+        Mode::Generate | Mode::Print => &[],
+        Mode::Edf | Mode::Plan | Mode::Schedule | Mode::Table => &[Setting::Node],
+        Mode::Check | Mode::Cycle | Mode::Flows | Mode::Replay => {
+            &[Setting::Bodies, Setting::Node]
+        }
+        Mode::Cores => &[Setting::Bodies, Setting::Schedule, Setting::Node],
+        Mode::Run => &[
+            Setting::Bodies,
+            Setting::Node,
+            Setting::Workers,
+            Setting::Clock,
+        ],
+    }
+}
+
 /// Whether the mode needs the option.
 pub(crate) fn needs(mode: Mode, setting: Setting) -> bool
     ensures { result ≡ needs mode setting }
 {
-    match (mode, setting) {
-        (Mode::Print | Mode::Plan | Mode::Check | Mode::Table, Setting::Program) => true,
-        (Mode::Print | Mode::Plan | Mode::Check | Mode::Table, _) => false,
-        (Mode::Flows, Setting::Program | Setting::Sensors | Setting::Until) => true,
-        (Mode::Flows, _) => false,
-        (Mode::Replay, Setting::Program | Setting::Sensors | Setting::Schedule | Setting::Until) =>
-            true,
-        (Mode::Replay, _) => false,
-        (Mode::Cores, Setting::Program | Setting::Sensors | Setting::Until | Setting::Cores) =>
-            true,
-        (Mode::Cores, _) => false,
-        (Mode::Cycle, Setting::Program | Setting::Sensors | Setting::Until | Setting::Table) =>
-            true,
-        (Mode::Cycle, _) => false,
-        (Mode::Schedule | Mode::Edf, Setting::Program | Setting::Until) => true,
-        (Mode::Schedule | Mode::Edf, _) => false,
-        (Mode::Run, Setting::Program | Setting::Sensors | Setting::Until) => true,
-        (Mode::Run, _) => false,
-        (Mode::Generate, Setting::Seed | Setting::Size) => true,
-        (Mode::Generate, _) => false,
-    }
+    needed(mode).contains(&setting)
 }
 
-/// Whether the mode may have the option, beside those that it needs.
-pub(crate) fn may(mode: Mode, setting: Setting) -> bool
-    ensures { result ≡ may mode setting }
+/// Whether the mode needs the option, or may have it.
+pub(crate) fn has(mode: Mode, setting: Setting) -> bool
+    ensures { result ≡ has mode setting }
 {
-    match (mode, setting) {
-        (Mode::Print, _) => false,
-        (Mode::Plan | Mode::Schedule | Mode::Edf | Mode::Table, Setting::Node) => true,
-        (Mode::Plan | Mode::Schedule | Mode::Edf | Mode::Table, _) => false,
-        (Mode::Cores, Setting::Bodies | Setting::Schedule | Setting::Node) => true,
-        (Mode::Cores, _) => false,
-        (Mode::Check | Mode::Flows | Mode::Replay | Mode::Cycle, Setting::Bodies | Setting::Node) =>
-            true,
-        (Mode::Check | Mode::Flows | Mode::Replay | Mode::Cycle, _) => false,
-        (Mode::Run, Setting::Bodies | Setting::Node | Setting::Workers | Setting::Clock) => true,
-        (Mode::Run, _) => false,
-        (Mode::Generate, _) => false,
-    }
+    needs(mode, setting) || possible(mode).contains(&setting)
 }
 
 /// The name of an option, which is written after `--`.
@@ -262,14 +272,14 @@ pub(crate) fn name_of<'a>(setting: Setting) -> &'a str
         Setting::Bodies => "bodies",
         Setting::Sensors => "sensors",
         Setting::Schedule => "schedule",
+        Setting::Table => "table",
+        Setting::Cores => "cores",
         Setting::Node => "node",
         Setting::Until => "until",
         Setting::Workers => "workers",
         Setting::Clock => "clock",
         Setting::Seed => "seed",
         Setting::Size => "size",
-        Setting::Cores => "cores",
-        Setting::Table => "table",
     }
 }
 
@@ -319,45 +329,28 @@ fn named_in<'a>(settings: &[Setting], word: &'a [u8]) -> Option<Named<'a>>
     }
 }
 
+/// Where an option stands in `SETTINGS`.
+fn place_of(setting: Setting) -> usize
+    ensures { result ≡ place_of setting }
+{
+    setting as usize
+}
+
 /// No option is given.
 fn nothing<'a>() -> Given<'a>
     ensures { given_by result ≡ nothing }
 {
     Given {
-        program: None,
-        bodies: None,
-        sensors: None,
-        schedule: None,
-        node: None,
-        until: None,
-        workers: None,
-        clock: None,
-        seed: None,
-        size: None,
-        cores: None,
-        table: None,
+        values: [None; OPTIONS],
     }
 }
 
 impl<'a> Given<'a> {
     /// The value of an option.
     fn value_of(self, setting: Setting) -> Option<&'a [u8]>
-        ensures { bytes_of result ≡ value_of (given_by self.entry) setting }
+        ensures { bytes_of result ≡ given_by self.entry setting }
     {
-        match setting {
-            Setting::Program => self.program,
-            Setting::Bodies => self.bodies,
-            Setting::Sensors => self.sensors,
-            Setting::Schedule => self.schedule,
-            Setting::Node => self.node,
-            Setting::Until => self.until,
-            Setting::Workers => self.workers,
-            Setting::Clock => self.clock,
-            Setting::Seed => self.seed,
-            Setting::Size => self.size,
-            Setting::Cores => self.cores,
-            Setting::Table => self.table,
-        }
+        self.values[place_of(setting)]
     }
 
     /// The values with one more.
@@ -365,20 +358,7 @@ impl<'a> Given<'a> {
         ensures { given_by result ≡ with_value (given_by self.entry) setting value.now }
     {
         let mut more = self;
-        match setting {
-            Setting::Program => more.program = Some(value),
-            Setting::Bodies => more.bodies = Some(value),
-            Setting::Sensors => more.sensors = Some(value),
-            Setting::Schedule => more.schedule = Some(value),
-            Setting::Node => more.node = Some(value),
-            Setting::Until => more.until = Some(value),
-            Setting::Workers => more.workers = Some(value),
-            Setting::Clock => more.clock = Some(value),
-            Setting::Seed => more.seed = Some(value),
-            Setting::Size => more.size = Some(value),
-            Setting::Cores => more.cores = Some(value),
-            Setting::Table => more.table = Some(value),
-        }
+        more.values[place_of(setting)] = Some(value);
         more
     }
 
@@ -474,9 +454,11 @@ fn clock_of(text: Option<&[u8]>) -> Option<Gate>
     }
 }
 
-/// What options give beside files and names.
+/// A mode, the values of its options, and what some of them spell: what words of the form of a command give.
 #[derive(Clone, Copy)]
-struct Counts {
+struct Wanted<'a> {
+    mode: Mode,
+    given: Given<'a>,
     until: u64,
     workers: u64,
     clock: Gate,
@@ -484,25 +466,18 @@ struct Counts {
     size: u64,
 }
 
-/// A mode, the values of options, and what they give beside files and names: what words of the form of a command
-/// give.
-#[derive(Clone, Copy)]
-struct Wanted<'a> {
-    mode: Mode,
-    given: Given<'a>,
-    counts: Counts,
-}
-
-/// What the values give beside files and names.
-fn counts_of(given: Given<'_>) -> Option<Counts>
-    ensures { option_map numbers_by result ≡ numbers_spelled (given_by given.entry) }
+/// What the values of a mode's options spell.
+fn wanted_with<'a>(mode: Mode, given: Given<'a>) -> Option<Wanted<'a>>
+    ensures { option_map wanted_by result ≡ asked_with mode (given_by given.entry) }
 {
-    let until = number_or(0, given.until)?;
-    let workers = number_or(1, given.workers)?;
-    let clock = clock_of(given.clock)?;
-    let seed = number_or(0, given.seed)?;
-    let size = number_or(0, given.size)?;
-    Some(Counts {
+    let until = number_or(0, given.value_of(Setting::Until))?;
+    let workers = number_or(1, given.value_of(Setting::Workers))?;
+    let clock = clock_of(given.value_of(Setting::Clock))?;
+    let seed = number_or(0, given.value_of(Setting::Seed))?;
+    let size = number_or(0, given.value_of(Setting::Size))?;
+    Some(Wanted {
+        mode,
+        given,
         until,
         workers,
         clock,
@@ -512,22 +487,17 @@ fn counts_of(given: Given<'_>) -> Option<Counts>
 }
 
 /// What the words after a mode give.
-#[tactic(auto, unfolding(crate::specs::code::Settings::form_of_mode))]
+#[tactic(auto, unfolding(crate::specs::Arguments::asked_of_mode))]
 fn wanted_of_mode<'a>(mode: Mode, words: &'a [String]) -> Option<Wanted<'a>>
-    ensures { option_map wanted_form result ≡ form_of_mode mode (map string_bytes words.now) }
+    ensures { option_map wanted_by result ≡ asked_of_mode mode (map string_bytes words.now) }
 {
     let given = with_options(words.len(), nothing(), words)?;
-    let counts = counts_of(given)?;
-    Some(Wanted {
-        mode,
-        given,
-        counts,
-    })
+    wanted_with(mode, given)
 }
 
 /// What the words give, where they have the form of a command.
 fn read_wanted<'a>(words: &'a [String]) -> Option<Wanted<'a>>
-    ensures { option_map wanted_form result ≡ form_of (map string_bytes words.now) }
+    ensures { option_map wanted_by result ≡ asked_of (map string_bytes words.now) }
 {
     match words {
         [_, mode, rest @ ..] => {
@@ -542,7 +512,7 @@ fn read_wanted<'a>(words: &'a [String]) -> Option<Wanted<'a>>
 /// What the words give, where they are a command.
 fn read_command<'a>(alloc: Global, words: &'a [String]) -> Result<Option<Wanted<'a>>, AllocError>
     ensures exact { IfOk result (λ w. option_map wanted_command w ≡ command_of (map string_bytes words.now)) }
-    ensures range { IfOk result (λ w. IfSome w (λ wanted. AreInRange wanted.mode wanted.counts.until wanted.counts.workers wanted.counts.size)) }
+    ensures range { IfOk result (λ w. IfSome w (λ wanted. AreInRange wanted.mode wanted.until wanted.workers wanted.size)) }
 {
     let Some(wanted) = read_wanted(words) else {
         return Ok(None);
@@ -554,37 +524,32 @@ fn read_command<'a>(alloc: Global, words: &'a [String]) -> Result<Option<Wanted<
     }
 }
 
-fn label_of(alloc: Global, name: Option<&[u8]>) -> Result<Option<Label>, AllocError>
-    ensures { IfOk result (λ label. label ≡ bytes_of name.entry) }
+/// The label that an option gives.
+fn label_of(alloc: Global, given: Given<'_>, setting: Setting) -> Result<Option<Label>, AllocError>
+    ensures { IfOk result (λ label. label ≡ given_by given.entry setting) }
 {
-    match name {
+    match given.value_of(setting) {
         None => Ok(None),
         Some(bytes) => Ok(Some(Label::new(alloc, bytes)?)),
     }
 }
 
-/// The names of the files of the program, the bodies and the sensor rows.
-fn sources_of(alloc: Global, given: Given<'_>) -> Result<Files, AllocError>
-    ensures program { IfOk result (λ files. files.0 ≡ (given_by given.entry).program) }
-    ensures bodies { IfOk result (λ files. files.1 ≡ (given_by given.entry).bodies) }
-    ensures sensors { IfOk result (λ files. files.2 ≡ (given_by given.entry).sensors) }
+/// The labels that three options give.
+fn labels_of(
+    alloc: Global,
+    given: Given<'_>,
+    one: Setting,
+    two: Setting,
+    three: Setting,
+) -> Result<Labels, AllocError>
+    ensures one { IfOk result (λ labels. labels.0 ≡ given_by given.entry one) }
+    ensures two { IfOk result (λ labels. labels.1 ≡ given_by given.entry two) }
+    ensures three { IfOk result (λ labels. labels.2 ≡ given_by given.entry three) }
 {
-    let program = label_of(alloc, given.program)?;
-    let bodies = label_of(alloc, given.bodies)?;
-    let sensors = label_of(alloc, given.sensors)?;
-    Ok((program, bodies, sensors))
-}
-
-/// The names of the files of the schedule, the processors and the table.
-fn orders_of(alloc: Global, given: Given<'_>) -> Result<Files, AllocError>
-    ensures schedule { IfOk result (λ files. files.0 ≡ (given_by given.entry).schedule) }
-    ensures cores { IfOk result (λ files. files.1 ≡ (given_by given.entry).cores) }
-    ensures table { IfOk result (λ files. files.2 ≡ (given_by given.entry).table) }
-{
-    let schedule = label_of(alloc, given.schedule)?;
-    let cores = label_of(alloc, given.cores)?;
-    let table = label_of(alloc, given.table)?;
-    Ok((schedule, cores, table))
+    let first = label_of(alloc, given, one)?;
+    let second = label_of(alloc, given, two)?;
+    let third = label_of(alloc, given, three)?;
+    Ok((first, second, third))
 }
 
 /// The command that the words of a command line ask for. The first word is the program's own name, which is passed over, and
@@ -600,22 +565,35 @@ pub fn read_words(alloc: Global, words: &[String]) -> Result<Command, WordsFault
     let Some(wanted) = read_command(alloc, words)? else {
         return Err(WordsFault::Refused);
     };
-    let sources = sources_of(alloc, wanted.given)?;
-    let orders = orders_of(alloc, wanted.given)?;
-    let node = label_of(alloc, wanted.given.node)?;
+    let given = wanted.given;
+    let sources = labels_of(
+        alloc,
+        given,
+        Setting::Program,
+        Setting::Bodies,
+        Setting::Sensors,
+    )?;
+    let orders = labels_of(
+        alloc,
+        given,
+        Setting::Schedule,
+        Setting::Table,
+        Setting::Cores,
+    )?;
+    let node = label_of(alloc, given, Setting::Node)?;
     Ok(Command {
         mode: wanted.mode,
         program: sources.0,
         bodies: sources.1,
         sensors: sources.2,
         schedule: orders.0,
-        cores: orders.1,
-        table: orders.2,
+        table: orders.1,
+        cores: orders.2,
         node,
-        until: wanted.counts.until as u32,
-        workers: wanted.counts.workers as u32,
-        clock: wanted.counts.clock,
-        seed: wanted.counts.seed,
-        size: wanted.counts.size as u32,
+        until: wanted.until as u32,
+        workers: wanted.workers as u32,
+        clock: wanted.clock,
+        seed: wanted.seed,
+        size: wanted.size as u32,
     })
 }

@@ -4,10 +4,11 @@
 ghost use Rattle.std.specs.Prelude.{◌≡◌, IfOk, drop, false, fold, map};
 ghost use Rattle.std.specs.String.{string_bytes};
 ghost use Rattle.clap.specs.Words.{app_of, new_app, rule_of};
-ghost use Rattle.prl_arguments.specs.code.Options.{app_of_mode, faults_of, is_taken, no_options, option_rule, parser_of, with_setting};
+ghost use Rattle.prl_arguments.specs.Arguments.{range_of};
+ghost use Rattle.prl_arguments.specs.code.Options.{app_of_mode, faults_of, is_taken, no_options, option_rule, parser_by, with_setting};
 
 use crate::arguments::{
-    MAX_SIZE, MAX_UNTIL, MAX_WORKERS, Mode, SETTINGS, Setting, may, name_of, needs,
+    MAX_SIZE, MAX_UNTIL, MAX_WORKERS, Mode, SETTINGS, Setting, has, name_of, needs,
 };
 use clap::builder::ValueParser;
 use clap::error::ErrorKind;
@@ -16,7 +17,7 @@ use std::alloc::{AllocError, Global};
 
 /// The values of an option: a number in its range, or any text.
 fn parser_of<'a>(setting: Setting) -> ValueParser<'a>
-    ensures { result ≡ parser_of setting }
+    ensures { result ≡ parser_by (range_of setting) }
 {
     match setting {
         Setting::Until => ValueParser::unsigned(0, MAX_UNTIL as u64),
@@ -48,7 +49,7 @@ fn with_setting<'a>(
 ) -> Result<Command<'a>, AllocError>
     ensures { IfOk result (λ c. app_of c ≡ with_setting mode (app_of command.entry) setting) }
 {
-    if needs(mode, setting) || may(mode, setting) {
+    if has(mode, setting) {
         command.arg(option(alloc, mode, setting))
     } else {
         Ok(command)

@@ -1,5 +1,5 @@
 -- The commands by which `clap` decides on the options of a mode.
-use Rattle.std.specs.Prelude.{◌||◌, Bool, true, false, List, [], ◌∷◌, Some, fold, codes, if◌then◌else◌}
+use Rattle.std.specs.Prelude.{ℕ, Bool, true, false, List, [], ◌∷◌, Option, Some, None, fold, codes, if◌then◌else◌}
 use Rattle.clap.specs.Walk.{Rule, Text}
 use Rattle.clap.specs.Simple.{App, new_app, new_rule, on_top, with_rule}
 use Rattle.clap.specs.Kinds.{Kinds}
@@ -7,32 +7,28 @@ use Rattle.clap.specs.Faults.{fault_of}
 use Rattle.clap.specs.declared.builder.action.ArgAction.TheVariants.{Set}
 use Rattle.clap.specs.declared.builder.value_parser.ValueParser.{ValueParser}
 use Rattle.clap.specs.declared.builder.value_parser.ValueParser.TheVariants as parsers
-use Rattle.prl_arguments.specs.declared.arguments.TheConstants.{MAX_SIZE, MAX_UNTIL, MAX_WORKERS}
 use Rattle.prl_arguments.specs.declared.arguments.Mode.{Mode}
 use Rattle.prl_arguments.specs.declared.arguments.Setting.{Setting}
-use Rattle.prl_arguments.specs.declared.arguments.Setting.TheVariants as settings
-use Rattle.prl_arguments.specs.Arguments.{all_settings, may, name_of, needs}
+use Rattle.prl_arguments.specs.Arguments.{all_settings, has, name_of, needs, range_of}
 
 -- the values of an option: a number in its range, or any text
-abbrev pub parser_of : Setting → ValueParser
-parser_of settings.Until = parsers.Unsigned 0 MAX_UNTIL
-parser_of settings.Workers = parsers.Unsigned 1 MAX_WORKERS
-parser_of settings.Size = parsers.Unsigned 1 MAX_SIZE
-parser_of other = parsers.String
+abbrev pub parser_by : Option (ℕ × ℕ) → ValueParser
+parser_by None = parsers.String
+parser_by (Some range) = parsers.Unsigned range.0 range.1
 
 -- an option of a mode
 abbrev pub option_rule : Mode → Setting → Rule
 option_rule mode setting = record (new_rule (name_of setting)) {
   long = Some (name_of setting);
   action = Some Set;
-  parser = Some (parser_of setting);
+  parser = Some (parser_by (range_of setting));
   required = needs mode setting;
 }
 
 -- a command with one more option, where the mode has it
 abbrev pub with_setting : Mode → App → Setting → App
 with_setting mode app setting =
-    if needs mode setting || may mode setting then with_rule app (option_rule mode setting) else app
+    if has mode setting then with_rule app (option_rule mode setting) else app
 
 -- a command with no options, and no help; an option may be repeated
 abbrev pub no_options : App

@@ -10,17 +10,7 @@ use Rattle.prl_arguments.proofs.options.are_options_of.Goals as goal
 
 simple : (mode : Mode) → is_simple_and_free (app_of_mode mode) ≡ true
 simple modes.Check = refl
-simple modes.Flows = refl
-simple modes.Plan = refl
-simple modes.Print = refl
-simple modes.Replay = refl
-simple modes.Schedule = refl
-simple modes.Edf = refl
-simple modes.Cores = refl
-simple modes.Run = refl
-simple modes.Generate = refl
-simple modes.Cycle = refl
-simple modes.Table = refl
+simple _ = refl
 
 mapped : {A : Type 0} (f : A → List ℕ) (words : List A) → map f (drop 1 words) ≡ drop 1 (map f words)
 mapped f [] = refl
