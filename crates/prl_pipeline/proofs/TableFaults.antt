@@ -33,8 +33,8 @@ ok_err x fault e = cc
 same_err : (X : Type 0) (r : Result X TableFault) (a b : TableFault) → r ≡ Err a → r ≡ Err b → a ≡ b
 same_err X r a b h k = cc
 
-syntax_at : (X : Type 0) (k : ℕ) (fault : TableFault) → Err {A = X} (checking.Syntax k) ≡ Err fault → IsSyntax fault
-syntax_at X k fault e = subst IsSyntax (same_err X (Err (checking.Syntax k)) (checking.Syntax k) fault refl e) tt
+syntax_at : (X : Type 0) (r : Result X TableFault) (k : ℕ) (fault : TableFault) → r ≡ Err (checking.Syntax k) → r ≡ Err fault → IsSyntax fault
+syntax_at X r k fault h e = subst IsSyntax (same_err X r (checking.Syntax k) fault h e) tt
 
 -- one reading after another
 then_err : {A B : Type 0} (r : Result A TableFault) (f : A → Result B TableFault) (fault : TableFault) → ((x : TableFault) → r ≡ Err x → IsSyntax x)
@@ -43,12 +43,12 @@ then_err (Ok a) f fault first next e = next a fault e
 then_err {A = A} {B = B} (Err x) f fault first next e = subst IsSyntax (same_err B (Err x) x fault refl e) (first x refl)
 
 line_err : (k : ℕ) (entry : Option Entry) (fault : TableFault) → or_line k entry ≡ Err fault → IsSyntax fault
-line_err k None fault e = syntax_at Entry k fault e
+line_err k None fault e = syntax_at Entry (or_line k None) k fault refl e
 line_err k (Some entry) fault e = absurd (ok_err entry fault e)
 
 end_err : (k : ℕ) (line : List ℕ) (fault : TableFault) → no_more k line ≡ Err fault → IsSyntax fault
 end_err k [] fault e = absurd (ok_err [] fault e)
-end_err k (b ∷ bs) fault e = syntax_at (List Entry) k fault e
+end_err k (b ∷ bs) fault e = syntax_at (List Entry) (no_more k (b ∷ bs)) k fault refl e
 
 entries_err : (lines : List (List ℕ)) (k : ℕ) (last : Option Entry) (fault : TableFault) → entries_from k last lines ≡ Err fault → IsSyntax fault
 entries_err [] k last fault e = absurd (ok_err [] fault e)
@@ -61,11 +61,11 @@ entries_err (line ∷ next ∷ lines) k last fault e =
 
 test_err : (k : ℕ) (yes : Bool) (rest : List (List ℕ)) (fault : TableFault) → (if yes then Ok rest else Err (checking.Syntax k)) ≡ Err fault → IsSyntax fault
 test_err k true rest fault e = absurd (ok_err rest fault e)
-test_err k false rest fault e = syntax_at (List (List ℕ)) k fault e
+test_err k false rest fault e = syntax_at (List (List ℕ)) (Err (checking.Syntax k)) k fault refl e
 
 after_err : (k : ℕ) (test : List ℕ → Bool) (lines : List (List ℕ)) (fault : TableFault) → after_line k test lines ≡ Err fault → IsSyntax fault
-after_err k test [] fault e = syntax_at (List (List ℕ)) k fault e
-after_err k test (line ∷ []) fault e = syntax_at (List (List ℕ)) k fault e
+after_err k test [] fault e = syntax_at (List (List ℕ)) (after_line k test []) k fault refl e
+after_err k test (line ∷ []) fault e = syntax_at (List (List ℕ)) (after_line k test (line ∷ [])) k fault refl e
 after_err k test (line ∷ next ∷ lines) fault e = test_err k (test line) (next ∷ lines) fault e
 
 -- a text that is not read has a line that is not of it
