@@ -1,5 +1,5 @@
 -- What the table says at the end is what a closed board shows.
-use Rattle.std.proofs.Common.{◌≡◌, ◌<◌, ℕ, zero, suc, List, [], ◌∷◌, length, get_or, inl, inr, refl, sym, ◌∙◌, subst, arith, Bool, Some}
+use Rattle.std.proofs.Common.{◌≡◌, ◌<◌, ℕ, zero, suc, List, [], ◌∷◌, length, get_or, inl, inr, refl, sym, ap, ◌∙◌, subst, arith, Bool, Some}
 use Rattle.std.proofs.lemmas.Bool.{cases_lt}
 use Rattle.std.proofs.lemmas.List.{get_or_past}
 use Rattle.std.proofs.lemmas.Option.{slice_get_within}
@@ -20,7 +20,7 @@ use Rattle.prl_seats.specs.JobSeats.{IsStage, JobSeatView}
 use Rattle.prl_rule.specs.Known.{run_of, values_of}
 use Rattle.prl_rule.specs.Rule.{reached}
 use Rattle.prl_seats.specs.Boards.{IsClosing}
-use Rattle.prl_board.specs.code.Lent.{IsLent, IsSettled}
+use Rattle.prl_board.specs.code.Lent.{IsLeft, IsLent, IsSettled}
 use Rattle.prl_rule.specs.PlanLaws.{PlanLaws}
 use Rattle.prl_rule.proofs.HalfSteps.{loaded_tag}
 use Rattle.prl_board.proofs.Lists.{seat_there}
@@ -115,3 +115,9 @@ closing_tags k laws view words closing i p has =
           let none : get_or (reached (run_of k) es).tags p.kept.slot 0 ≡ 0 = get_or_past (reached (run_of k) es).tags p.kept.slot 0 (omega (arith, wide, outside)) in
           omega (arith, tag, none))
     ]
+
+-- what a closed board keeps, by the run that is seen
+pub left_of : {k : Constants} {view : View} {words : List ℕ} {wide : ℕ} {seats : List JobSeatView} → (j : Constants) × IsLeft j view words wide seats → view.constants ≡ Some k → IsLeft k view words wide seats
+left_of {k = k} {view = view} {words = words} {wide = wide} {seats = seats} left known =
+    let same : left.0 ≡ k = (let e : Some left.0 ≡ Some k = sym (ap (λ (v : View). v.constants) left.1.given) ∙ known in cc e) in
+    subst (λ (j : Constants). IsLeft j view words wide seats) same left.1

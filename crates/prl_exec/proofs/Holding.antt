@@ -1,11 +1,13 @@
 -- The seats that a worker has, after one of them was polled.
 use Rattle.std.proofs.Common.{◌≡◌, ◌++◌, ℕ, zero, suc, List, [], ◌∷◌, Option, Some, None, length, length-set, set, refl, sym, ◌∙◌, ap, subst, inl, inr, ⊎_elim}
-use Rattle.std.specs.Prelude.{slice_get}
+use Rattle.std.specs.Prelude.{Vec, slice_get}
+use Rattle.std.specs.Vec.{vec_items}
+use Rattle.std.specs.declared.alloc.Global.{Global}
 use Rattle.std.proofs.lemmas.Bool.{cases_eq}
 use Rattle.prl_seats.specs.Boards.{BoardView}
 use Rattle.prl_seats.specs.JobSeats.{IsSeatOf, JobSeatView}
 use Rattle.prl_board.proofs.Lists.{set_at, set_else, set_here}
-use Rattle.prl_exec.specs.code.Hands.{AreHeld, KeepSeats}
+use Rattle.prl_exec.specs.code.Hands.{AreHeld, Has, KeepSeats}
 use Rattle.prl_exec.specs.code.Polls.{IsSlotOf, IsSlotPolled}
 
 module _ (b : BoardView) (seats : List (Option JobSeatView)) (held : AreHeld b seats) (i : ℕ) where
@@ -54,3 +56,7 @@ pub get_front : {A : Type 0} (xs : List A) (x y : A) (j : ℕ) → slice_get xs 
 get_front [] x y j has = absurd (cc has)
 get_front (z ∷ xs) x y zero has = has
 get_front (z ∷ xs) x y (suc j) has = get_front xs x y j has
+
+-- what is handed back keeps the seats
+pub handed : (before : List (Option JobSeatView)) {seats back : Vec (Option JobSeatView) Global} → back ≡ seats → KeepSeats before (vec_items seats) → KeepSeats before (vec_items back)
+handed before is kept i has = subst (λ (v : Vec (Option JobSeatView) Global). Has (vec_items v) i) (sym is) (kept i has)

@@ -13,32 +13,18 @@ ghost use Rattle.prl_rule.specs.Rule.{reached};
 ghost use Rattle.prl_board.specs.Lones.{IsLoneOf, IsPlacedAt};
 ghost use Rattle.prl_board.specs.TaskSeats.{MayFinish, MayRead, MayWrite};
 ghost use Rattle.prl_exec.specs.Runs.{HasEnded};
-ghost use Rattle.prl_exec.specs.Standing.{HasSeen, RunLaws, StandsIn};
+ghost use Rattle.prl_exec.specs.Standing.{HasSeen, StandsIn};
 ghost use Rattle.prl_exec.specs.code.Alone.{HasActed, HasGoneOn, IsIdle, IsLeftOver, IsOver, MayAct};
 ghost use Rattle.prl_exec.specs.Standing.{IsPolled};
 
+use crate::laws::run_laws;
 use prl_base::TaskNo;
 use prl_board::{Board, Closed, Gate, Got, Lone, Place, Release, Steps, gather, open_board};
 use prl_body::Bodies;
 use prl_flow::Sensors;
-use prl_plan::{
-    Horizon, Plan, free_events_keep_tags, free_list_is_short, free_list_leaves_tags,
-    gated_events_keep_sound, run_of_two_lists, sound_state_goes_on,
-};
+use prl_plan::{Horizon, Plan, free_list_is_short};
 use std::alloc::{AllocError, Global};
 use std::sync::ledger::Ledger;
-
-/// The laws of plans on which a run rests.
-pub(crate) fn run_laws(board: &Board)
-    ensures { RunLaws (run_of board.now.known) }
-{
-    board.keeps_facts();
-    gated_events_keep_sound();
-    free_events_keep_tags();
-    run_of_two_lists();
-    free_list_leaves_tags();
-    sound_state_goes_on();
-}
 
 /// Reads, where what is wanted is there.
 fn read<L: Ledger>(lone: &mut Lone, board: &Board, task: TaskNo, steps: &mut Steps<L>) -> bool

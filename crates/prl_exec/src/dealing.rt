@@ -5,7 +5,7 @@ ghost use Rattle.prl_rule.specs.Known.{run_of};
 ghost use Rattle.prl_board.specs.Lones.{AreSeatsOf};
 ghost use Rattle.std.specs.Vec.{vec_items};
 ghost use Rattle.prl_seats.specs.Boards.{BoardView};
-ghost use Rattle.prl_exec.specs.code.Hands.{AreDealt, AreHeld, Has, KeepSeats};
+ghost use Rattle.prl_exec.specs.code.Hands.{AreDealt, AreHeld, Has, HasOwn, KeepSeats};
 ghost use Rattle.prl_exec.specs.code.Polls.{IsPut, IsTaken};
 
 use prl_board::TaskSeat;
@@ -19,7 +19,7 @@ fn take(slot: &mut Option<TaskSeat>, own: bool) -> Option<TaskSeat>
 }
 
 /// Takes the seats of a worker's tasks.
-pub(crate) fn deal(
+fn deal(
     alloc: Global,
     all: &mut Vec<Option<TaskSeat>>,
     workers: u32,
@@ -72,10 +72,7 @@ fn nones(alloc: Global, count: usize) -> Result<Vec<Option<TaskSeat>>, AllocErro
 }
 
 /// The seats by the numbers of their tasks.
-pub(crate) fn slots(
-    alloc: Global,
-    mut seats: Vec<TaskSeat>,
-) -> Result<Vec<Option<TaskSeat>>, AllocError>
+fn slots(alloc: Global, mut seats: Vec<TaskSeat>) -> Result<Vec<Option<TaskSeat>>, AllocError>
     ensures held { IfOk result (λ all. (b : BoardView) → AreSeatsOf b (vec_items seats) → AreHeld b (vec_items all)) }
     ensures all { IfOk result (λ all. (i : ℕ) → i < length (vec_items seats) → Has (vec_items all) i) }
 {
@@ -103,7 +100,7 @@ pub(crate) fn collected(mut all: Vec<Option<TaskSeat>>, mut room: Vec<TaskSeat>)
 }
 
 /// Takes the seats of all workers' tasks from worker 1 on.
-pub(crate) fn deal_all(
+fn deal_all(
     alloc: Global,
     all: &mut Vec<Option<TaskSeat>>,
     workers: u32,
@@ -120,4 +117,30 @@ pub(crate) fn deal_all(
         hands.push(deal(alloc, all, workers, worker)?)?;
     }
     Ok(hands)
+}
+
+/// Deals the seats: those of worker 0, those of each worker from worker 1 on, and room for all to
+/// come back to.
+pub(crate) fn dealt(
+    alloc: Global,
+    seats: Vec<TaskSeat>,
+    workers: u32,
+) -> Result<
+    (
+        Vec<Option<TaskSeat>>,
+        Vec<Vec<Option<TaskSeat>>>,
+        Vec<TaskSeat>,
+    ),
+    AllocError,
+>
+    requires { 0 < workers }
+    ensures count { IfOk result (λ r. length (vec_items r.1) + 1 ≡ workers) }
+    ensures own { IfOk result (λ r. (b : BoardView) → AreSeatsOf b (vec_items seats) → AreHeld b (vec_items r.0) × HasOwn (run_of b.known).tasks workers 0 (vec_items r.0)) }
+    ensures hands { IfOk result (λ r. (b : BoardView) → AreSeatsOf b (vec_items seats) → AreDealt (AreHeld b) (run_of b.known).tasks workers (vec_items r.1)) }
+    ensures room { IfOk result (λ r. (vec_items r.2 ≡ []) × (length (vec_items seats) ≤ vec_capacity r.2)) }
+{
+    let room = Vec::with_capacity(alloc, seats.len())?;
+    let mut own = slots(alloc, seats)?;
+    let hands = deal_all(alloc, &mut own, workers)?;
+    Ok((own, hands, room))
 }

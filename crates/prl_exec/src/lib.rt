@@ -6,10 +6,12 @@
 mod alone;
 mod crews;
 mod dealing;
+mod laws;
 mod overruns;
 mod polls;
 mod runs;
 mod workers;
 
 pub use alone::{look_all, poll, run_alone, tick};
+pub use laws::run_laws;
 pub use runs::{RunFault, Stopped, run_threads};

@@ -1,18 +1,22 @@
 //! Several threads run all jobs of a horizon.
 
-ghost use Rattle.std.specs.Prelude.{◌≡◌, ◌<◌, ◌≤◌, IfErr, IfNone, IfOk, IfSome, Some, length};
+ghost use Rattle.std.specs.Prelude.{◌≡◌, ◌+◌, ◌<◌, ◌≤◌, [], IfErr, IfNone, IfOk, IfSome, Some, length, vec_capacity};
 ghost use Rattle.std.specs.Vec.{vec_items};
 ghost use Rattle.prl_plan.specs.Horizons.{IsHorizon};
 ghost use Rattle.prl_values.specs.Fitting.{HaveTaskBodies, HaveTypedRows};
-ghost use Rattle.prl_rule.specs.Known.{known};
-ghost use Rattle.prl_board.specs.Lones.{IsLoneOf};
+ghost use Rattle.prl_rule.specs.declared.views.ClockPart.{ClockPart};
+ghost use Rattle.prl_rule.specs.Known.{known, run_of};
+ghost use Rattle.prl_board.specs.ClockSeats.{IsClockOf};
+ghost use Rattle.prl_board.specs.Lones.{AreSeatsOf, IsLoneOf};
 ghost use Rattle.prl_exec.specs.Runs.{HasEnded, IsRunFault, HasStopped};
 ghost use Rattle.prl_exec.specs.code.Alone.{IsOver};
+ghost use Rattle.prl_exec.specs.code.Hands.{AreDealt, AreHeld, HasOwn};
 ghost use Rattle.prl_exec.specs.code.Overruns.{IsOverrunIn};
 
-use crate::alone::{act_first, is_over, look_all, run_laws, tick};
+use crate::alone::{act_first, is_over, look_all, tick};
 use crate::crews::{Crew, Served, serve_all};
-use crate::dealing::{collected, deal_all, put_back, slots};
+use crate::dealing::{collected, dealt, put_back};
+use crate::laws::run_laws;
 use crate::overruns::{Missed, first_overrun, overrun_of};
 use crate::polls::Eye;
 use crate::workers::{Hand, lead, work};
@@ -198,9 +202,60 @@ fn closed_with(lone: Lone, board: Board, missed: Option<Missed>) -> Result<Close
     }
 }
 
-/// Several threads run all jobs of the horizon; then the caller goes on with what is left, and
-/// closes the board.
-fn run_counted<L: Ledger, R: Threads + Wait + Sync, P: Probe>(
+/// Workers serve the seats that were dealt, and all come back, with the clock's. The task that an
+/// overrun was met of, if one was.
+fn served<R: Threads + Wait + Sync, P: Probe>(
+    rt: &R,
+    board: &Board,
+    probe: &P,
+    unserved: &[AtomicBool],
+    workers: u32,
+    dealt: (
+        Vec<Option<TaskSeat>>,
+        Vec<Vec<Option<TaskSeat>>>,
+        Vec<TaskSeat>,
+    ),
+    clock: ClockSeat,
+) -> (Vec<TaskSeat>, ClockSeat, Option<TaskNo>)
+    requires workers { (1 ≤ workers) × (workers ≤ 16) × (length (vec_items dealt.1) + 1 ≡ workers) × (workers ≤ length unserved.now) }
+    requires own { AreHeld board.now (vec_items dealt.0) × HasOwn (run_of board.now.known).tasks workers 0 (vec_items dealt.0) }
+    requires hands { AreDealt (AreHeld board.now) (run_of board.now.known).tasks workers (vec_items dealt.1) }
+    requires room { (vec_items dealt.2 ≡ []) × ((run_of board.now.known).tasks ≤ vec_capacity dealt.2) }
+    requires clock { (r : ClockPart) × IsClockOf board.now clock r }
+    ensures seats { AreSeatsOf board.entry.now (vec_items result.0) }
+    ensures clock { (r : ClockPart) × IsClockOf board.entry.now result.1 r }
+{
+    let crew = BoardCrew { board, probe };
+    let (own, hands, room) = dealt;
+    let Served { hand, clock } = serve_all(rt, &crew, unserved, workers, hands, own, clock);
+    let Hand { seats, overrun } = hand;
+    (collected(seats, room), clock, overrun)
+}
+
+/// The caller goes on with what is left, and closes the board.
+fn closed_after<L: Ledger, R: Wait>(
+    rt: &R,
+    board: Board,
+    back: (Vec<TaskSeat>, ClockSeat, Option<TaskNo>),
+    blank: Blank,
+) -> Result<Closed, Stopped>
+    requires seats { AreSeatsOf board (vec_items back.0) }
+    requires clock { (r : ClockPart) × IsClockOf board back.1 r }
+    requires name { blank.name ≡ L.name }
+    requires parts { (blank.parts ≡ L.parts) × (0 < blank.parts) }
+    ensures known { IfOk result (λ closed. closed.constants ≡ Some board.entry.known) }
+    ensures ended { IfOk result HasEnded }
+    ensures stopped { IfErr result (HasStopped board.entry.known) }
+{
+    let (seats, clock, told) = back;
+    let mut steps = Steps::<L>::new(blank);
+    let mut lone = gather(&board, seats, clock);
+    let missed = run_on(rt, &mut lone, &board, told, &mut steps);
+    closed_with(lone, board, missed)
+}
+
+/// Several threads run all jobs of the horizon; then the caller goes on with what is left.
+fn run_dealt<R: Threads + Wait + Sync, P: Probe>(
     rt: &R,
     alloc: Global,
     plan: &Plan,
@@ -210,34 +265,28 @@ fn run_counted<L: Ledger, R: Threads + Wait + Sync, P: Probe>(
     gate: Gate,
     workers: u32,
     probe: &P,
-    blank: Blank,
 ) -> Result<Result<Closed, Stopped>, AllocError>
     requires horizon { IsHorizon plan.now horizon }
     requires bodies { HaveTaskBodies plan.now.graph bodies.now }
     requires rows { HaveTypedRows plan.now.graph horizon.until sensors.now }
     requires workers { (1 ≤ workers) × (workers ≤ 16) }
-    requires name { blank.name ≡ L.name }
-    requires parts { (blank.parts ≡ L.parts) × (0 < blank.parts) }
     ensures known { IfOk result (λ run. IfOk run (λ closed. closed.constants ≡ Some (known plan.now horizon gate sensors.now bodies.now))) }
     ensures ended { IfOk result (λ run. IfOk run HasEnded) }
     ensures stopped { IfOk result (λ run. IfErr run (HasStopped (known plan.now horizon gate sensors.now bodies.now))) }
 {
-    let (board, seats, clock) = open_board(alloc, plan, bodies, sensors, horizon, gate)?;
-    let room = Vec::with_capacity(alloc, seats.len())?;
-    let mut all = slots(alloc, seats)?;
-    let hands = deal_all(alloc, &mut all, workers)?;
     let unserved = flags(alloc, workers)?;
-    let crew = BoardCrew {
-        board: &board,
+    let (board, seats, clock) = open_board(alloc, plan, bodies, sensors, horizon, gate)?;
+    let dealt = dealt(alloc, seats, workers)?;
+    let back = served(
+        rt,
+        &board,
         probe,
-    };
-    let served = serve_all(rt, &crew, unserved.as_slice(), workers, hands, all, clock);
-    let Served { hand, clock } = served;
-    let Hand { seats, overrun } = hand;
-    let mut steps = Steps::<L>::new(blank);
-    let mut lone = gather(&board, collected(seats, room), clock);
-    let missed = run_on(rt, &mut lone, &board, overrun, &mut steps);
-    Ok(closed_with(lone, board, missed))
+        unserved.as_slice(),
+        workers,
+        dealt,
+        clock,
+    );
+    Ok(closed_after::<Brand, R>(rt, board, back, Blank::new(1)))
 }
 
 /// Several threads run all jobs of the horizon: worker `w` those of each task `i` with `i %
@@ -264,9 +313,8 @@ pub fn run_threads<R: Threads + Wait + Sync, P: Probe>(
     ensures ended { IfOk result HasEnded }
     ensures fault { IfErr result (IsRunFault (known plan.now horizon gate sensors.now bodies.now)) }
 {
-    let blank = Blank::new(1);
-    match run_counted::<Brand, R, P>(
-        rt, alloc, plan, bodies, sensors, horizon, gate, workers, probe, blank,
+    match run_dealt(
+        rt, alloc, plan, bodies, sensors, horizon, gate, workers, probe,
     ) {
         Ok(Ok(closed)) => Ok(closed),
         Ok(Err(stopped)) => Err(RunFault::Overrun(stopped)),

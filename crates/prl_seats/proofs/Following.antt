@@ -4,6 +4,7 @@ use Rattle.std.proofs.lemmas.Bool.{cases_lt}
 use Rattle.std.proofs.lemmas.Bool.Decides.{nat_tests}
 use mathlib.Core.Option.{some}
 use lib.ListN.{get_elem?}
+use Rattle.prl_base.specs.declared.numbers.TaskNo.{TaskNo}
 use Rattle.prl_base.specs.declared.values.Value.{Value}
 use Rattle.prl_plan.specs.declared.events.Action.{Action}
 use Rattle.prl_plan.specs.declared.events.Action.TheVariants as actions
@@ -20,7 +21,8 @@ use Rattle.prl_rule.specs.Known.{run_of, values_of}
 use Rattle.prl_rule.specs.Rule.{StandsAt, first_part}
 use Rattle.prl_rule.specs.Steps.{caught_up, done_counted, half_loaded, half_missed, half_stored, half_taken, moved_on, now_loaded, with_part}
 use Rattle.prl_rule.specs.Told.{EndTold, HalfTold, IsAt, NowTold, WriteTold, part_at, part_of, part_or}
-use Rattle.prl_seats.specs.JobSeats.{Follows, HasFirstPart, IsStage}
+use Rattle.prl_seats.specs.Boards.{BoardView}
+use Rattle.prl_seats.specs.JobSeats.{Follows, HasFirstPart, HasPartOf, IsSeatOf, IsStage, JobSeatView}
 use Rattle.prl_rule.proofs.Parts.{caught_ended, caught_open, part_there, set_found}
 
 -- the part of a view with this part
@@ -241,3 +243,48 @@ place_inside (x ∷ list) (suc place) more = let rest = place_inside list place 
 -- what is so for the constants of a view is so for any that it has
 pub known_once : (view : View) (k : Constants) (P : Constants → Type 0) → view.constants ≡ Some k → P k → (other : Constants) → view.constants ≡ Some other → P other
 known_once view k P known p other has = let same : Some k ≡ Some other = sym known ∙ has in subst P (cc same) p
+
+-- what is known of a seat whose job stands so
+pub record StandsSo (k : Constants) (s : JobSeatView) (so : Stage) : Type 0 where
+  pub known : s.view.constants ≡ Some k
+  pub part : HasPartOf s.task.0 s.view
+  pub stage : s.stage ≡ so
+  pub follows : Follows k s.view s.task.0 s.job s.place so
+
+pub stands_so : {b : BoardView} {s t : JobSeatView} {stage : Stage} → s ≡ t → IsSeatOf b t →
+    ((k : Constants) → s.view.constants ≡ Some k → HasPartOf s.task.0 s.view → Follows k s.view s.task.0 s.job s.place s.stage) → t.stage ≡ stage → StandsSo b.known s stage
+stands_so {b = b} {s = s} {stage = stage} is seat stands at =
+    let known : s.view.constants ≡ Some b.known = ap (λ (x : JobSeatView). x.view.constants) is ∙ seat.known in
+    let part : HasPartOf s.task.0 s.view = subst (λ (x : JobSeatView). HasPartOf x.task.0 x.view) (sym is) seat.part in
+    let same : s.stage ≡ stage = ap (λ (x : JobSeatView). x.stage) is ∙ at in
+    record { known = known; part = part; stage = same; follows = subst (λ (z : Stage). Follows b.known s.view s.task.0 s.job s.place z) same (stands b.known known part) }
+
+-- where it stands
+pub stands_here : {b : BoardView} {s t : JobSeatView} → s ≡ t → IsSeatOf b t →
+    ((k : Constants) → s.view.constants ≡ Some k → HasPartOf s.task.0 s.view → Follows k s.view s.task.0 s.job s.place s.stage) → StandsSo b.known s s.stage
+stands_here is seat stands = stands_so is seat stands (sym (ap (λ (x : JobSeatView). x.stage) is))
+
+pub stands_in : {k : Constants} {s : JobSeatView} {action : Action} → StandsSo k s (stages.At action) → StandsAt (run_of k) s.task.0 (part_at k s.task.0 s.place s.view).stand action
+stands_in {k = k} {s = s} {action = action} at = stands_at k s.task.0 s.view s.job s.place action at.follows
+
+-- it belongs to the board after a step
+pub seat_after : {b : BoardView} {s t u : JobSeatView} (q : TaskPart) → s ≡ t → IsSeatOf b t → u.table ≡ s.table → u.task ≡ s.task → u.view ≡ with_part s.task.0 q s.view → IsSeatOf b u
+seat_after {b = b} {s = s} {u = u} q is seat table task view = record {
+  table = table ∙ ap (λ (x : JobSeatView). x.table) is ∙ seat.table;
+  known = ap (λ (v : View). v.constants) view ∙ ap (λ (x : JobSeatView). x.view.constants) is ∙ seat.known;
+  part = subst (λ (n : TaskNo). HasPartOf n.0 u.view) (sym task)
+      (part_after b.known s.task.0 s.view u.view q (subst (λ (x : JobSeatView). HasPartOf x.task.0 x.view) (sym is) seat.part) view);
+}
+
+-- a seat that follows its view under one name of the run follows it under each
+pub follows_on : {k : Constants} {u : View} {i job place : ℕ} {stage : Stage} → u.constants ≡ Some k → Follows k u i job place stage →
+    (other : Constants) → u.constants ≡ Some other → HasPartOf i u → Follows other u i job place stage
+follows_on {k = k} {u = u} {i = i} {job = job} {place = place} {stage = stage} known follows other has part =
+    known_once u k (λ x. Follows x u i job place stage) known follows other has
+
+-- the next action, as it was looked up
+pub next_follows : {k : Constants} {u : View} {i job next : ℕ} {action : Action} (place : ℕ) → next ≡ place + 1 → action ≡ action_at (run_of k) i job next →
+    Follows k u i job (place + 1) (stages.At (action_at (run_of k) i job (place + 1))) → Follows k u i job next (stages.At action)
+next_follows {k = k} {u = u} {i = i} {job = job} {next = next} place here is follows =
+    subst (λ (a : Action). Follows k u i job next (stages.At a)) (sym is)
+    (subst (λ (n : ℕ). Follows k u i job n (stages.At (action_at (run_of k) i job n))) (sym here) follows)

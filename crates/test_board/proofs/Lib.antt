@@ -1,6 +1,3 @@
-mod Lists
-mod Worked
-mod Popped
 mod Seats
 mod Overruns
 mod Placed

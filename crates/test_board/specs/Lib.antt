@@ -1,2 +1,2 @@
--- a worked graph and the rows of its sensor
+-- a plan of a sensor and an actuator, and a closed board of it
 pub mod Pairs

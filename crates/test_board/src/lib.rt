@@ -2,14 +2,14 @@
 #![tactic(auto)]
 
 #[cfg(test)]
-mod boards;
-#[cfg(test)]
-mod closings;
+mod cases;
 #[cfg(test)]
 mod halves;
 #[cfg(test)]
 mod lone_runs;
 #[cfg(test)]
 mod pairs;
+#[cfg(test)]
+mod seats;
 #[cfg(test)]
 mod threads;

@@ -1,105 +1,86 @@
-//! A sensor and an actuator that reads it, both of period 10 and of WCET 1, and two rows of the sensor.
+//! A sensor with two rows and an actuator that takes each of its values, both of period 10 and of WCET 1, until 20.
 
-ghost use Rattle.std.specs.Prelude.{◌≡◌, [], IfOk, IfSome};
-ghost use Rattle.prl_plan.specs.Graphs.{IsWellFormed};
+ghost use Rattle.std.specs.Prelude.{◌≡◌, [], true, IfOk};
+ghost use Rattle.prl_plan.specs.Horizons.{IsHorizon};
 ghost use Rattle.prl_values.specs.Fitting.{HaveTaskBodies, HaveTypedRows};
-ghost use Rattle.test_board.specs.Pairs.{pair, pair_values};
+ghost use Rattle.test_board.specs.Pairs.{IsClosedPair, IsPair};
 
-use prl_base::{Clock, Label, Seq, TaskNo, Ty, Value};
-use prl_buffers::cells;
-use prl_dates::encode;
+use crate::cases::Shown;
+use prl_base::{CellNo, Seq, TaskNo, Value};
+use prl_board::{Closed, Half};
 use prl_flow::Sensors;
-use prl_plan::{Edge, Kind, Plan, Producer, Task, TaskGraph, horizon_jobs_are_counted};
-use prl_words::words;
+use prl_plan::{Horizon, Kind, Plan, plan_is_one};
 use std::alloc::{AllocError, Global};
+use std::test::Fail;
+use test_plans::{are_served, horizon_of, plan_of};
 
-fn task(alloc: Global, name: &[u8], kind: Kind) -> Result<Task, AllocError>
-    ensures { IfOk result (λ task. task ≡ record { name = name.now; kind = kind; clock = record { period = 10; start = 0 }; wcet = 1; due = 10 }) }
-{
-    Ok(Task {
-        name: Label::new(alloc, name)?,
-        kind,
-        clock: Clock {
-            period: 10,
-            start: 0,
-        },
-        wcet: 1,
-        due: 10,
-    })
-}
+const PAIR: &[u8] = b"plan 1
+hyperperiod 10
+task 0 i sensor period 10 start 0 due 10 wcet 1
+task 1 o actuator period 10 start 0 due 10 wcet 1
+dates 0 0:9
+dates 1 1:10
+edge 0 from 0.0 to 1.0 type int period 10 ops none
+word 0 prefix 0 repeat 0 step 1 1
+cells 0 base 0 count 1
+";
 
-fn pair_tasks(alloc: Global) -> Result<Seq<Task>, AllocError>
-    ensures { IfOk result (λ tasks. tasks ≡ pair.tasks) }
+/// Whether the second task of a plan is its first actuator's, and it has a cell.
+fn is_pair(plan: &Plan) -> bool
+    ensures { result ≡ true → IsPair plan.now }
 {
-    let tasks = vec![in alloc;
-        task(alloc, b"i", Kind::Sensor(0))?,
-        task(alloc, b"o", Kind::Actuator(0))?,
-    ]?;
-    Ok(Seq::new(tasks))
-}
-
-fn pair_edges(alloc: Global) -> Result<Seq<Edge>, AllocError>
-    ensures { IfOk result (λ edges. edges ≡ pair.edges) }
-{
-    let edge = Edge {
-        from: Producer::Port {
-            task: TaskNo(0),
-            out: 0,
-        },
-        to: TaskNo(1),
-        port: 0,
-        ops: Seq::new(Vec::new(alloc)),
-        period: 10,
-        ty: Ty::Int,
-    };
-    Ok(Seq::new(vec![in alloc; edge]?))
-}
-
-fn pair_graph(alloc: Global) -> Result<TaskGraph, AllocError>
-    ensures { IfOk result (λ graph. graph ≡ pair) }
-{
-    Ok(TaskGraph {
-        tasks: pair_tasks(alloc)?,
-        edges: pair_edges(alloc)?,
-        hyper: 10,
-    })
-}
-
-/// The plan of a graph.
-fn planned(alloc: Global, graph: TaskGraph) -> Option<Plan>
-    requires { IsWellFormed graph }
-    ensures { IfSome result (λ plan. plan.graph ≡ graph) }
-{
-    let words = words(alloc, &graph).ok()?;
-    let dates = encode(alloc, &graph).ok()?;
-    match cells(alloc, &graph, &words, &dates) {
-        Ok(cells) => Some(Plan::new(graph, words, dates, cells)),
-        Err(_) => None,
-    }
-}
-
-/// The plan of the pair.
-pub fn pair_plan(alloc: Global) -> Option<Plan>
-    ensures { IfSome result (λ plan. plan.graph ≡ pair) }
-{
-    match pair_graph(alloc) {
-        Ok(graph) => planned(alloc, graph),
-        Err(AllocError) => None,
-    }
+    plan_is_one(plan);
+    let tasks = plan.graph().tasks.as_slice();
+    tasks.len() >= 2 && tasks[1].kind == Kind::Actuator(0) && plan.total() > 0
 }
 
 /// The rows of the sensor.
-pub fn pair_rows(alloc: Global) -> Result<Sensors, AllocError>
-    ensures { IfOk result (λ sensors. sensors ≡ pair_values) }
-{
+fn rows(alloc: Global) -> Result<Vec<Seq<Value>>, AllocError> {
     let rows = Seq::new(vec![in alloc; Value::Int(1), Value::Int(2)]?);
-    Ok(Sensors::new(vec![in alloc; rows]?))
+    Ok(vec![in alloc; rows]?)
 }
 
-/// No task of the pair runs a body, and its sensor has a row for each job until 20.
-pub fn pair_is_served()
-    ensures bodies { HaveTaskBodies pair [] }
-    ensures rows { HaveTypedRows pair 20 pair_values }
+/// The plan of the pair with its rows, and the horizon up to 20.
+pub(crate) fn pair(alloc: Global) -> Result<(Plan, Sensors, Horizon), Fail>
+    ensures pair { IfOk result (λ r. IsPair r.0) }
+    ensures horizon { IfOk result (λ r. IsHorizon r.0 r.2) }
+    ensures bodies { IfOk result (λ r. HaveTaskBodies r.0.graph []) }
+    ensures rows { IfOk result (λ r. HaveTypedRows r.0.graph r.2.until r.1) }
 {
-    horizon_jobs_are_counted();
+    let plan = plan_of(alloc, PAIR)?;
+    let horizon = horizon_of(&plan, 20)?;
+    let rows = rows(alloc)?;
+    if !is_pair(&plan) || !are_served(&plan, horizon, rows.as_slice()) {
+        return Err("another plan, or too few rows".into());
+    }
+    Ok((plan, Sensors::new(rows), horizon))
+}
+
+/// Of how many of the sensor's rows, from the first one on, these are the values.
+fn count_of(values: &[Value]) -> usize {
+    if values == [].as_slice() {
+        0
+    } else if values == [Value::Int(1)].as_slice() {
+        1
+    } else if values == [Value::Int(1), Value::Int(2)].as_slice() {
+        2
+    } else {
+        3
+    }
+}
+
+/// What a closed board of the pair shows.
+pub(crate) fn shown(closed: &Closed) -> Shown
+    requires { IsClosedPair closed.now }
+{
+    Shown {
+        now: closed.now(),
+        done: (closed.done(TaskNo(0)), closed.done(TaskNo(1))),
+        words: (
+            closed.word(CellNo(0), Half::Low),
+            closed.word(CellNo(0), Half::High),
+        ),
+        ended: closed.ended(),
+        values: count_of(closed.output(0)),
+    }
 }

@@ -1,10 +1,12 @@
 //! Runs by one thread and by several: what an actuator gets, and where a run stops.
 
-ghost use Rattle.std.specs.Prelude.{◌≡◌, ◌<◌, ◌≤◌, [], IfOk, length, Some, true};
+ghost use Rattle.std.specs.Prelude.{◌≡◌, ◌<◌, ◌≤◌, ℕ, [], IfOk, length, Some, true};
 ghost use Rattle.prl_plan.specs.declared.graphs.Kind.TheVariants as kinds;
 ghost use Rattle.prl_plan.specs.Horizons.{IsHorizon};
 ghost use Rattle.prl_plan.specs.Jobs.{task_at};
+ghost use Rattle.prl_rule.specs.declared.views.Constants.{Constants};
 ghost use Rattle.prl_rule.specs.Known.{known};
+ghost use Rattle.prl_board.specs.Closings.{Drives};
 ghost use Rattle.prl_values.specs.Fitting.{HaveTaskBodies, HaveTypedRows};
 
 use crate::plans::{COPIED, FAR, LANES};
@@ -37,11 +39,12 @@ struct Run {
     workers: u32,
 }
 
-/// What came of a run: what the actuator has got, or where it stopped: task, job, port, cell, and the
-/// tags wanted and found.
-#[derive(Debug, Drop, PartialEq)]
+/// What came of a run: of how many of its sensor's rows, from the first one on, the actuator has got
+/// the values, if they are those; or where it stopped: task, job, port, cell, and the tags wanted and
+/// found.
+#[derive(Clone, Copy, PartialEq, Eq)]
 enum Outcome {
-    Got(Vec<Value>),
+    Got(Option<usize>),
     Stopped(TaskNo, u64, u32, CellNo, u32, u32),
     NoMemory,
 }
@@ -144,6 +147,52 @@ fn ran<R: Threads + Wait + Sync, P: Probe>(
     }
 }
 
+/// The plan of a run with the rows of its sensors, and its horizon.
+fn prepared(alloc: Global, run: Run) -> Result<(Plan, Sensors, Horizon), Fail>
+    ensures horizon { IfOk result (λ r. IsHorizon r.0 r.2) }
+    ensures bodies { IfOk result (λ r. HaveTaskBodies r.0.graph []) }
+    ensures rows { IfOk result (λ r. HaveTypedRows r.0.graph r.2.until r.1) }
+    ensures drives { IfOk result (λ r. (run.task < length r.0.graph.tasks) × ((task_at r.0.graph run.task).kind ≡ kinds.Actuator run.actuator)) }
+{
+    let plan = plan_of(alloc, run.plan)?;
+    let horizon = horizon_of(&plan, run.until)?;
+    let rows = rows(alloc, run.sensors)?;
+    if !drives(&plan, run.task, run.actuator) || !are_served(&plan, horizon, rows.as_slice()) {
+        return Err("another plan, or too few rows".into());
+    }
+    Ok((plan, Sensors::new(rows), horizon))
+}
+
+/// Of how many rows, from the first one on, these are the values, if they are.
+fn count_of(values: &[Value]) -> Option<usize> {
+    let mut next: i64 = 1;
+    for value in values {
+        if *value != Value::Int(next) {
+            return None;
+        }
+        next = next.saturating_add(1);
+    }
+    Some(values.len())
+}
+
+/// What came of a run that ended so.
+fn outcome(ended: Result<Closed, RunFault>, actuator: u32) -> Outcome
+    requires { IfOk ended (λ closed. (k : Constants) × (i : ℕ) × (closed.constants ≡ Some k) × Drives k i actuator) }
+{
+    match ended {
+        Ok(closed) => Outcome::Got(count_of(closed.output(actuator))),
+        Err(RunFault::Overrun(stopped)) => Outcome::Stopped(
+            stopped.task,
+            stopped.job,
+            stopped.port,
+            stopped.cell,
+            stopped.wanted,
+            stopped.found,
+        ),
+        Err(RunFault::Memory) => Outcome::NoMemory,
+    }
+}
+
 /// What comes of a run.
 fn outcome_of<R: Threads + Wait + Sync, P: Probe>(
     rt: &R,
@@ -153,34 +202,9 @@ fn outcome_of<R: Threads + Wait + Sync, P: Probe>(
 ) -> Result<Outcome, Fail>
     requires { run.workers ≤ 16 }
 {
-    let plan = plan_of(alloc, run.plan)?;
-    let horizon = horizon_of(&plan, run.until)?;
-    let rows = rows(alloc, run.sensors)?;
-    if !drives(&plan, run.task, run.actuator) || !are_served(&plan, horizon, rows.as_slice()) {
-        return Err("another plan, or too few rows".into());
-    }
-    let sensors = Sensors::new(rows);
-    match ran(rt, alloc, &plan, &sensors, horizon, run, probe) {
-        Ok(closed) => Ok(Outcome::Got(closed.output(run.actuator).to_vec(alloc)?)),
-        Err(RunFault::Overrun(stopped)) => Ok(Outcome::Stopped(
-            stopped.task,
-            stopped.job,
-            stopped.port,
-            stopped.cell,
-            stopped.wanted,
-            stopped.found,
-        )),
-        Err(RunFault::Memory) => Ok(Outcome::NoMemory),
-    }
-}
-
-/// What an actuator has got that takes the first rows of its sensor.
-fn got(alloc: Global, rows: u32) -> Result<Outcome, AllocError> {
-    let mut values = Vec::new(alloc);
-    for n in 0..rows {
-        values.push(Value::Int(i64::from(n) + 1))?;
-    }
-    Ok(Outcome::Got(values))
+    let (plan, sensors, horizon) = prepared(alloc, run)?;
+    let ended = ran(rt, alloc, &plan, &sensors, horizon, run, probe);
+    Ok(outcome(ended, run.actuator))
 }
 
 const COPY: Run = Run {
@@ -203,13 +227,20 @@ const NO_HOLD: Hold = Hold {
 
 #[test]
 fn one_thread_runs_to_the_end(rt: HostRuntime) -> Result<(), Fail> {
-    let alloc = rt.alloc();
-    assert_eq!(rt; outcome_of(&rt, alloc, COPY, &NoProbe)?, got(alloc, 2)?);
-    let free = Run {
-        gate: Gate::Free,
+    for gate in [Gate::Gated, Gate::Free] {
+        let copy = Run { gate, ..COPY };
+        assert!(rt; outcome_of(&rt, rt.alloc(), copy, &NoProbe)? == Outcome::Got(Some(2)));
+    }
+    Ok(())
+}
+
+#[test]
+fn workers_without_tasks_return(rt: HostRuntime) -> Result<(), Fail> {
+    let many = Run {
+        workers: 16,
         ..COPY
     };
-    assert_eq!(rt; outcome_of(&rt, alloc, free, &NoProbe)?, got(alloc, 2)?);
+    assert!(rt; outcome_of(&rt, rt.alloc(), many, &NoProbe)? == Outcome::Got(Some(2)));
     Ok(())
 }
 
@@ -236,10 +267,7 @@ fn two_workers_run_at_once(rt: HostRuntime) -> Result<(), Fail> {
             begun: 1,
         },
     ]);
-    assert_eq!(rt;
-        outcome_of(&rt, rt.alloc(), lanes, &holder)?,
-        got(rt.alloc(), 2)?
-    );
+    assert!(rt; outcome_of(&rt, rt.alloc(), lanes, &holder)? == Outcome::Got(Some(2)));
     assert_eq!(rt; holder.calls(), 8);
     assert!(rt; !holder.in_vain());
     Ok(())
@@ -295,10 +323,7 @@ fn four_workers_of_a_free_board_end(rt: HostRuntime) -> Result<(), Fail> {
             begun: 2,
         },
     ]);
-    assert_eq!(rt;
-        outcome_of(&rt, rt.alloc(), far, &holder)?,
-        got(rt.alloc(), 3)?
-    );
+    assert!(rt; outcome_of(&rt, rt.alloc(), far, &holder)? == Outcome::Got(Some(3)));
     assert!(rt; !holder.in_vain());
     Ok(())
 }

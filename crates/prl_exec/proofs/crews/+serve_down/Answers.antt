@@ -32,7 +32,7 @@ returns-in-Ok-clause-back g t c = λ v below i inside own.
       | inl last ↦
           (let mine : HasOwn (g.S.Crew.tasks c.args.crew.now) c.args.workers (c.len-before.result + 1) (vec_items c.join-hand.result.seats) =
           (let P : _ × ℕ × ℕ → Type 0 =
-          λ z. HasOwn (g.S.Crew.tasks z.0) z.1 z.2 (vec_items c.join-hand.result.seats) in subst P (λ h. (promised.0 h, promised.1 h, promised.2 h)) c.join-hand.ensures.1) in
+          λ z. HasOwn (g.S.Crew.tasks z.0) z.1 z.2 (vec_items c.join-hand.result.seats) in subst P {y = (c.args.crew.now, c.args.workers, c.len-before.result + 1)} (λ h. (promised.0 h, promised.1 h, promised.2 h)) c.join-hand.ensures.1) in
           c.put_back.ensures.put i (mine i inside (own ∙ omega (arith, last, before, ok))))
       | inr other ↦ c.put_back.ensures.kept i (c.serve_down-served.ensures.back v (omega (arith, below, long, other)) i inside own)
     ]

@@ -3,8 +3,8 @@ use Rattle.prl_board.specs.Lones.{IsLoneOf}
 use Rattle.test_board.proofs.lone_runs.play.Given as goal
 
 -- the one thread belongs to the board, and has both tasks
-abbrev pub invariant-loop-letter : goal.invariant-loop-letter
-invariant-loop-letter g l = record {
+abbrev pub invariant-loop-n : goal.invariant-loop-n
+invariant-loop-n g l = record {
   lone : IsLoneOf l.board l.lone;
   tasks : length l.lone.seats ≡ length l.initial.lone.seats;
 }

@@ -1,18 +1,15 @@
-use Rattle.std.proofs.Common.{arith, ◌≡◌, ◌+◌, ℕ, length, get_or, sym, ap, ◌∙◌, vec_items, Some}
+use Rattle.std.proofs.Common.{arith, ◌≡◌, ◌+◌, ℕ, length, get_or, sym, ap, ◌∙◌, vec_items}
 use Rattle.std.specs.Mem.Slots.{slots_items}
 use Rattle.prl_rule.specs.Agreement.{slot_word}
 use Rattle.prl_rule.specs.Known.{run_of}
-use Rattle.prl_rule.specs.declared.views.Constants.{Constants}
-use Rattle.prl_rule.specs.declared.views.View.{View}
 use Rattle.prl_board.specs.Closings.{ClosedView, slot_of}
-use Rattle.prl_board.proofs.ClosedBoards.{word_there}
+use Rattle.prl_board.proofs.ClosedBoards.{left_of, word_there}
 use Rattle.prl_board.proofs.closing.Closed.word.Goals as goal
 
 pub returns : goal.returns
 returns c = λ k known.
-    let left = c.self.invariant.2 in
-    let same : left.0 ≡ k = (let e : Some left.0 ≡ Some k = sym (ap (λ (v : View). v.constants) left.1.given) ∙ (ap (λ (d : ClosedView). d.constants) c.self.view_is ∙ known) in cc e) in
-    let tasks : length (vec_items c.self.inside.seats) ≡ (run_of k).tasks = left.1.closed.tasks ∙ ap (λ (z : Constants). (run_of z).tasks) same in
+    let left = left_of c.self.invariant.2 (ap (λ (d : ClosedView). d.constants) c.self.view_is ∙ known) in
+    let tasks : length (vec_items c.self.inside.seats) ≡ (run_of k).tasks = left.closed.tasks in
     let len = c.len.ensures in
     let offset = c.slot-offset.ensures in
     let ok = c.self.inside.seats.ok in

@@ -2,11 +2,11 @@ use Rattle.std.proofs.Common.{vec_items}
 use Rattle.prl_rule.specs.declared.views.ClockPart.{ClockPart}
 use Rattle.prl_board.specs.ClockSeats.{IsClockOf}
 use Rattle.prl_board.specs.Lones.{AreSeatsOf}
-use Rattle.test_board.proofs.closings.play.Given as goal
+use Rattle.test_board.proofs.seats.play.Given as goal
 
 -- the seats belong to the board
-abbrev pub invariant-loop-letter : goal.invariant-loop-letter
-invariant-loop-letter l = record {
+abbrev pub invariant-loop-n : goal.invariant-loop-n
+invariant-loop-n l = record {
   seats : AreSeatsOf l.board (vec_items l.seats);
   clock : (r : ClockPart) × IsClockOf l.board l.clock r;
 }

@@ -1,6 +1,6 @@
 use Rattle.prl_rule.specs.Known.{run_of}
 use Rattle.prl_plan.specs.Runs.{RunConstants}
-use Rattle.prl_exec.proofs.alone.run_laws.Goals as goal
+use Rattle.prl_exec.proofs.laws.run_laws.Goals as goal
 
 pub returns : goal.returns
 returns e =
