@@ -173,5 +173,5 @@ pub fn push_processor(text: &mut Vec<u8>, row: u32) -> Result<(), AllocError> {
     push_attribute(text, "<path class=\"l\" d=\"M100 ", y)?;
     push_attribute(text, "H", LEFT + WIDTH + 200)?;
     push_attribute(text, "\"/><text x=\"100\" y=\"", y + 190)?;
-    push(text, "\">processor: ")
+    push(text, "\">processor")
 }

@@ -1,106 +1,62 @@
-//! What a schedule does, below the windows: which task acts at which tick.
+//! The tasks that act in a run, tick by tick.
 
-ghost use Rattle.std.specs.Prelude.{◌<◌, ◌+◌, ◌^◌, length};
+ghost use Rattle.std.specs.Prelude.{◌≡◌, ◌++◌, IfOk, OnOk};
+ghost use Rattle.prl_picture.specs.Acts.{acts_of, also_acted, is_in, new_acts};
 
-use crate::look_ups::task_of;
 use prl_base::TaskNo;
-use prl_drawing::{Scale, colour_of, push, push_attribute, row_of, x_of};
-use prl_plan::{Event, Plan};
+use prl_plan::Event;
 use std::alloc::{AllocError, Global};
 
-/// What the sign of an act means.
-const LEGEND: &str = "<rect class=\"s t7\" x=\"1600\" y=\"590\" width=\"60\" height=\"80\"/>\
-    <text x=\"1960\" y=\"670\">the task acts at this tick</text>\n";
-
-/// For each task the last tick at which it is drawn that it acts: none so far.
-fn no_ticks(alloc: Global, tasks: usize) -> Result<Vec<u64>, AllocError> {
-    let mut ticks = Vec::new(alloc);
-    for _ in 0..tasks {
-        ticks.push(u64::MAX)?;
-    }
-    Ok(ticks)
+/// A task acts at a tick.
+#[derive(Clone, Copy, Debug, PartialEq, Eq)]
+pub struct Act {
+    pub tick: u64,
+    pub task: TaskNo,
 }
 
-/// Whether this is the first act of the task at the tick, which is kept.
-fn is_first(ticks: &mut Vec<u64>, task: u32, now: u64) -> bool {
-    let i = task as usize;
-    if i >= ticks.len() || ticks[i] == now {
-        return false;
-    }
-    ticks[i] = now;
-    true
-}
-
-/// Appends the sign of a task that acts at a tick.
-fn push_act(
-    text: &mut Vec<u8>,
-    plan: &Plan,
-    scale: Scale,
-    task: TaskNo,
-    now: u64,
-) -> Result<(), AllocError>
-    requires task { task.0 < length plan.now.graph.tasks }
-    requires now { now < 2 ^ 33 + 2 ^ 32 }
-    requires span { 0 < scale.span }
+/// Whether a number is in a list.
+pub(crate) fn is_in(list: &[u32], number: u32) -> bool
+    ensures { result ≡ is_in list.now number }
 {
-    let x = x_of(scale, now);
-    let width = x_of(scale, now + 1).saturating_sub(x);
-    push_attribute(text, "<rect class=\"s t", colour_of(task.0))?;
-    push_attribute(text, "\" x=\"", x)?;
-    push_attribute(text, "\" y=\"", row_of(task.0) + 310)?;
-    push_attribute(text, "\" width=\"", width.max(20))?;
-    push(text, "\" height=\"80\"><title>")?;
-    text.extend_from_slice(task_of(plan, task).name.bytes())?;
-    push_attribute(text, " acts at tick ", now)?;
-    push(text, "</title></rect>\n")
+    match list {
+        [] => false,
+        [first, rest @ ..] => *first == number || is_in(rest, number),
+    }
 }
 
-/// Appends the sign of a task that acts at a tick, where the tick is drawn and the sign is not there yet.
-fn push_once(
-    text: &mut Vec<u8>,
-    plan: &Plan,
-    scale: Scale,
-    ticks: &mut Vec<u64>,
+/// Adds that a task acts at a tick, where it is not one of those that have acted there.
+fn note(
+    acts: &mut Vec<Act>,
+    acted: &mut Vec<u32>,
+    tick: u64,
     task: TaskNo,
-    now: u64,
 ) -> Result<(), AllocError>
-    requires from { scale.from < 2 ^ 32 }
-    requires span { (0 < scale.span) × (scale.span < 2 ^ 33) }
+    ensures acts { OnOk result (acts.new.items ≡ acts.old.items ++ new_acts acted.old.items tick task) }
+    ensures acted { OnOk result (acted.new.items ≡ also_acted acted.old.items task.0) }
 {
-    if now < scale.from || now >= scale.from + scale.span {
+    if is_in(acted, task.0) {
         return Ok(());
     }
-    if task.0 as usize >= plan.graph().tasks.len() {
-        return Ok(());
-    }
-    if is_first(ticks, task.0, now) {
-        push_act(text, plan, scale, task, now)
-    } else {
-        Ok(())
-    }
+    acts.push(Act { tick, task })?;
+    acted.push(task.0)?;
+    Ok(())
 }
 
-/// Appends the signs of the acts of a schedule that fall into the ticks that are drawn, one for each task and tick.
-pub(crate) fn push_acts(
-    alloc: Global,
-    text: &mut Vec<u8>,
-    plan: &Plan,
-    scale: Scale,
-    events: &[Event],
-) -> Result<(), AllocError>
-    requires from { scale.from < 2 ^ 32 }
-    requires span { (0 < scale.span) × (scale.span < 2 ^ 33) }
+/// The tasks that act, tick by tick, each once a tick, in the order of their first acts there.
+pub fn acts_of(alloc: Global, events: &[Event]) -> Result<Vec<Act>, AllocError>
+    ensures { IfOk result (λ acts. acts.items ≡ acts_of events.now) }
 {
-    let mut ticks = no_ticks(alloc, plan.graph().tasks.len())?;
+    let mut acts = Vec::new(alloc);
+    let mut acted: Vec<u32> = Vec::new(alloc);
     let mut now: u64 = 0;
     for event in events {
         match event {
-            Event::Tick => now = now.saturating_add(1),
-            Event::Act(task) => push_once(text, plan, scale, &mut ticks, *task, now)?,
+            Event::Tick => {
+                now += 1;
+                acted.clear();
+            }
+            Event::Act(task) => note(&mut acts, &mut acted, now, *task)?,
         }
     }
-    if now > 0 {
-        push(text, LEGEND)?;
-    }
-    Ok(())
+    Ok(acts)
 }

@@ -1,19 +1,29 @@
-//! Pictures of plans: the jobs of a range of ticks, where a scale puts their dates, with a schedule
-//! or with the run of one processor, drawn as SVG. It stands on `prl_plan`, `prl_plantext`,
-//! `prl_schedules`, `prl_edf`, `prl_drawing`, `prl_io` and `prl_companions`.
+//! Pictures of plans: the jobs of a range of ticks, where a scale puts their dates, with a schedule,
+//! with the run of one processor, or with a run on several, drawn as SVG. It stands on `prl_plan`,
+//! `prl_plantext`, `prl_schedules`, `prl_edf`, `prl_cores`, `prl_drawing`, `prl_io` and
+//! `prl_companions`.
 #![tactic(auto)]
 
 mod acts;
 mod arrows;
+mod asked;
 mod details;
+mod faults;
 mod heads;
 mod look_ups;
+mod parts;
 mod pictures;
+mod processors;
 mod ranges;
 mod shapes;
 mod shown;
+mod signs;
 mod verdicts;
+mod words;
 
+pub use acts::{Act, acts_of};
+pub use faults::Fault;
+pub use parts::Part;
 pub use pictures::{draw, picture_of};
 pub use shapes::shapes_of;
 pub use shown::Shown;

@@ -5,8 +5,12 @@ ghost use Rattle.prl_plan.specs.Graphs.{IsEdge, IsTask};
 ghost use Rattle.prl_plan.specs.Jobs.{job_count, task_at};
 ghost use Rattle.prl_plan.specs.Operands.{operand_of};
 ghost use Rattle.prl_plan.specs.Plans.{deadline_at, edge_at, release_at};
+ghost use Rattle.prl_cores.specs.Spreads.{IsSpreadOf, LeavesRoom};
+ghost use Rattle.prl_picture.specs.Shown.{IsOfPlan, placed_release, released_at};
 
+use crate::shown::Shown;
 use prl_base::{EdgeNo, TaskNo};
+use prl_cores::Spread;
 use prl_plan::{Edge, Operand, Plan, Task, horizon_jobs_are_counted, look_ups_fit, plan_is_one};
 
 /// A task of the plan.
@@ -54,6 +58,38 @@ pub(crate) fn release_of(plan: &Plan, i: TaskNo, n: u64, until: u64) -> u64
     horizon_jobs_are_counted();
     let _task = task_of(plan, i);
     plan.release(i, n)
+}
+
+/// When a job is released, in ticks: as the plan has it, or as it is spread over processors.
+pub(crate) fn released(plan: &Plan, shown: &Shown, i: TaskNo, n: u64, until: u64) -> u64
+    requires task { i.0 < length plan.now.graph.tasks }
+    requires until { until < 2 ^ 32 }
+    requires job { n < job_count (task_at plan.now.graph i.0) until }
+    requires shown { IsOfPlan plan.now shown.now }
+    ensures exact { result ≡ released_at plan.now shown.now i.0 n }
+    ensures early { result < 2 ^ 33 }
+{
+    match shown {
+        Shown::Cores(spread, _) => spread_release_of(plan, spread, i, n, until),
+        Shown::Events(_) => release_of(plan, i, n, until),
+        Shown::Verdict(..) => release_of(plan, i, n, until),
+    }
+}
+
+/// When a job is released on its processor, in ticks.
+fn spread_release_of(plan: &Plan, spread: &Spread, i: TaskNo, n: u64, until: u64) -> u64
+    requires task { i.0 < length plan.now.graph.tasks }
+    requires until { until < 2 ^ 32 }
+    requires job { n < job_count (task_at plan.now.graph i.0) until }
+    requires spread { IsSpreadOf plan.now spread.now × LeavesRoom plan.now spread.now.placement }
+    ensures exact { result ≡ placed_release plan.now spread.now.placement i.0 n }
+    ensures early { result < 2 ^ 33 }
+{
+    plan_is_one(plan);
+    look_ups_fit();
+    horizon_jobs_are_counted();
+    let _task = task_of(plan, i);
+    spread.placed().release(plan, i, n)
 }
 
 /// The encoded deadline of a job, in ticks.

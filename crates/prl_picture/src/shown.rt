@@ -1,12 +1,18 @@
-//! What is drawn beside the windows: what a schedule does, or the run of one processor.
+//! What is drawn beside the windows: what a schedule does, the run of one processor, or a run on
+//! several processors.
 
 ghost use Rattle.std.specs.Prelude.{◌≡◌, ◌≤◌, ◌<◌, ◌^◌, ◌++◌, IfOk, OnOk, length};
 ghost use Rattle.std.specs.List.{flat_map};
 ghost use Rattle.prl_edf.specs.Pieces.{AreLongest};
-ghost use Rattle.prl_picture.specs.Shown.{IsOfPlan, piece_text, pieces_text};
+ghost use Rattle.prl_plan.specs.declared.limits.TheConstants.{MAX_TASKS};
+ghost use Rattle.prl_picture.specs.Shown.{ArePieces, IsOfPlan, IsPartsText, piece_text};
 
-use crate::acts::push_acts;
+use crate::acts::acts_of;
+use crate::parts::{part_texts, parts_of, used_of};
+use crate::processors::{push_labels, push_rows};
+use crate::signs::push_signs;
 use crate::verdicts::{push_all_counted, push_load, push_overload, push_piece};
+use prl_cores::Spread;
 use prl_drawing::{Scale, Shape};
 use prl_edf::{Piece, Verdict};
 use prl_plan::{Event, Horizon, Plan, plan_is_one};
@@ -19,40 +25,65 @@ pub enum Shown {
     Events(Vec<Event>),
     /// What the analysis has found of the jobs of a horizon, for one processor.
     Verdict(Horizon, Verdict),
+    /// The tasks on several processors, and what a run does there.
+    Cores(Spread, Vec<Event>),
 }
 
 /// How many tasks there are.
 fn tasks_of(plan: &Plan) -> u32
-    ensures { result ≡ length plan.now.graph.tasks }
+    ensures exact { result ≡ length plan.now.graph.tasks }
+    ensures few { result ≤ MAX_TASKS }
 {
     plan_is_one(plan);
     plan.graph().tasks.len() as u32
 }
 
-/// How many rows are drawn: one for each task, and one for the processor where that is shown.
-pub(crate) fn rows_of(plan: &Plan, shown: &Shown) -> u32 {
+/// How many rows are drawn: one for each task, and one for each processor where these are shown.
+pub(crate) fn rows_of(alloc: Global, plan: &Plan, shown: &Shown) -> Result<u32, AllocError> {
     let tasks = tasks_of(plan);
     match shown {
-        Shown::Events(_) => tasks,
-        Shown::Verdict(..) => tasks.saturating_add(1),
+        Shown::Events(_) => Ok(tasks),
+        Shown::Verdict(..) => Ok(tasks.saturating_add(1)),
+        Shown::Cores(spread, _) => {
+            let used = used_of(alloc, spread.processors())?;
+            Ok(tasks.saturating_add(used.len() as u32))
+        }
     }
 }
 
-/// Appends pieces, each once.
-fn push_pieces(
-    text: &mut Vec<u8>,
+/// The pieces of a run of one processor, each once.
+fn run_pieces(
+    alloc: Global,
     scale: Scale,
     row: u32,
     pieces: &[Piece],
-) -> Result<(), AllocError>
+) -> Result<Vec<u8>, AllocError>
     requires from { scale.from < 2 ^ 32 }
     requires span { (0 < scale.span) × (scale.span < 2 ^ 33) }
-    ensures { OnOk result (text.new.items ≡ text.old.items ++ flat_map (piece_text scale row) pieces.now) }
+    ensures { IfOk result (λ text. text.items ≡ flat_map (piece_text scale row) pieces.now) }
 {
+    let mut text = Vec::new(alloc);
     for piece in pieces {
-        push_piece(text, scale, row, piece)?;
+        push_piece(&mut text, scale, row, piece)?;
     }
-    Ok(())
+    Ok(text)
+}
+
+/// The parts of ticks in which tasks act in a run, each once, in the rows of their processors.
+fn run_parts(
+    alloc: Global,
+    plan: &Plan,
+    scale: Scale,
+    spread: &Spread,
+    events: &[Event],
+) -> Result<Vec<u8>, AllocError>
+    requires from { scale.from < 2 ^ 32 }
+    requires span { (0 < scale.span) × (scale.span < 2 ^ 33) }
+    ensures { IfOk result (λ text. IsPartsText plan.now scale spread.now events.now text.items) }
+{
+    let acts = acts_of(alloc, events)?;
+    let parts = parts_of(alloc, scale, spread.processors(), &acts)?;
+    part_texts(alloc, tasks_of(plan), spread.processors(), &parts)
 }
 
 /// The pieces of the run, each once, where there is one.
@@ -64,17 +95,58 @@ pub(crate) fn pieces(
 ) -> Result<Vec<u8>, AllocError>
     requires from { scale.from < 2 ^ 32 }
     requires span { (0 < scale.span) × (scale.span < 2 ^ 33) }
-    ensures { IfOk result (λ text. text.items ≡ pieces_text plan.now scale shown.now) }
+    ensures { IfOk result (λ text. ArePieces plan.now scale shown.now text.items) }
 {
-    let mut text = Vec::new(alloc);
-    if let Shown::Verdict(_, Verdict::Run(timed)) = shown {
-        push_pieces(&mut text, scale, tasks_of(plan), timed.pieces.as_slice())?;
+    match shown {
+        Shown::Events(_) => Ok(Vec::new(alloc)),
+        Shown::Verdict(_, Verdict::Overload { .. }) => Ok(Vec::new(alloc)),
+        Shown::Verdict(_, Verdict::Run(timed)) => {
+            run_pieces(alloc, scale, tasks_of(plan), timed.pieces.as_slice())
+        }
+        Shown::Cores(spread, events) => run_parts(alloc, plan, scale, spread, events),
     }
-    Ok(text)
+}
+
+/// Appends what a run on processors does: signs below the windows of the tasks, and what the rows of
+/// the processors say.
+fn push_run(
+    alloc: Global,
+    text: &mut Vec<u8>,
+    plan: &Plan,
+    scale: Scale,
+    spread: &Spread,
+    events: &[Event],
+) -> Result<(), AllocError>
+    requires from { scale.from < 2 ^ 32 }
+    requires span { (0 < scale.span) × (scale.span < 2 ^ 33) }
+{
+    let acts = acts_of(alloc, events)?;
+    push_signs(text, plan, scale, &acts)?;
+    let processors = spread.processors();
+    let used = used_of(alloc, processors)?;
+    let parts = parts_of(alloc, scale, processors, &acts)?;
+    let tasks = tasks_of(plan);
+    push_rows(text, tasks, processors, &used)?;
+    push_labels(text, plan, tasks, processors, &used, &parts)
+}
+
+/// Appends the signs of what a schedule does.
+fn push_events(
+    alloc: Global,
+    text: &mut Vec<u8>,
+    plan: &Plan,
+    scale: Scale,
+    events: &[Event],
+) -> Result<(), AllocError>
+    requires from { scale.from < 2 ^ 32 }
+    requires span { (0 < scale.span) × (scale.span < 2 ^ 33) }
+{
+    let acts = acts_of(alloc, events)?;
+    push_signs(text, plan, scale, &acts)
 }
 
 /// Appends what a schedule does; or the load of the processor; or the mark of an overloaded interval
-/// with frames round the windows inside it.
+/// with frames round the windows inside it; or what a run on processors does.
 pub(crate) fn push_shown(
     alloc: Global,
     text: &mut Vec<u8>,
@@ -89,7 +161,7 @@ pub(crate) fn push_shown(
 {
     let row = tasks_of(plan);
     match shown {
-        Shown::Events(events) => push_acts(alloc, text, plan, scale, events),
+        Shown::Events(events) => push_events(alloc, text, plan, scale, events),
         Shown::Verdict(horizon, Verdict::Run(timed)) => {
             push_load(text, row, timed.ticks(), horizon.end)
         }
@@ -97,5 +169,6 @@ pub(crate) fn push_shown(
             push_overload(text, scale, row, *from, *to, *demand)?;
             push_all_counted(text, shapes, *from, *to)
         }
+        Shown::Cores(spread, events) => push_run(alloc, text, plan, scale, spread, events),
     }
 }

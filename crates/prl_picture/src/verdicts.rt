@@ -61,7 +61,7 @@ pub(crate) fn push_load(
 ) -> Result<(), AllocError> {
     push(text, RUN_LEGEND)?;
     push_processor(text, row)?;
-    push_attribute(text, "load ", busy.saturating_mul(100) / end.max(1))?;
+    push_attribute(text, ": load ", busy.saturating_mul(100) / end.max(1))?;
     push_attribute(
         text,
         " %</text><text class=\"k\" x=\"100\" y=\"",
@@ -81,7 +81,7 @@ fn push_demand(
     demand: u64,
 ) -> Result<(), AllocError> {
     push_processor(text, row)?;
-    push(text, "overload")?;
+    push(text, ": overload")?;
     push_attribute(
         text,
         "</text><text class=\"k\" x=\"100\" y=\"",
