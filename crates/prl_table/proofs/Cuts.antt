@@ -1,19 +1,20 @@
 -- The entries that are cut out of a run, tick by tick.
-use Rattle.std.proofs.Common.{◌≡◌, ◌≢◌, ◌==◌, ◌+◌, ◌*◌, ◌/◌, ◌%◌, ◌<◌, ◌≤◌, ◌++◌, ◌&&◌, ◌⊎◌, ℕ, zero, suc, Bool, true, false, cond, List, [], ◌∷◌, Option, Some, None, length, inl, inr, refl, sym, ◌∙◌, ap, subst, arith}
+use Rattle.std.proofs.Common.{◌≡◌, ◌≢◌, ◌==◌, ◌+◌, ◌*◌, ◌/◌, ◌%◌, ◌<◌, ◌≤◌, ◌++◌, ◌&&◌, ◌⊎◌, ℕ, zero, suc, Bool, true, false, cond, List, [], ◌∷◌, Option, Some}
+use Rattle.std.proofs.Common.{None, length, inl, inr, refl, sym, ◌∙◌, ap, subst, arith}
 use Rattle.std.specs.Prelude.{slice_get}
 use Rattle.std.proofs.Math.Nat.{mul-le-mul_right}
 use Rattle.std.proofs.lemmas.Bool.{cases_eq, cases_lt}
 use Rattle.std.proofs.lemmas.Bool.Decides.{nat_tests}
 use Rattle.prl_plan.specs.Horizons.{sum_below}
 use Rattle.prl_plan.specs.Plans.{PlanView, IsPlan, release_at}
-use Rattle.prl_table.specs.declared.tables.Entry.{Entry}
+use Rattle.prl_tables.specs.declared.tables.Entry.{Entry}
 use Rattle.prl_table.specs.Made.{cut_to, goes, is_job, is_same, last_of, lengthened, longer, unit_at, units_in, with_tick, IsCut, IsCutFrom, IsRun}
-use Rattle.prl_table.specs.Tables.{classes, is_of, units_of}
+use Rattle.prl_tables.specs.Tables.{classes, is_of, units_of}
 use Rattle.prl_table.specs.code.Ticks.{HaveAtMost}
 use Rattle.prl_table.proofs.MadeTables.{sum_none, sum_one}
-use Rattle.prl_table.proofs.Ordering.{one_division}
-use Rattle.prl_table.proofs.OrderLaws.{release_later}
-use Rattle.prl_table.proofs.Shifts.{some_classes, split}
+use Rattle.prl_tables.proofs.Ordering.{one_division}
+use Rattle.prl_tables.proofs.OrderLaws.{release_later}
+use Rattle.prl_tables.proofs.Shifts.{some_classes, split}
 
 -- an element of a list with one more at its end
 at_end : (xs : List Entry) (y e : Entry) (k : ℕ) → slice_get (xs ++ y ∷ []) k ≡ Some e → ((k < length xs) × (slice_get xs k ≡ Some e)) ⊎ ((k ≡ length xs) × (y ≡ e))
@@ -49,7 +50,9 @@ sum_add f g (suc n) = (let rest = sum_add f g n in omega (arith, rest))
 
 few_lengthened : (most : ℕ) (xs : List Entry) → HaveAtMost most xs → HaveAtMost (most + 1) (lengthened xs)
 few_lengthened most [] few k entry at = cc
-few_lengthened most (x ∷ []) few zero entry at = (let same : longer x ≡ entry = (let s : Some (longer x) ≡ Some entry = at in cc s) in let u = ap (λ (e : Entry). e.units) same in let f = few zero x refl in omega (arith, u, f))
+few_lengthened most (x ∷ []) few zero entry at =
+    (let same : longer x ≡ entry = (let s : Some (longer x) ≡ Some entry = at in cc s) in
+    let u = ap (λ (e : Entry). e.units) same in let f = few zero x refl in omega (arith, u, f))
 few_lengthened most (x ∷ []) few (suc k) entry at = cc
 few_lengthened most (x ∷ y ∷ xs) few zero entry at = (let f = few zero entry at in omega (arith, f))
 few_lengthened most (x ∷ y ∷ xs) few (suc k) entry at = few_lengthened most (y ∷ xs) (λ j e is. few (suc j) e is) k entry at
@@ -161,8 +164,10 @@ module _ (plan : PlanView) (is : IsPlan plan) (until : ℕ) (run : ℕ → Optio
                     (let only = sum_one (λ h. cond (is_job (Some job) i (c + h * classes plan.graph i)) 1 0) bound (job.1 / classes plan.graph i) (omega (arith, quotient, few))
                     (λ h h_in differs. off (is_job (Some job) i (c + h * classes plan.graph i)) (no_job job.0 job.1 i (c + h * classes plan.graph i)
                     (λ e. differs (let d = one_division job.1 c h (classes plan.graph i) some c_in e in sym d.1)))) in
-                    let whole : c + job.1 / classes plan.graph i * classes plan.graph i ≡ job.1 = (let s : job.1 ≡ job.1 % classes plan.graph i + job.1 / classes plan.graph i * classes plan.graph i = omega arith in omega (arith, s, here)) in
-                    only ∙ on (is_job (Some job) i (c + job.1 / classes plan.graph i * classes plan.graph i)) (its_job job.0 job.1 i (c + job.1 / classes plan.graph i * classes plan.graph i) same (sym whole))
+                    let whole : c + job.1 / classes plan.graph i * classes plan.graph i ≡ job.1 =
+                    (let s : job.1 ≡ job.1 % classes plan.graph i + job.1 / classes plan.graph i * classes plan.graph i = omega arith in omega (arith, s, here)) in
+                    only ∙ on (is_job (Some job) i (c + job.1 / classes plan.graph i * classes plan.graph i))
+                    (its_job job.0 job.1 i (c + job.1 / classes plan.graph i * classes plan.graph i) same (sym whole))
                     ∙ sym (on (its_class i c) (its_job job.0 (job.1 % classes plan.graph job.0) i c same (rest ∙ here))))
                 | inr other ↦
                     (sum_none (λ h. cond (is_job (Some job) i (c + h * classes plan.graph i)) 1 0) bound
@@ -373,7 +378,9 @@ module _ (plan : PlanView) (is : IsPlan plan) (until : ℕ) (run : ℕ → Optio
 
   same_is : (o : Option (ℕ × ℕ)) (job : ℕ × ℕ) → is_same o job ≡ true → o ≡ Some job
   same_is None job e = cc
-  same_is (Some last) job e = ap Some (ap (λ (x : ℕ). (x, last.1)) (let a : last.0 ≡ job.0 = grind (arith, nat_tests) in a) ∙ ap (λ (x : ℕ). (job.0, x)) (let b : last.1 ≡ job.1 = grind (arith, nat_tests) in b))
+  same_is (Some last) job e =
+      ap Some (ap (λ (x : ℕ). (x, last.1)) (let a : last.0 ≡ job.0 = grind (arith, nat_tests) in a)
+      ∙ ap (λ (x : ℕ). (job.0, x)) (let b : last.1 ≡ job.1 = grind (arith, nat_tests) in b))
 
   one_tick : (n : ℕ) → n < plan.graph.hyper → (entries : List Entry) → Upto n entries → (this : Option (ℕ × ℕ)) → run (start + n) ≡ this →
       Upto (suc n) (with_tick plan entries (start + n) (last_of run start n) this)

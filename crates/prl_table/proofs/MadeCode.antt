@@ -1,5 +1,6 @@
 -- Facts on which the making of a table rests.
-use Rattle.std.proofs.Common.{◌≡◌, ◌+◌, ◌*◌, ◌/◌, ◌%◌, ◌<◌, ◌≤◌, ◌^◌, ◌&&◌, ℕ, suc, Bool, true, false, List, [], ◌∷◌, Option, Some, None, length, get_or, nat_le, nat_lt, inl, inr, refl, sym, ◌∙◌, ap, arith}
+use Rattle.std.proofs.Common.{◌≡◌, ◌+◌, ◌*◌, ◌/◌, ◌%◌, ◌<◌, ◌≤◌, ◌^◌, ◌&&◌, ℕ, suc, Bool, true, false, List, [], ◌∷◌, Option, Some, None, length, get_or}
+use Rattle.std.proofs.Common.{nat_le, nat_lt, inl, inr, refl, sym, ◌∙◌, ap, arith}
 use Rattle.std.specs.Prelude.{IfSome, max, min, slice_get}
 use Rattle.std.proofs.Math.Nat.{mul-le-mul_left}
 use Rattle.std.proofs.lemmas.Bool.{cases_lt}
@@ -15,12 +16,12 @@ use Rattle.prl_plan.specs.Horizons.{constants_of}
 use Rattle.prl_plan.specs.Plans.{release_at}
 use Rattle.prl_edf.specs.EdfRuns.{IsEdfRun}
 use Rattle.prl_edf.specs.UnitLists.{wcets_of}
-use Rattle.prl_table.specs.declared.tables.Entry.{Entry}
-use Rattle.prl_table.specs.TableTexts.{comes_after, AreOrdered}
-use Rattle.prl_table.proofs.OrderLaws.{release_later}
-use Rattle.prl_table.proofs.Shifts.{split}
+use Rattle.prl_tables.specs.declared.tables.Entry.{Entry}
+use Rattle.prl_tables.specs.TableTexts.{comes_after, AreOrdered}
+use Rattle.prl_tables.proofs.OrderLaws.{release_later}
+use Rattle.prl_tables.proofs.Shifts.{split}
 use Rattle.prl_table.specs.Made.{greatest_start}
-use Rattle.prl_table.specs.Tables.{classes, IsGood}
+use Rattle.prl_tables.specs.Tables.{classes, IsGood}
 use Rattle.prl_table.specs.code.Ticks.{AreOfPlan, HasTicks}
 
 small_starts : (tasks : List Task) → ((i : ℕ) (task : Task) → slice_get tasks i ≡ Some task → task.clock.start < 2 ^ 31) → greatest_start tasks < 2 ^ 31

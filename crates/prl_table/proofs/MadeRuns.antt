@@ -15,7 +15,7 @@ use Rattle.prl_edf.specs.EdfRuns.{IsEdfRun}
 use Rattle.prl_edf.specs.MetWindows.{MeetsAllWindows}
 use Rattle.prl_edf.specs.UnitLists.{wcets_of}
 use Rattle.prl_table.specs.Made.{goes, greatest_start, is_job, later, units_in, IsTimed, IsEdf, IsSteady}
-use Rattle.prl_table.specs.Tables.{classes}
+use Rattle.prl_tables.specs.Tables.{classes}
 
 pub is_that : (o : Option (ℕ × ℕ)) (i m : ℕ) → is_job o i m ≡ true → o ≡ Some (i, m)
 is_that None i m e = cc

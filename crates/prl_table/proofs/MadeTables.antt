@@ -14,11 +14,11 @@ use Rattle.prl_plan.specs.Precedence.{preceding, ComesFrom, Precedes}
 use Rattle.prl_plan.proofs.DatePeriods.{jobs_are, least_repeat, greatest_repeat}
 use Rattle.prl_plan.proofs.Periods.{plus_mul}
 use Rattle.prl_plan.proofs.RoundPeriods.{task_is}
-use Rattle.prl_table.specs.declared.tables.Entry.{Entry}
+use Rattle.prl_tables.specs.declared.tables.Entry.{Entry}
 use Rattle.prl_table.specs.Made.{Run, units_in, IsRun, IsSteady, IsCutFrom, IsCut}
-use Rattle.prl_table.specs.Tables.{classes, Overlap, IsGood}
+use Rattle.prl_tables.specs.Tables.{classes, Overlap, IsGood}
 use Rattle.prl_table.proofs.Units.{units_none, units_join, units_same}
-use Rattle.prl_table.proofs.Shifts.{shifted, preceding_shifted, some_classes}
+use Rattle.prl_tables.proofs.Shifts.{shifted, preceding_shifted, some_classes}
 
 -- a multiple that lies lower by one
 times : (hyper s t : ℕ) → s < t → s * hyper + hyper ≤ t * hyper
@@ -100,7 +100,8 @@ module _ (plan : PlanView) (is : IsPlan plan) (until : ℕ) (run : Run) (is_run 
         let f : (b + x.0) * plan.graph.hyper ≡ b * plan.graph.hyper + x.0 * plan.graph.hyper = omega arith in
         let same : k ≡ l =
         elim (cases_lt (one.at + x.0 * plan.graph.hyper) (other.at + y.0 * plan.graph.hyper)) [
-          | inl earlier ↦ cut.once k l one other x.0 y.0 (other.at + y.0 * plan.graph.hyper) at_k at_l (omega (arith, earlier)) (omega (arith, ends, by, e, f)) x.1 (omega arith) (omega (arith, other_units)) y.1
+          | inl earlier ↦
+              cut.once k l one other x.0 y.0 (other.at + y.0 * plan.graph.hyper) at_k at_l (omega (arith, earlier)) (omega (arith, ends, by, e, f)) x.1 (omega arith) (omega (arith, other_units)) y.1
           | inr later ↦ cut.once k l one other x.0 y.0 (one.at + x.0 * plan.graph.hyper) at_k at_l (omega arith) (omega (arith, one_units)) x.1 later (omega (arith, starts, by, e, f)) y.1
         ] in
         (same, self_apart same)
@@ -218,7 +219,8 @@ module _ (plan : PlanView) (is : IsPlan plan) (until : ℕ) (run : Run) (is_run 
             let u = p.units in
             let r : run (other.at + (cut.piece l other at_l).0 * plan.graph.hyper) other.task.0 (other.job + (cut.piece l other at_l).0 * classes plan.graph other.task.0) ≡ true =
             p.runs (other.at + (cut.piece l other at_l).0 * plan.graph.hyper) (omega arith) (omega (arith, u)) in
-            subst (λ (v : ℕ). run (other.at + (cut.piece l other at_l).0 * plan.graph.hyper) (edge_at plan.graph e).to.0 (v + (cut.piece l other at_l).0 * classes plan.graph (edge_at plan.graph e).to.0) ≡ true) other_is.1
+            subst (λ (v : ℕ). run (other.at + (cut.piece l other at_l).0 * plan.graph.hyper) (edge_at plan.graph e).to.0
+            (v + (cut.piece l other at_l).0 * classes plan.graph (edge_at plan.graph e).to.0) ≡ true) other_is.1
             (subst (λ (v : ℕ). run (other.at + (cut.piece l other at_l).0 * plan.graph.hyper) v (other.job + (cut.piece l other at_l).0 * classes plan.graph v) ≡ true) other_is.0 r))
 
         go : (w : ℤ) → ((z +ℤ pos (cut.piece l other at_l).0) -ℤ pos (cut.piece k one at_k).0) ≡ w → (pos (one.at + one.units) +ℤ (z *ℤ pos plan.graph.hyper)) ≤ℤ pos other.at
@@ -345,7 +347,8 @@ module _ (plan : PlanView) (is : IsPlan plan) (until : ℕ) (run : Run) (is_run 
       let same = units_same run start (start + plan.graph.hyper) plan.graph.hyper i (c + (turn i c inside c_in).before * classes plan.graph i)
       (c + ((turn i c inside c_in).before + 1) * classes plan.graph i) (λ u u_in.
       steady (start + u) i (c + (turn i c inside c_in).before * classes plan.graph i) (omega arith) (omega (arith, u_in)) inside
-      ∙ ap (λ (v : ℕ). run v i (c + (turn i c inside c_in).before * classes plan.graph i + classes plan.graph i)) (let e : start + u + plan.graph.hyper ≡ start + plan.graph.hyper + u = omega arith in e)
+      ∙ ap (λ (v : ℕ). run v i (c + (turn i c inside c_in).before * classes plan.graph i + classes plan.graph i))
+      (let e : start + u + plan.graph.hyper ≡ start + plan.graph.hyper + u = omega arith in e)
       ∙ ap (λ (v : ℕ). run (start + plan.graph.hyper + u) i v) job) in
       omega (arith, two, whole, join, same)
 

@@ -13,9 +13,9 @@ use Rattle.prl_edf.specs.UnitLists.{wcets_of}
 use Rattle.prl_edf.specs.Verdicts.{IsVerdict}
 use Rattle.prl_table.specs.declared.making.MakeFault.{MakeFault}
 use Rattle.prl_table.specs.declared.making.MakeFault.TheVariants as faults
-use Rattle.prl_table.specs.declared.tables.Entry.{Entry}
+use Rattle.prl_tables.specs.declared.tables.Entry.{Entry}
 use Rattle.prl_table.specs.Made.{cut_from, cut_to, later, run_until, IsSteadyRun}
-use Rattle.prl_table.specs.TableTexts.{AreOrdered}
+use Rattle.prl_tables.specs.TableTexts.{AreOrdered}
 
 -- what a tick goes to, as it is told
 abbrev pub job_in : Option (TaskNo × ℕ) → Option (ℕ × ℕ)

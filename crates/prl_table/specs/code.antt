@@ -1,6 +1,4 @@
--- what the entries of a class come to
-pub mod Sums
--- where entries stand in the hyperperiod
-pub mod Spots
 -- what the ticks of a run go to
 pub mod Ticks
+-- how one thread stands that does the list of a table
+pub mod Driving

@@ -1,75 +1,23 @@
-//! Laws of tables.
+//! Laws of tables that are cut out of runs.
 
-ghost use Rattle.std.specs.Prelude.{◌≡◌, ◌≢◌, ◌+◌, ◌*◌, ◌<◌, ◌≤◌, ◌^◌, ◌⊎◌, ℕ, All, List, None, Ok, Option, length};
+ghost use Rattle.std.specs.Prelude.{◌≡◌, ◌+◌, ◌*◌, ◌<◌, ◌≤◌, ℕ, List, Option, length};
+ghost use Rattle.std.specs.List.Sorted.{IsPermutation};
 ghost use Rattle.prl_plan.specs.declared.horizons.Horizon.{Horizon};
-ghost use Rattle.prl_plan.specs.Facts.{HasPlanFacts};
-ghost use Rattle.prl_plan.specs.Horizons.{IsHorizon, constants_of};
-ghost use Rattle.prl_plan.specs.Jobs.{task_at, IsHorizonJob};
+ghost use Rattle.prl_plan.specs.Horizons.{constants_of};
+ghost use Rattle.prl_plan.specs.Jobs.{IsHorizonJob};
 ghost use Rattle.prl_plan.specs.Plans.{PlanView, IsPlan, release_at};
-ghost use Rattle.prl_plan.specs.Rules.{IsComplete, IsGated};
-ghost use Rattle.prl_plan.specs.Runs.{RunConstants, opening, after_events};
-ghost use Rattle.prl_table.specs.declared.tables.Entry.{Entry as AnyEntry};
-ghost use Rattle.prl_edf.specs.Unrolled.{HaveOneEnd};
 ghost use Rattle.prl_edf.specs.EdfRuns.{IsEdfRun};
 ghost use Rattle.prl_edf.specs.MetWindows.{MeetsAllWindows};
 ghost use Rattle.prl_edf.specs.UnitLists.{wcets_of};
-ghost use Rattle.std.specs.List.Sorted.{IsPermutation};
+ghost use Rattle.prl_tables.specs.declared.tables.Entry.{Entry as AnyEntry};
+ghost use Rattle.prl_tables.specs.Tables.{classes, IsGood};
 ghost use Rattle.prl_table.specs.Made.{Run, cut_from, cut_to, run_until, IsRun, IsTimed, IsEdf, IsSteady, IsSteadyRun, IsCut};
-ghost use Rattle.prl_table.specs.Tables.{classes, end_of, last_unit, IsGood, IsPiece};
-ghost use Rattle.prl_table.specs.TableTexts.{entries_of, text_of, AreOrdered, FitsEntry};
-ghost use Rattle.prl_table.specs.Unrolled.{Placing, unrolled, IsPlacing};
 
-use prl_edf::actions_end_once;
-use prl_plan::{horizon_jobs_are_counted, look_ups_fit, plans_keep_facts};
+use prl_plan::horizon_jobs_are_counted;
 
-/// A placed list is gated and complete.
-pub fn placed_list_is_gated()
-    ensures gated { (c : RunConstants) → HasPlanFacts c → HaveOneEnd c → (at : Placing) → IsPlacing c at → IsGated c (opening c) (unrolled c at) }
-    ensures complete { (c : RunConstants) → HasPlanFacts c → HaveOneEnd c → (at : Placing) → IsPlacing c at →
-        IsComplete c (after_events c (opening c) (unrolled c at)) }
-{}
-
-/// The last units of a good table place the jobs of each horizon.
-pub fn good_table_is_placing()
-    ensures { (plan : PlanView) (horizon : Horizon) → IsPlan plan → IsHorizon plan horizon → (entries : List AnyEntry) → IsGood plan entries →
-        IsPlacing (constants_of plan horizon) (last_unit plan.graph entries) }
-{
-    plans_keep_facts();
-}
-
-/// The unrolled list of a good table is a gated and complete list over each horizon.
-pub fn unrolled_table_is_gated()
-    ensures gated { (plan : PlanView) (horizon : Horizon) → IsPlan plan → IsHorizon plan horizon → (entries : List AnyEntry) → IsGood plan entries →
-        IsGated (constants_of plan horizon) (opening (constants_of plan horizon)) (unrolled (constants_of plan horizon) (last_unit plan.graph entries)) }
-    ensures complete { (plan : PlanView) (horizon : Horizon) → IsPlan plan → IsHorizon plan horizon → (entries : List AnyEntry) → IsGood plan entries →
-        IsComplete (constants_of plan horizon)
-        (after_events (constants_of plan horizon) (opening (constants_of plan horizon)) (unrolled (constants_of plan horizon) (last_unit plan.graph entries))) }
-{
-    plans_keep_facts();
-    actions_end_once();
-    placed_list_is_gated();
-    good_table_is_placing();
-}
-
-/// A table's text is read back, where its entries are in order.
-pub fn table_texts_are_read_back()
-    ensures { (hyper : ℕ) (entries : List AnyEntry) → hyper < 2 ^ 64 → All FitsEntry entries → AreOrdered None entries →
-        entries_of hyper (text_of hyper entries) ≡ Ok entries }
-{}
-
-/// In order of place, four tests tell whether a stretch meets another one.
-pub fn four_tests_tell_clashes()
-    ensures seen { (hyper count : ℕ) (place end : ℕ → ℕ) → ((p q : ℕ) → p ≤ q → q < count → place p ≤ place q) →
-        ((p : ℕ) → p < count → (place p < end p) × (end p ≤ place p + hyper) × (place p < hyper)) →
-        (p q : ℕ) → p < count → q < count → q ≢ p →
-        (((place p < end q) × (place q < end p)) ⊎ ((place p + hyper < end q) ⊎ (place q + hyper < end p))) →
-        ((r : ℕ) × (r < p) × (place p < end r)) ⊎ (((p + 1 < count) × (place (p + 1) < end p))
-        ⊎ ((place 0 + hyper < end p) ⊎ ((r : ℕ) × (r < count) × (place p + hyper < end r)))) }
-    ensures other { (hyper count : ℕ) (place end : ℕ → ℕ) → ((p q : ℕ) → p ≤ q → q < count → place p ≤ place q) →
-        ((p : ℕ) → p < count → (place p < end p) × (end p ≤ place p + hyper) × (place p < hyper)) → (p : ℕ) → p < count →
-        (((r : ℕ) × (r < p) × (place p < end r)) ⊎ (((p + 1 < count) × (place (p + 1) < end p))
-        ⊎ ((place 0 + hyper < end p) ⊎ ((r : ℕ) × (r < count) × (place p + hyper < end r))))) →
-        (q : ℕ) × (q < count) × (q ≢ p) × (((place p < end q) × (place q < end p)) ⊎ ((place p + hyper < end q) ⊎ (place q + hyper < end p))) }
+/// A timed run by earliest deadlines that meets all windows is such a run.
+pub fn edf_run_is_run()
+    ensures { (plan : PlanView) (until : ℕ) (run : Run) → IsTimed plan until run → IsEdf plan until run → IsRun plan until run }
 {}
 
 /// The pieces of a steady run by earliest deadlines in one hyperperiod are a good table.
@@ -79,35 +27,6 @@ pub fn cut_of_steady_run_is_good()
         ((i m : ℕ) → i < length plan.graph.tasks → release_at plan i m < start + plan.graph.hyper → IsHorizonJob plan.graph until i m) →
         start + plan.graph.hyper ≤ bound * plan.graph.hyper →
         (entries : List AnyEntry) → IsCut plan run start bound entries → IsGood plan entries }
-{}
-
-/// A timed run by earliest deadlines that meets all windows is such a run.
-pub fn edf_run_is_run()
-    ensures { (plan : PlanView) (until : ℕ) (run : Run) → IsTimed plan until run → IsEdf plan until run → IsRun plan until run }
-{}
-
-/// Each task has a class, and a class is a job of the horizon up to 2^31 ticks after a hyperperiod.
-pub fn classes_are_early()
-    ensures period { (plan : PlanView) → IsPlan plan → (i : ℕ) → i < length plan.graph.tasks → 1 ≤ (task_at plan.graph i).clock.period }
-    ensures some { (plan : PlanView) → IsPlan plan → (i : ℕ) → i < length plan.graph.tasks → 1 ≤ classes plan.graph i }
-    ensures job { (plan : PlanView) → IsPlan plan → (i c : ℕ) → i < length plan.graph.tasks → c < classes plan.graph i →
-        IsHorizonJob plan.graph (2 ^ 31 + plan.graph.hyper) i c }
-    ensures small { (plan : PlanView) → IsPlan plan → 2 ^ 31 + plan.graph.hyper < 2 ^ 32 }
-{}
-
-/// A piece of a job ends before tick 2^33, and is no longer than a hyperperiod.
-pub fn pieces_are_short()
-    ensures end { (plan : PlanView) → IsPlan plan → (entry : AnyEntry) → IsPiece plan entry → entry.at + entry.units < 2 ^ 33 }
-    ensures length { (plan : PlanView) → IsPlan plan → (entry : AnyEntry) → IsPiece plan entry → entry.units ≤ plan.graph.hyper }
-{
-    classes_are_early();
-    look_ups_fit();
-}
-
-/// In a good table each class has units, and so an end.
-pub fn class_has_end()
-    ensures { (plan : PlanView) → IsPlan plan → (entries : List AnyEntry) → IsGood plan entries → (i c : ℕ) → i < length plan.graph.tasks →
-        c < classes plan.graph i → 1 ≤ end_of entries i c }
 {}
 
 /// What is cut out of a run by earliest deadline first that meets all windows, in a hyperperiod after

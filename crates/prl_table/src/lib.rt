@@ -1,26 +1,19 @@
-//! Static cyclic tables: which tables are good, the list of events that a good one stands for, and
-//! tables that are made of a run by earliest deadline first. It stands on plans and on feasibility.
+//! Static cyclic tables, made and driven: the table that is made of the plain run by earliest
+//! deadline first, and the run of a good table, in which one thread does its unrolled list on a board
+//! whose clock waits for what is due. It stands on feasibility, and on the executive's calls of one
+//! thread; what tables are it hands on from the crate below.
 #![tactic(auto)]
 
-mod checking;
-mod clashes;
+mod driving;
 mod laws;
 mod making;
-mod orders;
-mod pieces;
-mod printing;
-mod reading;
-mod sums;
-mod tables;
 mod ticks;
 
-pub use checking::{Checked, check_table};
-pub use laws::{
-    class_has_end, classes_are_early, cut_of_steady_run_is_good, edf_run_is_run,
-    four_tests_tell_clashes, good_table_is_placing, made_table_is_good, pieces_are_short,
-    placed_list_is_gated, table_texts_are_read_back, unrolled_table_is_gated,
-};
+pub use driving::drive;
+pub use laws::{cut_of_steady_run_is_good, edf_run_is_run, made_table_is_good};
 pub use making::{MakeFault, make};
-pub use printing::table_text;
-pub use reading::{TableFault, read_table};
-pub use tables::{Entry, Table};
+pub use prl_tables::{
+    Checked, Entry, Table, TableFault, check_table, class_has_end, classes, classes_are_early,
+    four_tests_tell_clashes, good_table_is_placing, pieces_are_short, placed_list_is_gated,
+    read_table, table_text, table_texts_are_read_back, unrolled_table_is_gated,
+};

@@ -8,16 +8,15 @@ ghost use Rattle.prl_edf.specs.Pieces.{run_of};
 ghost use Rattle.prl_table.specs.declared.making.MakeFault.TheVariants as faults;
 ghost use Rattle.prl_table.specs.Made.{cut_from, cut_to, greatest_start, is_same, later, lengthened, run_until, unit_at, with_tick, IsSteadyRun};
 ghost use Rattle.prl_table.specs.MakeFaults.{job_in, IsFirstUnsteady, IsLongRun, IsMade, IsMakeFault, IsUnsteadyAt};
-ghost use Rattle.prl_table.specs.Tables.{classes, IsGood};
+ghost use Rattle.prl_tables.specs.Tables.{classes, IsGood};
 ghost use Rattle.prl_table.specs.code.Ticks.{AreOfPlan, HasTicks, HaveAtMost};
 
-use crate::laws::{classes_are_early, made_table_is_good};
-use crate::pieces::classes;
-use crate::tables::{Entry, Table};
+use crate::laws::made_table_is_good;
 use crate::ticks::{Tick, ticks_of};
 use prl_base::{Limit, Seq, TaskNo};
 use prl_edf::{Timed, Verdict, analyse};
 use prl_plan::{Horizon, Plan, Task};
+use prl_tables::{Entry, Table, classes, classes_are_early};
 use std::alloc::{AllocError, Global};
 
 /// Why no table is made of a plan.

@@ -4,9 +4,9 @@ use Rattle.prl_base.specs.declared.numbers.TaskNo.{TaskNo}
 use Rattle.prl_plan.specs.Plans.{PlanView}
 use Rattle.prl_edf.specs.declared.pieces.Piece.{Piece}
 use Rattle.prl_edf.specs.Pieces.{lies_in}
-use Rattle.prl_table.specs.declared.tables.Entry.{Entry}
+use Rattle.prl_tables.specs.declared.tables.Entry.{Entry}
 use Rattle.prl_table.specs.MakeFaults.{job_in}
-use Rattle.prl_table.specs.Tables.{classes}
+use Rattle.prl_tables.specs.Tables.{classes}
 
 -- the list tells what each of its ticks goes to
 abbrev pub HasTicks : (ℕ → Option (ℕ × ℕ)) → List (Option (TaskNo × ℕ)) → Type 0

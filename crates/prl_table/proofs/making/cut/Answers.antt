@@ -2,7 +2,7 @@ use Rattle.std.proofs.Common.{◌≡◌, ◌+◌, ◌<◌, ℕ, suc, List, Optio
 use Rattle.std.proofs.lemmas.Option.{slice_get-get_or}
 use Rattle.prl_base.specs.declared.numbers.TaskNo.{TaskNo}
 use Rattle.prl_plan.specs.declared.graphs.TaskGraph.{TaskGraph}
-use Rattle.prl_table.specs.declared.tables.Entry.{Entry}
+use Rattle.prl_tables.specs.declared.tables.Entry.{Entry}
 use Rattle.prl_table.specs.Made.{cut_from, cut_to, last_of, with_tick}
 use Rattle.prl_table.specs.MakeFaults.{job_in}
 use Rattle.prl_table.specs.code.Ticks.{HaveAtMost}
@@ -27,14 +27,19 @@ loop-n-preserved c =
     record {
       entries = λ run has.
           c.in_ok-add_tick.ensures
-          ∙ ap (λ (es : List Entry). with_tick c.args.plan.now es (c.args.start + c.loop-n.n) (job_in c.loop-n.last) (job_in (get_or c.args.ticks.now (c.args.start + c.loop-n.n) no_tick))) (c.loop-n.invariant.entries run has)
-          ∙ ap (λ (s : ℕ). with_tick c.args.plan.now (cut_to c.args.plan.now run (cut_from c.args.plan.now) c.loop-n.n) (s + c.loop-n.n) (job_in c.loop-n.last) (job_in (get_or c.args.ticks.now (c.args.start + c.loop-n.n) no_tick))) c.requires.start
-          ∙ ap (λ (o : Option (ℕ × ℕ)). with_tick c.args.plan.now (cut_to c.args.plan.now run (cut_from c.args.plan.now) c.loop-n.n) (cut_from c.args.plan.now + c.loop-n.n) o (job_in (get_or c.args.ticks.now (c.args.start + c.loop-n.n) no_tick))) (c.loop-n.invariant.last run has)
-          ∙ ap (λ (o : Option (ℕ × ℕ)). with_tick c.args.plan.now (cut_to c.args.plan.now run (cut_from c.args.plan.now) c.loop-n.n) (cut_from c.args.plan.now + c.loop-n.n) (last_of run (cut_from c.args.plan.now) c.loop-n.n) o)
+          ∙ ap (λ (es : List Entry). with_tick c.args.plan.now es (c.args.start + c.loop-n.n) (job_in c.loop-n.last) (job_in (get_or c.args.ticks.now (c.args.start + c.loop-n.n) no_tick)))
+          (c.loop-n.invariant.entries run has)
+          ∙ ap (λ (s : ℕ). with_tick c.args.plan.now (cut_to c.args.plan.now run (cut_from c.args.plan.now) c.loop-n.n) (s + c.loop-n.n) (job_in c.loop-n.last)
+          (job_in (get_or c.args.ticks.now (c.args.start + c.loop-n.n) no_tick))) c.requires.start
+          ∙ ap (λ (o : Option (ℕ × ℕ)). with_tick c.args.plan.now (cut_to c.args.plan.now run (cut_from c.args.plan.now) c.loop-n.n) (cut_from c.args.plan.now + c.loop-n.n) o
+          (job_in (get_or c.args.ticks.now (c.args.start + c.loop-n.n) no_tick))) (c.loop-n.invariant.last run has)
+          ∙ ap (λ (o : Option (ℕ × ℕ)). with_tick c.args.plan.now (cut_to c.args.plan.now run (cut_from c.args.plan.now) c.loop-n.n) (cut_from c.args.plan.now + c.loop-n.n)
+          (last_of run (cut_from c.args.plan.now) c.loop-n.n) o)
           (has (c.args.start + c.loop-n.n) (get_or c.args.ticks.now (c.args.start + c.loop-n.n) no_tick) at ∙ ap (λ (s : ℕ). run (s + c.loop-n.n)) c.requires.start)
           ∙ ap (λ (n : ℕ). cut_to c.args.plan.now run (cut_from c.args.plan.now) n) one;
       few = subst (HaveAtMost (c.loop-n.n + 1)) (sym c.in_ok-add_tick.ensures)
-          (few_more c.args.plan.now c.loop-n.entries.items (c.args.start + c.loop-n.n) (job_in c.loop-n.last) (job_in (get_or c.args.ticks.now (c.args.start + c.loop-n.n) no_tick)) c.loop-n.n c.loop-n.invariant.few);
+          (few_more c.args.plan.now c.loop-n.entries.items (c.args.start + c.loop-n.n) (job_in c.loop-n.last) (job_in (get_or c.args.ticks.now (c.args.start + c.loop-n.n) no_tick)) c.loop-n.n
+          c.loop-n.invariant.few);
       last = λ run has.
           has (c.args.start + c.loop-n.n) (get_or c.args.ticks.now (c.args.start + c.loop-n.n) no_tick) at ∙ ap (λ (s : ℕ). run (s + c.loop-n.n)) c.requires.start
           ∙ ap (λ (n : ℕ). last_of run (cut_from c.args.plan.now) n) one;

@@ -11,7 +11,8 @@ overflow_add-result c =
     let few = c.graph-graph.ensures.plan.graph.few_ticks in
     let start = c.greatest_start.ensures ∙ ap greatest_start (c.as_slice.ensures ∙ ap (λ (g : TaskGraph). g.tasks) c.graph-graph.ensures.graph) in
     let early = starts_small c.args.plan.now c.graph-graph.ensures.plan in
-    let b = (cut_small c.greatest_start.result c.graph-graph.result.now.hyper c.div_ceil-before.result (omega (arith, hyper, some)) (omega (arith, hyper, few)) (omega (arith, start, early)) c.div_ceil-before.ensures).1 in
+    let b = (cut_small c.greatest_start.result c.graph-graph.result.now.hyper c.div_ceil-before.result (omega (arith, hyper, some)) (omega (arith, hyper, few)) (omega (arith, start, early))
+    c.div_ceil-before.ensures).1 in
     omega (arith, b))
 
 pub overflow_mul-result : goal.overflow_mul-result
@@ -21,7 +22,8 @@ overflow_mul-result c =
     let few = c.graph-graph.ensures.plan.graph.few_ticks in
     let start = c.greatest_start.ensures ∙ ap greatest_start (c.as_slice.ensures ∙ ap (λ (g : TaskGraph). g.tasks) c.graph-graph.ensures.graph) in
     let early = starts_small c.args.plan.now c.graph-graph.ensures.plan in
-    let b = (cut_small c.greatest_start.result c.graph-graph.result.now.hyper c.div_ceil-before.result (omega (arith, hyper, some)) (omega (arith, hyper, few)) (omega (arith, start, early)) c.div_ceil-before.ensures).0 in
+    let b = (cut_small c.greatest_start.result c.graph-graph.result.now.hyper c.div_ceil-before.result (omega (arith, hyper, some)) (omega (arith, hyper, few)) (omega (arith, start, early))
+    c.div_ceil-before.ensures).0 in
     omega (arith, b))
 
 pub returns-clause-small : goal.returns-clause-small
@@ -31,5 +33,6 @@ returns-clause-small c =
     let few = c.graph-graph.ensures.plan.graph.few_ticks in
     let start = c.greatest_start.ensures ∙ ap greatest_start (c.as_slice.ensures ∙ ap (λ (g : TaskGraph). g.tasks) c.graph-graph.ensures.graph) in
     let early = starts_small c.args.plan.now c.graph-graph.ensures.plan in
-    let b = (cut_small c.greatest_start.result c.graph-graph.result.now.hyper c.div_ceil-before.result (omega (arith, hyper, some)) (omega (arith, hyper, few)) (omega (arith, start, early)) c.div_ceil-before.ensures).0 in
+    let b = (cut_small c.greatest_start.result c.graph-graph.result.now.hyper c.div_ceil-before.result (omega (arith, hyper, some)) (omega (arith, hyper, few)) (omega (arith, start, early))
+    c.div_ceil-before.ensures).0 in
     omega (arith, b))

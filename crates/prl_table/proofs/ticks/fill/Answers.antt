@@ -26,7 +26,8 @@ loop-t-preserved c =
         | inl here ↦
             (let there = slice_get_set_same c.loop-t.ticks.items c.loop-t.t (Some (c.args.piece.task, c.args.piece.job)) inside in
             let is : Some (c.args.piece.task, c.args.piece.job) ≡ tick =
-            same_tick (Some (c.args.piece.task, c.args.piece.job)) tick (sym there ∙ ap (slice_get (set c.loop-t.ticks.items c.loop-t.t (Some (c.args.piece.task, c.args.piece.job)))) (sym here) ∙ at) in
+            same_tick (Some (c.args.piece.task, c.args.piece.job)) tick
+            (sym there ∙ ap (slice_get (set c.loop-t.ticks.items c.loop-t.t (Some (c.args.piece.task, c.args.piece.job)))) (sym here) ∙ at) in
             ap job_in (sym is) ∙ sym (ap (λ (b : Bool). cond b (Some (c.args.piece.task.0, c.args.piece.job)) (run u)) (yes_test c.args.piece.from u c.loop-t.t (omega (arith, low, here)) here)))
         | inr other ↦
             (let was = sym (slice_get_set_other c.loop-t.ticks.items c.loop-t.t u (Some (c.args.piece.task, c.args.piece.job)) other) ∙ at in

@@ -3,7 +3,7 @@ use Rattle.prl_base.specs.declared.numbers.TaskNo.{TaskNo}
 use Rattle.prl_edf.specs.Pieces.{run_of}
 use Rattle.prl_table.specs.MakeFaults.{job_in}
 use Rattle.prl_table.specs.code.Ticks.{HasTicks}
-use Rattle.prl_table.proofs.Listed.{pushed}
+use Rattle.prl_tables.proofs.Listed.{pushed}
 use Rattle.prl_table.proofs.ticks.no_ticks.Goals as goal
 
 abbrev no_tick : Option (TaskNo × ℕ)

@@ -1,2 +1,0 @@
--- what private functions say to one another
-pub mod code

@@ -1,8 +1,0 @@
-use Rattle.std.specs.Prelude.{OnOk}
-use Rattle.prl_plan.specs.declared.graphs.TaskGraph.{TaskGraph}
-use Rattle.prl_table.specs.Checks.{AreApart}
-use Rattle.std.proofs.Common.{subst}
-use Rattle.prl_table.proofs.clashes.check_clashes.Goals as goal
-
-pub returns-clause-apart : goal.returns-clause-apart
-returns-clause-apart c = subst (λ (g : TaskGraph). OnOk c.check_spots.result (AreApart g.hyper c.args.entries.now)) c.graph.ensures.graph c.check_spots.ensures.apart

@@ -1,5 +1,0 @@
-use Rattle.prl_table.proofs.OrderLaws.{class_end}
-use Rattle.prl_table.proofs.laws.class_has_end.Goals as goal
-
-pub returns : goal.returns
-returns _ = class_end

@@ -1,7 +1,0 @@
-use Rattle.std.specs.Prelude.{◌<◌, ℕ}
-use Rattle.prl_table.specs.Tables.{IsWhole}
-use Rattle.prl_table.proofs.sums.check_task.Given as goal
-
--- the classes so far are whole
-abbrev pub invariant-loop-c : goal.invariant-loop-c
-invariant-loop-c l = (d : ℕ) → d < l.c → IsWhole l.plan l.entries l.task.0 d

@@ -1,0 +1,38 @@
+-- How one thread stands that does the unrolled list of a table.
+use Rattle.std.specs.Prelude.{◌≡◌, ◌<◌, ℕ, List, Some, slice_get}
+use Rattle.prl_edf.specs.Unrolled.{HaveOneEnd}
+use Rattle.prl_plan.specs.declared.events.Event.{Event}
+use Rattle.prl_plan.specs.Facts.{IsJob}
+use Rattle.prl_rule.specs.declared.views.ClockPart.{ClockPart}
+use Rattle.prl_rule.specs.declared.views.Constants.{Constants}
+use Rattle.prl_rule.specs.Known.{run_of}
+use Rattle.prl_rule.specs.Rule.{reached}
+use Rattle.prl_seats.specs.JobSeats.{JobSeatView}
+use Rattle.prl_board.specs.Lones.{LoneView}
+use Rattle.prl_exec.specs.Standing.{StandsIn}
+use Rattle.prl_tables.specs.CheckedTables.{CheckedView}
+use Rattle.prl_tables.specs.Tables.{last_unit}
+use Rattle.prl_tables.specs.Unrolled.{Placing, HaveActed, IsPlacing}
+
+-- when each job acts
+abbrev pub acts_at : Constants → CheckedView → Placing
+acts_at k table = last_unit k.plan.graph table.entries
+
+-- the table is one of the board's plan, and places its jobs
+pub record IsBoardOf (k : Constants) (table : CheckedView) : Type 0 where
+  pub plan : table.plan ≡ k.plan
+  pub placing : IsPlacing (run_of k) (acts_at k table)
+  pub ends : HaveOneEnd (run_of k)
+
+-- what acts before tick t and, at tick t, of the tasks before task i has been done
+pub record IsDriven (k : Constants) (table : CheckedView) (l : LoneView) (t i : ℕ) : Type 0 where
+  pub part : ClockPart
+  pub list : List Event
+  pub stands : StandsIn (run_of k) l part list
+  pub acted : HaveActed (run_of k) (acts_at k table) t i 0 (reached (run_of k) list)
+
+-- job n of task i comes next, and acts at tick t
+pub record IsNextJob (k : Constants) (table : CheckedView) (l : LoneView) (t i n : ℕ) : Type 0 where
+  pub job : IsJob (run_of k) i n
+  pub acts : acts_at k table i n ≡ t
+  pub next : (seat : JobSeatView) → slice_get l.seats i ≡ Some seat → seat.job ≡ n

@@ -1,0 +1,53 @@
+-- Classes are released early, and pieces are short.
+use Rattle.std.proofs.Common.{◌≡◌, ◌+◌, ◌*◌, ◌<◌, ◌≤◌, ◌^◌, ℕ, length, arith}
+use Rattle.std.specs.Prelude.{pos, ◌≤ℤ◌}
+use Rattle.std.proofs.Math.IntN.{pos-*ℤ-pos}
+use Rattle.std.proofs.Math.Nat.{mul-le-mul_right}
+use Rattle.std.proofs.lemmas.Int.{ints}
+use Rattle.prl_plan.specs.Dates.{encoded_deadline}
+use Rattle.prl_plan.specs.Jobs.{task_at, deadline_of, IsHorizonJob}
+use Rattle.prl_plan.specs.Plans.{PlanView, IsPlan, release_at, deadline_at}
+use Rattle.prl_plan.proofs.DatePeriods.{jobs_are}
+use Rattle.prl_plan.proofs.RoundPeriods.{task_is}
+use Rattle.prl_tables.specs.declared.tables.Entry.{Entry}
+use Rattle.prl_tables.specs.Tables.{classes, IsPiece}
+use Rattle.prl_tables.proofs.Shifts.{some_classes}
+
+pub class_is_early : (plan : PlanView) → IsPlan plan → (i c : ℕ) → i < length plan.graph.tasks → c < classes plan.graph i →
+    IsHorizonJob plan.graph (2 ^ 31 + plan.graph.hyper) i c
+class_is_early plan is i c inside below = record {
+  task = inside;
+  early =
+      (let start = (task_is plan.graph is.graph i inside).start in
+      let some = (task_is plan.graph is.graph i inside).period.0 in
+      let m = mul-le-mul_right (task_at plan.graph i).clock.period (let g : c + 1 ≤ classes plan.graph i = omega (arith, below) in g) in
+      let e : (c + 1) * (task_at plan.graph i).clock.period ≡ c * (task_at plan.graph i).clock.period + (task_at plan.graph i).clock.period = omega arith in
+      let h = jobs_are plan.graph is.graph i inside in
+      let z = pos-*ℤ-pos c (task_at plan.graph i).clock.period in
+      omega (arith, ints, start, some, m, e, h, z));
+}
+
+pub hyper_small : (plan : PlanView) → IsPlan plan → 2 ^ 31 + plan.graph.hyper < 2 ^ 32
+hyper_small plan is = (let few = is.graph.hyper in omega (arith, few))
+
+-- a window is at most a hyperperiod long
+pub short_window : (plan : PlanView) → IsPlan plan → (i m : ℕ) → i < length plan.graph.tasks → deadline_at plan i m ≤ release_at plan i m + plan.graph.hyper
+short_window plan is i m inside =
+    let above = is.dates.releases.releases.above i (pos m) inside in
+    let below : encoded_deadline plan.graph plan.windows i (pos m) ≤ℤ deadline_of (task_at plan.graph i) (pos m) = is.dates.deadlines.deadlines.below i (pos m) inside in
+    let due = (task_is plan.graph is.graph i inside).due.1 in
+    let many = some_classes plan is i inside in
+    let e = jobs_are plan.graph is.graph i inside in
+    let one = mul-le-mul_right (task_at plan.graph i).clock.period many in
+    let self : 1 * (task_at plan.graph i).clock.period ≡ (task_at plan.graph i).clock.period = omega arith in
+    omega (arith, ints, above, below, due, e, one, self)
+
+pub piece_ends : (plan : PlanView) (entry : Entry) → IsPiece plan entry → deadline_at plan entry.task.0 entry.job < 2 ^ 33 → entry.at + entry.units < 2 ^ 33
+piece_ends plan entry piece small = (let to = piece.to in omega (arith, to, small))
+
+pub piece_is_short : (plan : PlanView) → IsPlan plan → (entry : Entry) → IsPiece plan entry → entry.units ≤ plan.graph.hyper
+piece_is_short plan is entry piece =
+    (let w = short_window plan is entry.task.0 entry.job piece.task in let from = piece.from in let to = piece.to in omega (arith, w, from, to))
+
+pub some_period : (plan : PlanView) → IsPlan plan → (i : ℕ) → i < length plan.graph.tasks → 1 ≤ (task_at plan.graph i).clock.period
+some_period plan is i inside = (task_is plan.graph is.graph i inside).period.0

@@ -1,0 +1,14 @@
+pub mod Unrolling
+mod GoodTables
+pub mod Ends
+pub mod Shifts
+mod FourTests
+mod Spotted
+mod TextLines
+mod ReadBack
+mod Early
+pub mod Listed
+mod Summed
+pub mod Ordering
+pub mod OrderLaws
+pub mod Swaps

@@ -1,0 +1,8 @@
+use Rattle.std.specs.Prelude.{◌≡◌, ◌<◌, ℕ, Some, slice_get}
+use Rattle.prl_tables.specs.declared.tables.Entry.{Entry}
+use Rattle.prl_tables.specs.Tables.{IsPiece}
+use Rattle.prl_tables.proofs.pieces.check_pieces.Given as goal
+
+-- the entries so far are pieces
+abbrev pub invariant-loop-k : goal.invariant-loop-k
+invariant-loop-k l = (j : ℕ) (other : Entry) → j < l.k → slice_get l.entries j ≡ Some other → IsPiece l.plan other

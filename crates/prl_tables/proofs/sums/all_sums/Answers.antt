@@ -1,0 +1,19 @@
+use Rattle.std.proofs.Common.{◌∙◌, ap, sym, subst, length, length-append, ◌∷◌, [], map, arith, vec_items, List, Some, ◌≡◌, ℕ}
+use Rattle.std.specs.Prelude.{slice_get}
+use Rattle.std.proofs.lemmas.List.{map_push}
+use Rattle.prl_tables.specs.declared.sums.Sums.{Sums}
+use Rattle.prl_tables.specs.code.Sums.{AreTaskSums}
+use Rattle.prl_tables.proofs.Listed.{pushed}
+use Rattle.prl_tables.proofs.sums.all_sums.Goals as goal
+
+pub loop-i-preserved : goal.loop-i-preserved
+loop-i-preserved c =
+    let items = ap (map vec_items) c.in_ok-push.ensures.items ∙ map_push vec_items c.loop-i.lists.items c.in_ok-task_sums.field-0 in
+    let tasks = c.loop-i.invariant.tasks in
+    record {
+      tasks = (let n = ap length items in let l = length-append (map vec_items c.loop-i.lists.items) (vec_items c.in_ok-task_sums.field-0 ∷ []) in omega (arith, n, l, tasks));
+      each = λ i list at.
+          pushed (AreTaskSums c.args.plan.now c.args.entries.now) (map vec_items c.loop-i.lists.items) (vec_items c.in_ok-task_sums.field-0) c.loop-i.invariant.each
+          (subst (λ (n : ℕ). AreTaskSums c.args.plan.now c.args.entries.now n (vec_items c.in_ok-task_sums.field-0)) (sym tasks) c.in_ok-task_sums.ensures) i list
+          (subst (λ (xs : List (List Sums)). slice_get xs i ≡ Some list) items at);
+    }
