@@ -11,6 +11,7 @@ use Rattle.prl_schedules.specs.Dispatches.{IsDispatched}
 use Rattle.prl_schedules.specs.Schedules.{schedule_of}
 use Rattle.prl_schedules.specs.ScheduleTexts.{task_names}
 use Rattle.prl_cores.specs.Processors.{processors_of}
+use Rattle.prl_tables.specs.TableTexts.{entries_of}
 use Rattle.prl_picture.specs.declared.shown.Shown.{Shown}
 use Rattle.prl_picture.specs.declared.shown.Shown.TheVariants as kinds
 
@@ -41,12 +42,21 @@ abbrev pub IsListed : Folder → PlanView → List (List ℕ) → Shown → Type
 IsListed folder plan words (kinds.Events events) = MatchOption (value_of (codes "--schedule") words) (events.items ≡ []) (IsSchedule folder plan events.items)
 IsListed folder plan words (kinds.Verdict horizon verdict) = ⊥
 IsListed folder plan words (kinds.Cores spread events) = ⊥
+IsListed folder plan words (kinds.Table table) = ⊥
 
 -- it is the verdict of the jobs up to the tick that a word writes
 abbrev pub IsUpTo : List ℕ → Shown → Type 0
 IsUpTo word (kinds.Events events) = ⊥
 IsUpTo word (kinds.Verdict horizon verdict) = decimal_of word ≡ Some horizon.until
 IsUpTo word (kinds.Cores spread events) = ⊥
+IsUpTo word (kinds.Table table) = ⊥
+
+-- it is the table that a file tells
+abbrev pub IsTableOf : Folder → PlanView → Shown → List ℕ → Type 0
+IsTableOf folder plan (kinds.Events events) name = ⊥
+IsTableOf folder plan (kinds.Verdict horizon verdict) name = ⊥
+IsTableOf folder plan (kinds.Cores spread events) name = ⊥
+IsTableOf folder plan (kinds.Table table) name = HasText folder name (λ source. entries_of plan.graph.hyper source ≡ Ok table.entries)
 
 -- what a run on processors does: the schedule of the file that the words name, or the dispatched list up to a tick
 abbrev pub IsPlacedEvents : Folder → PlanView → List (List ℕ) → ℕ → Placement → List Event → Type 0
@@ -57,14 +67,20 @@ IsPlacedEvents folder plan words until placement events =
 abbrev pub IsPlacedRun : Folder → PlanView → List (List ℕ) → ℕ → Shown → List ℕ → Type 0
 IsPlacedRun folder plan words until (kinds.Events events) name = ⊥
 IsPlacedRun folder plan words until (kinds.Verdict horizon verdict) name = ⊥
+IsPlacedRun folder plan words until (kinds.Table table) name = ⊥
 IsPlacedRun folder plan words until (kinds.Cores spread events) name =
     TellsProcessors folder plan spread.placement.processors name
     × IsPlacedEvents folder plan words until spread.placement events.items
 
--- The words ask for it: for the verdict exactly where they name a tick for it, and for a run on processors exactly where they
--- name a file of these. The range ends at this tick.
+-- a run on processors exactly where the words name a file of these, else a schedule
+abbrev pub IsPlacedOrListed : Folder → PlanView → List (List ℕ) → ℕ → Shown → Type 0
+IsPlacedOrListed folder plan words until shown =
+    MatchOption (value_of (codes "--cores") words) (IsListed folder plan words shown) (IsPlacedRun folder plan words until shown)
+
+-- The words ask for it: for the verdict exactly where they name a tick for it, else for a table exactly where they name its file,
+-- else for a run on processors or a schedule. The range ends at this tick.
 abbrev pub IsAsked : Folder → PlanView → List (List ℕ) → ℕ → Shown → Type 0
 IsAsked folder plan words until shown =
     MatchOption (value_of (codes "--edf") words)
-    (MatchOption (value_of (codes "--cores") words) (IsListed folder plan words shown) (IsPlacedRun folder plan words until shown))
+    (MatchOption (value_of (codes "--table") words) (IsPlacedOrListed folder plan words until shown) (IsTableOf folder plan shown))
     (λ word. IsUpTo word shown)

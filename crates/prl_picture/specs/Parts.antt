@@ -18,8 +18,8 @@ used_of processors = filter (is_in processors) (range_with_len 0 MOST_PROCESSORS
 
 -- the row of a task's processor: below those of so many tasks, one for each processor that has tasks
 abbrev pub processor_row : ℕ → List ℕ → ℕ → ℕ
-processor_row tasks processors task =
-    tasks + position_or_len (λ p. p == slice_index processors task) (used_of processors)
+processor_row rows processors task =
+    rows + position_or_len (λ p. p == slice_index processors task) (used_of processors)
 
 -- how wide a tick is drawn there, at least so wide that it can be seen
 abbrev pub tick_width : Scale → ℕ → ℕ
@@ -41,5 +41,5 @@ pub record ArePartsOf (scale : Scale) (acts : List Act) (parts : List Part) : Ty
 
 -- in the row of its processor
 abbrev pub part_text : ℕ → List ℕ → Part → List ℕ
-part_text tasks processors part =
-    coloured_text part.act.task.0 part.left (row_of (processor_row tasks processors part.act.task.0) + GAP) part.width HIGH
+part_text rows processors part =
+    coloured_text part.act.task.0 part.left (row_of (processor_row rows processors part.act.task.0) + GAP) part.width HIGH

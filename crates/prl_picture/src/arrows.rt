@@ -1,15 +1,17 @@
 //! The precedences among the jobs of a picture, as arrows.
 
-ghost use Rattle.std.specs.Prelude.{◌≡◌, ◌<◌, ◌≤◌, ◌^◌, length};
+ghost use Rattle.std.specs.Prelude.{◌≡◌, ◌<◌, IfSome, length, slice_index};
 ghost use Rattle.prl_plan.specs.Jobs.{job_count, task_at};
 ghost use Rattle.prl_plan.specs.Plans.{edge_at};
 ghost use Rattle.prl_picture.specs.Shown.{IsOfPlan};
+ghost use Rattle.prl_picture.specs.Views.{IsView};
 
 use crate::look_ups::{edge_of, job_count, operand_of};
-use crate::shapes::shape_of;
+use crate::shapes::{shape_of, shown_count};
 use crate::shown::Shown;
-use prl_base::{EdgeNo, Op, TaskNo};
-use prl_drawing::{Scale, is_followed, push, push_arrow, push_attribute};
+use crate::views::{View, row_in};
+use prl_base::{EdgeNo, Op};
+use prl_drawing::{is_followed, push, push_arrow, push_arrow_legend, push_attribute};
 use prl_plan::{Edge, Operand, Plan, Producer, plan_is_one};
 use std::alloc::AllocError;
 
@@ -28,67 +30,103 @@ fn is_delayed(edge: &Edge) -> bool {
     false
 }
 
-/// Appends an arrow from the job that gives what job `n` of the consumer reads on an edge, where both are drawn. Answers how
-/// many arrows are left out: one where a window is too narrow.
+/// How many arrows there are: plain ones, those with a delay, and those that are left out.
+#[derive(Clone, Copy, Debug, PartialEq, Eq)]
+pub(crate) struct Arrows {
+    plain: u64,
+    delayed: u64,
+    left_out: u64,
+}
+
+/// Adds an arrow.
+fn count(arrows: &mut Arrows, followed: bool, delayed: bool) {
+    if !followed {
+        arrows.left_out = arrows.left_out.saturating_add(1);
+    } else if delayed {
+        arrows.delayed = arrows.delayed.saturating_add(1);
+    } else {
+        arrows.plain = arrows.plain.saturating_add(1);
+    }
+}
+
+/// The rows of the producer and of the consumer of an edge, where both have one.
+fn rows_of(plan: &Plan, view: &View, edge: &Edge) -> Option<(u32, u32)>
+    requires { IsView plan.now view.now }
+    ensures { IfSome result (λ rows. (rows.0 < length view.now.rows) × (rows.1 < length view.now.rows) × (slice_index view.now.rows rows.1 ≡ edge.now.to.0)) }
+{
+    let Producer::Port { task, .. } = edge.from else {
+        return None;
+    };
+    let before = row_in(view.rows.as_slice(), task);
+    let after = row_in(view.rows.as_slice(), edge.to);
+    if before < view.count() && after < view.count() && view.task(after).0 == edge.to.0 {
+        Some((before, after))
+    } else {
+        None
+    }
+}
+
+/// Appends an arrow from the job of a row that gives what job `n` of another row reads on an edge, where both are drawn.
 fn push_reading(
     text: &mut Vec<u8>,
     plan: &Plan,
     shown: &Shown,
-    scale: Scale,
+    view: &View,
     e: EdgeNo,
+    rows: (u32, u32),
     n: u64,
-) -> Result<u64, AllocError>
-    requires edge { e.0 < length plan.now.graph.edges }
-    requires until { scale.until < 2 ^ 32 }
-    requires from { scale.from ≤ scale.until }
-    requires span { 0 < scale.span }
+    arrows: &mut Arrows,
+) -> Result<(), AllocError>
+    requires view { IsView plan.now view.now }
     requires shown { IsOfPlan plan.now shown.now }
-    requires job { n < job_count (task_at plan.now.graph (edge_at plan.now.graph e.0).to.0) scale.until }
+    requires edge { e.0 < length plan.now.graph.edges }
+    requires rows { (rows.0 < length view.now.rows) × (rows.1 < length view.now.rows) }
+    requires to { slice_index view.now.rows rows.1 ≡ (edge_at plan.now.graph e.0).to.0 }
+    requires job { n < job_count (task_at plan.now.graph (edge_at plan.now.graph e.0).to.0) view.now.scale.until }
 {
     let edge = edge_of(plan, e);
-    let Producer::Port { task, .. } = edge.from else {
-        return Ok(0);
+    let Operand::From(m) = operand_of(plan, e, n, view.scale.until) else {
+        return Ok(());
     };
-    let Operand::From(m) = operand_of(plan, e, n, scale.until) else {
-        return Ok(0);
-    };
-    if task.0 as usize >= plan.graph().tasks.len()
-        || m < job_count(plan, task, scale.from)
-        || m >= job_count(plan, task, scale.until)
+    let task = view.task(rows.0);
+    if m < job_count(plan, task, view.scale.from)
+        || m >= shown_count(plan, shown, task, view.scale.until)
     {
-        return Ok(0);
+        return Ok(());
     }
-    let before = shape_of(plan, shown, scale, task, m);
-    let after = shape_of(plan, shown, scale, edge.to, n);
-    if !is_followed(&before, &after) {
-        return Ok(1);
+    let before = shape_of(plan, shown, view, rows.0, m);
+    let after = shape_of(plan, shown, view, rows.1, n);
+    let followed = is_followed(&before, &after);
+    count(arrows, followed, is_delayed(edge));
+    if followed {
+        push_arrow(text, is_delayed(edge), &before, &after)?;
     }
-    push_arrow(text, is_delayed(edge), &before, &after)?;
-    Ok(0)
+    Ok(())
 }
 
-/// Appends the arrows of an edge. Answers how many are left out.
+/// Appends the arrows of an edge.
 fn push_edge(
     text: &mut Vec<u8>,
     plan: &Plan,
     shown: &Shown,
-    scale: Scale,
+    view: &View,
     e: EdgeNo,
-) -> Result<u64, AllocError>
-    requires edge { e.0 < length plan.now.graph.edges }
-    requires until { scale.until < 2 ^ 32 }
-    requires from { scale.from ≤ scale.until }
-    requires span { 0 < scale.span }
+    arrows: &mut Arrows,
+) -> Result<(), AllocError>
+    requires view { IsView plan.now view.now }
     requires shown { IsOfPlan plan.now shown.now }
+    requires edge { e.0 < length plan.now.graph.edges }
 {
-    let to = edge_of(plan, e).to;
-    let first = job_count(plan, to, scale.from);
-    let last = job_count(plan, to, scale.until);
-    let mut left_out: u64 = 0;
+    let edge = edge_of(plan, e);
+    let Some(rows) = rows_of(plan, view, edge) else {
+        return Ok(());
+    };
+    let first = job_count(plan, edge.to, view.scale.from);
+    let last = shown_count(plan, shown, edge.to, view.scale.until);
     for n in first..last {
-        left_out = left_out.saturating_add(push_reading(text, plan, shown, scale, e, n)?);
+        push_reading(text, plan, shown, view, e, rows, n, arrows)?;
     }
-    Ok(left_out)
+    Ok(())
 }
 
 /// Appends the line that says how many arrows are not drawn.
@@ -103,22 +141,25 @@ fn push_left_out(text: &mut Vec<u8>, left_out: u64) -> Result<(), AllocError> {
     )
 }
 
-/// Appends the arrows of all edges whose windows are wide enough, and how many are left out.
+/// Appends the arrows of all edges whose windows are wide enough, what they mean, and how many are left out.
 pub(crate) fn push_arrows(
     text: &mut Vec<u8>,
     plan: &Plan,
     shown: &Shown,
-    scale: Scale,
+    view: &View,
 ) -> Result<(), AllocError>
-    requires until { scale.until < 2 ^ 32 }
-    requires from { scale.from ≤ scale.until }
-    requires span { 0 < scale.span }
+    requires view { IsView plan.now view.now }
     requires shown { IsOfPlan plan.now shown.now }
 {
     plan_is_one(plan);
-    let mut left_out: u64 = 0;
+    let mut arrows = Arrows {
+        plain: 0,
+        delayed: 0,
+        left_out: 0,
+    };
     for e in 0..plan.graph().edges.len() {
-        left_out = left_out.saturating_add(push_edge(text, plan, shown, scale, EdgeNo(e as u32))?);
+        push_edge(text, plan, shown, view, EdgeNo(e as u32), &mut arrows)?;
     }
-    push_left_out(text, left_out)
+    push_arrow_legend(text, arrows.plain > 0, arrows.delayed > 0)?;
+    push_left_out(text, arrows.left_out)
 }

@@ -1,23 +1,26 @@
 //! What the words ask for beside the windows, and the files that they name for it.
 
-ghost use Rattle.std.specs.Prelude.{◌≡◌, ◌<◌, ◌^◌, IfOk, length, map};
+ghost use Rattle.std.specs.Prelude.{◌≡◌, ◌<◌, ◌^◌, IfOk, Ok, length, map};
 ghost use Rattle.std.specs.String.{string_bytes};
 ghost use Rattle.prl_cores.specs.Spreads.{IsSpreadOf, LeavesRoom};
 ghost use Rattle.prl_cores.specs.Processors.{IsOfTasks};
-ghost use Rattle.prl_picture.specs.Asked.{IsAsked, IsDispatchedList, IsListed, IsPlacedEvents, IsPlacedRun, IsSchedule, IsUpTo, TellsProcessors};
+ghost use Rattle.prl_picture.specs.Asked.{IsAsked, IsDispatchedList, IsListed, IsPlacedEvents, IsPlacedOrListed, IsPlacedRun, IsSchedule, IsTableOf, IsUpTo, TellsProcessors};
+ghost use Rattle.prl_tables.specs.TableTexts.{entries_of};
+ghost use Rattle.prl_tables.specs.Tables.{IsGood};
 ghost use Rattle.prl_picture.specs.Shown.{IsOfPlan};
 
-use crate::faults::{Fault, unfit, unfit_for};
+use crate::faults::{Fault, unfit, unfit_for, why_of};
 use crate::look_ups::task_of;
 use crate::shown::Shown;
 use crate::words::{FORM, tick_of};
-use prl_base::TaskNo;
+use prl_base::{TaskNo, push_number};
 use prl_companions::{Stop, read_named, value_of};
 use prl_cores::{CoresFault, Spread, read_cores, spread, spread_plans_keep_facts};
 use prl_edf::analyse;
 use prl_io::Files;
 use prl_plan::{Event, Horizon, Plan, plan_is_one};
 use prl_schedules::{ScheduleFault, dispatch_on, read_schedule};
+use prl_tables::{Table, TableFault, check_table, read_table};
 use std::alloc::{AllocError, Global};
 
 /// The most bytes of a schedule.
@@ -25,6 +28,9 @@ pub const MAX_SCHEDULE: u64 = 83_886_080;
 
 /// The most bytes of a text of processors.
 pub const MAX_CORES: u64 = 65_536;
+
+/// The most bytes of a table.
+pub const MAX_TABLE: u64 = 16_777_216;
 
 /// Why there is no picture of a run.
 const TOO_MANY: &str = "too many jobs or events up to the tick of --edf";
@@ -153,7 +159,7 @@ fn verdict_of(alloc: Global, word: &[u8], plan: &Plan) -> Result<Shown, Fault>
     ensures plan { IfOk result (IsOfPlan plan.now) }
     ensures until { IfOk result (IsUpTo word.now) }
 {
-    let Some(until) = tick_of(Some(word), 0) else {
+    let Some(until) = tick_of(word) else {
         return Err(Fault::Stop(Stop::Words(FORM)));
     };
     let Ok(horizon) = Horizon::new(plan, until as u32) else {
@@ -180,8 +186,119 @@ fn listed<F: Files>(
     }
 }
 
+/// The words `95 units`, the name of a task and the number of a job.
+fn units_of(alloc: Global, plan: &Plan, task: TaskNo, job: u64) -> Result<Vec<u8>, AllocError> {
+    let mut why = Vec::new(alloc);
+    why.extend_from_slice(b"95 units ")?;
+    if (task.0 as usize) < plan.graph().tasks.len() {
+        why.extend_from_slice(task_of(plan, task).name.bytes())?;
+    }
+    why.extend_from_slice(b" ")?;
+    push_number(&mut why, job)?;
+    Ok(why)
+}
+
+/// A text with a number, words and another number.
+fn two_numbers(
+    alloc: Global,
+    front: &str,
+    first: u64,
+    middle: &str,
+    second: u64,
+) -> Result<Vec<u8>, AllocError> {
+    let mut why = Vec::new(alloc);
+    why.extend_from_slice(front.as_bytes())?;
+    push_number(&mut why, first)?;
+    why.extend_from_slice(middle.as_bytes())?;
+    push_number(&mut why, second)?;
+    Ok(why)
+}
+
+/// The line that `prelude` tells of a table that is refused.
+fn table_line(alloc: Global, plan: &Plan, fault: TableFault) -> Result<Vec<u8>, AllocError> {
+    match fault {
+        TableFault::Syntax(line) => why_of(alloc, "93 table syntax line ", line),
+        TableFault::Piece(line) => why_of(alloc, "94 piece ", line),
+        TableFault::Units { task, job } => units_of(alloc, plan, task, job),
+        TableFault::Clash { first, second } => {
+            two_numbers(alloc, "96 clash ", first, " ", second)
+        }
+        TableFault::Order { edge, job } => {
+            two_numbers(alloc, "97 order edge ", u64::from(edge.0), " job ", job)
+        }
+        TableFault::Memory => Err(AllocError),
+    }
+}
+
+/// Why a table does not fit.
+fn unfit_table(alloc: Global, plan: &Plan, name: &[u8], fault: TableFault) -> Fault {
+    match table_line(alloc, plan, fault) {
+        Ok(why) => unfit_for(alloc, name, why),
+        Err(_) => Fault::Stop(Stop::Memory),
+    }
+}
+
+/// The good table of this text.
+fn good_table(alloc: Global, source: &[u8], plan: &Plan) -> Result<Table, TableFault>
+    ensures good { IfOk result (λ table. IsGood plan.now table.entries) }
+    ensures told { IfOk result (λ table. entries_of plan.now.graph.hyper source.now ≡ Ok table.entries) }
+{
+    let table = read_table(alloc, source, plan)?;
+    match check_table(alloc, plan, &table) {
+        Ok(_) => {}
+        Err(fault) => return Err(fault),
+    }
+    Ok(table)
+}
+
+/// The table in the file of this name.
+fn table_in<F: Files>(
+    alloc: Global,
+    files: &mut F,
+    plan: &Plan,
+    name: &[u8],
+) -> Result<Shown, Fault>
+    ensures plan { IfOk result (IsOfPlan plan.now) }
+    ensures table { IfOk result (λ shown. IsTableOf (F.seen files.old).folder plan.now shown name.now) }
+    ensures kept { (F.seen files.new).folder ≡ (F.seen files.old).folder }
+{
+    let source = read_named(alloc, files, name, MAX_TABLE)?;
+    match good_table(alloc, &source, plan) {
+        Ok(table) => Ok(Shown::Table(table)),
+        Err(fault) => Err(unfit_table(alloc, plan, name, fault)),
+    }
+}
+
+/// Whether the words ask for one thing at most beside the windows: a run up to a tick, or a table, or
+/// processors and a schedule.
+fn are_apart(words: &[String]) -> bool {
+    let edf = value_of(b"--edf", words).is_some();
+    let table = value_of(b"--table", words).is_some();
+    let placed = value_of(b"--cores", words).is_some() || value_of(b"--schedule", words).is_some();
+    !(edf && table) && !(edf && placed) && !(table && placed)
+}
+
+/// A run on processors, or a schedule.
+fn placed_or_listed<F: Files>(
+    alloc: Global,
+    words: &[String],
+    files: &mut F,
+    plan: &Plan,
+    until: u64,
+) -> Result<Shown, Fault>
+    requires until { until < 2 ^ 32 }
+    ensures plan { IfOk result (IsOfPlan plan.now) }
+    ensures asked { IfOk result (IsPlacedOrListed (F.seen files.old).folder plan.now (map string_bytes words.now) until) }
+    ensures kept { (F.seen files.new).folder ≡ (F.seen files.old).folder }
+{
+    match value_of(b"--cores", words) {
+        Some(name) => placed_run(alloc, words, files, plan, until, name),
+        None => listed(alloc, words, files, plan),
+    }
+}
+
 /// What the words ask for beside the windows of a range that ends at a tick: the run of one processor,
-/// or one on several, or a schedule.
+/// a table, a run on several processors, or a schedule.
 pub(crate) fn shown<F: Files>(
     alloc: Global,
     words: &[String],
@@ -194,10 +311,12 @@ pub(crate) fn shown<F: Files>(
     ensures asked { IfOk result (IsAsked (F.seen files.old).folder plan.now (map string_bytes words.now) until) }
     ensures kept { (F.seen files.new).folder ≡ (F.seen files.old).folder }
 {
-    match (value_of(b"--edf", words), value_of(b"--cores", words)) {
-        (Some(_), Some(_)) => Err(Fault::Stop(Stop::Words(FORM))),
-        (Some(word), None) => verdict_of(alloc, word, plan),
-        (None, Some(name)) => placed_run(alloc, words, files, plan, until, name),
-        (None, None) => listed(alloc, words, files, plan),
+    if !are_apart(words) {
+        return Err(Fault::Stop(Stop::Words(FORM)));
+    }
+    match (value_of(b"--edf", words), value_of(b"--table", words)) {
+        (Some(word), _) => verdict_of(alloc, word, plan),
+        (None, Some(name)) => table_in(alloc, files, plan, name),
+        (None, None) => placed_or_listed(alloc, words, files, plan, until),
     }
 }

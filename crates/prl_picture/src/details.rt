@@ -98,7 +98,7 @@ fn push_told(text: &mut Vec<u8>, plan: &Plan, scale: Scale, shape: &Shape) -> Re
     requires until { scale.until < 2 ^ 32 }
 {
     push_attribute(text, "<rect class=\"h\" x=\"", shape.left)?;
-    push_attribute(text, "\" y=\"", row_of(shape.task) + 60)?;
+    push_attribute(text, "\" y=\"", row_of(shape.row) + 60)?;
     push_attribute(text, "\" width=\"", shape.right.saturating_sub(shape.left))?;
     push(text, "\" height=\"200\"><title>")?;
     push_dates(text, plan, shape)?;

@@ -42,7 +42,7 @@ impl From<AllocError> for Fault {
 }
 
 /// The line of a fault and its number.
-fn why_of(alloc: Global, front: &str, number: u64) -> Result<Vec<u8>, AllocError> {
+pub(crate) fn why_of(alloc: Global, front: &str, number: u64) -> Result<Vec<u8>, AllocError> {
     let mut why = Vec::new(alloc);
     why.extend_from_slice(front.as_bytes())?;
     push_number(&mut why, number)?;

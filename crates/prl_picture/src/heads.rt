@@ -1,16 +1,32 @@
 //! The head of a picture: what is drawn, the ticks, and the names of the tasks.
 
-ghost use Rattle.std.specs.Prelude.{◌<◌, ◌^◌};
+ghost use Rattle.prl_picture.specs.Views.{IsView};
 
-use prl_drawing::{Scale, push, push_attribute, push_name, push_opening, push_ticks, row_of};
-use prl_plan::{Plan, plan_is_one};
+use crate::look_ups::task_of;
+use crate::views::View;
+use prl_drawing::{
+    Scale, Unit, push, push_attribute, push_name, push_opening, push_ticks, push_time, row_of,
+};
+use prl_plan::Plan;
 use std::alloc::AllocError;
+
+/// Appends how long a tick is, where that is told.
+fn push_unit(text: &mut Vec<u8>, unit: &Unit) -> Result<(), AllocError> {
+    if unit.name == "ticks" {
+        return Ok(());
+    }
+    push(text, "; a tick is ")?;
+    push_time(text, unit, 1)?;
+    push(text, " ")?;
+    push(text, unit.name)
+}
 
 /// Appends the line that says what is drawn, and how many jobs are not.
 fn push_title(
     text: &mut Vec<u8>,
     plan: &Plan,
     scale: Scale,
+    unit: &Unit,
     left_out: u64,
 ) -> Result<(), AllocError> {
     push_attribute(
@@ -28,14 +44,17 @@ fn push_title(
         push_attribute(text, "; ", left_out)?;
         push(text, " later jobs of the range are not drawn")?;
     }
+    push_unit(text, unit)?;
     push(text, "</text>\n")
 }
 
-/// Appends the names of the tasks.
-fn push_names(text: &mut Vec<u8>, plan: &Plan) -> Result<(), AllocError> {
-    plan_is_one(plan);
-    for (i, task) in plan.graph().tasks.as_slice().iter().enumerate() {
-        let y = row_of(i as u32);
+/// Appends the names of the tasks of the rows.
+fn push_names(text: &mut Vec<u8>, plan: &Plan, view: &View) -> Result<(), AllocError>
+    requires { IsView plan.now view.now }
+{
+    for row in 0..view.count() {
+        let task = task_of(plan, view.task(row));
+        let y = row_of(row);
         push_name(text, task.name.bytes(), y, task.clock.period, task.wcet)?;
     }
     Ok(())
@@ -45,15 +64,15 @@ fn push_names(text: &mut Vec<u8>, plan: &Plan) -> Result<(), AllocError> {
 pub(crate) fn push_head(
     text: &mut Vec<u8>,
     plan: &Plan,
-    scale: Scale,
+    view: &View,
+    unit: &Unit,
     left_out: u64,
     rows: u32,
 ) -> Result<(), AllocError>
-    requires from { scale.from < 2 ^ 32 }
-    requires span { (0 < scale.span) × (scale.span < 2 ^ 33) }
+    requires { IsView plan.now view.now }
 {
     push_opening(text, rows)?;
-    push_title(text, plan, scale, left_out)?;
-    push_ticks(text, scale, row_of(rows))?;
-    push_names(text, plan)
+    push_title(text, plan, view.scale, unit, left_out)?;
+    push_ticks(text, view.scale, unit, row_of(rows))?;
+    push_names(text, plan, view)
 }

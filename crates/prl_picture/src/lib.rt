@@ -1,12 +1,14 @@
 //! Pictures of plans: the jobs of a range of ticks, where a scale puts their dates, with a schedule,
-//! with the run of one processor, or with a run on several, drawn as SVG. It stands on `prl_plan`,
-//! `prl_plantext`, `prl_schedules`, `prl_edf`, `prl_cores`, `prl_drawing`, `prl_io` and
-//! `prl_companions`.
+//! with the run of one processor, with a run on several, or with a table, drawn as SVG. It stands on
+//! `prl_plan`, `prl_plantext`, `prl_schedules`, `prl_edf`, `prl_cores`, `prl_tables`, `prl_drawing`,
+//! `prl_io` and `prl_companions`.
 #![tactic(auto)]
 
 mod acts;
 mod arrows;
 mod asked;
+mod chosen;
+mod defaults;
 mod details;
 mod faults;
 mod heads;
@@ -18,7 +20,9 @@ mod ranges;
 mod shapes;
 mod shown;
 mod signs;
+mod tables;
 mod verdicts;
+mod views;
 mod words;
 
 pub use acts::{Act, acts_of};
@@ -27,3 +31,4 @@ pub use parts::Part;
 pub use pictures::{draw, picture_of};
 pub use shapes::shapes_of;
 pub use shown::Shown;
+pub use views::View;

@@ -73,6 +73,7 @@ pub(crate) fn released(plan: &Plan, shown: &Shown, i: TaskNo, n: u64, until: u64
         Shown::Cores(spread, _) => spread_release_of(plan, spread, i, n, until),
         Shown::Events(_) => release_of(plan, i, n, until),
         Shown::Verdict(..) => release_of(plan, i, n, until),
+        Shown::Table(_) => release_of(plan, i, n, until),
     }
 }
 

@@ -66,12 +66,12 @@ fn place_of(used: &[u32], processor: u32) -> u32
 }
 
 /// The row of a task's processor.
-pub(crate) fn processor_row(tasks: u32, processors: &[u32], used: &[u32], task: TaskNo) -> u32
+pub(crate) fn processor_row(rows: u32, processors: &[u32], used: &[u32], task: TaskNo) -> u32
     requires used { used.now ≡ used_of processors.now }
-    requires tasks { tasks ≤ MAX_TASKS }
-    ensures { result ≡ processor_row tasks processors.now task.0 }
+    requires rows { rows ≤ MAX_TASKS }
+    ensures { result ≡ processor_row rows processors.now task.0 }
 {
-    tasks + place_of(used, processor_of(processors, task))
+    rows + place_of(used, processor_of(processors, task))
 }
 
 /// How many of the first `j` acts are at the tick of this one and on its processor.
@@ -181,16 +181,16 @@ pub(crate) fn parts_of(
 /// Appends a part, in the row of its processor.
 fn push_part(
     text: &mut Vec<u8>,
-    tasks: u32,
+    rows: u32,
     processors: &[u32],
     used: &[u32],
     part: &Part,
 ) -> Result<(), AllocError>
     requires used { used.now ≡ used_of processors.now }
-    requires tasks { tasks ≤ MAX_TASKS }
-    ensures { OnOk result (text.new.items ≡ text.old.items ++ part_text tasks processors.now part.now) }
+    requires rows { rows ≤ MAX_TASKS }
+    ensures { OnOk result (text.new.items ≡ text.old.items ++ part_text rows processors.now part.now) }
 {
-    let row = processor_row(tasks, processors, used, part.act.task);
+    let row = processor_row(rows, processors, used, part.act.task);
     let top = row_of(row) + GAP;
     push_coloured(text, part.act.task.0, part.left, top, part.width, HIGH)
 }
@@ -198,17 +198,17 @@ fn push_part(
 /// The parts, each once, in the rows of their processors.
 pub(crate) fn part_texts(
     alloc: Global,
-    tasks: u32,
+    rows: u32,
     processors: &[u32],
     parts: &[Part],
 ) -> Result<Vec<u8>, AllocError>
-    requires tasks { tasks ≤ MAX_TASKS }
-    ensures { IfOk result (λ text. text.items ≡ flat_map (part_text tasks processors.now) parts.now) }
+    requires rows { rows ≤ MAX_TASKS }
+    ensures { IfOk result (λ text. text.items ≡ flat_map (part_text rows processors.now) parts.now) }
 {
     let used = used_of(alloc, processors)?;
     let mut text = Vec::new(alloc);
     for part in parts {
-        push_part(&mut text, tasks, processors, &used, part)?;
+        push_part(&mut text, rows, processors, &used, part)?;
     }
     Ok(text)
 }

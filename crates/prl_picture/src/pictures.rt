@@ -1,21 +1,27 @@
 //! The picture of a plan, and the call that draws it.
 
-ghost use Rattle.std.specs.Prelude.{◌≡◌, ◌++◌, ◌<◌, ◌≤◌, ◌^◌, drop, map, IfOk};
+ghost use Rattle.std.specs.Prelude.{◌≡◌, ◌++◌, ◌<◌, ◌≤◌, drop, map, IfOk};
+ghost use Rattle.std.specs.Bool.{OnFalse};
 ghost use Rattle.std.specs.String.{string_bytes};
-ghost use Rattle.prl_picture.specs.Pictures.{Answers, IsDrawn, IsPicture, IsPictureOf};
+ghost use Rattle.prl_picture.specs.Pictures.{Answers, AreAsked, AreRows, IsDrawn, IsNearRows, IsPicture, IsPictureOf, asks_help};
+ghost use Rattle.prl_picture.specs.Ranges.{IsRange};
 ghost use Rattle.prl_picture.specs.Shown.{IsOfPlan};
+ghost use Rattle.prl_picture.specs.Views.{AreTasks, IsView};
 
 use crate::arrows::push_arrows;
 use crate::asked::shown;
+use crate::chosen::{all_rows, near_rows, task_named};
 use crate::details::push_details;
-use crate::faults::{Fault, end};
+use crate::faults::{Fault, end, unfit_for};
 use crate::heads::push_head;
-use crate::ranges::{left_out, scale_of};
+use crate::ranges::{MAX_UNTIL, left_out, scale_of};
 use crate::shapes::shapes_of;
 use crate::shown::{Shown, pieces, push_shown, rows_of};
-use crate::words::{FORM, OPTIONS, range_of};
+use crate::views::View;
+use crate::words::{FORM, HELP, OPTIONS, asks_help, range_of, tick_unit, whole_before};
+use prl_base::Seq;
 use prl_companions::{Stop, after_name, are_pairs, read_named, value_of};
-use prl_drawing::{Scale, Shape, push, push_numbers, windows};
+use prl_drawing::{Shape, Unit, push, push_numbers, windows};
 use prl_io::{Files, Sink};
 use prl_plan::Plan;
 use prl_plantext::{PlanFault, read_plan};
@@ -25,25 +31,23 @@ use std::alloc::{AllocError, Global};
 pub const MAX_PLAN: u64 = 33_554_432;
 
 /// Why there is no picture.
-const NO_PLAN: &str = "the file is not the text of a plan";
+const NO_PLAN: &str = "not the text of a plan";
 
 /// What is drawn over the windows.
 fn above(
     alloc: Global,
     plan: &Plan,
-    scale: Scale,
-    shapes: &[Shape],
     shown: &Shown,
+    view: &View,
+    shapes: &[Shape],
 ) -> Result<Vec<u8>, AllocError>
-    requires until { scale.until < 2 ^ 32 }
-    requires from { scale.from ≤ scale.until }
-    requires span { (0 < scale.span) × (scale.span < 2 ^ 33) }
+    requires view { IsView plan.now view.now }
     requires shown { IsOfPlan plan.now shown.now }
 {
     let mut text = Vec::new(alloc);
-    push_shown(alloc, &mut text, plan, scale, shapes, shown)?;
-    push_details(&mut text, plan, scale, shapes)?;
-    push_arrows(&mut text, plan, shown, scale)?;
+    push_shown(alloc, &mut text, plan, view, shapes, shown)?;
+    push_details(&mut text, plan, view.scale, shapes)?;
+    push_arrows(&mut text, plan, shown, view)?;
     push_numbers(&mut text, shapes)?;
     push(&mut text, "</svg>\n")?;
     Ok(text)
@@ -54,15 +58,15 @@ fn below(
     alloc: Global,
     plan: &Plan,
     shown: &Shown,
-    scale: Scale,
+    view: &View,
+    unit: &Unit,
     left_out: u64,
 ) -> Result<Vec<u8>, AllocError>
-    requires from { scale.from < 2 ^ 32 }
-    requires span { (0 < scale.span) × (scale.span < 2 ^ 33) }
+    requires view { IsView plan.now view.now }
 {
-    let rows = rows_of(alloc, plan, shown)?;
+    let rows = rows_of(alloc, view, shown)?;
     let mut text = Vec::new(alloc);
-    push_head(&mut text, plan, scale, left_out, rows)?;
+    push_head(&mut text, plan, view, unit, left_out, rows)?;
     Ok(text)
 }
 
@@ -77,30 +81,103 @@ fn joined(first: Vec<u8>, second: &[u8], third: &[u8], fourth: &[u8]) -> Result<
     Ok(text)
 }
 
-/// The picture of the jobs of a plan, with a schedule or with the run of one processor.
+/// The picture of the jobs of a plan, with what is drawn beside the windows.
 pub fn picture_of(
     alloc: Global,
     plan: &Plan,
-    scale: Scale,
-    left_out: u64,
     shown: &Shown,
+    view: &View,
+    unit: &Unit,
+    left_out: u64,
 ) -> Result<Vec<u8>, AllocError>
-    requires until { scale.until < 2 ^ 32 }
-    requires from { scale.from ≤ scale.until }
-    requires span { (0 < scale.span) × (scale.span < 2 ^ 33) }
+    requires view { IsView plan.now view.now }
     requires shown { IsOfPlan plan.now shown.now }
-    ensures { IfOk result (λ text. IsPictureOf plan.now scale shown.now text.items) }
+    ensures { IfOk result (λ text. IsPictureOf plan.now shown.now view.now text.items) }
 {
-    let shapes = shapes_of(alloc, plan, shown, scale)?;
-    let first = below(alloc, plan, shown, scale, left_out)?;
+    let shapes = shapes_of(alloc, plan, shown, view)?;
+    let first = below(alloc, plan, shown, view, unit, left_out)?;
     let second = windows(alloc, &shapes)?;
-    let third = pieces(alloc, plan, scale, shown)?;
-    let fourth = above(alloc, plan, scale, &shapes, shown)?;
+    let third = pieces(alloc, plan, view, shown)?;
+    let fourth = above(alloc, plan, shown, view, &shapes)?;
     joined(first, &second, &third, &fourth)
 }
 
-/// The picture of a plan over the range that the words ask for, with what they ask for beside the
+/// Says that the file of a plan has no task of the name that the words ask for.
+fn no_task(alloc: Global, words: &[String], name: &[u8]) -> Fault {
+    let mut why = Vec::new(alloc);
+    let front = why.extend_from_slice(b"no task ");
+    if front.is_err() || why.extend_from_slice(name).is_err() {
+        return Fault::Stop(Stop::Memory);
+    }
+    unfit_for(alloc, value_of(b"--plan", words).unwrap_or(b""), why)
+}
+
+/// The rows of the task of a name and its neighbours.
+fn near_of(alloc: Global, words: &[String], plan: &Plan, name: &[u8]) -> Result<Vec<u32>, Fault>
+    ensures rows { IfOk result (λ rows. IsNearRows plan.now rows.items name.now) }
+    ensures tasks { IfOk result (λ rows. AreTasks plan.now rows.items) }
+{
+    match task_named(plan, name) {
+        Some(task) => Ok(near_rows(alloc, plan, task)?),
+        None => Err(no_task(alloc, words, name)),
+    }
+}
+
+/// The rows that the words ask for.
+fn chosen(alloc: Global, words: &[String], plan: &Plan) -> Result<Vec<u32>, Fault>
+    ensures rows { IfOk result (λ rows. AreRows plan.now (map string_bytes words.now) rows.items) }
+    ensures tasks { IfOk result (λ rows. AreTasks plan.now rows.items) }
+{
+    match value_of(b"--task", words) {
+        Some(name) => near_of(alloc, words, plan, name),
+        None => Ok(all_rows(alloc, plan)?),
+    }
+}
+
+/// The view of a range, with the windows whole of jobs that are released before `whole`.
+fn view_of(plan: &Plan, rows: Vec<u32>, from: u64, until: u64, whole: u64) -> View
+    requires rows { AreTasks plan.now rows.items }
+    requires range { (from < until) × (until ≤ MAX_UNTIL) }
+    ensures view { IsView plan.now result }
+    ensures range { IsRange from until result.scale }
+    ensures rows { result.rows ≡ rows.items }
+{
+    let scale = scale_of(plan, &rows, from, until, whole);
+    View {
+        scale,
+        rows: Seq::new(rows),
+    }
+}
+
+/// The picture of a plan over these ticks and with these rows, with what the words ask for beside the
 /// windows.
+fn seen<F: Files>(
+    alloc: Global,
+    words: &[String],
+    files: &mut F,
+    plan: &Plan,
+    rows: Vec<u32>,
+    range: (u64, u64),
+) -> Result<Vec<u8>, Fault>
+    requires tasks { AreTasks plan.now rows.items }
+    requires rows { AreRows plan.now (map string_bytes words.now) rows.items }
+    requires some { range.0 < range.1 }
+    requires small { range.1 ≤ MAX_UNTIL }
+    requires asked { AreAsked plan.now (map string_bytes words.now) range.0 range.1 }
+    ensures text { IfOk result (λ text. IsDrawn (F.seen files.old).folder plan.now (map string_bytes words.now) text.items) }
+    ensures kept { (F.seen files.new).folder ≡ (F.seen files.old).folder }
+{
+    let Some(unit) = tick_unit(words) else {
+        return Err(Fault::Stop(Stop::Words(FORM)));
+    };
+    let shown = shown(alloc, words, files, plan, range.1)?;
+    let whole = whole_before(words, plan, range.0);
+    let view = view_of(plan, rows, range.0, range.1, whole);
+    let more = left_out(plan, view.rows.as_slice(), view.scale.until, range.1);
+    Ok(picture_of(alloc, plan, &shown, &view, &unit, more)?)
+}
+
+/// The picture of a plan, as the words ask for it.
 fn drawn<F: Files>(
     alloc: Global,
     words: &[String],
@@ -110,13 +187,19 @@ fn drawn<F: Files>(
     ensures text { IfOk result (λ text. IsDrawn (F.seen files.old).folder plan.now (map string_bytes words.now) text.items) }
     ensures kept { (F.seen files.new).folder ≡ (F.seen files.old).folder }
 {
-    let Some((from, until)) = range_of(words, plan) else {
+    let rows = chosen(alloc, words, plan)?;
+    let Some(range) = range_of(words, plan, &rows) else {
         return Err(Fault::Stop(Stop::Words(FORM)));
     };
-    let shown = shown(alloc, words, files, plan, until)?;
-    let scale = scale_of(plan, from, until);
-    let more = left_out(plan, scale.until, until);
-    Ok(picture_of(alloc, plan, scale, more, &shown)?)
+    seen(alloc, words, files, plan, rows, range)
+}
+
+/// Says that the file of a name is no plan.
+fn no_plan(alloc: Global, name: &[u8]) -> Fault {
+    match Vec::from_slice(alloc, NO_PLAN.as_bytes()) {
+        Ok(why) => unfit_for(alloc, name, why),
+        Err(_) => Fault::Stop(Stop::Memory),
+    }
 }
 
 /// The picture that the words ask for.
@@ -133,9 +216,19 @@ fn picture<F: Files>(alloc: Global, words: &[String], files: &mut F) -> Result<V
     let source = read_named(alloc, files, name, MAX_PLAN)?;
     match read_plan(alloc, &source) {
         Ok(plan) => drawn(alloc, words, files, &plan),
-        Err(PlanFault::NotPlan) => Err(Fault::Stop(Stop::Refused(NO_PLAN))),
+        Err(PlanFault::NotPlan) => Err(no_plan(alloc, name)),
         Err(PlanFault::Memory) => Err(Fault::Stop(Stop::Memory)),
     }
+}
+
+/// What the words ask for: what the options mean, or a picture.
+fn answer<F: Files>(alloc: Global, words: &[String], files: &mut F) -> Result<Vec<u8>, Fault>
+    ensures text { OnFalse (asks_help (map string_bytes words.now)) (IfOk result (λ text. IsPicture (F.seen files.old).folder (map string_bytes words.now) text.items)) }
+{
+    if asks_help(words) {
+        return Ok(Vec::from_slice(alloc, HELP.as_bytes())?);
+    }
+    picture(alloc, words, files)
 }
 
 /// Draws a plan: the picture goes to `out`, and at every status but 0 one line goes to `err`. The first word is the program's
@@ -150,6 +243,6 @@ pub fn draw<F: Files, S: Sink, E: Sink>(
     ensures { Answers (drop 1 (map string_bytes words.now)) (F.seen files.old) (S.seen out.old) (S.seen out.new)
         (E.seen err.old) (E.seen err.new) result }
 {
-    let outcome = picture(alloc, after_name(words), files);
+    let outcome = answer(alloc, after_name(words), files);
     end(out, err, outcome)
 }

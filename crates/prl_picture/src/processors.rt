@@ -30,12 +30,12 @@ fn tasks_on(processors: &[u32], processor: u32) -> u64 {
 /// Appends what the rows of the processors begin with.
 pub(crate) fn push_rows(
     text: &mut Vec<u8>,
-    tasks: u32,
+    rows: u32,
     processors: &[u32],
     used: &[u32],
 ) -> Result<(), AllocError> {
     for (k, processor) in used.iter().enumerate() {
-        let row = tasks.saturating_add(k as u32);
+        let row = rows.saturating_add(k as u32);
         push_processor(text, row)?;
         push_attribute(text, " ", u64::from(*processor))?;
         push_attribute(
@@ -78,18 +78,18 @@ fn push_told(text: &mut Vec<u8>, name: &[u8], row: u32, part: &Part) -> Result<(
 pub(crate) fn push_labels(
     text: &mut Vec<u8>,
     plan: &Plan,
-    tasks: u32,
+    rows: u32,
     processors: &[u32],
     used: &[u32],
     parts: &[Part],
 ) -> Result<(), AllocError>
     requires used { used.now ≡ used_of processors.now }
-    requires tasks { tasks ≤ MAX_TASKS }
+    requires rows { rows ≤ MAX_TASKS }
 {
     for part in parts {
         if (part.act.task.0 as usize) < plan.graph().tasks.len() {
             let name = task_of(plan, part.act.task).name.bytes();
-            let row = processor_row(tasks, processors, used, part.act.task);
+            let row = processor_row(rows, processors, used, part.act.task);
             push_label(text, name, row, part)?;
             push_told(text, name, row, part)?;
         }

@@ -1,31 +1,36 @@
 //! The jobs that a picture shows, and where they stand in it.
 
-ghost use Rattle.std.specs.Prelude.{◌≡◌, ◌++◌, ◌<◌, ◌≤◌, ◌^◌, IfOk, OnOk, length};
+ghost use Rattle.std.specs.Prelude.{◌≡◌, ◌++◌, ◌<◌, ◌≤◌, ◌^◌, IfOk, OnOk, length, slice_index};
 ghost use Rattle.prl_plan.specs.Jobs.{job_count, task_at};
-ghost use Rattle.prl_picture.specs.Shapes.{shape_of, shapes_of, shapes_of_task};
+ghost use Rattle.prl_picture.specs.Shapes.{shape_of, shapes_of, shapes_of_row, shown_count};
 ghost use Rattle.prl_picture.specs.Shown.{IsOfPlan};
+ghost use Rattle.prl_picture.specs.Views.{IsView};
 
 use crate::look_ups::{deadline_of, job_count, own_release, released, task_of};
 use crate::shown::Shown;
+use crate::views::View;
 use prl_base::TaskNo;
-use prl_drawing::{Scale, Shape, x_of};
-use prl_plan::{Plan, plan_is_one};
+use prl_drawing::{Shape, x_of};
+use prl_plan::Plan;
+use prl_tables::classes;
 use std::alloc::{AllocError, Global};
 
-/// A job of the picture.
-pub(crate) fn shape_of(plan: &Plan, shown: &Shown, scale: Scale, i: TaskNo, n: u64) -> Shape
-    requires task { i.0 < length plan.now.graph.tasks }
-    requires until { scale.until < 2 ^ 32 }
-    requires span { 0 < scale.span }
-    requires job { n < job_count (task_at plan.now.graph i.0) scale.until }
+/// A job of the task of a row.
+pub(crate) fn shape_of(plan: &Plan, shown: &Shown, view: &View, row: u32, n: u64) -> Shape
+    requires view { IsView plan.now view.now }
     requires shown { IsOfPlan plan.now shown.now }
-    ensures { result ≡ shape_of plan.now shown.now scale i.0 n }
+    requires row { row < length view.now.rows }
+    requires job { n < job_count (task_at plan.now.graph (slice_index view.now.rows row)) view.now.scale.until }
+    ensures { result ≡ shape_of plan.now shown.now view.now row n }
 {
+    let scale = view.scale;
+    let i = view.task(row);
     let task = task_of(plan, i);
     let own = own_release(plan, i, n, scale.until);
     let release = released(plan, shown, i, n, scale.until);
     let deadline = deadline_of(plan, i, n, scale.until);
     Shape {
+        row,
         task: i.0,
         job: n,
         release,
@@ -38,46 +43,58 @@ pub(crate) fn shape_of(plan: &Plan, shown: &Shown, scale: Scale, i: TaskNo, n: u
     }
 }
 
-/// Appends the jobs of a task that are released from the first tick on and before the last.
+/// How many jobs of a task are shown that are released before a tick.
+pub(crate) fn shown_count(plan: &Plan, shown: &Shown, i: TaskNo, until: u64) -> u64
+    requires task { i.0 < length plan.now.graph.tasks }
+    requires until { until < 2 ^ 32 }
+    ensures exact { result ≡ shown_count plan.now shown.now i.0 until }
+    ensures jobs { result ≤ job_count (task_at plan.now.graph i.0) until }
+{
+    let jobs = job_count(plan, i, until);
+    match shown {
+        Shown::Table(_) => jobs.min(classes(plan, i)),
+        Shown::Events(_) => jobs,
+        Shown::Verdict(..) => jobs,
+        Shown::Cores(..) => jobs,
+    }
+}
+
+/// Appends the jobs of the task of a row that are shown.
 fn push_jobs(
     shapes: &mut Vec<Shape>,
     plan: &Plan,
     shown: &Shown,
-    scale: Scale,
-    i: TaskNo,
+    view: &View,
+    row: u32,
 ) -> Result<(), AllocError>
-    requires task { i.0 < length plan.now.graph.tasks }
-    requires until { scale.until < 2 ^ 32 }
-    requires span { 0 < scale.span }
-    requires order { scale.from ≤ scale.until }
+    requires view { IsView plan.now view.now }
     requires shown { IsOfPlan plan.now shown.now }
-    ensures { OnOk result (shapes.new.items ≡ shapes.old.items ++ shapes_of_task plan.now shown.now scale i.0) }
+    requires row { row < length view.now.rows }
+    ensures { OnOk result (shapes.new.items ≡ shapes.old.items ++ shapes_of_row plan.now shown.now view.now row) }
 {
-    let first = job_count(plan, i, scale.from);
-    let last = job_count(plan, i, scale.until);
+    let i = view.task(row);
+    let first = job_count(plan, i, view.scale.from);
+    let last = shown_count(plan, shown, i, view.scale.until);
     for n in first..last {
-        shapes.push(shape_of(plan, shown, scale, i, n))?;
+        shapes.push(shape_of(plan, shown, view, row, n))?;
     }
     Ok(())
 }
 
-/// The jobs of the plan that are released from the first tick on and before the last, task after task, in order.
+/// The jobs that are shown, row after row, in order.
 pub fn shapes_of(
     alloc: Global,
     plan: &Plan,
     shown: &Shown,
-    scale: Scale,
+    view: &View,
 ) -> Result<Vec<Shape>, AllocError>
-    requires until { scale.until < 2 ^ 32 }
-    requires span { 0 < scale.span }
-    requires order { scale.from ≤ scale.until }
+    requires view { IsView plan.now view.now }
     requires shown { IsOfPlan plan.now shown.now }
-    ensures { IfOk result (λ shapes. shapes.items ≡ shapes_of plan.now shown.now scale) }
+    ensures { IfOk result (λ shapes. shapes.items ≡ shapes_of plan.now shown.now view.now) }
 {
-    plan_is_one(plan);
     let mut shapes = Vec::new(alloc);
-    for i in 0..plan.graph().tasks.len() {
-        push_jobs(&mut shapes, plan, shown, scale, TaskNo(i as u32))?;
+    for row in 0..view.count() {
+        push_jobs(&mut shapes, plan, shown, view, row)?;
     }
     Ok(shapes)
 }

@@ -1,21 +1,25 @@
-//! What is drawn beside the windows: what a schedule does, the run of one processor, or a run on
-//! several processors.
+//! What is drawn beside the windows: what a schedule does, the run of one processor, a run on several
+//! processors, or a static cyclic table.
 
-ghost use Rattle.std.specs.Prelude.{◌≡◌, ◌≤◌, ◌<◌, ◌^◌, ◌++◌, IfOk, OnOk, length};
+ghost use Rattle.std.specs.Prelude.{◌≡◌, ◌≤◌, ◌<◌, ◌^◌, IfOk, length, map};
 ghost use Rattle.std.specs.List.{flat_map};
-ghost use Rattle.prl_edf.specs.Pieces.{AreLongest};
 ghost use Rattle.prl_plan.specs.declared.limits.TheConstants.{MAX_TASKS};
-ghost use Rattle.prl_picture.specs.Shown.{ArePieces, IsOfPlan, IsPartsText, piece_text};
+ghost use Rattle.prl_tables.specs.Tables.{ArePieces};
+ghost use Rattle.prl_picture.specs.Shown.{IsPiecesText, IsOfPlan, IsPartsText, piece_of, piece_text};
+ghost use Rattle.prl_picture.specs.Views.{IsView};
 
 use crate::acts::acts_of;
 use crate::parts::{part_texts, parts_of, used_of};
 use crate::processors::{push_labels, push_rows};
 use crate::signs::push_signs;
+use crate::tables::{pieces_of, push_busy};
 use crate::verdicts::{push_all_counted, push_load, push_overload, push_piece};
+use crate::views::View;
 use prl_cores::Spread;
-use prl_drawing::{Scale, Shape};
+use prl_drawing::Shape;
 use prl_edf::{Piece, Verdict};
-use prl_plan::{Event, Horizon, Plan, plan_is_one};
+use prl_plan::{Event, Horizon, Plan};
+use prl_tables::{Entry, Table};
 use std::alloc::{AllocError, Global};
 
 /// What is drawn beside the windows.
@@ -27,83 +31,90 @@ pub enum Shown {
     Verdict(Horizon, Verdict),
     /// The tasks on several processors, and what a run does there.
     Cores(Spread, Vec<Event>),
+    /// A static cyclic table.
+    Table(Table),
 }
 
-/// How many tasks there are.
-fn tasks_of(plan: &Plan) -> u32
-    ensures exact { result ≡ length plan.now.graph.tasks }
-    ensures few { result ≤ MAX_TASKS }
+/// How many rows are drawn: one for each task of the view, and one for each processor where these are
+/// shown.
+pub(crate) fn rows_of(alloc: Global, view: &View, shown: &Shown) -> Result<u32, AllocError>
+    requires { length view.now.rows ≤ MAX_TASKS }
 {
-    plan_is_one(plan);
-    plan.graph().tasks.len() as u32
-}
-
-/// How many rows are drawn: one for each task, and one for each processor where these are shown.
-pub(crate) fn rows_of(alloc: Global, plan: &Plan, shown: &Shown) -> Result<u32, AllocError> {
-    let tasks = tasks_of(plan);
+    let rows = view.count();
     match shown {
-        Shown::Events(_) => Ok(tasks),
-        Shown::Verdict(..) => Ok(tasks.saturating_add(1)),
+        Shown::Events(_) => Ok(rows),
+        Shown::Verdict(..) => Ok(rows + 1),
+        Shown::Table(_) => Ok(rows + 1),
         Shown::Cores(spread, _) => {
             let used = used_of(alloc, spread.processors())?;
-            Ok(tasks.saturating_add(used.len() as u32))
+            Ok(rows + used.len() as u32)
         }
     }
 }
 
 /// The pieces of a run of one processor, each once.
-fn run_pieces(
-    alloc: Global,
-    scale: Scale,
-    row: u32,
-    pieces: &[Piece],
-) -> Result<Vec<u8>, AllocError>
-    requires from { scale.from < 2 ^ 32 }
-    requires span { (0 < scale.span) × (scale.span < 2 ^ 33) }
-    ensures { IfOk result (λ text. text.items ≡ flat_map (piece_text scale row) pieces.now) }
+fn run_pieces(alloc: Global, view: &View, pieces: &[Piece]) -> Result<Vec<u8>, AllocError>
+    requires from { view.now.scale.from < 2 ^ 32 }
+    requires span { (0 < view.now.scale.span) × (view.now.scale.span < 2 ^ 33) }
+    requires few { length view.now.rows ≤ MAX_TASKS }
+    ensures { IfOk result (λ text. text.items ≡ flat_map (piece_text view.now) pieces.now) }
 {
     let mut text = Vec::new(alloc);
     for piece in pieces {
-        push_piece(&mut text, scale, row, piece)?;
+        push_piece(&mut text, view, piece)?;
     }
     Ok(text)
+}
+
+/// The entries of a table, each once.
+fn table_pieces(
+    alloc: Global,
+    plan: &Plan,
+    view: &View,
+    entries: &[Entry],
+) -> Result<Vec<u8>, AllocError>
+    requires view { IsView plan.now view.now }
+    requires entries { ArePieces plan.now entries.now }
+    ensures { IfOk result (λ text. text.items ≡ flat_map (piece_text view.now) (map piece_of entries.now)) }
+{
+    let pieces = pieces_of(alloc, plan, entries)?;
+    run_pieces(alloc, view, &pieces)
 }
 
 /// The parts of ticks in which tasks act in a run, each once, in the rows of their processors.
 fn run_parts(
     alloc: Global,
-    plan: &Plan,
-    scale: Scale,
+    view: &View,
     spread: &Spread,
     events: &[Event],
 ) -> Result<Vec<u8>, AllocError>
-    requires from { scale.from < 2 ^ 32 }
-    requires span { (0 < scale.span) × (scale.span < 2 ^ 33) }
-    ensures { IfOk result (λ text. IsPartsText plan.now scale spread.now events.now text.items) }
+    requires from { view.now.scale.from < 2 ^ 32 }
+    requires span { (0 < view.now.scale.span) × (view.now.scale.span < 2 ^ 33) }
+    requires few { length view.now.rows ≤ MAX_TASKS }
+    ensures { IfOk result (λ text. IsPartsText view.now spread.now events.now text.items) }
 {
     let acts = acts_of(alloc, events)?;
-    let parts = parts_of(alloc, scale, spread.processors(), &acts)?;
-    part_texts(alloc, tasks_of(plan), spread.processors(), &parts)
+    let parts = parts_of(alloc, view.scale, spread.processors(), &acts)?;
+    part_texts(alloc, view.count(), spread.processors(), &parts)
 }
 
 /// The pieces of the run, each once, where there is one.
 pub(crate) fn pieces(
     alloc: Global,
     plan: &Plan,
-    scale: Scale,
+    view: &View,
     shown: &Shown,
 ) -> Result<Vec<u8>, AllocError>
-    requires from { scale.from < 2 ^ 32 }
-    requires span { (0 < scale.span) × (scale.span < 2 ^ 33) }
-    ensures { IfOk result (λ text. ArePieces plan.now scale shown.now text.items) }
+    requires view { IsView plan.now view.now }
+    requires shown { IsOfPlan plan.now shown.now }
+    ensures { IfOk result (λ text. IsPiecesText view.now shown.now text.items) }
 {
     match shown {
         Shown::Events(_) => Ok(Vec::new(alloc)),
         Shown::Verdict(_, Verdict::Overload { .. }) => Ok(Vec::new(alloc)),
-        Shown::Verdict(_, Verdict::Run(timed)) => {
-            run_pieces(alloc, scale, tasks_of(plan), timed.pieces.as_slice())
-        }
-        Shown::Cores(spread, events) => run_parts(alloc, plan, scale, spread, events),
+        Shown::Verdict(_, Verdict::Run(timed)) => run_pieces(alloc, view, timed.pieces.as_slice()),
+        Shown::Cores(spread, events) => run_parts(alloc, view, spread, events),
+        Shown::Table(table) => table_pieces(alloc, plan, view, table.entries.as_slice()),
     }
 }
 
@@ -113,21 +124,19 @@ fn push_run(
     alloc: Global,
     text: &mut Vec<u8>,
     plan: &Plan,
-    scale: Scale,
+    view: &View,
     spread: &Spread,
     events: &[Event],
 ) -> Result<(), AllocError>
-    requires from { scale.from < 2 ^ 32 }
-    requires span { (0 < scale.span) × (scale.span < 2 ^ 33) }
+    requires { IsView plan.now view.now }
 {
     let acts = acts_of(alloc, events)?;
-    push_signs(text, plan, scale, &acts)?;
+    push_signs(text, plan, view, &acts)?;
     let processors = spread.processors();
     let used = used_of(alloc, processors)?;
-    let parts = parts_of(alloc, scale, processors, &acts)?;
-    let tasks = tasks_of(plan);
-    push_rows(text, tasks, processors, &used)?;
-    push_labels(text, plan, tasks, processors, &used, &parts)
+    let parts = parts_of(alloc, view.scale, processors, &acts)?;
+    push_rows(text, view.count(), processors, &used)?;
+    push_labels(text, plan, view.count(), processors, &used, &parts)
 }
 
 /// Appends the signs of what a schedule does.
@@ -135,40 +144,39 @@ fn push_events(
     alloc: Global,
     text: &mut Vec<u8>,
     plan: &Plan,
-    scale: Scale,
+    view: &View,
     events: &[Event],
 ) -> Result<(), AllocError>
-    requires from { scale.from < 2 ^ 32 }
-    requires span { (0 < scale.span) × (scale.span < 2 ^ 33) }
+    requires { IsView plan.now view.now }
 {
     let acts = acts_of(alloc, events)?;
-    push_signs(text, plan, scale, &acts)
+    push_signs(text, plan, view, &acts)
 }
 
 /// Appends what a schedule does; or the load of the processor; or the mark of an overloaded interval
-/// with frames round the windows inside it; or what a run on processors does.
+/// with frames round the windows inside it; or what a run on processors does; or the load of a table.
 pub(crate) fn push_shown(
     alloc: Global,
     text: &mut Vec<u8>,
     plan: &Plan,
-    scale: Scale,
+    view: &View,
     shapes: &[Shape],
     shown: &Shown,
 ) -> Result<(), AllocError>
-    requires from { scale.from < 2 ^ 32 }
-    requires span { (0 < scale.span) × (scale.span < 2 ^ 33) }
+    requires view { IsView plan.now view.now }
     requires shown { IsOfPlan plan.now shown.now }
 {
-    let row = tasks_of(plan);
+    let row = view.count();
     match shown {
-        Shown::Events(events) => push_events(alloc, text, plan, scale, events),
+        Shown::Events(events) => push_events(alloc, text, plan, view, events),
         Shown::Verdict(horizon, Verdict::Run(timed)) => {
             push_load(text, row, timed.ticks(), horizon.end)
         }
         Shown::Verdict(_, Verdict::Overload { from, to, demand }) => {
-            push_overload(text, scale, row, *from, *to, *demand)?;
+            push_overload(text, view.scale, row, *from, *to, *demand)?;
             push_all_counted(text, shapes, *from, *to)
         }
-        Shown::Cores(spread, events) => push_run(alloc, text, plan, scale, spread, events),
+        Shown::Cores(spread, events) => push_run(alloc, text, plan, view, spread, events),
+        Shown::Table(table) => push_busy(text, row, table.entries.as_slice(), plan.graph().hyper),
     }
 }

@@ -1,9 +1,11 @@
 //! The run by earliest deadline first of the jobs up to a tick, below the windows and in a row of the
 //! processor; or the overloaded interval that shows that there is none.
 
-ghost use Rattle.std.specs.Prelude.{◌≡◌, ◌++◌, ◌<◌, ◌^◌, OnOk};
-ghost use Rattle.prl_picture.specs.Shown.{piece_text};
+ghost use Rattle.std.specs.Prelude.{◌≡◌, ◌++◌, ◌<◌, ◌≤◌, ◌^◌, OnOk, length};
+ghost use Rattle.prl_plan.specs.declared.limits.TheConstants.{MAX_TASKS};
+ghost use Rattle.prl_picture.specs.Shown.{low_text, piece_text};
 
+use crate::views::{View, row_in};
 use prl_drawing::{
     GAP, Scale, Shape, TOP, is_seen, push, push_attribute, push_box, push_frame, push_place,
     push_processor, row_of, x_within,
@@ -33,23 +35,35 @@ const OVERLOAD_LEGEND: &str = "<rect class=\"b\" x=\"1600\" y=\"590\" width=\"30
     <rect class=\"c\" x=\"3200\" y=\"590\" width=\"300\" height=\"80\"/>\
     <text x=\"3560\" y=\"670\">windows inside</text>\n";
 
-/// Appends a piece: below the windows of its task, and in the row of the processor.
-pub(crate) fn push_piece(
-    text: &mut Vec<u8>,
-    scale: Scale,
-    row: u32,
-    piece: &Piece,
-) -> Result<(), AllocError>
-    requires from { scale.from < 2 ^ 32 }
-    requires span { (0 < scale.span) × (scale.span < 2 ^ 33) }
-    ensures { OnOk result (text.new.items ≡ text.old.items ++ piece_text scale row piece.now) }
+/// Appends a piece below the windows of its task, where that has a row.
+fn push_low(text: &mut Vec<u8>, view: &View, piece: &Piece) -> Result<(), AllocError>
+    requires from { view.now.scale.from < 2 ^ 32 }
+    requires span { (0 < view.now.scale.span) × (view.now.scale.span < 2 ^ 33) }
+    requires few { length view.now.rows ≤ MAX_TASKS }
+    ensures { OnOk result (text.new.items ≡ text.old.items ++ low_text view.now piece.now) }
 {
-    if !is_seen(scale, piece.from, piece.to) {
+    let row = row_in(view.rows.as_slice(), piece.task);
+    if row >= view.count() {
         return Ok(());
     }
     let (task, from, to) = (piece.task.0, piece.from, piece.to);
-    push_box(text, scale, task, from, to, row_of(task) + BELOW, LOW)?;
-    push_box(text, scale, task, from, to, row_of(row) + GAP, HIGH)
+    push_box(text, view.scale, task, from, to, row_of(row) + BELOW, LOW)
+}
+
+/// Appends a piece: below the windows of its task, and in the row of the processor.
+pub(crate) fn push_piece(text: &mut Vec<u8>, view: &View, piece: &Piece) -> Result<(), AllocError>
+    requires from { view.now.scale.from < 2 ^ 32 }
+    requires span { (0 < view.now.scale.span) × (view.now.scale.span < 2 ^ 33) }
+    requires few { length view.now.rows ≤ MAX_TASKS }
+    ensures { OnOk result (text.new.items ≡ text.old.items ++ piece_text view.now piece.now) }
+{
+    let (task, from, to) = (piece.task.0, piece.from, piece.to);
+    if !is_seen(view.scale, from, to) {
+        return Ok(());
+    }
+    let top = row_of(view.count()) + GAP;
+    push_low(text, view, piece)?;
+    push_box(text, view.scale, task, from, to, top, HIGH)
 }
 
 /// Appends the load of the processor: for how many ticks it is busy up to the end.
