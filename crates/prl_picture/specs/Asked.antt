@@ -12,8 +12,8 @@ use Rattle.prl_schedules.specs.Schedules.{schedule_of}
 use Rattle.prl_schedules.specs.ScheduleTexts.{task_names}
 use Rattle.prl_cores.specs.Processors.{processors_of}
 use Rattle.prl_tables.specs.TableTexts.{entries_of}
-use Rattle.prl_picture.specs.declared.shown.Shown.{Shown}
-use Rattle.prl_picture.specs.declared.shown.Shown.TheVariants as kinds
+use Rattle.prl_views.specs.declared.shown.Shown.{Shown}
+use Rattle.prl_views.specs.declared.shown.Shown.TheVariants as kinds
 
 -- files by name; none where they are not known
 abbrev pub Folder : Type 0

@@ -1,7 +1,6 @@
 -- The picture of a plan.
-use Rattle.std.specs.Prelude.{◌≡◌, ◌<◌, ◌++◌, ℕ, Bool, false, List, [], ◌∷◌, Some, Result, IfOk, IfSome, MatchOption, codes, length}
+use Rattle.std.specs.Prelude.{◌≡◌, ◌<◌, ℕ, Bool, false, List, [], ◌∷◌, Some, Result, IfOk, IfSome, MatchOption, codes, length}
 use Rattle.std.specs.Bool.{OnFalse}
-use Rattle.std.specs.List.{flat_map}
 use Rattle.std.specs.Str.{bytes_eq}
 use Rattle.prl_io.specs.Views.{FolderView, SinkView}
 use Rattle.prl_companions.specs.Pairs.{value_of}
@@ -9,22 +8,15 @@ use Rattle.prl_base.specs.Decimals.{decimal_of}
 use Rattle.prl_plan.specs.Jobs.{task_at}
 use Rattle.prl_plan.specs.Plans.{PlanView}
 use Rattle.prl_plantext.specs.ReadTexts.{IsTextOf}
-use Rattle.prl_drawing.specs.Windows.{window_text}
 use Rattle.prl_picture.specs.declared.faults.Fault.{Fault}
-use Rattle.prl_picture.specs.declared.shown.Shown.{Shown}
-use Rattle.prl_picture.specs.declared.views.View.{View}
+use Rattle.prl_views.specs.declared.shown.Shown.{Shown}
+use Rattle.prl_views.specs.declared.views.View.{View}
 use Rattle.prl_picture.specs.Asked.{Folder, IsAsked}
 use Rattle.prl_picture.specs.Faults.{EndsSo}
 use Rattle.prl_picture.specs.Ranges.{IsDefaultEnd, IsRange}
-use Rattle.prl_picture.specs.Shapes.{shapes_of}
-use Rattle.prl_picture.specs.Shown.{IsOfPlan, IsPiecesText}
-use Rattle.prl_picture.specs.Views.{all_rows, near_rows}
-
--- the text has the window of each job that is shown once, in one piece, and then each piece of the run or the table
-abbrev pub IsPictureOf : PlanView → Shown → View → List ℕ → Type 0
-IsPictureOf plan shown view text =
-    (below pieces above : List ℕ) × IsPiecesText view shown pieces
-    × (text ≡ below ++ flat_map window_text (shapes_of plan shown view) ++ pieces ++ above)
+use Rattle.prl_views.specs.Drawn.{IsPictureOf}
+use Rattle.prl_views.specs.Shown.{IsOfPlan}
+use Rattle.prl_picture.specs.Chosen.{all_rows, near_rows}
 
 -- the first tick that the words ask for: 0 where they do not say it
 abbrev pub IsFirst : List (List ℕ) → ℕ → Type 0

@@ -7,11 +7,9 @@ ghost use Rattle.prl_cores.specs.Processors.{IsOfTasks};
 ghost use Rattle.prl_picture.specs.Asked.{IsAsked, IsDispatchedList, IsListed, IsPlacedEvents, IsPlacedOrListed, IsPlacedRun, IsSchedule, IsTableOf, IsUpTo, TellsProcessors};
 ghost use Rattle.prl_tables.specs.TableTexts.{entries_of};
 ghost use Rattle.prl_tables.specs.Tables.{IsGood};
-ghost use Rattle.prl_picture.specs.Shown.{IsOfPlan};
+ghost use Rattle.prl_views.specs.Shown.{IsOfPlan};
 
 use crate::faults::{Fault, unfit, unfit_for, why_of};
-use crate::look_ups::task_of;
-use crate::shown::Shown;
 use crate::words::{FORM, tick_of};
 use prl_base::{TaskNo, push_number};
 use prl_companions::{Stop, read_named, value_of};
@@ -21,6 +19,7 @@ use prl_io::Files;
 use prl_plan::{Event, Horizon, Plan, plan_is_one};
 use prl_schedules::{ScheduleFault, dispatch_on, read_schedule};
 use prl_tables::{Table, TableFault, check_table, read_table};
+use prl_views::{Shown, task_of};
 use std::alloc::{AllocError, Global};
 
 /// The most bytes of a schedule.

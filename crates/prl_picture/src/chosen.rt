@@ -1,9 +1,9 @@
 //! The tasks that have a row: all, or one with those that an edge connects with it.
 
-ghost use Rattle.std.specs.Prelude.{◌≡◌, ◌<◌, IfOk, IfSome, length};
-ghost use Rattle.std.specs.List.{filter};
+ghost use Rattle.std.specs.Prelude.{◌≡◌, ◌+◌, ◌<◌, ◌≤◌, ◌++◌, All, IfOk, IfSome, OnOk, length};
 ghost use Rattle.prl_plan.specs.Jobs.{task_at};
-ghost use Rattle.prl_picture.specs.Views.{AreTasks, all_rows, connect_any, connects, is_near, is_task, near_rows};
+ghost use Rattle.prl_picture.specs.Chosen.{all_rows, connect_any, connects, is_near, is_task, near_one, near_rows};
+ghost use Rattle.prl_views.specs.Views.{AreTasks};
 
 use prl_base::TaskNo;
 use prl_plan::{Edge, Plan, Producer, plan_is_one};
@@ -57,6 +57,19 @@ fn is_near(plan: &Plan, i: TaskNo, j: TaskNo) -> bool
     i.0 == j.0 || connect_any(i, j, plan.graph().edges.as_slice())
 }
 
+/// Adds a task, where it is this one or near it.
+fn push_near(rows: &mut Vec<u32>, plan: &Plan, i: TaskNo, j: u32) -> Result<(), AllocError>
+    requires { j < length plan.now.graph.tasks }
+    ensures exact { OnOk result (rows.new.items ≡ rows.old.items ++ near_one plan.now.graph i.0 j) }
+    ensures few { OnOk result (length rows.new.items ≤ length rows.old.items + 1) }
+    ensures inside { OnOk result (All (λ k. k < length plan.now.graph.tasks) rows.old.items → All (λ k. k < length plan.now.graph.tasks) rows.new.items) }
+{
+    if is_near(plan, i, TaskNo(j)) {
+        rows.push(j)?;
+    }
+    Ok(())
+}
+
 /// The task of this number and those that edges connect with it, in order.
 pub(crate) fn near_rows(alloc: Global, plan: &Plan, i: TaskNo) -> Result<Vec<u32>, AllocError>
     ensures exact { IfOk result (λ rows. rows.items ≡ near_rows plan.now.graph i.0) }
@@ -64,10 +77,9 @@ pub(crate) fn near_rows(alloc: Global, plan: &Plan, i: TaskNo) -> Result<Vec<u32
 {
     plan_is_one(plan);
     let mut rows = Vec::new(alloc);
-    for j in 0..plan.graph().tasks.len() as u32 {
-        if is_near(plan, i, TaskNo(j)) {
-            rows.push(j)?;
-        }
+    let count = plan.graph().tasks.len() as u32;
+    for j in 0..count {
+        push_near(&mut rows, plan, i, j)?;
     }
     Ok(rows)
 }
@@ -79,7 +91,8 @@ pub(crate) fn all_rows(alloc: Global, plan: &Plan) -> Result<Vec<u32>, AllocErro
 {
     plan_is_one(plan);
     let mut rows = Vec::new(alloc);
-    for j in 0..plan.graph().tasks.len() as u32 {
+    let count = plan.graph().tasks.len() as u32;
+    for j in 0..count {
         rows.push(j)?;
     }
     Ok(rows)

@@ -5,13 +5,12 @@ ghost use Rattle.std.specs.Prelude.{◌≡◌, ◌+◌, ◌<◌, ◌≤◌, ◌^
 ghost use Rattle.prl_plan.specs.Jobs.{job_count, task_at};
 ghost use Rattle.prl_plan.specs.Plans.{edge_at};
 ghost use Rattle.prl_picture.specs.Ranges.{IsDefaultEnd};
-ghost use Rattle.prl_picture.specs.Views.{AreTasks};
+ghost use Rattle.prl_views.specs.Views.{AreTasks};
 
-use crate::acts::is_in;
-use crate::look_ups::{edge_of, job_count, operand_of, own_release, task_of};
 use crate::ranges::MAX_UNTIL;
 use prl_base::{EdgeNo, TaskNo};
 use prl_plan::{Edge, Operand, Plan, Producer, plan_is_one};
+use prl_views::{edge_of, is_in, job_count, operand_of, own_release, task_of};
 
 /// In how many hyperperiods an arrow is looked for.
 pub const REACH: u64 = 4;

@@ -78,7 +78,7 @@ fn tell_unfit<E: Sink>(err: &mut E, name: &[u8], why: &[u8])
 /// Ends a call: writes the picture to `out`, or tells on `err` why there is none, and answers the
 /// status.
 pub(crate) fn end<S: Sink, E: Sink>(out: &mut S, err: &mut E, outcome: Result<Vec<u8>, Fault>) -> u8
-    ensures { EndsSo vec_items outcome.now (S.seen out.old) (S.seen out.new) (E.seen err.old) (E.seen err.new) result }
+    ensures { EndsSo vec_items outcome (S.seen out.old) (S.seen out.new) (E.seen err.old) (E.seen err.new) result }
 {
     match outcome {
         Ok(text) => finish(out, err, &Ok(text)),

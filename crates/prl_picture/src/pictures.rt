@@ -1,106 +1,30 @@
 //! The picture of a plan, and the call that draws it.
 
-ghost use Rattle.std.specs.Prelude.{◌≡◌, ◌++◌, ◌<◌, ◌≤◌, drop, map, IfOk};
+ghost use Rattle.std.specs.Prelude.{◌≡◌, ◌<◌, ◌≤◌, drop, map, IfOk};
 ghost use Rattle.std.specs.Bool.{OnFalse};
 ghost use Rattle.std.specs.String.{string_bytes};
-ghost use Rattle.prl_picture.specs.Pictures.{Answers, AreAsked, AreRows, IsDrawn, IsNearRows, IsPicture, IsPictureOf, asks_help};
+ghost use Rattle.prl_picture.specs.Pictures.{Answers, AreAsked, AreRows, IsDrawn, IsNearRows, IsPicture, asks_help};
 ghost use Rattle.prl_picture.specs.Ranges.{IsRange};
-ghost use Rattle.prl_picture.specs.Shown.{IsOfPlan};
-ghost use Rattle.prl_picture.specs.Views.{AreTasks, IsView};
+ghost use Rattle.prl_views.specs.Views.{AreTasks, IsView};
 
-use crate::arrows::push_arrows;
 use crate::asked::shown;
 use crate::chosen::{all_rows, near_rows, task_named};
-use crate::details::push_details;
 use crate::faults::{Fault, end, unfit_for};
-use crate::heads::push_head;
 use crate::ranges::{MAX_UNTIL, left_out, scale_of};
-use crate::shapes::shapes_of;
-use crate::shown::{Shown, pieces, push_shown, rows_of};
-use crate::views::View;
 use crate::words::{FORM, HELP, OPTIONS, asks_help, range_of, tick_unit, whole_before};
 use prl_base::Seq;
 use prl_companions::{Stop, after_name, are_pairs, read_named, value_of};
-use prl_drawing::{Shape, Unit, push, push_numbers, windows};
 use prl_io::{Files, Sink};
 use prl_plan::Plan;
 use prl_plantext::{PlanFault, read_plan};
-use std::alloc::{AllocError, Global};
+use prl_views::{View, picture_of};
+use std::alloc::Global;
 
 /// The most bytes of a plan's text.
 pub const MAX_PLAN: u64 = 33_554_432;
 
 /// Why there is no picture.
 const NO_PLAN: &str = "not the text of a plan";
-
-/// What is drawn over the windows.
-fn above(
-    alloc: Global,
-    plan: &Plan,
-    shown: &Shown,
-    view: &View,
-    shapes: &[Shape],
-) -> Result<Vec<u8>, AllocError>
-    requires view { IsView plan.now view.now }
-    requires shown { IsOfPlan plan.now shown.now }
-{
-    let mut text = Vec::new(alloc);
-    push_shown(alloc, &mut text, plan, view, shapes, shown)?;
-    push_details(&mut text, plan, view.scale, shapes)?;
-    push_arrows(&mut text, plan, shown, view)?;
-    push_numbers(&mut text, shapes)?;
-    push(&mut text, "</svg>\n")?;
-    Ok(text)
-}
-
-/// What is drawn below the windows.
-fn below(
-    alloc: Global,
-    plan: &Plan,
-    shown: &Shown,
-    view: &View,
-    unit: &Unit,
-    left_out: u64,
-) -> Result<Vec<u8>, AllocError>
-    requires view { IsView plan.now view.now }
-{
-    let rows = rows_of(alloc, view, shown)?;
-    let mut text = Vec::new(alloc);
-    push_head(&mut text, plan, view, unit, left_out, rows)?;
-    Ok(text)
-}
-
-/// Three texts one after another, behind a first one.
-fn joined(first: Vec<u8>, second: &[u8], third: &[u8], fourth: &[u8]) -> Result<Vec<u8>, AllocError>
-    ensures { IfOk result (λ text. text.items ≡ first.items ++ second.now ++ third.now ++ fourth.now) }
-{
-    let mut text = first;
-    text.extend_from_slice(second)?;
-    text.extend_from_slice(third)?;
-    text.extend_from_slice(fourth)?;
-    Ok(text)
-}
-
-/// The picture of the jobs of a plan, with what is drawn beside the windows.
-pub fn picture_of(
-    alloc: Global,
-    plan: &Plan,
-    shown: &Shown,
-    view: &View,
-    unit: &Unit,
-    left_out: u64,
-) -> Result<Vec<u8>, AllocError>
-    requires view { IsView plan.now view.now }
-    requires shown { IsOfPlan plan.now shown.now }
-    ensures { IfOk result (λ text. IsPictureOf plan.now shown.now view.now text.items) }
-{
-    let shapes = shapes_of(alloc, plan, shown, view)?;
-    let first = below(alloc, plan, shown, view, unit, left_out)?;
-    let second = windows(alloc, &shapes)?;
-    let third = pieces(alloc, plan, view, shown)?;
-    let fourth = above(alloc, plan, shown, view, &shapes)?;
-    joined(first, &second, &third, &fourth)
-}
 
 /// Says that the file of a plan has no task of the name that the words ask for.
 fn no_task(alloc: Global, words: &[String], name: &[u8]) -> Fault {
@@ -223,7 +147,7 @@ fn picture<F: Files>(alloc: Global, words: &[String], files: &mut F) -> Result<V
 
 /// What the words ask for: what the options mean, or a picture.
 fn answer<F: Files>(alloc: Global, words: &[String], files: &mut F) -> Result<Vec<u8>, Fault>
-    ensures text { OnFalse (asks_help (map string_bytes words.now)) (IfOk result (λ text. IsPicture (F.seen files.old).folder (map string_bytes words.now) text.items)) }
+    ensures { OnFalse (asks_help (map string_bytes words.now)) (IfOk result (λ text. IsPicture (F.seen files.old).folder (map string_bytes words.now) text.items)) }
 {
     if asks_help(words) {
         return Ok(Vec::from_slice(alloc, HELP.as_bytes())?);

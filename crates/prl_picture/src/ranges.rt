@@ -2,12 +2,12 @@
 
 ghost use Rattle.std.specs.Prelude.{◌≡◌, ◌<◌, ◌≤◌, ◌^◌, length};
 ghost use Rattle.prl_picture.specs.Ranges.{IsRange};
-ghost use Rattle.prl_picture.specs.Views.{AreTasks};
+ghost use Rattle.prl_views.specs.Views.{AreTasks};
 
-use crate::look_ups::{job_count, own_release, task_of};
 use prl_base::TaskNo;
 use prl_drawing::Scale;
 use prl_plan::Plan;
+use prl_views::{job_count, own_release, task_of};
 
 /// How many jobs of a task can be read in its row.
 pub const MOST: u64 = 100;

@@ -4,7 +4,7 @@ ghost use Rattle.std.specs.Prelude.{◌≡◌, ◌<◌, ◌≤◌, IfSome, Some,
 ghost use Rattle.std.specs.String.{string_bytes};
 ghost use Rattle.prl_base.specs.Decimals.{decimal_of};
 ghost use Rattle.prl_picture.specs.Pictures.{AreAsked, IsFirst, IsLast, asks_help};
-ghost use Rattle.prl_picture.specs.Views.{AreTasks};
+ghost use Rattle.prl_views.specs.Views.{AreTasks};
 
 use crate::defaults::default_end;
 use crate::ranges::MAX_UNTIL;

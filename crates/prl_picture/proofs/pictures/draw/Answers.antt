@@ -6,7 +6,9 @@ use Rattle.prl_io.specs.Views.{SinkView}
 use Rattle.prl_picture.specs.declared.faults.Fault.{Fault}
 use Rattle.prl_picture.specs.declared.faults.Fault.TheVariants as faults
 use Rattle.prl_picture.specs.Faults.{EndsSo}
-use Rattle.prl_picture.specs.Pictures.{IsPicture}
+use Rattle.std.specs.Bool.{OnFalse}
+use Rattle.std.proofs.lemmas.Bool.{OnFalse_at, OnFalse_from}
+use Rattle.prl_picture.specs.Pictures.{IsPicture, asks_help}
 use Rattle.prl_picture.proofs.pictures.draw.Goals as goal
 
 -- an outcome with its text as a list of bytes
@@ -30,9 +32,11 @@ returns g c =
     let words : map string_bytes c.after_name.result.now ≡ drop 1 (map string_bytes c.args.words.now) =
     ap (map string_bytes) c.after_name.ensures ∙ sym (drop-map string_bytes 1 c.args.words.now) in
     let files = g.F.Files.seen c.args.files.now in
+    let told = c.answer-outcome.ensures in
     record {
-      outcome = seen vec_items c.picture-outcome.result;
-      ends = ends_so vec_items c.picture-outcome.result _ _ _ _ _ c.end.ensures;
-      text = subst (λ (ws : List (List ℕ)). IfOk (seen vec_items c.picture-outcome.result) (IsPicture files.folder ws)) words
-          (text_so vec_items c.picture-outcome.result _ c.picture-outcome.ensures.text);
+      outcome = seen vec_items c.answer-outcome.result;
+      ends = ends_so vec_items c.answer-outcome.result _ _ _ _ _ c.end.ensures;
+      text = subst (λ (ws : List (List ℕ)). OnFalse (asks_help ws) (IfOk (seen vec_items c.answer-outcome.result) (IsPicture files.folder ws))) words
+          (OnFalse_from (asks_help (map string_bytes c.after_name.result.now)) _
+          (λ no. text_so vec_items c.answer-outcome.result _ (OnFalse_at no told)));
     }
