@@ -1,5 +1,6 @@
 -- Rectangles in the colours of tasks, and over the ticks of an interval.
-use Rattle.std.specs.Prelude.{◌-◌, ◌%◌, ◌++◌, ℕ, List, codes}
+use Rattle.std.specs.Prelude.{◌-◌, ◌%◌, ◌++◌, ℕ, List, codes, max}
+use Rattle.prl_drawing.specs.declared.boxes.TheConstants.{LEAST}
 use Rattle.prl_drawing.specs.declared.rows.TheConstants.{COLOURS}
 use Rattle.prl_drawing.specs.declared.scales.Scale.{Scale}
 use Rattle.prl_drawing.specs.Texts.{attribute_text}
@@ -19,7 +20,7 @@ abbrev pub coloured_text : ℕ → ℕ → ℕ → ℕ → ℕ → List ℕ
 coloured_text task left top width height =
     attribute_text (codes "<rect class=\"s t") (task % COLOURS) ++ place_text left top width height
 
--- a rectangle in the colour of a task over the ticks of an interval
+-- a rectangle in the colour of a task over the ticks of an interval, at least so wide that it can be seen
 abbrev pub box_text : Scale → ℕ → ℕ → ℕ → ℕ → ℕ → List ℕ
 box_text scale task from to top height =
-    coloured_text task (x_within scale from) top (x_within scale to - x_within scale from) height
+    coloured_text task (x_within scale from) top (max (x_within scale to - x_within scale from) LEAST) height

@@ -2,6 +2,6 @@
 use Rattle.std.specs.Prelude.{◌+◌, ◌*◌, ℕ}
 use Rattle.prl_drawing.specs.declared.rows.TheConstants.{ROW, TOP}
 
--- how far the row of a task is from the top
+-- how far a row is from the top
 abbrev pub row_of : ℕ → ℕ
-row_of task = TOP + task * ROW
+row_of row = TOP + row * ROW

@@ -5,11 +5,11 @@ use Rattle.prl_drawing.specs.declared.rows.TheConstants.{COLOURS, GAP}
 use Rattle.prl_drawing.specs.Rows.{row_of}
 use Rattle.prl_drawing.specs.Texts.{attribute_text}
 
--- a rectangle in the row of its task, from the encoded release to the encoded deadline
+-- a rectangle in its row, in the colour of its task, from the encoded release to the encoded deadline
 abbrev pub window_text : Shape → List ℕ
 window_text shape =
     attribute_text (codes "<rect class=\"w t") (shape.task % COLOURS)
     ++ attribute_text (codes "\" x=\"") shape.left
-    ++ attribute_text (codes "\" y=\"") (row_of shape.task + GAP)
+    ++ attribute_text (codes "\" y=\"") (row_of shape.row + GAP)
     ++ attribute_text (codes "\" width=\"") (shape.right - shape.left)
     ++ codes "\" height=\"200\"/>\n"

@@ -8,6 +8,9 @@ use crate::scales::{Scale, x_within};
 use crate::texts::push_attribute;
 use std::alloc::AllocError;
 
+/// How wide a rectangle over some ticks is at least, in tenths of a pixel.
+pub const LEAST: u64 = 20;
+
 /// Appends the rest of a rectangle.
 pub fn push_place(
     text: &mut Vec<u8>,
@@ -41,7 +44,8 @@ pub fn push_coloured(
     push_place(text, left, top, width, height)
 }
 
-/// Appends a rectangle in the colour of a task over the ticks of an interval.
+/// Appends a rectangle in the colour of a task over the ticks of an interval, at least so wide that it
+/// can be seen.
 pub fn push_box(
     text: &mut Vec<u8>,
     scale: Scale,
@@ -57,5 +61,6 @@ pub fn push_box(
 {
     let left = x_within(scale, from);
     let right = x_within(scale, to);
-    push_coloured(text, task, left, top, right.saturating_sub(left), height)
+    let width = right.saturating_sub(left).max(LEAST);
+    push_coloured(text, task, left, top, width, height)
 }

@@ -5,6 +5,7 @@ ghost use Rattle.std.specs.Prelude.{◌<◌, ◌^◌};
 use crate::rows::{TOP, row_of};
 use crate::scales::{LEFT, Scale, WIDTH, x_of};
 use crate::texts::{push, push_attribute};
+use crate::units::{Unit, push_time};
 use std::alloc::AllocError;
 
 /// How wide a picture is, in tenths of a pixel.
@@ -56,11 +57,14 @@ static STEPS: [u64; 31] = [
 
 /// How things look. Colours are those that most eyes tell apart.
 const STYLE: &str = "<style>text{font-family:sans-serif;font-size:120px;fill:#222}\
-    .k{font-size:100px;fill:#666}.x{font-size:100px;fill:#444;text-anchor:middle}\
+    .k{font-size:100px;fill:#666}.x{font-size:100px;fill:#444;text-anchor:middle}.u{font-size:100px;fill:#444;text-anchor:end}\
     .j{font-size:100px;fill:#222;text-anchor:middle;stroke:#fff;stroke-width:24;\
     stroke-opacity:.8;paint-order:stroke;pointer-events:none}.g{stroke:#ddd;stroke-width:8;fill:none}\
     .l{stroke:#bbb;stroke-width:10;fill:none}.o{stroke:#222;stroke-width:14;fill:none}\
-    .a{stroke:#555;stroke-width:9;fill:none;marker-end:url(#p)}.d{stroke-dasharray:50 40}\
+    .a{stroke:#555;stroke-width:9;fill:none;stroke-linejoin:round;marker-end:url(#p)}\
+    .d{stroke-dasharray:50 30}.v{stroke:#222;stroke-width:3}\
+    .e0{stroke:#9A6A00}.e1{stroke:#1F7FB8}.e2{stroke:#00664B}.e3{stroke:#8C8200}\
+    .e4{stroke:#004B7A}.e5{stroke:#A34700}.e6{stroke:#9C4A7B}.e7{stroke:#555}\
     .w{fill-opacity:.35;stroke:#444;stroke-width:8}.h{fill-opacity:0}.s{stroke:#222;stroke-width:6}\
     .b{fill:#D55E00;fill-opacity:.2;stroke:#D55E00;stroke-width:10}\
     .c{fill:none;stroke:#D55E00;stroke-width:24}\
@@ -77,9 +81,15 @@ const LEGEND: &str = "<rect class=\"w t7\" x=\"1600\" y=\"330\" width=\"300\" he
     <rect class=\"t7\" x=\"4900\" y=\"410\" width=\"300\" height=\"80\"/>\
     <text x=\"5260\" y=\"455\">WCET</text>\
     <path class=\"o\" d=\"M5900 320v180\"/>\
-    <text x=\"5960\" y=\"455\">own release or deadline, where another</text>\
-    <path class=\"a\" d=\"M8400 415h320\"/><text x=\"8780\" y=\"455\">precedes</text>\
-    <path class=\"a d\" d=\"M9500 415h320\"/><text x=\"9880\" y=\"455\">after a delay</text>\n";
+    <text x=\"5960\" y=\"455\">own release or deadline, where another</text>\n";
+
+/// What an arrow means.
+const PRECEDES: &str = "<path class=\"a\" d=\"M8400 415h320\"/>\
+    <text x=\"8780\" y=\"455\">precedes</text>\n";
+
+/// What a dashed arrow means.
+const AFTER_DELAY: &str = "<path class=\"a d\" d=\"M9500 415h320\"/>\
+    <text x=\"9880\" y=\"455\">after a delay</text>\n";
 
 /// How high a picture of so many rows is.
 fn height_of(rows: u32) -> u64 {
@@ -101,6 +111,17 @@ pub fn push_opening(text: &mut Vec<u8>, rows: u32) -> Result<(), AllocError> {
     push(text, LEGEND)
 }
 
+/// Appends what the arrows mean that are drawn: whether there are some, and some that are dashed.
+pub fn push_arrow_legend(text: &mut Vec<u8>, plain: bool, delayed: bool) -> Result<(), AllocError> {
+    if plain {
+        push(text, PRECEDES)?;
+    }
+    if delayed {
+        push(text, AFTER_DELAY)?;
+    }
+    Ok(())
+}
+
 /// How far the numbers of ticks lie apart.
 fn step_of(span: u64) -> u64
     ensures { 0 < result }
@@ -113,19 +134,31 @@ fn step_of(span: u64) -> u64
     span.max(1)
 }
 
-/// Appends a line at a tick, and its number.
-fn push_tick(text: &mut Vec<u8>, x: u64, tick: u64, bottom: u64) -> Result<(), AllocError> {
+/// Appends a line at a tick, and when it is.
+fn push_tick(
+    text: &mut Vec<u8>,
+    unit: &Unit,
+    x: u64,
+    tick: u64,
+    bottom: u64,
+) -> Result<(), AllocError> {
     push_attribute(text, "<path class=\"g\" d=\"M", x)?;
     push_attribute(text, " ", TOP)?;
     push_attribute(text, "V", bottom)?;
     push_attribute(text, "\"/><text class=\"x\" x=\"", x)?;
     push_attribute(text, "\" y=\"", TOP - 60)?;
-    push_attribute(text, "\">", tick)?;
+    push(text, "\">")?;
+    push_time(text, unit, tick)?;
     push(text, "</text>\n")
 }
 
-/// Appends lines at some ticks, and their numbers.
-pub fn push_ticks(text: &mut Vec<u8>, scale: Scale, bottom: u64) -> Result<(), AllocError>
+/// Appends lines at some ticks, and when they are, in this unit.
+pub fn push_ticks(
+    text: &mut Vec<u8>,
+    scale: Scale,
+    unit: &Unit,
+    bottom: u64,
+) -> Result<(), AllocError>
     requires from { scale.from < 2 ^ 32 }
     requires span { (0 < scale.span) × (scale.span < 2 ^ 33) }
 {
@@ -134,9 +167,12 @@ pub fn push_ticks(text: &mut Vec<u8>, scale: Scale, bottom: u64) -> Result<(), A
     let first = scale.from.div_ceil(step);
     for k in first..end / step + 1 {
         let tick = k * step;
-        push_tick(text, x_of(scale, tick), tick, bottom)?;
+        push_tick(text, unit, x_of(scale, tick), tick, bottom)?;
     }
-    Ok(())
+    push_attribute(text, "<text class=\"u\" x=\"1500\" y=\"", TOP - 60)?;
+    push(text, "\">")?;
+    push(text, unit.name)?;
+    push(text, "</text>\n")
 }
 
 /// Appends the name of a task, its period and its WCET, and a line above its row.
@@ -173,5 +209,5 @@ pub fn push_processor(text: &mut Vec<u8>, row: u32) -> Result<(), AllocError> {
     push_attribute(text, "<path class=\"l\" d=\"M100 ", y)?;
     push_attribute(text, "H", LEFT + WIDTH + 200)?;
     push_attribute(text, "\"/><text x=\"100\" y=\"", y + 190)?;
-    push(text, "\">processor: ")
+    push(text, "\">processor")
 }

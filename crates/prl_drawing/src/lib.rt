@@ -10,14 +10,16 @@ mod rows;
 mod scales;
 mod shapes;
 mod texts;
+mod units;
 mod window_texts;
 
-pub use boxes::{push_box, push_coloured, push_place};
-pub use frames::{push_name, push_opening, push_processor, push_ticks};
+pub use boxes::{LEAST, push_box, push_coloured, push_place};
+pub use frames::{push_arrow_legend, push_name, push_opening, push_processor, push_ticks};
 pub use marks::{is_followed, push_arrow, push_bar, push_frame, push_own_dates};
 pub use numbers::push_numbers;
 pub use rows::{COLOURS, GAP, ROW, TOP, colour_of, row_of};
 pub use scales::{LEFT, Scale, WIDTH, is_seen, x_of, x_within};
 pub use shapes::Shape;
 pub use texts::{push, push_attribute};
+pub use units::{Unit, push_time, unit_of};
 pub use window_texts::windows;

@@ -1,7 +1,8 @@
 //! Marks of jobs: the bars of their WCETs, lines at their own dates, frames round their windows, and
 //! arrows from one to another.
 
-use crate::rows::{GAP, colour_of, row_of};
+use crate::boxes::LEAST;
+use crate::rows::{COLOURS, GAP, colour_of, row_of};
 use crate::shapes::Shape;
 use crate::texts::{push, push_attribute};
 use std::alloc::AllocError;
@@ -12,33 +13,39 @@ const WIDE: u64 = 200;
 /// How high the frame round a window is.
 const HIGH: u64 = 200;
 
+/// How far the lane of a row, in which its arrows begin, is below the top of the row.
+const LANE: u64 = 285;
+
+/// How far the nearest trunk, in which arrows go from row to row, is left of where they end.
+const NEAR: u64 = 50;
+
+/// How far trunks lie apart.
+const APART: u64 = 13;
+
 /// Appends the bar of a job's WCET, at least so wide that it can be seen.
 pub fn push_bar(text: &mut Vec<u8>, shape: &Shape) -> Result<(), AllocError> {
-    push_attribute(text, "<rect class=\"t", colour_of(shape.task))?;
+    let width = shape.bar.saturating_sub(shape.left).max(LEAST);
+    push_attribute(text, "<rect class=\"v t", colour_of(shape.task))?;
     push_attribute(text, "\" x=\"", shape.left)?;
-    push_attribute(text, "\" y=\"", row_of(shape.task) + 180)?;
-    push_attribute(
-        text,
-        "\" width=\"",
-        shape.bar.saturating_sub(shape.left).max(20),
-    )?;
+    push_attribute(text, "\" y=\"", row_of(shape.row) + 180)?;
+    push_attribute(text, "\" width=\"", width)?;
     push(text, "\" height=\"80\"/>\n")
 }
 
 /// Appends a line at an own date of a job.
-fn push_own(text: &mut Vec<u8>, x: u64, task: u32) -> Result<(), AllocError> {
+fn push_own(text: &mut Vec<u8>, x: u64, row: u32) -> Result<(), AllocError> {
     push_attribute(text, "<path class=\"o\" d=\"M", x)?;
-    push_attribute(text, " ", row_of(task) + 30)?;
+    push_attribute(text, " ", row_of(row) + 30)?;
     push(text, "v260\"/>\n")
 }
 
 /// Appends lines at the own release and the own deadline of a job, where they are not the encoded ones.
 pub fn push_own_dates(text: &mut Vec<u8>, shape: &Shape) -> Result<(), AllocError> {
     if shape.own_left != shape.left {
-        push_own(text, shape.own_left, shape.task)?;
+        push_own(text, shape.own_left, shape.row)?;
     }
     if shape.own_right != shape.right {
-        push_own(text, shape.own_right, shape.task)?;
+        push_own(text, shape.own_right, shape.row)?;
     }
     Ok(())
 }
@@ -46,36 +53,37 @@ pub fn push_own_dates(text: &mut Vec<u8>, shape: &Shape) -> Result<(), AllocErro
 /// Appends a frame round the window of a job.
 pub fn push_frame(text: &mut Vec<u8>, shape: &Shape) -> Result<(), AllocError> {
     push_attribute(text, "<rect class=\"c\" x=\"", shape.left)?;
-    push_attribute(text, "\" y=\"", row_of(shape.task) + GAP)?;
+    push_attribute(text, "\" y=\"", row_of(shape.row) + GAP)?;
     push_attribute(text, "\" width=\"", shape.right.saturating_sub(shape.left))?;
     push_attribute(text, "\" height=\"", HIGH)?;
     push(text, "\"/>\n")
 }
 
-/// Appends an arrow from the bar of one job to the window of another, dashed where a delay lies between.
+/// Where the arrows from a row go up or down to a window: left of it, the arrows from one row together.
+fn trunk_of(before: &Shape, after: &Shape) -> u64 {
+    let place = u64::from(before.row) % COLOURS;
+    after.left.saturating_sub(NEAR + APART * place)
+}
+
+/// Appends an arrow from the bar of one job to the window of another, dashed where a delay lies
+/// between: along the lane of the first one's row, and then up or down left of the second one.
 pub fn push_arrow(
     text: &mut Vec<u8>,
     delayed: bool,
     before: &Shape,
     after: &Shape,
 ) -> Result<(), AllocError> {
-    let start = before.bar.min(before.right);
-    push(
-        text,
-        if delayed {
-            "<path class=\"a d\" d=\""
-        } else {
-            "<path class=\"a\" d=\""
-        },
-    )?;
-    push_attribute(text, "M", start)?;
-    push_attribute(text, " ", row_of(before.task) + 220)?;
-    push_attribute(text, "C", start.saturating_add(160))?;
-    push_attribute(text, " ", row_of(before.task) + 220)?;
-    push_attribute(text, " ", after.left.saturating_sub(160))?;
-    push_attribute(text, " ", row_of(after.task) + 150)?;
-    push_attribute(text, " ", after.left)?;
-    push_attribute(text, " ", row_of(after.task) + 150)?;
+    let lane = row_of(before.row) + LANE;
+    push_attribute(text, "<path class=\"a e", colour_of(before.task))?;
+    if delayed {
+        push(text, " d")?;
+    }
+    push_attribute(text, "\" d=\"M", before.bar.min(before.right))?;
+    push_attribute(text, " ", row_of(before.row) + 220)?;
+    push_attribute(text, "V", lane)?;
+    push_attribute(text, "H", trunk_of(before, after))?;
+    push_attribute(text, "V", row_of(after.row) + 150)?;
+    push_attribute(text, "H", after.left)?;
     push(text, "\"/>\n")
 }
 

@@ -46,7 +46,7 @@ fn push_number(text: &mut Vec<u8>, shape: &Shape) -> Result<(), AllocError> {
         "<text class=\"j\" x=\"",
         shape.left.saturating_add(width / 2),
     )?;
-    push_attribute(text, "\" y=\"", row_of(shape.task) + 165)?;
+    push_attribute(text, "\" y=\"", row_of(shape.row) + 165)?;
     push_attribute(text, "\">", shape.job)?;
     push(text, "</text>\n")
 }

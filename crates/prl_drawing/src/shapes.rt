@@ -3,6 +3,8 @@
 /// A job, its dates in ticks, and where they stand.
 #[derive(Clone, Copy, Debug, PartialEq, Eq)]
 pub struct Shape {
+    /// The row that it stands in.
+    pub row: u32,
     pub task: u32,
     pub job: u64,
     /// The encoded release.

@@ -10,11 +10,11 @@ use crate::shapes::Shape;
 use crate::texts::push_attribute;
 use std::alloc::{AllocError, Global};
 
-/// How far the windows of a task are from the top.
-fn window_top(task: u32) -> u64
-    ensures { result ≡ row_of task + GAP }
+/// How far the windows of a row are from the top.
+fn window_top(row: u32) -> u64
+    ensures { result ≡ row_of row + GAP }
 {
-    row_of(task) + GAP
+    row_of(row) + GAP
 }
 
 /// How wide the window of a job is.
@@ -30,7 +30,7 @@ fn push_window(text: &mut Vec<u8>, shape: &Shape) -> Result<(), AllocError>
 {
     push_attribute(text, "<rect class=\"w t", colour_of(shape.task))?;
     push_attribute(text, "\" x=\"", shape.left)?;
-    push_attribute(text, "\" y=\"", window_top(shape.task))?;
+    push_attribute(text, "\" y=\"", window_top(shape.row))?;
     push_attribute(text, "\" width=\"", width_of(shape))?;
     text.extend_from_slice(b"\" height=\"200\"/>\n")?;
     Ok(())

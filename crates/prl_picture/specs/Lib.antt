@@ -1,8 +1,10 @@
--- the jobs that are shown
-pub mod Shapes
 -- the range of ticks
 pub mod Ranges
--- what is drawn beside the windows
-pub mod Shown
+-- the rows
+pub mod Chosen
+-- what the words ask for
+pub mod Asked
+-- how a call ends
+pub mod Faults
 -- the picture
 pub mod Pictures

@@ -1,50 +1,72 @@
 -- The picture of a plan.
-use Rattle.std.specs.Prelude.{◌≡◌, ◌+◌, ◌++◌, ℕ, min, List, Option, Some, None, Result, IfOk, IfSome, codes}
-use Rattle.std.specs.List.{flat_map}
+use Rattle.std.specs.Prelude.{◌≡◌, ◌<◌, ℕ, Bool, false, List, [], ◌∷◌, Some, Result, IfOk, IfSome, MatchOption, codes, length}
+use Rattle.std.specs.Bool.{OnFalse}
+use Rattle.std.specs.Str.{bytes_eq}
 use Rattle.prl_io.specs.Views.{FolderView, SinkView}
-use Rattle.prl_companions.specs.declared.endings.Stop.{Stop}
-use Rattle.prl_companions.specs.Endings.{Ends}
 use Rattle.prl_companions.specs.Pairs.{value_of}
 use Rattle.prl_base.specs.Decimals.{decimal_of}
+use Rattle.prl_plan.specs.Jobs.{task_at}
 use Rattle.prl_plan.specs.Plans.{PlanView}
 use Rattle.prl_plantext.specs.ReadTexts.{IsTextOf}
-use Rattle.prl_picture.specs.declared.ranges.TheConstants.{MAX_UNTIL}
-use Rattle.prl_drawing.specs.declared.scales.Scale.{Scale}
-use Rattle.prl_picture.specs.declared.shown.Shown.{Shown}
-use Rattle.prl_picture.specs.Ranges.{IsRange}
-use Rattle.prl_picture.specs.Shapes.{shapes_of}
-use Rattle.prl_picture.specs.Shown.{IsAsked, IsOfPlan, pieces_text}
-use Rattle.prl_drawing.specs.Windows.{window_text}
+use Rattle.prl_picture.specs.declared.faults.Fault.{Fault}
+use Rattle.prl_views.specs.declared.shown.Shown.{Shown}
+use Rattle.prl_views.specs.declared.views.View.{View}
+use Rattle.prl_picture.specs.Asked.{Folder, IsAsked}
+use Rattle.prl_picture.specs.Faults.{EndsSo}
+use Rattle.prl_picture.specs.Ranges.{IsDefaultEnd, IsRange}
+use Rattle.prl_views.specs.Drawn.{IsPictureOf}
+use Rattle.prl_views.specs.Shown.{IsOfPlan}
+use Rattle.prl_picture.specs.Chosen.{all_rows, near_rows}
 
--- the text has the window of each job of the range once, in one piece, and then each piece of the run that is shown
-abbrev pub IsPictureOf : PlanView → Scale → Shown → List ℕ → Type 0
-IsPictureOf plan scale shown text =
-    (below above : List ℕ) × (text ≡ below ++ flat_map window_text (shapes_of plan scale) ++ pieces_text plan scale shown ++ above)
+-- the first tick that the words ask for: 0 where they do not say it
+abbrev pub IsFirst : List (List ℕ) → ℕ → Type 0
+IsFirst words from = MatchOption (value_of (codes "--from") words) (from ≡ 0) (λ word. decimal_of word ≡ Some from)
 
--- the tick that a word writes; another one where there is no word
-abbrev pub tick_of : Option (List ℕ) → ℕ → Option ℕ
-tick_of None other = Some other
-tick_of (Some word) other = decimal_of word
+-- the tick after the last one that the words ask for
+abbrev pub IsLast : PlanView → List (List ℕ) → ℕ → ℕ → Type 0
+IsLast plan words from until = MatchOption (value_of (codes "--until") words) (IsDefaultEnd plan from until) (λ word. decimal_of word ≡ Some until)
 
--- the words ask for the ticks of this range: from 0 on and over one hyperperiod where they do not say it
+-- the words ask for the ticks of this range
 pub record AreAsked (plan : PlanView) (words : List (List ℕ)) (from until : ℕ) : Type 0 where
-  pub begins : tick_of (value_of (codes "--from") words) 0 ≡ Some from
-  pub ends : tick_of (value_of (codes "--until") words) (min (from + plan.graph.hyper) MAX_UNTIL) ≡ Some until
+  pub begins : IsFirst words from
+  pub ends : IsLast plan words from until
 
--- the picture of the plan over the range that the words ask for, with the schedule or the run that they ask for
-abbrev pub IsDrawn : PlanView → List (List ℕ) → List ℕ → Type 0
-IsDrawn plan words text =
-    (from until : ℕ) × AreAsked plan words from until × (scale : Scale) × IsRange from until scale
-    × (shown : Shown) × IsOfPlan plan shown × IsAsked words shown × IsPictureOf plan scale shown text
+-- the rows of a task of this name, and of those that edges connect with it
+abbrev pub IsNearRows : PlanView → List ℕ → List ℕ → Type 0
+IsNearRows plan rows name =
+    (i : ℕ) × (i < length plan.graph.tasks) × ((task_at plan.graph i).name ≡ name) × (rows ≡ near_rows plan.graph i)
+
+-- the words ask for these rows: those of all tasks, or of one that they name and its neighbours
+abbrev pub AreRows : PlanView → List (List ℕ) → List ℕ → Type 0
+AreRows plan words rows = MatchOption (value_of (codes "--task") words) (rows ≡ all_rows plan.graph) (IsNearRows plan rows)
+
+-- the picture of the plan over the range and with the rows that the words ask for, with what they ask for beside the windows
+pub record IsDrawn (folder : Folder) (plan : PlanView) (words : List (List ℕ)) (text : List ℕ) : Type 0 where
+  pub from : ℕ
+  pub until : ℕ
+  pub asked : AreAsked plan words from until
+  pub view : View
+  pub range : IsRange from until view.scale
+  pub rows : AreRows plan words view.rows
+  pub shown : Shown
+  pub of_plan : IsOfPlan plan shown
+  pub shows : IsAsked folder plan words until shown
+  pub picture : IsPictureOf plan shown view text
 
 -- the picture of the plan that the file has
-abbrev pub IsPicture : Option (List ℕ → Option (List ℕ)) → List (List ℕ) → List ℕ → Type 0
+abbrev pub IsPicture : Folder → List (List ℕ) → List ℕ → Type 0
 IsPicture folder words text =
     (name source : List ℕ) × (value_of (codes "--plan") words ≡ Some name) × IfSome folder (λ f. f name ≡ Some source)
-    × ((plan : PlanView) × IsTextOf plan source × IsDrawn plan words text)
+    × ((plan : PlanView) × IsTextOf plan source × IsDrawn folder plan words text)
+
+-- the words ask for what the options mean
+abbrev pub asks_help : List (List ℕ) → Bool
+asks_help [] = false
+asks_help (word ∷ []) = bytes_eq word (codes "--help")
+asks_help (word ∷ other ∷ words) = false
 
 -- what a call answers: its outcome, and how it ends
 pub record Answers (words : List (List ℕ)) (files : FolderView) (out out' err err' : SinkView) (code : ℕ) : Type 0 where
-  pub outcome : Result (List ℕ) Stop
-  pub ends : Ends (λ text. text) outcome out out' err err' code
-  pub text : IfOk outcome (IsPicture files.folder words)
+  pub outcome : Result (List ℕ) Fault
+  pub ends : EndsSo (λ text. text) outcome out out' err err' code
+  pub text : OnFalse (asks_help words) (IfOk outcome (IsPicture files.folder words))

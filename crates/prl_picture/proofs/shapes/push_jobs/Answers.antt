@@ -1,8 +1,0 @@
-use Rattle.prl_picture.specs.Shapes.{shape_of}
-use Rattle.prl_picture.proofs.Counts.{mapped}
-use Rattle.prl_picture.proofs.shapes.push_jobs.Goals as goal
-
-pub loop-n-preserved : goal.loop-n-preserved
-loop-n-preserved c =
-    mapped (shape_of c.args.plan.now c.args.scale c.args.i.0) c.loop-n.shapes.items c.push.new.self.items _ c.shape_of.result c.loop-n.n c.job_count-last.result
-    c.loop-n-test.true c.shape_of.ensures c.in_ok-push.ensures.items c.loop-n.invariant

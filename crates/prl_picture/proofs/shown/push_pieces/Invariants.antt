@@ -1,8 +1,0 @@
-use Rattle.std.proofs.Common.{◌≡◌, ◌++◌, take}
-use Rattle.std.specs.List.{flat_map}
-use Rattle.prl_picture.specs.Shown.{piece_text}
-use Rattle.prl_picture.proofs.shown.push_pieces.Given as goal
-
--- the pieces that were passed
-abbrev pub invariant-loop-piece : goal.invariant-loop-piece
-invariant-loop-piece l = l.text.items ≡ l.fn.text.items ++ flat_map (piece_text l.scale l.row) (take l.piece-index l.pieces)

@@ -1,0 +1,120 @@
+//! The range that is drawn where the words do not ask for one: a hyperperiod, and more until each
+//! precedence has an arrow.
+
+ghost use Rattle.std.specs.Prelude.{◌≡◌, ◌+◌, ◌<◌, ◌≤◌, ◌^◌, IfSome, length, min};
+ghost use Rattle.prl_plan.specs.Jobs.{job_count, task_at};
+ghost use Rattle.prl_plan.specs.Plans.{edge_at};
+ghost use Rattle.prl_picture.specs.Ranges.{IsDefaultEnd};
+ghost use Rattle.prl_views.specs.Views.{AreTasks};
+
+use crate::ranges::MAX_UNTIL;
+use prl_base::{EdgeNo, TaskNo};
+use prl_plan::{Edge, Operand, Plan, Producer, plan_is_one};
+use prl_views::{edge_of, is_in, job_count, operand_of, own_release, task_of};
+
+/// In how many hyperperiods an arrow is looked for.
+pub const REACH: u64 = 4;
+
+/// The producer of an edge, where both it and the consumer have a row.
+fn producer_of(plan: &Plan, rows: &[u32], edge: &Edge) -> Option<TaskNo>
+    ensures { IfSome result (λ task. task.0 < length plan.now.graph.tasks) }
+{
+    let Producer::Port { task, .. } = edge.from else {
+        return None;
+    };
+    if (task.0 as usize) < plan.graph().tasks.len()
+        && is_in(rows, task.0)
+        && is_in(rows, edge.to.0)
+    {
+        Some(task)
+    } else {
+        None
+    }
+}
+
+/// The tick after both releases, where job `n` of the consumer reads on an edge what a job of the
+/// producer gives, and both are released in a range.
+fn reading_end(plan: &Plan, e: EdgeNo, task: TaskNo, n: u64, from: u64, limit: u64) -> Option<u64>
+    requires edge { e.0 < length plan.now.graph.edges }
+    requires task { task.0 < length plan.now.graph.tasks }
+    requires limit { limit ≤ MAX_UNTIL }
+    requires from { from ≤ MAX_UNTIL }
+    requires job { n < job_count (task_at plan.now.graph (edge_at plan.now.graph e.0).to.0) limit }
+    ensures { IfSome result (λ tick. tick < 2 ^ 33) }
+{
+    let to = edge_of(plan, e).to;
+    let Operand::From(m) = operand_of(plan, e, n, limit) else {
+        return None;
+    };
+    if m < job_count(plan, task, from) || m >= job_count(plan, task, limit) {
+        return None;
+    }
+    let before = own_release(plan, task, m, limit);
+    let after = own_release(plan, to, n, limit);
+    Some(before.max(after) + 1)
+}
+
+/// The tick after which an edge has its first arrow, of a range up to a limit.
+fn arrow_end(plan: &Plan, rows: &[u32], e: EdgeNo, from: u64, limit: u64) -> Option<u64>
+    requires edge { e.0 < length plan.now.graph.edges }
+    requires limit { limit ≤ MAX_UNTIL }
+    requires from { from ≤ MAX_UNTIL }
+    ensures { IfSome result (λ tick. tick < 2 ^ 33) }
+{
+    let edge = edge_of(plan, e);
+    let task = producer_of(plan, rows, edge)?;
+    let first = job_count(plan, edge.to, from);
+    let last = job_count(plan, edge.to, limit);
+    for n in first..last {
+        if let Some(tick) = reading_end(plan, e, task, n, from, limit) {
+            return Some(tick);
+        }
+    }
+    None
+}
+
+/// The tick after which each edge has an arrow, of a range up to a limit; another one, where that is
+/// later.
+fn arrows_end(plan: &Plan, rows: &[u32], from: u64, limit: u64, least: u64) -> u64
+    requires limit { limit ≤ MAX_UNTIL }
+    requires from { from ≤ MAX_UNTIL }
+    ensures { least ≤ result }
+{
+    plan_is_one(plan);
+    let mut end = least;
+    for e in 0..plan.graph().edges.len() {
+        if let Some(tick) = arrow_end(plan, rows, EdgeNo(e as u32), from, limit) {
+            end = end.max(tick);
+        }
+    }
+    end
+}
+
+/// The latest first release of the tasks of the rows.
+fn latest_start(plan: &Plan, rows: &[u32]) -> u64
+    requires rows { AreTasks plan.now rows.now }
+    ensures { result < 2 ^ 32 }
+{
+    let mut start: u64 = 0;
+    for r in 0..rows.len() {
+        start = start.max(task_of(plan, TaskNo(rows[r])).clock.start);
+    }
+    start
+}
+
+/// The tick after the last one where the words do not say it: of a range that has a hyperperiod at
+/// least, and beside a table the first job of each class.
+pub(crate) fn default_end(plan: &Plan, rows: &[u32], from: u64, table: bool) -> u64
+    requires from { from ≤ MAX_UNTIL }
+    requires rows { AreTasks plan.now rows.now }
+    ensures { IsDefaultEnd plan.now from result }
+{
+    plan_is_one(plan);
+    let hyper = plan.graph().hyper;
+    let least = (from + hyper).min(MAX_UNTIL);
+    if table {
+        return least.max(latest_start(plan, rows) + hyper).min(MAX_UNTIL);
+    }
+    let limit = (from + REACH * hyper).min(MAX_UNTIL);
+    arrows_end(plan, rows, from, limit, least).min(MAX_UNTIL)
+}

@@ -1,0 +1,3 @@
+mod Fits
+pub mod Counts
+mod Two

@@ -1,0 +1,13 @@
+use Rattle.std.proofs.Common.{◌≡◌, map, take}
+use Rattle.std.specs.Prelude.{All}
+use Rattle.std.specs.List.{flat_map}
+use Rattle.prl_views.specs.declared.parts.Part.{Part}
+use Rattle.prl_views.specs.Parts.{IsWithin, seen_one}
+use Rattle.prl_views.proofs.parts.parts_of.Given as goal
+
+-- the parts so far are of the acts that were passed
+abbrev pub invariant-loop-j : goal.invariant-loop-j
+invariant-loop-j l = record {
+  each : map (λ (part : Part). part.act) l.parts.items ≡ flat_map (seen_one l.scale) (take l.j l.acts);
+  within : All (IsWithin l.scale) l.parts.items;
+}

@@ -1,0 +1,8 @@
+use Rattle.std.proofs.Common.{◌≡◌, take}
+use Rattle.std.specs.List.{flat_map}
+use Rattle.prl_views.specs.Shown.{piece_text}
+use Rattle.prl_views.proofs.shown.run_pieces.Given as goal
+
+-- the pieces that were passed
+abbrev pub invariant-loop-piece : goal.invariant-loop-piece
+invariant-loop-piece l = l.text.items ≡ flat_map (piece_text l.view) (take l.piece-index l.pieces)

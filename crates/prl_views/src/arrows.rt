@@ -1,0 +1,165 @@
+//! The precedences among the jobs of a picture, as arrows.
+
+ghost use Rattle.std.specs.Prelude.{◌≡◌, ◌<◌, IfSome, length, slice_index};
+ghost use Rattle.prl_plan.specs.Jobs.{job_count, task_at};
+ghost use Rattle.prl_plan.specs.Plans.{edge_at};
+ghost use Rattle.prl_views.specs.Shown.{IsOfPlan};
+ghost use Rattle.prl_views.specs.Views.{IsView};
+
+use crate::look_ups::{edge_of, job_count, operand_of};
+use crate::shapes::{shape_of, shown_count};
+use crate::shown::Shown;
+use crate::views::{View, row_in};
+use prl_base::{EdgeNo, Op};
+use prl_drawing::{is_followed, push, push_arrow, push_arrow_legend, push_attribute};
+use prl_plan::{Edge, Operand, Plan, Producer, plan_is_one};
+use std::alloc::AllocError;
+
+/// Whether a delay lies on an edge: an operator that puts initial values before a flow.
+fn is_delayed(edge: &Edge) -> bool {
+    for op in edge.ops.as_slice() {
+        match op {
+            Op::Fby(_) => return true,
+            Op::Cons(_) => return true,
+            Op::Tail => {}
+            Op::Up(_) => {}
+            Op::Down(_) => {}
+            Op::Shift(_) => {}
+        }
+    }
+    false
+}
+
+/// How many arrows there are: plain ones, those with a delay, and those that are left out.
+#[derive(Clone, Copy, Debug, PartialEq, Eq)]
+pub(crate) struct Arrows {
+    plain: u64,
+    delayed: u64,
+    left_out: u64,
+}
+
+/// Adds an arrow.
+fn count(arrows: &mut Arrows, followed: bool, delayed: bool) {
+    if !followed {
+        arrows.left_out = arrows.left_out.saturating_add(1);
+    } else if delayed {
+        arrows.delayed = arrows.delayed.saturating_add(1);
+    } else {
+        arrows.plain = arrows.plain.saturating_add(1);
+    }
+}
+
+/// The rows of the producer and of the consumer of an edge, where both have one.
+fn rows_of(plan: &Plan, view: &View, edge: &Edge) -> Option<(u32, u32)>
+    requires { IsView plan.now view.now }
+    ensures { IfSome result (λ rows. (rows.0 < length view.now.rows) × (rows.1 < length view.now.rows) × (slice_index view.now.rows rows.1 ≡ edge.now.to.0)) }
+{
+    let Producer::Port { task, .. } = edge.from else {
+        return None;
+    };
+    let before = row_in(view.rows.as_slice(), task);
+    let after = row_in(view.rows.as_slice(), edge.to);
+    if before < view.count() && after < view.count() && view.task(after).0 == edge.to.0 {
+        Some((before, after))
+    } else {
+        None
+    }
+}
+
+/// Appends an arrow from the job of a row that gives what job `n` of another row reads on an edge, where both are drawn.
+fn push_reading(
+    text: &mut Vec<u8>,
+    plan: &Plan,
+    shown: &Shown,
+    view: &View,
+    e: EdgeNo,
+    rows: (u32, u32),
+    n: u64,
+    arrows: &mut Arrows,
+) -> Result<(), AllocError>
+    requires view { IsView plan.now view.now }
+    requires shown { IsOfPlan plan.now shown.now }
+    requires edge { e.0 < length plan.now.graph.edges }
+    requires rows { (rows.0 < length view.now.rows) × (rows.1 < length view.now.rows) }
+    requires to { slice_index view.now.rows rows.1 ≡ (edge_at plan.now.graph e.0).to.0 }
+    requires job { n < job_count (task_at plan.now.graph (edge_at plan.now.graph e.0).to.0) view.now.scale.until }
+{
+    let edge = edge_of(plan, e);
+    let Operand::From(m) = operand_of(plan, e, n, view.scale.until) else {
+        return Ok(());
+    };
+    let task = view.task(rows.0);
+    if m < job_count(plan, task, view.scale.from)
+        || m >= shown_count(plan, shown, task, view.scale.until)
+    {
+        return Ok(());
+    }
+    let before = shape_of(plan, shown, view, rows.0, m);
+    let after = shape_of(plan, shown, view, rows.1, n);
+    let followed = is_followed(&before, &after);
+    count(arrows, followed, is_delayed(edge));
+    if followed {
+        push_arrow(text, is_delayed(edge), &before, &after)?;
+    }
+    Ok(())
+}
+
+/// Appends the arrows of an edge.
+fn push_edge(
+    text: &mut Vec<u8>,
+    plan: &Plan,
+    shown: &Shown,
+    view: &View,
+    e: EdgeNo,
+    arrows: &mut Arrows,
+) -> Result<(), AllocError>
+    requires view { IsView plan.now view.now }
+    requires shown { IsOfPlan plan.now shown.now }
+    requires edge { e.0 < length plan.now.graph.edges }
+{
+    let edge = edge_of(plan, e);
+    let Some(rows) = rows_of(plan, view, edge) else {
+        return Ok(());
+    };
+    let first = job_count(plan, edge.to, view.scale.from);
+    let last = shown_count(plan, shown, edge.to, view.scale.until);
+    for n in first..last {
+        push_reading(text, plan, shown, view, e, rows, n, arrows)?;
+    }
+    Ok(())
+}
+
+/// Appends the line that says how many arrows are not drawn.
+fn push_left_out(text: &mut Vec<u8>, left_out: u64) -> Result<(), AllocError> {
+    if left_out == 0 {
+        return Ok(());
+    }
+    push_attribute(text, "<text x=\"4900\" y=\"670\">not drawn: ", left_out)?;
+    push(
+        text,
+        " arrows at windows that are too narrow for them</text>\n",
+    )
+}
+
+/// Appends the arrows of all edges whose windows are wide enough, what they mean, and how many are left out.
+pub(crate) fn push_arrows(
+    text: &mut Vec<u8>,
+    plan: &Plan,
+    shown: &Shown,
+    view: &View,
+) -> Result<(), AllocError>
+    requires view { IsView plan.now view.now }
+    requires shown { IsOfPlan plan.now shown.now }
+{
+    plan_is_one(plan);
+    let mut arrows = Arrows {
+        plain: 0,
+        delayed: 0,
+        left_out: 0,
+    };
+    for e in 0..plan.graph().edges.len() {
+        push_edge(text, plan, shown, view, EdgeNo(e as u32), &mut arrows)?;
+    }
+    push_arrow_legend(text, arrows.plain > 0, arrows.delayed > 0)?;
+    push_left_out(text, arrows.left_out)
+}

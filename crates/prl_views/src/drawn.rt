@@ -1,0 +1,85 @@
+//! The picture of a view of a plan.
+
+ghost use Rattle.std.specs.Prelude.{◌≡◌, ◌++◌, IfOk};
+ghost use Rattle.prl_views.specs.Drawn.{IsPictureOf};
+ghost use Rattle.prl_views.specs.Shown.{IsOfPlan};
+ghost use Rattle.prl_views.specs.Views.{IsView};
+
+use crate::arrows::push_arrows;
+use crate::details::push_details;
+use crate::heads::push_head;
+use crate::shapes::shapes_of;
+use crate::shown::{Shown, pieces, push_shown, rows_of};
+use crate::views::View;
+use prl_drawing::{Shape, Unit, push, push_numbers, windows};
+use prl_plan::Plan;
+use std::alloc::{AllocError, Global};
+
+/// What is drawn over the windows.
+fn above(
+    alloc: Global,
+    plan: &Plan,
+    shown: &Shown,
+    view: &View,
+    shapes: &[Shape],
+) -> Result<Vec<u8>, AllocError>
+    requires view { IsView plan.now view.now }
+    requires shown { IsOfPlan plan.now shown.now }
+{
+    let mut text = Vec::new(alloc);
+    push_shown(alloc, &mut text, plan, view, shapes, shown)?;
+    push_details(&mut text, plan, view.scale, shapes)?;
+    push_arrows(&mut text, plan, shown, view)?;
+    push_numbers(&mut text, shapes)?;
+    push(&mut text, "</svg>\n")?;
+    Ok(text)
+}
+
+/// What is drawn below the windows.
+fn below(
+    alloc: Global,
+    plan: &Plan,
+    shown: &Shown,
+    view: &View,
+    unit: &Unit,
+    left_out: u64,
+) -> Result<Vec<u8>, AllocError>
+    requires view { IsView plan.now view.now }
+{
+    let rows = rows_of(alloc, view, shown)?;
+    let mut text = Vec::new(alloc);
+    push_head(&mut text, plan, view, unit, left_out, rows)?;
+    Ok(text)
+}
+
+/// Three texts one after another, behind a first one.
+fn joined(first: Vec<u8>, second: &[u8], third: &[u8], fourth: &[u8]) -> Result<Vec<u8>, AllocError>
+    ensures { IfOk result (λ text. text.items ≡ first.items ++ second.now ++ third.now ++ fourth.now) }
+{
+    let mut text = first;
+    text.extend_from_slice(second)?;
+    text.extend_from_slice(third)?;
+    text.extend_from_slice(fourth)?;
+    Ok(text)
+}
+
+/// The picture of the jobs of a plan, with what is drawn beside the windows.
+pub fn picture_of(
+    alloc: Global,
+    plan: &Plan,
+    shown: &Shown,
+    view: &View,
+    unit: &Unit,
+    left_out: u64,
+) -> Result<Vec<u8>, AllocError>
+    requires view { IsView plan.now view.now }
+    requires shown { IsOfPlan plan.now shown.now }
+    ensures { IfOk result (λ text. IsPictureOf plan.now shown.now view.now text.items) }
+{
+    let shapes = shapes_of(alloc, plan, shown, view)?;
+    let first = below(alloc, plan, shown, view, unit, left_out)?;
+    let second = windows(alloc, &shapes)?;
+    let third = pieces(alloc, plan, view, shown)?;
+    let fourth = above(alloc, plan, shown, view, &shapes)?;
+    joined(first, &second, &third, &fourth)
+}
