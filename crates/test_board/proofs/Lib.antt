@@ -1,3 +1,3 @@
-mod Seats
+mod Stepped
 mod Overruns
 mod Placed

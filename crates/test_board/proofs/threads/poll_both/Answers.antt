@@ -3,7 +3,7 @@ use Rattle.std.proofs.Math.Seq.{take-append_seam}
 use Rattle.std.specs.List.{All}
 use Rattle.prl_seats.specs.JobSeats.{IsSeatOf, JobSeatView}
 use Rattle.prl_board.specs.Lones.{AreSeatsOf}
-use Rattle.test_board.proofs.Seats.{seats_belong, seats_stepped}
+use Rattle.test_board.proofs.Stepped.{seats_belong, seats_stepped}
 use Rattle.test_board.proofs.threads.poll_both.Goals as goal
 
 pub poll_each-requires : goal.poll_each-requires
