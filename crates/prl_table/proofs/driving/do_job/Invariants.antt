@@ -12,5 +12,5 @@ invariant-loop-place g l = record {
   lone : IsLoneOf l.board l.lone;
   tasks : length l.lone.seats ≡ length l.fn.lone.seats;
   doing : (is : IsBoardOf l.board.known l.table) (facts : HasPlanFacts (run_of l.board.known)) (state : OneMore (run_of l.board.known)) →
-      IsDoing l.board.known l.table is facts state l.lone l.now l.task.0 l.job l._place;
+      IsDoing l.board.known l.table is facts state l.lone l.next.items l.now l.task.0 l.job l._place;
 }

@@ -8,5 +8,6 @@ abbrev pub invariant-loop-i : goal.invariant-loop-i
 invariant-loop-i g l = record {
   lone : IsLoneOf l.board l.lone;
   tasks : length l.lone.seats ≡ length l.fn.lone.seats;
-  driven : IsDriven l.board.known l.table l.lone l.now l.i;
+  noted : length l.next.items ≡ length l.fn.next.items;
+  driven : IsDriven l.board.known l.table l.lone l.next.items l.now l.i;
 }

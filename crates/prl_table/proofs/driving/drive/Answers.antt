@@ -1,10 +1,15 @@
-use Rattle.std.proofs.Common.{◌≡◌, ℕ, Some, refl, sym, ◌∙◌, ap, subst}
+use Rattle.std.proofs.Common.{◌≡◌, ℕ, List, Option, Some, refl, sym, ◌∙◌, ap, subst}
 use Rattle.std.specs.Vec.{vec_items}
 use Rattle.prl_board.specs.Openings.{first_clock}
 use Rattle.prl_exec.proofs.Rounds.{all_ended, opening_stands}
+use Rattle.prl_plan.specs.declared.horizons.Horizon.{Horizon}
+use Rattle.prl_plan.specs.Horizons.{constants_of}
+use Rattle.prl_plan.specs.Plans.{PlanView}
 use Rattle.prl_rule.specs.declared.views.Constants.{Constants}
 use Rattle.prl_rule.specs.Known.{run_of}
-use Rattle.prl_table.specs.code.Driving.{IsDriven}
+use Rattle.prl_tables.specs.CheckedTables.{CheckedView}
+use Rattle.prl_tables.specs.Tables.{last_unit}
+use Rattle.prl_table.specs.code.Driving.{acts_at, AreFirst, IsDriven}
 use Rattle.prl_table.proofs.Driven.{all_over, opened}
 use Rattle.prl_table.proofs.driving.drive.Goals as goal
 
@@ -15,10 +20,24 @@ gather-lone-requires-clause-seats g c =
       each = λ i s has. let f = first.each i s has in (f.0, f.1.task);
     }
 
+-- the first acts, by the board
+first_on : (plan : PlanView) (h : Horizon) (table : CheckedView) (noted : List (Option ℕ)) → AreFirst (constants_of plan h) (last_unit plan.graph table.entries) noted →
+    (k : Constants) → plan ≡ k.plan → h ≡ k.horizon → AreFirst (run_of k) (acts_at k table) noted
+first_on plan h table noted first k same_plan same_horizon =
+    subst (λ (p : PlanView). AreFirst (constants_of p k.horizon) (last_unit p.graph table.entries) noted) same_plan
+    (subst (λ (g : Horizon). AreFirst (constants_of plan g) (last_unit plan.graph table.entries) noted) same_horizon first)
+
+pub run_table-requires-clause-noted : goal.run_table-requires-clause-noted
+run_table-requires-clause-noted g c =
+    (first_on c.args.plan.now c.args.horizon c.args.table.now c.in_ok-next.next.items c.in_ok-next.ensures c.in_ok-board.board.known
+    (ap (λ (k : Constants). k.plan) (sym c.in_ok-board.ensures.known)) (ap (λ (k : Constants). k.horizon) (sym c.in_ok-board.ensures.known))).tasks
+
 pub run_table-requires-clause-driven : goal.run_table-requires-clause-driven
 run_table-requires-clause-driven g c =
     let k = c.in_ok-board.board.known in
-    opened k c.args.table.now c.table_places.ensures c.run_laws.ensures.facts c.gather-lone.result (first_clock (run_of k))
+    opened k c.args.table.now c.table_places.ensures c.run_laws.ensures.facts c.gather-lone.result c.in_ok-next.next.items
+    (first_on c.args.plan.now c.args.horizon c.args.table.now c.in_ok-next.next.items c.in_ok-next.ensures c.in_ok-board.board.known
+    (ap (λ (b : Constants). b.plan) (sym c.in_ok-board.ensures.known)) (ap (λ (b : Constants). b.horizon) (sym c.in_ok-board.ensures.known)))
     (opening_stands k c.run_laws.ensures c.in_ok-board.board (vec_items c.in_ok-board.seats) c.gather-lone.result refl c.in_ok-board.ensures.seats c.gather-lone.ensures.seats
     (c.gather-lone.ensures.clock (first_clock (run_of k)) c.in_ok-board.ensures.clock))
 
@@ -27,9 +46,9 @@ returns-clause-ended g c = λ k s known last.
     let board : Constants = c.in_ok-board.board.known in
     let same : c.in_ok-board.board.known ≡ k = same_constants c.in_ok-board.board.known k (sym c.close-closed.ensures.known ∙ known) in
     let end : c.args.horizon.end ≡ (run_of c.in_ok-board.board.known).end = ap (λ (x : Constants). x.horizon.end) (sym c.in_ok-board.ensures.known) in
-    let driven : IsDriven c.in_ok-board.board.known c.args.table.now c.run_table.new.lone (run_of c.in_ok-board.board.known).end 0 =
-    subst (λ (t : ℕ). IsDriven c.in_ok-board.board.known c.args.table.now c.run_table.new.lone t 0) end c.run_table.ensures.driven in
-    let over = all_over c.in_ok-board.board.known c.args.table.now c.table_places.ensures c.run_laws.ensures.facts c.run_laws.ensures.state c.run_table.new.lone
+    let driven : IsDriven c.in_ok-board.board.known c.args.table.now c.run_table.new.lone c.run_table.new.next.items (run_of c.in_ok-board.board.known).end 0 =
+    subst (λ (t : ℕ). IsDriven c.in_ok-board.board.known c.args.table.now c.run_table.new.lone c.run_table.new.next.items t 0) end c.run_table.ensures.driven in
+    let over = all_over c.in_ok-board.board.known c.args.table.now c.table_places.ensures c.run_laws.ensures.facts c.run_laws.ensures.state c.run_table.new.lone c.run_table.new.next.items
     (c.stands.ensures c.in_ok-board.board.known c.run_table.ensures.lone.known) driven in
     all_ended k c.close-closed.result.words c.run_table.new.lone.seats c.close-closed.result.seats over c.close-closed.ensures.seats (c.stands-2.ensures k known) s last
   where

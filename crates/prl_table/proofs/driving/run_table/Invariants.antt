@@ -1,3 +1,4 @@
+use Rattle.std.specs.Prelude.{◌≡◌, length}
 use Rattle.prl_board.specs.Lones.{IsLoneOf}
 use Rattle.prl_table.specs.code.Driving.{IsDriven}
 use Rattle.prl_table.proofs.driving.run_table.Given as goal
@@ -6,5 +7,6 @@ use Rattle.prl_table.proofs.driving.run_table.Given as goal
 abbrev pub invariant-loop-now : goal.invariant-loop-now
 invariant-loop-now g l = record {
   lone : IsLoneOf l.board l.lone;
-  driven : IsDriven l.board.known l.table l.lone l.now 0;
+  noted : length l.next.items ≡ length l.fn.next.items;
+  driven : IsDriven l.board.known l.table l.lone l.next.items l.now 0;
 }

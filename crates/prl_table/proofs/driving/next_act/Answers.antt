@@ -1,5 +1,5 @@
 use Rattle.std.proofs.Common.{arith}
-use Rattle.prl_table.proofs.driving.acts_now.Goals as goal
+use Rattle.prl_table.proofs.driving.next_act.Goals as goal
 
 pub last_unit-requires-clause-job : goal.last_unit-requires-clause-job
 last_unit-requires-clause-job c =
