@@ -176,7 +176,7 @@ fn count_of(values: &[Value]) -> Option<usize> {
 }
 
 /// What came of a run that ended so.
-fn outcome(ended: Result<Closed, RunFault>, actuator: u32) -> Outcome
+fn came_of(ended: Result<Closed, RunFault>, actuator: u32) -> Outcome
     requires { IfOk ended (λ closed. (k : Constants) × (i : ℕ) × (closed.constants ≡ Some k) × Drives k i actuator) }
 {
     match ended {
@@ -204,7 +204,7 @@ fn outcome_of<R: Threads + Wait + Sync, P: Probe>(
 {
     let (plan, sensors, horizon) = prepared(alloc, run)?;
     let ended = ran(rt, alloc, &plan, &sensors, horizon, run, probe);
-    Ok(outcome(ended, run.actuator))
+    Ok(came_of(ended, run.actuator))
 }
 
 const COPY: Run = Run {
