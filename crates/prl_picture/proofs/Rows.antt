@@ -1,5 +1,8 @@
 -- Rows whose tasks are all of the plan.
-use Rattle.std.proofs.Common.{◌<◌, ◌≤◌, ℕ, List, length}
+use Rattle.std.proofs.Common.{◌≡◌, ◌+◌, ◌<◌, ◌≤◌, ◌++◌, ◌∷◌, ◌∙◌, ℕ, List, [], length, ap, sym, arith}
+use Rattle.std.specs.List.{range_with_len}
+use Rattle.std.proofs.lemmas.List.{map-id}
+use Rattle.std.proofs.lemmas.List.FromFn.{map-range_with_len_more}
 use Rattle.std.specs.Prelude.{All, slice_index}
 use Rattle.std.proofs.lemmas.List.Elements.{All-get_or}
 use Rattle.prl_plan.specs.declared.limits.TheConstants.{MAX_TASKS}
@@ -11,3 +14,9 @@ are_tasks plan rows inside few = record {
   tasks = λ r h. All-get_or (λ k. k < length plan.graph.tasks) rows r 0 h inside;
   few = few;
 }
+
+-- one number more
+pub row_more : (j : ℕ) → range_with_len 0 (j + 1) ≡ range_with_len 0 j ++ j ∷ []
+row_more j =
+    sym (map-id (range_with_len 0 (j + 1))) ∙ map-range_with_len_more (λ (k : ℕ). k) 0 j j (omega arith)
+    ∙ ap (λ (rows : List ℕ). rows ++ j ∷ []) (map-id (range_with_len 0 j))

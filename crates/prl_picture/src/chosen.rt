@@ -1,6 +1,6 @@
 //! The tasks that have a row: all, or one with those that an edge connects with it.
 
-ghost use Rattle.std.specs.Prelude.{◌≡◌, ◌+◌, ◌<◌, ◌≤◌, ◌++◌, All, IfOk, IfSome, OnOk, length};
+ghost use Rattle.std.specs.Prelude.{◌≡◌, ◌+◌, ◌<◌, ◌≤◌, ◌++◌, ◌∷◌, [], All, IfOk, IfSome, OnOk, length};
 ghost use Rattle.prl_plan.specs.Jobs.{task_at};
 ghost use Rattle.prl_picture.specs.Chosen.{all_rows, connect_any, connects, is_near, is_task, near_one, near_rows};
 ghost use Rattle.prl_views.specs.Views.{AreTasks};
@@ -84,6 +84,18 @@ pub(crate) fn near_rows(alloc: Global, plan: &Plan, i: TaskNo) -> Result<Vec<u32
     Ok(rows)
 }
 
+/// Adds a task.
+fn push_row(rows: &mut Vec<u32>, plan: &Plan, j: u32) -> Result<(), AllocError>
+    requires { j < length plan.now.graph.tasks }
+    ensures exact { OnOk result (rows.new.items ≡ rows.old.items ++ j ∷ []) }
+    ensures few { OnOk result (length rows.new.items ≤ length rows.old.items + 1) }
+    ensures inside { OnOk result (All (λ k. k < length plan.now.graph.tasks) rows.old.items → All (λ k. k < length plan.now.graph.tasks) rows.new.items) }
+{
+    let _ = plan;
+    rows.push(j)?;
+    Ok(())
+}
+
 /// All tasks, in order.
 pub(crate) fn all_rows(alloc: Global, plan: &Plan) -> Result<Vec<u32>, AllocError>
     ensures exact { IfOk result (λ rows. rows.items ≡ all_rows plan.now.graph) }
@@ -93,7 +105,7 @@ pub(crate) fn all_rows(alloc: Global, plan: &Plan) -> Result<Vec<u32>, AllocErro
     let mut rows = Vec::new(alloc);
     let count = plan.graph().tasks.len() as u32;
     for j in 0..count {
-        rows.push(j)?;
+        push_row(&mut rows, plan, j)?;
     }
     Ok(rows)
 }
