@@ -9,7 +9,7 @@ use Rattle.prl_stages.specs.declared.stages.Stage.{Stage}
 use Rattle.prl_stages.specs.declared.stages.Stop.TheVariants as stops
 use Rattle.prl_arguments.specs.declared.arguments.Command.{Command}
 use Rattle.prl_arguments.specs.Arguments.{command_of}
-use Rattle.prl_stages.specs.Given.{Folder, Given, IsContent, IsGiven, IsGivenIn, IsGivenTo}
+use Rattle.prl_stages.specs.Given.{Folder, Given, IsContent, IsGiven, IsGivenIn, IsGivenTo, content_of, file_of}
 use Rattle.prl_stages.specs.Stages.{Comes, stages_of}
 use Rattle.prl_arguments.specs.declared.arguments.Mode.{Mode}
 use Rattle.prl_arguments.specs.declared.arguments.Mode.TheVariants as modes
@@ -28,40 +28,39 @@ use Rattle.prl_app.specs.Endings.{Answers, AsksForThreads, Outside, Ends, IsEndO
 use Rattle.prl_app.specs.ErrorLines.{line_of}
 use Rattle.prl_app.specs.code.Performed.{IsWrittenBy, line_is}
 
-abbrev given_with : Result (List ℕ) Fault → Result (List ℕ) Fault → Result (List ℕ) Fault → Result (List ℕ) Fault → Result (List ℕ) Fault → Bool → Option (List ℕ) → ℕ → Given
-given_with program bodies sensors schedule cores listed node until =
-    record { program = program; bodies = bodies; sensors = sensors; schedule = schedule; cores = cores; listed = listed; node = node; until = until }
+abbrev Content : Type 0
+Content = Result (List ℕ) Fault
 
-same_given : (a b : Given) → a.program ≡ b.program → a.bodies ≡ b.bodies → a.sensors ≡ b.sensors → a.schedule ≡ b.schedule → a.cores ≡ b.cores → a.listed ≡ b.listed
-    → a.node ≡ b.node → a.until ≡ b.until → a ≡ b
-same_given a b p t s e k l n u =
-    ap (λ x. given_with x a.bodies a.sensors a.schedule a.cores a.listed a.node a.until) p
-    ∙ ap (λ x. given_with b.program x a.sensors a.schedule a.cores a.listed a.node a.until) t
-    ∙ ap (λ x. given_with b.program b.bodies x a.schedule a.cores a.listed a.node a.until) s
-    ∙ ap (λ x. given_with b.program b.bodies b.sensors x a.cores a.listed a.node a.until) e
-    ∙ ap (λ x. given_with b.program b.bodies b.sensors b.schedule x a.listed a.node a.until) k
-    ∙ ap (λ x. given_with b.program b.bodies b.sensors b.schedule b.cores x a.node a.until) l
-    ∙ ap (λ x. given_with b.program b.bodies b.sensors b.schedule b.cores b.listed x a.until) n
-    ∙ ap (λ x. given_with b.program b.bodies b.sensors b.schedule b.cores b.listed b.node x) u
+abbrev given_with : Content → Content → Content → Content → Content → Content → Bool → Option (List ℕ) → ℕ → Given
+given_with program bodies sensors schedule table cores listed node until =
+    record { program = program; bodies = bodies; sensors = sensors; schedule = schedule; table = table; cores = cores; listed = listed; node = node; until = until }
 
-one_content : (folder : Folder) (part : InputFile) (name : Option (List ℕ)) (x y : Result (List ℕ) Fault) → IsContent (Some folder) part name x → IsContent (Some folder) part name y → x ≡ y
+same_given : (a b : Given) → ((part : InputFile) → content_of a part ≡ content_of b part) → a.listed ≡ b.listed → a.node ≡ b.node → a.until ≡ b.until → a ≡ b
+same_given a b c l n u =
+    ap (λ x. given_with x a.bodies a.sensors a.schedule a.table a.cores a.listed a.node a.until) (c parts.Program)
+    ∙ ap (λ x. given_with b.program x a.sensors a.schedule a.table a.cores a.listed a.node a.until) (c parts.Bodies)
+    ∙ ap (λ x. given_with b.program b.bodies x a.schedule a.table a.cores a.listed a.node a.until) (c parts.Sensors)
+    ∙ ap (λ x. given_with b.program b.bodies b.sensors x a.table a.cores a.listed a.node a.until) (c parts.Schedule)
+    ∙ ap (λ x. given_with b.program b.bodies b.sensors b.schedule x a.cores a.listed a.node a.until) (c parts.Table)
+    ∙ ap (λ x. given_with b.program b.bodies b.sensors b.schedule b.table x a.listed a.node a.until) (c parts.Cores)
+    ∙ ap (λ x. given_with b.program b.bodies b.sensors b.schedule b.table b.cores x a.node a.until) l
+    ∙ ap (λ x. given_with b.program b.bodies b.sensors b.schedule b.table b.cores b.listed x a.until) n
+    ∙ ap (λ x. given_with b.program b.bodies b.sensors b.schedule b.table b.cores b.listed b.node x) u
+
+one_content : (folder : Folder) (part : InputFile) (name : Option (List ℕ)) (x y : Content) → IsContent (Some folder) part name x → IsContent (Some folder) part name y → x ≡ y
 one_content folder part None x y h k = h ∙ sym k
 one_content folder part (Some name) x y h k = h ∙ sym k
 
 -- known files give one thing
 one_given : (folder : Folder) (c : Command) (a b : Given) → IsGiven (Some folder) c a → IsGiven (Some folder) c b → a ≡ b
 one_given folder c a b h k =
-    same_given a b
-    (one_content folder parts.Program c.program a.program b.program (h.contents parts.Program) (k.contents parts.Program))
-    (one_content folder parts.Bodies c.bodies a.bodies b.bodies (h.contents parts.Bodies) (k.contents parts.Bodies))
-    (one_content folder parts.Sensors c.sensors a.sensors b.sensors (h.contents parts.Sensors) (k.contents parts.Sensors))
-    (one_content folder parts.Schedule c.schedule a.schedule b.schedule (h.contents parts.Schedule) (k.contents parts.Schedule))
-    (one_content folder parts.Cores c.cores a.cores b.cores (h.contents parts.Cores) (k.contents parts.Cores)) (h.listed ∙ sym k.listed)
-    (h.node ∙ sym k.node) (h.until ∙ sym k.until)
+    same_given a b (λ part. one_content folder part (file_of c part) (content_of a part) (content_of b part) (h.contents part) (k.contents part))
+    (h.listed ∙ sym k.listed) (h.node ∙ sym k.node) (h.until ∙ sym k.until)
 
 one_given_in : (mode : Mode) (folder : Folder) (c : Command) (a b : Given) → IsGivenIn mode (Some folder) c a → IsGivenIn mode (Some folder) c b → a ≡ b
 one_given_in modes.Check folder c a b h k = one_given folder c a b h k
 one_given_in modes.Cores folder c a b h k = one_given folder c a b h k
+one_given_in modes.Cycle folder c a b h k = one_given folder c a b h k
 one_given_in modes.Edf folder c a b h k = one_given folder c a b h k
 one_given_in modes.Flows folder c a b h k = one_given folder c a b h k
 one_given_in modes.Plan folder c a b h k = one_given folder c a b h k
@@ -69,6 +68,7 @@ one_given_in modes.Print folder c a b h k = one_given folder c a b h k
 one_given_in modes.Replay folder c a b h k = one_given folder c a b h k
 one_given_in modes.Run folder c a b h k = one_given folder c a b h k
 one_given_in modes.Schedule folder c a b h k = one_given folder c a b h k
+one_given_in modes.Table folder c a b h k = one_given folder c a b h k
 one_given_in modes.Generate folder c a b h k = h ∙ sym k
 
 some_same : (o : Option Command) (a b : Command) → o ≡ Some a → o ≡ Some b → a ≡ b

@@ -1,2 +1,1 @@
-pub mod RatioTexts
 pub mod Exact
