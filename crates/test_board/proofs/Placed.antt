@@ -1,16 +1,12 @@
 -- Where a task stands, by the place that is told of it.
-use Rattle.std.proofs.Common.{◌≡◌, ◌<◌, ℕ, zero, suc, List, [], ◌∷◌, length, refl, subst, arith, Some}
+use Rattle.std.proofs.Common.{◌≡◌, ◌<◌, ℕ, length, subst, Some}
 use Rattle.std.specs.Prelude.{slice_get}
 use Rattle.prl_board.specs.declared.seats.Place.{Place}
 use Rattle.prl_seats.specs.JobSeats.{JobSeatView}
 use Rattle.prl_board.specs.Lones.{IsPlacedAt, LoneView}
 use Rattle.prl_board.specs.TaskSeats.{place_of}
-
-there : {A : Type 0} (xs : List A) (i : ℕ) → i < length xs → (a : A) × (slice_get xs i ≡ Some a)
-there [] i below = absurd (omega (arith, below))
-there (x ∷ xs) zero below = (x, refl)
-there (x ∷ xs) (suc i) below = there xs i (omega (arith, below))
+use Rattle.prl_board.proofs.Lists.{seat_there}
 
 pub placed : (may : Place → Type 0) (l : LoneView) (i : ℕ) (place : Place) → i < length l.seats → ((s : JobSeatView) → slice_get l.seats i ≡ Some s → place ≡ place_of s.stage) → may place →
     IsPlacedAt may l i
-placed may l i place below is ok = let seat = there l.seats i below in (seat.0, seat.1, subst may (is seat.0 seat.1) ok)
+placed may l i place below is ok = let seat = seat_there l.seats i below in (seat.0, seat.1, subst may (is seat.0 seat.1) ok)

@@ -1,25 +1,16 @@
 -- The seats that come with a board.
-use Rattle.std.proofs.Common.{◌≡◌, ◌≢◌, ◌⊎◌, ℕ, zero, suc, ◌<◌, List, [], ◌∷◌, length, length-set, set, get_or, inl, inr, ⊎_elim, arith, refl, sym, ap, subst, ◌∙◌, Some}
-use Rattle.std.proofs.lemmas.Option.{get_or_from_slice_get, slice_get-get_or, slice_get_read, slice_get_within}
+use Rattle.std.proofs.Common.{◌≡◌, ℕ, ◌<◌, List, length, length-set, set, get_or, ⊎_elim, sym, subst, ◌∙◌, Some}
+use Rattle.std.proofs.lemmas.Option.{get_or_from_slice_get, slice_get-get_or, slice_get_within}
 use Rattle.std.specs.List.{All}
 use Rattle.std.specs.Prelude.{slice_get}
 use Rattle.prl_seats.specs.Boards.{BoardView}
 use Rattle.prl_seats.specs.JobSeats.{IsSeatOf, JobSeatView}
 use Rattle.prl_board.specs.Lones.{AreSeatsOf}
 use Rattle.prl_board.specs.Openings.{AreFirstSeats}
+use Rattle.prl_board.proofs.Lists.{set_at}
 
 pub first_seats : (b : BoardView) (seats : List JobSeatView) → AreFirstSeats b seats → AreSeatsOf b seats
 first_seats b seats first = record { tasks = first.tasks; each = λ i s has. ((first.each i s has).0, (first.each i s has).1.task) }
-
-pub read_there : {A : Type 0} (xs : List A) (i : ℕ) (x : A) → i < length xs → x ≡ get_or xs i x → slice_get xs i ≡ Some x
-read_there xs i x below is = slice_get_read xs (length xs) i x refl below is
-
-set_at : {A : Type 0} (xs : List A) (i j : ℕ) (a b : A) → slice_get (set xs i a) j ≡ Some b → ((j ≡ i) × (a ≡ b)) ⊎ (slice_get xs j ≡ Some b)
-set_at [] i j a b e = absurd (cc e)
-set_at (x ∷ xs) zero zero a b e = inl (refl, cc e)
-set_at (x ∷ xs) zero (suc j) a b e = inr e
-set_at (x ∷ xs) (suc i) zero a b e = inr e
-set_at (x ∷ xs) (suc i) (suc j) a b e = ⊎_elim (λ t. inl (ap suc t.0, t.1)) (λ t. inr t) (set_at xs i j a b e)
 
 -- they are still those of the board after a step of one
 pub seats_after : (b : BoardView) (seats : List JobSeatView) (i : ℕ) (before after : JobSeatView) → AreSeatsOf b seats → slice_get seats i ≡ Some before → IsSeatOf b after → after.task ≡ before.task →
@@ -28,7 +19,7 @@ seats_after b seats i before after all there is same = record {
   tasks = length-set seats i after ∙ all.tasks;
   each = λ j s has. ⊎_elim
       (λ t. let P : ℕ × JobSeatView → Type 0 = λ z. IsSeatOf b z.1 × (z.1.task ≡ record { 0 = z.0 }) in subst P (λ h. (sym t.0 h, t.1 h)) (is, same ∙ (all.each i before there).1))
-      (λ t. all.each j s t)
+      (λ t. all.each j s t.1)
       (set_at seats i j after s has);
 }
 

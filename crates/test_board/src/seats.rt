@@ -25,11 +25,31 @@ fn read(board: &Board, seat: &mut TaskSeat) -> Got
     ensures seat { IsSeatOf board.now seat.new }
     ensures same { seat.new.task ≡ seat.old.task }
 {
-    let got = seat.read(board);
-    if let Got::Overrun { .. } = got {
-        seat.raise(board);
+    match seat.read(board) {
+        Got::Half => Got::Half,
+        Got::Value(value) => Got::Value(value),
+        Got::NotYet {
+            cell,
+            wanted,
+            found,
+        } => Got::NotYet {
+            cell,
+            wanted,
+            found,
+        },
+        Got::Overrun {
+            cell,
+            wanted,
+            found,
+        } => {
+            seat.raise(board);
+            Got::Overrun {
+                cell,
+                wanted,
+                found,
+            }
+        }
     }
-    got
 }
 
 /// Does what comes next for a task.

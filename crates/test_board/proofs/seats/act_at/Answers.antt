@@ -1,5 +1,6 @@
 use Rattle.std.proofs.Common.{arith, vec_items}
-use Rattle.test_board.proofs.Stepped.{read_there, seats_after}
+use Rattle.prl_board.proofs.Lists.{read_there}
+use Rattle.test_board.proofs.Stepped.{seats_after}
 use Rattle.test_board.proofs.seats.act_at.Goals as goal
 
 pub act-requires : goal.act-requires
