@@ -6,7 +6,7 @@ use Rattle.prl_companions.specs.declared.endings.Stop.TheVariants as stops
 use Rattle.prl_companions.specs.Endings.{Ends}
 use Rattle.prl_companions.specs.Files.{IsFileStop}
 use Rattle.prl_companions.specs.Pairs.{are_pairs, value_of}
-use Rattle.prl_explain.specs.declared.explanations.TheConstants.{MAX_PLAN, MAX_PROGRAM, MAX_SENSORS, MAX_SCHEDULE}
+use Rattle.prl_explain.specs.declared.explanations.TheConstants.{MAX_PLAN, MAX_PROGRAM, MAX_SENSORS, MAX_SCHEDULE, MAX_TABLE}
 use Rattle.prl_explain.specs.declared.kinds.Kind.{Kind}
 use Rattle.prl_explain.specs.declared.kinds.Part.{Part}
 use Rattle.prl_explain.specs.declared.kinds.Part.TheVariants as parts
@@ -16,6 +16,7 @@ use Rattle.prl_plan.specs.declared.events.Rule.{Rule}
 use Rattle.prl_explain.specs.Details.{IsOfProgram, IsOfText}
 use Rattle.prl_explain.specs.Kinds.{IsLineOf, argument_of}
 use Rattle.prl_explain.specs.Places.{lead, line_front, line_rest, place_of}
+use Rattle.prl_explain.specs.Sentences.{sentence_text}
 use Rattle.prl_explain.specs.Spots.{IsSpot}
 
 -- what is known of a folder: the bytes of each file by its name
@@ -39,15 +40,17 @@ option_of parts.Program = codes "--program"
 option_of parts.Bodies = codes "--bodies"
 option_of parts.Sensors = codes "--sensors"
 option_of parts.Schedule = codes "--schedule"
+option_of parts.Table = codes "--table"
 
 abbrev pub all_options : List (List ℕ)
-all_options = codes "--program" ∷ codes "--bodies" ∷ codes "--sensors" ∷ codes "--schedule" ∷ codes "--plan" ∷ codes "--node" ∷ []
+all_options = codes "--program" ∷ codes "--bodies" ∷ codes "--sensors" ∷ codes "--schedule" ∷ codes "--table" ∷ codes "--plan" ∷ codes "--node" ∷ []
 
 abbrev pub most_of : Part → ℕ
 most_of parts.Program = MAX_PROGRAM
 most_of parts.Bodies = MAX_PROGRAM
 most_of parts.Sensors = MAX_SENSORS
 most_of parts.Schedule = MAX_SCHEDULE
+most_of parts.Table = MAX_TABLE
 
 abbrev pub name_in : List (List ℕ) → Option Part → Option (List ℕ)
 name_in words None = None
@@ -74,21 +77,20 @@ abbrev pub marked : List ℕ → ℕ → List ℕ
 marked source at =
     line_front source at ++ line_rest source at ++ codes "\n" ++ lead (line_front source at) ++ codes "^\n"
 
-abbrev pub sentence_text : List ℕ → List ℕ
-sentence_text sentence = sentence ++ codes "\n"
+-- the line, its place in a file, and what is said of it
+abbrev pub shown_text : Kind → List ℕ → List ℕ → List ℕ → ℕ → List ℕ
+shown_text kind line name source at = line ++ place_text name source at ++ marked source at ++ sentence_text kind line
 
-abbrev pub shown_text : List ℕ → List ℕ → ℕ → List ℕ → List ℕ
-shown_text name source at sentence = place_text name source at ++ marked source at ++ sentence_text sentence
-
-abbrev pub text_at : List ℕ → List ℕ → List ℕ → Option ℕ → List ℕ
-text_at name source sentence None = sentence_text sentence
-text_at name source sentence (Some at) = shown_text name source at sentence
+-- the line, where the file has its place that one, and what is said of the line
+abbrev pub text_at : Kind → List ℕ → List ℕ → List ℕ → Option ℕ → List ℕ
+text_at kind line name source None = line ++ sentence_text kind line
+text_at kind line name source (Some at) = shown_text kind line name source at
 
 -- the explanation of a line of a kind by a file: with the place that the line tells, where the file has it
 abbrev pub IsByFile : Kind → List ℕ → List ℕ → List ℕ → List ℕ → Type 0
 IsByFile kind line name source text =
     (found : Option ℕ) × IsSpot kind.target (argument_of kind line) source found
-    × (text ≡ text_at name source kind.sentence.now found)
+    × (text ≡ text_at kind line name source found)
 
 -- what is told beside of the event of a line, by a program; nothing where the words name none
 abbrev pub IsByProgram : Folder → List (List ℕ) → Option (List ℕ) → Rule → List ℕ → List ℕ → List ℕ → Type 0
@@ -116,7 +118,7 @@ IsDetail folder words targets.Flow argument source detail = detail ≡ []
 IsDetail folder words targets.Variable argument source detail = detail ≡ []
 
 abbrev pub IsByName : Folder → List (List ℕ) → Option (List ℕ) → Kind → List ℕ → List ℕ → Type 0
-IsByName folder words None kind line text = text ≡ sentence_text kind.sentence.now
+IsByName folder words None kind line text = text ≡ line ++ sentence_text kind line
 IsByName folder words (Some name) kind line text =
     (source : List ℕ) × IfSome folder (λ f. f name ≡ Some source)
     × (front : List ℕ) × IsByFile kind line name source front

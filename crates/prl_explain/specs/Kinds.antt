@@ -17,7 +17,10 @@ pub record IsLineOf (kind : Kind) (line : List ℕ) : Type 0 where
 abbrev pub is_gap : ℕ → Bool
 is_gap b = (b == 32) || (b == 10)
 
+-- what stands after the front of a line
+abbrev pub rest_of : Kind → List ℕ → List ℕ
+rest_of kind line = if starts_with nat_eq line kind.front.now then drop (length kind.front.now) line else []
+
 -- the first word after the front of a line
 abbrev pub argument_of : Kind → List ℕ → List ℕ
-argument_of kind line =
-    if starts_with nat_eq line kind.front.now then before_first is_gap (drop (length kind.front.now) line) else []
+argument_of kind line = before_first is_gap (rest_of kind line)

@@ -2,6 +2,8 @@
 pub mod Places
 -- the kinds of lines
 pub mod Kinds
+-- what is said of a line
+pub mod Sentences
 -- where a name stands in a program
 pub mod Names
 -- the byte that a line speaks of

@@ -1,5 +1,5 @@
 -- Where a name stands in a program.
-use Rattle.std.specs.Prelude.{◌==◌, ◌&&◌, ◌||◌, ℕ, Bool, false, not, List, [], ◌∷◌, Option, None, length, nat_lt, Result, Ok, Err, codes, if◌then◌else◌}
+use Rattle.std.specs.Prelude.{◌==◌, ◌&&◌, ◌||◌, ℕ, Bool, false, not, List, [], ◌∷◌, Option, Some, None, length, nat_lt, Result, Ok, Err, codes, if◌then◌else◌}
 use Rattle.std.specs.List.{after_first, before_first, find, position_or_len}
 use Rattle.std.specs.Option.{option_map}
 use Rattle.std.specs.Str.{byte, bytes_eq}
@@ -9,16 +9,16 @@ use Rattle.prl_lex.specs.Lexing.{token_text, tokens_of}
 use Rattle.prl_explain.specs.declared.names.Asked.{Asked}
 use Rattle.prl_explain.specs.declared.names.Asked.TheVariants as words
 
--- which of the places where a name stands is asked for: the first of the whole text, its declaration as a node, a sensor or
--- an actuator, or the first of main or of a node
+-- which of the places where a name stands is asked for: the first that lies in a node, or else in the whole text; its
+-- declaration as a node, a sensor or an actuator; or the first of main or of a node
 pub data Question : Type 0 where
-  Anywhere : List ℕ → Question
+  Used : List ℕ → Question
   Declared : List ℕ → Question
   InMain : List ℕ → Question
   InNode : List ℕ → List ℕ → Question
 
 abbrev pub shown : Asked → Question
-shown (words.Anywhere name) = Anywhere name.now
+shown (words.Used name) = Used name.now
 shown (words.Declared name) = Declared name.now
 shown (words.InMain name) = InMain name.now
 shown (words.InNode node name) = InNode node.now name.now
@@ -29,6 +29,26 @@ is_text text token word = bytes_eq (token_text text token) word
 -- where the first of the tokens begins that is this name
 abbrev pub first_named : List ℕ → List Token → List ℕ → Option ℕ
 first_named text tokens name = option_map (λ token. token.span.at) (find (λ token. is_text text token name) tokens)
+
+-- the next token lies in a node: what is not imported, up to its `tel`
+abbrev pub is_inside : List ℕ → Bool → Bool → Token → Bool
+is_inside text inside imported token =
+    if inside then not (is_text text token (codes "tel")) else not imported && is_text text token (codes "node")
+
+-- where the first of the tokens begins that is this name and lies in a node
+abbrev pub first_used : List ℕ → List ℕ → Bool → Bool → List Token → Option ℕ
+first_used text name inside imported [] = None
+first_used text name inside imported (token ∷ rest) =
+    if inside && is_text text token name then Some token.span.at
+    else first_used text name (is_inside text inside imported token) (is_text text token (codes "imported")) rest
+
+abbrev pub or_first : List ℕ → List Token → List ℕ → Option ℕ → Option ℕ
+or_first text tokens name (Some at) = Some at
+or_first text tokens name None = first_named text tokens name
+
+-- where the first of the tokens begins that is this name, of those in a node where there is one
+abbrev pub used_or_first : List ℕ → List Token → List ℕ → Option ℕ
+used_or_first text tokens name = or_first text tokens name (first_used text name false false tokens)
 
 -- the tokens from the last `node` on that no `imported` stands before, of those that are left; else the best so far
 abbrev pub main_of : List ℕ → List Token → Bool → List Token → List Token
@@ -50,7 +70,7 @@ declared_from text name declares (token ∷ rest) =
 
 -- the place that is asked for, among tokens of a text
 abbrev pub named_in : List ℕ → List Token → Question → Option ℕ
-named_in text tokens (Anywhere name) = first_named text tokens name
+named_in text tokens (Used name) = used_or_first text tokens name
 named_in text tokens (InMain name) = first_named text (main_of text tokens false tokens) name
 named_in text tokens (Declared name) = first_named text (declared_from text name false tokens) name
 named_in text tokens (InNode node name) = first_named text (declared_from text node false tokens) name

@@ -5,7 +5,7 @@ use Rattle.std.specs.Str.{byte}
 use Rattle.prl_base.specs.Decimals.{decimal_of}
 use Rattle.prl_explain.specs.declared.kinds.Target.{Target}
 use Rattle.prl_explain.specs.declared.kinds.Target.TheVariants as targets
-use Rattle.prl_explain.specs.Names.{Anywhere, Declared, InNode, flow_asked, is_byte, named_at}
+use Rattle.prl_explain.specs.Names.{Used, Declared, InNode, flow_asked, is_byte, named_at}
 use Rattle.prl_explain.specs.Places.{IsLineStart, place_of}
 
 abbrev pub if_inside : List ℕ → Option ℕ → Option ℕ
@@ -31,7 +31,7 @@ IsSpot targets.Nowhere argument text found = found ≡ None
 IsSpot (targets.Byte part) argument text found = found ≡ byte_at text argument
 IsSpot (targets.Line part) argument text found = IsLineAt text argument found
 IsSpot (targets.Event rule) argument text found = IsLineAt text argument found
-IsSpot targets.Word argument text found = found ≡ named_at text (Anywhere argument)
+IsSpot targets.Word argument text found = found ≡ named_at text (Used argument)
 IsSpot targets.Task argument text found = found ≡ named_at text (Declared (before_first (is_byte (byte "@")) argument))
 IsSpot targets.Flow argument text found = found ≡ named_at text (flow_asked argument)
 IsSpot targets.Variable argument text found =

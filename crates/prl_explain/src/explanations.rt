@@ -1,17 +1,21 @@
-//! The explanation of a line: the place of its fault, the line of the source with a mark, and what is wrong there.
+//! The explanation of a line: the line, the place of its fault, the line of the source with a mark, and what is wrong there.
 
-ghost use Rattle.std.specs.Prelude.{◌≡◌, ◌++◌, ◌≤◌, ◌<◌, ◌^◌, codes, drop, map, IfOk, IfErr, OnOk, length};
+ghost use Rattle.std.specs.Prelude.{◌≡◌, ◌++◌, ◌≤◌, ◌<◌, ◌^◌, codes, drop, map, IfOk, IfErr, IfSome, OnOk, length};
 ghost use Rattle.std.specs.Option.{option_map};
 ghost use Rattle.std.specs.String.{string_bytes};
 ghost use Rattle.prl_companions.specs.Pairs.{value_of};
-ghost use Rattle.prl_explain.specs.Kinds.{argument_of};
-ghost use Rattle.prl_explain.specs.Explanations.{Answers, IsByFile, IsByPlan, IsByProgram, IsDetail, IsExplanation, IsOfKind, IsStop, IsStopOfFile, marked, most_of, most_told, name_of, option_of, part_of, place_text, sentence_text, shown_text};
+ghost use Rattle.prl_explain.specs.Kinds.{argument_of, IsLineOf};
+ghost use Rattle.prl_explain.specs.Explanations.{Answers, IsByFile, IsByPlan, IsByProgram, IsDetail, IsExplanation, IsOfKind, IsStop, IsStopOfFile, marked, most_of, most_told, name_of, option_of, part_of, place_text, shown_text};
+ghost use Rattle.prl_explain.specs.Sentences.{sentence_text};
 
+use crate::call_table::call_kinds;
 use crate::details::{of_program, of_text};
 use crate::kinds::{Kind, Part, Target, argument_of, kind_of};
 use crate::places::{line_front, line_rest, place_of, push_lead};
+use crate::program_table::program_kinds;
+use crate::run_table::run_kinds;
+use crate::sentences::push_sentence;
 use crate::spots::spot_of;
-use crate::table::kinds;
 use prl_base::{Label, push_number};
 use prl_companions::{Stop, after_name, are_pairs, finish, read_named, value_of};
 use prl_io::{Files, Sink};
@@ -30,19 +34,23 @@ pub const MAX_SCHEDULE: u64 = 83_886_080;
 /// The most bytes of a plan's text.
 pub const MAX_PLAN: u64 = 33_554_432;
 
+/// The most bytes of a table's text.
+pub const MAX_TABLE: u64 = 16_777_216;
+
 /// The form of the words.
 const FORM: &str = "prelude_explain [--program FILE] [--bodies FILE] [--sensors FILE] \
-    [--schedule FILE] [--plan FILE] [--node NAME]";
+    [--schedule FILE] [--table FILE] [--plan FILE] [--node NAME]";
 
 /// Why there is no explanation.
 const NO_LINE: &str = "standard input is not one line of prelude";
 
 /// The options of the words.
-static OPTIONS: [&[u8]; 6] = [
+static OPTIONS: [&[u8]; 7] = [
     b"--program",
     b"--bodies",
     b"--sensors",
     b"--schedule",
+    b"--table",
     b"--plan",
     b"--node",
 ];
@@ -69,6 +77,7 @@ fn option_of(part: Part) -> &'static [u8]
         Part::Bodies => b"--bodies",
         Part::Sensors => b"--sensors",
         Part::Schedule => b"--schedule",
+        Part::Table => b"--table",
     }
 }
 
@@ -81,6 +90,7 @@ fn most_of(part: Part) -> u64
         Part::Bodies => MAX_PROGRAM,
         Part::Sensors => MAX_SENSORS,
         Part::Schedule => MAX_SCHEDULE,
+        Part::Table => MAX_TABLE,
     }
 }
 
@@ -115,29 +125,28 @@ fn push_marked(text: &mut Vec<u8>, source: &[u8], at: usize) -> Result<(), Alloc
 /// The explanation with the place of a byte of a file.
 fn with_place(
     alloc: Global,
+    kind: &Kind,
+    line: &[u8],
     name: &[u8],
     source: &[u8],
     at: usize,
-    sentence: &str,
 ) -> Result<Vec<u8>, AllocError>
     requires { at ≤ length source.now }
-    ensures { IfOk result (λ text. text.items ≡ shown_text name.now source.now at sentence.now) }
+    ensures { IfOk result (λ text. text.items ≡ shown_text kind.now line.now name.now source.now at) }
 {
-    let mut text = Vec::new(alloc);
+    let mut text = Vec::from_slice(alloc, line)?;
     push_place(&mut text, name, source, at)?;
     push_marked(&mut text, source, at)?;
-    text.extend_from_slice(sentence.as_bytes())?;
-    text.push(b'\n')?;
+    push_sentence(&mut text, kind, line)?;
     Ok(text)
 }
 
 /// The explanation without a place.
-fn without_place(alloc: Global, sentence: &str) -> Result<Vec<u8>, AllocError>
-    ensures { IfOk result (λ text. text.items ≡ sentence_text sentence.now) }
+fn without_place(alloc: Global, kind: &Kind, line: &[u8]) -> Result<Vec<u8>, AllocError>
+    ensures { IfOk result (λ text. text.items ≡ line.now ++ sentence_text kind.now line.now) }
 {
-    let mut text = Vec::new(alloc);
-    text.extend_from_slice(sentence.as_bytes())?;
-    text.push(b'\n')?;
+    let mut text = Vec::from_slice(alloc, line)?;
+    push_sentence(&mut text, kind, line)?;
     Ok(text)
 }
 
@@ -174,8 +183,8 @@ fn by_file(
     ensures { IfOk result (λ text. IsByFile kind.now line.now name.now source.now text.items) }
 {
     match spot_of(alloc, source, kind.target, argument_of(kind, line))? {
-        None => without_place(alloc, kind.sentence),
-        Some(at) => with_place(alloc, name, source, at, kind.sentence),
+        None => without_place(alloc, kind, line),
+        Some(at) => with_place(alloc, kind, line, name, source, at),
     }
 }
 
@@ -276,13 +285,33 @@ fn of_kind<F: Files>(
     ensures kept { (F.seen files.new).folder ≡ (F.seen files.old).folder }
 {
     let Some(name) = name_of(kind.target, words) else {
-        return Ok(without_place(alloc, kind.sentence)?);
+        return Ok(without_place(alloc, kind, line)?);
     };
     let source = read_named(alloc, files, name, most_told(kind.target))?;
     let mut text = by_file(alloc, kind, line, name, &source)?;
     let detail = detail_of(alloc, words, kind, line, &source, files)?;
     text.extend_from_slice(&detail)?;
     Ok(text)
+}
+
+/// The kind of a line of a program or of what it is run with.
+fn program_line_kind(line: &[u8]) -> Option<&'static Kind>
+    ensures { IfSome result (λ kind. IsLineOf kind.now line.now) }
+{
+    match kind_of(program_kinds(), line) {
+        Some(kind) => Some(kind),
+        None => kind_of(run_kinds(), line),
+    }
+}
+
+/// The kind of a line.
+fn line_kind(line: &[u8]) -> Option<&'static Kind>
+    ensures { IfSome result (λ kind. IsLineOf kind.now line.now) }
+{
+    match kind_of(call_kinds(), line) {
+        Some(kind) => Some(kind),
+        None => program_line_kind(line),
+    }
 }
 
 /// The explanation of a line.
@@ -299,7 +328,7 @@ fn explanation<F: Files>(
     if !are_pairs(&OPTIONS, words) {
         return Err(Stop::Words(FORM));
     }
-    match kind_of(kinds(), line) {
+    match line_kind(line) {
         None => Err(Stop::Refused(NO_LINE)),
         Some(kind) => of_kind(alloc, words, kind, line, files),
     }

@@ -2,7 +2,7 @@
 
 ghost use Rattle.std.specs.Prelude.{◌≡◌, IfSome};
 ghost use Rattle.std.specs.List.{before_first};
-ghost use Rattle.prl_explain.specs.Kinds.{argument_of, is_gap, is_line_of, IsLineOf};
+ghost use Rattle.prl_explain.specs.Kinds.{argument_of, is_gap, is_line_of, rest_of, IsLineOf};
 
 use prl_base::line_len;
 use prl_plan::Rule;
@@ -14,6 +14,7 @@ pub enum Part {
     Bodies,
     Sensors,
     Schedule,
+    Table,
 }
 
 /// How a line tells the place of its fault.
@@ -27,7 +28,7 @@ pub enum Target {
     Line(Part),
     /// By the number of a line of the schedule, whose event breaks this rule.
     Event(Rule),
-    /// By a name that the program has.
+    /// By a name that the program has, in a node where one has it.
     Word,
     /// By the name of a node, a sensor or an actuator, or of the task of one: an import is followed by `@` and a number.
     Task,
@@ -37,13 +38,22 @@ pub enum Target {
     Variable,
 }
 
+/// A piece of what is said of a line.
+#[derive(Clone, Copy, Debug)]
+pub enum Piece {
+    /// These words.
+    Words(&'static str),
+    /// The word of the line that has this number, from 0, after its front.
+    Word(u64),
+}
+
 /// What lines of a kind begin and end with, how they tell the place, and what is wrong there.
 #[derive(Clone, Copy, Debug)]
 pub struct Kind {
     pub front: &'static str,
     pub tail: &'static str,
     pub target: Target,
-    pub sentence: &'static str,
+    pub sentence: &'static [Piece],
 }
 
 /// Whether the text is one line of the kind.
@@ -68,18 +78,25 @@ pub(crate) fn kind_of<'a>(kinds: &'a [Kind], line: &[u8]) -> Option<&'a Kind>
     None
 }
 
+/// What stands after the front of a line.
+pub(crate) fn rest_of<'a>(kind: &Kind, line: &'a [u8]) -> &'a [u8]
+    ensures { result.now ≡ rest_of kind.now line.now }
+{
+    match line.strip_prefix(kind.front.as_bytes()) {
+        None => &[],
+        Some(rest) => rest,
+    }
+}
+
 /// The first word after the front of a line.
 pub(crate) fn argument_of<'a>(kind: &Kind, line: &'a [u8]) -> &'a [u8]
     ensures { result.now ≡ argument_of kind.now line.now }
 {
-    match line.strip_prefix(kind.front.as_bytes()) {
-        None => &[],
-        Some(rest) => word_of(rest),
-    }
+    word_of(rest_of(kind, line))
 }
 
 /// What stands before the first blank or line feed.
-fn word_of(text: &[u8]) -> &[u8]
+pub(crate) fn word_of(text: &[u8]) -> &[u8]
     ensures { result.now ≡ before_first is_gap text.now }
 {
     for (i, byte) in text.iter().enumerate() {

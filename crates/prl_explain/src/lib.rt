@@ -3,14 +3,17 @@
 //! overtakes. It stands on `prl_pipeline` for the plan of a program, on `prl_plantext` for the text of a plan, and on `prl_broken`.
 #![tactic(auto)]
 
+mod call_table;
 mod details;
 mod explanations;
 mod kinds;
 mod names;
 mod places;
+mod program_table;
+mod run_table;
+mod sentences;
 mod spots;
-mod table;
 
 pub use explanations::explain;
-pub use kinds::{Kind, Part, Target};
+pub use kinds::{Kind, Part, Piece, Target};
 pub use places::{Place, line_start, place_of};

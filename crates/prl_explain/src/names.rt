@@ -3,16 +3,16 @@
 ghost use Rattle.std.specs.Prelude.{◌≡◌, ◌<◌, ◌≤◌, ◌^◌, All, IfOk, IfSome, false, length};
 ghost use Rattle.std.specs.List.{after_first, before_first, position_or_len};
 ghost use Rattle.prl_lex.specs.Lexing.{IsTokenOf};
-ghost use Rattle.prl_explain.specs.Names.{first_named, flow_asked, is_byte, is_declaring, is_text, main_of, named_at, named_in, declared_from, shown};
+ghost use Rattle.prl_explain.specs.Names.{first_named, first_used, flow_asked, is_inside, is_byte, is_declaring, is_text, main_of, named_at, named_in, declared_from, shown, used_or_first};
 
 use prl_lex::{LexFault, Token, lex, token_text};
 use std::alloc::{AllocError, Global};
 
-/// Which of the places where a name stands is asked for: the first of the whole text, its declaration as a node, a sensor or an
-/// actuator, or the first of main or of a node.
+/// Which of the places where a name stands is asked for: the first that lies in a node, or else in the whole text; its declaration
+/// as a node, a sensor or an actuator; or the first of main or of a node.
 #[derive(Clone, Copy)]
 pub(crate) enum Asked<'a> {
-    Anywhere(&'a [u8]),
+    Used(&'a [u8]),
     Declared(&'a [u8]),
     InMain(&'a [u8]),
     InNode(&'a [u8], &'a [u8]),
@@ -38,6 +38,48 @@ fn first_named(text: &[u8], tokens: &[Token], name: &[u8]) -> Option<usize>
         }
     }
     None
+}
+
+/// Whether the next token lies in a node: what is not imported, up to its `tel`.
+fn is_inside(text: &[u8], inside: bool, imported: bool, token: &Token) -> bool
+    requires { IsTokenOf text.now token.now }
+    ensures { result ≡ is_inside text.now inside imported token.now }
+{
+    if inside {
+        !is_text(text, token, b"tel")
+    } else {
+        !imported && is_text(text, token, b"node")
+    }
+}
+
+/// Where the first of the tokens begins that is this name and lies in a node.
+fn first_used(text: &[u8], tokens: &[Token], name: &[u8]) -> Option<usize>
+    requires { All (IsTokenOf text.now) tokens.now }
+    ensures exact { result ≡ first_used text.now name.now false false tokens.now }
+    ensures inside { IfSome result (λ at. at ≤ length text.now) }
+{
+    let mut in_node = false;
+    let mut imported = false;
+    for token in tokens {
+        if in_node && is_text(text, token, name) {
+            return Some(token.span.at as usize);
+        }
+        in_node = is_inside(text, in_node, imported, token);
+        imported = is_text(text, token, b"imported");
+    }
+    None
+}
+
+/// Where the first of the tokens begins that is this name, of those in a node where there is one.
+fn used_or_first(text: &[u8], tokens: &[Token], name: &[u8]) -> Option<usize>
+    requires { All (IsTokenOf text.now) tokens.now }
+    ensures exact { result ≡ used_or_first text.now tokens.now name.now }
+    ensures inside { IfSome result (λ at. at ≤ length text.now) }
+{
+    match first_used(text, tokens, name) {
+        Some(at) => Some(at),
+        None => first_named(text, tokens, name),
+    }
 }
 
 /// The tokens from the last `node` on that is not imported; all of them where there is none.
@@ -90,7 +132,7 @@ fn named_in(text: &[u8], tokens: &[Token], asked: Asked<'_>) -> Option<usize>
     ensures inside { IfSome result (λ at. at ≤ length text.now) }
 {
     match asked {
-        Asked::Anywhere(name) => first_named(text, tokens, name),
+        Asked::Used(name) => used_or_first(text, tokens, name),
         Asked::InMain(name) => first_named(text, main_of(text, tokens), name),
         Asked::Declared(name) => first_named(text, declared_of(text, tokens, name), name),
         Asked::InNode(node, name) => first_named(text, declared_of(text, tokens, node), name),

@@ -53,7 +53,7 @@ pub(crate) fn spot_of(
         Target::Byte(_) => Ok(byte_at(text, argument)),
         Target::Line(_) => Ok(line_at(text, argument)),
         Target::Event(_) => Ok(line_at(text, argument)),
-        Target::Word => named_at(alloc, text, Asked::Anywhere(argument)),
+        Target::Word => named_at(alloc, text, Asked::Used(argument)),
         Target::Task => named_at(alloc, text, Asked::Declared(before(argument, b'@'))),
         Target::Flow => named_at(alloc, text, flow_asked(argument)),
         Target::Variable => {
