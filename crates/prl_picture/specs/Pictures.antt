@@ -1,5 +1,5 @@
 -- The picture of a plan.
-use Rattle.std.specs.Prelude.{◌≡◌, ◌<◌, ℕ, Bool, false, List, [], ◌∷◌, Some, Result, IfOk, IfSome, MatchOption, codes, length}
+use Rattle.std.specs.Prelude.{◌≡◌, ◌<◌, ℕ, Bool, false, List, [], ◌∷◌, Some, Result, IfOk, IfSome, MatchOption, codes, is_some, length}
 use Rattle.std.specs.Bool.{OnFalse}
 use Rattle.std.specs.Str.{bytes_eq}
 use Rattle.prl_io.specs.Views.{FolderView, SinkView}
@@ -23,13 +23,15 @@ abbrev pub IsFirst : List (List ℕ) → ℕ → Type 0
 IsFirst words from = MatchOption (value_of (codes "--from") words) (from ≡ 0) (λ word. decimal_of word ≡ Some from)
 
 -- the tick after the last one that the words ask for
-abbrev pub IsLast : PlanView → List (List ℕ) → ℕ → ℕ → Type 0
-IsLast plan words from until = MatchOption (value_of (codes "--until") words) (IsDefaultEnd plan from until) (λ word. decimal_of word ≡ Some until)
+abbrev pub IsLast : PlanView → List ℕ → List (List ℕ) → ℕ → ℕ → Type 0
+IsLast plan rows words from until =
+    MatchOption (value_of (codes "--until") words) (IsDefaultEnd plan rows (is_some (value_of (codes "--table") words)) from until)
+    (λ word. decimal_of word ≡ Some until)
 
--- the words ask for the ticks of this range
-pub record AreAsked (plan : PlanView) (words : List (List ℕ)) (from until : ℕ) : Type 0 where
+-- the words ask for the ticks of this range, where these tasks have a row
+pub record AreAsked (plan : PlanView) (rows : List ℕ) (words : List (List ℕ)) (from until : ℕ) : Type 0 where
   pub begins : IsFirst words from
-  pub ends : IsLast plan words from until
+  pub ends : IsLast plan rows words from until
 
 -- the rows of a task of this name, and of those that edges connect with it
 abbrev pub IsNearRows : PlanView → List ℕ → List ℕ → Type 0
@@ -44,8 +46,8 @@ AreRows plan words rows = MatchOption (value_of (codes "--task") words) (rows �
 pub record IsDrawn (folder : Folder) (plan : PlanView) (words : List (List ℕ)) (text : List ℕ) : Type 0 where
   pub from : ℕ
   pub until : ℕ
-  pub asked : AreAsked plan words from until
   pub view : View
+  pub asked : AreAsked plan view.rows words from until
   pub range : IsRange from until view.scale
   pub rows : AreRows plan words view.rows
   pub shown : Shown

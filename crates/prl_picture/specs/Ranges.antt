@@ -1,7 +1,14 @@
 -- The range of ticks that is drawn.
-use Rattle.std.specs.Prelude.{◌≡◌, ◌+◌, ◌<◌, ◌≤◌, ◌^◌, ℕ, min}
-use Rattle.prl_plan.specs.Plans.{PlanView}
+use Rattle.std.specs.Prelude.{◌≡◌, ◌+◌, ◌*◌, ◌<◌, ◌≤◌, ◌^◌, ℕ, Bool, true, List, length, min}
+use Rattle.std.specs.Bool.{OnFalse}
+use Rattle.prl_plan.specs.declared.walks.Operand.TheVariants as operands
+use Rattle.prl_plan.specs.Jobs.{job_count, task_at}
+use Rattle.prl_plan.specs.Operands.{operand_of}
+use Rattle.prl_plan.specs.Plans.{PlanView, edge_at}
+use Rattle.prl_plan.specs.Precedence.{ComesFrom}
 use Rattle.prl_drawing.specs.declared.scales.Scale.{Scale}
+use Rattle.prl_views.specs.Acts.{is_in}
+use Rattle.prl_picture.specs.declared.defaults.TheConstants.{REACH}
 use Rattle.prl_picture.specs.declared.ranges.TheConstants.{MAX_UNTIL}
 
 -- the range from its first tick on, up to its last or to an earlier tick, and ticks enough for the latter
@@ -12,7 +19,47 @@ pub record IsRange (first last : ℕ) (scale : Scale) : Type 0 where
   pub wide : scale.until ≤ first + scale.span
   pub small : scale.span < 2 ^ 33
 
--- The end of a range where the words do not say it: the range has a hyperperiod at least.
-pub record IsDefaultEnd (plan : PlanView) (from until : ℕ) : Type 0 where
+-- job n of task i is released by its clock from the first tick on and before the last
+pub record IsReleasedIn (plan : PlanView) (from until i n : ℕ) : Type 0 where
+  pub first : job_count (task_at plan.graph i) from ≤ n
+  pub last : n < job_count (task_at plan.graph i) until
+
+-- on edge e, job n of the consumer reads what job m of task i gives, and both are released in the range
+pub record IsArrow (plan : PlanView) (from until e i n m : ℕ) : Type 0 where
+  pub producer : ComesFrom (edge_at plan.graph e).from i
+  pub reads : operand_of (edge_at plan.graph e) n ≡ operands.From m
+  pub before : IsReleasedIn plan from until i m
+  pub after : IsReleasedIn plan from until (edge_at plan.graph e).to.0 n
+
+-- the tick is within a limit, and in each range up to it or a later one job n reads on the edge what a job of task i gives
+abbrev pub IsEndOfReading : PlanView → ℕ → ℕ → ℕ → ℕ → ℕ → ℕ → Type 0
+IsEndOfReading plan from limit e i n tick = (tick ≤ limit) × ((until : ℕ) → tick ≤ until → (m : ℕ) × IsArrow plan from until e i n m)
+
+-- the edge has an arrow in the range, from a task that has a row to one that has a row
+pub record HasArrow (plan : PlanView) (rows : List ℕ) (from until e : ℕ) : Type 0 where
+  pub i : ℕ
+  pub n : ℕ
+  pub m : ℕ
+  pub inside : i < length plan.graph.tasks
+  pub giver : is_in rows i ≡ true
+  pub reader : is_in rows (edge_at plan.graph e).to.0 ≡ true
+  pub arrow : IsArrow plan from until e i n m
+
+-- the tick is within a limit, and each range up to it or a later one has an arrow of the edge
+abbrev pub IsEndOf : PlanView → List ℕ → ℕ → ℕ → ℕ → ℕ → Type 0
+IsEndOf plan rows from limit e tick = (tick ≤ limit) × ((until : ℕ) → tick ≤ until → HasArrow plan rows from until e)
+
+-- how far arrows are looked for
+abbrev pub reach : PlanView → ℕ → ℕ
+reach plan from = min (from + REACH * plan.graph.hyper) MAX_UNTIL
+
+-- each edge that has an arrow as far as arrows are looked for has one in the range
+abbrev pub ShowsArrows : PlanView → List ℕ → ℕ → ℕ → Type 0
+ShowsArrows plan rows from until =
+    (e : ℕ) → e < length plan.graph.edges → HasArrow plan rows from (reach plan from) e → HasArrow plan rows from until e
+
+-- The end of a range where the words do not say it: the range has a hyperperiod at least, and, but for a table, shows each precedence.
+pub record IsDefaultEnd (plan : PlanView) (rows : List ℕ) (table : Bool) (from until : ℕ) : Type 0 where
   pub long : min (from + plan.graph.hyper) MAX_UNTIL ≤ until
   pub small : until ≤ MAX_UNTIL
+  pub arrows : OnFalse table (ShowsArrows plan rows from until)

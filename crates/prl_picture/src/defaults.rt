@@ -1,15 +1,16 @@
 //! The range that is drawn where the words do not ask for one: a hyperperiod, and more until each
 //! precedence has an arrow.
 
-ghost use Rattle.std.specs.Prelude.{◌≡◌, ◌+◌, ◌<◌, ◌≤◌, ◌^◌, IfSome, length, min};
-ghost use Rattle.prl_plan.specs.Jobs.{job_count, task_at};
+ghost use Rattle.std.specs.Prelude.{◌≡◌, ◌<◌, ◌≤◌, ◌^◌, ℕ, IfNone, IfSome, MatchOption, length, min, true};
 ghost use Rattle.prl_plan.specs.Plans.{edge_at};
-ghost use Rattle.prl_picture.specs.Ranges.{IsDefaultEnd};
+ghost use Rattle.prl_plan.specs.Precedence.{ComesFrom};
+ghost use Rattle.prl_picture.specs.Ranges.{HasArrow, IsArrow, IsDefaultEnd, IsEndOf, IsEndOfReading, IsReleasedIn};
+ghost use Rattle.prl_views.specs.Acts.{is_in};
 ghost use Rattle.prl_views.specs.Views.{AreTasks};
 
 use crate::ranges::MAX_UNTIL;
 use prl_base::{EdgeNo, TaskNo};
-use prl_plan::{Edge, Operand, Plan, Producer, plan_is_one};
+use prl_plan::{Edge, Operand, Plan, Producer, horizon_jobs_are_counted, plan_is_one};
 use prl_views::{edge_of, is_in, job_count, operand_of, own_release, task_of};
 
 /// In how many hyperperiods an arrow is looked for.
@@ -17,7 +18,9 @@ pub const REACH: u64 = 4;
 
 /// The producer of an edge, where both it and the consumer have a row.
 fn producer_of(plan: &Plan, rows: &[u32], edge: &Edge) -> Option<TaskNo>
-    ensures { IfSome result (λ task. task.0 < length plan.now.graph.tasks) }
+    ensures some { IfSome result (λ task. (task.0 < length plan.now.graph.tasks) × ComesFrom edge.now.from task.0
+        × (is_in rows.now task.0 ≡ true) × (is_in rows.now edge.now.to.0 ≡ true)) }
+    ensures none { IfNone result ((i : ℕ) → i < length plan.now.graph.tasks → ComesFrom edge.now.from i → is_in rows.now i ≡ true → is_in rows.now edge.now.to.0 ≡ true → ⊥) }
 {
     let Producer::Port { task, .. } = edge.from else {
         return None;
@@ -37,11 +40,14 @@ fn producer_of(plan: &Plan, rows: &[u32], edge: &Edge) -> Option<TaskNo>
 fn reading_end(plan: &Plan, e: EdgeNo, task: TaskNo, n: u64, from: u64, limit: u64) -> Option<u64>
     requires edge { e.0 < length plan.now.graph.edges }
     requires task { task.0 < length plan.now.graph.tasks }
+    requires producer { ComesFrom (edge_at plan.now.graph e.0).from task.0 }
     requires limit { limit ≤ MAX_UNTIL }
     requires from { from ≤ MAX_UNTIL }
-    requires job { n < job_count (task_at plan.now.graph (edge_at plan.now.graph e.0).to.0) limit }
-    ensures { IfSome result (λ tick. tick < 2 ^ 33) }
+    requires job { IsReleasedIn plan.now from limit (edge_at plan.now.graph e.0).to.0 n }
+    ensures { MatchOption result ((m : ℕ) → IsArrow plan.now from limit e.0 task.0 n m → ⊥) (IsEndOfReading plan.now from limit e.0 task.0 n) }
 {
+    horizon_jobs_are_counted();
+    plan_is_one(plan);
     let to = edge_of(plan, e).to;
     let Operand::From(m) = operand_of(plan, e, n, limit) else {
         return None;
@@ -59,7 +65,7 @@ fn arrow_end(plan: &Plan, rows: &[u32], e: EdgeNo, from: u64, limit: u64) -> Opt
     requires edge { e.0 < length plan.now.graph.edges }
     requires limit { limit ≤ MAX_UNTIL }
     requires from { from ≤ MAX_UNTIL }
-    ensures { IfSome result (λ tick. tick < 2 ^ 33) }
+    ensures { MatchOption result (HasArrow plan.now rows.now from limit e.0 → ⊥) (IsEndOf plan.now rows.now from limit e.0) }
 {
     let edge = edge_of(plan, e);
     let task = producer_of(plan, rows, edge)?;
@@ -73,19 +79,33 @@ fn arrow_end(plan: &Plan, rows: &[u32], e: EdgeNo, from: u64, limit: u64) -> Opt
     None
 }
 
+/// The tick after which an edge has its first arrow, of a range up to a limit; another one, where that
+/// is later or there is no arrow.
+fn end_with(plan: &Plan, rows: &[u32], e: EdgeNo, from: u64, limit: u64, least: u64) -> u64
+    requires edge { e.0 < length plan.now.graph.edges }
+    requires limit { limit ≤ MAX_UNTIL }
+    requires from { from ≤ MAX_UNTIL }
+    ensures late { least ≤ result }
+    ensures arrow { HasArrow plan.now rows.now from limit e.0 → (until : ℕ) → min result limit ≤ until → HasArrow plan.now rows.now from until e.0 }
+{
+    match arrow_end(plan, rows, e, from, limit) {
+        None => least,
+        Some(tick) => least.max(tick),
+    }
+}
+
 /// The tick after which each edge has an arrow, of a range up to a limit; another one, where that is
 /// later.
 fn arrows_end(plan: &Plan, rows: &[u32], from: u64, limit: u64, least: u64) -> u64
     requires limit { limit ≤ MAX_UNTIL }
     requires from { from ≤ MAX_UNTIL }
-    ensures { least ≤ result }
+    ensures late { least ≤ result }
+    ensures arrows { (e : ℕ) → e < length plan.now.graph.edges → HasArrow plan.now rows.now from limit e → (until : ℕ) → min result limit ≤ until → HasArrow plan.now rows.now from until e }
 {
     plan_is_one(plan);
     let mut end = least;
     for e in 0..plan.graph().edges.len() {
-        if let Some(tick) = arrow_end(plan, rows, EdgeNo(e as u32), from, limit) {
-            end = end.max(tick);
-        }
+        end = end_with(plan, rows, EdgeNo(e as u32), from, limit, end);
     }
     end
 }
@@ -107,7 +127,7 @@ fn latest_start(plan: &Plan, rows: &[u32]) -> u64
 pub(crate) fn default_end(plan: &Plan, rows: &[u32], from: u64, table: bool) -> u64
     requires from { from ≤ MAX_UNTIL }
     requires rows { AreTasks plan.now rows.now }
-    ensures { IsDefaultEnd plan.now from result }
+    ensures { IsDefaultEnd plan.now rows.now table from result }
 {
     plan_is_one(plan);
     let hyper = plan.graph().hyper;

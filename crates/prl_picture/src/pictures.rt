@@ -87,7 +87,7 @@ fn seen<F: Files>(
     requires rows { AreRows plan.now (map string_bytes words.now) rows.items }
     requires some { range.0 < range.1 }
     requires small { range.1 ≤ MAX_UNTIL }
-    requires asked { AreAsked plan.now (map string_bytes words.now) range.0 range.1 }
+    requires asked { AreAsked plan.now rows.items (map string_bytes words.now) range.0 range.1 }
     ensures text { IfOk result (λ text. IsDrawn (F.seen files.old).folder plan.now (map string_bytes words.now) text.items) }
     ensures kept { (F.seen files.new).folder ≡ (F.seen files.old).folder }
 {

@@ -85,7 +85,7 @@ fn last_of(words: &[String], plan: &Plan, rows: &[u32], from: u64) -> Option<u64
     requires from { from ≤ MAX_UNTIL }
     requires rows { AreTasks plan.now rows.now }
     ensures small { IfSome result (λ tick. tick ≤ MAX_UNTIL) }
-    ensures exact { IfSome result (λ tick. IsLast plan.now (map string_bytes words.now) from tick) }
+    ensures exact { IfSome result (λ tick. IsLast plan.now rows.now (map string_bytes words.now) from tick) }
 {
     match value_of(b"--until", words) {
         None => Some(default_end(plan, rows, from, value_of(b"--table", words).is_some())),
@@ -96,7 +96,7 @@ fn last_of(words: &[String], plan: &Plan, rows: &[u32], from: u64) -> Option<u64
 /// The range that the words ask for: its first tick, and the tick after its last.
 pub(crate) fn range_of(words: &[String], plan: &Plan, rows: &[u32]) -> Option<(u64, u64)>
     requires rows { AreTasks plan.now rows.now }
-    ensures asked { IfSome result (λ range. AreAsked plan.now (map string_bytes words.now) range.0 range.1) }
+    ensures asked { IfSome result (λ range. AreAsked plan.now rows.now (map string_bytes words.now) range.0 range.1) }
     ensures some { IfSome result (λ range. range.0 < range.1) }
     ensures small { IfSome result (λ range. range.1 ≤ MAX_UNTIL) }
 {

@@ -5,7 +5,6 @@ use Rattle.prl_plan.specs.declared.events.Event.{Event}
 use Rattle.prl_plan.specs.Dates.{encoded_release}
 use Rattle.prl_plan.specs.Horizons.{IsHorizon, Placement, constants_of}
 use Rattle.prl_plan.specs.Plans.{PlanView, release_at}
-use Rattle.prl_edf.specs.declared.analysis.Verdict.{Verdict}
 use Rattle.prl_edf.specs.declared.analysis.Verdict.TheVariants as verdicts
 use Rattle.prl_edf.specs.declared.pieces.Piece.{Piece}
 use Rattle.prl_edf.specs.UnitLists.{wcets_of}

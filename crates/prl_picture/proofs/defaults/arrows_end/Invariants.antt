@@ -1,6 +1,10 @@
-use Rattle.std.proofs.Common.{◌≤◌}
+use Rattle.std.proofs.Common.{◌<◌, ◌≤◌, ℕ, min}
+use Rattle.prl_picture.specs.Ranges.{HasArrow}
 use Rattle.prl_picture.proofs.defaults.arrows_end.Given as goal
 
--- no earlier than the least tick
+-- no earlier than the least tick, and each edge that was passed has its arrow by it
 abbrev pub invariant-loop-e : goal.invariant-loop-e
-invariant-loop-e l = l.least ≤ l.end
+invariant-loop-e l = record {
+  late : l.least ≤ l.end;
+  arrows : (k : ℕ) → k < l.e → HasArrow l.plan l.rows l.from l.limit k → (until : ℕ) → min l.end l.limit ≤ until → HasArrow l.plan l.rows l.from until k;
+}

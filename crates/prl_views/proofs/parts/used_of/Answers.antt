@@ -1,4 +1,4 @@
-use Rattle.std.proofs.Common.{◌≤◌, arith, rules}
+use Rattle.std.proofs.Common.{arith, rules}
 use Rattle.prl_views.specs.declared.parts.TheConstants.{MOST_PROCESSORS}
 use Rattle.prl_views.specs.Parts.{used_one}
 use Rattle.prl_views.proofs.Counts.{flattened}

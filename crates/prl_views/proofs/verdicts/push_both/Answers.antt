@@ -1,4 +1,4 @@
-use Rattle.std.proofs.Common.{◌≡◌, ◌+◌, ◌∙◌, ℕ, ap}
+use Rattle.std.proofs.Common.{◌+◌, ◌∙◌, ℕ, ap}
 use Rattle.prl_drawing.specs.declared.rows.TheConstants.{GAP}
 use Rattle.prl_drawing.specs.Boxes.{box_text}
 use Rattle.prl_drawing.specs.Rows.{row_of}

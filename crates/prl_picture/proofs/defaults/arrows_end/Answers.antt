@@ -1,0 +1,17 @@
+use Rattle.std.proofs.Common.{◌≡◌, ◌≤◌, ℕ, inl, inr, min, subst, sym, arith}
+use Rattle.std.proofs.lemmas.Bool.{cases_lt}
+use Rattle.prl_picture.specs.Ranges.{HasArrow}
+use Rattle.prl_picture.proofs.defaults.arrows_end.Goals as goal
+
+pub loop-e-preserved : goal.loop-e-preserved
+loop-e-preserved c = record {
+  late = omega (arith, c.loop-e.invariant.late, c.end_with-end.ensures.late);
+  arrows = λ k below has until late.
+      elim (cases_lt k c.loop-e.e) [
+        | inl less ↦ c.loop-e.invariant.arrows k less has until (let later = c.end_with-end.ensures.late in omega (arith, late, later))
+        | inr more ↦
+            (let same : k ≡ c.loop-e.e = omega (arith, more, below) in
+            subst (λ (j : ℕ). HasArrow c.args.plan.now c.args.rows.now c.args.from until j) (sym same)
+            (c.end_with-end.ensures.arrow (subst (λ (j : ℕ). HasArrow c.args.plan.now c.args.rows.now c.args.from c.args.limit j) same has) until late))
+      ];
+}
