@@ -5,6 +5,8 @@
 use prl_app::prelude;
 use prl_io::{HostFiles, HostSink, NoProbe};
 use std::process::ExitCode;
+use std::sync::Wait;
+use std::thread::Threads;
 use std::{env, io};
 
 /// The status where the process has no memory for its own words.
@@ -17,13 +19,13 @@ fn words(rt: &HostRuntime) -> io::Result<Vec<String>> {
     Ok(env::args(rt)?.collect(rt.alloc())?)
 }
 
-/// Does what the words ask for, on the files and the streams of the process: the status.
-fn run(rt: &HostRuntime, words: &[String]) -> u8 {
+/// Does what the words ask for, on the files and the streams of the process: the status. It may wait for its threads.
+fn run<R: Threads + Wait + Sync>(threads: &R, rt: &HostRuntime, words: &[String]) -> u8 {
     let mut files = HostFiles::new(rt);
     let mut out = HostSink::new(rt.stdout());
     let mut err = HostSink::new(rt.stderr());
     let status = prelude(
-        rt,
+        threads,
         rt.alloc(),
         words,
         &mut files,
@@ -36,7 +38,7 @@ fn run(rt: &HostRuntime, words: &[String]) -> u8 {
 
 fn main(rt: HostRuntime) -> ExitCode {
     match words(&rt) {
-        Ok(words) => ExitCode::from(run(&rt, &words)),
+        Ok(words) => ExitCode::from(run(&rt, &rt, &words)),
         Err(error) if error.kind() == io::ErrorKind::OutOfMemory => ExitCode::from(NO_MEMORY),
         Err(_) => ExitCode::from(NO_WORDS),
     }

@@ -92,13 +92,17 @@ fn is_stopped(ran: &Ran) -> bool {
     }
 }
 
+fn file(alloc: Global, name: &str, bytes: &[u8]) -> Result<(Label, Vec<u8>), Fail> {
+    let label = Label::new(alloc, name.as_bytes())?;
+    Ok((label, Vec::from_slice(alloc, bytes)?))
+}
+
 /// A folder of a program, its bodies and its rows.
 fn folder(alloc: Global, program: &[u8], rows: &[u8]) -> Result<MemFiles, Fail> {
     let mut entries = Vec::new(alloc);
-    for (name, bytes) in [("p.prl", program), ("p.bod", BODIES), ("p.csv", rows)] {
-        let label = Label::new(alloc, name.as_bytes())?;
-        entries.push((label, Vec::from_slice(alloc, bytes)?))?;
-    }
+    entries.push(file(alloc, "p.prl", program)?)?;
+    entries.push(file(alloc, "p.bod", BODIES)?)?;
+    entries.push(file(alloc, "p.csv", rows)?)?;
     Ok(MemFiles::new(entries, Vec::new(alloc)))
 }
 
