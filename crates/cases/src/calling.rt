@@ -8,6 +8,7 @@ use prl_base::Label;
 use prl_explain::explain;
 use prl_io::{MemFiles, MemSink};
 use prl_picture::draw;
+use prl_plot::plot;
 use std::alloc::Global;
 
 /// A file of this name that a call made.
@@ -129,6 +130,7 @@ fn status_of(
             Ok(explain(alloc, words, line, files, out, err))
         }
         Some("prelude_picture") => Ok(draw(alloc, words, files, out, err)),
+        Some("prelude_plot") => Ok(plot(alloc, words, files, out, err)),
         _ => bail!("no program"),
     }
 }

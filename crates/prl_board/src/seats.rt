@@ -412,7 +412,7 @@ impl TaskSeat {
         }
     }
 
-    /// Whether no horizon job of the task is left.
+    /// Whether all jobs of the task within the horizon have ended.
     pub(crate) fn is_over(&self) -> bool
         ensures yes { OnTrue result (self.entry.now.stage ≡ stages.Over) }
         ensures no { OnFalse result (self.entry.now.stage ≡ stages.Over → ⊥) }

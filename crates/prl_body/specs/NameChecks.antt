@@ -42,7 +42,7 @@ abbrev mutual
   unknown_name_in ins registers (more operator at right rights) =
       either_fault (unknown_name ins registers right) (unknown_name_in ins registers rights)
 
--- a left name that is no output or register or has an earlier statement, or an unknown name on the right
+-- a name on the left that is neither an output nor a register, or that was set before; or a name on the right that nothing has
 abbrev pub statement_fault : List Port → List Port → List RegisterText → List StatementTree → List StatementTree → Option ℕ
 statement_fault ins outs registers earlier [] = None
 statement_fault ins outs registers earlier (s ∷ ss) =

@@ -8,7 +8,7 @@ use std::alloc::{AllocError, AllocFailed};
 pub enum BodyFault {
     /// A token that no text of the grammar has there, or a number out of range; number 23.
     Syntax(u32),
-    /// A name or a depth past its limit; number 4.
+    /// A name is too long, or parentheses stand too deep; number 4.
     Limit(Limit),
     /// A name that the body may not have there; number 24.
     BodyName(u32),

@@ -65,9 +65,9 @@ fn of_text(fault: TextFault) -> BodyFault
 }
 
 /// The bodies of the text. Else, in this order: the first fault of its tokens, which is `Limit` for a name of
-/// more than 64 bytes or for more than 64 open parentheses, and else `Syntax`; `Syntax` at the first token such
-/// that no text of bodies begins with the tokens up to it, or at the end of the text; `Syntax` at the first number
-/// out of its range; or want of memory.
+/// more than 64 bytes or for more than 64 open parentheses, and else `Syntax`; `Syntax` at the token with which the
+/// text stops to be the front of any bodies, or at its end where more should follow; `Syntax` at the first number
+/// that its place does not allow; or want of memory.
 pub fn parse_bodies(alloc: Global, text: &[u8]) -> Result<BodyTexts, BodyFault>
     requires { length text.now < 2 ^ 32 }
     // What is read is the bodies of the text.

@@ -4,3 +4,4 @@ mod Cuts
 mod EdgeNumbers
 mod EdgeCells
 mod TableSteps
+mod SomeCells

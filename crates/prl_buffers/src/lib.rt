@@ -4,7 +4,9 @@
 
 mod counts;
 mod edges;
+mod laws;
 mod tables;
 mod turns;
 
+pub use laws::cells_or_fault_exist;
 pub use tables::{CellFault, cells};

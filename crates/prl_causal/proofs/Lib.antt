@@ -1,8 +1,12 @@
 mod Arriving
+mod Cycles
 mod Labels
 mod Lists
 mod Ways
 mod Meanings
 mod Placing
+mod Reached
+mod Runs
 mod Searching
 mod Sorting
+mod Unplaced

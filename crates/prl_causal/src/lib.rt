@@ -3,8 +3,10 @@
 #![tactic(auto)]
 
 mod causality;
+mod laws;
 mod orders;
 mod searches;
 mod sources;
 
 pub use causality::{CausalFault, causal};
+pub use laws::{acyclic_programs_have_orders, causality_ends_one_way};

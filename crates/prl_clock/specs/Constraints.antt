@@ -27,7 +27,7 @@ pub record Placed : Type 0 where
 abbrev pub over_one : ℕ → Fraction
 over_one n = record { num = pos n; den = 1 }
 
--- the period n and the start n * p of a rate (n, p)
+-- what a rate (n, p) says: n ticks from date to date, and the first after n * p
 abbrev pub timing_of_rate : Rate → Timing
 timing_of_rate rate = record {
   period = over_one rate.period;

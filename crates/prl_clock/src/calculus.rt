@@ -23,7 +23,7 @@ pub enum ClockFault {
     Limit(Limit),
     /// The lowest flow of which the constraints leave a choice.
     Free(Label),
-    /// The lowest flow whose period or start is not whole, or that starts below 0.
+    /// The first flow with a period or a start that is no whole number, or with a start before 0.
     NotWhole {
         flow: Label,
         period: Ratio,

@@ -1,4 +1,4 @@
-//! Sums of ratios in which a step on the way may be past the limit of a ratio: up to 95 bits.
+//! Sums of ratios whose partial sums may have more bits than a ratio has: up to 95.
 
 ghost use Rattle.std.specs.Prelude.{◌≡◌, ◌<◌, ◌≤◌, ◌^◌, ◌*◌, ◌+◌, ◌*ℤ◌, ◌+ℤ◌, pos, nat_abs};
 ghost use Rattle.std.specs.Int.{IsGcd};

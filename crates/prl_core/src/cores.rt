@@ -127,8 +127,8 @@ impl<'a> Core<'a> {
         )
     }
 
-    /// Does one event, and tells what it saw. Where the event breaks a rule the first such rule is answered, and the
-    /// state stays. Takes no memory.
+    /// Does one event, and tells what it saw. An event that breaks a rule is answered by the first that it breaks, and
+    /// changes nothing. Takes no memory.
     pub fn step(&mut self, event: Event) -> Result<Seen, Illegal>
         requires { IsOfPlan self.old.plan event }
         ensures ok { IfOk result (λ seen. KeepsLegal (constants self.entry.now) self.entry.now.state event × Tells self.entry.now event seen

@@ -3,3 +3,4 @@ mod SpreadFacts
 mod Earlier
 pub mod Placing
 mod OneSpread
+mod SomePlacement

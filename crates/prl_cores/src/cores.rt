@@ -65,7 +65,7 @@ impl<'a> Cores<'a> {
         Ok(Cores { core })
     }
 
-    /// Does one event, and tells what it saw. Where the event breaks a rule the first such rule is answered, and the state stays;
+    /// Does one event, and tells what it saw. An event that breaks a rule is answered by the first that it breaks, and changes nothing;
     /// a job may not act while an earlier due one of its processor is released. Takes no memory.
     pub fn step(&mut self, event: Event) -> Result<Seen, Illegal>
         requires { IsOfPlan self.old.plan event }

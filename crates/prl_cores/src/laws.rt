@@ -1,17 +1,24 @@
 //! Laws of plans on several processors, as functions that do nothing: the contract of each is the law, over the definitions alone.
 
-ghost use Rattle.std.specs.Prelude.{◌≡◌, List};
+ghost use Rattle.std.specs.Prelude.{◌≡◌, ◌≢◌, ◌⊎◌, ℕ, Err, List, Ok};
 ghost use Rattle.prl_plan.specs.declared.events.Event.{Event as AnyEvent};
 ghost use Rattle.prl_plan.specs.declared.horizons.Horizon.{Horizon as AnyHorizon};
 ghost use Rattle.prl_plan.specs.Facts.{HasPlanFacts};
 ghost use Rattle.prl_plan.specs.Horizons.{IsHorizon, Placement, constants_of, constants_on};
 ghost use Rattle.prl_plan.specs.Plans.{PlanView, IsPlan};
-ghost use Rattle.prl_plan.specs.Rules.{IsGated, IsLegal};
-ghost use Rattle.prl_plan.specs.Runs.{opening};
+ghost use Rattle.prl_plan.specs.Rules.{IsComplete, IsGated, IsLegal};
+ghost use Rattle.prl_plan.specs.Runs.{opening, after_events};
 ghost use Rattle.prl_plan.specs.Spread.{IsSpread};
+ghost use Rattle.prl_schedules.specs.Dispatches.{IsDispatched};
+ghost use Rattle.prl_schedules.specs.ScheduleTexts.{task_names};
+ghost use Rattle.prl_cores.specs.declared.texts.CoresFault.{CoresFault as AnyFault};
+ghost use Rattle.prl_cores.specs.declared.texts.CoresFault.TheVariants as faults;
+ghost use Rattle.prl_cores.specs.Processors.{processors_of};
 ghost use Rattle.prl_cores.specs.Spreads.{LeavesRoom};
 
-use prl_plan::{legal_list_is_gated, plans_keep_facts};
+use prl_dates::spreads_exist;
+use prl_plan::{events_are_decided, legal_list_is_gated, plans_keep_facts};
+use prl_schedules::plans_are_dispatched;
 
 /// In a spread of a plan each job has room for its WCET, windows along an edge from another processor do not overlap, and the
 /// cells of the plan still fit.
@@ -45,3 +52,24 @@ pub fn spreads_are_one()
     ensures { (plan : PlanView) (horizon : AnyHorizon) (a b : Placement) → IsSpread plan a → IsSpread plan b → a.processors ≡ b.processors →
         constants_on plan a horizon ≡ constants_on plan b horizon }
 {}
+
+/// Each text of processors gives a plan its spread, or has a fault. Want of memory is no fault of a text.
+pub fn placements_or_faults_exist()
+    ensures { (plan : PlanView) → IsPlan plan → (text : List ℕ) →
+        ((placement : Placement) × (processors_of (task_names plan) text ≡ Ok placement.processors) × IsSpread plan placement)
+        ⊎ ((fault : AnyFault) × (fault ≢ faults.Memory) × (processors_of (task_names plan) text ≡ Err fault)) }
+{
+    spreads_exist();
+}
+
+/// Each spread of a plan has a dispatched list in each of its horizons, and that is legal and complete.
+pub fn spread_plans_are_dispatched()
+    ensures { (plan : PlanView) (horizon : AnyHorizon) (placement : Placement) → IsPlan plan → IsHorizon plan horizon → IsSpread plan placement →
+        (events : List AnyEvent) × IsDispatched (constants_on plan placement horizon) (opening (constants_on plan placement horizon)) events
+        × IsLegal (constants_on plan placement horizon) (opening (constants_on plan placement horizon)) events
+        × IsComplete (constants_on plan placement horizon) (after_events (constants_on plan placement horizon) (opening (constants_on plan placement horizon)) events) }
+{
+    spread_plans_keep_facts();
+    events_are_decided();
+    plans_are_dispatched();
+}

@@ -11,7 +11,8 @@ mod texts;
 
 pub use cores::Cores;
 pub use laws::{
-    spread_leaves_room, spread_list_is_gated, spread_plans_keep_facts, spreads_are_one,
+    placements_or_faults_exist, spread_leaves_room, spread_list_is_gated,
+    spread_plans_are_dispatched, spread_plans_keep_facts, spreads_are_one,
 };
 pub use spreading::spread;
 pub use spreads::Spread;

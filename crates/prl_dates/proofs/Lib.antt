@@ -11,6 +11,9 @@ mod Settles
 mod Lowering
 mod WindowTables
 mod DateTables
+mod SomeLanes
+mod SomeDates
+mod SomeSpread
 mod SpreadSteps
 mod SpreadRounds
 mod SpreadDates

@@ -22,7 +22,7 @@ use Rattle.prl_dates.proofs.RoundSteps.{links_from, links_to}
 use Rattle.prl_dates.proofs.Indices.{one_index, place_below, some_jobs}
 
 -- an index that is written, or another
-set_index : (table : List ℕ) (at q value : ℕ) → at < length table → ((q ≡ at) × (slice_index (set table at value) q ≡ value)) ⊎ ((q ≢ at) × (slice_index (set table at value) q ≡ slice_index table q))
+pub set_index : (table : List ℕ) (at q value : ℕ) → at < length table → ((q ≡ at) × (slice_index (set table at value) q ≡ value)) ⊎ ((q ≢ at) × (slice_index (set table at value) q ≡ slice_index table q))
 set_index table at q value inside =
     elim (cases_lt q at) [
       | inl less ↦ (let ne : q ≢ at = omega (arith, less) in inr (ne, get_or-set_other table at q value 0 ne))

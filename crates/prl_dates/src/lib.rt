@@ -17,5 +17,5 @@ mod windows;
 
 pub use encoding::encode;
 pub use faults::DateFault;
-pub use laws::faults_tell_of_narrow_chains;
+pub use laws::{dates_or_fault_exist, faults_tell_of_narrow_chains, spreads_exist};
 pub use spreads::spread_dates;

@@ -22,3 +22,4 @@ mod BusyTicks
 mod TickSums
 mod Lines
 mod OnePieces
+mod SomeVerdict

@@ -13,7 +13,7 @@ pub lies_not : (p : Piece) (t : ℕ) → (t < p.from) ⊎ (p.to ≤ t) → lies_
 lies_not p t out = grind (arith, nat_tests)
 
 -- from where all pieces have ended on, the ticks go to none
-none_after : (ps : List Piece) (t : ℕ) → EndBy ps t → run_of ps t ≡ None
+pub none_after : (ps : List Piece) (t : ℕ) → EndBy ps t → run_of ps t ≡ None
 none_after [] t h = refl
 none_after (p ∷ ps) t h = rw (lies_not p t (inr h.0)) (none_after ps t h.1)
 
@@ -70,7 +70,7 @@ last_some [] p h = h.0
 last_some (q ∷ ps) p h = last_some ps p h.2
 
 -- the run with one more piece
-one_more : (ps : List Piece) (p : Piece) → p.from < p.to → EndBy ps p.from → IsExtended (run_of ps) (run_of (ps ++ (p ∷ []))) p
+pub one_more : (ps : List Piece) (p : Piece) → p.from < p.to → EndBy ps p.from → IsExtended (run_of ps) (run_of (ps ++ (p ∷ []))) p
 one_more ps p some ended = record {
   before = λ t early. run_front ps p t (lies_not p t (inl early));
   here = λ t from to. run_snoc ps p t (none_after ps t (end_later ps p.from t from ended)) ∙ ap (λ b. cond b (Some (p.task.0, p.job)) None) (lies p t from to);

@@ -24,14 +24,14 @@ unfolding put
 put_other run t o k other = (let e : (k == t) ≡ false = grind (arith, nat_tests) in ap (λ b. cond b o (run k)) e)
 
 -- the least of these numbers has the earliest deadline, and of those the lowest task
-earliest_of : (d e i j tasks : ℕ) → i < tasks → j < tasks → d * tasks + i ≤ e * tasks + j → d ≤ e
+pub earliest_of : (d e i j tasks : ℕ) → i < tasks → j < tasks → d * tasks + i ≤ e * tasks + j → d ≤ e
 earliest_of d e i j tasks first second le = elim (cases_lt e d) [
   | inr past ↦ past
   | inl less ↦ absurd (let up : (e + 1) * tasks ≤ d * tasks = mul-le-mul_right tasks (let h : e + 1 ≤ d = omega (arith, less) in h) in
       let x : (e + 1) * tasks ≡ e * tasks + tasks = omega arith in omega (arith, up, x, le, second))
 ]
 
-lowest_of : (d e i j tasks : ℕ) → d ≡ e → d * tasks + i ≤ e * tasks + j → i ≤ j
+pub lowest_of : (d e i j tasks : ℕ) → d ≡ e → d * tasks + i ≤ e * tasks + j → i ≤ j
 lowest_of d e i j tasks same le = (let x : d * tasks ≡ e * tasks = ap (λ (y : ℕ). y * tasks) same in omega (arith, x, le))
 
 module _ (c : RunConstants) (facts : HasPlanFacts c) (units : ℕ → ℕ → ℕ) where

@@ -1,4 +1,4 @@
--- A timed run as a list of events: all acts of a job at the beginning of its last unit, with the ticks between.
+-- A timed run as a list of events: the acts of a job together where its last unit begins, with the ticks between.
 use Rattle.std.specs.Prelude.{◌≡◌, ◌+◌, ◌<◌, ◌≤◌, ◌++◌, ◌⊎◌, ◌==◌, ℕ, zero, suc, List, [], ◌∷◌, Option, Some, None, length, replicate, if◌then◌else◌}
 use Rattle.prl_plan.specs.declared.events.Action.TheVariants as actions
 use Rattle.prl_plan.specs.declared.events.Event.{Event}

@@ -74,3 +74,12 @@ pub fn actions_end_once()
 {
     actions_are_as_defined();
 }
+
+/// Each horizon has a verdict, where each of its jobs costs at least one unit.
+pub fn verdicts_exist()
+    ensures { (c : RunConstants) → HasPlanFacts c → (cost : ℕ → ℕ → ℕ) → AreUnits c cost cost → (verdict : Verdict) × IsVerdict c cost verdict }
+{
+    plain_run_is_one();
+    first_miss_ends_first_overload();
+    feasibility();
+}

@@ -14,7 +14,7 @@ mod unrolling;
 pub use analysis::{Verdict, analyse};
 pub use laws::{
     actions_end_once, events_of_run_are_legal, feasibility, first_miss_ends_first_overload,
-    pieces_have_all_units, plain_run_is_one, verdicts_are_one,
+    pieces_have_all_units, plain_run_is_one, verdicts_are_one, verdicts_exist,
 };
 pub use pieces::Piece;
 pub use runs::{Outcome, Timed, run_units};

@@ -26,7 +26,7 @@ use Rattle.prl_evaluation.specs.declared.settings.Setting.{Setting}
 use Rattle.prl_evaluation.proofs.Orders.{order_once, order_within}
 
 -- what is read is used
-names_of_reads : (p : FlatProgram) (def : Def) (n j m : ℕ) → Reads p def n j m → Names p def j
+pub names_of_reads : (p : FlatProgram) (def : Def) (n j m : ℕ) → Reads p def n j m → Names p def j
 names_of_reads p (definitions.Sensor k) n j m reads = reads
 names_of_reads p (definitions.Copy of) n j m reads = reads.0
 names_of_reads p (definitions.Const v) n j m reads = reads
@@ -37,7 +37,7 @@ same_apply : (j o k out : ℕ) → definitions.Apply j o ≡ definitions.Apply k
 same_apply j o k out e = (cc, cc)
 
 module _ (s : Setting) (set : IsSet s) where
-  clock_there : (i : ℕ) → i < length s.flat.now.flows → IsClock (clock_of s.clocks.now i)
+  pub clock_there : (i : ℕ) → i < length s.flat.now.flows → IsClock (clock_of s.clocks.now i)
   clock_there i within = set.agree.clock i (omega (arith, within, set.agree.count))
 
   -- none yet, and all others have all values or none

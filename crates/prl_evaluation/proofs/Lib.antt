@@ -7,3 +7,4 @@ mod Orders
 mod Solutions
 mod Begun
 mod Groups
+mod AllAtOnce

@@ -10,6 +10,7 @@ use Rattle.prl_flow.specs.Programs.{FlatProgram, IsWellDefined}
 use Rattle.prl_flow.specs.Rows.{Rows, rows_of}
 use Rattle.prl_flow.specs.declared.programs.Def.{Def}
 use Rattle.prl_flow.specs.declared.programs.Def.TheVariants as definitions
+use Rattle.prl_solutions.specs.Tables.{Reads}
 use Rattle.prl_evaluation.specs.Fronts.{HasInstance, IsPlain, IsReady, IsThere, len}
 
 -- an operator's result has an instance where what it reads is there
@@ -34,15 +35,22 @@ row_there [] k n below = absurd (omega (arith, below))
 row_there (xs ∷ rows) zero n below = omega arith
 row_there (xs ∷ rows) (suc k) n below = let rest = row_there rows k n below in omega (arith, rest)
 
+-- what a definition reads for its flow's instance n is there
+pub is_there_at : (p : FlatProgram) (rows : Rows) (flows : List (List Value)) (i : ℕ) (ty : Ty) (def : Def) (n : ℕ) → IsWellDefined p i ty def → length flows ≡ length p.flows
+    → ((k : ℕ) → slice_get p.ins k ≡ Some (record { 0 = i }) → n < length (rows_of rows k))
+    → ((j m : ℕ) → Reads p def n j m → m < len flows j) → IsPlain def → IsThere rows flows def n
+is_there_at p rows flows i ty (definitions.Sensor k) n defined count row reads plain = (row_there rows k n (row k defined), row k defined)
+is_there_at p rows flows i ty (definitions.Copy of) n defined count row reads plain =
+    let inside = slice_get_within p.flows of.0 defined.0 defined.1 in
+    (omega (arith, inside, count), reads of.0 n (refl, refl))
+is_there_at p rows flows i ty (definitions.Const v) n defined count row reads plain = tt
+is_there_at p rows flows i ty (definitions.Apply app out) n defined count row reads plain = absurd plain
+is_there_at p rows flows i ty (definitions.Op op of) n (typed, fits) count row reads plain =
+    let inside = slice_get_within p.flows of.0 typed.0 typed.1 in
+    (omega (arith, inside, count), has_instance ty op (len flows of.0) n fits (λ m origin. reads of.0 m (refl, origin)))
+
 pub is_there : (p : FlatProgram) (rows : Rows) (flows : List (List Value)) (i : ℕ) (ty : Ty) (def : Def) → IsWellDefined p i ty def → length flows ≡ length p.flows
     → ((k : ℕ) → slice_get p.ins k ≡ Some (record { 0 = i }) → len flows i < length (rows_of rows k))
     → IsReady p flows i def → IsPlain def → IsThere rows flows def (len flows i)
-is_there p rows flows i ty (definitions.Sensor k) defined count row ready plain = (row_there rows k (len flows i) (row k defined), row k defined)
-is_there p rows flows i ty (definitions.Copy of) defined count row ready plain =
-    let inside = slice_get_within p.flows of.0 defined.0 defined.1 in
-    (omega (arith, inside, count), ready.reads of.0 (len flows i) (refl, refl))
-is_there p rows flows i ty (definitions.Const v) defined count row ready plain = tt
-is_there p rows flows i ty (definitions.Apply app out) defined count row ready plain = absurd plain
-is_there p rows flows i ty (definitions.Op op of) (typed, fits) count row ready plain =
-    let inside = slice_get_within p.flows of.0 typed.0 typed.1 in
-    (omega (arith, inside, count), has_instance ty op (len flows of.0) (len flows i) fits (λ m origin. ready.reads of.0 m (refl, origin)))
+is_there p rows flows i ty def defined count row ready plain =
+    is_there_at p rows flows i ty def (len flows i) defined count row ready.reads plain

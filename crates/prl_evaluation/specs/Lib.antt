@@ -8,3 +8,5 @@ pub mod Dates
 pub mod Evaluations
 -- flows that are evaluated whole
 pub mod Wholes
+-- what private functions say to one another
+pub mod code

@@ -33,7 +33,7 @@ fn advance_due(
     rest: &[FlowNo],
     due: &[u32],
     _date: u64,
-    flows: &mut [Values],
+    flows: &mut [Values<'_>],
     runs: &mut [Run<'_>],
 ) -> Result<(), AllocError>
     requires set { IsSet setting.now }
@@ -58,7 +58,7 @@ pub(crate) fn by_date(
     alloc: Global,
     setting: &Setting<'_>,
     rest: &[FlowNo],
-    flows: &mut [Values],
+    flows: &mut [Values<'_>],
     runs: &mut [Run<'_>],
 ) -> Result<(), AllocError>
     requires set { IsSet setting.now }

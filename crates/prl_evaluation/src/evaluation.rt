@@ -61,7 +61,11 @@ fn count_values(until: u64, clocks: &[Clock]) -> u64
 }
 
 /// For each of these clocks no value yet, with room for those before `until`.
-fn empty_flows(alloc: Global, clocks: &[Clock], until: u64) -> Result<Vec<Values>, AllocError>
+fn empty_flows<'a>(
+    alloc: Global,
+    clocks: &[Clock],
+    until: u64,
+) -> Result<Vec<Values<'a>>, AllocError>
     requires clocks { (i : ℕ) → i < length clocks.now → IsClock (clock_of clocks.now i) }
     ensures number { IfOk result (λ v. length v.items ≡ length clocks.now) }
     ensures empty { IfOk result (λ v. (i : ℕ) → values_of v.items i ≡ []) }
@@ -88,7 +92,7 @@ fn new_runs<'a>(alloc: Global, apps: &[App], bodies: &'a Bodies) -> Result<Vec<R
 }
 
 /// The solution of the program.
-fn solution(alloc: Global, setting: &Setting<'_>) -> Result<FlowTable, AllocError>
+fn solution<'a>(alloc: Global, setting: &Setting<'a>) -> Result<FlowTable<'a>, AllocError>
     requires { IsSet setting.now }
     ensures { IfOk result (AreSolution setting.now.flat.now setting.now.clocks.now setting.now.bodies.now setting.now.sensors.now setting.now.until) }
 {
@@ -102,16 +106,16 @@ fn solution(alloc: Global, setting: &Setting<'_>) -> Result<FlowTable, AllocErro
 
 /// The flows of the program below `until`, in ticks: its one solution over these clocks for these
 /// bodies and rows. Each application makes one step at each of its dates; at most 16 bytes are
-/// taken for a value.
-pub fn evaluate(
+/// taken for a value, and none for the values of a flow that only hands rows on.
+pub fn evaluate<'a>(
     alloc: Global,
-    flat: &Flat,
-    clocks: &Clocks,
-    order: &Order,
-    bodies: &Bodies,
-    sensors: &Sensors,
+    flat: &'a Flat,
+    clocks: &'a Clocks,
+    order: &'a Order,
+    bodies: &'a Bodies,
+    sensors: &'a Sensors,
     until: u64,
-) -> Result<FlowTable, FlowFault>
+) -> Result<FlowTable<'a>, FlowFault>
     requires until { until < 2 ^ 31 }
     requires clocks { AreClocks flat.now clocks.now.of }
     requires order { IsOrder flat.now order.now.flows }

@@ -13,7 +13,7 @@ use std::alloc::AllocError;
 
 /// The next value of flow `i`. An application makes its step where this is the first of its
 /// outputs at a date.
-fn next_value(setting: &Setting<'_>, flows: &[Values], runs: &mut [Run<'_>], i: usize) -> Value
+fn next_value(setting: &Setting<'_>, flows: &[Values<'_>], runs: &mut [Run<'_>], i: usize) -> Value
     requires set { IsSet setting.now }
     requires under_way { UnderWay setting.now flows.now runs.old }
     requires ready { CanGrow setting.now flows.now i }
@@ -33,7 +33,7 @@ fn next_value(setting: &Setting<'_>, flows: &[Values], runs: &mut [Run<'_>], i: 
 /// Gives flow `i` its next value.
 pub(crate) fn advance(
     setting: &Setting<'_>,
-    flows: &mut [Values],
+    flows: &mut [Values<'_>],
     runs: &mut [Run<'_>],
     i: usize,
 ) -> Result<(), AllocError>

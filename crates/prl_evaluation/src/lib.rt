@@ -4,6 +4,7 @@
 #![tactic(auto)]
 
 mod by_date;
+mod columns;
 mod evaluation;
 mod fronts;
 mod operators;

@@ -14,7 +14,7 @@ use prl_base::{FlowNo, Op, Value};
 use prl_flow::{Def, Sensors};
 
 /// The value of the flow's instance `n`.
-pub(crate) fn value_in(flows: &[Values], flow: FlowNo, n: usize) -> Value
+pub(crate) fn value_in(flows: &[Values<'_>], flow: FlowNo, n: usize) -> Value
     requires flow { flow.0 < length flows.now }
     requires instance { n < length (values_of flows.now flow.0) }
     ensures { result ≡ table_of flows.now flow.0 n }
@@ -24,7 +24,7 @@ pub(crate) fn value_in(flows: &[Values], flow: FlowNo, n: usize) -> Value
 
 /// The value that the operator makes for instance `n` of its result, from the flow that it stands
 /// on.
-fn operator_value(op: Op, of: &[Value], n: usize) -> Value
+pub(crate) fn operator_value(op: Op, of: &[Value], n: usize) -> Value
     requires { HasInstance op (length of.now) n }
     ensures { result ≡ taken (λ m. slice_index_or of.now m nothing) (origin_of op n) }
 {
@@ -47,7 +47,7 @@ fn after_constant(first: Value, of: &[Value], n: usize) -> Value
 }
 
 /// The value of instance `n` of a flow of this definition, which is no output of an application.
-pub(crate) fn plain_value(def: Def, sensors: &Sensors, flows: &[Values], n: usize) -> Value
+pub(crate) fn plain_value(def: Def, sensors: &Sensors, flows: &[Values<'_>], n: usize) -> Value
     requires plain { IsPlain def }
     requires there { IsThere sensors.now flows.now def n }
     ensures { (p : FlatProgram) (bodies : List CheckedBody) → result ≡ value_of p bodies sensors.now (table_of flows.now) def n }

@@ -24,7 +24,7 @@ pub(crate) struct Run<'a> {
 }
 
 /// Writes the values of the arguments' instance `n`.
-fn read_arguments(args: &[Arg], flows: &[Values], n: usize, inputs: &mut [Value])
+fn read_arguments(args: &[Arg], flows: &[Values<'_>], n: usize, inputs: &mut [Value])
     requires number { length inputs.old ≡ length args.now }
     requires there { HaveArguments flows.now args.now n }
     ensures { inputs.new ≡ inputs_of (table_of flows.now) args.now n }
@@ -35,7 +35,7 @@ fn read_arguments(args: &[Arg], flows: &[Values], n: usize, inputs: &mut [Value]
 }
 
 /// One step on the arguments' instance `n`.
-fn step(run: &mut Run<'_>, args: &[Arg], flows: &[Values], n: usize)
+fn step(run: &mut Run<'_>, args: &[Arg], flows: &[Values<'_>], n: usize)
     requires there { HaveArguments flows.now args.now n }
     requires ready { MayStep run.old args.now (inputs_of (table_of flows.now) args.now n) }
     requires few { run.old.steps < 2 ^ 63 }
@@ -47,7 +47,7 @@ fn step(run: &mut Run<'_>, args: &[Arg], flows: &[Values], n: usize)
 }
 
 /// Makes the run's next step on the arguments' instance `n`, where it has made `n` steps.
-fn catch_up(run: &mut Run<'_>, args: &[Arg], flows: &[Values], n: usize)
+fn catch_up(run: &mut Run<'_>, args: &[Arg], flows: &[Values<'_>], n: usize)
     requires there { run.old.steps ≡ n → HaveArguments flows.now args.now n }
     requires ready { run.old.steps ≡ n → MayStep run.old args.now (inputs_of (table_of flows.now) args.now n) }
     requires few { n < 2 ^ 63 }
@@ -65,7 +65,7 @@ fn catch_up(run: &mut Run<'_>, args: &[Arg], flows: &[Values], n: usize)
 pub(crate) fn output_value(
     run: &mut Run<'_>,
     args: &[Arg],
-    flows: &[Values],
+    flows: &[Values<'_>],
     n: usize,
     out: usize,
 ) -> Value

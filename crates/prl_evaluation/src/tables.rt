@@ -1,74 +1,117 @@
 //! The values of flows.
 
-ghost use Rattle.std.specs.Prelude.{◌≡◌, ◌<◌, [], ◌∷◌, ◌++◌, length, OnOk, IfOk};
+ghost use Rattle.std.specs.Prelude.{◌≡◌, ◌<◌, ◌≤◌, [], ◌∷◌, ◌++◌, length, take, OnOk, IfOk};
 ghost use Rattle.prl_flow.specs.Solutions.{values_of};
 
 use prl_base::{FlowNo, Value};
 use std::alloc::{AllocError, Global};
 use std::marker::Model;
 
-/// The first values of a flow. Contracts see their list.
+/// The first values of a flow: its own, or lent where the same values stand elsewhere. Contracts see
+/// their list.
 #[derive(Debug, Drop)]
-pub(crate) struct Values {
-    values: Vec<Value>,
+pub(crate) struct Values<'a> {
+    lent: Option<&'a [Value]>,
+    /// The values, where none are lent.
+    own: Vec<Value>,
 }
 
-impl Model for Values {
+impl<'a> Model for Values<'a> {
     ghost use Rattle.std.specs.Prelude.{List};
     ghost use Rattle.prl_base.specs.declared.values.Value.{Value as OneValue};
+    ghost use Rattle.prl_evaluation.specs.code.Lent.{lent_or};
 
     ghost Value = { List OneValue };
 
-    ghost view = { λ v. v.values.items };
+    ghost view = { λ v. lent_or v.lent v.own.items };
 }
 
-impl Values {
+impl<'a> Values<'a> {
     /// No value yet, with room for `count`.
-    pub(crate) fn with_capacity(alloc: Global, count: usize) -> Result<Values, AllocError>
+    pub(crate) fn with_capacity(alloc: Global, count: usize) -> Result<Values<'a>, AllocError>
         ensures { IfOk result (λ values. values ≡ []) }
     {
-        let values = Vec::with_capacity(alloc, count)?;
-        Ok(Values { values })
+        let own = Vec::with_capacity(alloc, count)?;
+        Ok(Values { lent: None, own })
+    }
+
+    /// These values, of the flow's own. Takes no memory.
+    pub(crate) fn owned(values: Vec<Value>) -> Values<'a>
+        ensures { result ≡ values.items }
+    {
+        Values {
+            lent: None,
+            own: values,
+        }
+    }
+
+    /// These values, which are lent. Takes no memory.
+    pub(crate) fn lent(alloc: Global, values: &'a [Value]) -> Values<'a>
+        ensures { result ≡ values.now }
+    {
+        Values {
+            lent: Some(values),
+            own: Vec::new(alloc),
+        }
+    }
+
+    /// The first `count` of them, lent where they are lent.
+    pub(crate) fn front(&self, alloc: Global, count: usize) -> Result<Values<'a>, AllocError>
+        requires { count ≤ length self.now }
+        ensures { IfOk result (λ values. values ≡ take count self.now) }
+    {
+        match self.lent {
+            Some(values) => Ok(Values::lent(alloc, &values[..count])),
+            None => Ok(Values::owned(Vec::from_slice(alloc, &self.own[..count])?)),
+        }
     }
 
     /// How many there are.
     pub(crate) fn len(&self) -> usize
         ensures { result ≡ length self.now }
     {
-        self.values.len()
+        self.as_slice().len()
     }
 
     /// All of them.
     pub(crate) fn as_slice(&self) -> &[Value]
         ensures { result.now ≡ self.now }
     {
-        self.values.as_slice()
+        match self.lent {
+            Some(values) => values,
+            None => self.own.as_slice(),
+        }
     }
 
     /// One value more.
     pub(crate) fn push(&mut self, value: Value) -> Result<(), AllocError>
         ensures { OnOk result (self.new ≡ self.old ++ value ∷ []) }
     {
-        self.values.push(value)?;
+        if let Some(values) = self.lent {
+            self.own.clear();
+            self.own.extend_from_slice(values)?;
+            self.lent = None;
+        }
+        self.own.push(value)?;
         Ok(())
     }
 }
 
 /// How many values the flow has.
-pub(crate) fn count(flows: &[Values], i: usize) -> usize
+pub(crate) fn count(flows: &[Values<'_>], i: usize) -> usize
     requires { i < length flows.now }
     ensures { result ≡ length (values_of flows.now i) }
 {
     flows[i].len()
 }
 
-/// The flows of a program up to a date. Contracts see the list of the lists of their values.
+/// The flows of a program up to a date; those that only hand rows on are lent them. Contracts see the list of the lists of their values.
 #[derive(Debug, Drop)]
-pub struct FlowTable {
-    flows: Vec<Values>,
+pub struct FlowTable<'a> {
+    flows: Vec<Values<'a>>,
 }
 
-impl Model for FlowTable {
+impl<'a> Model for FlowTable<'a> {
     ghost use Rattle.prl_flow.specs.Rows.{Rows};
 
     ghost Value = { Rows };
@@ -76,10 +119,10 @@ impl Model for FlowTable {
     ghost view = { λ t. t.flows.items };
 }
 
-impl FlowTable {
+impl<'a> FlowTable<'a> {
     /// The table of these flows. Takes no memory.
-    pub(crate) fn new(flows: Vec<Values>) -> FlowTable
-        ensures { result ≡ flows.items }
+    pub(crate) fn new(flows: Vec<Values<'a>>) -> FlowTable<'a>
+        ensures { result ≡ flows.entry.items }
     {
         FlowTable { flows }
     }

@@ -1,13 +1,15 @@
 //! Flows that depend on no cycle, each with all its values at once.
 
-ghost use Rattle.std.specs.Prelude.{◌≡◌, ◌+◌, ◌<◌, ◌^◌, ℕ, true, [], length, slice_get, Some, IfOk, OnOk};
+ghost use Rattle.std.specs.Prelude.{◌≡◌, ◌+◌, ◌<◌, ◌^◌, ◌∷◌, ℕ, true, [], length, slice_get, Some, IfOk, OnOk};
 ghost use Rattle.prl_flow.specs.declared.programs.Arg.{Arg as AnyArg};
+ghost use Rattle.prl_flow.specs.declared.programs.Flow.{Flow as AnyFlow};
 ghost use Rattle.prl_evaluation.specs.Dates.{AreAt, AreFull, IsFull, IsRest};
 ghost use Rattle.prl_flow.specs.Solutions.{values_of};
-ghost use Rattle.prl_evaluation.specs.Fronts.{IsSet, UnderWay};
+ghost use Rattle.prl_evaluation.specs.Fronts.{IsPlain, IsSet, UnderWay};
 ghost use Rattle.prl_evaluation.specs.Wholes.{AreFlows, AreWhole, IsFilling, IsGroup, is_full};
 
 use crate::by_date::by_date;
+use crate::columns::plain_values;
 use crate::fronts::advance;
 use crate::runs::Run;
 use crate::sequences::along_uses;
@@ -18,7 +20,7 @@ use prl_flow::{App, Arg, Def, dates_before};
 use std::alloc::{AllocError, Global};
 
 /// Whether flow `i` has a value for each of its dates.
-fn is_full(setting: &Setting<'_>, flows: &[Values], i: usize) -> bool
+fn is_full(setting: &Setting<'_>, flows: &[Values<'_>], i: usize) -> bool
     requires set { IsSet setting.now }
     requires flow { i < length setting.now.flat.now.flows }
     requires count { length flows.now ≡ length setting.now.flat.now.flows }
@@ -28,7 +30,7 @@ fn is_full(setting: &Setting<'_>, flows: &[Values], i: usize) -> bool
 }
 
 /// Whether all arguments are full.
-fn are_full(setting: &Setting<'_>, flows: &[Values], args: &[Arg]) -> bool
+fn are_full(setting: &Setting<'_>, flows: &[Values<'_>], args: &[Arg]) -> bool
     requires set { IsSet setting.now }
     requires count { length flows.now ≡ length setting.now.flat.now.flows }
     requires within { (j : ℕ) (arg : AnyArg) → slice_get args.now j ≡ Some arg → arg.flow.0 < length setting.now.flat.now.flows }
@@ -48,7 +50,7 @@ fn fill_instance(
     group: &[FlowNo],
     _number: usize,
     n: usize,
-    flows: &mut [Values],
+    flows: &mut [Values<'_>],
     runs: &mut [Run<'_>],
 ) -> Result<(), AllocError>
     requires set { IsSet setting.now }
@@ -73,7 +75,7 @@ fn fill(
     setting: &Setting<'_>,
     group: &[FlowNo],
     number: usize,
-    flows: &mut [Values],
+    flows: &mut [Values<'_>],
     runs: &mut [Run<'_>],
 ) -> Result<(), AllocError>
     requires set { IsSet setting.now }
@@ -89,25 +91,57 @@ fn fill(
     Ok(())
 }
 
-/// Gives these flows their values where the flow that they use is full.
-fn fill_after(
-    setting: &Setting<'_>,
-    used: FlowNo,
-    group: &[FlowNo],
+/// Gives the flow, which is no output of an application, its `number` values. What it uses is full.
+fn fill_alone<'a>(
+    alloc: Global,
+    setting: &Setting<'a>,
+    flow: FlowNo,
+    def: Def,
     number: usize,
-    flows: &mut [Values],
-    runs: &mut [Run<'_>],
+    flows: &mut [Values<'a>],
+    _runs: &[Run<'_>],
+) -> Result<(), AllocError>
+    requires set { IsSet setting.now }
+    requires flow { (f : AnyFlow) × (slice_get setting.now.flat.now.flows flow.0 ≡ Some f) × (f.def ≡ def) }
+    requires plain { IsPlain def }
+    requires under_way { UnderWay setting.now flows.old _runs.now }
+    requires group { IsGroup setting.now (flow ∷ []) number flows.old }
+    requires whole { AreWhole setting.now flows.old }
+    ensures under_way { OnOk result (UnderWay setting.now flows.new _runs.now) }
+    ensures whole { OnOk result (AreWhole setting.now flows.new) }
+{
+    if number == 0 {
+        return Ok(());
+    }
+    let values = plain_values(alloc, setting, def, number, flows)?;
+    flows[flow.0 as usize] = values;
+    Ok(())
+}
+
+/// Gives the flow, which is no output of an application, its values where the flow that it uses is
+/// full.
+fn fill_after<'a>(
+    alloc: Global,
+    setting: &Setting<'a>,
+    used: FlowNo,
+    flow: FlowNo,
+    def: Def,
+    number: usize,
+    flows: &mut [Values<'a>],
+    runs: &[Run<'_>],
 ) -> Result<(), AllocError>
     requires set { IsSet setting.now }
     requires used { used.0 < length setting.now.flat.now.flows }
-    requires under_way { UnderWay setting.now flows.old runs.old }
-    requires group { IsFull setting.now flows.old used.0 → IsGroup setting.now group.now number flows.old }
+    requires flow { (f : AnyFlow) × (slice_get setting.now.flat.now.flows flow.0 ≡ Some f) × (f.def ≡ def) }
+    requires plain { IsPlain def }
+    requires under_way { UnderWay setting.now flows.old runs.now }
+    requires group { IsFull setting.now flows.old used.0 → IsGroup setting.now (flow ∷ []) number flows.old }
     requires whole { AreWhole setting.now flows.old }
-    ensures under_way { OnOk result (UnderWay setting.now flows.new runs.new) }
+    ensures under_way { OnOk result (UnderWay setting.now flows.new runs.now) }
     ensures whole { OnOk result (AreWhole setting.now flows.new) }
 {
     if is_full(setting, flows, used.0 as usize) {
-        fill(setting, group, number, flows, runs)?;
+        fill_alone(alloc, setting, flow, def, number, flows, runs)?;
     }
     Ok(())
 }
@@ -117,7 +151,7 @@ fn fill_outputs(
     setting: &Setting<'_>,
     app: &App,
     number: usize,
-    flows: &mut [Values],
+    flows: &mut [Values<'_>],
     runs: &mut [Run<'_>],
 ) -> Result<(), AllocError>
     requires set { IsSet setting.now }
@@ -136,10 +170,11 @@ fn fill_outputs(
 
 /// Gives the flow its values where all that it uses is full; with it the other outputs of its
 /// application.
-fn fill_ready(
-    setting: &Setting<'_>,
+fn fill_ready<'a>(
+    alloc: Global,
+    setting: &Setting<'a>,
     flow: FlowNo,
-    flows: &mut [Values],
+    flows: &mut [Values<'a>],
     runs: &mut [Run<'_>],
 ) -> Result<(), AllocError>
     requires set { IsSet setting.now }
@@ -150,13 +185,12 @@ fn fill_ready(
     ensures whole { OnOk result (AreWhole setting.now flows.new) }
 {
     let number = dates_before(setting.until, setting.clocks[flow.0 as usize]) as usize;
-    let alone = [flow];
     let def = setting.flat.flows()[flow.0 as usize].def;
     match def {
-        Def::Sensor(_) => fill(setting, &alone, number, flows, runs),
-        Def::Const(_) => fill(setting, &alone, number, flows, runs),
-        Def::Copy(of) => fill_after(setting, of, &alone, number, flows, runs),
-        Def::Op { of, .. } => fill_after(setting, of, &alone, number, flows, runs),
+        Def::Sensor(_) => fill_alone(alloc, setting, flow, def, number, flows, runs),
+        Def::Const(_) => fill_alone(alloc, setting, flow, def, number, flows, runs),
+        Def::Copy(of) => fill_after(alloc, setting, of, flow, def, number, flows, runs),
+        Def::Op { of, .. } => fill_after(alloc, setting, of, flow, def, number, flows, runs),
         Def::Apply { app, .. } => {
             let app = &setting.flat.apps()[app as usize];
             fill_outputs(setting, app, number, flows, runs)
@@ -165,10 +199,11 @@ fn fill_ready(
 }
 
 /// Gives the flows in this sequence their values, each where all that it uses is full by then.
-pub(crate) fn fill_wholes(
-    setting: &Setting<'_>,
+pub(crate) fn fill_wholes<'a>(
+    alloc: Global,
+    setting: &Setting<'a>,
     sequence: &[FlowNo],
-    flows: &mut [Values],
+    flows: &mut [Values<'a>],
     runs: &mut [Run<'_>],
 ) -> Result<(), AllocError>
     requires set { IsSet setting.now }
@@ -179,7 +214,7 @@ pub(crate) fn fill_wholes(
     ensures whole { OnOk result (AreWhole setting.now flows.new) }
 {
     for flow in sequence {
-        fill_ready(setting, *flow, flows, runs)?;
+        fill_ready(alloc, setting, *flow, flows, runs)?;
     }
     Ok(())
 }
@@ -188,7 +223,7 @@ pub(crate) fn fill_wholes(
 pub(crate) fn rest_of(
     alloc: Global,
     setting: &Setting<'_>,
-    flows: &[Values],
+    flows: &[Values<'_>],
 ) -> Result<Vec<FlowNo>, AllocError>
     requires set { IsSet setting.now }
     requires count { length flows.now ≡ length setting.now.flat.now.flows }
@@ -208,10 +243,10 @@ pub(crate) fn rest_of(
 
 /// Gives all flows their values: those that depend on no cycle flow by flow, and then the others
 /// date by date.
-pub(crate) fn fill_all(
+pub(crate) fn fill_all<'a>(
     alloc: Global,
-    setting: &Setting<'_>,
-    flows: &mut [Values],
+    setting: &Setting<'a>,
+    flows: &mut [Values<'a>],
     runs: &mut [Run<'_>],
 ) -> Result<(), AllocError>
     requires set { IsSet setting.now }
@@ -221,7 +256,7 @@ pub(crate) fn fill_all(
     ensures full { OnOk result (AreFull setting.now flows.new) }
 {
     let sequence = along_uses(alloc, setting.flat)?;
-    fill_wholes(setting, sequence.as_slice(), flows, runs)?;
+    fill_wholes(alloc, setting, sequence.as_slice(), flows, runs)?;
     let rest = rest_of(alloc, setting, flows)?;
     by_date(alloc, setting, rest.as_slice(), flows, runs)
 }

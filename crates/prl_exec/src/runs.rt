@@ -290,7 +290,7 @@ fn run_dealt<R: Threads + Wait + Sync, P: Probe>(
 }
 
 /// Several threads run all jobs of the horizon: worker `w` those of each task `i` with `i %
-/// workers == w`. Worker 0 is the caller's thread, which ticks too, and does what a worker was to
+/// workers == w`. The caller's thread is the first of them; it ticks too, and does what a worker was to
 /// do that got no thread. A worker calls the probe before the first action of each job that it
 /// does. It may wait, and takes no memory after the first job has begun. On a gated board it
 /// answers no overrun.

@@ -63,7 +63,7 @@ fn poll_all<W: Watch>(seats: &mut Vec<Option<TaskSeat>>, board: &Board, probe: &
     round
 }
 
-/// Whether no horizon job of the task is left whose seat is there, if one is.
+/// Whether the task of the seat, where one is there, has no more jobs to do.
 fn is_over(slot: &Option<TaskSeat>) -> bool {
     match slot {
         Some(seat) => match seat.place() {

@@ -1,6 +1,6 @@
 //! Generated programs: from a number and a size a program of as many lanes, the bodies of its
-//! imported nodes and the rows of its sensors. It stands on `std`, and on the base crate for the
-//! texts of numbers.
+//! imported nodes and the rows of its sensors. It stands on the base crate for the texts of numbers,
+//! and on the printed form of programs for a law.
 #![tactic(auto)]
 
 mod bodies;
@@ -15,4 +15,4 @@ mod sensors;
 
 pub use generation::{MAX_SIZE, Texts, generate};
 pub use lanes::UNTIL;
-pub use laws::instances_are_before_the_end;
+pub use laws::{generated_programs_are_read_back, instances_are_before_the_end};

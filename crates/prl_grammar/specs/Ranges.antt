@@ -16,7 +16,7 @@ inside_after r inside class = (class == r.begins) || (not (class == r.ends) && i
 abbrev pub is_fault : Ranges → Bool → ℕ → Lexeme → Bool
 is_fault r inside last t = (t.class == 1) && not (r.fits inside last t.number)
 
--- the place of the first number out of its range, in such a part or not, and after a token of the class
+-- the place of the first number that its range does not have, in such a part or not, and after a token of the class
 unfoldable pub out_of_range : Ranges → Bool → ℕ → List Lexeme → Option ℕ
 out_of_range r inside last [] = None
 out_of_range r inside last (t ∷ ts) =

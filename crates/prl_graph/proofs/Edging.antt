@@ -11,34 +11,27 @@ use Rattle.prl_flow.specs.declared.programs.Flow.{Flow}
 use Rattle.prl_flow.specs.Programs.{FlatProgram}
 use Rattle.prl_flow.specs.Solutions.{clock_of}
 use Rattle.prl_plan.specs.declared.graphs.Edge.{Edge}
-use Rattle.prl_graph.specs.Edges.{IsEdgeOf, LeadsBack}
+use Rattle.prl_graph.specs.Edges.{AreEdgesOf, IsEdgeOf, LeadsBack}
 use Rattle.prl_graph.specs.Ports.{InputPort, actuator_no, actuator_ports, node_no, ports_of, application_ports, argument_ports}
-use Rattle.prl_graph.specs.code.Made.{AreMadeEdges, FitOperators}
 use Rattle.prl_graph.specs.code.Steps.{AddsEdges, AreArgumentsOf, EndsAt, GivesValues}
 use Rattle.prl_graph.proofs.Lists.{push_cases}
 
-one_edge : (p : FlatProgram) (clocks : List Clock) (ports : List InputPort) (edges : List Edge) (port : InputPort) (edge : Edge) → AreMadeEdges p clocks ports edges → IsEdgeOf p clocks port edge → FitOperators edge.ops
-    → AreMadeEdges p clocks (ports ++ port ∷ []) (edges ++ edge ∷ [])
-one_edge p clocks ports edges port edge made is fit =
-    let count = made.are.count in
+one_edge : (p : FlatProgram) (clocks : List Clock) (ports : List InputPort) (edges : List Edge) (port : InputPort) (edge : Edge) → AreEdgesOf p clocks ports edges → IsEdgeOf p clocks port edge
+    → AreEdgesOf p clocks (ports ++ port ∷ []) (edges ++ edge ∷ [])
+one_edge p clocks ports edges port edge made is =
+    let count = made.count in
     record {
-      are = record {
-        count = length_push edges edge ∙ ap (λ n. n + 1) count ∙ sym (length_push ports port);
-        each = λ e x y at found. ⊎_elim
-            (λ old_port. ⊎_elim
-            (λ old. made.are.each e x y old_port old)
-            (λ last. absurd (let low = slice_get_within ports e x old_port in let h = last.0 in omega arith))
-            (push_cases edges edge e y found))
-            (λ new_port. ⊎_elim
-            (λ old. absurd (let low = slice_get_within edges e y old in let h = new_port.0 in omega arith))
-            (λ last. subst (λ (w : Edge). IsEdgeOf p clocks x w) last.1 (subst (λ (v : InputPort). IsEdgeOf p clocks v edge) new_port.1 is))
-            (push_cases edges edge e y found))
-            (push_cases ports port e x at);
-      };
-      fit = λ e y found. ⊎_elim
-          (λ old. made.fit e y old)
-          (λ last. subst (λ (w : Edge). FitOperators w.ops) last.1 fit)
-          (push_cases edges edge e y found);
+      count = length_push edges edge ∙ ap (λ n. n + 1) count ∙ sym (length_push ports port);
+      each = λ e x y at found. ⊎_elim
+          (λ old_port. ⊎_elim
+          (λ old. made.each e x y old_port old)
+          (λ last. absurd (let low = slice_get_within ports e x old_port in let h = last.0 in omega arith))
+          (push_cases edges edge e y found))
+          (λ new_port. ⊎_elim
+          (λ old. absurd (let low = slice_get_within edges e y old in let h = new_port.0 in omega arith))
+          (λ last. subst (λ (w : Edge). IsEdgeOf p clocks x w) last.1 (subst (λ (v : InputPort). IsEdgeOf p clocks v edge) new_port.1 is))
+          (push_cases edges edge e y found))
+          (push_cases ports port e x at);
     }
 
 -- the edge that is made of a way back and what gives values at its end
@@ -57,12 +50,12 @@ edge_of p clocks task port flow source ops edge ends gives to at same period ty 
   ty = ty gives.flow gives.found;
 }
 
-pub adds_one : (p : FlatProgram) (clocks : List Clock) (port : InputPort) (edge : Edge) (old new : List Edge) → IsEdgeOf p clocks port edge → FitOperators edge.ops → new ≡ old ++ edge ∷ [] → AddsEdges p clocks (port ∷ []) old new
-adds_one p clocks port edge old new is fit same = λ before made.
-    subst (AreMadeEdges p clocks (before ++ port ∷ [])) (sym same) (one_edge p clocks before old port edge made is fit)
+pub adds_one : (p : FlatProgram) (clocks : List Clock) (port : InputPort) (edge : Edge) (old new : List Edge) → IsEdgeOf p clocks port edge → new ≡ old ++ edge ∷ [] → AddsEdges p clocks (port ∷ []) old new
+adds_one p clocks port edge old new is same = λ before made.
+    subst (AreEdgesOf p clocks (before ++ port ∷ [])) (sym same) (one_edge p clocks before old port edge made is)
 
 pub adds_none : (p : FlatProgram) (clocks : List Clock) (edges : List Edge) → AddsEdges p clocks [] edges edges
-adds_none p clocks edges = λ before made. subst (λ l. AreMadeEdges p clocks l edges) (sym (append_nil before)) made
+adds_none p clocks edges = λ before made. subst (λ l. AreEdgesOf p clocks l edges) (sym (append_nil before)) made
   where
     append_nil : (xs : List InputPort) → xs ++ [] ≡ xs
     append_nil [] = refl
@@ -70,7 +63,7 @@ adds_none p clocks edges = λ before made. subst (λ l. AreMadeEdges p clocks l 
 
 pub adds_both : (p : FlatProgram) (clocks : List Clock) (first second both : List InputPort) (old middle new : List Edge) → both ≡ first ++ second → AddsEdges p clocks first old middle → AddsEdges p clocks second middle new → AddsEdges p clocks both old new
 adds_both p clocks first second both old middle new same one two = λ before made.
-    subst (λ l. AreMadeEdges p clocks l new) (append_assoc before first second ∙ ap (λ l. before ++ l) (sym same)) (two (before ++ first) (one before made))
+    subst (λ l. AreEdgesOf p clocks l new) (append_assoc before first second ∙ ap (λ l. before ++ l) (sym same)) (two (before ++ first) (one before made))
 
 -- ports, one more
 arguments_push : (i j : ℕ) (args : List Arg) (arg : Arg) → argument_ports i j (args ++ arg ∷ []) ≡ argument_ports i j args ++ record { task = i; port = j + length args; flow = arg.flow.0 } ∷ []
@@ -178,13 +171,10 @@ adds_output p clocks k task flow old middle new number found one two =
     (one_output (actuator_no p 0) p.outs k flow found ∙ ap (λ n. actuator_ports (actuator_no p 0) (take k p.outs) ++ record { task = n; port = 0; flow = flow.0 } ∷ []) e) one two
 
 -- all edges, from none
-no_edges : (p : FlatProgram) (clocks : List Clock) → AreMadeEdges p clocks [] []
-no_edges p clocks = record {
-  are = record { count = refl; each = λ e port edge at found. cc };
-  fit = λ e edge found. cc;
-}
+no_edges : (p : FlatProgram) (clocks : List Clock) → AreEdgesOf p clocks [] []
+no_edges p clocks = record { count = refl; each = λ e port edge at found. cc }
 
 pub all_made : (p : FlatProgram) (clocks : List Clock) (none middle edges : List Edge) → none ≡ [] → AddsEdges p clocks (application_ports (node_no p 0) p.apps) none middle
-    → AddsEdges p clocks (actuator_ports (actuator_no p 0) p.outs) middle edges → AreMadeEdges p clocks (ports_of p) edges
+    → AddsEdges p clocks (actuator_ports (actuator_no p 0) p.outs) middle edges → AreEdgesOf p clocks (ports_of p) edges
 all_made p clocks none middle edges empty one two =
-    two (application_ports (node_no p 0) p.apps) (one [] (subst (λ l. AreMadeEdges p clocks [] l) (sym empty) (no_edges p clocks)))
+    two (application_ports (node_no p 0) p.apps) (one [] (subst (λ l. AreEdgesOf p clocks [] l) (sym empty) (no_edges p clocks)))

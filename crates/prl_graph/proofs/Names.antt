@@ -145,12 +145,22 @@ module _ (p : FlatProgram) (clocks : List Clock) (flat : IsFlat p) where
       let at_b = b.at in
       omega arith
 
-  pub names_differ : (g : TaskGraph) → task_count p ≤ 64 → AreTasks p clocks g.tasks → ((i : ℕ) (task : Task) → slice_get g.tasks i ≡ Some task → IsTaskName task.kind task.name)
-      → (i j : ℕ) → i < j → j < length g.tasks → (task_at g i).name ≢ (task_at g j).name
-  names_differ g few are named i j before below same =
+  -- a task's name is right, since those of devices and applications are
+  pub named_rightly : (i : ℕ) (t : Task) → IsTaskOf p clocks i t → IsTaskName t.kind t.name
+  named_rightly i t (sensor a) =
+      subst (λ (x : Task). IsTaskName x.kind x.name) (sym a.is)
+      (flat.devices.0 i (slice_index_or p.in_devices i ([], 0)) (sensor_device p flat i a.flow a.found)).0
+  named_rightly i t (node a) =
+      subst (λ (x : Task). IsTaskName x.kind x.name) (sym a.is) (a.app.name, (flat.apps a.number a.app a.found).name, refl)
+  named_rightly i t (actuator a) =
+      subst (λ (x : Task). IsTaskName x.kind x.name) (sym a.is)
+      (flat.devices.0 (length p.ins + a.number) (slice_index_or p.out_devices a.number ([], 0)) (actuator_device p flat a.number a.flow a.found)).0
+
+  pub names_differ : (g : TaskGraph) → task_count p ≤ 64 → AreTasks p clocks g.tasks → (i j : ℕ) → i < j → j < length g.tasks → (task_at g i).name ≢ (task_at g j).name
+  names_differ g few are i j before below same =
       let s = element_at g.tasks i (omega arith) in
       let t = element_at g.tasks j below in
       let s_is = get_or_from_slice_get g.tasks i s.0 no_task s.1 in
       let t_is = get_or_from_slice_get g.tasks j t.0 no_task t.1 in
-      differ i j s.0 t.0 few before (are.each i s.0 s.1) (are.each j t.0 t.1) (named i s.0 s.1) (named j t.0 t.1)
+      differ i j s.0 t.0 few before (are.each i s.0 s.1) (are.each j t.0 t.1) (named_rightly i s.0 (are.each i s.0 s.1)) (named_rightly j t.0 (are.each j t.0 t.1))
       (sym (ap (λ (x : Task). x.name) s_is) ∙ same ∙ ap (λ (x : Task). x.name) t_is)

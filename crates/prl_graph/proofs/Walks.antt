@@ -12,7 +12,6 @@ use Rattle.prl_flow.specs.Uses.{HasNoCycle, Leads, NamesInside, UsesInside, once
 use Rattle.prl_graph.specs.code.Marks.{IsMarked}
 use Rattle.prl_plan.specs.declared.graphs.Producer.{Producer}
 use Rattle.prl_graph.specs.Edges.{IsProducer}
-use Rattle.prl_graph.specs.code.Made.{FitOperators, FitsOperator}
 use Rattle.prl_graph.specs.code.Steps.{HasProducer, StepsBack}
 use Rattle.prl_graph.specs.code.Steps as steps
 use Rattle.prl_graph.specs.Edges.{LeadsBack}
@@ -142,9 +141,3 @@ operand_within p flat i flow op of found is =
 -- a flow that is made of no other has what gives its values
 pub produced_by : (p : FlatProgram) (i : ℕ) (flow : Flow) (d : Def) (from : Producer) → slice_get p.flows i ≡ Some flow → flow.def ≡ d → IsProducer p d from → HasProducer p i
 produced_by p i flow d from found is produces = (from, record { flow = flow; found = found; produces = subst (λ x. IsProducer p x from) (sym is) produces })
-
-pub step_operators : (ops : List Op) (op : Op) → FitOperators ops → FitsOperator op → FitOperators (ops ++ op ∷ [])
-step_operators ops op fit one = λ k x h. ⊎_elim (λ old. fit k x old) (λ last. subst FitsOperator last.1 one) (push_cases ops op k x h)
-
-pub no_operators : FitOperators []
-no_operators = λ k op h. cc

@@ -13,7 +13,6 @@ use Rattle.prl_plan.specs.Graphs.{TakeClock}
 use Rattle.prl_graph.specs.Edges.{LeadsBack}
 use Rattle.prl_graph.specs.Edges as ways
 use Rattle.prl_graph.specs.Hyperperiods.{IsCommonMultiple}
-use Rattle.prl_graph.specs.code.Made.{FitOperators, FitsOperator}
 
 module _ (p : FlatProgram) (clocks : List Clock) (flat : IsFlat p) (are : AreClocks p clocks) where
   pub clock_found : (i : ℕ) → i < length p.flows → slice_get clocks i ≡ Some (clock_of clocks i)
@@ -53,18 +52,17 @@ one_type p flat i j ops (ways.operator k l rest h op by found def way) f g at th
 
 -- the operators of a way are in their ranges
 pub operators_fit : (p : FlatProgram) → IsFlat p → (i j : ℕ) (ops : List Op) → LeadsBack p i ops j → (ty : Ty) → ((f : Flow) → slice_get p.flows i ≡ Some f → f.ty ≡ ty)
-    → FitOperators ops → (m : ℕ) (op : Op) → slice_get ops m ≡ Some op → IsOperatorFor ty op
-operators_fit p flat i j ops (ways.here k) ty typed fit m op at = cc
-operators_fit p flat i j ops (ways.copy k l rest h by found def way) ty typed fit m op at =
+    → (m : ℕ) (op : Op) → slice_get ops m ≡ Some op → IsOperatorFor ty op
+operators_fit p flat i j ops (ways.here k) ty typed m op at = cc
+operators_fit p flat i j ops (ways.copy k l rest h by found def way) ty typed m op at =
     let defined = subst (λ d. IsWellDefined p k h.ty d) def (flat.flows k h found) in
     operators_fit p flat by.0 l rest way ty
-    (λ f there. ap (λ (x : Flow). x.ty) (same_flow p by.0 f defined.0 there defined.1) ∙ defined.2 ∙ typed h found) fit m op at
-operators_fit p flat i j ops (ways.operator k l rest h first by found def way) ty typed fit zero op at =
+    (λ f there. ap (λ (x : Flow). x.ty) (same_flow p by.0 f defined.0 there defined.1) ∙ defined.2 ∙ typed h found) m op at
+operators_fit p flat i j ops (ways.operator k l rest h first by found def way) ty typed zero op at =
     let defined = subst (λ d. IsWellDefined p k h.ty d) def (flat.flows k h found) in
     let same : first ≡ op = cc in
     subst (λ o. IsOperatorFor ty o) same (subst (λ t. IsOperatorFor t first) (typed h found) defined.1)
-operators_fit p flat i j ops (ways.operator k l rest h first by found def way) ty typed fit (suc m) op at =
+operators_fit p flat i j ops (ways.operator k l rest h first by found def way) ty typed (suc m) op at =
     let defined = subst (λ d. IsWellDefined p k h.ty d) def (flat.flows k h found) in
     operators_fit p flat by.0 l rest way ty
-    (λ f there. ap (λ (x : Flow). x.ty) (same_flow p by.0 f defined.0.0 there defined.0.1) ∙ defined.0.2 ∙ typed h found)
-    (λ n o g. fit (suc n) o g) m op at
+    (λ f there. ap (λ (x : Flow). x.ty) (same_flow p by.0 f defined.0.0 there defined.0.1) ∙ defined.0.2 ∙ typed h found) m op at

@@ -25,9 +25,8 @@ use Rattle.prl_graph.specs.Edges.{IsProducer}
 use Rattle.prl_graph.specs.Ports.{InputPort, actuator_no, actuator_ports, application_ports, node_no, ports_of, task_count}
 use Rattle.prl_graph.specs.TaskGraphs.{AreSmallClocks, IsGraphOf}
 use Rattle.prl_graph.specs.Tasks.{IsTaskOf, actuator_task, application_clock, device_due, node_task, sensor, node, actuator, sensor_task}
-use Rattle.prl_graph.specs.code.Made.{FitOperators}
 use Rattle.prl_graph.proofs.Lists.{append_right}
-use Rattle.prl_graph.proofs.Names.{names_differ}
+use Rattle.prl_graph.proofs.Names.{named_rightly, names_differ}
 use Rattle.prl_graph.proofs.Order.{Match, edges_in_order}
 use Rattle.prl_graph.proofs.Ports.{IsActuatorPort, IsArgumentPort, find_actuator, port_is, port_within}
 use Rattle.prl_graph.proofs.TaskFacts.{actuator_device, actuator_found, node_found, sensor_device, sensor_found, tasks_numbered}
@@ -230,8 +229,8 @@ module _ (p : FlatProgram) (clocks : List Clock) (flat : IsFlat p) (are : AreClo
       )
   source_is edge source flow (definitions.Op op of) found ty defined from = absurd from
 
-  edge_is : HasNoCycle p → (e : ℕ) (edge : Edge) → slice_get g.edges e ≡ Some edge → FitOperators edge.ops → IsEdge g edge
-  edge_is causal e edge found fit =
+  edge_is : HasNoCycle p → (e : ℕ) (edge : Edge) → slice_get g.edges e ≡ Some edge → IsEdge g edge
+  edge_is causal e edge found =
       let count = of.edges.count in
       let below = slice_get_within g.edges e edge found in
       let port = element_at (ports_of p) e (omega arith) in
@@ -255,7 +254,7 @@ module _ (p : FlatProgram) (clocks : List Clock) (flat : IsFlat p) (are : AreClo
               (takes_clock p clocks flat are g.hyper of.hyper.multiple port.0.flow is.source edge.ops is.leads start),
         );
         operators = operators_fit p flat port.0.flow is.source edge.ops is.leads edge.ty
-            (λ f there. ap (λ (x : Flow). x.ty) (same_flow p port.0.flow f at.0 there at.1) ∙ typed ∙ sym is.ty) fit;
+            (λ f there. ap (λ (x : Flow). x.ty) (same_flow p port.0.flow f at.0 there at.1) ∙ typed ∙ sym is.ty);
         few = omega arith;
       }
 
@@ -293,20 +292,17 @@ module _ (p : FlatProgram) (clocks : List Clock) (flat : IsFlat p) (are : AreClo
                 (port_is p e port.0 port.1));
           }
 
-  pub well_formed : HasNoCycle p
-      → ((i : ℕ) (task : Task) → slice_get g.tasks i ≡ Some task → IsTaskName task.kind task.name)
-      → ((e : ℕ) (edge : Edge) → slice_get g.edges e ≡ Some edge → FitOperators edge.ops)
-      → IsWellFormed g
-  well_formed causal named fit =
+  pub well_formed : HasNoCycle p → IsWellFormed g
+  well_formed causal =
       let tasks = of.tasks.count in
       let edges = of.edges.count in
       let few_tasks = of.few_tasks in
       let few_edges = of.few_edges in
       record {
         kinds = tasks_numbered p clocks g.tasks of.tasks;
-        tasks = λ i task found. task_is i task found (named i task found);
-        names = names_differ p clocks flat g of.few_tasks of.tasks named;
-        edges = λ e edge found. edge_is causal e edge found (fit e edge found);
+        tasks = λ i task found. task_is i task found (named_rightly p clocks flat i task (of.tasks.each i task found));
+        names = names_differ p clocks flat g of.few_tasks of.tasks;
+        edges = λ e edge found. edge_is causal e edge found;
         order = edges_in_order p g.edges match_edges;
         actuators = one_port;
         hyper = of.hyper.positive;

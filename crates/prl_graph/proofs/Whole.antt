@@ -15,17 +15,18 @@ use Rattle.prl_graph.specs.declared.faults.GraphFault.TheVariants as faults
 use Rattle.prl_graph.specs.Hyperperiods.{IsHyperperiod, IsPastHyperperiod}
 use Rattle.prl_graph.specs.Ports.{ports_of, task_count}
 use Rattle.prl_graph.specs.TaskGraphs.{AreSmallClocks, HasDues, IsGraphFault, IsGraphOf, jobs_within}
-use Rattle.prl_graph.specs.code.Made.{AreFirstTasks, AreMadeEdges}
+use Rattle.prl_graph.specs.Edges.{AreEdgesOf}
+use Rattle.prl_graph.specs.code.Made.{AreFirstTasks}
 use Rattle.prl_graph.proofs.WellFormed.{well_formed}
 
 module _ (p : FlatProgram) (clocks : List Clock) (flat : IsFlat p) (are : AreClocks p clocks) (small : AreSmallClocks clocks) (causal : HasNoCycle p) (dues : HasDues p clocks)
     (few_tasks : task_count p ≤ MAX_TASKS) (few_edges : length (ports_of p) ≤ MAX_EDGES) where
-  is_graph : (g : TaskGraph) → AreFirstTasks p clocks (task_count p) g.tasks → AreMadeEdges p clocks (ports_of p) g.edges → IsHyperperiod clocks g.hyper → g.hyper ≤ MAX_HYPER
+  is_graph : (g : TaskGraph) → AreFirstTasks p clocks (task_count p) g.tasks → AreEdgesOf p clocks (ports_of p) g.edges → IsHyperperiod clocks g.hyper → g.hyper ≤ MAX_HYPER
       → jobs_within g.hyper g.tasks ≤ MAX_PERIOD_JOBS → IsGraphOf p clocks g
   is_graph g tasks edges hyper few_ticks few_jobs = record {
     dues = dues;
     tasks = record { count = tasks.count; each = tasks.each };
-    edges = edges.are;
+    edges = edges;
     hyper = hyper;
     few_tasks = few_tasks;
     few_edges = few_edges;
@@ -33,14 +34,14 @@ module _ (p : FlatProgram) (clocks : List Clock) (flat : IsFlat p) (are : AreClo
     few_jobs = few_jobs;
   }
 
-  pub made_whole : (g : TaskGraph) (tasks : List Task) (edges : List Edge) → g.tasks ≡ tasks → g.edges ≡ edges → AreFirstTasks p clocks (task_count p) tasks → AreMadeEdges p clocks (ports_of p) edges
+  pub made_whole : (g : TaskGraph) (tasks : List Task) (edges : List Edge) → g.tasks ≡ tasks → g.edges ≡ edges → AreFirstTasks p clocks (task_count p) tasks → AreEdgesOf p clocks (ports_of p) edges
       → IsHyperperiod clocks g.hyper → g.hyper ≤ MAX_HYPER → jobs_within g.hyper tasks ≤ MAX_PERIOD_JOBS → IsGraphOf p clocks g × IsWellFormed g
   made_whole g tasks edges tasks_are edges_are made_tasks made_edges hyper few_ticks few_jobs =
       let first : AreFirstTasks p clocks (task_count p) g.tasks = subst (AreFirstTasks p clocks (task_count p)) (sym tasks_are) made_tasks in
-      let second : AreMadeEdges p clocks (ports_of p) g.edges = subst (AreMadeEdges p clocks (ports_of p)) (sym edges_are) made_edges in
+      let second : AreEdgesOf p clocks (ports_of p) g.edges = subst (AreEdgesOf p clocks (ports_of p)) (sym edges_are) made_edges in
       let jobs : jobs_within g.hyper g.tasks ≤ MAX_PERIOD_JOBS = subst (λ l. jobs_within g.hyper l ≤ MAX_PERIOD_JOBS) (sym tasks_are) few_jobs in
       let of : IsGraphOf p clocks g = is_graph g first second hyper few_ticks jobs in
-      (of, well_formed p clocks flat are small g of causal first.named second.fit)
+      (of, well_formed p clocks flat are small g of causal)
 
   pub past_hyperperiod : (found : ℕ) (fault : GraphFault) → fault ≡ faults.Limit (record { what = limits.Hyperperiod; found = found }) → IsPastHyperperiod clocks found → IsGraphFault p clocks fault
   past_hyperperiod found fault same past = subst (IsGraphFault p clocks) (sym same) (dues, (few_tasks, few_edges, past))

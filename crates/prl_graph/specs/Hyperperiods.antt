@@ -1,4 +1,4 @@
--- The hyperperiod: the least common multiple of the periods of all flows.
+-- The hyperperiod: the least number that each flow's period divides.
 use Rattle.std.specs.Prelude.{◌≡◌, ◌<◌, ◌≤◌, ◌+◌, ℕ, List, length, take, Some, slice_get}
 use Rattle.prl_base.specs.declared.operators.Clock.{Clock}
 use Rattle.prl_plan.specs.declared.limits.TheConstants.{MAX_HYPER}

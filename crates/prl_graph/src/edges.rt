@@ -1,20 +1,16 @@
 //! The edges: from each input port back to what gives its values.
 
 ghost use Rattle.std.specs.Prelude.{◌≡◌, ◌+◌, ◌<◌, ◌≤◌, ◌∷◌, [], IfOk, length};
-ghost use Rattle.std.specs.Prelude.{FitsSigned};
-ghost use Rattle.std.specs.Int.{w64};
-ghost use Rattle.prl_base.specs.Values.{FitsValue};
 ghost use Rattle.prl_flow.specs.Solutions.{AreClocks};
 ghost use Rattle.prl_flow.specs.Uses.{HasNoCycle};
 ghost use Rattle.prl_plan.specs.declared.limits.TheConstants.{MAX_EDGES, MAX_TASKS};
-ghost use Rattle.prl_graph.specs.Edges.{IsEdgeOf};
+ghost use Rattle.prl_graph.specs.Edges.{AreEdgesOf, IsEdgeOf};
 ghost use Rattle.prl_graph.specs.Ports.{InputPort, actuator_no, actuator_ports, application_ports, argument_ports, node_no, ports_of, task_count};
-ghost use Rattle.prl_graph.specs.code.Made.{AreMadeEdges, FitOperators, FitsOperator};
 ghost use Rattle.prl_graph.specs.code.Back.{IsStepBack};
 ghost use Rattle.prl_graph.specs.code.Steps.{AddsEdges, AreArgumentsOf, AreWithin, EndsAt, GivesValues, HasProducer};
 
 use crate::tasks::clock_of;
-use prl_base::{FlowNo, Op, Seq, TaskNo, Value};
+use prl_base::{FlowNo, Op, Seq, TaskNo};
 use prl_flow::{Arg, Clocks, Def, Flat};
 use prl_plan::{Edge, Producer};
 use std::alloc::{AllocError, Global};
@@ -36,37 +32,6 @@ struct WayBack {
     source: FlowNo,
 }
 
-/// A number of a constant is one of 64 bits.
-fn number_fits(number: i64)
-    ensures { FitsSigned w64 number }
-{
-    let _number = number;
-}
-
-/// A constant is a value of 64 bits.
-fn value_fits(value: Value)
-    ensures { FitsValue value }
-{
-    match value {
-        Value::Int(number) => number_fits(number),
-        Value::Bool(_) => {}
-    }
-}
-
-/// The constant of an operator is a value of 64 bits.
-fn operator_fits(op: &Op)
-    ensures { FitsOperator op.now }
-{
-    match op {
-        Op::Fby(value) => value_fits(*value),
-        Op::Cons(value) => value_fits(*value),
-        Op::Tail => {}
-        Op::Up(_) => {}
-        Op::Down(_) => {}
-        Op::Shift(_) => {}
-    }
-}
-
 /// The step back from the flow.
 fn step_back(flat: &Flat, at: FlowNo) -> Back
     requires { at.0 < length flat.now.flows }
@@ -76,10 +41,7 @@ fn step_back(flat: &Flat, at: FlowNo) -> Back
     let flow = &flows[at.0 as usize];
     match flow.def {
         Def::Copy(of) => Back::Copy(of),
-        Def::Op { op, of } => {
-            operator_fits(&op);
-            Back::Operator(op, of)
-        }
+        Def::Op { op, of } => Back::Operator(op, of),
         Def::Sensor(_) => Back::End,
         Def::Const(_) => Back::End,
         Def::Apply { .. } => Back::End,
@@ -90,8 +52,7 @@ fn step_back(flat: &Flat, at: FlowNo) -> Back
 fn way_back(alloc: Global, flat: &Flat, from: FlowNo) -> Result<WayBack, AllocError>
     requires within { from.0 < length flat.now.flows }
     requires causal { HasNoCycle flat.now }
-    ensures ends { IfOk result (λ way. EndsAt flat.now from.0 way.ops way.source.0) }
-    ensures fit { IfOk result (λ way. FitOperators way.ops) }
+    ensures { IfOk result (λ way. EndsAt flat.now from.0 way.ops way.source.0) }
 {
     let flows = flat.flows();
     let mut ops = Vec::new(alloc);
@@ -147,8 +108,7 @@ fn edge_into(
     requires causal { HasNoCycle flat.now }
     requires few { task_count flat.now ≤ MAX_TASKS }
     requires within { flow.0 < length flat.now.flows }
-    ensures is { IfOk result (IsEdgeOf flat.now clocks.now.of (record { task = to; port = port; flow = flow.0 })) }
-    ensures fit { IfOk result (λ edge. FitOperators edge.ops) }
+    ensures { IfOk result (IsEdgeOf flat.now clocks.now.of (record { task = to; port = port; flow = flow.0 })) }
 {
     let way = way_back(alloc, flat, flow)?;
     let source = way.source;
@@ -275,7 +235,7 @@ pub(crate) fn all_edges(
     requires causal { HasNoCycle flat.now }
     requires few { task_count flat.now ≤ MAX_TASKS }
     requires few_edges { length (ports_of flat.now) ≤ MAX_EDGES }
-    ensures { IfOk result (λ edges. AreMadeEdges flat.now clocks.now.of (ports_of flat.now) edges.items) }
+    ensures { IfOk result (λ edges. AreEdgesOf flat.now clocks.now.of (ports_of flat.now) edges.items) }
 {
     let mut edges = Vec::new(alloc);
     push_applications(alloc, flat, clocks, &mut edges)?;

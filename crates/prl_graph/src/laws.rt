@@ -18,6 +18,7 @@ ghost use Rattle.prl_flow.specs.Uses.{HasNoCycle};
 ghost use Rattle.prl_plan.specs.declared.graphs.Edge.{Edge};
 ghost use Rattle.prl_plan.specs.declared.graphs.TaskGraph.{TaskGraph};
 ghost use Rattle.prl_plan.specs.Graphs.{IsWellFormed};
+ghost use Rattle.prl_plan.specs.Jobs.{task_at};
 ghost use Rattle.prl_plan.specs.Operands.{operand_of};
 ghost use Rattle.prl_values.specs.Fitting.{HaveTaskBodies, HaveTypedRows};
 ghost use Rattle.prl_values.specs.JobValues.{AreJobValues, reads_of_job, value_on};
@@ -83,4 +84,17 @@ pub fn graphs_end_one_way()
         IsGraphFault p clocks a → IsGraphFault p clocks b → a ≡ b }
     ensures not_both { (p : FlatProgram) (clocks : List Clock) (graph : TaskGraph) (fault : GraphFault) → IsOfProgram fault →
         IsGraphOf p clocks graph → IsGraphFault p clocks fault → ⊥ }
+{}
+
+/// The task graph of a flat program with small clocks and without a cycle is well formed.
+pub fn graphs_are_well_formed()
+    ensures { (p : FlatProgram) (clocks : List Clock) → IsFlat p → AreClocks p clocks → AreSmallClocks clocks → HasNoCycle p →
+        (graph : TaskGraph) → IsGraphOf p clocks graph → IsWellFormed graph }
+{}
+
+/// At each port a task reads a flow of its own clock.
+pub fn ports_have_the_clock_of_their_task()
+    ensures { (p : FlatProgram) (clocks : List Clock) → IsFlat p → AreClocks p clocks → AreSmallClocks clocks →
+        (graph : TaskGraph) → IsGraphOf p clocks graph → (e : ℕ) (port : InputPort) → slice_get (ports_of p) e ≡ Some port →
+        (task_at graph port.task).clock ≡ clock_of clocks port.flow }
 {}

@@ -15,5 +15,6 @@ mod tasks;
 pub use faults::GraphFault;
 pub use graphs::graph;
 pub use laws::{
-    bodies_and_rows_serve_tasks, edge_gives_operand, graphs_end_one_way, solutions_give_job_values,
+    bodies_and_rows_serve_tasks, edge_gives_operand, graphs_are_well_formed, graphs_end_one_way,
+    ports_have_the_clock_of_their_task, solutions_give_job_values,
 };

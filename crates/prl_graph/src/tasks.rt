@@ -45,8 +45,7 @@ fn device_due(flat: &Flat, clocks: &Clocks, flow: FlowNo) -> u64
 
 /// The name of application `k`'s task: the node's name, `@` and the number.
 fn node_name(alloc: Global, node: &Name, k: u32) -> Result<Label, AllocError>
-    ensures name { IfOk result (λ label. label ≡ node.now ++ 64 ∷ decimal k) }
-    ensures word { IsName node.now }
+    ensures { IfOk result (λ label. label ≡ node.now ++ 64 ∷ decimal k) }
 {
     let mut bytes = Vec::from_slice(alloc, node.bytes())?;
     bytes.push(b'@')?;

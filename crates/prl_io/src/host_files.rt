@@ -11,8 +11,8 @@ use std::io;
 use std::io::{ErrorKind, Read};
 use std::rt::Runtime;
 
-/// The files of the host, by their paths. Their contents are not known. A reading fails at each error but a
-/// missing file and want of memory, and a name that is not UTF-8.
+/// The files of the host, by their paths. Their contents are not known. A file that is not there and want of memory
+/// have answers of their own; any other error is a failed reading, and so is a name that is not UTF-8.
 #[derive(Drop)]
 pub struct HostFiles<'a, R: Runtime> {
     rt: &'a R,

@@ -26,7 +26,7 @@ pub enum NameFault {
     Undefined(Name),
     /// A node that applies itself through a cycle of applications; number 16.
     Recursive(Name),
-    /// There is no node, or none of the name that is asked for; number 14.
+    /// The program has no node at all, or no node has the name that was asked for; number 14.
     NoMain,
     Memory,
 }
@@ -104,7 +104,7 @@ fn checked(alloc: Global, names: &Names<'_>, main: Option<&Label>) -> Result<usi
 ///   applied is declared nowhere.
 /// - `Undefined`: an output or a local has no equation.
 /// - `Recursive`: a node applies itself, directly or through others.
-/// - `NoMain`: there is no node, or none of the name `main`.
+/// - `NoMain`: the program has no node at all, or no node has the name `main`.
 /// - `Unknown`: an input of main has no sensor of its name, or an output no actuator.
 /// - `Memory`: memory ran out; this may come in place of each of the others.
 pub fn check_names(

@@ -1,5 +1,5 @@
 -- Arrows of edges in a range, and in a longer one.
-use Rattle.std.proofs.Common.{◌≡◌, ◌+◌, ◌*◌, ◌<◌, ◌≤◌, ◌↔◌, ◌∙◌, ℕ, length, max, sym, subst, arith}
+use Rattle.std.proofs.Common.{◌≡◌, ◌+◌, ◌*◌, ◌<◌, ◌↔◌, ◌∙◌, ℕ, length, max, sym, subst, arith}
 use Rattle.std.specs.Prelude.{pos, ◌+ℤ◌, ◌*ℤ◌, ◌<ℤ◌}
 use Rattle.std.proofs.lemmas.Int.{ints}
 use Rattle.prl_plan.specs.declared.graphs.Producer.{Producer}
@@ -10,12 +10,16 @@ use Rattle.prl_plan.specs.Jobs.{IsHorizonJob, job_count, task_at}
 use Rattle.prl_plan.specs.Operands.{operand_of}
 use Rattle.prl_plan.specs.Plans.{PlanView, edge_at}
 use Rattle.prl_plan.specs.Precedence.{ComesFrom}
-use Rattle.prl_picture.specs.Ranges.{IsArrow, IsEndOfReading, IsReleasedIn}
+use Rattle.prl_picture.specs.Ranges.{IsArrow, IsEndOfReading, IsReleasedIn, IsShortest}
 
 -- an edge comes from one task
 pub one_producer : (from : Producer) (i j : ℕ) → ComesFrom from i → ComesFrom from j → i ≡ j
 one_producer (producers.Port task out) i j first second = sym first ∙ second
 one_producer (producers.Constant value) i j first second = absurd first
+
+-- an operand is of one job
+from_one : (p m : ℕ) → operands.From p ≡ operands.From m → p ≡ m
+from_one p m same = search same
 
 module _ (plan : PlanView)
     (law : (graph : TaskGraph) (until i n : ℕ) → i < length graph.tasks → 0 < (task_at graph i).clock.period →
@@ -36,8 +40,22 @@ module _ (plan : PlanView)
       → own i n < until → IsReleasedIn plan from until i n
   released from limit until i n inside some is before = record {
     first = is.first;
-    last = (law plan.graph until i n inside some).0 (record { task = inside; early = (let h : (task_at plan.graph i).clock.start + n * (task_at plan.graph i).clock.period < until = before in omega (arith, ints, h)) });
+    last =
+        (let h : (task_at plan.graph i).clock.start + n * (task_at plan.graph i).clock.period < until = before in
+        (law plan.graph until i n inside some).0 (record { task = inside; early = omega (arith, ints, h) }));
   }
+
+  -- no range that ends before both releases has it
+  shortest : (from e i n m before after : ℕ) → i < length plan.graph.tasks → 0 < (task_at plan.graph i).clock.period
+      → (edge_at plan.graph e).to.0 < length plan.graph.tasks → 0 < (task_at plan.graph (edge_at plan.graph e).to.0).clock.period
+      → operand_of (edge_at plan.graph e) n ≡ operands.From m → before ≡ own i m → after ≡ own (edge_at plan.graph e).to.0 n
+      → IsShortest plan from e i n (max before after + 1)
+  shortest from e i n m before after inside some to_inside to_some reads b a until p short arrow =
+      let same : p ≡ m = from_one p m (sym arrow.reads ∙ reads) in
+      let given : before < until = subst (λ (tick : ℕ). tick < until) (sym b)
+      (subst (λ (k : ℕ). own i k < until) same (early from until i p inside some arrow.before)) in
+      let read : after < until = subst (λ (tick : ℕ). tick < until) (sym a) (early from until (edge_at plan.graph e).to.0 n to_inside to_some arrow.after) in
+      omega (arith, given, read, short)
 
   -- a range that ends after both releases has the arrow
   pub reading_ends : (from limit e i n m before after : ℕ) → i < length plan.graph.tasks → 0 < (task_at plan.graph i).clock.period
@@ -58,4 +76,5 @@ module _ (plan : PlanView)
                 after = released from limit until (edge_at plan.graph e).to.0 n to_inside to_some arrow.after read;
               },
             ))),
+        shortest from e i n m before after inside some to_inside to_some arrow.reads b a,
       )

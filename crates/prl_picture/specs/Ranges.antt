@@ -1,6 +1,6 @@
 -- The range of ticks that is drawn.
-use Rattle.std.specs.Prelude.{◌≡◌, ◌+◌, ◌*◌, ◌<◌, ◌≤◌, ◌^◌, ℕ, Bool, true, List, length, min}
-use Rattle.std.specs.Bool.{OnFalse}
+use Rattle.std.specs.Prelude.{◌≡◌, ◌+◌, ◌*◌, ◌<◌, ◌≤◌, ◌^◌, ◌⊎◌, ℕ, Bool, true, List, length, min, slice_index}
+use Rattle.std.specs.Bool.{OnFalse, OnTrue}
 use Rattle.prl_plan.specs.declared.walks.Operand.TheVariants as operands
 use Rattle.prl_plan.specs.Jobs.{job_count, task_at}
 use Rattle.prl_plan.specs.Operands.{operand_of}
@@ -31,9 +31,15 @@ pub record IsArrow (plan : PlanView) (from until e i n m : ℕ) : Type 0 where
   pub before : IsReleasedIn plan from until i m
   pub after : IsReleasedIn plan from until (edge_at plan.graph e).to.0 n
 
--- the tick is within a limit, and in each range up to it or a later one job n reads on the edge what a job of task i gives
+-- job n reads on the edge what a job of task i gives in no range that ends before the tick
+abbrev pub IsShortest : PlanView → ℕ → ℕ → ℕ → ℕ → ℕ → Type 0
+IsShortest plan from e i n tick = (until m : ℕ) → until < tick → IsArrow plan from until e i n m → ⊥
+
+-- the tick is within a limit, and in each range up to it or a later one job n reads on the edge what a job of task i gives, and in
+-- no shorter one
 abbrev pub IsEndOfReading : PlanView → ℕ → ℕ → ℕ → ℕ → ℕ → ℕ → Type 0
-IsEndOfReading plan from limit e i n tick = (tick ≤ limit) × ((until : ℕ) → tick ≤ until → (m : ℕ) × IsArrow plan from until e i n m)
+IsEndOfReading plan from limit e i n tick =
+    (tick ≤ limit) × ((until : ℕ) → tick ≤ until → (m : ℕ) × IsArrow plan from until e i n m) × IsShortest plan from e i n tick
 
 -- the edge has an arrow in the range, from a task that has a row to one that has a row
 pub record HasArrow (plan : PlanView) (rows : List ℕ) (from until e : ℕ) : Type 0 where
@@ -45,9 +51,20 @@ pub record HasArrow (plan : PlanView) (rows : List ℕ) (from until e : ℕ) : T
   pub reader : is_in rows (edge_at plan.graph e).to.0 ≡ true
   pub arrow : IsArrow plan from until e i n m
 
--- the tick is within a limit, and each range up to it or a later one has an arrow of the edge
+-- the range up to the tick is the shortest that has this arrow of the edge, the first of those up to a limit
+pub record EndsFirst (plan : PlanView) (from limit e tick : ℕ) : Type 0 where
+  pub i : ℕ
+  pub n : ℕ
+  pub m : ℕ
+  pub within : tick ≤ limit
+  pub arrow : IsArrow plan from tick e i n m
+  pub first : (k p : ℕ) → k < n → IsArrow plan from limit e i k p → ⊥
+  pub shortest : IsShortest plan from e i n tick
+
+-- each range up to the tick or a later one has an arrow of the edge, and the tick is no later than its first one needs
 abbrev pub IsEndOf : PlanView → List ℕ → ℕ → ℕ → ℕ → ℕ → Type 0
-IsEndOf plan rows from limit e tick = (tick ≤ limit) × ((until : ℕ) → tick ≤ until → HasArrow plan rows from until e)
+IsEndOf plan rows from limit e tick =
+    ((until : ℕ) → tick ≤ until → HasArrow plan rows from until e) × EndsFirst plan from limit e tick
 
 -- how far arrows are looked for
 abbrev pub reach : PlanView → ℕ → ℕ
@@ -58,8 +75,24 @@ abbrev pub ShowsArrows : PlanView → List ℕ → ℕ → ℕ → Type 0
 ShowsArrows plan rows from until =
     (e : ℕ) → e < length plan.graph.edges → HasArrow plan rows from (reach plan from) e → HasArrow plan rows from until e
 
+-- a hyperperiod from the first tick on
+abbrev pub hyperperiod_end : PlanView → ℕ → ℕ
+hyperperiod_end plan from = min (from + plan.graph.hyper) MAX_UNTIL
+
+-- the first arrow of some edge, of those as far as arrows are looked for, needs the range
+abbrev pub IsForArrow : PlanView → ℕ → ℕ → Type 0
+IsForArrow plan from until = (e : ℕ) × (e < length plan.graph.edges) × EndsFirst plan from (reach plan from) e until
+
+-- the range is no longer than the task of some row needs, from its first release on, for the jobs of a hyperperiod
+abbrev pub IsForTable : PlanView → List ℕ → ℕ → Type 0
+IsForTable plan rows until = (r : ℕ) × (r < length rows) × (until ≤ (task_at plan.graph (slice_index rows r)).clock.start + plan.graph.hyper)
+
 -- The end of a range where the words do not say it: the range has a hyperperiod at least, and, but for a table, shows each precedence.
+-- It is no longer than that needs: it is a hyperperiod, or ends with the first arrow of some edge; beside a table it is a
+-- hyperperiod, or ends with the first hyperperiod of some task.
 pub record IsDefaultEnd (plan : PlanView) (rows : List ℕ) (table : Bool) (from until : ℕ) : Type 0 where
-  pub long : min (from + plan.graph.hyper) MAX_UNTIL ≤ until
+  pub long : hyperperiod_end plan from ≤ until
   pub small : until ≤ MAX_UNTIL
   pub arrows : OnFalse table (ShowsArrows plan rows from until)
+  pub needed : OnFalse table ((until ≡ hyperperiod_end plan from) ⊎ IsForArrow plan from until)
+  pub tabled : OnTrue table ((until ≡ hyperperiod_end plan from) ⊎ IsForTable plan rows until)

@@ -1,10 +1,11 @@
 //! The range that is drawn where the words do not ask for one: a hyperperiod, and more until each
 //! precedence has an arrow.
 
-ghost use Rattle.std.specs.Prelude.{◌≡◌, ◌<◌, ◌≤◌, ◌^◌, ℕ, IfNone, IfSome, MatchOption, length, min, true};
+ghost use Rattle.std.specs.Prelude.{◌≡◌, ◌<◌, ◌≤◌, ◌^◌, ◌⊎◌, ℕ, IfNone, IfSome, MatchOption, length, min, slice_index, true};
+ghost use Rattle.prl_plan.specs.Jobs.{task_at};
 ghost use Rattle.prl_plan.specs.Plans.{edge_at};
 ghost use Rattle.prl_plan.specs.Precedence.{ComesFrom};
-ghost use Rattle.prl_picture.specs.Ranges.{HasArrow, IsArrow, IsDefaultEnd, IsEndOf, IsEndOfReading, IsReleasedIn};
+ghost use Rattle.prl_picture.specs.Ranges.{EndsFirst, HasArrow, IsArrow, IsDefaultEnd, IsEndOf, IsEndOfReading, IsReleasedIn};
 ghost use Rattle.prl_views.specs.Acts.{is_in};
 ghost use Rattle.prl_views.specs.Views.{AreTasks};
 
@@ -86,6 +87,7 @@ fn end_with(plan: &Plan, rows: &[u32], e: EdgeNo, from: u64, limit: u64, least: 
     requires limit { limit ≤ MAX_UNTIL }
     requires from { from ≤ MAX_UNTIL }
     ensures late { least ≤ result }
+    ensures needed { (result ≡ least) ⊎ EndsFirst plan.now from limit e.0 result }
     ensures arrow { HasArrow plan.now rows.now from limit e.0 → (until : ℕ) → min result limit ≤ until → HasArrow plan.now rows.now from until e.0 }
 {
     match arrow_end(plan, rows, e, from, limit) {
@@ -100,6 +102,7 @@ fn arrows_end(plan: &Plan, rows: &[u32], from: u64, limit: u64, least: u64) -> u
     requires limit { limit ≤ MAX_UNTIL }
     requires from { from ≤ MAX_UNTIL }
     ensures late { least ≤ result }
+    ensures needed { (result ≡ least) ⊎ ((e : ℕ) × (e < length plan.now.graph.edges) × EndsFirst plan.now from limit e result) }
     ensures arrows { (e : ℕ) → e < length plan.now.graph.edges → HasArrow plan.now rows.now from limit e → (until : ℕ) → min result limit ≤ until → HasArrow plan.now rows.now from until e }
 {
     plan_is_one(plan);
@@ -113,7 +116,8 @@ fn arrows_end(plan: &Plan, rows: &[u32], from: u64, limit: u64, least: u64) -> u
 /// The latest first release of the tasks of the rows.
 fn latest_start(plan: &Plan, rows: &[u32]) -> u64
     requires rows { AreTasks plan.now rows.now }
-    ensures { result < 2 ^ 32 }
+    ensures small { result < 2 ^ 32 }
+    ensures of_row { (result ≡ 0) ⊎ ((r : ℕ) × (r < length rows.now) × (result ≡ (task_at plan.now.graph (slice_index rows.now r)).clock.start)) }
 {
     let mut start: u64 = 0;
     for r in 0..rows.len() {

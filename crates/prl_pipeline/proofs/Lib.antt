@@ -6,3 +6,4 @@ mod Contents
 mod Preparing
 mod TableFaults
 mod Summaries
+mod TooMany

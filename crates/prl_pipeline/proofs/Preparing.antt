@@ -1,5 +1,5 @@
 -- What a run needs, from what the texts mean.
-use Rattle.std.proofs.Common.{◌≡◌, ◌∙◌, ℕ, List, Some, Ok, length, refl, sym, ap, subst}
+use Rattle.std.proofs.Common.{◌≡◌, ◌∙◌, ◌++◌, ℕ, List, Some, Ok, length, refl, sym, ap, subst}
 use Rattle.prl_body.specs.declared.bodies.CheckedBody.{CheckedBody}
 use Rattle.prl_flow.specs.Rows.{Rows}
 use Rattle.prl_plan.specs.declared.horizons.Horizon.{Horizon}
@@ -7,13 +7,15 @@ use Rattle.prl_plan.specs.Plans.{PlanView}
 use Rattle.prl_board.specs.Closings.{ClosedView, IsClosed, IsLastState}
 use Rattle.prl_exec.specs.Runs.{HasEnded, HasStopped}
 use Rattle.prl_exec.specs.declared.runs.Stopped.{Stopped}
+use Rattle.prl_core.specs.Cores.{opened, opened_on}
 use Rattle.prl_flow.specs.declared.programs.OutFlow.{OutFlow}
 use Rattle.prl_flow.specs.Actuators.{AreUpTo, actuator_text}
-use Rattle.prl_plan.specs.Horizons.{IsHorizon, constants_of}
+use Rattle.prl_plan.specs.declared.events.Event.{Event}
+use Rattle.prl_plan.specs.Horizons.{IsHorizon, Placement, alone, constants_of}
 use Rattle.prl_plan.specs.Plans.{IsPlan}
 use Rattle.prl_plan.specs.Rules.{IsComplete, IsGated}
 use Rattle.prl_plan.specs.Runs.{ExecState, after_events, opening}
-use Rattle.prl_replay.specs.Replays.{AreFlowsBelow}
+use Rattle.prl_replay.specs.Replays.{AreFlowsBelow, IsTrace, after_all}
 use Rattle.prl_results.specs.Shown.{AreShown, core_in}
 use Rattle.prl_rule.specs.declared.views.Constants.{Constants}
 use Rattle.prl_rule.specs.declared.views.Gate.{Gate}
@@ -26,7 +28,13 @@ use Rattle.prl_stages.specs.declared.ran.Ran.TheVariants as runs
 use Rattle.prl_stages.specs.Ran.{HasOverrun, HasRun, IsCycleText, list_of}
 use Rattle.prl_stages.specs.Given.{Given, text_of}
 use Rattle.prl_stages.specs.Planned.{HasPlan}
-use Rattle.prl_stages.specs.Replayed.{Execution}
+use Rattle.prl_schedules.specs.ReadTexts.{text_of_reads}
+use Rattle.prl_schedules.specs.Schedules.{schedule_of}
+use Rattle.prl_schedules.specs.ScheduleTexts.{task_names}
+use Rattle.prl_track.specs.declared.seen.Seen.{Seen}
+use Rattle.prl_stages.specs.Placed.{HasPlacement, IsCoresText, Lists}
+use Rattle.prl_stages.specs.Replayed.{Execution, IsReplayText}
+use Rattle.prl_stages.specs.Scheduled.{HasHorizon}
 use Rattle.prl_tables.specs.declared.tables.Entry.{Entry}
 use Rattle.prl_tables.specs.Tables.{IsGood}
 use Rattle.prl_tables.specs.TableTexts.{entries_of}
@@ -67,6 +75,9 @@ module _ (g : Given) (r : Ready) (ready : IsReady g r) where
   pub has_plan_there : HasPlan g r.plan
   has_plan_there = subst (λ (x : Ready). HasPlan g x.plan) (sym ready.made) ready.execution.has_horizon.has_plan
 
+  pub has_horizon_there : HasHorizon g r.plan r.horizon
+  has_horizon_there = subst (λ (x : Ready). HasHorizon g x.plan x.horizon) (sym ready.made) ready.execution.has_horizon
+
   until_is : r.horizon.until ≡ g.until
   until_is = subst (λ (x : Ready). x.horizon.until ≡ g.until) (sym ready.made) ready.execution.has_horizon.until
 
@@ -82,7 +93,7 @@ module _ (g : Given) (r : Ready) (ready : IsReady g r) where
     pub shown_meant : outs ≡ meant_flows g ready.execution.meaning
     shown_meant =
         let last = is_closed.last in
-        ready.outs last.0 outs (law.flows (known_of r gate) closed last.0 outs its plan_there horizon_there ready.serve ready.rows is_closed last.1 shown) shown_up_to
+        ready.outs (alone r.plan) last.0 outs (law.flows (known_of r gate) closed last.0 outs its plan_there horizon_there ready.serve ready.rows is_closed last.1 shown) shown_up_to
 
     pub board_has_run : HasRun g ready.execution gate closed
     board_has_run = record {
@@ -103,6 +114,45 @@ module _ (g : Given) (r : Ready) (ready : IsReady g r) where
         written = written ∙ ap (λ (until : ℕ). actuator_text until outs) until_is ∙ ap (actuator_text g.until) shown_meant;
       },
     )
+
+  module _ (events : List Event) (reads : List Seen) (outs : List OutFlow) (up_to : AreUpTo r.horizon.until outs) (text : List ℕ)
+      (written : text ≡ text_of_reads (task_names r.plan) reads ++ actuator_text r.horizon.until outs) where
+    text_is : text ≡ text_of_reads (task_names ready.execution.plan) reads ++ actuator_text g.until outs
+    text_is =
+        subst (λ (x : Ready). text ≡ text_of_reads (task_names x.plan) reads ++ actuator_text x.horizon.until outs) ready.made written
+        ∙ ap (λ (until : ℕ). text_of_reads (task_names ready.execution.plan) reads ++ actuator_text until outs) ready.execution.has_horizon.until
+
+    -- the text of a replay
+    pub replay_text_is : schedule_of (task_names r.plan) (text_of g files.Schedule) ≡ Ok events → IsTrace (opened r.plan r.bodies r.sensors r.horizon) events reads outs
+        → IsReplayText g text
+    replay_text_is listed trace = record {
+      execution = ready.execution;
+      events = events;
+      listed = subst (λ (x : Ready). schedule_of (task_names x.plan) (text_of g files.Schedule) ≡ Ok events) ready.made listed;
+      reads = reads;
+      outs = outs;
+      trace = subst (λ (x : Ready). IsTrace (opened x.plan x.bodies x.sensors x.horizon) events reads outs) ready.made trace;
+      outputs = ready.outs (alone r.plan) (after_all (opened r.plan r.bodies r.sensors r.horizon) events).state outs trace.flows up_to;
+      written = text_is;
+    }
+
+    -- the same on several processors
+    pub cores_text_is : (placement : Placement) → HasPlacement g r.plan placement → Lists g.listed g r.plan placement r.horizon events
+        → IsGated (constants_of r.plan r.horizon) (opening (constants_of r.plan r.horizon)) events
+        → IsTrace (opened_on r.plan placement r.bodies r.sensors r.horizon) events reads outs → IsCoresText g text
+    cores_text_is placement placed listed gated trace = record {
+      execution = ready.execution;
+      placement = placement;
+      has_placement = subst (λ (x : Ready). HasPlacement g x.plan placement) ready.made placed;
+      events = events;
+      listed = subst (λ (x : Ready). Lists g.listed g x.plan placement x.horizon events) ready.made listed;
+      gated = subst (λ (x : Ready). IsGated (constants_of x.plan x.horizon) (opening (constants_of x.plan x.horizon)) events) ready.made gated;
+      reads = reads;
+      outs = outs;
+      trace = subst (λ (x : Ready). IsTrace (opened_on x.plan placement x.bodies x.sensors x.horizon) events reads outs) ready.made trace;
+      outputs = ready.outs placement (after_all (opened_on r.plan placement r.bodies r.sensors r.horizon) events).state outs trace.flows up_to;
+      written = text_is;
+    }
 
   pub overrun_is : (gate : Gate) (stopped : Stopped) → HasStopped (known_of r gate) stopped → HasOverrun g gate r.plan stopped
   overrun_is gate stopped has = record {

@@ -12,7 +12,7 @@ use Rattle.prl_plan.specs.declared.events.Event.{Event}
 use Rattle.prl_plan.specs.declared.events.Event.TheVariants as events
 use Rattle.prl_plan.specs.declared.events.Rule.{Rule}
 use Rattle.prl_plan.specs.declared.events.Rule.TheVariants as rules
-use Rattle.prl_plan.specs.Horizons.{constants_of}
+use Rattle.prl_plan.specs.Horizons.{alone, constants_of}
 use Rattle.prl_plan.specs.Plans.{PlanView}
 use Rattle.prl_plan.specs.Runs.{RunConstants, ExecState, after_event, after_events, opening}
 use Rattle.prl_plan.specs.Rules.{IsLegal, KeepsLegal, FirstBroken, IsComplete, IsFirstUnfinished}
@@ -111,7 +111,7 @@ module _ (g : Given) (r : Ready) (ready : IsReady g r) (law : ShownLaws) (closed
   summary_is told flows replayed outs shown seed size reads sum text count total written =
       let e = ready.execution in
       let meant = shown_meant g r ready law gates.Gated closed its ended is_closed outs shown in
-      let same = ready.outs (after_all (opened r.plan r.bodies r.sensors r.horizon) replayed.events).state flows replayed.trace.flows replayed.up_to in
+      let same = ready.outs (alone r.plan) (after_all (opened r.plan r.bodies r.sensors r.horizon) replayed.events).state flows replayed.trace.flows replayed.up_to in
       let list = replayed.events in
       record {
         execution = e;

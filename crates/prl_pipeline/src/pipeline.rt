@@ -14,7 +14,7 @@ ghost use Rattle.prl_stages.specs.Parts.{AreBodies, IsMain, IsProgram};
 ghost use Rattle.prl_stages.specs.Planned.{HasPlan, HasWords};
 ghost use Rattle.prl_stages.specs.Runs.{HasRows};
 ghost use Rattle.prl_stages.specs.Scheduled.{HasHorizon};
-ghost use Rattle.prl_stages.specs.Stages.{front, graphed, named_bodies, planned, executed, spread, stages_after, Holds, IsText};
+ghost use Rattle.prl_stages.specs.Stages.{front, graphed, named_bodies, planned, stages_after, Holds, IsText};
 ghost use Rattle.prl_pipeline.specs.code.Stops.{given_of, AllHold, StopsAt, StopsIn};
 ghost use Rattle.prl_stages.specs.Ran.{IsMeant};
 ghost use Rattle.prl_arguments.specs.Arguments.{AreInRange};
@@ -24,11 +24,11 @@ ghost use Rattle.prl_pipeline.specs.code.Ready.{HasFiles, RunsNothing};
 use crate::feasible::edf_text;
 use crate::flattened::{clocked, flattened, ordered};
 use crate::generated::generated_text;
-use crate::placed::{make_placement, placed_of};
+use crate::placed::cores_text;
 use crate::planned::{accepted, make_dates, make_graph, make_plan, make_words};
 use crate::programs::{check_types, read_bodies, read_program};
 use crate::reading::{Request, read_request};
-use crate::replayed::replay_of;
+use crate::replayed::replayed_text;
 use crate::running::{Outcome, run_outcome, run_text};
 use crate::runs::{Run, flows_of, read_rows};
 use crate::scheduled::{dispatched, make_horizon};
@@ -266,18 +266,21 @@ fn run_of(alloc: Global, request: &Request, typed: &Typed<'_>) -> Result<Run, St
 }
 
 /// Mode `flows`.
-fn flows_text(alloc: Global, request: &Request) -> Result<Vec<u8>, Stop>
-    requires program { length request.now.texts.program.items ≤ MAX_PROGRAM }
-    requires bodies { length request.now.texts.bodies.items ≤ MAX_BODIES }
-    requires until { request.now.until < 2 ^ 31 }
-    ensures text { IfOk result (λ text. IsText (given_of request.now) Mode.Flows text.items) }
-    ensures holds { IfOk result (λ _. AllHold (given_of request.now) (stages_after Mode.Flows request.now.named)) }
-    ensures stop { IfErr result (StopsIn (given_of request.now) (stages_after Mode.Flows request.now.named)) }
+fn flows_text(alloc: Global, request: Request) -> Result<Vec<u8>, Stop>
+    requires program { length request.texts.program.items ≤ MAX_PROGRAM }
+    requires bodies { length request.texts.bodies.items ≤ MAX_BODIES }
+    requires until { request.until < 2 ^ 31 }
+    ensures text { IfOk result (λ text. IsText (given_of request) Mode.Flows text.items) }
+    ensures holds { IfOk result (λ _. AllHold (given_of request) (stages_after Mode.Flows request.named)) }
+    ensures stop { IfErr result (StopsIn (given_of request) (stages_after Mode.Flows request.named)) }
 {
-    let program = read_program(alloc, request)?;
-    let typed = check_types(alloc, request, &program)?;
-    let run = run_of(alloc, request, &typed)?;
-    flows_of(alloc, request, &typed, &run)
+    let program = read_program(alloc, &request)?;
+    let typed = check_types(alloc, &request, &program)?;
+    let run = run_of(alloc, &request, &typed)?;
+    let until = request.until;
+    // What comes now needs no text any more, and the rows' text may be long.
+    drop(request);
+    flows_of(alloc, until, &typed, &run)
 }
 
 /// Mode `schedule`.
@@ -341,134 +344,59 @@ pub(crate) fn plan_of_replay(
     Ok((bodies, plan, horizon))
 }
 
-/// What mode `replay` has after the clocks of the flows.
-fn executed_text(
-    alloc: Global,
-    request: &Request,
-    typed: &Typed<'_>,
-    front: (Flat, Order, Clocks),
-) -> Result<Vec<u8>, Stop>
-    requires bodies { length request.now.texts.bodies.items ≤ MAX_BODIES }
-    requires main { IsMain (given_of request.now) (program_tree typed.now.program) typed.now.main }
-    requires typed { IsTyped (program_tree typed.now.program) (given_of request.now).node typed.now.main typed.now.types }
-    requires expanded { IsExpanded (program_tree typed.now.program) typed.now.main typed.now.types front.0 }
-    requires order { IsOrder front.0 front.1.flows }
-    requires clocks { HasClocks (given_of request.now) front.0 front.2.of }
-    ensures text { IfOk result (λ text. IsText (given_of request.now) Mode.Replay text.items) }
-    ensures holds { IfOk result (λ _. AllHold (given_of request.now) executed) }
-    ensures stop { IfErr result (StopsIn (given_of request.now) executed) }
-{
-    let made = plan_of_replay(alloc, request, typed, &front.0, &front.2)?;
-    let (bodies, plan, horizon) = made;
-    let run = run_with(alloc, request, front, bodies)?;
-    replay_of(alloc, request, typed, &run, &plan, horizon)
-}
-
-/// Mode `replay`.
-fn replayed_text(alloc: Global, request: &Request) -> Result<Vec<u8>, Stop>
-    requires program { length request.now.texts.program.items ≤ MAX_PROGRAM }
-    requires bodies { length request.now.texts.bodies.items ≤ MAX_BODIES }
-    ensures text { IfOk result (λ text. IsText (given_of request.now) Mode.Replay text.items) }
-    ensures holds { IfOk result (λ _. AllHold (given_of request.now) (stages_after Mode.Replay request.now.named)) }
-    ensures stop { IfErr result (StopsIn (given_of request.now) (stages_after Mode.Replay request.now.named)) }
-{
-    let program = read_program(alloc, request)?;
-    let typed = check_types(alloc, request, &program)?;
-    let front = flat_of(alloc, request, &typed)?;
-    executed_text(alloc, request, &typed, front)
-}
-
-/// What mode `cores` has after the clocks of the flows.
-fn spread_text(
-    alloc: Global,
-    request: &Request,
-    typed: &Typed<'_>,
-    front: (Flat, Order, Clocks),
-) -> Result<Vec<u8>, Stop>
-    requires bodies { length request.now.texts.bodies.items ≤ MAX_BODIES }
-    requires main { IsMain (given_of request.now) (program_tree typed.now.program) typed.now.main }
-    requires typed { IsTyped (program_tree typed.now.program) (given_of request.now).node typed.now.main typed.now.types }
-    requires expanded { IsExpanded (program_tree typed.now.program) typed.now.main typed.now.types front.0 }
-    requires order { IsOrder front.0 front.1.flows }
-    requires clocks { HasClocks (given_of request.now) front.0 front.2.of }
-    ensures text { IfOk result (λ text. IsText (given_of request.now) Mode.Cores text.items) }
-    ensures holds { IfOk result (λ _. AllHold (given_of request.now) spread) }
-    ensures stop { IfErr result (StopsIn (given_of request.now) spread) }
-{
-    let made = plan_of_replay(alloc, request, typed, &front.0, &front.2)?;
-    let (bodies, plan, horizon) = made;
-    let run = run_with(alloc, request, front, bodies)?;
-    let spread = make_placement(alloc, request, &plan)?;
-    placed_of(alloc, request, typed, &run, &plan, &spread, horizon)
-}
-
-/// Mode `cores`.
-fn cores_text(alloc: Global, request: &Request) -> Result<Vec<u8>, Stop>
-    requires program { length request.now.texts.program.items ≤ MAX_PROGRAM }
-    requires bodies { length request.now.texts.bodies.items ≤ MAX_BODIES }
-    ensures text { IfOk result (λ text. IsText (given_of request.now) Mode.Cores text.items) }
-    ensures holds { IfOk result (λ _. AllHold (given_of request.now) (stages_after Mode.Cores request.now.named)) }
-    ensures stop { IfErr result (StopsIn (given_of request.now) (stages_after Mode.Cores request.now.named)) }
-{
-    let program = read_program(alloc, request)?;
-    let typed = check_types(alloc, request, &program)?;
-    let front = flat_of(alloc, request, &typed)?;
-    spread_text(alloc, request, &typed, front)
-}
-
 /// The text of a mode that runs nothing.
-fn mode_text(alloc: Global, mode: Mode, request: &Request) -> Result<Vec<u8>, Stop>
+fn mode_text(alloc: Global, mode: Mode, request: Request) -> Result<Vec<u8>, Stop>
     requires mode { RunsNothing mode }
-    requires program { length request.now.texts.program.items ≤ MAX_PROGRAM }
-    requires bodies { length request.now.texts.bodies.items ≤ MAX_BODIES }
-    requires until { request.now.until < 2 ^ 31 }
-    ensures text { IfOk result (λ text. IsText (given_of request.now) mode text.items) }
-    ensures holds { IfOk result (λ _. AllHold (given_of request.now) (stages_after mode request.now.named)) }
-    ensures stop { IfErr result (StopsIn (given_of request.now) (stages_after mode request.now.named)) }
+    requires program { length request.texts.program.items ≤ MAX_PROGRAM }
+    requires bodies { length request.texts.bodies.items ≤ MAX_BODIES }
+    requires until { request.until < 2 ^ 31 }
+    ensures text { IfOk result (λ text. IsText (given_of request) mode text.items) }
+    ensures holds { IfOk result (λ _. AllHold (given_of request) (stages_after mode request.named)) }
+    ensures stop { IfErr result (StopsIn (given_of request) (stages_after mode request.named)) }
 {
     match mode {
-        Mode::Print => print_text(alloc, request),
-        Mode::Plan => planned_text(alloc, request),
-        Mode::Check => accepted_text(alloc, request),
+        Mode::Print => print_text(alloc, &request),
+        Mode::Plan => planned_text(alloc, &request),
+        Mode::Check => accepted_text(alloc, &request),
         Mode::Flows => flows_text(alloc, request),
-        Mode::Schedule => scheduled_text(alloc, request),
-        Mode::Replay => replayed_text(alloc, request),
-        Mode::Edf => edf_text(alloc, request),
-        Mode::Cores => cores_text(alloc, request),
-        Mode::Table => made_text(alloc, request),
+        Mode::Schedule => scheduled_text(alloc, &request),
+        Mode::Replay => replayed_text(alloc, &request),
+        Mode::Edf => edf_text(alloc, &request),
+        Mode::Cores => cores_text(alloc, &request),
+        Mode::Table => made_text(alloc, &request),
         Mode::Run | Mode::Cycle => unreachable!(),
         Mode::Generate => unreachable!(),
     }
 }
 
 /// The text of a mode that runs nothing, which has run nothing.
-fn text_alone(alloc: Global, mode: Mode, request: &Request) -> Result<(Vec<u8>, Ran), Stop>
+fn text_alone(alloc: Global, mode: Mode, request: Request) -> Result<(Vec<u8>, Ran), Stop>
     requires mode { RunsNothing mode }
-    requires program { length request.now.texts.program.items ≤ MAX_PROGRAM }
-    requires bodies { length request.now.texts.bodies.items ≤ MAX_BODIES }
-    requires until { request.now.until < 2 ^ 31 }
-    ensures text { IfOk result (λ made. IsText (given_of request.now) mode made.0.items) }
+    requires program { length request.texts.program.items ≤ MAX_PROGRAM }
+    requires bodies { length request.texts.bodies.items ≤ MAX_BODIES }
+    requires until { request.until < 2 ^ 31 }
+    ensures text { IfOk result (λ made. IsText (given_of request) mode made.0.items) }
     ensures ran { IfOk result (λ made. made.1 ≡ Ran.Not) }
-    ensures holds { IfOk result (λ _. AllHold (given_of request.now) (stages_after mode request.now.named)) }
-    ensures stop { IfErr result (StopsIn (given_of request.now) (stages_after mode request.now.named)) }
+    ensures holds { IfOk result (λ _. AllHold (given_of request) (stages_after mode request.named)) }
+    ensures stop { IfErr result (StopsIn (given_of request) (stages_after mode request.named)) }
 {
     let text = mode_text(alloc, mode, request)?;
     Ok((text, Ran::Not))
 }
 
 /// The text that a command with files means, with what it has run, by one thread.
-fn requested(alloc: Global, command: &Command, request: &Request) -> Result<(Vec<u8>, Ran), Stop>
+fn requested(alloc: Global, command: &Command, request: Request) -> Result<(Vec<u8>, Ran), Stop>
     requires mode { HasFiles command.now.mode }
-    requires program { length request.now.texts.program.items ≤ MAX_PROGRAM }
-    requires bodies { length request.now.texts.bodies.items ≤ MAX_BODIES }
-    requires until { request.now.until < 2 ^ 31 }
-    ensures text { IfOk result (λ made. IsMeant (given_of request.now) command.now made.0.items made.1) }
-    ensures holds { IfOk result (λ _. AllHold (given_of request.now) (stages_after command.now.mode request.now.named)) }
-    ensures stop { IfErr result (StopsIn (given_of request.now) (stages_after command.now.mode request.now.named)) }
+    requires program { length request.texts.program.items ≤ MAX_PROGRAM }
+    requires bodies { length request.texts.bodies.items ≤ MAX_BODIES }
+    requires until { request.until < 2 ^ 31 }
+    ensures text { IfOk result (λ made. IsMeant (given_of request) command.now made.0.items made.1) }
+    ensures holds { IfOk result (λ _. AllHold (given_of request) (stages_after command.now.mode request.named)) }
+    ensures stop { IfErr result (StopsIn (given_of request) (stages_after command.now.mode request.named)) }
 {
     match command.mode {
-        Mode::Run => run_text(alloc, request, command.clock),
-        Mode::Cycle => cycle_text(alloc, request),
+        Mode::Run => run_text(alloc, &request, command.clock),
+        Mode::Cycle => cycle_text(alloc, &request),
         mode => text_alone(alloc, mode, request),
     }
 }
@@ -487,7 +415,7 @@ fn answer_files<F: Files>(
     ensures kept { (F.seen files.new).folder ≡ (F.seen files.old).folder }
 {
     let request = read_request(alloc, files, command)?;
-    requested(alloc, command, &request)
+    requested(alloc, command, request)
 }
 
 /// The text that the command asks for: its files are read, or its texts are generated, and its stages give the text, with

@@ -26,7 +26,9 @@ use prl_body::Bodies;
 use prl_clock::clocks_are_unique;
 use prl_expand::{behaviours_are_solutions, expansions_have_bodies};
 use prl_flow::{Clocks, Flat, Order, Sensors};
-use prl_graph::{bodies_and_rows_serve_tasks, solutions_give_job_values};
+use prl_graph::{
+    bodies_and_rows_serve_tasks, ports_have_the_clock_of_their_task, solutions_give_job_values,
+};
 use prl_plan::{Horizon, Plan, plan_is_one};
 use prl_replay::actuators_get_the_outputs;
 use prl_sensors::rows_are_typed_and_enough;
@@ -69,6 +71,7 @@ fn program_is_ready(request: &Request, typed: &Typed<'_>, run: &Run, plan: &Plan
     job_values_exist();
     job_values_are_one();
     solutions_give_job_values();
+    ports_have_the_clock_of_their_task();
     actuators_get_the_outputs();
     let _main = typed.main();
     let _flows = run.flat.flows();

@@ -23,19 +23,21 @@ ghost use Rattle.prl_stages.specs.Flattened.{HasClocks};
 ghost use Rattle.prl_stages.specs.Parts.{AreBodies, IsMain};
 ghost use Rattle.prl_stages.specs.Runs.{inputs_of, needs_of, type_of_flow, HasRows};
 ghost use Rattle.prl_stages.specs.Stages.{Holds, IsText};
+ghost use Rattle.prl_stages.specs.Given.{Given};
+ghost use Rattle.prl_pipeline.specs.code.Flows.{HasRowsUntil, IsEvaluated};
 ghost use Rattle.prl_pipeline.specs.code.Stops.{given_of, StopsAt};
 ghost use Rattle.prl_stages.specs.Told.{stop_of, told_sensors};
 
 use crate::reading::Request;
 use prl_arguments::Mode;
-use prl_base::{FlowNo, Name, Seq, Ty};
+use prl_base::{FlowNo, Name, Ty};
 use prl_behaviours::behaviours_are_of_their_states;
 use prl_body::Bodies;
 use prl_clock::clocks_are_unique;
 use prl_evaluation::{FlowTable, evaluate};
 use prl_expand::{behaviours_are_solutions, expansions_have_bodies};
-use prl_flow::{Clocks, Flat, Order, OutFlow, Sensors, dates_before};
-use prl_sensors::{SensorFault, actuator_text, read_sensors, rows_are_typed_and_enough};
+use prl_flow::{Clocks, Flat, Order, Sensors, dates_before};
+use prl_sensors::{OutRows, SensorFault, lent_text, read_sensors, rows_are_typed_and_enough};
 use prl_stages::{Fault, SensorsRefusal, Stage, Stop};
 use prl_types::Typed;
 use std::alloc::{AllocError, Global};
@@ -163,14 +165,14 @@ pub fn read_rows(
 }
 
 /// The values of all flows.
-fn values(alloc: Global, request: &Request, run: &Run) -> Result<FlowTable, Stop>
-    requires until { request.now.until < 2 ^ 31 }
+fn values<'a>(alloc: Global, until: u32, run: &'a Run) -> Result<FlowTable<'a>, Stop>
+    requires until { until < 2 ^ 31 }
     requires order { IsOrder run.now.flat run.now.order.flows }
     requires bodies { HaveBodies run.now.flat run.now.bodies }
-    requires rows { HasRows (given_of request.now) run.now.flat run.now.clocks.of run.now.sensors }
-    ensures solution { IfOk result (AreSolution run.now.flat run.now.clocks.of run.now.bodies run.now.sensors request.now.until) }
-    ensures holds { IfOk result (λ _. Holds (given_of request.now) Stage.Values) }
-    ensures stop { IfErr result (StopsAt (given_of request.now) Stage.Values) }
+    requires rows { (g : Given) × HasRowsUntil g until run.now }
+    ensures solution { IfOk result (AreSolution run.now.flat run.now.clocks.of run.now.bodies run.now.sensors until) }
+    ensures holds { (g : Given) → HasRowsUntil g until run.now → IfOk result (λ _. Holds g Stage.Values) }
+    ensures stop { (g : Given) → HasRowsUntil g until run.now → IfErr result (StopsAt g Stage.Values) }
 {
     rows_are_typed_and_enough();
     let _flows = run.flat.flows();
@@ -181,35 +183,28 @@ fn values(alloc: Global, request: &Request, run: &Run) -> Result<FlowTable, Stop
         &run.order,
         &run.bodies,
         &run.sensors,
-        request.until as u64,
+        until as u64,
     )?)
 }
 
 /// The flow of main's output `k`, with its name and clock.
-fn out_flow(
-    alloc: Global,
-    run: &Run,
-    table: &FlowTable,
-    k: u32,
-    flow: FlowNo,
-) -> Result<OutFlow, AllocError>
+fn out_flow<'a>(run: &'a Run, table: &'a FlowTable<'_>, k: u32, flow: FlowNo) -> OutRows<'a>
     requires output { k < length run.now.flat.outs }
     requires flow { flow.0 < length run.now.flat.flows }
     requires clocks { length run.now.clocks.of ≡ length run.now.flat.flows }
     requires table { length table.now ≡ length run.now.flat.flows }
-    ensures { IfOk result (λ out. out ≡ out_flow run.now.flat.out_devices run.now.clocks.of table.now k flow) }
+    ensures { result ≡ out_flow run.now.flat.out_devices run.now.clocks.of table.now k flow }
 {
     let clock = run.clocks.of.as_slice()[flow.0 as usize];
-    let values = Vec::from_slice(alloc, table.values(flow))?;
-    Ok(OutFlow {
-        name: run.flat.out_name(k).copy(alloc)?,
-        clock,
-        values: Seq::new(values),
-    })
+    OutRows::new(run.flat.out_name(k), clock, table.values(flow))
 }
 
 /// The flows of main's outputs, with their names and clocks, in order.
-fn out_flows(alloc: Global, run: &Run, table: &FlowTable) -> Result<Vec<OutFlow>, AllocError>
+fn out_flows<'a>(
+    alloc: Global,
+    run: &'a Run,
+    table: &'a FlowTable<'_>,
+) -> Result<Vec<OutRows<'a>>, AllocError>
     requires clocks { length run.now.clocks.of ≡ length run.now.flat.flows }
     requires table { length table.now ≡ length run.now.flat.flows }
     requires few { length run.now.flat.outs ≤ 4096 }
@@ -219,30 +214,23 @@ fn out_flows(alloc: Global, run: &Run, table: &FlowTable) -> Result<Vec<OutFlow>
     let mut outs = Vec::with_capacity(alloc, flows.len())?;
     let mut k: u32 = 0;
     for flow in flows {
-        outs.push(out_flow(alloc, run, table, k, *flow)?)?;
+        outs.push(out_flow(run, table, k, *flow))?;
         k += 1;
     }
     Ok(outs)
 }
 
-/// The text of the flows of main's outputs.
-pub fn flows_of(
-    alloc: Global,
-    request: &Request,
-    typed: &Typed<'_>,
-    run: &Run,
-) -> Result<Vec<u8>, Stop>
-    requires until { request.now.until < 2 ^ 31 }
-    requires main { IsMain (given_of request.now) (program_tree typed.now.program) typed.now.main }
-    requires typed { IsTyped (program_tree typed.now.program) (given_of request.now).node typed.now.main typed.now.types }
+/// The text of the flows of main's outputs. It needs none of the texts any more.
+pub fn flows_of(alloc: Global, until: u32, typed: &Typed<'_>, run: &Run) -> Result<Vec<u8>, Stop>
+    requires until { until < 2 ^ 31 }
+    requires given { (g : Given) × IsEvaluated g until (program_tree typed.now.program) typed.now.main typed.now.types run.now }
     requires expanded { IsExpanded (program_tree typed.now.program) typed.now.main typed.now.types run.now.flat }
     requires order { IsOrder run.now.flat run.now.order.flows }
-    requires bodies { AreBodies (given_of request.now) (map body_tree run.now.bodies) }
     requires have { HaveBodiesOf (program_tree typed.now.program).imports (used_imports (program_tree typed.now.program) typed.now.main) run.now.bodies }
-    requires rows { HasRows (given_of request.now) run.now.flat run.now.clocks.of run.now.sensors }
-    ensures text { IfOk result (λ text. IsText (given_of request.now) Mode.Flows text.items) }
-    ensures holds { IfOk result (λ _. Holds (given_of request.now) Stage.Values) }
-    ensures stop { IfErr result (StopsAt (given_of request.now) Stage.Values) }
+    ensures text { (g : Given) → IsEvaluated g until (program_tree typed.now.program) typed.now.main typed.now.types run.now
+        → IfOk result (λ text. IsText g Mode.Flows text.items) }
+    ensures holds { (g : Given) → HasRowsUntil g until run.now → IfOk result (λ _. Holds g Stage.Values) }
+    ensures stop { (g : Given) → HasRowsUntil g until run.now → IfErr result (StopsAt g Stage.Values) }
 {
     behaviours_are_solutions();
     behaviours_are_of_their_states();
@@ -250,7 +238,7 @@ pub fn flows_of(
     clocks_are_unique();
     let _main = typed.main();
     let _flows = run.flat.flows();
-    let table = values(alloc, request, run)?;
+    let table = values(alloc, until, run)?;
     let outs = out_flows(alloc, run, &table)?;
-    Ok(actuator_text(alloc, &outs)?)
+    Ok(lent_text(alloc, &outs)?)
 }

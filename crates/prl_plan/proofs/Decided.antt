@@ -1,45 +1,14 @@
 -- Each event keeps the rules or is the first to break one, and in each state all jobs have ended or one is the first that
 -- has not.
-use Rattle.std.proofs.Common.{◌≡◌, ◌<◌, ◌≤◌, ◌+◌, ◌⊎◌, ℕ, zero, suc, slice_index, refl, inl, inr, arith, subst}
+use Rattle.std.proofs.Common.{◌≡◌, ◌<◌, ◌≤◌, ◌+◌, ◌⊎◌, ℕ, slice_index, refl, inl, inr, arith}
 use Rattle.std.proofs.lemmas.Bool.{cases_eq, cases_lt}
 use Rattle.prl_plan.specs.declared.events.Event.{Event}
 use Rattle.prl_plan.specs.declared.events.Event.TheVariants as events
 use Rattle.prl_plan.specs.declared.events.Rule.{Rule}
 use Rattle.prl_plan.specs.declared.events.Rule.TheVariants as rules
 use Rattle.prl_plan.specs.Runs.{RunConstants, ExecState}
+use Rattle.prl_plan.proofs.Searches.{all_or_least}
 use Rattle.prl_plan.specs.Rules.{first_unfinished, IsUnfinished, HasJob, ActsFirst, KeepsLegal, IsComplete, IsOvertaken, FirstBroken, IsFirstUnfinished}
-
--- of the numbers below a bound all have one of two properties, or there is a least one that has the other
-record IsLeastSuch (P Q : ℕ → Type 0) (bound k : ℕ) : Type 0 where
-  pub below : k < bound
-  pub is : Q k
-  pub earlier : (j : ℕ) → j < k → P j
-
-abbrev AllOrLeast : (ℕ → Type 0) → (ℕ → Type 0) → ℕ → Type 0
-AllOrLeast P Q bound = ((k : ℕ) → k < bound → P k) ⊎ ((k : ℕ) × IsLeastSuch P Q bound k)
-
-next : (n : ℕ) → n + 1 ≡ suc n
-next n = omega arith
-
-module _ (P Q : ℕ → Type 0) (decides : (k : ℕ) → P k ⊎ Q k) where
-  one_more : (n : ℕ) → ((k : ℕ) → k < n → P k) → P n → (k : ℕ) → k < n + 1 → P k
-  one_more n all here k lt = elim (cases_lt k n) [
-    | inl below ↦ all k below
-    | inr past ↦ let same : n ≡ k = omega arith in subst P same here
-  ]
-
-  wider : (n k : ℕ) → IsLeastSuch P Q n k → IsLeastSuch P Q (n + 1) k
-  wider n k h = let below : k < n = h.below in record { below = omega arith; is = h.is; earlier = h.earlier }
-
-  all_or_least : (bound : ℕ) → AllOrLeast P Q bound
-  all_or_least zero = inl (λ k lt. absurd (omega arith))
-  all_or_least (suc n) = subst (AllOrLeast P Q) (next n) (elim (all_or_least n) [
-    | inl all ↦ elim (decides n) [
-      | inl here ↦ inl (one_more n all here)
-      | inr other ↦ inr (n, record { below = omega arith; is = other; earlier = all })
-    ]
-    | inr least ↦ inr (least.0, wider n least.0 least.1)
-  ])
 
 -- of the unfinished horizon jobs all have a property, or one has the other
 module _ (c : RunConstants) (s : ExecState) (P Q : ℕ → ℕ → Type 0) (decides : (j n : ℕ) → P j n ⊎ Q j n) where

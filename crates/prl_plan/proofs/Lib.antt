@@ -22,6 +22,8 @@ pub mod Floors
 pub mod ChainLaws
 pub mod PlanNumbers
 pub mod PartsOfSums
+pub mod Searches
+pub mod OnePlan
 -- For this crate alone.
 mod Halves
 mod Ports
@@ -45,7 +47,6 @@ mod WorkedGraphs
 mod WorkedPlan
 mod TableMade
 mod DateOrder
-mod OnePlan
 mod PlaceLaws
 mod PlanParts
 mod ActionLists

@@ -20,7 +20,7 @@ use Rattle.prl_plan.specs.Plans.{PlanView, IsPlan, AreShortWindows, AreShortGaps
 use Rattle.prl_plan.proofs.RepeatLaws.{one_repeat, one_word, one_used}
 
 -- the words are one list
-words_are_one : (graph : TaskGraph) (a b : List Word) → AreWords graph a → AreWords graph b → a ≡ b
+pub words_are_one : (graph : TaskGraph) (a b : List Word) → AreWords graph a → AreWords graph b → a ≡ b
 words_are_one graph a b of_a of_b =
     ext_get_or (record { prefix = []; repeat = []; step_in = 0; step_out = 0 }) a b (of_a.long ∙ sym of_b.long)
     (λ e below.

@@ -1,9 +1,10 @@
 -- The shortest list that repeats as a list does, found among the divisors of its length.
-use Rattle.std.proofs.Common.{◌≡◌, ◌+◌, ◌-◌, ◌*◌, ◌/◌, ◌%◌, ◌<◌, ◌≤◌, ℕ, zero, suc, List, [], ◌∷◌, length, length-take-le, take, inl, inr, refl, sym, ◌∙◌, ap, arith}
+use Rattle.std.proofs.Common.{◌≡◌, ◌+◌, ◌-◌, ◌*◌, ◌/◌, ◌%◌, ◌<◌, ◌≤◌, ◌⊎◌, ℕ, zero, suc, List, [], ◌∷◌, length, length-take-le, take, inl, inr, refl, sym, ◌∙◌, ap, arith}
 use Rattle.std.specs.Prelude.{slice_get}
 use Rattle.std.proofs.Math.Nat.{add-mul-mod_self_right, mod-eq_of_lt, mod-add-div'}
-use Rattle.std.proofs.lemmas.Bool.{cases_lt}
+use Rattle.std.proofs.lemmas.Bool.{cases_eq, cases_lt}
 use Rattle.std.proofs.lemmas.Nat.{mod_below}
+use Rattle.prl_plan.proofs.Searches.{all_or_least}
 use Rattle.prl_plan.specs.Repeats.{repeated, ComesAgain, ComesWithin, IsShortestRepeat, IsLeastRepeat}
 
 get_take : {A : Type 0} (list : List A) (r i : ℕ) → i < r → slice_get (take r list) i ≡ slice_get list i
@@ -118,6 +119,48 @@ module _ {A : Type 0} (list : List A) where
       (ap (λ (k : ℕ). k % length list) (let e : length list ≡ 0 + 1 * length list = omega arith in e)
       ∙ add-mul-mod_self_right 0 1 (length list) ∙ mod-eq_of_lt (omega (arith, some)))
       (λ i inside. absurd (omega (arith, inside))) none_less
+
+  -- where what stands at two places can be told apart, there is a least repeat
+  module _ (tells : (i j : ℕ) → (slice_get list i ≡ slice_get list j) ⊎ (slice_get list i ≡ slice_get list j → ⊥)) where
+    abbrev Same : ℕ → ℕ → Type 0
+    Same step i = i + step < length list → slice_get list (i + step) ≡ slice_get list i
+
+    same_or_not : (step i : ℕ) → Same step i ⊎ (Same step i → ⊥)
+    same_or_not step i = elim (cases_lt (i + step) (length list)) [
+      | inr past ↦ inl (λ inside. absurd (omega (arith, past, inside)))
+      | inl inside ↦ elim (tells (i + step) i) [ inl same ↦ inl (λ _. same) | inr differ ↦ inr (λ same. differ (same inside)) ]
+    ]
+
+    within_or_not : (step : ℕ) → ComesWithin list step ⊎ (ComesWithin list step → ⊥)
+    within_or_not step = elim (all_or_least (Same step) (λ i. Same step i → ⊥) (same_or_not step) (length list)) [
+      | inl all ↦ inl (λ i inside. all i (omega (arith, inside)) inside)
+      | inr least ↦ inr (λ comes. least.1.is (comes least.0))
+    ]
+
+    abbrev Serves : ℕ → Type 0
+    Serves step = (1 ≤ step) × (length list % step ≡ 0) × ComesWithin list step
+
+    serves_or_not : (step : ℕ) → (Serves step → ⊥) ⊎ Serves step
+    serves_or_not step = elim (cases_lt 0 step) [
+      | inr none ↦ inl (λ serves. absurd (let s = serves.0 in omega (arith, none, s)))
+      | inl some ↦ elim (cases_eq (length list % step) 0) [
+        | inr apart ↦ inl (λ serves. apart serves.1)
+        | inl divides ↦ elim (within_or_not step) [
+          | inl comes ↦ inr (omega (arith, some), divides, comes)
+          | inr not ↦ inl (λ serves. not serves.2)
+        ]
+      ]
+    ]
+
+    pub some_repeat : 1 ≤ length list → (step : ℕ) × IsLeastRepeat list step
+    some_repeat some = elim (all_or_least (λ step. Serves step → ⊥) Serves serves_or_not (length list)) [
+      | inl none ↦ (length list, whole_repeat some (λ d positive less divides comes. none d less (positive, divides, comes)))
+      | inr least ↦ (
+        least.0,
+        (let serves = least.1.is in let below = least.1.below in least_repeat least.0 serves.0 (omega (arith, below)) serves.1 serves.2
+            (λ d positive less divides comes. least.1.earlier d less (positive, divides, comes))),
+      )
+    ]
 
   module _ (step : ℕ) (is : IsLeastRepeat list step) where
     -- the list cut there repeats as the whole does

@@ -144,7 +144,7 @@ held_dates = refl
 held_writes : actions_of held 0 4 ≡ actions.End ∷ []
 held_writes = refl
 
--- `o = i ~> 3/2`: an instance lives from 10 k to 25 + 10 k, so three cells take turns
+-- `o = i ~> 3/2`: instance k is alive for 25 ticks from 10 k on, so three cells take turns
 abbrev shifted : PlanView
 shifted = record {
   graph = record {

@@ -37,7 +37,7 @@ is_actuator (kinds.Sensor k) = false
 is_actuator (kinds.Node k) = false
 is_actuator (kinds.Actuator k) = true
 
--- Sensor tasks come first, then node tasks, then actuator tasks, each kind numbered on from these numbers.
+-- The tasks of sensors, of nodes and of actuators stand in this order, and each kind is numbered on from these numbers.
 abbrev pub AreNumbered : ℕ → ℕ → ℕ → List Kind → Type 0
 AreNumbered sensors nodes actuators [] = Unit {0}
 AreNumbered sensors nodes actuators (kinds.Sensor k ∷ rest) =
@@ -46,7 +46,7 @@ AreNumbered sensors nodes actuators (kinds.Node k ∷ rest) =
     (k ≡ nodes) × (actuators ≡ 0) × AreNumbered sensors (nodes + 1) actuators rest
 AreNumbered sensors nodes actuators (kinds.Actuator k ∷ rest) = (k ≡ actuators) × AreNumbered sensors nodes (actuators + 1) rest
 
--- a sensor's or an actuator's name is a word, and a node's is a word, `@` and the number of its application
+-- sensors and actuators are named by a word, node tasks by a word, `@` and the number of the application
 abbrev pub IsTaskName : Kind → List ℕ → Type 0
 IsTaskName (kinds.Sensor k) name = IsName name
 IsTaskName (kinds.Node k) name = (word : List ℕ) × IsName word × (name ≡ word ++ 64 ∷ decimal k)

@@ -27,7 +27,7 @@ pub record IsTagged (c : RunConstants) (s : ExecState) : Type 0 where
   pub ended : length s.ended ≡ c.tasks
   pub places : length s.places ≡ c.tasks
   pub tags : length s.tags ≡ c.slots
-  -- no task has ended more than its horizon jobs
+  -- at most the jobs of its horizon have ended of each task
   pub counted : (i : ℕ) → i < c.tasks → slice_index s.ended i ≤ c.jobs i
   -- a slot holds no earlier instance than one that was written to it
   pub written : (i n place m slot : ℕ) → WritesAt c i n place m slot → IsDone s i n place → m + 1 ≤ slice_index s.tags slot

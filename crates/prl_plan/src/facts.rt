@@ -37,8 +37,8 @@ pub fn horizon_jobs_are_counted()
 {}
 
 /// Each action of a job is what the definitions of operands, used instances and cells say. Its reads on an edge stand after
-/// those on the edges before it, a read at a port after as many whole operands, and it writes both halves to each edge from
-/// its task that uses its instance. It ends after all of these.
+/// those on the edges before it, a read at a port after as many whole operands. It writes both halves to the edges of its
+/// task on which its instance is used, and ends after all of these.
 pub fn actions_are_as_defined()
     ensures each { (plan : PlanView) (i n place : ℕ) → IsActionOf plan i n (slice_index_or (actions_of plan i n) place actions.End) }
     ensures reads { (plan : PlanView) (e n j : ℕ) (x : Action) → e < length plan.graph.edges →

@@ -42,7 +42,7 @@ pub struct Edge {
     pub to: TaskNo,
     /// The input port of the consumer.
     pub port: u32,
-    /// The operators on the way, from the consumer's end back to the producer.
+    /// The operators between the two, that nearest to the consumer first.
     pub ops: Seq<Op>,
     /// The period of the producer's flow, in ticks.
     pub period: u64,

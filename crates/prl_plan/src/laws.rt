@@ -40,9 +40,8 @@ pub fn legal_list_is_gated()
         IsLegal c (opening c) events → IsGated c (opening c) events }
 {}
 
-/// In each state that a gated list reaches from the opening, each task has ended at most its horizon jobs, each
-/// horizon job has ended at its encoded deadline, and a half holds no later instance than one that a reader which has
-/// not ended has to read.
+/// After a gated list from the opening, at most the horizon jobs of each task have ended, those whose encoded deadline
+/// has come among them, and no half is ahead of an operand that a job which has not ended reads from it.
 pub fn gated_list_keeps_halves()
     ensures counted { (c : RunConstants) → HasPlanFacts c → (events : List Event) → IsGated c (opening c) events →
         (i : ℕ) → i < c.tasks → slice_index (after_events c (opening c) events).ended i ≤ c.jobs i }
@@ -83,7 +82,7 @@ pub fn legal_read_finds_its_tag()
         FindsTag s (next_action c s task.0) }
 {}
 
-/// In a sound state a write finds its half empty, or holding an instance whose horizon readers have all ended.
+/// In a sound state what a write replaces is nothing, or an instance that no horizon reader still has to read.
 pub fn write_finds_half_free()
     ensures { (c : RunConstants) → HasPlanFacts c → (s : ExecState) → IsSound c s → (i : ℕ) (edge : EdgeNo) (m slot : ℕ) → HasJob c s i →
         ActsReleased c s i → next_action c s i ≡ actions.Write edge m (record { 0 = slot }) →
@@ -127,7 +126,7 @@ pub fn free_events_keep_tags()
         slice_index s.tags (high cell) ≤ slice_index s.tags (low cell) }
 {}
 
-/// Where the tags are kept, each is that of the latest instance written to its half, and is 0 where none was.
+/// Where the tags are kept, each belongs to the instance that was written last to its half; one without a write is 0.
 pub fn tag_is_of_the_latest_instance()
     ensures empty { (c : RunConstants) (s : ExecState) → IsTagged c s → (slot : ℕ) → slice_index s.tags slot ≡ 0 →
         (i n place m : ℕ) → WritesAt c i n place m slot → IsDone s i n place → ⊥ }

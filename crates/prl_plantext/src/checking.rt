@@ -58,7 +58,7 @@ fn counted(counts: Counts, kind: Kind) -> Counts
     }
 }
 
-/// Whether sensor tasks come first, then node tasks, then actuator tasks, each kind numbered from 0 on.
+/// Whether the tasks of sensors, of nodes and of actuators stand in this order, and each kind is numbered from 0.
 fn are_numbered(tasks: &[Task]) -> bool
     requires { length tasks.now ≤ MAX_TASKS }
     ensures { result ≡ are_numbered none_counted tasks.now }

@@ -9,5 +9,5 @@ mod notes;
 mod parts;
 mod printing;
 
-pub use laws::programs_are_in_range;
+pub use laws::{printed_programs_are_read_back, programs_are_in_range};
 pub use printing::print;

@@ -11,9 +11,9 @@ use prl_schedules::reads_text;
 use prl_sensors::actuator_text;
 use std::alloc::{AllocError, Global};
 
-/// The text of a replay: a line `read TASK JOB PORT INSTANCE CELL VALUE` for each read of an instance and a line
-/// `const TASK JOB PORT VALUE` for each read of a constant, in the order of the events, and then the rows
-/// `NAME,INSTANCE,DATE,VALUE` of the actuators by date.
+/// The text of a replay: as the events have them, a line `read TASK JOB PORT INSTANCE CELL VALUE` for each operand from
+/// a cell and `const TASK JOB PORT VALUE` for each constant operand; after these the actuators' rows
+/// `NAME,INSTANCE,DATE,VALUE` by date.
 pub fn trace_text(alloc: Global, plan: &Plan, trace: &Trace) -> Result<Vec<u8>, AllocError>
     requires reads { All (ReadsOfTasks (length plan.now.graph.tasks)) trace.now.reads }
     requires outputs { (until : ℕ) × (until < 2 ^ 64) × AreUpTo until trace.now.outputs }

@@ -80,7 +80,7 @@ pub record AgreesValues (c : RunConstants) (v : RunValues) (i : ℕ) (at : Stand
   pub registers : held.registers ≡ v.registers i (steps_at v i at)
   pub outputs : held.outputs ≡ outputs_before (v.outputs i) (steps_at v i at)
 
--- the task stands at a read of a half, of which it has loaded a later tag than the wanted one
+-- the task's next step reads a half that it has found with a later tag than its operand's
 pub record IsOverrun (c : RunConstants) (i : ℕ) (at : Standing) (kept : KeptHalf) : Type 0 where
   pub opened : at.is_open ≡ true
   pub port : ℕ

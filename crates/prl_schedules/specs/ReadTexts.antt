@@ -10,8 +10,8 @@ use Rattle.prl_track.specs.declared.seen.Seen.TheVariants as sights
 abbrev pub field : ℕ → List ℕ
 field number = codes " " ++ decimal number
 
--- The line of a read of an instance, told with its high half, `read TASK JOB PORT INSTANCE CELL VALUE`, or of a constant,
--- `const TASK JOB PORT VALUE`. What else is seen has no line.
+-- `read TASK JOB PORT INSTANCE CELL VALUE` for an instance whose high half was read, and `const TASK JOB PORT VALUE` for a constant.
+-- What else is seen has no line.
 abbrev pub read_line : List (List ℕ) → Seen → List ℕ
 read_line names (sights.Read task job port edge instance cell value) =
     codes "read " ++ slice_index_or names task.0 [] ++ field job ++ field port ++ field instance ++ field cell.0 ++ codes " " ++ value_text value ++ codes "\n"

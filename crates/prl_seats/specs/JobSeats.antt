@@ -100,7 +100,7 @@ pub record Ends (k : Constants) (before after : JobSeatView) : Type 0 where
   pub place : after.place ≡ 0
   pub stage : IsStage (run_of k) before.task.0 (before.job + 1) 0 false after.stage
 
--- it stands at a read of a half, of which it has loaded a later instance than the wanted one
+-- its next step reads a half that it has found with a later instance than its operand
 abbrev pub MayRaise : Constants → JobSeatView → Type 0
 MayRaise k s = IsOverrun (run_of k) s.task.0 (part_at k s.task.0 s.place s.view).stand (part_of s.task.0 s.view).kept
 

@@ -27,7 +27,7 @@ pub enum Release {
     Open { job: u64 },
     /// The next job is released at `at`, which is later than the `now` that was loaded.
     Early { now: u64, at: u64 },
-    /// No horizon job of the task is left.
+    /// All jobs of the task within the horizon have ended.
     Over,
 }
 

@@ -5,3 +5,5 @@ pub mod Firsts
 pub mod Lengths
 pub mod RowsRead
 pub mod TypedRows
+pub mod PlainRows
+pub mod OneActuator

@@ -72,10 +72,13 @@ is_header None = false
 is_header (Some (name, instance, value)) =
     bytes_eq name (codes "name") && bytes_eq instance (codes "instance") && bytes_eq value (codes "value")
 
--- the rows after the record of this number; a header is passed over where it is the first record
+-- a header is passed over where it is the first record
+abbrev pub with_three : Inputs → ℕ → Rows → Option (List ℕ × List ℕ × List ℕ) → Result Rows SensorFault
+with_three inputs number rows row = if (number == 1) && is_header row then Ok rows else with_fields inputs number rows row
+
+-- the rows after the record of this number
 unfoldable pub with_record : Inputs → ℕ → Rows → List (List ℕ) → Result Rows SensorFault
-with_record inputs number rows fields =
-    if (number == 1) && is_header (three fields) then Ok rows else with_fields inputs number rows (three fields)
+with_record inputs number rows fields = with_three inputs number rows (three fields)
 
 -- the rows after these records, the first of which has this number
 abbrev pub with_records : Inputs → ℕ → Rows → List (List (List ℕ)) → Result Rows SensorFault

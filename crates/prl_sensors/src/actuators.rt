@@ -8,16 +8,18 @@ ghost use Rattle.prl_flow.specs.Actuators.{AreUpTo, actuator_text, row_at, row_t
 
 use crate::ends::end_of;
 use crate::lines::push_rest;
+use crate::outputs::{OutRows, lend};
+use crate::singles::text_of_one;
 use prl_base::{Clock, Value};
 use prl_calendar::Calendar;
 use prl_flow::OutFlow;
 use std::alloc::{AllocError, Global};
 
 /// The fewest bytes of a row.
-const ROW_BYTES: usize = 8;
+pub(crate) const ROW_BYTES: usize = 8;
 
 /// Appends the row of an actuator.
-fn push_row(
+pub(crate) fn push_row(
     text: &mut Vec<u8>,
     name: &[u8],
     instance: u64,
@@ -31,13 +33,13 @@ fn push_row(
 }
 
 /// Appends the row of the actuator at one of its dates, if it has a value there.
-fn push_row_at(text: &mut Vec<u8>, out: &OutFlow, date: u64) -> Result<(), AllocError>
+fn push_row_at(text: &mut Vec<u8>, out: &OutRows<'_>, date: u64) -> Result<(), AllocError>
     requires clock { IsClock out.now.clock }
     requires date { IsDate out.now.clock date }
     ensures { OnOk result (text.new.items ≡ text.old.items ++ flat_map row_text (row_at date out.now)) }
 {
     let instance = (date - out.clock.start) / out.clock.period;
-    match out.values.as_slice().get(instance as usize) {
+    match out.values.get(instance as usize) {
         Some(value) => push_row(text, out.name.bytes(), instance, date, *value),
         None => Ok(()),
     }
@@ -46,7 +48,7 @@ fn push_row_at(text: &mut Vec<u8>, out: &OutFlow, date: u64) -> Result<(), Alloc
 /// Appends the rows of the actuators that are due at the date, in their order.
 fn push_rows_at(
     text: &mut Vec<u8>,
-    outs: &[OutFlow],
+    outs: &[OutRows<'_>],
     due: &[u32],
     date: u64,
 ) -> Result<(), AllocError>
@@ -61,7 +63,7 @@ fn push_rows_at(
 }
 
 /// The clocks of the actuators.
-fn clocks_of(alloc: Global, outs: &[OutFlow]) -> Result<Vec<Clock>, AllocError>
+fn clocks_of(alloc: Global, outs: &[OutRows<'_>]) -> Result<Vec<Clock>, AllocError>
     ensures { IfOk result (λ v. v.items ≡ map (λ out. out.clock) outs.now) }
 {
     let mut clocks = Vec::with_capacity(alloc, outs.len())?;
@@ -72,7 +74,7 @@ fn clocks_of(alloc: Global, outs: &[OutFlow]) -> Result<Vec<Clock>, AllocError>
 }
 
 /// How many bytes the rows have at least.
-fn least_bytes(outs: &[OutFlow]) -> usize {
+fn least_bytes(outs: &[OutRows<'_>]) -> usize {
     let mut bytes: usize = 0;
     for out in outs {
         bytes = bytes.saturating_add(out.values.len().saturating_mul(ROW_BYTES));
@@ -80,10 +82,8 @@ fn least_bytes(outs: &[OutFlow]) -> usize {
     bytes
 }
 
-/// The text of the actuators' rows: one line for each value, by date, and at one date in the order of the
-/// actuators. A line is the name, the instance, the date in ticks and the value, with commas between. The
-/// flows are up to one date.
-pub fn actuator_text(alloc: Global, outs: &[OutFlow]) -> Result<Vec<u8>, AllocError>
+/// The text of the actuators' rows, date by date.
+fn text_by_date(alloc: Global, outs: &[OutRows<'_>]) -> Result<Vec<u8>, AllocError>
     requires { (until : ℕ) × (until < 2 ^ 64) × AreUpTo until outs.now }
     ensures { (until : ℕ) → AreUpTo until outs.now → IfOk result (λ text. text.items ≡ actuator_text until outs.now) }
 {
@@ -98,4 +98,26 @@ pub fn actuator_text(alloc: Global, outs: &[OutFlow]) -> Result<Vec<u8>, AllocEr
         push_rows_at(&mut text, outs, due.as_slice(), date)?;
     }
     Ok(text)
+}
+
+/// The text of the actuators' rows: one line for each value, by date, and at one date in the order of the
+/// actuators. A line is the name, the instance, the date in ticks and the value, with commas between. The
+/// flows are up to one date, and are lent.
+pub fn lent_text(alloc: Global, outs: &[OutRows<'_>]) -> Result<Vec<u8>, AllocError>
+    requires { (until : ℕ) × (until < 2 ^ 64) × AreUpTo until outs.now }
+    ensures { (until : ℕ) → AreUpTo until outs.now → IfOk result (λ text. text.items ≡ actuator_text until outs.now) }
+{
+    match outs {
+        [out] => text_of_one(alloc, out),
+        _ => text_by_date(alloc, outs),
+    }
+}
+
+/// The same of flows that own their values.
+pub fn actuator_text(alloc: Global, outs: &[OutFlow]) -> Result<Vec<u8>, AllocError>
+    requires { (until : ℕ) × (until < 2 ^ 64) × AreUpTo until outs.now }
+    ensures { (until : ℕ) → AreUpTo until outs.now → IfOk result (λ text. text.items ≡ actuator_text until outs.now) }
+{
+    let lent = lend(alloc, outs)?;
+    lent_text(alloc, lent.as_slice())
 }

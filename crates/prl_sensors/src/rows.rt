@@ -7,10 +7,11 @@ ghost use Rattle.csv.specs.Records.{fields_of};
 ghost use Rattle.prl_base.specs.Decimals.{integer_of};
 ghost use Rattle.prl_base.specs.Reading.{GivesBut};
 ghost use Rattle.prl_base.specs.declared.values.Value.TheVariants as values;
-ghost use Rattle.prl_sensors.specs.SensorRows.{is_header, no_rows, records_of, sensors_of, short_of, truth_of, unless_short, value_of, with_record, with_records, with_row, with_value};
+ghost use Rattle.prl_sensors.specs.SensorRows.{is_header, no_rows, records_of, sensors_of, short_of, truth_of, unless_short, value_of, with_record, with_records, with_row, with_three, with_value};
 
 use crate::faults::SensorFault;
 use crate::finders::Finder;
+use crate::plain::plain_rows;
 use crate::records::{Fields, read_record, reader_of, three};
 use csv::ByteRecord;
 use itoa::Buffer;
@@ -147,6 +148,32 @@ fn push_row(
     Ok(())
 }
 
+/// The row that these fields of the record of this number are, unless they are the header.
+pub(crate) fn push_fields(
+    finder: &mut Finder<'_>,
+    types: &[Ty],
+    number: u64,
+    rows: &mut Vec<Vec<Value>>,
+    row: Option<Fields<'_>>,
+) -> Result<(), SensorFault>
+    requires types { length types.now ≡ length rows.old.items }
+    requires names { length finder.old ≡ length rows.old.items }
+    ensures exact { GivesBut SensorFault.Memory (λ _. map vec_items rows.new.items) result
+        (with_three (record { names = finder.old; types = types.now }) number (map vec_items rows.old.items) (option_map (λ f. (f.0.now, f.1.now, f.2.now)) row.entry)) }
+    ensures lists { length rows.new.items ≡ length rows.old.items }
+    ensures same { finder.new ≡ finder.old }
+{
+    if number == 1 && is_header(row) {
+        return Ok(());
+    }
+    match row {
+        None => Err(SensorFault::Row(number)),
+        Some((name, instance, value)) => {
+            push_row(types, number, rows, finder.find(name), instance, value)
+        }
+    }
+}
+
 /// The row that the record of this number is, unless it is the header.
 #[tactic(auto, unfolding(crate::specs::SensorRows::with_record))]
 fn push_record(
@@ -163,16 +190,7 @@ fn push_record(
     ensures lists { length rows.new.items ≡ length rows.old.items }
     ensures same { finder.new ≡ finder.old }
 {
-    let row = three(fields);
-    if number == 1 && is_header(row) {
-        return Ok(());
-    }
-    match row {
-        None => Err(SensorFault::Row(number)),
-        Some((name, instance, value)) => {
-            push_row(types, number, rows, finder.find(name), instance, value)
-        }
-    }
+    push_fields(finder, types, number, rows, three(fields))
 }
 
 /// The rows of all records of a text.
@@ -200,6 +218,30 @@ fn read_rows(
         push_record(&mut finder, types, number, &mut rows, &fields)?;
     }
     Err(SensorFault::Memory)
+}
+
+/// The rows of all records of a text. The whole text goes to `csv` where one of them is not in plain form.
+fn rows_of(
+    alloc: Global,
+    text: &[u8],
+    names: &[Name],
+    types: &[Ty],
+    needs: &[u64],
+) -> Result<Vec<Vec<Value>>, SensorFault>
+    requires types { length types.now ≡ length names.now }
+    requires needs { length needs.now ≡ length names.now }
+    ensures lists { IfOk result (λ rows. length rows.items ≡ length names.now) }
+    ensures exact { GivesBut SensorFault.Memory (λ rows. map vec_items rows.items) result
+        (with_records (record { names = names.now; types = types.now }) 1 (no_rows names.now) (records_of text.now)) }
+{
+    let rows = no_rows(alloc, names, needs, text.len())?;
+    match plain_rows(alloc, text, names, types, rows)? {
+        Some(rows) => Ok(rows),
+        None => {
+            let rows = no_rows(alloc, names, needs, text.len())?;
+            read_rows(alloc, text, names, types, rows)
+        }
+    }
 }
 
 /// Whether each input has as many rows as it needs.
@@ -254,8 +296,7 @@ pub fn read_sensors(
     ensures { GivesBut SensorFault.Memory (λ sensors. sensors) result
         (sensors_of (record { names = names.now; types = types.now }) needs.now text.now) }
 {
-    let rows = no_rows(alloc, names, needs, text.len())?;
-    let rows = read_rows(alloc, text, names, types, rows)?;
+    let rows = rows_of(alloc, text, names, types, needs)?;
     check_rows(alloc, names, needs, rows.as_slice())?;
     Ok(kept(alloc, rows)?)
 }

@@ -4,7 +4,6 @@ pub mod Meaning
 pub mod TypedBodies
 pub mod Running
 mod Told
-mod OneCycle
 pub mod SmallClocks
 mod OnePlan
 mod OneRun
@@ -13,4 +12,17 @@ mod OneParts
 mod OneTable
 mod OneEnd
 mod Decided
+mod DecidedRuns
+mod DecidedPlans
+mod DecidedTables
+mod Commands
 mod Replaying
+mod OneDispatch
+mod OneTold
+mod SameBodies
+mod OneMeaning
+mod OneText
+mod AllHold
+mod OneMode
+mod OneMeant
+mod SomeText

@@ -21,7 +21,7 @@ use Rattle.prl_expand.specs.Expansions.{Expansion, IsExpansion}
 use Rattle.prl_expand.specs.Flats.{flat_of}
 use Rattle.prl_flow.specs.Programs.{FlatProgram, IsFlat}
 use Rattle.prl_flow.specs.Rows.{Rows}
-use Rattle.prl_flow.specs.Uses.{IsCycleLabel}
+use Rattle.prl_flow.specs.Uses.{HasNoCycle, IsCycleLabel}
 use Rattle.prl_flow.specs.Counts.{values_before}
 use Rattle.prl_sensors.specs.declared.faults.SensorFault.{SensorFault}
 use Rattle.prl_stages.specs.declared.faults.InputFile.TheVariants as parts
@@ -34,7 +34,6 @@ use Rattle.prl_stages.specs.Parts.{IsProgram, IsMain, AreBodies, RefusesBodies, 
 use Rattle.prl_stages.specs.Flattened.{IsFlattened, HasClocks, clock_fault}
 use Rattle.prl_stages.specs.Runs.{too_many, rows_for, sensors_fault}
 use Rattle.prl_stages.specs.Told.{told_parse, told_types, told_clocks, told_body, told_sensors}
-use Rattle.prl_stages.proofs.OneCycle.{no_label, one_label}
 use Rattle.prl_stages.proofs.OnePlan.{PlanLaws, cells_apart, cells_one, dates_apart, dates_one, graph_apart, graph_one, one_graph, words_apart, words_one}
 use Rattle.prl_stages.proofs.OnePlaced.{cores_apart, cores_one, placed_apart, placed_one}
 use Rattle.prl_stages.proofs.OneTable.{TableLaws, made_apart, made_one, table_apart, table_one}
@@ -50,6 +49,8 @@ pub record Laws : Type 0 where
   pub plans : PlanLaws
   pub runs : RunLaws
   pub tables : TableLaws
+  pub one_label : (p : FlatProgram) (a b : List ℕ) → IsCycleLabel p a → IsCycleLabel p b → a ≡ b
+  pub no_label : (p : FlatProgram) (label : List ℕ) → HasNoCycle p → IsCycleLabel p label → ⊥
 
 module _ (law : Laws) (g : Given) where
   -- the faults of two texts of bodies that are one
@@ -109,7 +110,7 @@ module _ (law : Laws) (g : Given) where
       omega (arith, few, many)
   apart stages.Causality f h k =
       let same = (ones.one_flat law.parts g) k.0 h.0 k.1 h.1.flattened in
-      no_label h.0 h.1.acyclic k.2 (subst (λ (x : FlatProgram). IsCycleLabel x k.2) same k.3)
+      law.no_label h.0 k.2 h.1.acyclic (subst (λ (x : FlatProgram). IsCycleLabel x k.2) same k.3)
   apart stages.Clocks f h k =
       let same = (ones.one_flat law.parts g) k.0 h.0 k.1.flattened h.2.causal.flattened in
       let fault = clock_fault k.2 in
@@ -153,7 +154,7 @@ module _ (law : Laws) (g : Given) where
   one stages.Causality a b h k =
       let same = (ones.one_flat law.parts g) k.0 h.0 k.1 h.1 in
       let label = subst (λ (x : FlatProgram). IsCycleLabel x k.2) same k.3 in
-      h.4 ∙ ap faults.Cycle (one_label h.0 h.2 k.2 h.3 label) ∙ sym k.4
+      h.4 ∙ ap faults.Cycle (law.one_label h.0 h.2 k.2 h.3 label) ∙ sym k.4
   one stages.Clocks a b h k =
       let same = (ones.one_flat law.parts g) k.0 h.0 k.1.flattened h.1.flattened in
       let x = clock_fault h.2 in

@@ -34,7 +34,6 @@ use Rattle.prl_stages.specs.Parts.{IsProgram, IsMain, AreBodies, RefusesBodies, 
 use Rattle.prl_stages.specs.Flattened.{IsFlattened, HasClocks, clock_fault}
 use Rattle.prl_stages.specs.Runs.{too_many, rows_for, sensors_fault}
 use Rattle.prl_stages.specs.Told.{told_parse, told_types, told_clocks, told_body, told_sensors}
-use Rattle.prl_stages.proofs.OneCycle.{no_label, one_label}
 use Rattle.prl_stages.proofs.OnePlan.{PlanLaws, cells_apart, cells_one, dates_apart, dates_one, graph_apart, graph_one, one_graph, words_apart, words_one}
 use Rattle.prl_stages.proofs.OnePlaced.{cores_apart, cores_one, placed_apart, placed_one}
 use Rattle.prl_stages.proofs.OneTable.{TableLaws, made_apart, made_one, table_apart, table_one}

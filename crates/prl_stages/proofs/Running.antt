@@ -1,7 +1,9 @@
 -- A program that is accepted runs on its plan: the machine has what it needs, and what it tells is of the one behaviour.
-use Rattle.std.proofs.Common.{◌≡◌, ◌++◌, ◌<◌, ℕ, List, Option, Some, Ok, length, map, slice_get, refl, sym, ap, ◌∙◌, subst, arith}
+use Rattle.std.proofs.Common.{◌≡◌, ◌++◌, ◌<◌, ◌<ℤ◌, ◌+ℤ◌, ◌*ℤ◌, ℕ, pos, List, [], Option, Some, Ok, length, map, slice_get, refl, sym, ap, ◌∙◌, subst, arith}
+use Rattle.std.specs.Option.{option_map}
+use Rattle.std.proofs.lemmas.Int.{ints}
 use Rattle.std.specs.List.{AllByRecursion}
-use Rattle.std.proofs.lemmas.Option.{get_or_from_slice_get, slice_get_within}
+use Rattle.std.proofs.lemmas.Option.{get_or_from_slice_get, slice_get-map, slice_get_within}
 use Rattle.prl_base.specs.Clocks.{date_at}
 use Rattle.prl_base.specs.Values.{type_of}
 use Rattle.prl_base.specs.declared.numbers.FlowNo.{FlowNo}
@@ -24,7 +26,8 @@ use Rattle.prl_flow.specs.Actuators.{AreUpTo, actuator_text}
 use Rattle.prl_flow.specs.Applications.{HaveBodies}
 use Rattle.prl_flow.specs.Programs.{FlatProgram, HasType, IsFlat}
 use Rattle.prl_flow.specs.Rows.{Rows, rows_of}
-use Rattle.prl_flow.specs.Solutions.{AreClocks, HasRows as HaveRows, Solves, clock_of}
+use Rattle.prl_flow.specs.Flows.{value_at}
+use Rattle.prl_flow.specs.Solutions.{AreClocks, HasRows as HaveRows, Solves, clock_of, values_of}
 use Rattle.prl_flow.specs.States.{IsSolution, State, Timed}
 use Rattle.prl_flow.specs.Uses.{IsOrder}
 use Rattle.prl_flow.proofs.Lists.{element_at}
@@ -42,7 +45,7 @@ use Rattle.prl_plan.specs.declared.horizons.Horizon.{Horizon}
 use Rattle.prl_plan.specs.Graphs.{IsWellFormed}
 use Rattle.prl_plan.specs.Horizons.{Placement, alone, constants_of}
 use Rattle.prl_plan.specs.Rules.{IsGated}
-use Rattle.prl_plan.specs.Jobs.{IsHorizonJob}
+use Rattle.prl_plan.specs.Jobs.{IsHorizonJob, task_at}
 use Rattle.prl_plan.specs.Plans.{IsPlan, PlanView, edge_at, no_edge}
 use Rattle.prl_plan.specs.Runs.{ExecState, opening}
 use Rattle.prl_schedules.specs.ReadTexts.{text_of_reads}
@@ -61,7 +64,8 @@ use Rattle.prl_stages.specs.Given.{Given, text_of}
 use Rattle.prl_stages.specs.Parts.{AreBodies, IsMain}
 use Rattle.prl_stages.specs.Placed.{HasPlacement, IsCoresText, Lists}
 use Rattle.prl_stages.specs.Replayed.{Execution, IsReplayText, ReadFlows}
-use Rattle.prl_stages.specs.Runs.{HasRows, meant_flows}
+use Rattle.prl_behaviours.specs.Behaviours.{Satisfies, state_in}
+use Rattle.prl_stages.specs.Runs.{HasRows, meant_flows, rows_for}
 use Rattle.prl_stages.specs.Scheduled.{HasHorizon}
 use Rattle.prl_stages.proofs.Inputs.{enough_rows, typed_rows}
 use Rattle.prl_stages.proofs.Meaning as meaning
@@ -98,10 +102,27 @@ pub record Laws : Type 0 where
       → AreSmallClocks clocks → Solves p clocks bodies rows until flows → (graph : TaskGraph) → IsGraphOf p clocks graph → (e : ℕ) (port : InputPort) (edge : Edge)
       → slice_get (ports_of p) e ≡ Some port → slice_get graph.edges e ≡ Some edge → (n : ℕ) → date_at (clock_of clocks port.flow) n < until
       → value_on (values_on_dates p clocks flows graph) edge n ≡ value_on_date clocks flows port.flow n
+  pub clock_of_task : (p : FlatProgram) (clocks : List Clock) → IsFlat p → AreClocks p clocks → AreSmallClocks clocks → (graph : TaskGraph) → IsGraphOf p clocks graph
+      → (e : ℕ) (port : InputPort) → slice_get (ports_of p) e ≡ Some port → (task_at graph port.task).clock ≡ clock_of clocks port.flow
   pub got : (p : FlatProgram) (clocks : List Clock) (flows : List (List Value)) (core : CoreView) (outs : List OutFlow) → IsFlat p → AreClocks p clocks
       → AreSmallClocks clocks → HaveBodies p core.bodies → AllByRecursion IsWellTyped core.bodies → Solves p clocks core.bodies core.rows core.horizon.until flows
       → IsGraphOf p clocks core.plan.graph → IsPlan core.plan → AreFlowsBelow core (length core.plan.graph.tasks) outs → AreUpTo core.horizon.until outs
       → outs ≡ out_flows p.out_devices clocks flows 0 p.outs
+
+-- a flow's clock and values among those of all flows
+clock_there : (s : State) (i : ℕ) (flow : Timed) → slice_get s.flows i ≡ Some flow → clock_of (clocks_in s) i ≡ flow.clock
+clock_there s i flow at =
+    get_or_from_slice_get (clocks_in s) i flow.clock (record { period = 1; start = 0 })
+    (slice_get-map (λ (f : Timed). f.clock) s.flows i ∙ ap (option_map (λ (f : Timed). f.clock)) at)
+
+values_there : (s : State) (i : ℕ) (flow : Timed) → slice_get s.flows i ≡ Some flow → values_of (values_in s) i ≡ flow.values
+values_there s i flow at =
+    get_or_from_slice_get (values_in s) i flow.values []
+    (slice_get-map (λ (f : Timed). f.values) s.flows i ∙ ap (option_map (λ (f : Timed). f.values)) at)
+
+-- a job that is released before the end has its date before it
+before_end : (c : Clock) (n until : ℕ) → (pos c.start +ℤ (pos n *ℤ pos c.period)) <ℤ pos until → date_at c n < until
+before_end c n until e = omega (arith, ints, e)
 
 module _ (law : Laws) (g : Given) (p : ProgramTree) (main : ℕ) (types : List Ty) (flat : FlatProgram) (typed : IsTyped p g.node main types)
     (expanded : IsExpanded p main types flat) (range : IsInRange p) (well_formed : IsFlat flat) (clocks : List Clock) (order : List FlowNo)
@@ -149,6 +170,10 @@ module _ (law : Laws) (g : Given) (p : ProgramTree) (main : ℕ) (types : List T
       subst (λ (cs : List Clock). Solves flat cs bodies rows g.until table) one_state.is.1
       (law.solves flat bodies rows g.until one_state.one well_formed one_state.is.0).1
 
+  -- exactly one behaviour satisfies the program
+  pub behaviour : ExactlyOne (Satisfies p main bodies rows g.until)
+  behaviour = meaning.one law.meaning_laws p g.node main types flat typed expanded well_formed clocks has.clocked.only bodies rows g.until table solution
+
   module _ (plan : PlanView) (is_plan : IsPlan plan) (is_graph : IsGraphOf flat clocks plan.graph) where
     -- the machine of the plan in a state
     abbrev core_at : Placement → Horizon → ExecState → CoreView
@@ -163,9 +188,10 @@ module _ (law : Laws) (g : Given) (p : ProgramTree) (main : ℕ) (types : List T
     pub rows_there : (horizon : Horizon) → horizon.until ≡ g.until → HaveTypedRows plan.graph horizon.until rows
     rows_there horizon same = subst (λ (n : ℕ). HaveTypedRows plan.graph n rows) (sym same) rows_up_to
 
-    -- what is read on an edge is what the flow of its port has
-    reads_are : ReadFlows flat clocks plan.graph bodies rows g.until table
-    reads_are e n port found job early =
+    -- the operand of a job is what the flow of its port has at the operand's date
+    on_date : (e n : ℕ) (port : InputPort) → slice_get (ports_of flat) e ≡ Some port → IsHorizonJob plan.graph g.until port.task n → date_at (clock_of clocks port.flow) n < g.until
+        → value_on (job_values plan.graph bodies rows g.until) (edge_at plan.graph e) n ≡ value_on_date clocks table port.flow n
+    on_date e n port found job early =
         let below = slice_get_within (ports_of flat) e port found in
         let count = is_graph.edges.count in
         let inside : e < length plan.graph.edges = omega (arith, below, count) in
@@ -178,6 +204,18 @@ module _ (law : Laws) (g : Given) (p : ProgramTree) (main : ℕ) (types : List T
         (law.given flat clocks bodies rows g.until table well_formed are small fitting all_typed solved plan.graph is_graph is_plan.graph) e n inside reads
         ∙ ap (λ (y : Edge). value_on dates y n) edge_is
         ∙ law.operands flat clocks bodies rows g.until table well_formed are small solved plan.graph is_graph e port x.0 found x.1 n early
+
+    -- and at the job's date, which is that of its task's clock
+    reads_are : ReadFlows flat plan.graph bodies rows g.until one_state.one.flows
+    reads_are e n port flow found at job =
+        let of : clock_of clocks port.flow ≡ flow.clock = subst (λ (cs : List Clock). clock_of cs port.flow ≡ flow.clock) one_state.is.1 (clock_there one_state.one port.flow flow at) in
+        let task : (task_at plan.graph port.task).clock ≡ clock_of clocks port.flow = law.clock_of_task flat clocks well_formed are small plan.graph is_graph e port found in
+        let early : date_at (task_at plan.graph port.task).clock n < g.until = before_end (task_at plan.graph port.task).clock n g.until job.early in
+        let date : date_at (clock_of clocks port.flow) n < g.until = subst (λ (c : Clock). date_at c n < g.until) task early in
+        on_date e n port found job date
+        ∙ ap (λ (c : Clock). value_at c (values_of table port.flow) (date_at c n)) of
+        ∙ ap (λ (values : List Value). value_at flow.clock values (date_at flow.clock n)) (values_there one_state.one port.flow flow at)
+        ∙ ap (λ (c : Clock). value_at flow.clock flow.values (date_at c n)) (sym (task ∙ of))
 
     -- what the actuators get are main's outputs
     outputs_are : (placement : Placement) (horizon : Horizon) → horizon.until ≡ g.until → (s : ExecState) (outs : List OutFlow)
@@ -194,6 +232,7 @@ module _ (law : Laws) (g : Given) (p : ProgramTree) (main : ℕ) (types : List T
         let only = has.clocked.only in
         let one = meaning.one law.meaning_laws p g.node main types flat typed expanded well_formed clocks only bodies rows g.until table solution in
         let state = meaning.state_is law.meaning_laws p g.node main types flat typed expanded well_formed clocks only bodies rows g.until table solution in
+        let clocked : clocks ≡ clocks_in (state_in one.one) = sym (ap clocks_in state ∙ one_state.is.1) in
         record {
           meaning = record {
             program = p;
@@ -201,17 +240,17 @@ module _ (law : Laws) (g : Given) (p : ProgramTree) (main : ℕ) (types : List T
             is_main = is_main;
             bodies = bodies;
             are_bodies = trees;
-            flat = flat;
-            clocks = clocks;
             rows = rows;
-            has_rows = has;
             one = one;
+            flat = flat;
+            flattened = has.clocked.causal.flattened;
+            read = subst (λ (cs : List Clock). rows_for g flat cs ≡ Ok rows) clocked has.read;
           };
           plan = plan;
           horizon = horizon;
           has_horizon = has_horizon;
-          is_graph = is_graph;
-          meant = subst (λ (s : State). ReadFlows flat clocks plan.graph bodies rows g.until (values_in s)) (sym state) reads_are;
+          is_graph = subst (λ (cs : List Clock). IsGraphOf flat cs plan.graph) clocked is_graph;
+          meant = subst (λ (s : State). ReadFlows flat plan.graph bodies rows g.until s.flows) (sym state) reads_are;
         }
 
     module _ (horizon : Horizon) (has_horizon : HasHorizon g plan horizon) (is_main : IsMain g p main) where
@@ -233,17 +272,13 @@ module _ (law : Laws) (g : Given) (p : ProgramTree) (main : ℕ) (types : List T
       rows_are = refl
 
       -- what the actuators have got in a state, where it is up to the date, are main's outputs in what the texts mean
-      placed_outs : (placement : Placement) (s : ExecState) (outs : List OutFlow) → AreFlowsBelow (core_at placement horizon s) (length plan.graph.tasks) outs
+      pub placed_outs : (placement : Placement) (s : ExecState) (outs : List OutFlow) → AreFlowsBelow (core_at placement horizon s) (length plan.graph.tasks) outs
           → AreUpTo horizon.until outs
           → outs ≡ meant_flows g (execution horizon has_horizon is_main).meaning
       unfolding execution solution one_state
       placed_outs placement s outs below up_to =
           outputs_are placement horizon has_horizon.until s outs below up_to
           ∙ meaning.outs law.meaning_laws p g.node main types flat typed expanded well_formed clocks has.clocked.only bodies rows g.until table solution
-
-      pub outs_meant : (s : ExecState) (outs : List OutFlow) → AreFlowsBelow (core_at (alone plan) horizon s) (length plan.graph.tasks) outs → AreUpTo horizon.until outs
-          → outs ≡ meant_flows g (execution horizon has_horizon is_main).meaning
-      outs_meant s outs below up_to = placed_outs (alone plan) s outs below up_to
 
       pub text_is : (events : List Event)
           → schedule_of (task_names plan) (text_of g parts.Schedule) ≡ Ok events → (reads : List Seen) (outs : List OutFlow)
@@ -257,26 +292,6 @@ module _ (law : Laws) (g : Given) (p : ProgramTree) (main : ℕ) (types : List T
         reads = reads;
         outs = outs;
         trace = trace;
-        outputs = outs_meant (after_all (opened plan bodies rows horizon) events).state outs trace.flows up_to;
-        written = written;
-      }
-
-      -- the same on several processors
-      pub cores_text_is : (placement : Placement) → HasPlacement g plan placement → (events : List Event) → Lists g.listed g plan placement horizon events
-          → IsGated (constants_of plan horizon) (opening (constants_of plan horizon)) events → (reads : List Seen) (outs : List OutFlow)
-          → IsTrace (opened_on plan placement bodies rows horizon) events reads outs → AreUpTo horizon.until outs → (text : List ℕ)
-          → text ≡ text_of_reads (task_names plan) reads ++ actuator_text g.until outs → IsCoresText g text
-      unfolding execution
-      cores_text_is placement has_placement events listed gated reads outs trace up_to text written = record {
-        execution = execution horizon has_horizon is_main;
-        placement = placement;
-        has_placement = has_placement;
-        events = events;
-        listed = listed;
-        gated = gated;
-        reads = reads;
-        outs = outs;
-        trace = trace;
-        outputs = placed_outs placement (after_all (opened_on plan placement bodies rows horizon) events).state outs trace.flows up_to;
+        outputs = placed_outs (alone plan) (after_all (opened plan bodies rows horizon) events).state outs trace.flows up_to;
         written = written;
       }

@@ -1,17 +1,15 @@
 -- What it is to replay a schedule of a program: which schedules are refused, and the text of a replay.
-use Rattle.std.specs.Prelude.{◌≡◌, ◌++◌, ◌<◌, ℕ, List, [], Option, Some, None, Ok, slice_get}
+use Rattle.std.specs.Prelude.{◌≡◌, ◌++◌, ℕ, List, [], Option, Some, None, Ok, slice_get}
 use Rattle.prl_base.specs.Clocks.{date_at}
-use Rattle.prl_base.specs.declared.operators.Clock.{Clock}
-use Rattle.prl_base.specs.declared.values.Value.{Value}
 use Rattle.prl_behaviours.specs.Behaviours.{state_in}
 use Rattle.prl_body.specs.declared.bodies.CheckedBody.{CheckedBody}
 use Rattle.prl_track.specs.declared.seen.Seen.{Seen}
 use Rattle.prl_flow.specs.declared.programs.OutFlow.{OutFlow}
 use Rattle.prl_flow.specs.Actuators.{actuator_text}
+use Rattle.prl_flow.specs.Flows.{value_at}
 use Rattle.prl_flow.specs.Programs.{FlatProgram}
 use Rattle.prl_flow.specs.Rows.{Rows}
-use Rattle.prl_flow.specs.Solutions.{clock_of}
-use Rattle.prl_graph.specs.EdgeValues.{value_on_date}
+use Rattle.prl_flow.specs.States.{Timed}
 use Rattle.prl_graph.specs.Ports.{InputPort, ports_of}
 use Rattle.prl_graph.specs.TaskGraphs.{IsGraphOf}
 use Rattle.prl_core.specs.Cores.{CoreView, opened}
@@ -23,7 +21,7 @@ use Rattle.prl_plan.specs.Plans.{PlanView, edge_at}
 use Rattle.prl_schedules.specs.ReadTexts.{text_of_reads}
 use Rattle.prl_schedules.specs.Schedules.{schedule_of}
 use Rattle.prl_schedules.specs.ScheduleTexts.{task_names}
-use Rattle.prl_solutions.specs.Conditions.{values_in}
+use Rattle.prl_solutions.specs.Conditions.{clocks_in}
 use Rattle.prl_replay.specs.declared.faults.ReplayFault.{ReplayFault}
 use Rattle.prl_replay.specs.declared.faults.ReplayFault.TheVariants as causes
 use Rattle.prl_replay.specs.Replays.{IsReplayFault, IsTrace}
@@ -61,21 +59,21 @@ RefusesSchedule g fault =
     × IsReplayFault (bare plan horizon) (text_of g parts.Schedule) cause × (refusal : ScheduleRefusal)
     × (schedule_refusal plan.graph cause ≡ Some refusal) × (fault ≡ faults.Schedule refusal)
 
--- What a job of the horizon reads at each port, by instance, is what the port's flow has at the job's date.
-abbrev pub ReadFlows : FlatProgram → List Clock → TaskGraph → List CheckedBody → Rows → ℕ → List (List Value) → Type 0
-ReadFlows p clocks graph bodies rows until flows =
-    (e n : ℕ) (port : InputPort) → slice_get (ports_of p) e ≡ Some port → IsHorizonJob graph until port.task n → date_at (clock_of clocks port.flow) n < until →
-    value_on (job_values graph bodies rows until) (edge_at graph e) n ≡ value_on_date clocks flows port.flow n
+-- What a job of the horizon reads at each port, by instance, is the value that the port's flow has at the job's date.
+abbrev pub ReadFlows : FlatProgram → TaskGraph → List CheckedBody → Rows → ℕ → List Timed → Type 0
+ReadFlows p graph bodies rows until flows =
+    (e n : ℕ) (port : InputPort) (flow : Timed) → slice_get (ports_of p) e ≡ Some port → slice_get flows port.flow ≡ Some flow → IsHorizonJob graph until port.task n →
+    value_on (job_values graph bodies rows until) (edge_at graph e) n ≡ value_at flow.clock flow.values (date_at (task_at graph port.task).clock n)
 
 -- What the texts mean with the program's plan, over which tasks execute it: what their jobs read, by instance, are the values
--- of its flows.
+-- of its flows in the one behaviour.
 pub record Execution (g : Given) : Type 0 where
   pub meaning : Meaning g
   pub plan : PlanView
   pub horizon : Horizon
   pub has_horizon : HasHorizon g plan horizon
-  pub is_graph : IsGraphOf meaning.flat meaning.clocks plan.graph
-  pub meant : ReadFlows meaning.flat meaning.clocks plan.graph meaning.bodies meaning.rows g.until (values_in (state_in meaning.one.one))
+  pub is_graph : IsGraphOf meaning.flat (clocks_in (state_in meaning.one.one)) plan.graph
+  pub meant : ReadFlows meaning.flat plan.graph meaning.bodies meaning.rows g.until (state_in meaning.one.one).flows
 
 -- The schedule is done on the machine of the program's plan, with the bodies and the rows of the texts, and this tells what
 -- the jobs read and what the actuators got: main's outputs. The text is that of the reads and of the actuators.

@@ -18,8 +18,9 @@ use Rattle.prl_flow.specs.Rows.{Rows}
 use Rattle.prl_flow.specs.Solutions.{clock_of}
 use Rattle.prl_flow.specs.States.{Timed}
 use Rattle.prl_behaviours.specs.Asked.{outputs_of}
-use Rattle.prl_behaviours.specs.Behaviours.{Satisfies}
+use Rattle.prl_behaviours.specs.Behaviours.{Satisfies, state_in}
 use Rattle.prl_behaviours.specs.Texts.{node_at}
+use Rattle.prl_solutions.specs.Conditions.{clocks_in}
 use Rattle.prl_solutions.specs.Uniqueness.{ExactlyOne}
 use Rattle.prl_evaluation.specs.declared.evaluation.TheConstants.{MAX_VALUES}
 use Rattle.prl_sensors.specs.SensorRows.{Inputs, sensors_of}
@@ -32,7 +33,7 @@ use Rattle.prl_stages.specs.declared.faults.Fault.{Fault}
 use Rattle.prl_stages.specs.declared.faults.Fault.TheVariants as faults
 use Rattle.prl_stages.specs.Given.{Given, text_of}
 use Rattle.prl_stages.specs.Parts.{IsMain, AreBodies}
-use Rattle.prl_stages.specs.Flattened.{HasClocks}
+use Rattle.prl_stages.specs.Flattened.{HasClocks, IsFlattened}
 
 abbrev pub type_of_flow : Option Flow → Ty
 type_of_flow None = types.Int
@@ -91,18 +92,18 @@ named_flows (q ∷ qs) [] = []
 named_flows (q ∷ qs) (f ∷ flows) = record { name = q.name; clock = f.clock; values = f.values } ∷ named_flows qs flows
 
 -- What the texts mean: the program with its main node, its bodies and its rows, and the one behaviour that satisfies it for
--- these up to the date.
+-- these up to the date. The rows are those of the text for the clocks that the flows of main's inputs have in it.
 pub record Meaning (g : Given) : Type 0 where
   pub program : ProgramTree
   pub main : ℕ
   pub is_main : IsMain g program main
   pub bodies : List CheckedBody
   pub are_bodies : AreBodies g (map body_tree bodies)
-  pub flat : FlatProgram
-  pub clocks : List Clock
   pub rows : Rows
-  pub has_rows : HasRows g flat clocks rows
   pub one : ExactlyOne (Satisfies program main bodies rows g.until)
+  pub flat : FlatProgram
+  pub flattened : IsFlattened g flat
+  pub read : rows_for g flat (clocks_in (state_in one.one)) ≡ Ok rows
 
 -- the flows of main's outputs in it
 abbrev pub meant_flows : (g : Given) → Meaning g → List OutFlow

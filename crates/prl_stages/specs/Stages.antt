@@ -123,16 +123,9 @@ abbrev pub named_bodies : Bool → List Stage
 named_bodies true = stages.Bodies ∷ []
 named_bodies false = []
 
--- what a run has after the clocks, and what a replay has
+-- what modes that do the plan's jobs have in common after the clocks
 abbrev pub ran : List Stage
 ran = graphed ++ (stages.Bodies ∷ []) ++ planned ++ stages.Horizon ∷ stages.Rows ∷ []
-
-abbrev pub executed : List Stage
-executed = graphed ++ (stages.Bodies ∷ []) ++ planned ++ stages.Horizon ∷ stages.Rows ∷ stages.Schedule ∷ []
-
--- what a run on several processors has after the clocks: the processors are read before the schedule
-abbrev pub spread : List Stage
-spread = graphed ++ (stages.Bodies ∷ []) ++ planned ++ stages.Horizon ∷ stages.Rows ∷ stages.Cores ∷ stages.Placed ∷ []
 
 -- the stages of a mode after the files, where bodies are named or not
 abbrev pub stages_after : Mode → Bool → List Stage
@@ -143,8 +136,8 @@ stages_after modes.Flows bodies = front ++ stages.Bodies ∷ stages.Rows ∷ sta
 stages_after modes.Schedule bodies = front ++ graphed ++ planned ++ (stages.Horizon ∷ [])
 stages_after modes.Edf bodies = front ++ graphed ++ planned ++ (stages.Horizon ∷ [])
 stages_after modes.Table bodies = front ++ graphed ++ planned ++ (stages.Made ∷ [])
-stages_after modes.Replay bodies = front ++ executed
-stages_after modes.Cores bodies = front ++ spread
+stages_after modes.Replay bodies = (front ++ ran) ++ (stages.Schedule ∷ [])
+stages_after modes.Cores bodies = (front ++ ran) ++ stages.Cores ∷ stages.Placed ∷ []
 stages_after modes.Run bodies = front ++ ran
 stages_after modes.Generate bodies = front ++ ran
 stages_after modes.Cycle bodies = (front ++ ran) ++ (stages.Table ∷ [])

@@ -40,7 +40,7 @@ pub enum TypesRefusal {
     Recursive(Name),
     /// No node is there to be main.
     NoMain,
-    /// What stands here has another number of flows than it needs.
+    /// What stands here has too few flows, or too many.
     Arity(u32),
     /// The rule from here contradicts the earlier ones, which give its two sides these types.
     Mismatch { at: u32, wanted: Ty, found: Ty },

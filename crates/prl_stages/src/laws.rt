@@ -1,36 +1,49 @@
 //! Laws of the stages, as functions that do nothing: the contract of each is the law, over the definitions alone.
 
-ghost use Rattle.std.specs.Prelude.{◌≡◌, ℕ, List, Option, map};
-ghost use Rattle.prl_base.specs.declared.numbers.FlowNo.{FlowNo};
+ghost use Rattle.std.specs.Prelude.{◌≡◌, ℕ, Bool, List, Option, None, map};
 ghost use Rattle.prl_base.specs.declared.operators.Clock.{Clock};
+ghost use Rattle.prl_arguments.specs.declared.arguments.Command.{Command as AnyCommand};
+ghost use Rattle.prl_arguments.specs.Arguments.{AreInRange};
 ghost use Rattle.prl_body.specs.declared.bodies.CheckedBody.{CheckedBody};
 ghost use Rattle.prl_body.specs.Checks.{body_tree};
 ghost use Rattle.prl_flow.specs.Programs.{FlatProgram};
 ghost use Rattle.prl_flow.specs.Rows.{Rows};
-ghost use Rattle.prl_flow.specs.Uses.{IsOrder};
 ghost use Rattle.prl_plan.specs.declared.horizons.Horizon.{Horizon};
 ghost use Rattle.prl_plan.specs.Plans.{PlanView};
-ghost use Rattle.prl_stages.specs.Given.{Given as AnyGiven};
-ghost use Rattle.prl_stages.specs.Parts.{AreBodies};
-ghost use Rattle.prl_stages.specs.Replayed.{IsReplayText, IsWholeRun};
+ghost use Rattle.prl_stages.specs.Given.{Folder, Given as AnyGiven, IsGivenTo};
+ghost use Rattle.prl_ast.specs.Trees.{ProgramTree};
+ghost use Rattle.prl_behaviours.specs.Behaviours.{Satisfies};
+ghost use Rattle.prl_solutions.specs.Uniqueness.{ExactlyOne};
+ghost use Rattle.prl_stages.specs.Parts.{AreBodies, IsMain};
 ghost use Rattle.prl_stages.specs.Runs.{HasRows};
 ghost use Rattle.prl_stages.specs.Scheduled.{HasHorizon, IsScheduleText};
-ghost use Rattle.prl_stages.specs.Stages.{Holds, Comes, IsDecided, AreDecided};
+ghost use Rattle.prl_arguments.specs.declared.arguments.Mode.{Mode as AnyMode};
+ghost use Rattle.prl_stages.specs.Ran.{IsMeant};
+ghost use Rattle.prl_stages.specs.Stages.{Holds, Comes, IsDecided, AreDecided, IsText, stages_after, stages_of};
+ghost use Rattle.prl_stages.specs.declared.ran.Ran.{Ran as AnyRan};
 ghost use Rattle.prl_stages.specs.declared.stages.Stage.{Stage as AnyStage};
 ghost use Rattle.prl_stages.specs.declared.faults.Fault.{Fault as AnyFault};
 ghost use Rattle.prl_stages.specs.declared.faults.InputFile.{InputFile as AnyPart};
 
 use crate::stages::Stage;
+use prl_arguments::Mode;
 use prl_behaviours::{behaviours_are_of_their_states, solutions_are_of_their_clocks};
 use prl_body::{each_list_of_bodies_has_an_outcome, used_imports_have_bodies};
 use prl_bodytext::each_text_has_one_outcome as bodies_outcome;
-use prl_clock::{clocks_are_unique, outcomes_are_unique};
-use prl_cores::spreads_are_one;
-use prl_dates::faults_tell_of_narrow_chains;
+use prl_buffers::cells_or_fault_exist;
+use prl_causal::{acyclic_programs_have_orders, causality_ends_one_way};
+use prl_clock::{clocks_are_unique, outcomes_are_unique, programs_have_outcomes};
+use prl_cores::{placements_or_faults_exist, spread_plans_are_dispatched, spreads_are_one};
+use prl_dates::{dates_or_fault_exist, faults_tell_of_narrow_chains};
+use prl_edf::{verdicts_are_one, verdicts_exist};
 use prl_expand::{
     behaviours_are_solutions, expansions_are_unique, expansions_have_bodies, flats_are_well_formed,
+    programs_have_expansions,
 };
-use prl_graph::{bodies_and_rows_serve_tasks, graphs_end_one_way, solutions_give_job_values};
+use prl_graph::{
+    bodies_and_rows_serve_tasks, graphs_are_well_formed, graphs_end_one_way,
+    ports_have_the_clock_of_their_task, solutions_give_job_values,
+};
 use prl_names::right_names_stand_for_something;
 use prl_plan::{
     gated_list_keeps_halves, horizon_jobs_are_counted, horizons_end_one_way, legal_list_is_gated,
@@ -39,12 +52,16 @@ use prl_plan::{
 use prl_print::programs_are_in_range;
 use prl_replay::{actuators_get_the_outputs, replays_end_one_way, whole_lists_are_replayed};
 use prl_schedules::plans_are_dispatched;
-use prl_sensors::rows_are_typed_and_enough;
+use prl_sensors::{each_text_has_rows_or_a_fault, rows_are_typed_and_enough};
 use prl_solutions::programs_have_one_solution;
 use prl_syntax::each_text_has_one_outcome as programs_outcome;
-use prl_table::{checks_end_one_way, makes_end_one_way};
+use prl_table::{
+    checks_end_one_way, made_table_is_good, made_tables_are_one, makes_end_one_way,
+    makes_or_faults_exist, tables_are_decided,
+};
 use prl_types::{each_program_has_an_outcome, outcome_is_unique};
 use prl_values::{job_values_are_one, job_values_exist};
+use prl_words::words_end_one_way;
 
 /// A list of stages comes to one end: all hold, or one refuses, with one fault.
 pub fn stages_end_one_way()
@@ -57,6 +74,7 @@ pub fn stages_end_one_way()
     programs_are_in_range();
     expansions_are_unique();
     flats_are_well_formed();
+    causality_ends_one_way();
     outcomes_are_unique();
     graphs_end_one_way();
     words_begin_with_constants();
@@ -90,6 +108,85 @@ pub fn front_is_decided()
     each_list_of_bodies_has_an_outcome();
 }
 
+/// Each stage of a command is decided, once those before it hold.
+pub fn stages_are_decided()
+    ensures { (c : AnyCommand) → AreInRange c.mode c.until c.workers c.size → (told : Option Folder) (g : AnyGiven) → IsGivenTo told c g →
+        AreDecided g (stages_of c) }
+{
+    programs_outcome();
+    bodies_outcome();
+    each_program_has_an_outcome();
+    right_names_stand_for_something();
+    each_list_of_bodies_has_an_outcome();
+    outcome_is_unique();
+    programs_are_in_range();
+    programs_have_expansions();
+    expansions_are_unique();
+    flats_are_well_formed();
+    causality_ends_one_way();
+    outcomes_are_unique();
+    programs_have_outcomes();
+    graphs_end_one_way();
+    graphs_are_well_formed();
+    words_begin_with_constants();
+    words_end_one_way();
+    faults_tell_of_narrow_chains();
+    room_leaves_no_narrow_chain();
+    dates_or_fault_exist();
+    cells_or_fault_exist();
+    plan_is_unique();
+    horizons_end_one_way();
+    each_text_has_rows_or_a_fault();
+    replays_end_one_way();
+    makes_end_one_way();
+    makes_or_faults_exist();
+    checks_end_one_way();
+    tables_are_decided();
+    spreads_are_one();
+    placements_or_faults_exist();
+    spread_plans_are_dispatched();
+}
+
+/// Each command comes to an end: all its stages hold, or the first that does not refuses with a fault; and to no other one.
+pub fn commands_come_to_an_end()
+    ensures some { (c : AnyCommand) → AreInRange c.mode c.until c.workers c.size → (told : Option Folder) (g : AnyGiven) → IsGivenTo told c g →
+        (end : Option (AnyStage × AnyFault)) × Comes g (stages_of c) end }
+    ensures one { (c : AnyCommand) (g : AnyGiven) (a b : Option (AnyStage × AnyFault)) → Comes g (stages_of c) a → Comes g (stages_of c) b → a ≡ b }
+{
+    stages_are_decided();
+    stages_come_to_an_end();
+    stages_end_one_way();
+}
+
+/// The text that a mode means is one, where its stages hold. So is the text that a command means, whatever has run.
+pub fn texts_are_one()
+    ensures text { (g : AnyGiven) (mode : AnyMode) (named : Bool) → Comes g (stages_after mode named) None → (a b : List ℕ) → IsText g mode a → IsText g mode b →
+        a ≡ b }
+    ensures meant { (g : AnyGiven) (c : AnyCommand) → Comes g (stages_of c) None → (a b : List ℕ) (ran other : AnyRan) → IsMeant g c a ran → IsMeant g c b other →
+        a ≡ b }
+{
+    programs_outcome();
+    bodies_outcome();
+    outcome_is_unique();
+    programs_are_in_range();
+    expansions_are_unique();
+    flats_are_well_formed();
+    outcomes_are_unique();
+    graphs_end_one_way();
+    words_begin_with_constants();
+    faults_tell_of_narrow_chains();
+    room_leaves_no_narrow_chain();
+    plan_is_unique();
+    horizons_end_one_way();
+    replays_end_one_way();
+    spreads_are_one();
+    behaviours_are_solutions();
+    clocks_are_unique();
+    plans_keep_facts();
+    verdicts_are_one();
+    made_tables_are_one();
+}
+
 /// Each program that has a plan has a schedule up to its horizon: the dispatched list, which is legal and complete.
 pub fn plans_have_schedules()
     ensures { (g : AnyGiven) (plan : PlanView) (horizon : Horizon) → HasHorizon g plan horizon → (text : List ℕ) × IsScheduleText g text }
@@ -98,12 +195,15 @@ pub fn plans_have_schedules()
     plans_are_dispatched();
 }
 
-/// Each legal and complete schedule of a program that has a plan, bodies and rows has a replay. The program has an order of
-/// causality, as one without a forbidden cycle has.
-pub fn whole_schedules_are_replayed()
-    ensures { (g : AnyGiven) (bodies : List CheckedBody) → AreBodies g (map body_tree bodies) → (flat : FlatProgram) (clocks : List Clock) (rows : Rows) →
-        HasRows g flat clocks rows → (order : List FlowNo) → IsOrder flat order → (plan : PlanView) (horizon : Horizon) → IsWholeRun g plan horizon →
-        (text : List ℕ) × IsReplayText g text }
+/// Exactly one behaviour satisfies a program that has clocks, with its bodies and with rows for these clocks; and where the stages
+/// of `flows` hold, or of `replay`, there is a text that the mode means.
+pub fn texts_have_behaviours()
+    ensures behaviour { (g : AnyGiven) (bodies : List CheckedBody) → AreBodies g (map body_tree bodies) → (flat : FlatProgram) (clocks : List Clock) (rows : Rows) →
+        HasRows g flat clocks rows → (p : ProgramTree) (main : ℕ) → IsMain g p main → ExactlyOne (Satisfies p main bodies rows g.until) }
+    ensures flows { (g : AnyGiven) (bodies : List CheckedBody) → AreBodies g (map body_tree bodies) → (named : Bool) → Comes g (stages_after Mode.Flows named) None →
+        (text : List ℕ) × IsText g Mode.Flows text }
+    ensures replay { (g : AnyGiven) (bodies : List CheckedBody) → AreBodies g (map body_tree bodies) → (named : Bool) → Comes g (stages_after Mode.Replay named) None →
+        (text : List ℕ) × IsText g Mode.Replay text }
 {
     programs_outcome();
     bodies_outcome();
@@ -115,6 +215,7 @@ pub fn whole_schedules_are_replayed()
     behaviours_are_solutions();
     behaviours_are_of_their_states();
     clocks_are_unique();
+    acyclic_programs_have_orders();
     expansions_have_bodies();
     programs_have_one_solution();
     solutions_are_of_their_clocks();
@@ -123,6 +224,7 @@ pub fn whole_schedules_are_replayed()
     job_values_exist();
     job_values_are_one();
     solutions_give_job_values();
+    ports_have_the_clock_of_their_task();
     actuators_get_the_outputs();
     used_imports_have_bodies();
     plans_keep_facts();
@@ -130,4 +232,20 @@ pub fn whole_schedules_are_replayed()
     gated_list_keeps_halves();
     horizon_jobs_are_counted();
     whole_lists_are_replayed();
+}
+
+/// Where the stages of a mode hold there is a text that it means: of a program, of a plan and its size, of a schedule, of a verdict
+/// and of a table.
+pub fn texts_exist()
+    ensures print { (g : AnyGiven) (named : Bool) → Comes g (stages_after Mode.Print named) None → (text : List ℕ) × IsText g Mode.Print text }
+    ensures plan { (g : AnyGiven) (named : Bool) → Comes g (stages_after Mode.Plan named) None → (text : List ℕ) × IsText g Mode.Plan text }
+    ensures check { (g : AnyGiven) (named : Bool) → Comes g (stages_after Mode.Check named) None → (text : List ℕ) × IsText g Mode.Check text }
+    ensures schedule { (g : AnyGiven) (named : Bool) → Comes g (stages_after Mode.Schedule named) None → (text : List ℕ) × IsText g Mode.Schedule text }
+    ensures edf { (g : AnyGiven) (named : Bool) → Comes g (stages_after Mode.Edf named) None → (text : List ℕ) × IsText g Mode.Edf text }
+    ensures table { (g : AnyGiven) (named : Bool) → Comes g (stages_after Mode.Table named) None → (text : List ℕ) × IsText g Mode.Table text }
+{
+    plans_have_schedules();
+    plans_keep_facts();
+    verdicts_exist();
+    made_table_is_good();
 }

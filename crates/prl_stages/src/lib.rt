@@ -14,8 +14,8 @@ pub use faults::{
     InputFile, MakeRefusal, ScheduleRefusal, SensorsRefusal, TableRefusal, TypesRefusal,
 };
 pub use laws::{
-    front_is_decided, plans_have_schedules, stages_come_to_an_end, stages_end_one_way,
-    whole_schedules_are_replayed,
+    commands_come_to_an_end, front_is_decided, plans_have_schedules, stages_are_decided,
+    stages_come_to_an_end, stages_end_one_way, texts_are_one, texts_exist, texts_have_behaviours,
 };
 pub use ran::Ran;
 pub use sizes::{

@@ -97,9 +97,9 @@ fn limited(program: Program) -> Result<Program, ParseFault>
     Ok(program)
 }
 
-/// The program that the text is. Else, in this order: the fault of its tokens; the first token such that no
-/// program begins with the tokens up to it; the first number out of its range; more than 256 nodes; or want of
-/// memory.
+/// The program that the text is. Else, in this order: the fault of its tokens; the token with which the text
+/// stops to be the front of any program; the first number that its place does not allow; more than 256 nodes;
+/// or want of memory.
 pub fn parse(alloc: Global, text: &[u8]) -> Result<Program, ParseFault>
     requires { length text.now < 2 ^ 32 }
     // What is read is the program of the text.

@@ -6,4 +6,6 @@ mod Cuts
 mod MadeLaw
 mod MadeCode
 mod OneMake
+mod OneTable
 mod Driven
+mod SomeMade

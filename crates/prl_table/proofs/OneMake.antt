@@ -91,7 +91,7 @@ module _ (law : Laws) (plan : PlanView) (is_plan : IsPlan plan) where
       → IsVerdict (constants_of plan a) (wcets_of plan) v → IsVerdict (constants_of plan b) (wcets_of plan) v
   moved a b v h i k j is = subst (λ (x : Horizon). IsVerdict (constants_of plan x) (wcets_of plan) v) (law.one_horizon plan (run_until plan) a b h k i j) is
 
-  one_run : (a b : Horizon) (s t : Timed) → IsLongRun plan a s → IsLongRun plan b t → s ≡ t
+  pub one_run : (a b : Horizon) (s t : Timed) → IsLongRun plan a s → IsLongRun plan b t → s ≡ t
   one_run a b s t h k =
       let there = moved b a (verdicts.Run t) k.is_horizon k.until h.is_horizon h.until (verdict b t k) in
       same_run s t (law.one_verdict (constants_of plan a) (law.facts plan a is_plan h.is_horizon) (wcets_of plan) (verdicts.Run s) (verdicts.Run t) (verdict a s h) there)

@@ -1,6 +1,6 @@
 //! Laws of tables that are cut out of runs.
 
-ghost use Rattle.std.specs.Prelude.{◌≡◌, ◌≢◌, ◌+◌, ◌*◌, ◌<◌, ◌≤◌, ℕ, List, Option, length};
+ghost use Rattle.std.specs.Prelude.{◌≡◌, ◌≢◌, ◌+◌, ◌*◌, ◌<◌, ◌≤◌, ◌⊎◌, ℕ, List, Option, length};
 ghost use Rattle.std.specs.List.Sorted.{IsPermutation};
 ghost use Rattle.prl_plan.specs.declared.horizons.Horizon.{Horizon};
 ghost use Rattle.prl_plan.specs.Horizons.{constants_of};
@@ -16,7 +16,7 @@ ghost use Rattle.prl_table.specs.declared.making.MakeFault.TheVariants as faults
 ghost use Rattle.prl_table.specs.MakeFaults.{IsMade, IsMakeFault};
 ghost use Rattle.prl_table.specs.Made.{Run, cut_from, cut_to, run_until, IsRun, IsTimed, IsEdf, IsSteady, IsSteadyRun, IsCut};
 
-use prl_edf::{feasibility, verdicts_are_one};
+use prl_edf::{feasibility, verdicts_are_one, verdicts_exist};
 use prl_plan::{horizon_jobs_are_counted, horizons_end_one_way, plans_keep_facts};
 
 /// A timed run by earliest deadlines that meets all windows is such a run.
@@ -54,4 +54,25 @@ pub fn makes_end_one_way()
     plans_keep_facts();
     feasibility();
     verdicts_are_one();
+}
+
+/// One table is made of a plan.
+pub fn made_tables_are_one()
+    ensures { (plan : PlanView) → IsPlan plan → (a b : List AnyEntry) → IsMade plan a → IsMade plan b → a ≡ b }
+{
+    horizons_end_one_way();
+    plans_keep_facts();
+    feasibility();
+    verdicts_are_one();
+    made_table_is_good();
+}
+
+/// Of each plan a table is made or there is a fault. Want of memory is none.
+pub fn makes_or_faults_exist()
+    ensures { (plan : PlanView) → IsPlan plan →
+        ((entries : List AnyEntry) × IsMade plan entries) ⊎ ((fault : AnyFault) × (fault ≢ faults.Memory) × IsMakeFault plan fault) }
+{
+    horizons_end_one_way();
+    plans_keep_facts();
+    verdicts_exist();
 }

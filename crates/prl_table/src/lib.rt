@@ -10,11 +10,14 @@ mod making;
 mod ticks;
 
 pub use driving::drive;
-pub use laws::{cut_of_steady_run_is_good, edf_run_is_run, made_table_is_good, makes_end_one_way};
+pub use laws::{
+    cut_of_steady_run_is_good, edf_run_is_run, made_table_is_good, made_tables_are_one,
+    makes_end_one_way, makes_or_faults_exist,
+};
 pub use making::{MakeFault, make};
 pub use prl_tables::{
     Checked, Entry, Table, TableFault, check_table, checks_end_one_way, class_has_end, classes,
     classes_are_early, four_tests_tell_clashes, good_table_is_placing, pieces_are_short,
-    placed_list_is_gated, read_table, table_text, table_texts_are_read_back,
+    placed_list_is_gated, read_table, table_text, table_texts_are_read_back, tables_are_decided,
     unrolled_table_is_gated,
 };

@@ -13,3 +13,4 @@ mod Summed
 pub mod Ordering
 pub mod OrderLaws
 pub mod Swaps
+mod SomeFault

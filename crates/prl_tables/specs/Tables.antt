@@ -72,8 +72,8 @@ KeepsOrder plan entries e c =
     (one.task.0 ≡ i) × (one.job ≡ q) → (other.task.0 ≡ (edge_at plan.graph e).to.0) × (other.job ≡ c) →
     (pos (one.at + one.units) +ℤ (z *ℤ pos plan.graph.hyper)) ≤ℤ pos other.at
 
--- Each entry is a piece of its job, each job has its WCET, no two entries clash, and along each edge the producer's job has its last unit
--- before the consumer's first.
+-- Each entry is a piece of its job, each job gets its WCET, no two entries clash, and along each edge the producer's job is over before
+-- the consumer's begins.
 pub record IsGood (plan : PlanView) (entries : List Entry) : Type 0 where
   pub pieces : ArePieces plan entries
   pub whole : AreWhole plan entries

@@ -95,9 +95,9 @@ impl<'a> Checked<'a> {
     }
 }
 
-/// The table of the plan, where it is good: each entry is a piece of its job, each job has its WCET,
-/// no two entries overlap after any shift by hyperperiods, and along each edge the producer's job
-/// has its last unit before the consumer's first. Else the first of `Piece`, `Units`, `Clash` and
+/// The table of the plan, where it is good: each entry is a piece of its job, each job gets its WCET,
+/// however many hyperperiods apart two entries share no tick, and along each edge the producer's job
+/// is over before the consumer's begins. Else the first of `Piece`, `Units`, `Clash` and
 /// `Order`, in this order, that a table gives cause to.
 pub fn check_table<'a>(
     alloc: Global,

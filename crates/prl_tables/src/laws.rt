@@ -1,6 +1,6 @@
 //! Laws of tables.
 
-ghost use Rattle.std.specs.Prelude.{◌≡◌, ◌≢◌, ◌+◌, ◌*◌, ◌<◌, ◌≤◌, ◌^◌, ◌⊎◌, ℕ, All, List, None, Ok, Option, length};
+ghost use Rattle.std.specs.Prelude.{◌≡◌, ◌≢◌, ◌+◌, ◌*◌, ◌<◌, ◌≤◌, ◌^◌, ◌⊎◌, ℕ, All, Err, List, None, Ok, Option, length};
 ghost use Rattle.prl_plan.specs.declared.horizons.Horizon.{Horizon};
 ghost use Rattle.prl_plan.specs.Facts.{HasPlanFacts};
 ghost use Rattle.prl_plan.specs.Horizons.{IsHorizon, constants_of};
@@ -17,6 +17,7 @@ ghost use Rattle.prl_tables.specs.declared.reading.TableFault.TheVariants as fau
 ghost use Rattle.prl_tables.specs.Checks.{IsFault};
 ghost use Rattle.prl_tables.specs.Unrolled.{Placing, unrolled, IsPlacing};
 
+use crate::orders::order_laws;
 use prl_edf::actions_end_once;
 use prl_plan::{look_ups_fit, plans_keep_facts};
 
@@ -35,7 +36,7 @@ pub fn good_table_is_placing()
     plans_keep_facts();
 }
 
-/// The unrolled list of a good table is a gated and complete list over each horizon.
+/// Over each horizon the events that a good table unrolls to are gated, and they are complete.
 pub fn unrolled_table_is_gated()
     ensures gated { (plan : PlanView) (horizon : Horizon) → IsPlan plan → IsHorizon plan horizon → (entries : List AnyEntry) → IsGood plan entries →
         IsGated (constants_of plan horizon) (opening (constants_of plan horizon)) (unrolled (constants_of plan horizon) (last_unit plan.graph entries)) }
@@ -101,3 +102,15 @@ pub fn checks_end_one_way()
     ensures one { (plan : PlanView) (entries : List AnyEntry) (a b : AnyFault) → a ≢ faults.Memory → b ≢ faults.Memory →
         IsFault plan entries a → IsFault plan entries b → a ≡ b }
 {}
+
+/// Each text tells a table or has a fault, and each table of a plan is good or has a fault. Want of memory is none.
+pub fn tables_are_decided()
+    ensures read { (hyper : ℕ) (text : List ℕ) → ((entries : List AnyEntry) × (entries_of hyper text ≡ Ok entries))
+        ⊎ ((fault : AnyFault) × (fault ≢ faults.Memory) × (entries_of hyper text ≡ Err fault)) }
+    ensures checked { (plan : PlanView) → IsPlan plan → (entries : List AnyEntry) →
+        IsGood plan entries ⊎ ((fault : AnyFault) × (fault ≢ faults.Memory) × IsFault plan entries fault) }
+{
+    order_laws();
+    classes_are_early();
+    pieces_are_short();
+}

@@ -17,7 +17,7 @@ pub use checking::{Checked, check_table};
 pub use laws::{
     checks_end_one_way, class_has_end, classes_are_early, four_tests_tell_clashes,
     good_table_is_placing, pieces_are_short, placed_list_is_gated, table_texts_are_read_back,
-    unrolled_table_is_gated,
+    tables_are_decided, unrolled_table_is_gated,
 };
 pub use pieces::classes;
 pub use printing::table_text;

@@ -21,7 +21,7 @@ use std::alloc::{AllocError, AllocFailed, Global};
 pub enum TableFault {
     /// The line of this number is not of the text.
     Syntax(u64),
-    /// The line of this number names no task or class, has no units, or leaves its window.
+    /// The piece on the line of this number: its task or class is unknown, it has no units, or it is not within its window.
     Piece(u64),
     /// The units of this class are not the WCET of its task.
     Units { task: TaskNo, job: u64 },
@@ -249,8 +249,8 @@ fn after_hyper(text: &[u8], hyper: u64) -> Result<&[u8], TableFault>
     }
 }
 
-/// The table that a text tells for the plan. `Syntax` at the first line that is not of the text,
-/// or lacks its end or is not there.
+/// The table that a text tells for the plan. `Syntax` at the first line of another form than its
+/// place wants, at one without a line feed, and after the last where lines are missing.
 pub fn read_table(alloc: Global, text: &[u8], plan: &Plan) -> Result<Table, TableFault>
     ensures { GivesBut faults.Memory (λ table. table.entries) result (entries_of plan.now.graph.hyper text.now) }
 {

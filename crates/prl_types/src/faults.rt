@@ -15,10 +15,9 @@ pub enum TypeFault {
     Undefined(Name),
     /// A node that applies itself through a cycle of applications; number 16.
     Recursive(Name),
-    /// There is no node, or none of the name that is asked for; number 14.
+    /// The program has no node at all, or no node has the name that was asked for; number 14.
     NoMain,
-    /// Where an operator, an application's name or an equation stands that has another number of flows than it needs;
-    /// number 12.
+    /// Where an operator, an application's name or an equation stands whose flows are too few or too many; number 12.
     Arity(u32),
     /// Where the first type rule comes from that contradicts the earlier ones, and the types that these give its two
     /// sides; number 13.

@@ -1,4 +1,4 @@
--- When the body of a task runs: with the last action of its job's reads, or with the first action where there are none.
+-- When the body of a task runs: once its job has read all operands, or at once where it has none.
 use Rattle.std.specs.Prelude.{◌+◌, ◌==◌, if◌then◌else◌, ℕ, length, max, nat_le, slice_index}
 use Rattle.prl_plan.specs.Plans.{PlanView, reads_of}
 use Rattle.prl_plan.specs.Runs.{ExecState}

@@ -9,4 +9,6 @@ mod Held
 mod Lead
 mod Constants
 mod Listed
+mod SomeWord
+mod WordsEnd
 mod Examples

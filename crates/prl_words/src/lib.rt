@@ -5,10 +5,12 @@
 mod composing;
 mod graphs;
 mod holding;
+mod laws;
 mod prefixes;
 mod shortening;
 mod steps;
 
 pub use composing::word_of;
 pub use graphs::{WordFault, words};
+pub use laws::words_end_one_way;
 pub use prl_plan::Word;

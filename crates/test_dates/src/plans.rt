@@ -37,7 +37,7 @@ fn dates_of_a_fast_and_a_slow_task(rt: HostRuntime) -> Result<(), Fail> {
     Ok(())
 }
 
-// The first instance from S to F is written from 3 on and read up to 59, so two cells are needed.
+// S may write its first instance to F as early as 3, and F's last reader of it may end as late as 59: two cells.
 #[test]
 fn cells_of_a_fast_and_a_slow_task(rt: HostRuntime) -> Result<(), Fail> {
     let plan = plan_of(rt.alloc(), SAMPLING_PLAN.as_bytes())?;

@@ -10,9 +10,8 @@ use Rattle.prl_flow.specs.declared.programs.Flow.{Flow}
 use Rattle.prl_flow.specs.Programs.{FlatProgram}
 use Rattle.prl_plan.specs.declared.graphs.Edge.{Edge}
 use Rattle.prl_plan.specs.declared.graphs.Producer.{Producer}
-use Rattle.prl_graph.specs.Edges.{IsProducer, LeadsBack}
+use Rattle.prl_graph.specs.Edges.{AreEdgesOf, IsProducer, LeadsBack}
 use Rattle.prl_graph.specs.Ports.{InputPort}
-use Rattle.prl_graph.specs.code.Made.{AreMadeEdges}
 
 -- so many steps back, each over a copy or an operator, lead from the one flow to the other
 pub data StepsBack (p : FlatProgram) : ℕ → ℕ → List Op → ℕ → Type 0 where
@@ -43,7 +42,7 @@ AreWithin args n = (j : ℕ) (arg : Arg) → slice_get args j ≡ Some arg → a
 
 -- the edges into these ports come to what edges there are
 abbrev pub AddsEdges : FlatProgram → List Clock → List InputPort → List Edge → List Edge → Type 0
-AddsEdges p clocks ports old new = (before : List InputPort) → AreMadeEdges p clocks before old → AreMadeEdges p clocks (before ++ ports) new
+AddsEdges p clocks ports old new = (before : List InputPort) → AreEdgesOf p clocks before old → AreEdgesOf p clocks (before ++ ports) new
 
 -- these are the arguments of application `k`
 pub record AreArgumentsOf (p : FlatProgram) (k : ℕ) (args : List Arg) : Type 0 where

@@ -2,9 +2,10 @@
 use Rattle.std.specs.Prelude.{◌≡◌, ℕ, List, length}
 use Rattle.prl_arguments.specs.declared.arguments.Mode.{Mode}
 use Rattle.prl_arguments.specs.declared.arguments.Mode.TheVariants as modes
-use Rattle.prl_core.specs.Cores.{opened}
+use Rattle.prl_core.specs.Cores.{opened_on}
 use Rattle.prl_flow.specs.declared.programs.OutFlow.{OutFlow}
 use Rattle.prl_flow.specs.Actuators.{AreUpTo}
+use Rattle.prl_plan.specs.Horizons.{Placement}
 use Rattle.prl_plan.specs.Runs.{ExecState}
 use Rattle.prl_replay.specs.Replays.{AreFlowsBelow}
 use Rattle.prl_values.specs.Fitting.{HaveTaskBodies, HaveTypedRows}
@@ -22,14 +23,15 @@ use Rattle.prl_pipeline.specs.declared.running.Outcome.TheVariants as outcomes
 abbrev pub ready_of : (g : Given) → Execution g → Ready
 ready_of g e = record { plan = e.plan; bodies = e.meaning.bodies; sensors = e.meaning.rows; horizon = e.horizon }
 
--- It is what the texts mean, with bodies and rows that serve the tasks; and what the actuators have got in a state, where it is
--- up to the date, are main's outputs.
+-- It is what the texts mean, with bodies and rows that serve the tasks; and what the actuators have got in a state, wherever the tasks
+-- run, are main's outputs where it is up to the date.
 pub record IsReady (g : Given) (r : Ready) : Type 0 where
   pub execution : Execution g
   pub made : r ≡ ready_of g execution
   pub serve : HaveTaskBodies r.plan.graph r.bodies
   pub rows : HaveTypedRows r.plan.graph r.horizon.until r.sensors
-  pub outs : (s : ExecState) (flows : List OutFlow) → AreFlowsBelow (record (opened r.plan r.bodies r.sensors r.horizon) { state = s }) (length r.plan.graph.tasks) flows
+  pub outs : (placement : Placement) (s : ExecState) (flows : List OutFlow)
+      → AreFlowsBelow (record (opened_on r.plan placement r.bodies r.sensors r.horizon) { state = s }) (length r.plan.graph.tasks) flows
       → AreUpTo r.horizon.until flows → flows ≡ meant_flows g execution.meaning
 
 -- the text is that of a run of what is ready

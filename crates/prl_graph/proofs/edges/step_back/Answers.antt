@@ -18,7 +18,7 @@ returns-in-Op c =
     let p = c.args.flat.now in
     let flow = c.index-flows-at.result in
     let found = item_of c.flows-flows.result.now p.flows c.args.at.0 flow c.flows-flows.ensures.flows c.requires c.index-flows-at.is in
-    (record { flow = flow; found = found; is = c.in-Op.is }, operand_within p c.flows-flows.ensures.well_formed c.args.at.0 flow c.in-Op.op c.in-Op.of found c.in-Op.is, c.operator_fits.ensures)
+    (record { flow = flow; found = found; is = c.in-Op.is }, operand_within p c.flows-flows.ensures.well_formed c.args.at.0 flow c.in-Op.op c.in-Op.of found c.in-Op.is)
 
 pub returns-in-Sensor : goal.returns-in-Sensor
 returns-in-Sensor c =

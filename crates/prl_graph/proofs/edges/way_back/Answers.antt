@@ -1,7 +1,7 @@
 use Rattle.std.proofs.Common.{arith}
 use Rattle.prl_graph.specs.code.Steps.{none}
 use Rattle.prl_graph.proofs.Lists.{same_length}
-use Rattle.prl_graph.proofs.Walks.{few_steps, no_operators, one_copy, one_operator, step_operators, way_of}
+use Rattle.prl_graph.proofs.Walks.{few_steps, one_copy, one_operator, way_of}
 use Rattle.prl_graph.proofs.edges.way_back.Goals as goal
 use Rattle.prl_graph.proofs.edges.way_back.Goals.{in-Copy, in-Operator+in_ok-push-in-Operator}
 
@@ -9,17 +9,13 @@ pub loop-init : goal.loop-init
 loop-init c = record {
   within = c.requires.within;
   steps = rw c.new-ops.ensures.items (none c.args.from.0);
-  fit = rw c.new-ops.ensures.items no_operators;
 }
 
 pub returns-in-End : goal.returns-in-End
 returns-in-End c =
     let p = c.args.flat.now in
     let way = way_of p c.loop.counter c.args.from.0 c.loop.at.0 c.loop.ops.items c.loop.invariant.steps in
-    record {
-      ends = record { leads = rw c.new.ensures way; produced = c.in-End.ensures };
-      fit = rw c.new.ensures c.loop.invariant.fit;
-    }
+    record { leads = rw c.new.ensures way; produced = c.in-End.ensures }
 
 pub loop-preserved : goal.loop-preserved
 loop-preserved c = elim c.match-step_back.branch [
@@ -28,7 +24,6 @@ loop-preserved c = elim c.match-step_back.branch [
       rw (w.ops-is, w.at-is) (record {
         within = w.in-Copy.ensures.1;
         steps = one_copy c.args.flat.now c.loop.counter c.args.from.0 c.loop.at.0 c.loop.ops.items is.flow w.in-Copy.of c.loop.invariant.steps is.found is.is;
-        fit = c.loop.invariant.fit;
       })
   | in-Operator+in_ok-push-in-Operator w ↦
       let is = w.in-Operator.ensures.0 in
@@ -36,7 +31,6 @@ loop-preserved c = elim c.match-step_back.branch [
       rw (w.ops-is, w.at-is, items) (record {
         within = w.in-Operator.ensures.1;
         steps = one_operator c.args.flat.now c.loop.counter c.args.from.0 c.loop.at.0 c.loop.ops.items is.flow w.in-Operator.op w.in-Operator.of c.loop.invariant.steps is.found is.is;
-        fit = step_operators c.loop.ops.items w.in-Operator.op c.loop.invariant.fit w.in-Operator.ensures.2;
       })
 ]
 

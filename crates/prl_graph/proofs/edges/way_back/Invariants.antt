@@ -1,5 +1,4 @@
 use Rattle.std.proofs.Common.{◌<◌, length}
-use Rattle.prl_graph.specs.code.Made.{FitOperators}
 use Rattle.prl_graph.specs.code.Steps.{StepsBack}
 use Rattle.prl_graph.proofs.edges.way_back.Given as goal
 
@@ -7,5 +6,4 @@ abbrev pub invariant-loop : goal.invariant-loop
 invariant-loop l = record {
   within : l.at.0 < length l.flat.flows;
   steps : StepsBack l.flat l.counter l.fn.from.0 l.ops.items l.at.0;
-  fit : FitOperators l.ops.items;
 }

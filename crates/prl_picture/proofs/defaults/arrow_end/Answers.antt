@@ -1,4 +1,4 @@
-use Rattle.std.proofs.Common.{◌≡◌, ◌<◌, ◌≤◌, ◌∙◌, ℕ, inl, inr, true, ap, subst, sym, arith, rules}
+use Rattle.std.proofs.Common.{◌≡◌, ◌≤◌, ◌∙◌, ℕ, inl, inr, true, ap, subst, arith, rules}
 use Rattle.std.proofs.lemmas.Bool.{cases_lt}
 use Rattle.prl_plan.specs.declared.graphs.Edge.{Edge}
 use Rattle.prl_plan.specs.Jobs.{job_count, task_at}
@@ -11,8 +11,12 @@ use Rattle.prl_picture.proofs.defaults.arrow_end.Goals as goal
 
 pub returns-in-Some : goal.returns-in-Some
 returns-in-Some c =
-    let ends = c.in-Some.ensures in (
-      ends.0,
+    let plan = c.args.plan.now in
+    let edge : Edge = edge_at plan.graph c.args.e.0 in
+    let ends = c.in-Some.ensures in
+    let now = ends.1 c.in-Some.tick (search rules) in
+    let first : c.job_count-first.result ≡ job_count (task_at plan.graph edge.to.0) c.args.from =
+    c.job_count-first.ensures ∙ ap (λ (e : Edge). job_count (task_at plan.graph e.to.0) c.args.from) c.edge_of-edge.ensures.edge in (
       (λ until late.
           (let found = ends.1 until late in
           record {
@@ -24,6 +28,15 @@ returns-in-Some c =
             reader = subst (λ (edge : Edge). is_in c.args.rows.now edge.to.0 ≡ true) c.edge_of-edge.ensures.edge c.in_ok-task.ensures.some.3;
             arrow = found.1;
           })),
+      record {
+        i = c.in_ok-task.task.0;
+        n = c.loop-n.n;
+        m = now.0;
+        within = ends.0;
+        arrow = now.1;
+        first = λ k p less arrow. (let begins = arrow.after.first in c.loop-n.invariant k p (omega (arith, begins, first)) less arrow);
+        shortest = ends.2;
+      },
     )
 
 pub loop-n-preserved : goal.loop-n-preserved

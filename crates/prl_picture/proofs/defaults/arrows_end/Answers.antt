@@ -1,11 +1,19 @@
-use Rattle.std.proofs.Common.{◌≡◌, ◌≤◌, ℕ, inl, inr, min, subst, sym, arith}
+use Rattle.std.proofs.Common.{◌≡◌, ◌<◌, ◌⊎◌, ℕ, inl, inr, length, subst, sym, arith, rules}
 use Rattle.std.proofs.lemmas.Bool.{cases_lt}
-use Rattle.prl_picture.specs.Ranges.{HasArrow}
+use Rattle.prl_picture.specs.Ranges.{EndsFirst, HasArrow}
 use Rattle.prl_picture.proofs.defaults.arrows_end.Goals as goal
 
 pub loop-e-preserved : goal.loop-e-preserved
 loop-e-preserved c = record {
   late = omega (arith, c.loop-e.invariant.late, c.end_with-end.ensures.late);
+  needed =
+      elim c.end_with-end.ensures.needed [
+        | inl same ↦
+            (let plan = c.args.plan.now in
+            subst (λ (end : ℕ). (end ≡ c.args.least) ⊎ ((k : ℕ) × (k < length plan.graph.edges) × EndsFirst plan c.args.from c.args.limit k end)) (sym same)
+            c.loop-e.invariant.needed)
+        | inr ends ↦ inr (c.loop-e.e, search rules, ends)
+      ];
   arrows = λ k below has until late.
       elim (cases_lt k c.loop-e.e) [
         | inl less ↦ c.loop-e.invariant.arrows k less has until (let later = c.end_with-end.ensures.late in omega (arith, late, later))

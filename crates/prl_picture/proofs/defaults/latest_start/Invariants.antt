@@ -1,6 +1,11 @@
-use Rattle.std.proofs.Common.{◌<◌, ◌^◌}
+use Rattle.std.proofs.Common.{◌≡◌, ◌<◌, ◌^◌, ◌⊎◌, ℕ, length}
+use Rattle.std.specs.Prelude.{slice_index}
+use Rattle.prl_plan.specs.Jobs.{task_at}
 use Rattle.prl_picture.proofs.defaults.latest_start.Given as goal
 
--- a start so far, which is small
+-- the start of the task of a row so far, which is small
 abbrev pub invariant-loop-r : goal.invariant-loop-r
-invariant-loop-r l = l.start < 2 ^ 32
+invariant-loop-r l = record {
+  small : l.start < 2 ^ 32;
+  of_row : (l.start ≡ 0) ⊎ ((k : ℕ) × (k < length l.rows) × (l.start ≡ (task_at l.plan.graph (slice_index l.rows k)).clock.start));
+}

@@ -1,4 +1,4 @@
-use Rattle.std.proofs.Common.{◌++◌, List, [], ◌∷◌, inl, inr}
+use Rattle.std.proofs.Common.{◌++◌, List, [], ◌∷◌, inl, inr, refl}
 use Rattle.std.specs.Prelude.{is_some}
 use Rattle.std.proofs.lemmas.Result.{err_from_is_err_and}
 use Rattle.prl_stages.specs.declared.stages.Stage.{Stage}
@@ -18,7 +18,7 @@ last = stages.Values ∷ []
 
 pub returns-in_err-run-clause-stop : goal.returns-in_err-run-clause-stop
 returns-in_err-run-clause-stop c =
-    let g = given_of c.args.request.now in
+    let g = given_of c.args.request in
     let p = err_from_is_err_and c.from_residual-in_err-run.result c.from_residual-in_err-run.ensures.1 in
     rw (p.1, p.2) (inr (
       c.in_ok-program.ensures.holds,
@@ -27,17 +27,17 @@ returns-in_err-run-clause-stop c =
 
 pub returns-clause-holds : goal.returns-clause-holds
 returns-clause-holds c =
-    let g = given_of c.args.request.now in
-    ok_map c.flows_of.result (λ _. Holds g stages.Values) (λ _. AllHold g (stages_after modes.Flows (c.args.request.now.named)))
+    let g = given_of c.args.request in
+    ok_map c.flows_of.result (λ _. Holds g stages.Values) (λ _. AllHold g (stages_after modes.Flows (c.args.request.named)))
     (λ text values. (c.in_ok-program.ensures.holds, (c.in_ok-typed.ensures.holds, both_hold g run last c.in_ok-run.ensures.holds (values, tt))))
-    c.flows_of.ensures.holds
+    (c.flows_of.ensures.holds g (record { date = refl; rows = c.in_ok-run.ensures.rows }))
 
 pub returns-clause-stop : goal.returns-clause-stop
 returns-clause-stop c =
-    let g = given_of c.args.request.now in
-    err_map c.flows_of.result (StopsAt g stages.Values) (StopsIn g (stages_after modes.Flows (c.args.request.now.named)))
+    let g = given_of c.args.request in
+    err_map c.flows_of.result (StopsAt g stages.Values) (StopsIn g (stages_after modes.Flows (c.args.request.named)))
     (λ stop at. inr (
       c.in_ok-program.ensures.holds,
       inr (c.in_ok-typed.ensures.holds, stops_rest g run last stop c.in_ok-run.ensures.holds (inl at)),
     ))
-    c.flows_of.ensures.stop
+    (c.flows_of.ensures.stop g (record { date = refl; rows = c.in_ok-run.ensures.rows }))

@@ -19,15 +19,15 @@ failure (Err e) P Q R f h = f e h
 
 pub run_list-requires-clause-events : goal.run_list-requires-clause-events
 run_list-requires-clause-events c =
-    let plan = c.args.plan.now in
-    subst (λ (list : List Event). All (IsOfPlan plan) list) (sym c.deref.ensures.value)
-    (legal_of_plan plan c.placed.result c.args.horizon (opening (constants_on plan c.placed.result c.args.horizon)) c.in_ok-events.events.items c.in_ok-events.ensures.legal)
+    let r = c.args.ready.now in
+    subst (λ (list : List Event). All (IsOfPlan r.plan) list) (sym c.deref.ensures.value)
+    (legal_of_plan r.plan c.placed.result r.horizon (opening (constants_on r.plan c.placed.result r.horizon)) c.in_ok-events.events.items c.in_ok-events.ensures.legal)
 
 pub returns-clause-fault : goal.returns-clause-fault
 returns-clause-fault c =
-    let plan = c.args.plan.now in
-    let horizon = c.args.horizon in
-    let run = c.args.run.now in
+    let r = c.args.ready.now in
+    let plan = r.plan in
+    let horizon = r.horizon in
     let same : c.placed.result ≡ c.placed-2.result = c.placed.ensures ∙ sym c.placed-2.ensures in
     let legal : IsLegal (constants_on plan c.placed-2.result horizon) (opening (constants_on plan c.placed-2.result horizon)) c.deref.result.now =
     subst (λ (list : List Event). IsLegal (constants_on plan c.placed-2.result horizon) (opening (constants_on plan c.placed-2.result horizon)) list) (sym c.deref.ensures.value)
@@ -35,6 +35,6 @@ returns-clause-fault c =
     let complete : IsComplete (constants_on plan c.placed-2.result horizon) (after_events (constants_on plan c.placed-2.result horizon) (opening (constants_on plan c.placed-2.result horizon)) c.deref.result.now) =
     subst (λ (list : List Event). IsComplete (constants_on plan c.placed-2.result horizon) (after_events (constants_on plan c.placed-2.result horizon) (opening (constants_on plan c.placed-2.result horizon)) list)) (sym c.deref.ensures.value)
     (subst (λ (p : Placement). IsComplete (constants_on plan p horizon) (after_events (constants_on plan p horizon) (opening (constants_on plan p horizon)) c.in_ok-events.events.items)) same c.in_ok-events.ensures.complete) in
-    failure c.run_list.result _ (FailsWith (opened_on plan c.placed-2.result run.bodies run.sensors horizon) c.deref.result.now) (λ fault. fault ≢ causes.Memory → ⊥)
-    (λ fault fails some. c.replays_end_one_way.ensures.whole (opened_on plan c.placed-2.result run.bodies run.sensors horizon) c.deref.result.now fault legal complete (fails some))
+    failure c.run_list.result _ (FailsWith (opened_on plan c.placed-2.result r.bodies r.sensors horizon) c.deref.result.now) (λ fault. fault ≢ causes.Memory → ⊥)
+    (λ fault fails some. c.replays_end_one_way.ensures.whole (opened_on plan c.placed-2.result r.bodies r.sensors horizon) c.deref.result.now fault legal complete (fails some))
     c.run_list.ensures.run

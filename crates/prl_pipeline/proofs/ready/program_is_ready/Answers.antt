@@ -1,6 +1,6 @@
 use Rattle.prl_ast.specs.Trees.{program_tree}
 use Rattle.prl_pipeline.specs.code.Stops.{given_of}
-use Rattle.prl_stages.proofs.Running.{Laws, bodies_are, bodies_there, execution, horizon_is, outs_meant, plan_is, rows_are, rows_there}
+use Rattle.prl_stages.proofs.Running.{Laws, bodies_are, bodies_there, execution, horizon_is, placed_outs, plan_is, rows_are, rows_there}
 use Rattle.prl_pipeline.proofs.Preparing.{same_ready}
 use Rattle.prl_pipeline.proofs.ready.program_is_ready.Goals as goal
 
@@ -29,6 +29,7 @@ returns c =
       agree = c.job_values_are_one.ensures.edges;
       given = c.solutions_give_job_values.ensures.given;
       operands = c.solutions_give_job_values.ensures.operands;
+      clock_of_task = c.ports_have_the_clock_of_their_task.ensures;
       got = c.actuators_get_the_outputs.ensures;
     } in
     let range = c.main-main.ensures.range in
@@ -54,7 +55,7 @@ returns c =
       rows =
           rows_there law g p t.main t.types run.flat q.typed q.expanded range well_formed run.clocks.of run.order.flows q.order run.bodies q.bodies q.have
           run.sensors q.rows plan c.plan_is_one.ensures q.graph horizon q.horizon.until;
-      outs = λ s flows.
-          outs_meant law g p t.main t.types run.flat q.typed q.expanded range well_formed run.clocks.of run.order.flows q.order run.bodies q.bodies q.have
-          run.sensors q.rows plan c.plan_is_one.ensures q.graph horizon q.horizon q.main s flows;
+      outs = λ placement s flows.
+          placed_outs law g p t.main t.types run.flat q.typed q.expanded range well_formed run.clocks.of run.order.flows q.order run.bodies q.bodies q.have
+          run.sensors q.rows plan c.plan_is_one.ensures q.graph horizon q.horizon q.main placement s flows;
     }

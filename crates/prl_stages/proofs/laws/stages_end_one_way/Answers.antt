@@ -32,6 +32,8 @@ returns c = one_end (record {
     one_fault = c.replays_end_one_way.ensures.one_fault;
     one_spread = c.spreads_are_one.ensures;
   };
+  one_label = c.causality_ends_one_way.ensures.one_label;
+  no_label = c.causality_ends_one_way.ensures.not_both;
   tables = record {
     made_or_fault = c.makes_end_one_way.ensures.not_both;
     one_make_fault = c.makes_end_one_way.ensures.one;

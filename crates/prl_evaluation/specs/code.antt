@@ -1,0 +1,2 @@
+-- values that are lent or a flow's own
+pub mod Lent

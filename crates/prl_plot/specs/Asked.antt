@@ -1,0 +1,67 @@
+-- The flows and the range that the words ask for.
+use Rattle.std.specs.Prelude.{◌≡◌, ◌==◌, ◌<◌, ◌-◌, ◌++◌, ℕ, Bool, true, false, List, [], Option, Some, Ok, IfSome, MatchOption, bytes_eq, codes}
+use Rattle.std.specs.List.{filter, list_any, slice_split}
+use Rattle.prl_base.specs.Decimals.{decimal_of}
+use Rattle.prl_companions.specs.Pairs.{value_of}
+use Rattle.prl_drawing.specs.declared.scales.Scale.{Scale}
+use Rattle.prl_plan.specs.Plans.{PlanView}
+use Rattle.prl_stages.specs.Planned.{HasPlan}
+use Rattle.prl_stages.specs.PlansAlone.{program_alone}
+use Rattle.prl_steps.specs.Flows.{FlowView}
+use Rattle.prl_readings.specs.declared.forms.Form.{Form}
+use Rattle.prl_plot.specs.Inputs.{inputs_of}
+use Rattle.prl_readings.specs.Rows.{flows_of}
+
+-- files by name; none where they are not known
+abbrev pub Folder : Type 0
+Folder = Option (List ℕ → Option (List ℕ))
+
+-- the flows are those of the rows in the file of this name
+abbrev pub AreFlows : Folder → Form → List FlowView → List ℕ → Type 0
+AreFlows folder form flows name =
+    (source : List ℕ) × IfSome folder (λ files. files name ≡ Some source) × (flows_of form source ≡ Ok flows)
+
+-- the plan of the program in the file that the words name, whose main is the node that they name
+abbrev pub IsPlanAsked : Folder → List (List ℕ) → PlanView → Type 0
+IsPlanAsked folder words plan =
+    (name source : List ℕ) × (value_of (codes "--program") words ≡ Some name) × IfSome folder (λ files. files name ≡ Some source)
+    × HasPlan (program_alone source (value_of (codes "--node") words)) plan
+
+abbrev pub timed_form : PlanView → Form
+timed_form plan = record { dated = false; inputs = inputs_of plan.graph }
+
+abbrev pub dated_form : Form
+dated_form = record { dated = true; inputs = [] }
+
+-- the flows of sensors, of which rows have no dates: these are those of the program's clocks
+abbrev pub AreSensors : Folder → List (List ℕ) → List FlowView → List ℕ → Type 0
+AreSensors folder words flows name =
+    (plan : PlanView) × IsPlanAsked folder words plan × AreFlows folder (timed_form plan) flows name
+
+-- the flows that the words ask for, of sensors and of actuators; none where they name no file of them
+pub record AreAsked (folder : Folder) (words : List (List ℕ)) (sensors actuators : List FlowView) : Type 0 where
+  pub sensed : MatchOption (value_of (codes "--sensors") words) (sensors ≡ []) (AreSensors folder words sensors)
+  pub driven : MatchOption (value_of (codes "--actuators") words) (actuators ≡ []) (AreFlows folder dated_form actuators)
+
+-- these flows: those of the sensors, and then those of the actuators
+abbrev pub IsAsked : Folder → List (List ℕ) → List FlowView → Type 0
+IsAsked folder words flows =
+    (sensors actuators : List FlowView) × AreAsked folder words sensors actuators × (flows ≡ sensors ++ actuators)
+
+abbrev pub is_comma : ℕ → Bool
+is_comma byte = byte == 44
+
+-- the name is one of a list with commas
+abbrev pub is_named : List ℕ → List ℕ → Bool
+is_named names name = list_any (λ part. bytes_eq part name) (slice_split is_comma names)
+
+-- all flows, or those that the words name
+abbrev pub AreChosen : List (List ℕ) → List FlowView → List FlowView → Type 0
+AreChosen words flows chosen =
+    MatchOption (value_of (codes "--flow") words) (chosen ≡ flows) (λ names. chosen ≡ filter (λ flow. is_named names flow.name) flows)
+
+-- the range of ticks that the words ask for, from 0 where they do not say it; where they do not say its end, it has some tick
+pub record IsRange (words : List (List ℕ)) (scale : Scale) : Type 0 where
+  pub begins : MatchOption (value_of (codes "--from") words) (scale.from ≡ 0) (λ word. decimal_of word ≡ Some scale.from)
+  pub ends : MatchOption (value_of (codes "--until") words) (scale.from < scale.until) (λ word. decimal_of word ≡ Some scale.until)
+  pub span : scale.span ≡ scale.until - scale.from

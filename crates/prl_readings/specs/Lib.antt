@@ -1,0 +1,2 @@
+-- the rows of flows
+pub mod Rows

@@ -1,0 +1,42 @@
+//! Why rows are no flows.
+
+use csv::Error;
+use std::alloc::AllocError;
+
+/// Why a text is no rows of flows. A record's number counts the records before it, from 1; a header counts, and empty
+/// lines do not.
+#[derive(Clone, Copy, Debug, PartialEq, Eq)]
+pub enum RowFault {
+    /// The record of this number has not as many fields as a row, or no name of a flow.
+    Row(u64),
+    /// The record of this number names no sensor of the program.
+    NoSensor(u64),
+    /// The record of this number has no instance or date below 2^64, or its date is not after the one before of its flow.
+    Order(u64),
+    /// The value of the record of this number is none, or not of the type of its flow.
+    Value(u64),
+    Memory,
+}
+
+impl From<AllocError> for RowFault {
+    ghost use Rattle.std.specs.Prelude.{◌≡◌};
+    ghost use Rattle.prl_readings.specs.declared.faults.RowFault.TheVariants.{Memory};
+
+    ghost from_gives = { λ _ e. e ≡ Memory };
+
+    fn from(_error: AllocError) -> RowFault {
+        RowFault::Memory
+    }
+}
+
+/// Records of bytes that are all there, of any length, are refused for want of memory alone.
+impl From<Error> for RowFault {
+    ghost use Rattle.std.specs.Prelude.{◌≡◌};
+    ghost use Rattle.prl_readings.specs.declared.faults.RowFault.TheVariants.{Memory};
+
+    ghost from_gives = { λ _ e. e ≡ Memory };
+
+    fn from(_error: Error) -> RowFault {
+        RowFault::Memory
+    }
+}

@@ -1,0 +1,177 @@
+//! The flows of a text of rows.
+
+ghost use Rattle.std.specs.Prelude.{◌≡◌, ◌<◌, ◌≤◌, ◌++◌, ◌∷◌, [], OnOk, length, option_copied, slice_get};
+ghost use Rattle.csv.specs.Records.{fields_of};
+ghost use Rattle.prl_base.specs.Reading.{GivesBut};
+ghost use Rattle.prl_readings.specs.Rows.{added, added_at, begun, flows_of, is_after, is_of, place_of, with_record, with_row};
+
+use crate::entries::{Entry, entry_of};
+use crate::faults::RowFault;
+use crate::forms::Form;
+use crate::records::{is_header, read_record, reader_of};
+use csv::ByteRecord;
+use prl_base::{Name, NameFault, Ty, Value};
+use prl_steps::{Flow, Sample, level_of};
+use std::alloc::{AllocError, Global};
+
+/// Whether a value is of this type.
+fn is_of(ty: Ty, value: Value) -> bool
+    ensures { result ≡ is_of ty value }
+{
+    match (ty, value) {
+        (Ty::Int, Value::Int(_)) => true,
+        (Ty::Int, Value::Bool(_)) => false,
+        (Ty::Bool, Value::Int(_)) => false,
+        (Ty::Bool, Value::Bool(_)) => true,
+    }
+}
+
+/// Whether a date is after that of a sample, where there is one.
+fn is_after(last: Option<&Sample>, date: u64) -> bool
+    ensures { result ≡ is_after (option_copied last.entry) date }
+{
+    match last {
+        None => true,
+        Some(sample) => sample.date < date,
+    }
+}
+
+/// Where the flow of a name stands; behind the last where it has no row yet.
+pub fn place_of(flows: &[Flow], name: &[u8]) -> usize
+    ensures exact { result ≡ place_of flows.now name.now }
+    ensures within { result ≤ length flows.now }
+{
+    for (i, flow) in flows.iter().enumerate() {
+        if flow.name() == name {
+            return i;
+        }
+    }
+    flows.len()
+}
+
+/// One more flow, with one sample.
+fn push_flow(
+    alloc: Global,
+    flows: &mut Vec<Flow>,
+    name: Name,
+    ty: Ty,
+    sample: Sample,
+) -> Result<(), AllocError>
+    ensures { OnOk result (flows.new.items ≡ flows.old.items ++ record { name = name; ty = ty; samples = sample ∷ [] } ∷ []) }
+{
+    flows.push(Flow::new(alloc, name, ty, sample)?)?;
+    Ok(())
+}
+
+/// A flow begins with the row of an entry.
+fn begin(
+    alloc: Global,
+    flows: &mut Vec<Flow>,
+    number: u64,
+    entry: Entry<'_>,
+) -> Result<(), RowFault>
+    ensures { GivesBut RowFault.Memory (λ _. flows.new.items) result (begun number flows.old.items (entry.entry.0.now, entry.entry.1, entry.entry.2)) }
+{
+    let sample = Sample {
+        date: entry.1,
+        level: level_of(entry.2),
+    };
+    match Name::new(alloc, entry.0) {
+        Ok(name) => {
+            push_flow(alloc, flows, name, entry.2.ty(), sample)?;
+            Ok(())
+        }
+        Err(NameFault::Shape) => Err(RowFault::Row(number)),
+        Err(NameFault::Long(_)) => Err(RowFault::Row(number)),
+        Err(NameFault::Memory) => Err(RowFault::Memory),
+    }
+}
+
+/// The flow at a place goes on with the row of an entry.
+fn go_on(
+    flows: &mut Vec<Flow>,
+    k: usize,
+    number: u64,
+    name: &[u8],
+    date: u64,
+    value: Value,
+) -> Result<(), RowFault>
+    requires { k < length flows.old.items }
+    ensures { GivesBut RowFault.Memory (λ _. flows.new.items) result
+        (added_at number flows.old.items k (slice_get flows.old.items k) (name.now, date, value)) }
+{
+    let _ = name;
+    let flow = &flows[k];
+    if !is_of(flow.ty(), value) {
+        return Err(RowFault::Value(number));
+    }
+    if !is_after(flow.samples().last(), date) {
+        return Err(RowFault::Order(number));
+    }
+    flows[k].push(Sample {
+        date,
+        level: level_of(value),
+    })?;
+    Ok(())
+}
+
+/// Adds the row of an entry.
+fn add(alloc: Global, flows: &mut Vec<Flow>, number: u64, entry: Entry<'_>) -> Result<(), RowFault>
+    ensures { GivesBut RowFault.Memory (λ _. flows.new.items) result (added number flows.old.items (entry.entry.0.now, entry.entry.1, entry.entry.2)) }
+{
+    let k = place_of(flows, entry.0);
+    if k < flows.len() {
+        go_on(flows, k, number, entry.0, entry.1, entry.2)
+    } else {
+        begin(alloc, flows, number, entry)
+    }
+}
+
+/// Adds the row that the record of this number is.
+fn push_row(
+    alloc: Global,
+    form: &Form,
+    number: u64,
+    flows: &mut Vec<Flow>,
+    fields: &ByteRecord,
+) -> Result<(), RowFault>
+    ensures { GivesBut RowFault.Memory (λ _. flows.new.items) result (with_row form.now number flows.old.items (fields_of fields.now)) }
+{
+    match entry_of(form, number, fields) {
+        Ok(entry) => add(alloc, flows, number, entry),
+        Err(fault) => Err(fault),
+    }
+}
+
+/// Adds the row that the record of this number is, unless it is the header.
+#[tactic(auto, unfolding(crate::specs::Rows::with_record))]
+fn push_record(
+    alloc: Global,
+    form: &Form,
+    number: u64,
+    flows: &mut Vec<Flow>,
+    fields: &ByteRecord,
+) -> Result<(), RowFault>
+    ensures { GivesBut RowFault.Memory (λ _. flows.new.items) result (with_record form.now number flows.old.items (fields_of fields.now)) }
+{
+    if number == 1 && is_header(fields) {
+        return Ok(());
+    }
+    push_row(alloc, form, number, flows, fields)
+}
+
+/// The flows of the rows of a text, in the order of their first rows; or the first row that is none.
+pub fn read_flows(alloc: Global, form: &Form, text: &[u8]) -> Result<Vec<Flow>, RowFault>
+    ensures { GivesBut RowFault.Memory (λ flows. flows.items) result (flows_of form.now text.now) }
+{
+    let mut flows = Vec::new(alloc);
+    let mut reader = reader_of(alloc, text);
+    let mut fields = ByteRecord::new(alloc);
+    for number in 1..u64::MAX {
+        if !read_record(&mut reader, &mut fields)? {
+            return Ok(flows);
+        }
+        push_record(alloc, form, number, &mut flows, &fields)?;
+    }
+    Err(RowFault::Memory)
+}

@@ -1,0 +1,91 @@
+//! Panes: the small plots, and where a level stands in one.
+
+ghost use Rattle.std.specs.Prelude.{◌≡◌};
+ghost use Rattle.prl_base.specs.declared.values.Ty.TheVariants as types;
+ghost use Rattle.prl_steps.specs.Panes.{height_of, pane_of, rise_of, y_of};
+
+use crate::samples::Step;
+use crate::steps::{greatest_of, least_of};
+use prl_base::Ty;
+
+/// How high the pane of an integer flow is, in tenths of a pixel.
+pub const CURVE: u64 = 480;
+
+/// How high the band of a truth value is.
+pub const BAND: u64 = 160;
+
+/// How much stays free above a pane.
+pub const BETWEEN: u64 = 240;
+
+/// How much stays free above the first pane, beside that.
+pub const FIRST: u64 = 0;
+
+/// A small plot: where its bottom is, how high it is, and the levels that its bottom and its top stand for.
+#[derive(Clone, Copy, Debug, PartialEq, Eq)]
+pub struct Pane {
+    pub bottom: u64,
+    pub height: u64,
+    pub low: u64,
+    pub high: u64,
+}
+
+/// How far above the bottom a level stands.
+fn rise_of(pane: Pane, level: u64) -> u64
+    ensures { result ≡ rise_of pane level }
+{
+    let range = pane.high.saturating_sub(pane.low);
+    if range == 0 {
+        return pane.height / 2;
+    }
+    let above = level.saturating_sub(pane.low);
+    let rise = u128::from(above) * u128::from(pane.height) / u128::from(range);
+    u128::from(pane.height).min(rise) as u64
+}
+
+/// How far from the top of the picture a level stands, in tenths of a pixel.
+pub fn y_of(pane: Pane, level: u64) -> u64
+    ensures { result ≡ y_of pane level }
+{
+    pane.bottom.saturating_sub(rise_of(pane, level))
+}
+
+/// How high the pane of a flow is.
+pub(crate) fn height_of(ty: Ty) -> u64
+    ensures { result ≡ height_of ty }
+{
+    match ty {
+        Ty::Int => CURVE,
+        Ty::Bool => BAND,
+    }
+}
+
+/// The pane of a flow of integers, of which it shows these steps.
+fn curve_of(bottom: u64, steps: &[Step]) -> Pane
+    ensures { result ≡ pane_of types.Int bottom steps.now }
+{
+    let (low, high) = match steps {
+        [] => (0, 0),
+        [first, rest @ ..] => (least_of(first.level, rest), greatest_of(first.level, rest)),
+    };
+    Pane {
+        bottom,
+        height: CURVE,
+        low,
+        high,
+    }
+}
+
+/// The pane of a flow, of which it shows these steps.
+pub fn pane_of(ty: Ty, bottom: u64, steps: &[Step]) -> Pane
+    ensures { result ≡ pane_of ty bottom steps.now }
+{
+    match ty {
+        Ty::Int => curve_of(bottom, steps),
+        Ty::Bool => Pane {
+            bottom,
+            height: BAND,
+            low: 0,
+            high: 1,
+        },
+    }
+}
