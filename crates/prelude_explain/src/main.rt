@@ -30,6 +30,14 @@ fn line(rt: &HostRuntime) -> io::Result<Vec<u8>> {
     Ok(bytes)
 }
 
+/// Standard input, which is not looked at where the words ask for what the options mean.
+fn input(rt: &HostRuntime, words: &[String]) -> io::Result<Vec<u8>> {
+    match words {
+        [_, word] if word.as_bytes() == b"--help".as_slice() => Ok(Vec::new(rt.alloc())),
+        _ => line(rt),
+    }
+}
+
 /// The status of an error, where it is not want of memory.
 fn status_of(error: &io::Error, other: u8) -> ExitCode {
     if error.kind() == io::ErrorKind::OutOfMemory {
@@ -44,7 +52,7 @@ fn main(rt: HostRuntime) -> ExitCode {
         Ok(words) => words,
         Err(error) => return status_of(&error, NO_WORDS),
     };
-    let line = match line(&rt) {
+    let line = match input(&rt, &words) {
         Ok(line) => line,
         Err(error) => return status_of(&error, NO_INPUT),
     };

@@ -1,10 +1,11 @@
 -- How it is written what a broken rule is about.
-use Rattle.std.specs.Prelude.{◌++◌, ℕ, List, [], slice_index_or, codes, decimal}
+use Rattle.std.specs.Prelude.{◌+◌, ◌++◌, ℕ, List, [], slice_index_or, codes, decimal}
 use Rattle.prl_base.specs.declared.numbers.TaskNo.{TaskNo}
 use Rattle.prl_broken.specs.declared.causes.Cause.{Cause}
 use Rattle.prl_broken.specs.declared.causes.Cause.TheVariants as causes
 use Rattle.prl_broken.specs.declared.causes.DatedJob.{DatedJob}
 use Rattle.prl_broken.specs.declared.causes.Finding.{Finding}
+use Rattle.prl_broken.specs.declared.lefts.Left.{Left}
 
 -- what stands before a number, and the number
 abbrev pub number_text : List ℕ → ℕ → List ℕ
@@ -36,3 +37,13 @@ cause_text names causes.Over = codes " the run is over: no job is due later"
 -- the line of what was found, by the names of the tasks
 abbrev pub finding_text : List (List ℕ) → Finding → List ℕ
 finding_text names finding = number_text (codes "At tick ") finding.tick ++ cause_text names finding.cause ++ codes ".\n"
+
+unfoldable pub done_text : Left → List ℕ
+done_text left = number_text (codes "It has done so many acts: ") left.done
+
+unfoldable pub more_text : Left → List ℕ
+more_text left = number_text (codes "; and so many are left: ") (left.more + 1) ++ codes ".\n"
+
+-- how many acts a job has done and has left, of which the last ends it
+abbrev pub left_text : Left → List ℕ
+left_text left = done_text left ++ more_text left

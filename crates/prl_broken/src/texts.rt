@@ -1,10 +1,11 @@
 //! Findings in words.
 
-ghost use Rattle.std.specs.Prelude.{◌≡◌, ◌++◌, OnOk, length};
+ghost use Rattle.std.specs.Prelude.{◌≡◌, ◌+◌, ◌++◌, OnOk, length};
 ghost use Rattle.prl_schedules.specs.ScheduleTexts.{task_names};
-ghost use Rattle.prl_broken.specs.CauseTexts.{cause_text, finding_text, job_text, name_text, number_text};
+ghost use Rattle.prl_broken.specs.CauseTexts.{cause_text, done_text, finding_text, job_text, left_text, more_text, name_text, number_text};
 
 use crate::causes::{Cause, DatedJob, Finding};
+use crate::lefts::Left;
 use prl_base::{TaskNo, push_number};
 use prl_plan::Plan;
 use std::alloc::AllocError;
@@ -86,4 +87,36 @@ pub fn push_finding(text: &mut Vec<u8>, plan: &Plan, finding: &Finding) -> Resul
     push_cause(text, plan, &finding.cause)?;
     text.extend_from_slice(b".\n")?;
     Ok(())
+}
+
+/// How many acts a job has left, with the one that ends it.
+fn acts_left(left: &Left) -> u64
+    ensures { result ≡ left.now.more + 1 }
+{
+    u64::from(left.more) + 1
+}
+
+/// Appends how many acts a job has done.
+#[tactic(auto, unfolding(crate::specs::CauseTexts::done_text))]
+fn push_done(text: &mut Vec<u8>, left: &Left) -> Result<(), AllocError>
+    ensures { OnOk result (text.new.items ≡ text.old.items ++ done_text left.now) }
+{
+    push(text, "It has done so many acts: ", u64::from(left.done))
+}
+
+/// Appends how many acts a job has left.
+#[tactic(auto, unfolding(crate::specs::CauseTexts::more_text))]
+fn push_more(text: &mut Vec<u8>, left: &Left) -> Result<(), AllocError>
+    ensures { OnOk result (text.new.items ≡ text.old.items ++ more_text left.now) }
+{
+    push(text, "; and so many are left: ", acts_left(left))?;
+    text.extend_from_slice(b".\n")
+}
+
+/// Appends how many acts a job has done and has left, as a line.
+pub fn push_left(text: &mut Vec<u8>, left: &Left) -> Result<(), AllocError>
+    ensures { OnOk result (text.new.items ≡ text.old.items ++ left_text left.now) }
+{
+    push_done(text, left)?;
+    push_more(text, left)
 }

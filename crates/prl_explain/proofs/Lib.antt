@@ -1,2 +1,7 @@
-pub mod Lines
-pub mod Stops
+mod Lefts
+mod Lines
+mod Named
+mod Plans
+mod Readings
+mod Stops
+mod Sayings

@@ -5,7 +5,12 @@ use Rattle.prl_io.specs.Views.{FolderView}
 use Rattle.prl_companions.specs.declared.endings.Stop.{Stop}
 use Rattle.prl_companions.specs.declared.endings.Stop.TheVariants as stops
 use Rattle.prl_companions.specs.Files.{IsFileStop}
-use Rattle.prl_explain.specs.Explanations.{Folder, IsStopOfFile}
+use Rattle.prl_sentences.specs.declared.kinds.Part.{Part}
+use Rattle.prl_explain.specs.Texts.{Folder, IsNamed, IsStopOfFile}
+
+-- what a file gives does not change with the name of the folder's facts
+pub named_from : (old mid : Folder) (words : List (List ℕ)) (part : Part) (text : Option (List ℕ)) → mid ≡ old → IsNamed mid words part text → IsNamed old words part text
+named_from old mid words part text same is = subst (λ (f : Folder). IsNamed f words part text) same is
 
 module _ (old mid new : FolderView) (folder : mid.folder ≡ old.folder) (failed : mid.failed ≡ old.failed) where
   file_stop_from : (name : List ℕ) (most : ℕ) (stop : Stop) → IsFileStop mid new name most stop → IsFileStop old new name most stop
@@ -21,9 +26,5 @@ module _ (old mid new : FolderView) (folder : mid.folder ≡ old.folder) (failed
   pub stop_from : (words : List (List ℕ)) (stop : Stop) → IsStopOfFile mid new words stop → IsStopOfFile old new words stop
   stop_from words stop h = elim h [
     | inl k ↦ inl (k.0, k.1, k.2, file_stop_from k.1 _ stop k.3)
-    | inr k ↦
-        inr (elim k [
-          | inl p ↦ inl (p.0, p.1, file_stop_from p.0 _ stop p.2)
-          | inr m ↦ inr (m.0, m.1 ∙ failed)
-        ])
+    | inr m ↦ inr (m.0, m.1 ∙ failed)
   ]

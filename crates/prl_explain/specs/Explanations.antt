@@ -1,71 +1,46 @@
 -- The explanation of a line of `prelude`.
-use Rattle.std.specs.Prelude.{◌≡◌, ◌++◌, ◌⊎◌, ℕ, false, List, [], ◌∷◌, Option, Some, None, Result, IfOk, IfErr, IfSome, codes, decimal}
+use Rattle.std.specs.Prelude.{◌≡◌, ◌++◌, ℕ, Bool, false, List, [], ◌∷◌, Option, Some, None, Result, IfOk, IfErr, codes, decimal}
+use Rattle.std.specs.Bool.{OnFalse}
+use Rattle.std.specs.Str.{bytes_eq}
 use Rattle.prl_io.specs.Views.{FolderView, SinkView}
 use Rattle.prl_companions.specs.declared.endings.Stop.{Stop}
 use Rattle.prl_companions.specs.declared.endings.Stop.TheVariants as stops
 use Rattle.prl_companions.specs.Endings.{Ends}
-use Rattle.prl_companions.specs.Files.{IsFileStop}
 use Rattle.prl_companions.specs.Pairs.{are_pairs, value_of}
-use Rattle.prl_explain.specs.declared.explanations.TheConstants.{MAX_PLAN, MAX_PROGRAM, MAX_SENSORS, MAX_SCHEDULE, MAX_TABLE}
-use Rattle.prl_explain.specs.declared.kinds.Kind.{Kind}
-use Rattle.prl_explain.specs.declared.kinds.Part.{Part}
-use Rattle.prl_explain.specs.declared.kinds.Part.TheVariants as parts
-use Rattle.prl_explain.specs.declared.kinds.Target.{Target}
-use Rattle.prl_explain.specs.declared.kinds.Target.TheVariants as targets
-use Rattle.prl_plan.specs.declared.events.Rule.{Rule}
-use Rattle.prl_explain.specs.Details.{IsOfProgram, IsOfText}
-use Rattle.prl_explain.specs.Kinds.{IsLineOf, argument_of}
-use Rattle.prl_explain.specs.Places.{lead, line_front, line_rest, place_of}
-use Rattle.prl_explain.specs.Sentences.{sentence_text}
-use Rattle.prl_explain.specs.Spots.{IsSpot}
-
--- what is known of a folder: the bytes of each file by its name
-abbrev pub Folder : Type 0
-Folder = Option (List ℕ → Option (List ℕ))
+use Rattle.prl_plan.specs.Plans.{PlanView}
+use Rattle.prl_schedules.specs.ScheduleTexts.{task_names}
+use Rattle.prl_sentences.specs.declared.kinds.Detail.{Detail}
+use Rattle.prl_sentences.specs.declared.kinds.Detail.TheVariants as details
+use Rattle.prl_sentences.specs.declared.kinds.Kind.{Kind}
+use Rattle.prl_sentences.specs.declared.kinds.Part.{Part}
+use Rattle.prl_sentences.specs.declared.kinds.Part.TheVariants as parts
+use Rattle.prl_sentences.specs.declared.kinds.Target.{Target}
+use Rattle.prl_sentences.specs.declared.kinds.Target.TheVariants as targets
+use Rattle.prl_sentences.specs.Kinds.{IsLineOf, argument_of, rest_of}
+use Rattle.prl_sentences.specs.Sentences.{sentence_text, word_at}
+use Rattle.prl_explain.specs.declared.texts.Texts.{Texts}
+use Rattle.prl_explain.specs.Details.{IsLeftIn, IsOfSchedule, IsPlacingIn, IsPlanFrom}
+use Rattle.prl_spots.specs.Places.{lead, line_front, line_rest, place_of}
+use Rattle.prl_explain.specs.Placings.{tasks_text}
+use Rattle.prl_spots.specs.Spots.{IsSpot, byte_at}
+use Rattle.prl_explain.specs.Texts.{AreNamed, Folder, IsStopOfFile, option_of, text_in}
+use Rattle.prl_spots.specs.Twice.{IsTwice}
+use Rattle.prl_spots.specs.Unexpected.{IsUnexpectedAt, IsWordTold}
+use Rattle.prl_explain.specs.Ways.{IsChainTold, IsCircleTold, IsCycleTold}
 
 -- the file in which a place is told
 abbrev pub part_of : Target → Option Part
 part_of targets.Nowhere = None
 part_of (targets.Byte part) = Some part
 part_of (targets.Line part) = Some part
-part_of (targets.Event rule) = Some parts.Schedule
 part_of targets.Word = Some parts.Program
 part_of targets.Task = Some parts.Program
 part_of targets.Flow = Some parts.Program
 part_of targets.Variable = Some parts.Program
 
--- the option that names a file, and the most bytes that it may have
-abbrev pub option_of : Part → List ℕ
-option_of parts.Program = codes "--program"
-option_of parts.Bodies = codes "--bodies"
-option_of parts.Sensors = codes "--sensors"
-option_of parts.Schedule = codes "--schedule"
-option_of parts.Table = codes "--table"
-
 abbrev pub all_options : List (List ℕ)
-all_options = codes "--program" ∷ codes "--bodies" ∷ codes "--sensors" ∷ codes "--schedule" ∷ codes "--table" ∷ codes "--plan" ∷ codes "--node" ∷ []
-
-abbrev pub most_of : Part → ℕ
-most_of parts.Program = MAX_PROGRAM
-most_of parts.Bodies = MAX_PROGRAM
-most_of parts.Sensors = MAX_SENSORS
-most_of parts.Schedule = MAX_SCHEDULE
-most_of parts.Table = MAX_TABLE
-
-abbrev pub name_in : List (List ℕ) → Option Part → Option (List ℕ)
-name_in words None = None
-name_in words (Some part) = value_of (option_of part) words
-
--- the name of the file in which a place is told, where the words have one
-abbrev pub name_of : Target → List (List ℕ) → Option (List ℕ)
-name_of target words = name_in words (part_of target)
-
-abbrev pub most_in : Option Part → ℕ
-most_in None = 0
-most_in (Some part) = most_of part
-
-abbrev pub most_told : Target → ℕ
-most_told target = most_in (part_of target)
+all_options =
+    codes "--program" ∷ codes "--bodies" ∷ codes "--sensors" ∷ codes "--schedule" ∷ codes "--table" ∷ codes "--cores" ∷ codes "--plan" ∷ codes "--node" ∷ []
 
 -- NAME:LINE:COLUMN
 abbrev pub place_text : List ℕ → List ℕ → ℕ → List ℕ
@@ -92,55 +67,75 @@ IsByFile kind line name source text =
     (found : Option ℕ) × IsSpot kind.target (argument_of kind line) source found
     × (text ≡ text_at kind line name source found)
 
--- what is told beside of the event of a line, by a program; nothing where the words name none
-abbrev pub IsByProgram : Folder → List (List ℕ) → Option (List ℕ) → Rule → List ℕ → List ℕ → List ℕ → Type 0
-IsByProgram folder words None rule argument source detail = detail ≡ []
-IsByProgram folder words (Some name) rule argument source detail =
-    (program : List ℕ) × IfSome folder (λ f. f name ≡ Some program)
-    × IsOfProgram program (value_of (codes "--node") words) source argument rule detail
+-- by the name and the bytes of the file, where both are there
+abbrev pub IsByNamed : Kind → List ℕ → Option (List ℕ) → Option (List ℕ) → List ℕ → Type 0
+IsByNamed kind line None source text = text ≡ line ++ sentence_text kind line
+IsByNamed kind line (Some name) None text = text ≡ line ++ sentence_text kind line
+IsByNamed kind line (Some name) (Some source) text = IsByFile kind line name source text
 
--- the same, by a plan; by a program where the words name no plan
-abbrev pub IsByPlan : Folder → List (List ℕ) → Option (List ℕ) → Rule → List ℕ → List ℕ → List ℕ → Type 0
-IsByPlan folder words None rule argument source detail = IsByProgram folder words (value_of (codes "--program") words) rule argument source detail
-IsByPlan folder words (Some name) rule argument source detail =
-    (text : List ℕ) × IfSome folder (λ f. f name ≡ Some text) × IsOfText text source argument rule detail
+-- by the file in which the line tells a place, where it tells one
+abbrev pub IsByPart : Kind → List ℕ → List (List ℕ) → Texts → Option Part → List ℕ → Type 0
+IsByPart kind line words texts None text = text ≡ line ++ sentence_text kind line
+IsByPart kind line words texts (Some part) text = IsByNamed kind line (value_of (option_of part) words) (text_in texts part) text
 
--- what is told beside the place and the sentence: of an event that breaks a rule, which job acts, and which it overtakes
-abbrev pub IsDetail : Folder → List (List ℕ) → Target → List ℕ → List ℕ → List ℕ → Type 0
-IsDetail folder words (targets.Event rule) argument source detail =
-    IsByPlan folder words (value_of (codes "--plan") words) rule argument source detail
-IsDetail folder words targets.Nowhere argument source detail = detail ≡ []
-IsDetail folder words (targets.Byte part) argument source detail = detail ≡ []
-IsDetail folder words (targets.Line part) argument source detail = detail ≡ []
-IsDetail folder words targets.Word argument source detail = detail ≡ []
-IsDetail folder words targets.Task argument source detail = detail ≡ []
-IsDetail folder words targets.Flow argument source detail = detail ≡ []
-IsDetail folder words targets.Variable argument source detail = detail ≡ []
+-- the line with its place and its sentence
+abbrev pub IsFront : Kind → List ℕ → List (List ℕ) → Texts → List ℕ → Type 0
+IsFront kind line words texts text = IsByPart kind line words texts (part_of kind.target) text
 
-abbrev pub IsByName : Folder → List (List ℕ) → Option (List ℕ) → Kind → List ℕ → List ℕ → Type 0
-IsByName folder words None kind line text = text ≡ line ++ sentence_text kind line
-IsByName folder words (Some name) kind line text =
-    (source : List ℕ) × IfSome folder (λ f. f name ≡ Some source)
-    × (front : List ℕ) × IsByFile kind line name source front
-    × (detail : List ℕ) × IsDetail folder words kind.target (argument_of kind line) source detail
+abbrev pub program_in : Texts → Option (List ℕ)
+program_in texts = text_in texts parts.Program
+
+-- what is told by the plan, where there is one
+abbrev pub IfPlan : Option PlanView → (PlanView → List ℕ → Type 0) → List ℕ → Type 0
+IfPlan None told text = text ≡ []
+IfPlan (Some plan) told text = told plan text
+
+abbrev pub IsByPlan : Texts → (PlanView → List ℕ → Type 0) → List ℕ → Type 0
+IsByPlan texts told text =
+    (found : Option PlanView) × IsPlanFrom (text_in texts parts.Plan) (program_in texts) texts.node found × IfPlan found told text
+
+abbrev pub IsUnexpectedIn : Part → Option (List ℕ) → List ℕ → List ℕ → Type 0
+IsUnexpectedIn part None number text = text ≡ []
+IsUnexpectedIn parts.Program (Some source) number text = IsUnexpectedAt source (byte_at source number) text
+IsUnexpectedIn part (Some source) number text = IsWordTold source (byte_at source number) text
+
+abbrev pub IsTwiceIn : Option (List ℕ) → List ℕ → List ℕ → Type 0
+IsTwiceIn None name text = text ≡ []
+IsTwiceIn (Some source) name text = IsTwice source name text
+
+-- what is told beside, where this stands after the front of the line
+abbrev pub IsDetail : Texts → Detail → List ℕ → List ℕ → Type 0
+IsDetail texts details.Nothing rest text = text ≡ []
+IsDetail texts details.Twice rest text = IsTwiceIn (program_in texts) (word_at 0 rest) text
+IsDetail texts (details.Unexpected part) rest text = IsUnexpectedIn part (text_in texts part) (word_at 0 rest) text
+IsDetail texts details.Numbers rest text = text ≡ []
+IsDetail texts (details.Broken rule) rest text =
+    IsByPlan texts (λ plan told. IsOfSchedule plan (text_in texts parts.Schedule) (word_at 0 rest) rule told) text
+IsDetail texts details.Left rest text =
+    IsByPlan texts (λ plan told. IsLeftIn plan (text_in texts parts.Schedule) (word_at 0 rest) (word_at 1 rest) told) text
+IsDetail texts details.Tasks rest text = IsByPlan texts (λ plan told. told ≡ tasks_text (task_names plan)) text
+IsDetail texts details.Placing rest text =
+    IsByPlan texts (λ plan told. IsPlacingIn plan (text_in texts parts.Cores) (word_at 0 rest) told) text
+IsDetail texts details.Cycle rest text = IsCycleTold (program_in texts) texts.node (word_at 0 rest) text
+IsDetail texts details.Clocks rest text = text ≡ []
+IsDetail texts details.Chain rest text =
+    IsChainTold (program_in texts) texts.node (word_at 0 rest) (word_at 1 rest) (word_at 3 rest) text
+IsDetail texts details.Circle rest text = IsCircleTold (program_in texts) texts.node text
+
+-- the explanation of a line of a kind, by the files that were read
+abbrev pub IsOfKind : List (List ℕ) → Texts → Kind → List ℕ → List ℕ → Type 0
+IsOfKind words texts kind line text =
+    (front : List ℕ) × IsFront kind line words texts front
+    × (detail : List ℕ) × IsDetail texts kind.detail (rest_of kind line) detail
     × (text ≡ front ++ detail)
 
--- the explanation of a line of a kind, where the words name these files
-abbrev pub IsOfKind : Folder → List (List ℕ) → Kind → List ℕ → List ℕ → Type 0
-IsOfKind folder words kind line text = IsByName folder words (name_of kind.target words) kind line text
-
--- the explanation of a line
-abbrev pub IsExplanation : Folder → List (List ℕ) → List ℕ → List ℕ → Type 0
-IsExplanation folder words line text =
-    (kind : Kind) × IsLineOf kind line × IsOfKind folder words kind line text
-
--- a file that the words name is not there, is too long, or was not read; or memory ran out
-abbrev pub IsStopOfFile : FolderView → FolderView → List (List ℕ) → Stop → Type 0
-IsStopOfFile old new words stop =
-    ((target : Target) × (name : List ℕ) × (name_of target words ≡ Some name)
-    × IsFileStop old new name (most_told target) stop)
-    ⊎ ((name : List ℕ) × (value_of (codes "--plan") words ≡ Some name) × IsFileStop old new name MAX_PLAN stop)
-    ⊎ ((stop ≡ stops.Memory) × (new.failed ≡ old.failed))
+-- the explanation of a line, by the files that the words name
+pub record IsExplanation (folder : Folder) (words : List (List ℕ)) (line text : List ℕ) : Type 0 where
+  pub kind : Kind
+  pub is_line : IsLineOf kind line
+  pub texts : Texts
+  pub are_named : AreNamed folder words texts
+  pub is_text : IsOfKind words texts kind line text
 
 -- why there is no explanation
 abbrev pub IsStop : FolderView → FolderView → List (List ℕ) → Stop → Type 0
@@ -151,10 +146,16 @@ IsStop old new words (stops.TooLong name) = IsStopOfFile old new words (stops.To
 IsStop old new words (stops.Unread name) = IsStopOfFile old new words (stops.Unread name)
 IsStop old new words stops.Memory = new.failed ≡ old.failed
 
+-- the words ask for what the options mean
+abbrev pub asks_help : List (List ℕ) → Bool
+asks_help [] = false
+asks_help (word ∷ []) = bytes_eq word (codes "--help")
+asks_help (word ∷ other ∷ words) = false
+
 -- what a call answers: its outcome, and how it ends
 pub record Answers (words : List (List ℕ)) (line : List ℕ) (files files' : FolderView) (out out' err err' : SinkView)
     (code : ℕ) : Type 0 where
   pub outcome : Result (List ℕ) Stop
   pub ends : Ends (λ text. text) outcome out out' err err' code
-  pub text : IfOk outcome (IsExplanation files.folder words line)
+  pub text : OnFalse (asks_help words) (IfOk outcome (IsExplanation files.folder words line))
   pub stop : IfErr outcome (IsStop files files' words)

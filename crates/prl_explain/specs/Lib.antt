@@ -1,14 +1,12 @@
--- lines and columns
-pub mod Places
--- the kinds of lines
-pub mod Kinds
--- what is said of a line
-pub mod Sentences
--- where a name stands in a program
-pub mod Names
--- the byte that a line speaks of
-pub mod Spots
--- what is told of an event that breaks a rule
+-- the files that the words name
+pub mod Texts
+-- what comes of the text of a program
+pub mod Programs
+-- tasks, and lines that place none
+pub mod Placings
+-- what is told by the plan
 pub mod Details
+-- what is told of cycles, chains and loops
+pub mod Ways
 -- what is written
 pub mod Explanations

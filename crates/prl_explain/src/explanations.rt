@@ -1,59 +1,66 @@
-//! The explanation of a line: the line, the place of its fault, the line of the source with a mark, and what is wrong there.
+//! The explanation of a line: the line, the place of its fault, the line of the source with a mark, what is wrong there, and what
+//! more the named files tell.
 
-ghost use Rattle.std.specs.Prelude.{◌≡◌, ◌++◌, ◌≤◌, ◌<◌, ◌^◌, codes, drop, map, IfOk, IfErr, IfSome, OnOk, length};
+ghost use Rattle.std.specs.Prelude.{◌≡◌, ◌++◌, ◌≤◌, ◌<◌, ◌^◌, Some, drop, map, IfOk, IfErr, IfSome, OnOk, length};
 ghost use Rattle.std.specs.Option.{option_map};
+ghost use Rattle.std.specs.Bool.{OnFalse};
 ghost use Rattle.std.specs.String.{string_bytes};
-ghost use Rattle.prl_companions.specs.Pairs.{value_of};
-ghost use Rattle.prl_explain.specs.Kinds.{argument_of, IsLineOf};
-ghost use Rattle.prl_explain.specs.Explanations.{Answers, IsByFile, IsByPlan, IsByProgram, IsDetail, IsExplanation, IsOfKind, IsStop, IsStopOfFile, marked, most_of, most_told, name_of, option_of, part_of, place_text, shown_text};
-ghost use Rattle.prl_explain.specs.Sentences.{sentence_text};
+ghost use Rattle.prl_sentences.specs.Kinds.{IsLineOf};
+ghost use Rattle.prl_sentences.specs.Sentences.{sentence_text};
+ghost use Rattle.prl_explain.specs.Explanations.{Answers, asks_help, IsByFile, IsByNamed, IsByPart, IsExplanation, IsFront, IsOfKind, IsStop, marked, part_of, place_text, shown_text};
+ghost use Rattle.prl_explain.specs.Texts.{AreFew, IsStopOfFile};
 
-use crate::call_table::call_kinds;
-use crate::details::{of_program, of_text};
-use crate::kinds::{Kind, Part, Target, argument_of, kind_of};
-use crate::places::{line_front, line_rest, place_of, push_lead};
-use crate::program_table::program_kinds;
-use crate::run_table::run_kinds;
-use crate::sentences::push_sentence;
-use crate::spots::spot_of;
-use prl_base::{Label, push_number};
-use prl_companions::{Stop, after_name, are_pairs, finish, read_named, value_of};
+use crate::texts::{Texts, option_of, read_texts, text_in};
+use crate::told::detail_of;
+use prl_base::push_number;
+use prl_companions::{Stop, after_name, are_pairs, finish, value_of};
 use prl_io::{Files, Sink};
-use prl_plan::Rule;
+use prl_sentences::{Kind, Part, Target, argument_of, line_kind, push_sentence, rest_of};
+use prl_spots::{line_front, line_rest, place_of, push_lead, spot_of};
 use std::alloc::{AllocError, Global};
-
-/// The most bytes of a program or of bodies.
-pub const MAX_PROGRAM: u64 = 1_048_576;
-
-/// The most bytes of sensor rows.
-pub const MAX_SENSORS: u64 = 33_554_432;
-
-/// The most bytes of a schedule.
-pub const MAX_SCHEDULE: u64 = 83_886_080;
-
-/// The most bytes of a plan's text.
-pub const MAX_PLAN: u64 = 33_554_432;
-
-/// The most bytes of a table's text.
-pub const MAX_TABLE: u64 = 16_777_216;
 
 /// The form of the words.
 const FORM: &str = "prelude_explain [--program FILE] [--bodies FILE] [--sensors FILE] \
-    [--schedule FILE] [--table FILE] [--plan FILE] [--node NAME]";
+    [--schedule FILE] [--table FILE] [--cores FILE] [--plan FILE] [--node NAME], or --help";
+
+/// What the options mean.
+const HELP: &str = "prelude_explain [OPTION VALUE ..] < LINE\n\
+    Explains a line that `prelude` wrote on `err`: where it is, what is wrong, what would mend it.\n\n\
+    --program FILE   the program\n\
+    --bodies FILE    the bodies of its imported nodes\n\
+    --sensors FILE   the rows of its sensors\n\
+    --schedule FILE  the schedule\n\
+    --table FILE     the static cyclic table\n\
+    --cores FILE     the text of processors\n\
+    --plan FILE      the text of the plan; where none is named, the plan is the program's\n\
+    --node NAME      the main node; where none is named, the last one\n\
+    --help           this text\n\n\
+    Name the files that the command had: the more there are, the more is told.\n";
 
 /// Why there is no explanation.
 const NO_LINE: &str = "standard input is not one line of prelude";
 
 /// The options of the words.
-static OPTIONS: [&[u8]; 7] = [
+static OPTIONS: [&[u8]; 8] = [
     b"--program",
     b"--bodies",
     b"--sensors",
     b"--schedule",
     b"--table",
+    b"--cores",
     b"--plan",
     b"--node",
 ];
+
+/// Whether the words ask for what the options mean.
+fn asks_help(words: &[String]) -> bool
+    ensures { result ≡ asks_help (map string_bytes words.now) }
+{
+    match words {
+        [word] => word.as_bytes() == b"--help".as_slice(),
+        _ => false,
+    }
+}
 
 /// The file in which a place is told.
 fn part_of(target: Target) -> Option<Part>
@@ -63,34 +70,7 @@ fn part_of(target: Target) -> Option<Part>
         Target::Nowhere => None,
         Target::Byte(part) => Some(part),
         Target::Line(part) => Some(part),
-        Target::Event(_) => Some(Part::Schedule),
         Target::Word | Target::Task | Target::Flow | Target::Variable => Some(Part::Program),
-    }
-}
-
-/// The option that names a file.
-fn option_of(part: Part) -> &'static [u8]
-    ensures { result.now ≡ option_of part }
-{
-    match part {
-        Part::Program => b"--program",
-        Part::Bodies => b"--bodies",
-        Part::Sensors => b"--sensors",
-        Part::Schedule => b"--schedule",
-        Part::Table => b"--table",
-    }
-}
-
-/// The most bytes that a file may have.
-fn most_of(part: Part) -> u64
-    ensures { result ≡ most_of part }
-{
-    match part {
-        Part::Program => MAX_PROGRAM,
-        Part::Bodies => MAX_PROGRAM,
-        Part::Sensors => MAX_SENSORS,
-        Part::Schedule => MAX_SCHEDULE,
-        Part::Table => MAX_TABLE,
     }
 }
 
@@ -150,27 +130,6 @@ fn without_place(alloc: Global, kind: &Kind, line: &[u8]) -> Result<Vec<u8>, All
     Ok(text)
 }
 
-/// The name of the file in which a place is told, where the words have one.
-fn name_of<'a>(target: Target, words: &'a [String]) -> Option<&'a [u8]>
-    ensures { option_map (λ name. name.now) result ≡ name_of target (map string_bytes words.now) }
-{
-    match part_of(target) {
-        None => None,
-        Some(part) => value_of(option_of(part), words),
-    }
-}
-
-/// The most bytes of the file in which a place is told.
-fn most_told(target: Target) -> u64
-    ensures exact { result ≡ most_told target }
-    ensures small { result < 2 ^ 32 }
-{
-    match part_of(target) {
-        None => 0,
-        Some(part) => most_of(part),
-    }
-}
-
 /// The explanation of a line of a kind by a file.
 fn by_file(
     alloc: Global,
@@ -188,130 +147,95 @@ fn by_file(
     }
 }
 
-/// The name of main that the words have, where they have one.
-fn main_named(alloc: Global, words: &[String]) -> Result<Option<Label>, AllocError>
-    ensures { IfOk result (λ name. name ≡ value_of (codes "--node") (map string_bytes words.now)) }
+/// The line with its place, where the file in which it tells one is there, and its sentence.
+fn by_named(
+    alloc: Global,
+    kind: &Kind,
+    line: &[u8],
+    name: Option<&[u8]>,
+    source: Option<&[u8]>,
+) -> Result<Vec<u8>, AllocError>
+    requires { IfSome source (λ bytes. length bytes.now < 2 ^ 32) }
+    ensures { IfOk result (λ text. IsByNamed kind.now line.now (option_map (λ bytes. bytes.now) name.entry)
+        (option_map (λ bytes. bytes.now) source.entry) text.items) }
 {
-    match value_of(b"--node", words) {
-        None => Ok(None),
-        Some(name) => Ok(Some(Label::new(alloc, name)?)),
+    let Some(name) = name else {
+        return without_place(alloc, kind, line);
+    };
+    match source {
+        None => without_place(alloc, kind, line),
+        Some(source) => by_file(alloc, kind, line, name, source),
     }
 }
 
-/// What is told beside of an event that breaks a rule, by the program that the words name.
-fn by_program<F: Files>(
+/// The line with its place, where the words name the file in which it tells one, and its sentence.
+#[tactic(auto, using(crate::proofs::Named::below))]
+fn by_part(
     alloc: Global,
     words: &[String],
-    rule: Rule,
-    argument: &[u8],
-    source: &[u8],
-    files: &mut F,
-) -> Result<Vec<u8>, Stop>
-    ensures detail { IfOk result (λ detail. IsByProgram (F.seen files.old).folder (map string_bytes words.now)
-        (value_of (codes "--program") (map string_bytes words.now)) rule argument.now source.now detail.items) }
-    ensures stop { IfErr result (IsStopOfFile (F.seen files.old) (F.seen files.new) (map string_bytes words.now)) }
-    ensures failed { IfOk result (λ _. (F.seen files.new).failed ≡ (F.seen files.old).failed) }
-    ensures kept { (F.seen files.new).folder ≡ (F.seen files.old).folder }
-{
-    let Some(name) = value_of(b"--program", words) else {
-        return Ok(Vec::new(alloc));
-    };
-    let program = read_named(alloc, files, name, MAX_PROGRAM)?;
-    let node = main_named(alloc, words)?;
-    Ok(of_program(alloc, program, node, source, argument, rule)?)
-}
-
-/// What is told beside of an event that breaks a rule, by the plan that the words name, or by the program.
-fn by_plan<F: Files>(
-    alloc: Global,
-    words: &[String],
-    rule: Rule,
-    argument: &[u8],
-    source: &[u8],
-    files: &mut F,
-) -> Result<Vec<u8>, Stop>
-    ensures detail { IfOk result (λ detail. IsByPlan (F.seen files.old).folder (map string_bytes words.now) (value_of (codes "--plan") (map string_bytes words.now))
-        rule argument.now source.now detail.items) }
-    ensures stop { IfErr result (IsStopOfFile (F.seen files.old) (F.seen files.new) (map string_bytes words.now)) }
-    ensures failed { IfOk result (λ _. (F.seen files.new).failed ≡ (F.seen files.old).failed) }
-    ensures kept { (F.seen files.new).folder ≡ (F.seen files.old).folder }
-{
-    let Some(name) = value_of(b"--plan", words) else {
-        return by_program(alloc, words, rule, argument, source, files);
-    };
-    let text = read_named(alloc, files, name, MAX_PLAN)?;
-    Ok(of_text(alloc, &text, source, argument, rule)?)
-}
-
-/// What is told beside the place and the sentence.
-fn detail_of<F: Files>(
-    alloc: Global,
-    words: &[String],
+    texts: &Texts,
     kind: &Kind,
     line: &[u8],
-    source: &[u8],
-    files: &mut F,
-) -> Result<Vec<u8>, Stop>
-    ensures detail { IfOk result (λ detail. IsDetail (F.seen files.old).folder (map string_bytes words.now) kind.now.target
-        (argument_of kind.now line.now) source.now detail.items) }
-    ensures stop { IfErr result (IsStopOfFile (F.seen files.old) (F.seen files.new) (map string_bytes words.now)) }
-    ensures failed { IfOk result (λ _. (F.seen files.new).failed ≡ (F.seen files.old).failed) }
-    ensures kept { (F.seen files.new).folder ≡ (F.seen files.old).folder }
+    part: Part,
+) -> Result<Vec<u8>, AllocError>
+    requires { AreFew texts.now }
+    ensures { IfOk result (λ text. IsByPart kind.now line.now (map string_bytes words.now) texts.now (Some part) text.items) }
 {
-    match kind.target {
-        Target::Event(rule) => {
-            by_plan(alloc, words, rule, argument_of(kind, line), source, files)
-        }
-        Target::Nowhere
-        | Target::Byte(_)
-        | Target::Line(_)
-        | Target::Word
-        | Target::Task
-        | Target::Flow
-        | Target::Variable => Ok(Vec::new(alloc)),
+    let name = value_of(option_of(part), words);
+    by_named(alloc, kind, line, name, text_in(texts, part))
+}
+
+/// The line with its place and its sentence.
+fn front_of(
+    alloc: Global,
+    words: &[String],
+    texts: &Texts,
+    kind: &Kind,
+    line: &[u8],
+) -> Result<Vec<u8>, AllocError>
+    requires { AreFew texts.now }
+    ensures { IfOk result (λ text. IsFront kind.now line.now (map string_bytes words.now) texts.now text.items) }
+{
+    match part_of(kind.target) {
+        None => without_place(alloc, kind, line),
+        Some(part) => by_part(alloc, words, texts, kind, line, part),
     }
 }
 
 /// The explanation of a line of a kind.
-fn of_kind<F: Files>(
+#[tactic(auto, using(crate::proofs::Sayings::of_kind_is))]
+fn of_kind(
+    alloc: Global,
+    words: &[String],
+    texts: &Texts,
+    kind: &Kind,
+    line: &[u8],
+) -> Result<Vec<u8>, AllocError>
+    requires { AreFew texts.now }
+    ensures { IfOk result (λ text. IsOfKind (map string_bytes words.now) texts.now kind.now line.now text.items) }
+{
+    let mut text = front_of(alloc, words, texts, kind, line)?;
+    let detail = detail_of(alloc, texts, kind.detail, rest_of(kind, line))?;
+    text.extend_from_slice(&detail)?;
+    Ok(text)
+}
+
+/// The explanation of a line of a kind, by the files that the words name.
+#[tactic(auto, using(crate::proofs::Sayings::explained))]
+fn by_words<F: Files>(
     alloc: Global,
     words: &[String],
     kind: &Kind,
     line: &[u8],
     files: &mut F,
 ) -> Result<Vec<u8>, Stop>
-    ensures text { IfOk result (λ text. IsOfKind (F.seen files.old).folder (map string_bytes words.now) kind.now line.now text.items) }
+    requires { IsLineOf kind.now line.now }
+    ensures text { IfOk result (λ text. IsExplanation (F.seen files.old).folder (map string_bytes words.now) line.now text.items) }
     ensures stop { IfErr result (IsStopOfFile (F.seen files.old) (F.seen files.new) (map string_bytes words.now)) }
     ensures kept { (F.seen files.new).folder ≡ (F.seen files.old).folder }
 {
-    let Some(name) = name_of(kind.target, words) else {
-        return Ok(without_place(alloc, kind, line)?);
-    };
-    let source = read_named(alloc, files, name, most_told(kind.target))?;
-    let mut text = by_file(alloc, kind, line, name, &source)?;
-    let detail = detail_of(alloc, words, kind, line, &source, files)?;
-    text.extend_from_slice(&detail)?;
-    Ok(text)
-}
-
-/// The kind of a line of a program or of what it is run with.
-fn program_line_kind(line: &[u8]) -> Option<&'static Kind>
-    ensures { IfSome result (λ kind. IsLineOf kind.now line.now) }
-{
-    match kind_of(program_kinds(), line) {
-        Some(kind) => Some(kind),
-        None => kind_of(run_kinds(), line),
-    }
-}
-
-/// The kind of a line.
-fn line_kind(line: &[u8]) -> Option<&'static Kind>
-    ensures { IfSome result (λ kind. IsLineOf kind.now line.now) }
-{
-    match kind_of(call_kinds(), line) {
-        Some(kind) => Some(kind),
-        None => program_line_kind(line),
-    }
+    let texts = read_texts(alloc, files, words)?;
+    Ok(of_kind(alloc, words, &texts, kind, line)?)
 }
 
 /// The explanation of a line.
@@ -330,12 +254,30 @@ fn explanation<F: Files>(
     }
     match line_kind(line) {
         None => Err(Stop::Refused(NO_LINE)),
-        Some(kind) => of_kind(alloc, words, kind, line, files),
+        Some(kind) => by_words(alloc, words, kind, line, files),
     }
 }
 
+/// What the words ask for: what the options mean, or the explanation of a line.
+fn answer<F: Files>(
+    alloc: Global,
+    words: &[String],
+    line: &[u8],
+    files: &mut F,
+) -> Result<Vec<u8>, Stop>
+    ensures text { OnFalse (asks_help (map string_bytes words.now))
+        (IfOk result (λ text. IsExplanation (F.seen files.old).folder (map string_bytes words.now) line.now text.items)) }
+    ensures stop { IfErr result (IsStop (F.seen files.old) (F.seen files.new) (map string_bytes words.now)) }
+{
+    if asks_help(words) {
+        return Ok(Vec::from_slice(alloc, HELP.as_bytes())?);
+    }
+    explanation(alloc, words, line, files)
+}
+
 /// Explains a line that `prelude` wrote on `err`: the explanation goes to `out`, and at every status but 0 one line goes to
-/// `err`. The first word is the program's own name, which is passed over.
+/// `err`. The first word is the program's own name, which is passed over; where
+/// `--help` is the only other one, `out` gets what the options mean.
 pub fn explain<F: Files, S: Sink, E: Sink>(
     alloc: Global,
     words: &[String],
@@ -348,6 +290,6 @@ pub fn explain<F: Files, S: Sink, E: Sink>(
         (F.seen files.old) (F.seen files.new) (S.seen out.old) (S.seen out.new)
         (E.seen err.old) (E.seen err.new) result }
 {
-    let outcome = explanation(alloc, after_name(words), line, files);
+    let outcome = answer(alloc, after_name(words), line, files);
     finish(out, err, &outcome)
 }

@@ -1,19 +1,17 @@
 //! Refusals explained: from the line that `prelude` wrote on `err` to the place of the fault, the line of the source with a
-//! mark under the place, and sentences in plain words; of an event that breaks a rule, which job acts and which other one it
-//! overtakes. It stands on `prl_pipeline` for the plan of a program, on `prl_plantext` for the text of a plan, and on `prl_broken`.
+//! mark under the place, and sentences in plain words; and what the files tell beside: the two places of a name, what might stand
+//! where something else has to, which job of a schedule acts and which other one it overtakes, the flows round a cycle, the chain of
+//! jobs that one waits for. It stands on `prl_sentences` for what is said of each line, on `prl_spots` for places, on `prl_pipeline`
+//! for the plan of a program, on `prl_plantext` for the text of a plan, on `prl_broken` and on `prl_ways`.
 #![tactic(auto)]
 
-mod call_table;
 mod details;
 mod explanations;
-mod kinds;
-mod names;
-mod places;
-mod program_table;
-mod run_table;
-mod sentences;
-mod spots;
+mod placings;
+mod programs;
+mod texts;
+mod told;
+mod ways;
 
 pub use explanations::explain;
-pub use kinds::{Kind, Part, Piece, Target};
-pub use places::{Place, line_start, place_of};
+pub use texts::Texts;

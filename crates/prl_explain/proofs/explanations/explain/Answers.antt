@@ -5,7 +5,9 @@ use Rattle.std.proofs.lemmas.List.{drop-map}
 use Rattle.prl_io.specs.Views.{SinkView}
 use Rattle.prl_companions.specs.declared.endings.Stop.{Stop}
 use Rattle.prl_companions.specs.Endings.{Ends}
-use Rattle.prl_explain.specs.Explanations.{IsExplanation, IsStop}
+use Rattle.std.specs.Bool.{OnFalse}
+use Rattle.std.proofs.lemmas.Bool.{OnFalse_at, OnFalse_from}
+use Rattle.prl_explain.specs.Explanations.{IsExplanation, IsStop, asks_help}
 use Rattle.prl_explain.proofs.explanations.explain.Goals as goal
 
 -- an outcome with its text as a list of bytes
@@ -32,12 +34,13 @@ returns g c =
     let words : map string_bytes c.after_name.result.now ≡ drop 1 (map string_bytes c.args.words.now) =
     ap (map string_bytes) c.after_name.ensures ∙ sym (drop-map string_bytes 1 c.args.words.now) in
     let files = g.F.Files.seen c.args.files.now in
-    let after = g.F.Files.seen c.explanation-outcome.new.files in
+    let after = g.F.Files.seen c.answer-outcome.new.files in
     record {
-      outcome = seen vec_items c.explanation-outcome.result;
-      ends = ends_so vec_items c.explanation-outcome.result _ _ _ _ _ c.finish.ensures;
-      text = subst (λ (ws : List (List ℕ)). IfOk (seen vec_items c.explanation-outcome.result) (IsExplanation files.folder ws c.args.line.now)) words
-          (text_so vec_items c.explanation-outcome.result _ c.explanation-outcome.ensures.text);
-      stop = subst (λ (ws : List (List ℕ)). IfErr (seen vec_items c.explanation-outcome.result) (IsStop files after ws)) words
-          (stop_so vec_items c.explanation-outcome.result _ c.explanation-outcome.ensures.stop);
+      outcome = seen vec_items c.answer-outcome.result;
+      ends = ends_so vec_items c.answer-outcome.result _ _ _ _ _ c.finish.ensures;
+      text = subst (λ (ws : List (List ℕ)). OnFalse (asks_help ws) (IfOk (seen vec_items c.answer-outcome.result) (IsExplanation files.folder ws c.args.line.now))) words
+          (OnFalse_from (asks_help (map string_bytes c.after_name.result.now)) _
+          (λ no. text_so vec_items c.answer-outcome.result _ (OnFalse_at no c.answer-outcome.ensures.text)));
+      stop = subst (λ (ws : List (List ℕ)). IfErr (seen vec_items c.answer-outcome.result) (IsStop files after ws)) words
+          (stop_so vec_items c.answer-outcome.result _ c.answer-outcome.ensures.stop);
     }

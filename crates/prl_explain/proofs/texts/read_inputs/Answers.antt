@@ -1,0 +1,11 @@
+use Rattle.std.proofs.Common.{map}
+use Rattle.std.proofs.lemmas.Result.{err_from_is_err_and}
+use Rattle.std.specs.String.{string_bytes}
+use Rattle.prl_explain.proofs.Stops.{stop_from}
+use Rattle.prl_explain.proofs.texts.read_inputs.Goals as goal
+
+pub returns-in_err-rest-clause-stop : goal.returns-in_err-rest-clause-stop
+returns-in_err-rest-clause-stop g c =
+    let p = err_from_is_err_and c.from_residual-in_err-rest.result c.from_residual-in_err-rest.ensures.1 in
+    rw (p.1, p.2) (stop_from (g.F.Files.seen c.args.files.now) (g.F.Files.seen c.read_two.new.files) (g.F.Files.seen c.read_two-2.new.files)
+    c.read_two.ensures.kept c.in_ok-front.ensures.failed (map string_bytes c.args.words.now) c.in_err-rest.field-0.0 c.in_err-rest.ensures.stop)

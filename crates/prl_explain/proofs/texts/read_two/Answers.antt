@@ -1,0 +1,11 @@
+use Rattle.std.proofs.Common.{map}
+use Rattle.std.proofs.lemmas.Result.{err_from_is_err_and}
+use Rattle.std.specs.String.{string_bytes}
+use Rattle.prl_explain.proofs.Stops.{stop_from}
+use Rattle.prl_explain.proofs.texts.read_two.Goals as goal
+
+pub returns-in_err-other-clause-stop : goal.returns-in_err-other-clause-stop
+returns-in_err-other-clause-stop g c =
+    let p = err_from_is_err_and c.from_residual-in_err-other.result c.from_residual-in_err-other.ensures.1 in
+    rw (p.1, p.2) (stop_from (g.F.Files.seen c.args.files.now) (g.F.Files.seen c.read_part.new.files) (g.F.Files.seen c.read_part-2.new.files)
+    c.read_part.ensures.kept c.in_ok-one.ensures.failed (map string_bytes c.args.words.now) c.in_err-other.field-0.0 c.in_err-other.ensures.stop)

@@ -1,0 +1,60 @@
+-- What is told of a cycle, of a chain of jobs and of a loop of them.
+use Rattle.std.specs.Prelude.{◌≡◌, ◌⊎◌, ℕ, ℤ, pos, List, [], Option, Some, None}
+use Rattle.prl_base.specs.Decimals.{decimal_of}
+use Rattle.prl_flow.specs.Programs.{FlatProgram}
+use Rattle.prl_plan.specs.declared.graphs.TaskGraph.{TaskGraph}
+use Rattle.prl_plan.specs.Jobs.{Job, task_at}
+use Rattle.prl_ways.specs.declared.chains.Chain.{Chain}
+use Rattle.prl_ways.specs.declared.rounds.Round.{Round}
+use Rattle.prl_ways.specs.Chains.{IsChainTo, IsCircle}
+use Rattle.prl_ways.specs.ChainTexts.{chain_text, circle_text}
+use Rattle.prl_ways.specs.Rounds.{IsRound}
+use Rattle.prl_ways.specs.RoundTexts.{flow_label, round_text}
+use Rattle.prl_explain.specs.Programs.{IsFlatOf, IsGraphIn}
+
+-- the flows round a cycle of the program through the flow of this label
+pub record IsCycleOf (program : List ℕ) (asked : Option (List ℕ)) (label : List ℕ) (flat : FlatProgram) (round : Round) : Type 0 where
+  pub is_flat : IsFlatOf program asked flat
+  pub labelled : flow_label flat round.first ≡ label
+  pub is_round : IsRound flat round.first round
+
+-- what is told of a cycle: nothing, or the flows round one
+abbrev pub IsCycleTold : Option (List ℕ) → Option (List ℕ) → List ℕ → List ℕ → Type 0
+IsCycleTold None asked label text = text ≡ []
+IsCycleTold (Some program) asked label text =
+    (text ≡ []) ⊎ ((flat : FlatProgram) × (round : Round) × IsCycleOf program asked label flat round × (text ≡ round_text flat round))
+
+-- the number with a sign that a text writes
+abbrev pub IsDated : List ℕ → ℤ → Type 0
+IsDated text date = (n : ℕ) × (decimal_of text ≡ Some n) × (date ≡ pos n)
+
+-- the job of the name of a task and of a number
+pub record IsJobNamed (graph : TaskGraph) (name number : List ℕ) (job : Job) : Type 0 where
+  pub named : (task_at graph job.task).name ≡ name
+  pub numbered : IsDated number job.number
+
+-- a chain of jobs of the program to the job that is named, which needs until this date
+pub record IsChainNamed (program : List ℕ) (asked : Option (List ℕ)) (name number needs : List ℕ) (graph : TaskGraph) (chain : Chain) : Type 0 where
+  pub is_graph : IsGraphIn program asked graph
+  pub job : Job
+  pub is_job : IsJobNamed graph name number job
+  pub date : ℤ
+  pub dated : IsDated needs date
+  pub is_chain : IsChainTo graph job date chain
+
+-- what is told of a job that has too little time: nothing, or the chain
+abbrev pub IsChainTold : Option (List ℕ) → Option (List ℕ) → List ℕ → List ℕ → List ℕ → List ℕ → Type 0
+IsChainTold None asked name number needs text = text ≡ []
+IsChainTold (Some program) asked name number needs text =
+    (text ≡ []) ⊎ ((graph : TaskGraph) × (chain : Chain) × IsChainNamed program asked name number needs graph chain × (text ≡ chain_text graph chain))
+
+-- a circle of jobs of the program
+pub record IsCircleOf (program : List ℕ) (asked : Option (List ℕ)) (graph : TaskGraph) (chain : Chain) : Type 0 where
+  pub is_graph : IsGraphIn program asked graph
+  pub is_circle : IsCircle graph chain
+
+-- what is told of a job that waits for a loop: nothing, or the circle
+abbrev pub IsCircleTold : Option (List ℕ) → Option (List ℕ) → List ℕ → Type 0
+IsCircleTold None asked text = text ≡ []
+IsCircleTold (Some program) asked text =
+    (text ≡ []) ⊎ ((graph : TaskGraph) × (chain : Chain) × IsCircleOf program asked graph chain × (text ≡ circle_text graph chain))

@@ -1,0 +1,165 @@
+//! What is told beside the place and the sentence of a line, by the files that the words name.
+
+ghost use Rattle.std.specs.Prelude.{◌≡◌, IfOk};
+ghost use Rattle.prl_schedules.specs.ScheduleTexts.{task_names};
+ghost use Rattle.prl_sentences.specs.Sentences.{word_at};
+ghost use Rattle.prl_explain.specs.Details.{IsLeftIn, IsOfSchedule, IsPlacingIn, IsPlanFrom};
+ghost use Rattle.prl_explain.specs.Explanations.{IsByPlan, IsDetail, IsTwiceIn, IsUnexpectedIn, program_in};
+ghost use Rattle.prl_explain.specs.Placings.{tasks_text};
+ghost use Rattle.prl_explain.specs.Texts.{AreFew, text_in};
+ghost use Rattle.prl_explain.specs.Ways.{IsChainTold, IsCircleTold, IsCycleTold};
+
+use crate::details::{broken_told, left_told, placing_in, plan_from, tasks_told};
+use crate::texts::{Texts, text_in};
+use crate::ways::{chain_told, circle_told, cycle_told};
+use prl_plan::{Plan, Rule};
+use prl_sentences::{Detail, Part, word_at};
+use prl_spots::{here_of, twice_told, unexpected_told};
+use std::alloc::{AllocError, Global};
+
+/// The plan that the texts give.
+fn plan_in(alloc: Global, texts: &Texts) -> Result<Option<Plan>, AllocError>
+    requires { AreFew texts.now }
+    ensures { IfOk result (IsPlanFrom (text_in texts.now Part.Plan) (program_in texts.now) texts.now.node) }
+{
+    let text = text_in(texts, Part::Plan);
+    plan_from(
+        alloc,
+        text,
+        text_in(texts, Part::Program),
+        texts.node.as_ref(),
+    )
+}
+
+/// What is told of an event that breaks a rule.
+#[tactic(auto, using(crate::proofs::Sayings::by_plan, crate::proofs::Sayings::without_plan))]
+fn broken_in(
+    alloc: Global,
+    texts: &Texts,
+    argument: &[u8],
+    rule: Rule,
+) -> Result<Vec<u8>, AllocError>
+    requires { AreFew texts.now }
+    ensures { IfOk result (λ text. IsByPlan texts.now (λ plan told. IsOfSchedule plan (text_in texts.now Part.Schedule) argument.now rule told) text.items) }
+{
+    match plan_in(alloc, texts)? {
+        None => Ok(Vec::new(alloc)),
+        Some(plan) => { broken_told(alloc, &plan, text_in(texts, Part::Schedule), argument, rule) }
+    }
+}
+
+/// What is told of what a job is left to do.
+#[tactic(auto, using(crate::proofs::Sayings::by_plan, crate::proofs::Sayings::without_plan))]
+fn left_in(alloc: Global, texts: &Texts, name: &[u8], number: &[u8]) -> Result<Vec<u8>, AllocError>
+    requires { AreFew texts.now }
+    ensures { IfOk result (λ text. IsByPlan texts.now (λ plan told. IsLeftIn plan (text_in texts.now Part.Schedule) name.now number.now told) text.items) }
+{
+    match plan_in(alloc, texts)? {
+        None => Ok(Vec::new(alloc)),
+        Some(plan) => left_told(alloc, &plan, text_in(texts, Part::Schedule), name, number),
+    }
+}
+
+/// What is told of the tasks.
+#[tactic(auto, using(crate::proofs::Sayings::by_plan, crate::proofs::Sayings::without_plan))]
+fn tasks_in(alloc: Global, texts: &Texts) -> Result<Vec<u8>, AllocError>
+    requires { AreFew texts.now }
+    ensures { IfOk result (λ text. IsByPlan texts.now (λ plan told. told ≡ tasks_text (task_names plan)) text.items) }
+{
+    match plan_in(alloc, texts)? {
+        None => Ok(Vec::new(alloc)),
+        Some(plan) => tasks_told(alloc, &plan),
+    }
+}
+
+/// What is told of a line of a text of processors.
+#[tactic(auto, using(crate::proofs::Sayings::by_plan, crate::proofs::Sayings::without_plan))]
+fn placing_told(alloc: Global, texts: &Texts, argument: &[u8]) -> Result<Vec<u8>, AllocError>
+    requires { AreFew texts.now }
+    ensures { IfOk result (λ text. IsByPlan texts.now (λ plan told. IsPlacingIn plan (text_in texts.now Part.Cores) argument.now told) text.items) }
+{
+    match plan_in(alloc, texts)? {
+        None => Ok(Vec::new(alloc)),
+        Some(plan) => placing_in(alloc, &plan, text_in(texts, Part::Cores), argument),
+    }
+}
+
+/// What is told of a name that the program has twice.
+fn twice_in(alloc: Global, texts: &Texts, name: &[u8]) -> Result<Vec<u8>, AllocError>
+    requires { AreFew texts.now }
+    ensures { IfOk result (λ text. IsTwiceIn (program_in texts.now) name.now text.items) }
+{
+    match text_in(texts, Part::Program) {
+        None => Ok(Vec::new(alloc)),
+        Some(source) => twice_told(alloc, source, name),
+    }
+}
+
+/// What is told of what stands at a byte where something else has to.
+fn unexpected_in(
+    alloc: Global,
+    texts: &Texts,
+    part: Part,
+    number: &[u8],
+) -> Result<Vec<u8>, AllocError>
+    requires { AreFew texts.now }
+    ensures { IfOk result (λ text. IsUnexpectedIn part (text_in texts.now part) number.now text.items) }
+{
+    match (text_in(texts, part), part) {
+        (None, _) => Ok(Vec::new(alloc)),
+        (Some(source), Part::Program) => unexpected_told(alloc, source, number),
+        (Some(source), _) => here_of(alloc, source, number),
+    }
+}
+
+/// What is told of a cycle of flows.
+fn cycle_in(alloc: Global, texts: &Texts, label: &[u8]) -> Result<Vec<u8>, AllocError>
+    requires { AreFew texts.now }
+    ensures { IfOk result (λ text. IsCycleTold (program_in texts.now) texts.now.node label.now text.items) }
+{
+    let program = text_in(texts, Part::Program);
+    cycle_told(alloc, program, texts.node.as_ref(), label)
+}
+
+/// What is told of a chain of jobs.
+fn chain_in(alloc: Global, texts: &Texts, rest: &[u8]) -> Result<Vec<u8>, AllocError>
+    requires { AreFew texts.now }
+    ensures { IfOk result (λ text. IsChainTold (program_in texts.now) texts.now.node (word_at 0 rest.now) (word_at 1 rest.now) (word_at 3 rest.now) text.items) }
+{
+    let program = text_in(texts, Part::Program);
+    chain_told(alloc, program, texts.node.as_ref(), rest)
+}
+
+/// What is told of a loop of jobs.
+fn circle_in(alloc: Global, texts: &Texts, rest: &[u8]) -> Result<Vec<u8>, AllocError>
+    requires { AreFew texts.now }
+    ensures { IfOk result (λ text. IsCircleTold (program_in texts.now) texts.now.node text.items) }
+{
+    let program = text_in(texts, Part::Program);
+    circle_told(alloc, program, texts.node.as_ref(), rest)
+}
+
+/// What is told beside the place and the sentence, where this stands after the front of the line.
+pub(crate) fn detail_of(
+    alloc: Global,
+    texts: &Texts,
+    detail: Detail,
+    rest: &[u8],
+) -> Result<Vec<u8>, AllocError>
+    requires { AreFew texts.now }
+    ensures { IfOk result (λ text. IsDetail texts.now detail rest.now text.items) }
+{
+    let word = word_at(rest, 0);
+    match detail {
+        Detail::Nothing | Detail::Numbers | Detail::Clocks => Ok(Vec::new(alloc)),
+        Detail::Twice => twice_in(alloc, texts, word),
+        Detail::Unexpected(part) => unexpected_in(alloc, texts, part, word),
+        Detail::Broken(rule) => broken_in(alloc, texts, word, rule),
+        Detail::Left => left_in(alloc, texts, word, word_at(rest, 1)),
+        Detail::Tasks => tasks_in(alloc, texts),
+        Detail::Placing => placing_told(alloc, texts, word),
+        Detail::Cycle => cycle_in(alloc, texts, word),
+        Detail::Chain => chain_in(alloc, texts, rest),
+        Detail::Circle => circle_in(alloc, texts, rest),
+    }
+}

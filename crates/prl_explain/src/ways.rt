@@ -1,0 +1,215 @@
+//! What is told of a cycle, of a chain of jobs and of a loop of them.
+
+ghost use Rattle.std.specs.Prelude.{◌≡◌, ◌<◌, ◌^◌, IfOk, IfSome, Some, length};
+ghost use Rattle.std.specs.Option.{option_copied, option_map};
+ghost use Rattle.prl_explain.specs.Programs.{IsFlatOf, IsGraphIn};
+ghost use Rattle.prl_explain.specs.Ways.{IsChainTold, IsCircleTold, IsCycleTold, IsDated, IsJobNamed};
+ghost use Rattle.prl_plan.specs.Jobs.{task_at};
+ghost use Rattle.prl_sentences.specs.Sentences.{word_at};
+ghost use Rattle.prl_ways.specs.Chains.{job_of};
+ghost use Rattle.prl_ways.specs.RoundTexts.{flow_label};
+
+use crate::programs::{flat_of, graph_of};
+use prl_base::{Label, TaskNo, decimal_of};
+use prl_flow::Flat;
+use prl_plan::TaskGraph;
+use prl_sentences::word_at;
+use prl_ways::{WayJob, chain_to, circle_before, push_chain, push_circle, push_round, round_from};
+use std::alloc::{AllocError, Global};
+
+/// The label of a flow; no bytes where that is not there.
+fn label_of(flat: &Flat, flow: u32) -> &[u8]
+    ensures { result.now ≡ flow_label flat.now flow }
+{
+    match flat.flows().get(flow as usize) {
+        None => &[],
+        Some(flow) => flow.label.bytes(),
+    }
+}
+
+/// The flow of a label.
+fn flow_named(flat: &Flat, label: &[u8]) -> Option<u32>
+    ensures { IfSome result (λ i. flow_label flat.now i ≡ label.now) }
+{
+    for i in 0..flat.flows().len() as u32 {
+        if label_of(flat, i) == label {
+            return Some(i);
+        }
+    }
+    None
+}
+
+/// What is told of a cycle of the flat program.
+#[tactic(auto, using(crate::proofs::Sayings::cycle_is, crate::proofs::Sayings::no_cycle))]
+fn cycle_in(
+    alloc: Global,
+    program: &[u8],
+    node: Option<&Label>,
+    flat: &Flat,
+    label: &[u8],
+) -> Result<Vec<u8>, AllocError>
+    requires { IsFlatOf program.now (option_copied node) flat.now }
+    ensures { IfOk result (λ text. IsCycleTold (Some program.now) (option_copied node.entry) label.now text.items) }
+{
+    let mut text = Vec::new(alloc);
+    let Some(first) = flow_named(flat, label) else {
+        return Ok(text);
+    };
+    match round_from(alloc, flat, first)? {
+        None => Ok(text),
+        Some(round) => {
+            push_round(&mut text, flat, &round)?;
+            Ok(text)
+        }
+    }
+}
+
+/// What is told of a cycle through the flow of this label.
+#[tactic(auto, using(crate::proofs::Sayings::no_cycle))]
+pub(crate) fn cycle_told(
+    alloc: Global,
+    program: Option<&[u8]>,
+    node: Option<&Label>,
+    label: &[u8],
+) -> Result<Vec<u8>, AllocError>
+    requires { IfSome program (λ text. length text.now < 2 ^ 32) }
+    ensures { IfOk result (λ text. IsCycleTold (option_map (λ text. text.now) program.entry) (option_copied node.entry) label.now text.items) }
+{
+    let Some(program) = program else {
+        return Ok(Vec::new(alloc));
+    };
+    match flat_of(alloc, program, node)? {
+        None => Ok(Vec::new(alloc)),
+        Some(flat) => cycle_in(alloc, program, node, &flat, label),
+    }
+}
+
+/// The task of a name.
+fn task_named(graph: &TaskGraph, name: &[u8]) -> Option<u32>
+    ensures { IfSome result (λ i. (task_at graph.now i).name ≡ name.now) }
+{
+    for (i, task) in graph.tasks.as_slice().iter().enumerate() {
+        if task.name.bytes() == name && i < 64 {
+            return Some(i as u32);
+        }
+    }
+    None
+}
+
+/// The date that a number writes; None past 63 bits.
+fn date_of(number: &[u8]) -> Option<i64>
+    ensures { IfSome result (λ date. IsDated number.now date) }
+{
+    let date = decimal_of(number)?;
+    if date > i64::MAX as u64 {
+        return None;
+    }
+    Some(date as i64)
+}
+
+/// The job of the name of a task and of a number.
+fn job_named(graph: &TaskGraph, name: &[u8], number: &[u8]) -> Option<WayJob>
+    ensures { IfSome result (λ job. IsJobNamed graph.now name.now number.now (job_of job)) }
+{
+    let task = task_named(graph, name)?;
+    let number = date_of(number)?;
+    Some(WayJob {
+        task: TaskNo(task),
+        number,
+    })
+}
+
+/// What is told of a chain of jobs of the graph, by the words of the line.
+#[tactic(auto, using(crate::proofs::Sayings::chain_is, crate::proofs::Sayings::no_chain))]
+fn chain_in(
+    alloc: Global,
+    program: &[u8],
+    node: Option<&Label>,
+    graph: &TaskGraph,
+    rest: &[u8],
+) -> Result<Vec<u8>, AllocError>
+    requires { IsGraphIn program.now (option_copied node) graph.now }
+    ensures { IfOk result (λ text. IsChainTold (Some program.now) (option_copied node.entry)
+        (word_at 0 rest.now) (word_at 1 rest.now) (word_at 3 rest.now) text.items) }
+{
+    let mut text = Vec::new(alloc);
+    let Some(job) = job_named(graph, word_at(rest, 0), word_at(rest, 1)) else {
+        return Ok(text);
+    };
+    let Some(needs) = date_of(word_at(rest, 3)) else {
+        return Ok(text);
+    };
+    match chain_to(alloc, graph, job, needs)? {
+        None => Ok(text),
+        Some(chain) => {
+            push_chain(&mut text, graph, &chain)?;
+            Ok(text)
+        }
+    }
+}
+
+/// What is told of a job that has too little time: the chain of jobs that it waits for, by the words of the line.
+#[tactic(auto, using(crate::proofs::Sayings::no_chain))]
+pub(crate) fn chain_told(
+    alloc: Global,
+    program: Option<&[u8]>,
+    node: Option<&Label>,
+    rest: &[u8],
+) -> Result<Vec<u8>, AllocError>
+    requires { IfSome program (λ text. length text.now < 2 ^ 32) }
+    ensures { IfOk result (λ text. IsChainTold (option_map (λ text. text.now) program.entry) (option_copied node.entry)
+        (word_at 0 rest.now) (word_at 1 rest.now) (word_at 3 rest.now) text.items) }
+{
+    let Some(program) = program else {
+        return Ok(Vec::new(alloc));
+    };
+    match graph_of(alloc, program, node)? {
+        None => Ok(Vec::new(alloc)),
+        Some(graph) => chain_in(alloc, program, node, &graph, rest),
+    }
+}
+
+/// What is told of a loop of jobs of the graph, by the words of the line.
+#[tactic(auto, using(crate::proofs::Sayings::circle_is, crate::proofs::Sayings::no_circle))]
+fn circle_in(
+    alloc: Global,
+    program: &[u8],
+    node: Option<&Label>,
+    graph: &TaskGraph,
+    rest: &[u8],
+) -> Result<Vec<u8>, AllocError>
+    requires { IsGraphIn program.now (option_copied node) graph.now }
+    ensures { IfOk result (λ text. IsCircleTold (Some program.now) (option_copied node.entry) text.items) }
+{
+    let mut text = Vec::new(alloc);
+    let Some(job) = job_named(graph, word_at(rest, 0), word_at(rest, 1)) else {
+        return Ok(text);
+    };
+    match circle_before(alloc, graph, job)? {
+        None => Ok(text),
+        Some(circle) => {
+            push_circle(&mut text, graph, &circle)?;
+            Ok(text)
+        }
+    }
+}
+
+/// What is told of a job that waits for a loop of jobs: the jobs round it.
+#[tactic(auto, using(crate::proofs::Sayings::no_circle))]
+pub(crate) fn circle_told(
+    alloc: Global,
+    program: Option<&[u8]>,
+    node: Option<&Label>,
+    rest: &[u8],
+) -> Result<Vec<u8>, AllocError>
+    requires { IfSome program (λ text. length text.now < 2 ^ 32) }
+    ensures { IfOk result (λ text. IsCircleTold (option_map (λ text. text.now) program.entry) (option_copied node.entry) text.items) }
+{
+    let Some(program) = program else {
+        return Ok(Vec::new(alloc));
+    };
+    match graph_of(alloc, program, node)? {
+        None => Ok(Vec::new(alloc)),
+        Some(graph) => circle_in(alloc, program, node, &graph, rest),
+    }
+}

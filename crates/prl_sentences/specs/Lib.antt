@@ -1,0 +1,4 @@
+-- the kinds of lines
+pub mod Kinds
+-- what is said of a line
+pub mod Sentences

@@ -1,0 +1,60 @@
+//! What is said of a line: words, and words of the line itself.
+
+ghost use Rattle.std.specs.Prelude.{◌≡◌, ◌++◌, OnOk};
+ghost use Rattle.std.specs.List.{flat_map};
+ghost use Rattle.prl_sentences.specs.Sentences.{piece_text, sentence_text, word_at, word_from};
+
+use crate::kinds::{Kind, Piece, rest_of, word_of};
+use std::alloc::AllocError;
+
+/// The bytes from the word of a number on, which counts from 0; a blank or a line feed ends a word.
+fn word_from(text: &[u8], number: u64) -> &[u8]
+    ensures { result.now ≡ word_from number text.now }
+{
+    let mut left = number;
+    for (i, byte) in text.iter().enumerate() {
+        if left == 0 {
+            return &text[i..];
+        }
+        if *byte == b' ' || *byte == b'\n' {
+            left -= 1;
+        }
+    }
+    &[]
+}
+
+/// The word of a number, from 0; no bytes where there are fewer words.
+pub fn word_at(text: &[u8], number: u64) -> &[u8]
+    ensures { result.now ≡ word_at number text.now }
+{
+    word_of(word_from(text, number))
+}
+
+/// Appends a piece.
+fn push_piece(text: &mut Vec<u8>, rest: &[u8], piece: &Piece) -> Result<(), AllocError>
+    ensures { OnOk result (text.new.items ≡ text.old.items ++ piece_text rest.now piece.now) }
+{
+    match piece {
+        Piece::Words(words) => text.extend_from_slice(words.as_bytes()),
+        Piece::Word(number) => text.extend_from_slice(word_at(rest, *number)),
+    }
+}
+
+/// Appends the pieces one after another.
+fn push_pieces(text: &mut Vec<u8>, rest: &[u8], pieces: &[Piece]) -> Result<(), AllocError>
+    ensures { OnOk result (text.new.items ≡ text.old.items ++ flat_map (piece_text rest.now) pieces.now) }
+{
+    for piece in pieces {
+        push_piece(text, rest, piece)?;
+    }
+    Ok(())
+}
+
+/// Appends what is said of a line of a kind.
+pub fn push_sentence(text: &mut Vec<u8>, kind: &Kind, line: &[u8]) -> Result<(), AllocError>
+    ensures { OnOk result (text.new.items ≡ text.old.items ++ sentence_text kind.now line.now) }
+{
+    push_pieces(text, rest_of(kind, line), kind.sentence)?;
+    text.push(b'\n')?;
+    Ok(())
+}

@@ -1,0 +1,7 @@
+use Rattle.std.specs.Prelude.{All}
+use Rattle.prl_spots.specs.Unexpected.{MayStand}
+use Rattle.prl_spots.proofs.unexpected.standing.Given as goal
+
+-- each of the words so far may stand there
+abbrev pub invariant-loop-trial : goal.invariant-loop-trial
+invariant-loop-trial l = All (λ t. MayStand l.text l.at t.word.now) l.trials.items
