@@ -54,3 +54,7 @@ HasSeen l r tasks = (i : ℕ) (seat : JobSeatView) → i < tasks → slice_get l
 abbrev pub IsPolled : RunConstants → ℕ → LoneView → ClockPart → List Event → Bool → Type 0
 IsPolled c i l r list true = StandsIn c l r (list ++ act_of i ∷ [])
 IsPolled c i l r list false = StandsIn c l r list × (KeepsGated c (reached c list) (act_of i) → ⊥)
+
+-- where all seats stood as after some list of events, they stand as after a poll of task i
+abbrev pub TellsPoll : RunConstants → ℕ → LoneView → LoneView → Bool → Type 0
+TellsPoll c i before after result = (r : ClockPart) (list : List Event) → StandsIn c before r list → IsPolled c i after r list result

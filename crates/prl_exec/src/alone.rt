@@ -13,9 +13,8 @@ ghost use Rattle.prl_rule.specs.Rule.{reached};
 ghost use Rattle.prl_board.specs.Lones.{IsLoneOf, IsPlacedAt};
 ghost use Rattle.prl_board.specs.TaskSeats.{MayFinish, MayRead, MayWrite};
 ghost use Rattle.prl_exec.specs.Runs.{HasEnded};
-ghost use Rattle.prl_exec.specs.Standing.{HasSeen, StandsIn};
+ghost use Rattle.prl_exec.specs.Standing.{HasSeen, StandsIn, TellsPoll};
 ghost use Rattle.prl_exec.specs.code.Alone.{HasActed, HasGoneOn, IsIdle, IsLeftOver, IsOver, MayAct};
-ghost use Rattle.prl_exec.specs.Standing.{IsPolled};
 
 use crate::laws::run_laws;
 use prl_base::TaskNo;
@@ -33,8 +32,7 @@ fn read<L: Ledger>(lone: &mut Lone, board: &Board, task: TaskNo, steps: &mut Ste
     ensures lone { IsLoneOf board.now lone.new }
     ensures tasks { length lone.new.seats ≡ length lone.old.seats }
     ensures step { steps.new ≡ steps.old + 1 }
-    ensures told { (r : ClockPart) (list : List Event) → StandsIn (run_of board.now.known) lone.old r list →
-        IsPolled (run_of board.now.known) task.0 lone.new r list result }
+    ensures told { TellsPoll (run_of board.now.known) task.0 lone.old lone.new result }
 {
     run_laws(board);
     lone.stands();
@@ -53,8 +51,7 @@ fn write<L: Ledger>(lone: &mut Lone, board: &Board, task: TaskNo, steps: &mut St
     ensures lone { IsLoneOf board.now lone.new }
     ensures tasks { length lone.new.seats ≡ length lone.old.seats }
     ensures step { steps.new ≡ steps.old + 1 }
-    ensures told { (r : ClockPart) (list : List Event) → StandsIn (run_of board.now.known) lone.old r list →
-        IsPolled (run_of board.now.known) task.0 lone.new r list result }
+    ensures told { TellsPoll (run_of board.now.known) task.0 lone.old lone.new result }
 {
     run_laws(board);
     lone.stands();
@@ -69,8 +66,7 @@ fn finish<L: Ledger>(lone: &mut Lone, board: &Board, task: TaskNo, steps: &mut S
     ensures lone { IsLoneOf board.now lone.new }
     ensures tasks { length lone.new.seats ≡ length lone.old.seats }
     ensures step { steps.new ≡ steps.old + 1 }
-    ensures told { (r : ClockPart) (list : List Event) → StandsIn (run_of board.now.known) lone.old r list →
-        IsPolled (run_of board.now.known) task.0 lone.new r list result }
+    ensures told { TellsPoll (run_of board.now.known) task.0 lone.old lone.new result }
 {
     run_laws(board);
     lone.stands();
@@ -85,8 +81,7 @@ fn act<L: Ledger>(lone: &mut Lone, board: &Board, task: TaskNo, steps: &mut Step
     ensures lone { IsLoneOf board.now lone.new }
     ensures tasks { length lone.new.seats ≡ length lone.old.seats }
     ensures step { steps.new ≡ steps.old + 1 }
-    ensures told { (r : ClockPart) (list : List Event) → StandsIn (run_of board.now.known) lone.old r list →
-        IsPolled (run_of board.now.known) task.0 lone.new r list result }
+    ensures told { TellsPoll (run_of board.now.known) task.0 lone.old lone.new result }
 {
     match lone.place(task) {
         Place::Reading(_, _) => read(lone, board, task, steps),
@@ -104,8 +99,7 @@ fn begin<L: Ledger>(lone: &mut Lone, board: &Board, task: TaskNo, steps: &mut St
     ensures lone { IsLoneOf board.now lone.new }
     ensures tasks { length lone.new.seats ≡ length lone.old.seats }
     ensures steps { steps.new ≤ steps.old + 2 }
-    ensures told { (r : ClockPart) (list : List Event) → StandsIn (run_of board.now.known) lone.old r list →
-        IsPolled (run_of board.now.known) task.0 lone.new r list result }
+    ensures told { TellsPoll (run_of board.now.known) task.0 lone.old lone.new result }
 {
     run_laws(board);
     lone.stands();
@@ -125,8 +119,7 @@ pub fn poll<L: Ledger>(lone: &mut Lone, board: &Board, task: TaskNo, steps: &mut
     ensures lone { IsLoneOf board.now lone.new }
     ensures tasks { length lone.new.seats ≡ length lone.old.seats }
     ensures steps { steps.new ≤ steps.old + 2 }
-    ensures told { (r : ClockPart) (list : List Event) → StandsIn (run_of board.now.known) lone.old r list →
-        IsPolled (run_of board.now.known) task.0 lone.new r list result }
+    ensures told { TellsPoll (run_of board.now.known) task.0 lone.old lone.new result }
 {
     lone.stands();
     match lone.place(task) {

@@ -10,6 +10,7 @@ mod laws;
 mod overruns;
 mod polls;
 mod runs;
+mod waits;
 mod workers;
 
 pub use alone::{look_all, poll, run_alone, tick};

@@ -6,6 +6,7 @@ ghost use Rattle.prl_board.specs.TaskSeats.{MayRead, place_of};
 ghost use Rattle.prl_exec.specs.code.Alone.{IsIdle, MayAct};
 ghost use Rattle.prl_exec.specs.code.Polls.{IsSlotOf, IsSlotPolled};
 
+use crate::waits::Waits;
 use prl_base::TaskNo;
 use prl_board::{Board, Got, Place, Release, TaskSeat};
 use prl_io::Probe;
@@ -32,8 +33,10 @@ impl<'b, P: Probe> Watch for Eye<'b, P> {
 pub(crate) enum Polled {
     /// An event.
     Event,
-    /// Nothing.
+    /// Nothing: no job is left, or what it is to read is not there yet.
     Nothing,
+    /// Nothing: the clock was at `now`, and the next job is released at the later date `at`.
+    Early { now: u64, at: u64 },
     /// It found a read of this task overrun, and raised the stop.
     Overrun(TaskNo),
 }
@@ -90,7 +93,7 @@ fn begin<W: Watch>(seat: &mut TaskSeat, board: &Board, probe: &W) -> Polled
             probe.before(seat.task(), job);
             act(seat, board)
         }
-        Release::Early { .. } => Polled::Nothing,
+        Release::Early { now, at } => Polled::Early { now, at },
         Release::Over => Polled::Nothing,
     }
 }
@@ -111,7 +114,7 @@ fn poll<W: Watch>(seat: &mut TaskSeat, board: &Board, probe: &W) -> Polled
 }
 
 /// Does what comes next for the task whose seat is there, if one is.
-pub(crate) fn poll_slot<W: Watch>(slot: &mut Option<TaskSeat>, board: &Board, probe: &W) -> Polled
+fn poll_slot<W: Watch>(slot: &mut Option<TaskSeat>, board: &Board, probe: &W) -> Polled
     requires { IsSlotOf board.now slot.old }
     ensures { IsSlotPolled board.now slot.old slot.new }
 {
@@ -119,4 +122,25 @@ pub(crate) fn poll_slot<W: Watch>(slot: &mut Option<TaskSeat>, board: &Board, pr
         Some(seat) => poll(seat, board, probe),
         None => Polled::Nothing,
     }
+}
+
+/// Does so where the task is not known to wait for the clock.
+pub(crate) fn poll_awake<W: Watch>(
+    slot: &mut Option<TaskSeat>,
+    board: &Board,
+    probe: &W,
+    waits: &mut Waits,
+    task: usize,
+) -> Polled
+    requires { IsSlotOf board.now slot.old }
+    ensures { IsSlotPolled board.now slot.old slot.new }
+{
+    if waits.is_waiting(task) {
+        return Polled::Nothing;
+    }
+    let polled = poll_slot(slot, board, probe);
+    if let Polled::Early { now, at } = polled {
+        waits.note(task, now, at);
+    }
+    polled
 }

@@ -8,7 +8,8 @@ ghost use Rattle.prl_board.specs.ClockSeats.{IsClockOf};
 ghost use Rattle.prl_exec.specs.code.Hands.{AreHeld, KeepSeats};
 ghost use Rattle.prl_exec.specs.code.Polls.{IsSlotOf, IsSlotPolled};
 
-use crate::polls::{Polled, Watch, poll_slot};
+use crate::polls::{Polled, Watch, poll_awake};
+use crate::waits::Waits;
 use crossbeam_utils::Backoff;
 use prl_base::TaskNo;
 use prl_board::{Board, ClockSeat, Place, TaskSeat, Ticked};
@@ -46,17 +47,24 @@ impl Hand {
     }
 }
 
-/// Does what comes next for each task whose seat is there, one after another.
-fn poll_all<W: Watch>(seats: &mut Vec<Option<TaskSeat>>, board: &Board, probe: &W) -> Round
+/// Does what comes next for each task whose seat is there, one after another, but for those that are known to
+/// wait for the clock.
+fn poll_all<W: Watch>(
+    seats: &mut Vec<Option<TaskSeat>>,
+    board: &Board,
+    probe: &W,
+    waits: &mut Waits,
+) -> Round
     requires { AreHeld board.now (vec_items seats.old) }
     ensures held { AreHeld board.now (vec_items seats.new) }
     ensures kept { KeepSeats (vec_items seats.old) (vec_items seats.new) }
 {
     let mut round = Round::Nothing;
     for i in 0..seats.len() {
-        match poll_slot(&mut seats[i], board, probe) {
+        match poll_awake(&mut seats[i], board, probe, waits, i) {
             Polled::Event => round = Round::Events,
             Polled::Nothing => {}
+            Polled::Early { .. } => {}
             Polled::Overrun(task) => return Round::Overrun(task),
         }
     }
@@ -131,8 +139,10 @@ pub(crate) fn work<R: Wait, W: Watch>(
     ensures kept { KeepSeats (vec_items seats) (vec_items result.seats) }
 {
     let backoff = Backoff::new();
+    let mut waits = Waits::new();
     for _ in rt.forever() {
-        match poll_all(&mut seats, board, probe) {
+        waits.begin(None);
+        match poll_all(&mut seats, board, probe, &mut waits) {
             Round::Events => backoff.reset(),
             Round::Overrun(task) => {
                 return Hand::new(seats, Some(task));
@@ -172,20 +182,31 @@ fn are_due(clock: &mut ClockSeat, board: &Board) -> bool
     false
 }
 
-/// Ticks, on a free board though jobs are due where there is no patience. Whether the clock went
-/// on.
-fn tick(clock: &mut ClockSeat, board: &Board, patient: bool) -> bool
+/// Ticks. Whether the clock went on.
+fn goes_on(clock: &mut ClockSeat, board: &Board) -> bool
     requires { (r : ClockPart) × IsClockOf board.now clock.old r }
     ensures { (r : ClockPart) × IsClockOf board.now clock.new r }
 {
-    if are_due(clock, board) && patient {
-        return false;
-    }
     match clock.tick(board) {
         Ticked::Now(_) => true,
         Ticked::Behind { .. } => false,
         Ticked::End => false,
     }
+}
+
+/// Ticks, on a free board though jobs are due where there is no patience. Whether the clock went
+/// on. A gated clock knows by itself where a job is due, and looks at the tasks there alone.
+fn tick(clock: &mut ClockSeat, board: &Board, patient: bool) -> bool
+    requires { (r : ClockPart) × IsClockOf board.now clock.old r }
+    ensures { (r : ClockPart) × IsClockOf board.now clock.new r }
+{
+    if board.is_gated() && goes_on(clock, board) {
+        return true;
+    }
+    if are_due(clock, board) && patient {
+        return false;
+    }
+    goes_on(clock, board)
 }
 
 /// Does what `work` does, and the clock ticks meanwhile.
@@ -203,9 +224,11 @@ pub(crate) fn lead<R: Wait, W: Watch>(
     ensures clock { (r : ClockPart) × IsClockOf board.entry.now result.1 r }
 {
     let backoff = Backoff::new();
+    let mut waits = Waits::new();
     let mut waited: u32 = 0;
     for _ in rt.forever() {
-        match poll_all(&mut seats, board, probe) {
+        waits.begin(Some(clock.now()));
+        match poll_all(&mut seats, board, probe, &mut waits) {
             Round::Events => {
                 backoff.reset();
                 waited = 0;

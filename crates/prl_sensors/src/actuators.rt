@@ -9,14 +9,12 @@ ghost use Rattle.prl_flow.specs.Actuators.{AreUpTo, actuator_text, row_at, row_t
 use crate::ends::end_of;
 use crate::lines::push_rest;
 use crate::outputs::{OutRows, lend};
+use crate::room::room_of;
 use crate::singles::text_of_one;
 use prl_base::{Clock, Value};
 use prl_calendar::Calendar;
 use prl_flow::OutFlow;
 use std::alloc::{AllocError, Global};
-
-/// The fewest bytes of a row.
-pub(crate) const ROW_BYTES: usize = 8;
 
 /// Appends the row of an actuator.
 pub(crate) fn push_row(
@@ -73,11 +71,11 @@ fn clocks_of(alloc: Global, outs: &[OutRows<'_>]) -> Result<Vec<Clock>, AllocErr
     Ok(clocks)
 }
 
-/// How many bytes the rows have at least.
-fn least_bytes(outs: &[OutRows<'_>]) -> usize {
+/// How many bytes the rows take at most.
+fn room_of_all(outs: &[OutRows<'_>]) -> usize {
     let mut bytes: usize = 0;
     for out in outs {
-        bytes = bytes.saturating_add(out.values.len().saturating_mul(ROW_BYTES));
+        bytes = bytes.saturating_add(room_of(out));
     }
     bytes
 }
@@ -92,7 +90,7 @@ fn text_by_date(alloc: Global, outs: &[OutRows<'_>]) -> Result<Vec<u8>, AllocErr
     let end = end_of(outs);
     let clocks = clocks_of(alloc, outs)?;
     let mut calendar = Calendar::new(alloc, clocks.as_slice(), end)?;
-    let mut text = Vec::with_capacity(alloc, least_bytes(outs))?;
+    let mut text = Vec::with_capacity(alloc, room_of_all(outs))?;
     let mut due = Vec::new(alloc);
     while let Some(date) = calendar.next(&mut due)? {
         push_rows_at(&mut text, outs, due.as_slice(), date)?;

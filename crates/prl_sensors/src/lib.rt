@@ -13,6 +13,7 @@ mod outcomes;
 mod outputs;
 mod plain;
 mod records;
+mod room;
 mod rows;
 mod singles;
 

@@ -4,8 +4,9 @@ ghost use Rattle.std.specs.Prelude.{◌-◌, ◌^◌, ◌≡◌, ◌++◌, ◌�
 ghost use Rattle.prl_flow.specs.Actuators.{AreUpTo, actuator_text};
 ghost use Rattle.prl_sensors.specs.Ends.{EndsBefore};
 
-use crate::actuators::{ROW_BYTES, push_row};
+use crate::actuators::push_row;
 use crate::outputs::OutRows;
+use crate::room::room_of;
 use std::alloc::{AllocError, Global};
 
 /// Appends all rows of the actuator.
@@ -25,8 +26,7 @@ pub(crate) fn text_of_one(alloc: Global, out: &OutRows<'_>) -> Result<Vec<u8>, A
     requires { EndsBefore (2 ^ 64 - 1) out.now }
     ensures { (until : ℕ) → AreUpTo until (out.now ∷ []) → IfOk result (λ text. text.items ≡ actuator_text until (out.now ∷ [])) }
 {
-    let least = out.values.len().saturating_mul(ROW_BYTES);
-    let mut text = Vec::with_capacity(alloc, least)?;
+    let mut text = Vec::with_capacity(alloc, room_of(out))?;
     push_rows_of(&mut text, out)?;
     Ok(text)
 }

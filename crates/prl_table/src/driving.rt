@@ -9,34 +9,20 @@ ghost use Rattle.prl_rule.specs.declared.views.Gate.TheVariants as gates;
 ghost use Rattle.prl_rule.specs.Known.{known, run_of};
 ghost use Rattle.prl_board.specs.Lones.{IsLoneOf};
 ghost use Rattle.prl_exec.specs.Runs.{HasEnded};
-ghost use Rattle.prl_exec.specs.Standing.{RunLaws};
 ghost use Rattle.prl_table.specs.code.Driving.{next_act, AreFirst, IsBoardOf, IsDriven, IsJobDone, IsNextJob};
 
 use prl_base::TaskNo;
 use prl_board::{Board, Closed, Gate, Lone, Steps, gather, open_board};
 use prl_body::Bodies;
 use prl_edf::actions_end_once;
-use prl_exec::poll;
+use prl_exec::{poll, run_laws};
 use prl_flow::Sensors;
 use prl_plan::{
-    Horizon, Plan, free_events_keep_tags, free_list_leaves_tags, gated_events_keep_sound,
-    horizon_jobs_are_counted, look_ups_fit, plan_is_one, run_of_two_lists, sound_state_goes_on,
+    Horizon, Plan, horizon_jobs_are_counted, look_ups_fit, plan_is_one, run_of_two_lists,
 };
 use prl_tables::{Checked, classes_are_early, good_table_is_placing};
 use std::alloc::{AllocError, Global};
 use std::sync::ledger::Ledger;
-
-/// The laws of plans on which a run rests.
-fn run_laws(board: &Board)
-    ensures { RunLaws (run_of board.now.known) }
-{
-    board.keeps_facts();
-    gated_events_keep_sound();
-    free_events_keep_tags();
-    run_of_two_lists();
-    free_list_leaves_tags();
-    sound_state_goes_on();
-}
 
 /// When a task's job acts, if it is one of the horizon.
 fn next_act(
