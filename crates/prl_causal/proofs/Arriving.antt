@@ -4,8 +4,8 @@ use Rattle.std.proofs.lemmas.Option.{slice_get_within, get_or_from_slice_get}
 use Rattle.prl_flow.specs.declared.programs.Arg.{Arg}
 use Rattle.prl_flow.specs.Programs.{FlatProgram}
 use Rattle.prl_flow.specs.Uses.{IsArgument}
-use Rattle.prl_causal.specs.Parts.{ArePlaced, AreSeen, IsMarked, IsMissing, IsUnplaced}
-use Rattle.prl_causal.specs.Sources.{AreArguments}
+use Rattle.prl_causal.specs.code.Parts.{ArePlaced, AreSeen, IsMarked, IsMissing, IsUnplaced}
+use Rattle.prl_causal.specs.code.Sources.{AreArguments}
 use Rattle.prl_causal.proofs.Lists.{equal_or_not, mark_kept}
 
 pub seen_here : (p : FlatProgram) (marks : List Bool) (seen : List ℕ) (k : ℕ) (args : List Arg) → AreSeen p marks seen → AreArguments p k args → ArePlaced args marks (get_or seen k 0)

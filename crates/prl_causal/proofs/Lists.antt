@@ -4,7 +4,7 @@ use Rattle.std.proofs.lemmas.Bool.{cases_lt, false≢true}
 use Rattle.std.proofs.lemmas.Option.{slice_get_within}
 use Rattle.std.proofs.lemmas.List.Sums.{sum_by-set, sum_by-cons}
 use Rattle.prl_flow.proofs.Lists.{slice_get_append_left}
-use Rattle.prl_causal.specs.Parts.{IsMarked, marked_count}
+use Rattle.prl_causal.specs.code.Parts.{IsMarked, marked_count}
 
 pub push_cases : {A : Type 0} (xs : List A) (y : A) (k : ℕ) (x : A) → slice_get (xs ++ y ∷ []) k ≡ Some x → (slice_get xs k ≡ Some x) ⊎ ((k ≡ length xs) × (y ≡ x))
 push_cases [] y zero x h = inr (refl, cc)

@@ -14,8 +14,8 @@ use Rattle.prl_flow.specs.Uses.{UsesNow, UsesInside, NamesNow, NamesInside, IsOn
 use Rattle.prl_base.specs.declared.values.Ty.{Ty}
 use Rattle.prl_causal.specs.declared.sources.Source.{Source}
 use Rattle.prl_causal.specs.declared.sources.Source.TheVariants as sources
-use Rattle.prl_causal.specs.Parts.{IsWhole}
-use Rattle.prl_causal.specs.Sources.{undelayed_of, inside_of, all_undelayed, all_inside, Names, UsesBy, IsSource, AreSources}
+use Rattle.prl_causal.specs.code.Parts.{IsWhole}
+use Rattle.prl_causal.specs.code.Sources.{undelayed_of, inside_of, all_undelayed, all_inside, Names, UsesBy, IsSource, AreSources}
 use Rattle.prl_causal.proofs.Placing.{no_way_back}
 use Rattle.prl_causal.proofs.Ways.{along}
 

@@ -8,9 +8,9 @@ use Rattle.prl_flow.specs.Uses.{IsArgument, Leads, once, then}
 use Rattle.prl_flow.proofs.Lists.{slice_get_push, element_at}
 use Rattle.prl_flow.specs.Programs.{FlatProgram}
 use Rattle.prl_causal.specs.declared.sources.Source.{Source}
-use Rattle.prl_causal.specs.Parts.{IsMarked}
-use Rattle.prl_causal.specs.Searches.{Adds, AreOpened, IsList, IsUnderWay}
-use Rattle.prl_causal.specs.Sources.{AreArguments, AreSources, IsAmong, IsSource, UsesBy, Names}
+use Rattle.prl_causal.specs.code.Parts.{IsMarked}
+use Rattle.prl_causal.specs.code.Searches.{Adds, AreOpened, IsList, IsUnderWay}
+use Rattle.prl_causal.specs.code.Sources.{AreArguments, AreSources, IsAmong, IsSource, UsesBy, Names}
 use Rattle.prl_causal.proofs.Lists.{push_cases, push_keeps, mark_set, mark_kept, mark_cases, mark_counted, marked_within}
 use Rattle.prl_causal.proofs.Placing.{names_of_use}
 use Rattle.prl_causal.proofs.Ways.{onward}

@@ -6,8 +6,8 @@ use Rattle.prl_flow.specs.Programs.{FlatProgram}
 use Rattle.prl_flow.proofs.Lists.{element_at}
 use Rattle.prl_causal.specs.declared.sources.Source.{Source}
 use Rattle.prl_causal.specs.declared.sources.Source.TheVariants as sources
-use Rattle.prl_causal.specs.Parts.{IsMarked}
-use Rattle.prl_causal.specs.Sources.{IsSource, Names}
+use Rattle.prl_causal.specs.code.Parts.{IsMarked}
+use Rattle.prl_causal.specs.code.Sources.{IsSource, Names}
 
 pub marked_or_not : (marks : List Bool) (i : ℕ) → IsMarked marks i ⊎ (get_or marks i false ≡ false)
 marked_or_not marks i =

@@ -1,6 +1,3 @@
 pub mod Cycles
-pub mod Parts
-pub mod Searches
-pub mod Sorting
-pub mod Sources
-pub mod Ways
+-- what private functions say to one another
+pub mod code

@@ -4,7 +4,7 @@ ghost use Rattle.std.specs.Prelude.{◌≡◌, ◌<◌, ℕ, IfErr, IfOk, MatchO
 ghost use Rattle.prl_flow.specs.declared.programs.Flow.{Flow};
 ghost use Rattle.prl_flow.specs.Uses.{HasNoCycle, IsCyclic, IsCycleLabel, IsOnCycle, IsOrder, is_made};
 ghost use Rattle.prl_causal.specs.Cycles.{IsCausalFault, IsFirst, IsFirstNamed, IsLabelOf};
-ghost use Rattle.prl_causal.specs.Sources.{all_inside, all_undelayed};
+ghost use Rattle.prl_causal.specs.code.Sources.{all_inside, all_undelayed};
 
 use crate::orders::order;
 use crate::searches::leads_back;

@@ -6,10 +6,10 @@
 
 ghost use Rattle.std.specs.Prelude.{◌≡◌, ◌≢◌, ◌<◌, ◌++◌, ◌∷◌, [], ℕ, IfOk, MatchOption, false, length, slice_index_or, true};
 ghost use Rattle.prl_flow.specs.Uses.{IsArgument};
-ghost use Rattle.prl_causal.specs.Parts.{ArePlaced, AreSeen, IsMarked, IsMissing, IsUnplaced, IsWhole};
-ghost use Rattle.prl_causal.specs.Sorting.{IsSorted, left};
-ghost use Rattle.prl_causal.specs.Sources.{AreSources, AreWithin, IsSource, Names, UsesBy};
-ghost use Rattle.prl_causal.specs.Ways.{HasWayBack};
+ghost use Rattle.prl_causal.specs.code.Parts.{ArePlaced, AreSeen, IsMarked, IsMissing, IsUnplaced, IsWhole};
+ghost use Rattle.prl_causal.specs.code.Sorting.{IsSorted, left};
+ghost use Rattle.prl_causal.specs.code.Sources.{AreSources, AreWithin, IsSource, Names, UsesBy};
+ghost use Rattle.prl_causal.specs.code.Ways.{HasWayBack};
 
 use crate::sources::{Source, arguments};
 use prl_base::FlowNo;

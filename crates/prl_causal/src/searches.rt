@@ -2,8 +2,8 @@
 
 ghost use Rattle.std.specs.Prelude.{◌≡◌, ◌<◌, [], IfOk, false, length, true};
 ghost use Rattle.prl_flow.specs.Uses.{IsArgument, Leads};
-ghost use Rattle.prl_causal.specs.Searches.{Adds, AreOpened, IsList};
-ghost use Rattle.prl_causal.specs.Sources.{AreSources, AreWithin, IsAmong, IsSource, Names, UsesBy};
+ghost use Rattle.prl_causal.specs.code.Searches.{Adds, AreOpened, IsList};
+ghost use Rattle.prl_causal.specs.code.Sources.{AreSources, AreWithin, IsAmong, IsSource, Names, UsesBy};
 
 use crate::sources::{Source, arguments};
 use prl_base::FlowNo;

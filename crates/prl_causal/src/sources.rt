@@ -2,7 +2,7 @@
 
 ghost use Rattle.std.specs.Prelude.{◌≡◌, ◌<◌, IfOk, length};
 ghost use Rattle.prl_base.specs.Operators.{delays};
-ghost use Rattle.prl_causal.specs.Sources.{AreArguments, AreWithin, all_inside, all_undelayed, inside_of, undelayed_of};
+ghost use Rattle.prl_causal.specs.code.Sources.{AreArguments, AreWithin, all_inside, all_undelayed, inside_of, undelayed_of};
 
 use prl_base::{FlowNo, Op};
 use prl_flow::{Arg, Def, Flat};

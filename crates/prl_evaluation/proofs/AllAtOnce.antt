@@ -15,9 +15,9 @@ use Rattle.prl_flow.specs.declared.programs.Flow.{Flow}
 use Rattle.prl_flow.proofs.ClockDates.{dates_before_number}
 use Rattle.prl_solutions.specs.Tables.{Reads, nothing, table_of, value_of}
 use Rattle.prl_solutions.proofs.Earlier.{reads_earlier, value_local}
-use Rattle.prl_evaluation.specs.Dates.{IsFull}
-use Rattle.prl_evaluation.specs.Fronts.{IsPlain, IsSet, IsThere, UnderWay, len}
-use Rattle.prl_evaluation.specs.Wholes.{AreWhole, IsGroup}
+use Rattle.prl_evaluation.specs.code.Dates.{IsFull}
+use Rattle.prl_evaluation.specs.code.Fronts.{IsPlain, IsSet, IsThere, UnderWay, len}
+use Rattle.prl_evaluation.specs.code.Wholes.{AreWhole, IsGroup}
 use Rattle.prl_evaluation.specs.declared.runs.Run.{Run}
 use Rattle.prl_evaluation.specs.declared.settings.Setting.{Setting}
 use Rattle.prl_evaluation.proofs.Groups.{clock_there, names_of_reads}

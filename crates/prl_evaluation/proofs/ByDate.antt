@@ -20,8 +20,8 @@ use Rattle.prl_flow.specs.declared.programs.Flow.{Flow}
 use Rattle.prl_flow.proofs.ClockDates.{dates_before_number}
 use Rattle.prl_solutions.specs.Tables.{Reads}
 use Rattle.prl_solutions.proofs.Earlier.{reads_earlier}
-use Rattle.prl_evaluation.specs.Dates.{AreAt, AreFull, IsPart, IsRest, clocks_by, place_after}
-use Rattle.prl_evaluation.specs.Fronts.{CanGrow, HasGrown, IsSet, len}
+use Rattle.prl_evaluation.specs.code.Dates.{AreAt, AreFull, IsPart, IsRest, clocks_by, place_after}
+use Rattle.prl_evaluation.specs.code.Fronts.{CanGrow, HasGrown, IsSet, len}
 use Rattle.prl_evaluation.specs.declared.settings.Setting.{Setting}
 
 not_more : (a b : ℕ) → ((k : ℕ) → k < a → k < b) → a ≤ b

@@ -18,9 +18,9 @@ use Rattle.prl_flow.specs.declared.programs.Flow.{Flow}
 use Rattle.prl_flow.proofs.ClockDates.{dates_before_number}
 use Rattle.prl_solutions.specs.Tables.{Reads}
 use Rattle.prl_solutions.proofs.Earlier.{reads_earlier}
-use Rattle.prl_evaluation.specs.Dates.{AreAt, IsFull, IsRest}
-use Rattle.prl_evaluation.specs.Fronts.{CanGrow, HasGrown, IsSet, UnderWay, len}
-use Rattle.prl_evaluation.specs.Wholes.{AreWhole, IsFilling, IsGroup, Names, is_full}
+use Rattle.prl_evaluation.specs.code.Dates.{AreAt, IsFull, IsRest}
+use Rattle.prl_evaluation.specs.code.Fronts.{CanGrow, HasGrown, IsSet, UnderWay, len}
+use Rattle.prl_evaluation.specs.code.Wholes.{AreWhole, IsFilling, IsGroup, Names, is_full}
 use Rattle.prl_evaluation.specs.declared.runs.Run.{Run}
 use Rattle.prl_evaluation.specs.declared.settings.Setting.{Setting}
 use Rattle.prl_evaluation.proofs.Orders.{order_once, order_within}

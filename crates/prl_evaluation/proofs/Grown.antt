@@ -29,8 +29,8 @@ use Rattle.prl_solutions.specs.Tables.{Reads, inputs_of, nothing, table_of, valu
 use Rattle.prl_solutions.proofs.Earlier.{inputs_local, reads_before, reads_earlier, value_local}
 use Rattle.prl_solutions.proofs.Solved.{applied_is}
 use Rattle.prl_solutions.proofs.Typed.{types_inputs, types_registers}
-use Rattle.prl_evaluation.specs.Fronts.{HasGrown, IsPlain, IsReady, IsUnderWay, len, pushed}
-use Rattle.prl_evaluation.specs.Runs.{HasStepped, HaveArguments, IsRun, MayStep}
+use Rattle.prl_evaluation.specs.code.Fronts.{HasGrown, IsPlain, IsReady, IsUnderWay, len, pushed}
+use Rattle.prl_evaluation.specs.code.Runs.{HasStepped, HaveArguments, IsRun, MayStep}
 use Rattle.prl_evaluation.specs.declared.runs.Run.{Run}
 
 same_application : (j o k out : ℕ) → definitions.Apply j o ≡ definitions.Apply k out → j ≡ k

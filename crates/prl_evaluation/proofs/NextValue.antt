@@ -9,8 +9,8 @@ use Rattle.prl_flow.specs.declared.programs.Def.{Def}
 use Rattle.prl_flow.specs.declared.programs.Def.TheVariants as definitions
 use Rattle.prl_flow.specs.declared.programs.Flow.{Flow}
 use Rattle.prl_solutions.specs.Tables.{inputs_of, nothing, table_of, value_of}
-use Rattle.prl_evaluation.specs.Fronts.{CanGrow, IsPlain, IsReady, IsSet, IsThere, UnderWay, len, pushed}
-use Rattle.prl_evaluation.specs.Runs.{HasStepped, HaveArguments, MayStep}
+use Rattle.prl_evaluation.specs.code.Fronts.{CanGrow, IsPlain, IsReady, IsSet, IsThere, UnderWay, len, pushed}
+use Rattle.prl_evaluation.specs.code.Runs.{HasStepped, HaveArguments, MayStep}
 use Rattle.prl_evaluation.specs.declared.runs.Run.{Run}
 use Rattle.prl_evaluation.specs.declared.settings.Setting.{Setting}
 use Rattle.prl_evaluation.proofs.Grown as grown

@@ -26,10 +26,10 @@ use Rattle.prl_solutions.proofs.Ones.{AreOfTheirClocks, solves_over}
 use Rattle.prl_solutions.proofs.Rounds.{fixed_along, the_table, the_table_fixed}
 use Rattle.prl_solutions.proofs.Solved.{solves_from_fixed}
 use Rattle.prl_solutions.proofs.Typed.{fixed_typed}
-use Rattle.prl_evaluation.specs.Dates.{AreAt, AreFull}
+use Rattle.prl_evaluation.specs.code.Dates.{AreAt, AreFull}
 use Rattle.prl_evaluation.specs.Evaluations.{AreSolution}
-use Rattle.prl_evaluation.specs.Fronts.{IsSet, UnderWay, len}
-use Rattle.prl_evaluation.specs.Runs.{IsNew}
+use Rattle.prl_evaluation.specs.code.Fronts.{IsSet, UnderWay, len}
+use Rattle.prl_evaluation.specs.code.Runs.{IsNew}
 use Rattle.prl_evaluation.specs.declared.runs.Run.{Run}
 use Rattle.prl_evaluation.specs.declared.settings.Setting.{Setting}
 

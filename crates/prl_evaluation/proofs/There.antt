@@ -11,7 +11,7 @@ use Rattle.prl_flow.specs.Rows.{Rows, rows_of}
 use Rattle.prl_flow.specs.declared.programs.Def.{Def}
 use Rattle.prl_flow.specs.declared.programs.Def.TheVariants as definitions
 use Rattle.prl_solutions.specs.Tables.{Reads}
-use Rattle.prl_evaluation.specs.Fronts.{HasInstance, IsPlain, IsReady, IsThere, len}
+use Rattle.prl_evaluation.specs.code.Fronts.{HasInstance, IsPlain, IsReady, IsThere, len}
 
 -- an operator's result has an instance where what it reads is there
 has_instance : (ty : Ty) (op : Op) (count n : ℕ) → IsOperatorFor ty op → ((m : ℕ) → origin_of op n ≡ instance m → m < count) → HasInstance op count n

@@ -3,8 +3,8 @@
 ghost use Rattle.std.specs.Prelude.{◌≡◌, ◌+◌, ◌<◌, ◌^◌, ℕ, length, slice_get, Some, IfOk, OnOk};
 ghost use Rattle.prl_base.specs.declared.numbers.FlowNo.{FlowNo as AnyFlow};
 ghost use Rattle.prl_calendar.specs.Calendars.{AreDue};
-ghost use Rattle.prl_evaluation.specs.Dates.{AreAt, AreFull, IsRest, clocks_by};
-ghost use Rattle.prl_evaluation.specs.Fronts.{IsSet, UnderWay};
+ghost use Rattle.prl_evaluation.specs.code.Dates.{AreAt, AreFull, IsRest, clocks_by};
+ghost use Rattle.prl_evaluation.specs.code.Fronts.{IsSet, UnderWay};
 
 use crate::fronts::advance;
 use crate::runs::Run;

@@ -5,7 +5,7 @@ ghost use Rattle.prl_base.specs.Operators.{origin_of};
 ghost use Rattle.prl_body.specs.declared.bodies.CheckedBody.{CheckedBody};
 ghost use Rattle.prl_flow.specs.Programs.{FlatProgram};
 ghost use Rattle.prl_solutions.specs.Tables.{nothing, table_of, taken, value_of};
-ghost use Rattle.prl_evaluation.specs.Fronts.{HasInstance, IsPlain, IsThere};
+ghost use Rattle.prl_evaluation.specs.code.Fronts.{HasInstance, IsPlain, IsThere};
 
 use crate::operators::operator_value;
 use crate::settings::Setting;

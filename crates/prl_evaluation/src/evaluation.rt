@@ -9,8 +9,8 @@ ghost use Rattle.prl_base.specs.Clocks.{IsClock};
 ghost use Rattle.prl_flow.specs.declared.programs.App.{App as AnyApp};
 ghost use Rattle.prl_solutions.specs.Conditions.{AreTypedRows};
 ghost use Rattle.prl_evaluation.specs.Evaluations.{AreSolution, IsFlowFault};
-ghost use Rattle.prl_evaluation.specs.Fronts.{IsSet};
-ghost use Rattle.prl_evaluation.specs.Runs.{HasBodyNamed, IsNew};
+ghost use Rattle.prl_evaluation.specs.code.Fronts.{IsSet};
+ghost use Rattle.prl_evaluation.specs.code.Runs.{HasBodyNamed, IsNew};
 ghost use Rattle.prl_evaluation.specs.declared.runs.Run.{Run as AnyRun};
 
 use crate::runs::{Run, new_run};

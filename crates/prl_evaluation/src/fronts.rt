@@ -1,7 +1,7 @@
 //! One value more of a flow.
 
 ghost use Rattle.std.specs.Prelude.{◌≡◌, ◌+◌, ◌<◌, ℕ, length, slice_get, Some, OnOk};
-ghost use Rattle.prl_evaluation.specs.Fronts.{CanGrow, HasGrown, IsSet, UnderWay, len, pushed};
+ghost use Rattle.prl_evaluation.specs.code.Fronts.{CanGrow, HasGrown, IsSet, UnderWay, len, pushed};
 
 use crate::operators::plain_value;
 use crate::runs::{Run, output_value};

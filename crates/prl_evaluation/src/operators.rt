@@ -7,7 +7,7 @@ ghost use Rattle.prl_flow.specs.Programs.{FlatProgram};
 ghost use Rattle.prl_flow.specs.Rows.{rows_of};
 ghost use Rattle.prl_flow.specs.Solutions.{values_of};
 ghost use Rattle.prl_solutions.specs.Tables.{nothing, table_of, taken, value_of};
-ghost use Rattle.prl_evaluation.specs.Fronts.{HasInstance, IsPlain, IsThere};
+ghost use Rattle.prl_evaluation.specs.code.Fronts.{HasInstance, IsPlain, IsThere};
 
 use crate::tables::Values;
 use prl_base::{FlowNo, Op, Value};

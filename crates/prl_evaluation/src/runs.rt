@@ -2,7 +2,7 @@
 
 ghost use Rattle.std.specs.Prelude.{◌≡◌, ◌<◌, ◌^◌, length, slice_index_or, IfOk};
 ghost use Rattle.prl_solutions.specs.Tables.{inputs_of, nothing, table_of};
-ghost use Rattle.prl_evaluation.specs.Runs.{HasBodyNamed, HasStepped, HaveArguments, IsNew, MayStep};
+ghost use Rattle.prl_evaluation.specs.code.Runs.{HasBodyNamed, HasStepped, HaveArguments, IsNew, MayStep};
 
 use crate::operators::value_in;
 use crate::tables::Values;

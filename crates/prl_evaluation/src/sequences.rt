@@ -2,7 +2,7 @@
 //! Nothing but speed rests on it.
 
 ghost use Rattle.std.specs.Prelude.{◌≡◌, ◌<◌, Some, IfOk, IfSome, OnOk, length, slice_get};
-ghost use Rattle.prl_evaluation.specs.Wholes.{AreFlows, AreVisited, Opens};
+ghost use Rattle.prl_evaluation.specs.code.Wholes.{AreFlows, AreVisited, Opens};
 ghost use Rattle.prl_flow.specs.declared.programs.Arg.{Arg as AnyArg};
 
 use prl_base::FlowNo;

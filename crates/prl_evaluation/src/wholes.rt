@@ -3,10 +3,10 @@
 ghost use Rattle.std.specs.Prelude.{◌≡◌, ◌+◌, ◌<◌, ◌^◌, ◌∷◌, ℕ, true, [], length, slice_get, Some, IfOk, OnOk};
 ghost use Rattle.prl_flow.specs.declared.programs.Arg.{Arg as AnyArg};
 ghost use Rattle.prl_flow.specs.declared.programs.Flow.{Flow as AnyFlow};
-ghost use Rattle.prl_evaluation.specs.Dates.{AreAt, AreFull, IsFull, IsRest};
+ghost use Rattle.prl_evaluation.specs.code.Dates.{AreAt, AreFull, IsFull, IsRest};
 ghost use Rattle.prl_flow.specs.Solutions.{values_of};
-ghost use Rattle.prl_evaluation.specs.Fronts.{IsPlain, IsSet, UnderWay};
-ghost use Rattle.prl_evaluation.specs.Wholes.{AreFlows, AreWhole, IsFilling, IsGroup, is_full};
+ghost use Rattle.prl_evaluation.specs.code.Fronts.{IsPlain, IsSet, UnderWay};
+ghost use Rattle.prl_evaluation.specs.code.Wholes.{AreFlows, AreWhole, IsFilling, IsGroup, is_full};
 
 use crate::by_date::by_date;
 use crate::columns::plain_values;

@@ -101,7 +101,7 @@ flows_at front k (f ∷ fs) e counted =
       subst (λ (all : List Flow). AllByRecursion (λ (g : Numbered). slice_get all g.0 ≡ Some g.1) fs) moved later,
     )
 
-apps_at : (p : ProgramTree) (tys : Types) (flat : FlatProgram) (front : List App) (k : ℕ) (us : List App) → k ≡ length front → flat.apps ≡ front ++ us → HaveApps p tys flat (range_with_len k (length us)) us
+pub apps_at : (p : ProgramTree) (tys : Types) (flat : FlatProgram) (front : List App) (k : ℕ) (us : List App) → k ≡ length front → flat.apps ≡ front ++ us → HaveApps p tys flat (range_with_len k (length us)) us
 apps_at p tys flat front k [] e is = tt
 apps_at p tys flat front k (u ∷ us) e is = (
   ap (λ (all : List App). slice_get all k) is ∙ ap (slice_get (front ++ (u ∷ us))) e ∙ get_end front u us,
@@ -116,7 +116,7 @@ app_at p tys flat first (v ∷ us) zero k u h e at =
 app_at p tys flat first (v ∷ us) (suc i) k u h e at = app_at p tys flat (first + 1) us i k u h.1 e (omega (arith, at))
 
 -- the number of an element is its place
-number_at : (first : ℕ) (fs : List Numbered) (i k : ℕ) (f : Numbered) → numbers_of fs ≡ range_with_len first (length fs) → slice_get fs i ≡ Some f → k ≡ first + i → f.0 ≡ k
+pub number_at : (first : ℕ) (fs : List Numbered) (i k : ℕ) (f : Numbered) → numbers_of fs ≡ range_with_len first (length fs) → slice_get fs i ≡ Some f → k ≡ first + i → f.0 ≡ k
 number_at first [] i k f counted e at = absurd (cc)
 number_at first (g ∷ fs) zero k f counted e at =
     let here : g.0 ≡ first = head_same g.0 first (numbers_of fs) (range_with_len (first + 1) (length fs)) counted in

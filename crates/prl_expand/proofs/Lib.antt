@@ -16,6 +16,8 @@ pub mod Unique
 pub mod Bodies
 pub mod Fitting
 pub mod Served
+mod Earlier
+mod NamedCycles
 mod Ones
 mod TermLists
 mod Adding

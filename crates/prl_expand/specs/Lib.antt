@@ -6,6 +6,8 @@ pub mod Flats
 pub mod Correspondence
 -- that a flat program leaves one choice of clocks
 pub mod Clocks
+-- flows with a name on cycles
+pub mod Cycles
 -- what the call answers
 pub mod Expanding
 -- what private functions say to one another

@@ -1,7 +1,7 @@
 //! Laws of expansions and of what programs mean, as functions that do nothing: the contract of each is the law, over the
 //! definitions alone.
 
-ghost use Rattle.std.specs.Prelude.{◌≡◌, ◌≤◌, ℕ, List, Option, length};
+ghost use Rattle.std.specs.Prelude.{◌≡◌, ◌≤◌, ℕ, false, List, Option, length};
 ghost use Rattle.prl_ast.specs.InRange.{IsInRange};
 ghost use Rattle.prl_ast.specs.Trees.{ProgramTree};
 ghost use Rattle.prl_base.specs.declared.numbers.FlowNo.{FlowNo};
@@ -13,6 +13,7 @@ ghost use Rattle.prl_body.specs.Used.{HaveBodiesOf};
 ghost use Rattle.prl_body.specs.declared.bodies.CheckedBody.{CheckedBody};
 ghost use Rattle.prl_expand.specs.Clocks.{AreOnlyClocks};
 ghost use Rattle.prl_expand.specs.Correspondence.{IsOneToOne};
+ghost use Rattle.prl_expand.specs.Cycles.{PassesName};
 ghost use Rattle.prl_expand.specs.Expansions.{Expansion, IsExpansion};
 ghost use Rattle.prl_expand.specs.Flats.{flat_of};
 ghost use Rattle.prl_flow.specs.Applications.{HaveBodies};
@@ -20,7 +21,7 @@ ghost use Rattle.prl_flow.specs.Programs.{IsFlat, FlatProgram};
 ghost use Rattle.prl_flow.specs.Rows.{Rows};
 ghost use Rattle.prl_flow.specs.Solutions.{AreClocks, HasRows};
 ghost use Rattle.prl_flow.specs.States.{IsSolution};
-ghost use Rattle.prl_flow.specs.Uses.{IsOrder};
+ghost use Rattle.prl_flow.specs.Uses.{IsCycleLabel, IsOrder, Leads, UsesInside, UsesNow, is_made};
 ghost use Rattle.prl_names.specs.Uses.{used_imports};
 ghost use Rattle.prl_solutions.specs.Conditions.{HaveTypedBodies};
 ghost use Rattle.prl_solutions.specs.Uniqueness.{ExactlyOne};
@@ -50,6 +51,16 @@ pub fn expansions_are_unique()
 pub fn flats_are_well_formed()
     ensures { (p : ProgramTree) (asked : Option (List ℕ)) (main : ℕ) (types : List Ty) (e : Expansion) → IsInRange p → IsTyped p asked main types
         → IsExpansion p main e → length (flows_in e) ≤ 4096 → IsFlat (flat_of p types main e) }
+{}
+
+/// Each cycle of its flows passes through a flow with a name of the program, so the label that tells of a cycle is a name.
+pub fn cycles_have_names()
+    ensures now { (p : ProgramTree) (asked : Option (List ℕ)) (main : ℕ) (types : List Ty) (e : Expansion) → IsInRange p → IsTyped p asked main types
+        → IsExpansion p main e → (i : ℕ) (way : Leads (UsesNow (flat_of p types main e)) i i) → PassesName (flat_of p types main e) way }
+    ensures inside { (p : ProgramTree) (asked : Option (List ℕ)) (main : ℕ) (types : List Ty) (e : Expansion) → IsInRange p → IsTyped p asked main types
+        → IsExpansion p main e → (i : ℕ) (way : Leads (UsesInside (flat_of p types main e)) i i) → PassesName (flat_of p types main e) way }
+    ensures label { (p : ProgramTree) (asked : Option (List ℕ)) (main : ℕ) (types : List Ty) (e : Expansion) → IsInRange p → IsTyped p asked main types
+        → IsExpansion p main e → (label : List ℕ) → IsCycleLabel (flat_of p types main e) label → is_made label ≡ false }
 {}
 
 /// Over bodies of the imports that main's expansion applies, each application of the flat program has a body that fits.

@@ -14,8 +14,8 @@ mod variables;
 pub use counts::{ExpandFault, MAX_FLOWS};
 pub use expanding::expand;
 pub use laws::{
-    behaviours_are_solutions, clocks_of_solutions_are_the_only, expansions_are_unique,
-    expansions_have_bodies, flats_are_well_formed, programs_have_expansions,
+    behaviours_are_solutions, clocks_of_solutions_are_the_only, cycles_have_names,
+    expansions_are_unique, expansions_have_bodies, flats_are_well_formed, programs_have_expansions,
     programs_have_one_behaviour,
 };
 pub use prl_causal::{CausalFault, causal};

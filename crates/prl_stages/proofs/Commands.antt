@@ -1,5 +1,5 @@
 -- The stages of every command are decided, each once those before it hold.
-use Rattle.std.proofs.Common.{◌≡◌, ◌≤◌, ◌<◌, ◌^◌, ◌++◌, ℕ, Bool, true, false, List, [], ◌∷◌, Option, refl, sym, ap, subst, arith}
+use Rattle.std.proofs.Common.{◌≤◌, ◌<◌, ◌^◌, ◌++◌, Bool, true, false, List, [], ◌∷◌, Option, ap, arith}
 use Rattle.std.specs.Prelude.{is_some}
 use Rattle.prl_arguments.specs.declared.arguments.Command.{Command}
 use Rattle.prl_arguments.specs.declared.arguments.Mode.{Mode}
@@ -11,7 +11,7 @@ use Rattle.prl_stages.specs.declared.stages.Stage.TheVariants as stages
 use Rattle.prl_arguments.specs.declared.arguments.TheConstants.{MAX_UNTIL}
 use Rattle.prl_stages.specs.Given.{Folder, Given, IsGivenIn, IsGivenTo}
 use Rattle.prl_stages.specs.Stages.{Holds, IsDecided, AreDecided, files, front, graphed, named_bodies, planned, ran, stages_after, stages_of}
-use Rattle.prl_stages.proofs.OneEnd as ends
+use Rattle.prl_stages.specs.code.Ones.{FindOne}
 use Rattle.prl_stages.proofs.OneParts.{one_clocks, one_flat}
 use Rattle.prl_stages.proofs.OnePlan.{one_graph}
 use Rattle.prl_stages.proofs.OneRun.{one_plan}
@@ -106,7 +106,7 @@ module _ (g : Given) (d : Decided g) where
 
 -- the laws of the crates below
 pub record Laws : Type 0 where
-  pub one : ends.Laws
+  pub ones : FindOne
   pub first : first.Laws
   pub runs : runs.Laws
   pub plans : plans.Laws
@@ -114,8 +114,8 @@ pub record Laws : Type 0 where
 
 decided : Laws → (g : Given) → g.until < 2 ^ 32 → Decided g
 decided law g small =
-    let parts = law.one.parts in
-    let graphs = one_graph law.one.plans g (one_flat parts g) (one_clocks parts g) in
+    let parts = law.ones.parts in
+    let graphs = one_graph law.ones.plans g (one_flat parts g) (one_clocks parts g) in
     record {
       file = first.file_decided g;
       grammar = first.grammar_decided law.first g;
@@ -134,7 +134,7 @@ decided law g small =
       made = tables.made_decided law.tables g;
       table = tables.table_decided law.tables g;
       cores = tables.cores_decided law.tables g;
-      placed = tables.placed_decided law.tables g (one_plan law.one.runs g graphs);
+      placed = tables.placed_decided law.tables g (one_plan law.ones.runs g graphs);
       values = runs.values_decided parts law.runs g;
     }
 

@@ -1,5 +1,5 @@
 -- The stages that make a plan of a task graph are decided, by the laws of the crates below: words, dates and cells.
-use Rattle.std.proofs.Common.{◌≡◌, ◌≢◌, ◌≤◌, ◌⊎◌, ℕ, List, Some, refl, sym, inl, inr, subst, ⊎_elim}
+use Rattle.std.proofs.Common.{◌≡◌, ◌≢◌, ◌≤◌, ◌⊎◌, ℕ, List, refl, inl, inr, subst, ⊎_elim}
 use Rattle.std.specs.Prelude.{sum}
 use Rattle.prl_buffers.specs.declared.tables.CellFault.{CellFault}
 use Rattle.prl_buffers.specs.declared.tables.CellFault.TheVariants as cell_faults
@@ -22,7 +22,6 @@ use Rattle.prl_words.specs.declared.graphs.WordFault.{WordFault}
 use Rattle.prl_words.specs.declared.graphs.WordFault.TheVariants as word_faults
 use Rattle.prl_words.specs.GraphWords.{IsWordFault}
 use Rattle.prl_stages.specs.declared.faults.DatesRefusal.TheVariants as bad_dates
-use Rattle.prl_stages.specs.declared.faults.Fault.{Fault}
 use Rattle.prl_stages.specs.declared.faults.Fault.TheVariants as faults
 use Rattle.prl_stages.specs.declared.stages.Stage.TheVariants as stages
 use Rattle.prl_stages.specs.Given.{Given}

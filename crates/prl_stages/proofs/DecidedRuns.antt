@@ -1,6 +1,6 @@
 -- Stages after the types are decided, by the laws of the crates below: the flat program, its cycles and clocks, the task graph, the
 -- horizon, the rows, the schedule and how many values there are.
-use Rattle.std.proofs.Common.{◌≡◌, ◌≢◌, ◌∙◌, ◌<◌, ◌≤◌, ◌+◌, ◌^◌, ◌⊎◌, ℕ, List, Option, Some, Result, Ok, Err, length, refl, ap, inl, inr, subst, ⊎_elim}
+use Rattle.std.proofs.Common.{◌≡◌, ◌≢◌, ◌∙◌, ◌<◌, ◌^◌, ◌⊎◌, ℕ, List, Option, Result, Ok, Err, length, refl, ap, inl, inr, subst, ⊎_elim}
 use Rattle.std.proofs.lemmas.Bool.{cases_lt}
 use Rattle.prl_ast.specs.Trees.{ProgramTree}
 use Rattle.prl_base.specs.declared.limits.Limit.{Limit}
@@ -38,7 +38,6 @@ use Rattle.prl_sensors.specs.SensorRows.{Inputs, sensors_of}
 use Rattle.prl_types.specs.Typing.{IsTyped}
 use Rattle.prl_stages.specs.declared.faults.ClocksRefusal.{ClocksRefusal}
 use Rattle.prl_stages.specs.declared.faults.ClocksRefusal.TheVariants as bad_clocks
-use Rattle.prl_stages.specs.declared.faults.Fault.{Fault}
 use Rattle.prl_stages.specs.declared.faults.Fault.TheVariants as faults
 use Rattle.prl_stages.specs.declared.faults.GraphRefusal.{GraphRefusal}
 use Rattle.prl_stages.specs.declared.faults.GraphRefusal.TheVariants as bad_graph
@@ -55,7 +54,8 @@ use Rattle.prl_stages.specs.Replayed.{bare}
 use Rattle.prl_stages.specs.Runs.{inputs_of, needs_of, rows_for, sensors_fault, too_many}
 use Rattle.prl_stages.specs.Scheduled.{HasHorizon}
 use Rattle.prl_stages.specs.Stages.{Holds, IsDecided}
-use Rattle.prl_stages.proofs.OneParts.{PartLaws, is_flat}
+use Rattle.prl_stages.proofs.OneParts.{is_flat}
+use Rattle.prl_stages.specs.code.Ones.{PartLaws}
 use Rattle.prl_stages.proofs.SmallClocks.{small_clocks}
 
 -- the laws of the crates below

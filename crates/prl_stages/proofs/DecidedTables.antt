@@ -1,6 +1,6 @@
 -- Tables and processors are decided, by the laws of the crates below: the table that is made, the table of a text, where the tasks run, and
 -- the run there.
-use Rattle.std.proofs.Common.{◌≡◌, ◌≢◌, ◌⊎◌, ◌++◌, ℕ, Bool, true, false, List, [], ◌∷◌, Some, Ok, Err, refl, sym, inl, inr, subst, ⊎_elim}
+use Rattle.std.proofs.Common.{◌≡◌, ◌≢◌, ◌⊎◌, ℕ, Bool, true, false, List, [], Some, Ok, Err, refl, sym, inl, inr, subst, ⊎_elim}
 use Rattle.prl_core.specs.Cores.{CoreView, opened_on}
 use Rattle.prl_cores.specs.declared.texts.CoresFault.{CoresFault}
 use Rattle.prl_cores.specs.declared.texts.CoresFault.TheVariants as unplaced
@@ -28,7 +28,6 @@ use Rattle.prl_tables.specs.Checks.{IsFault}
 use Rattle.prl_tables.specs.Tables.{IsGood}
 use Rattle.prl_tables.specs.TableTexts.{entries_of}
 use Rattle.prl_stages.specs.declared.faults.CoresRefusal.TheVariants as bad_cores
-use Rattle.prl_stages.specs.declared.faults.Fault.{Fault}
 use Rattle.prl_stages.specs.declared.faults.Fault.TheVariants as faults
 use Rattle.prl_stages.specs.declared.faults.InputFile.TheVariants as parts
 use Rattle.prl_stages.specs.declared.faults.MakeRefusal.{MakeRefusal}
@@ -39,7 +38,7 @@ use Rattle.prl_stages.specs.declared.faults.TableRefusal.{TableRefusal}
 use Rattle.prl_stages.specs.declared.faults.TableRefusal.TheVariants as bad_table
 use Rattle.prl_stages.specs.declared.stages.Stage.TheVariants as stages
 use Rattle.prl_stages.specs.Given.{Given, text_of}
-use Rattle.prl_stages.specs.Placed.{HasPlacement, IsPlacedRun, Lists}
+use Rattle.prl_stages.specs.Placed.{HasPlacement, Lists}
 use Rattle.prl_stages.specs.Planned.{HasPlan}
 use Rattle.prl_stages.specs.Replayed.{schedule_refusal}
 use Rattle.prl_stages.specs.Scheduled.{HasHorizon}

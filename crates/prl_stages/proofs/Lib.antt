@@ -16,6 +16,7 @@ mod DecidedRuns
 mod DecidedPlans
 mod DecidedTables
 mod Commands
+mod Boards
 mod Replaying
 mod OneDispatch
 mod OneTold
@@ -26,3 +27,4 @@ mod AllHold
 mod OneMode
 mod OneMeant
 mod SomeText
+mod SomeMeant

@@ -1,56 +1,19 @@
 -- The texts of a command have one program, one main node, one flat program and one list of clocks.
-use Rattle.std.proofs.Common.{◌≡◌, ◌<◌, ◌≤◌, ℕ, length, List, [], ◌∷◌, Option, Some, Result, Ok, Err, refl, sym, ap, ◌∙◌, inl, inr, subst, arith}
+use Rattle.std.proofs.Common.{◌≡◌, ℕ, List, Result, Ok, Err, refl, sym, ap, ◌∙◌, subst}
 use Rattle.prl_base.specs.declared.values.Ty.{Ty}
 use Rattle.prl_ast.specs.Trees.{ProgramTree}
-use Rattle.prl_syntax.specs.declared.parsing.ParseFault.{ParseFault}
-use Rattle.prl_syntax.specs.Parsing.{IsParsed as IsParsedProgram, IsProgramOf}
 use Rattle.prl_types.specs.declared.faults.TypeFault.{TypeFault}
-use Rattle.prl_types.specs.Typing.{IsTyped, IsFault, IsOutcome}
-use Rattle.prl_body.specs.declared.faults.BodyFault.{BodyFault}
-use Rattle.prl_body.specs.Checks.{BodyTree, checked}
-use Rattle.prl_body.specs.Texts.{TextTree}
-use Rattle.prl_bodytext.specs.Parsing.{IsParsed}
-use Rattle.prl_names.specs.Uses.{used_imports}
+use Rattle.prl_types.specs.Typing.{IsTyped, IsFault}
 use Rattle.prl_base.specs.declared.operators.Clock.{Clock}
-use Rattle.prl_ast.specs.InRange.{IsInRange}
-use Rattle.prl_behaviours.specs.Annotations.{flows_in}
-use Rattle.prl_clock.specs.Outcomes.{AreOnlyClocks, IsOutcome as IsClockOutcome}
-use Rattle.prl_clock.specs.declared.calculus.ClockFault.{ClockFault}
-use Rattle.prl_evaluation.specs.declared.evaluation.TheConstants.{MAX_VALUES}
+use Rattle.prl_clock.specs.Outcomes.{AreOnlyClocks}
 use Rattle.prl_expand.specs.Expansions.{Expansion, IsExpansion}
 use Rattle.prl_expand.specs.Flats.{flat_of}
 use Rattle.prl_flow.specs.Programs.{FlatProgram, IsFlat}
-use Rattle.prl_flow.specs.Rows.{Rows}
-use Rattle.prl_flow.specs.Uses.{IsCycleLabel}
-use Rattle.prl_flow.specs.Counts.{values_before}
-use Rattle.prl_sensors.specs.declared.faults.SensorFault.{SensorFault}
 use Rattle.prl_stages.specs.declared.faults.InputFile.TheVariants as parts
-use Rattle.prl_stages.specs.declared.faults.Fault.{Fault}
-use Rattle.prl_stages.specs.declared.faults.Fault.TheVariants as faults
-use Rattle.prl_stages.specs.declared.stages.Stage.{Stage}
-use Rattle.prl_stages.specs.declared.stages.Stage.TheVariants as stages
-use Rattle.prl_stages.specs.Given.{Given, content_of, text_of}
-use Rattle.prl_stages.specs.Parts.{IsProgram, IsMain, AreBodies, RefusesBodies, grammar_fault, types_fault, bodies_fault}
-use Rattle.prl_stages.specs.Flattened.{IsFlattened, HasClocks, clock_fault}
-use Rattle.prl_stages.specs.Runs.{too_many, rows_for, sensors_fault}
-use Rattle.prl_stages.specs.Told.{told_parse, told_types, told_clocks, told_body, told_sensors}
-use Rattle.prl_stages.proofs.OnePlan.{PlanLaws, cells_apart, cells_one, dates_apart, dates_one, graph_apart, graph_one, one_graph, words_apart, words_one}
-use Rattle.prl_stages.proofs.OnePlaced.{cores_apart, cores_one, placed_apart, placed_one}
-use Rattle.prl_stages.proofs.OneTable.{TableLaws, made_apart, made_one, table_apart, table_one}
-use Rattle.prl_stages.proofs.OneRun.{RunLaws, horizon_apart, horizon_one, schedule_apart, schedule_one}
-use Rattle.prl_stages.proofs.Told.{grammar_told, types_told, clocks_told, bodies_told, sensors_told, same_told}
-use Rattle.prl_stages.specs.Stages.{Holds, Refuses, Comes}
-
--- the laws of the crates below
-pub record PartLaws : Type 0 where
-  pub programs : (text : List ℕ) (a b : Result ProgramTree ParseFault) → IsParsedProgram text a → IsParsedProgram text b → a ≡ b
-  pub bodies : (text : List ℕ) (a b : Result (List TextTree) BodyFault) → IsParsed text a → IsParsed text b → a ≡ b
-  pub one : (p : ProgramTree) (main : Option (List ℕ)) (r s : Result (ℕ × List Ty) TypeFault) → IsOutcome p main r → IsOutcome p main s → r ≡ s
-  pub ranges : (text : List ℕ) (p : ProgramTree) → IsProgramOf text p → IsInRange p
-  pub expansions : (p : ProgramTree) (main : ℕ) (one other : Expansion) → IsExpansion p main one → IsExpansion p main other → one ≡ other
-  pub formed : (p : ProgramTree) (asked : Option (List ℕ)) (main : ℕ) (types : List Ty) (e : Expansion) → IsInRange p → IsTyped p asked main types
-      → IsExpansion p main e → length (flows_in e) ≤ 4096 → IsFlat (flat_of p types main e)
-  pub clocks : (p : FlatProgram) → IsFlat p → (one other : Result (List Clock) ClockFault) → IsClockOutcome p one → IsClockOutcome p other → one ≡ other
+use Rattle.prl_stages.specs.Given.{Given, text_of}
+use Rattle.prl_stages.specs.Parts.{IsProgram, IsMain}
+use Rattle.prl_stages.specs.Flattened.{IsFlattened, HasClocks}
+use Rattle.prl_stages.specs.code.Ones.{PartLaws}
 
 pub ok_ok : {A F : Type 0} (r : Result A F) (a b : A) → r ≡ Ok a → r ≡ Ok b → a ≡ b
 ok_ok r a b h k = cc

@@ -1,6 +1,6 @@
 -- A program has one placement on the processors of its text, or one fault of it; and its schedule there is whole or is refused with one fault.
-use Rattle.std.proofs.Common.{◌≡◌, ◌+◌, ◌≢◌, ℕ, Bool, true, List, [], Some, Ok, Err, Result, sym, ap, ◌∙◌, subst}
-use Rattle.prl_core.specs.Cores.{CoreView, opened_on}
+use Rattle.std.proofs.Common.{◌≡◌, ◌+◌, ℕ, Bool, List, [], Some, Ok, Err, Result, sym, ap, ◌∙◌, subst}
+use Rattle.prl_core.specs.Cores.{opened_on}
 use Rattle.prl_cores.specs.declared.texts.CoresFault.{CoresFault}
 use Rattle.prl_cores.specs.Processors.{processors_of}
 use Rattle.prl_plan.specs.declared.events.Event.{Event}
@@ -26,7 +26,8 @@ use Rattle.prl_stages.specs.Placed.{HasPlacement, IsPlacedRun, Lists, RefusesCor
 use Rattle.prl_stages.specs.Planned.{HasGraph, HasPlan}
 use Rattle.prl_stages.specs.Replayed.{schedule_refusal}
 use Rattle.prl_stages.specs.Scheduled.{HasHorizon}
-use Rattle.prl_stages.proofs.OneRun.{RunLaws, one_plan, moved}
+use Rattle.prl_stages.proofs.OneRun.{one_plan, moved}
+use Rattle.prl_stages.specs.code.Ones.{RunLaws}
 use Rattle.prl_stages.proofs.Told.{some_some}
 
 ok_ok : {A F : Type 0} (r : Result A F) (x y : A) → r ≡ Ok x → r ≡ Ok y → x ≡ y

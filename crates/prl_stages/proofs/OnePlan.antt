@@ -17,14 +17,14 @@ use Rattle.prl_plan.specs.declared.words.Word.{Word}
 use Rattle.prl_plan.specs.Cells.{AreLeastCells}
 use Rattle.prl_plan.specs.Chains.{IsBest}
 use Rattle.prl_plan.specs.Dates.{AreEncodedDates}
-use Rattle.prl_plan.specs.Graphs.{IsWellFormed, jobs_in_hyperperiod}
+use Rattle.prl_plan.specs.Graphs.{jobs_in_hyperperiod}
 use Rattle.prl_plan.specs.Jobs.{Job}
-use Rattle.prl_plan.specs.Plans.{AreShortWindows, HaveRoom, PlanView}
+use Rattle.prl_plan.specs.Plans.{AreShortWindows, PlanView}
 use Rattle.prl_words.specs.GraphWords.{constant_reads}
 use Rattle.prl_dates.specs.declared.faults.DateFault.{DateFault}
 use Rattle.prl_dates.specs.declared.faults.DateFault.TheVariants as date_faults
 use Rattle.prl_dates.specs.Faults.{EndsLoop, HasNarrowChain, HasNoNarrowChain, IsDateFault, IsLate, IsLowest, IsOfGraph, IsSomehowLate, NoneOfPeriod}
-use Rattle.prl_plantext.proofs.Counts.{FirstReaders, OneFirstReader, constants_are, counts_are_one}
+use Rattle.prl_plantext.proofs.Counts.{constants_are, counts_are_one}
 use Rattle.prl_stages.specs.declared.faults.DatesRefusal.{DatesRefusal}
 use Rattle.prl_stages.specs.declared.faults.GraphRefusal.{GraphRefusal}
 use Rattle.prl_stages.specs.declared.faults.GraphRefusal.TheVariants as bad_graph
@@ -34,22 +34,8 @@ use Rattle.prl_stages.specs.Given.{Given}
 use Rattle.prl_stages.specs.Flattened.{HasClocks, IsFlattened}
 use Rattle.prl_stages.specs.Planned.{HasDates, HasGraph, HasPlan, HasWords, RefusesCells, RefusesDates, RefusesGraph, RefusesWords, dates_refusal, graph_fault}
 use Rattle.prl_stages.specs.Told.{told_graph}
+use Rattle.prl_stages.specs.code.Ones.{PlanLaws}
 use Rattle.prl_stages.proofs.Told.{graph_told, same_told, some_some}
-
--- the laws of the crates below
-pub record PlanLaws : Type 0 where
-  pub one_graph : (p : FlatProgram) (clocks : List Clock) (a b : TaskGraph) → IsGraphOf p clocks a → IsGraphOf p clocks b → a ≡ b
-  pub one_fault : (p : FlatProgram) (clocks : List Clock) (a b : GraphFault) → IsOfProgram a → IsOfProgram b → IsGraphFault p clocks a
-      → IsGraphFault p clocks b → a ≡ b
-  pub not_both : (p : FlatProgram) (clocks : List Clock) (graph : TaskGraph) (fault : GraphFault) → IsOfProgram fault → IsGraphOf p clocks graph
-      → IsGraphFault p clocks fault → ⊥
-  pub first : FirstReaders
-  pub one_first : OneFirstReader
-  pub narrow : (graph : TaskGraph) (fault : DateFault) → IsWellFormed graph → IsDateFault graph fault → IsOfGraph fault → HasNarrowChain graph
-  pub room : (graph : TaskGraph) (windows : List (List Window)) → AreEncodedDates graph windows → HaveRoom graph windows → HasNoNarrowChain graph
-  pub best : (graph : TaskGraph) (most : ℕ) (job : Job) (a b : ℤ) → IsBest graph most job a → IsBest graph most job b → a ≡ b
-  pub dates : (graph : TaskGraph) (a b : List (List Window)) → AreEncodedDates graph a → AreEncodedDates graph b → AreShortWindows a
-      → AreShortWindows b → a ≡ b
 
 -- a refusal of the task graph is of the program
 of_program : (r : GraphRefusal) → IsOfProgram (graph_fault r)

@@ -1,14 +1,12 @@
 -- A program has one horizon, and its schedule is whole or is refused with one fault.
-use Rattle.std.proofs.Common.{◌≡◌, ℕ, List, Some, sym, ap, ◌∙◌, subst}
+use Rattle.std.proofs.Common.{◌≡◌, Some, sym, ap, ◌∙◌, subst}
 use Rattle.prl_base.specs.declared.limits.Limit.{Limit}
-use Rattle.prl_core.specs.Cores.{CoreView}
 use Rattle.prl_plan.specs.declared.graphs.TaskGraph.{TaskGraph}
 use Rattle.prl_plan.specs.declared.horizons.Horizon.{Horizon}
-use Rattle.prl_plan.specs.Horizons.{IsHorizon, IsPastLimit, Placement, constants_on}
-use Rattle.prl_plan.specs.Plans.{PlanView, IsPlan}
-use Rattle.prl_plan.specs.Spread.{IsSpread}
+use Rattle.prl_plan.specs.Horizons.{IsHorizon, IsPastLimit}
+use Rattle.prl_plan.specs.Plans.{PlanView}
 use Rattle.prl_replay.specs.declared.faults.ReplayFault.{ReplayFault}
-use Rattle.prl_replay.specs.Replays.{IsReplayFault, IsWholeText}
+use Rattle.prl_replay.specs.Replays.{IsReplayFault}
 use Rattle.prl_stages.specs.declared.faults.InputFile.TheVariants as parts
 use Rattle.prl_stages.specs.declared.faults.Fault.{Fault}
 use Rattle.prl_stages.specs.declared.faults.Fault.TheVariants as faults
@@ -16,19 +14,8 @@ use Rattle.prl_stages.specs.Given.{Given, text_of}
 use Rattle.prl_stages.specs.Planned.{HasGraph, HasPlan}
 use Rattle.prl_stages.specs.Replayed.{IsWholeRun, RefusesSchedule, bare, schedule_refusal}
 use Rattle.prl_stages.specs.Scheduled.{HasHorizon, RefusesHorizon}
+use Rattle.prl_stages.specs.code.Ones.{RunLaws}
 use Rattle.prl_stages.proofs.Told.{some_some}
-
--- the laws of the crates below
-pub record RunLaws : Type 0 where
-  pub plan : (a b : PlanView) → IsPlan a → IsPlan b → a.graph ≡ b.graph → a ≡ b
-  pub one_horizon : (plan : PlanView) (until : ℕ) (a b : Horizon) → IsHorizon plan a → IsHorizon plan b → a.until ≡ until → b.until ≡ until → a ≡ b
-  pub horizon_or_limit : (plan : PlanView) (until : ℕ) (horizon : Horizon) (limit : Limit) → IsHorizon plan horizon → horizon.until ≡ until
-      → IsPastLimit plan until limit → ⊥
-  pub one_limit : (plan : PlanView) (until : ℕ) (a b : Limit) → IsPastLimit plan until a → IsPastLimit plan until b → a ≡ b
-  pub whole_or_fault : (core : CoreView) (text : List ℕ) (fault : ReplayFault) → IsWholeText core text → IsReplayFault core text fault → ⊥
-  pub one_fault : (core : CoreView) (text : List ℕ) (a b : ReplayFault) → IsReplayFault core text a → IsReplayFault core text b → a ≡ b
-  pub one_spread : (plan : PlanView) (horizon : Horizon) (a b : Placement) → IsSpread plan a → IsSpread plan b → a.processors ≡ b.processors →
-      constants_on plan a horizon ≡ constants_on plan b horizon
 
 module _ (law : RunLaws) (g : Given) (one_graph : (a b : TaskGraph) → HasGraph g a → HasGraph g b → a ≡ b) where
   pub one_plan : (a b : PlanView) → HasPlan g a → HasPlan g b → a ≡ b

@@ -1,5 +1,5 @@
 -- A program has one made table or one fault of making, and the table of a text is good or has one fault.
-use Rattle.std.proofs.Common.{◌≡◌, ◌≢◌, ◌⊎◌, ℕ, List, Option, Some, None, Ok, Err, Result, sym, ap, ◌∙◌, inl, inr, subst}
+use Rattle.std.proofs.Common.{◌≡◌, ◌≢◌, List, Some, None, Ok, Err, Result, sym, ap, ◌∙◌, inl, inr, subst}
 use Rattle.prl_plan.specs.declared.graphs.TaskGraph.{TaskGraph}
 use Rattle.prl_plan.specs.Plans.{PlanView, IsPlan}
 use Rattle.prl_tables.specs.declared.reading.TableFault.{TableFault}
@@ -17,9 +17,10 @@ use Rattle.prl_stages.specs.declared.faults.Fault.TheVariants as faults
 use Rattle.prl_stages.specs.declared.faults.MakeRefusal.{MakeRefusal}
 use Rattle.prl_stages.specs.declared.faults.TableRefusal.{TableRefusal}
 use Rattle.prl_stages.specs.Given.{Given, text_of}
-use Rattle.prl_stages.specs.Planned.{HasGraph, HasPlan}
+use Rattle.prl_stages.specs.Planned.{HasGraph}
 use Rattle.prl_stages.specs.Tabled.{HasMadeTable, HasTable, IsTableFault, RefusesMade, RefusesTable, make_refusal, table_refusal}
-use Rattle.prl_stages.proofs.OneRun.{RunLaws, one_plan}
+use Rattle.prl_stages.proofs.OneRun.{one_plan}
+use Rattle.prl_stages.specs.code.Ones.{RunLaws}
 use Rattle.prl_stages.proofs.Told.{some_some}
 
 -- the laws of the crates below

@@ -1,11 +1,9 @@
 -- The text that a mode means is one.
-use Rattle.std.proofs.Common.{◌≡◌, ◌++◌, ℕ, Bool, true, false, List, [], ◌∷◌, Option, Some, None, Result, Ok, refl, sym, ap, ◌∙◌, inl, inr, subst}
+use Rattle.std.proofs.Common.{◌≡◌, ◌++◌, ℕ, Bool, true, false, List, Ok, sym, ap, ◌∙◌, subst}
 use Rattle.std.specs.Prelude.{length}
 use Rattle.prl_arguments.specs.declared.arguments.Mode.TheVariants as modes
-use Rattle.prl_ast.specs.Trees.{ProgramTree}
 use Rattle.prl_base.specs.declared.operators.Clock.{Clock}
 use Rattle.prl_core.specs.Cores.{opened, opened_on}
-use Rattle.prl_cores.specs.declared.texts.CoresFault.{CoresFault}
 use Rattle.prl_cores.specs.Processors.{processors_of}
 use Rattle.prl_edf.specs.declared.analysis.Verdict.{Verdict}
 use Rattle.prl_edf.specs.UnitLists.{wcets_of}
@@ -25,7 +23,6 @@ use Rattle.prl_plantext.specs.PlanTexts.{plan_text}
 use Rattle.prl_print.specs.Printing.{printed}
 use Rattle.prl_replay.specs.Replays.{IsReplay}
 use Rattle.prl_rule.specs.declared.views.Gate.{Gate}
-use Rattle.prl_rule.specs.declared.views.Gate.TheVariants as gates
 use Rattle.prl_schedules.specs.Dispatches.{IsDispatched}
 use Rattle.prl_schedules.specs.ReadTexts.{text_of_reads}
 use Rattle.prl_schedules.specs.Schedules.{schedule_of}
@@ -51,7 +48,7 @@ use Rattle.prl_stages.proofs.OneDispatch.{one_dispatched}
 use Rattle.prl_stages.proofs.OneMeaning.{MeaningLaws, graphs, one_meant, same_alone, same_flows, same_horizon, same_machines, same_plan}
 use Rattle.prl_stages.proofs.OneParts.{ok_ok, one_program}
 use Rattle.prl_stages.proofs.OneRun.{moved, one_plan}
-use Rattle.prl_stages.proofs.OneTold.{AreAlike, one_reads}
+use Rattle.prl_stages.proofs.OneTold.{one_reads}
 
 -- the laws of the crates below
 pub record Laws : Type 0 where
@@ -70,14 +67,14 @@ written_one until p q x y u v plans reads outs =
 
 module _ (law : Laws) (g : Given) where
   plans : (a b : PlanView) → HasPlan g a → HasPlan g b → a ≡ b
-  plans = one_plan law.meaning.runs g (graphs law.meaning g)
+  plans = one_plan law.meaning.ones.runs g (graphs law.meaning g)
 
   -- what holds of one plan with its horizon holds of the other
   there : (p q : PlanView) (a b : Horizon) (P : PlanView → Horizon → Type 0) → HasHorizon g p a → HasHorizon g q b → P p a → P q b
-  there = moved law.meaning.runs g (graphs law.meaning g)
+  there = moved law.meaning.ones.runs g (graphs law.meaning g)
 
   pub print_one : (a b : List ℕ) → IsText g modes.Print a → IsText g modes.Print b → a ≡ b
-  print_one a b h k = h.2 ∙ ap printed (one_program law.meaning.parts g h.0 k.0 h.1 k.1) ∙ sym k.2
+  print_one a b h k = h.2 ∙ ap printed (one_program law.meaning.ones.parts g h.0 k.0 h.1 k.1) ∙ sym k.2
 
   pub plan_one : (a b : List ℕ) → IsText g modes.Plan a → IsText g modes.Plan b → a ≡ b
   plan_one a b h k = h.2 ∙ ap plan_text (plans h.0 k.0 h.1 k.1) ∙ sym k.2
@@ -154,7 +151,7 @@ module _ (law : Laws) (g : Given) where
       let processors = ok_ok (processors_of (task_names f.plan) (text_of g parts.Cores)) here.processors other.processors read k.read in
       ap (λ (p : PlanView). constants_on p here e.horizon) same
       ∙ ap (λ (t : Horizon). constants_on f.plan here t) (same_horizon law.meaning g e f)
-      ∙ law.meaning.runs.one_spread f.plan f.horizon here other spread k.spread processors
+      ∙ law.meaning.ones.runs.one_spread f.plan f.horizon here other spread k.spread processors
 
   pub cores_one : (a b : List ℕ) → IsCoresText g a → IsCoresText g b → a ≡ b
   cores_one a b h k =

@@ -1,13 +1,11 @@
 -- Exactly one behaviour satisfies a program that has clocks, bodies and rows, and each legal and complete schedule of its plan has a replay.
-use Rattle.std.proofs.Common.{◌≡◌, ◌++◌, ◌<◌, ◌≤◌, ◌↔◌, ℕ, List, Ok, length, map, refl, sym, subst}
-use Rattle.std.specs.Prelude.{slice_index}
+use Rattle.std.proofs.Common.{◌≡◌, ◌++◌, ℕ, List, Ok, length, map, refl, sym, subst}
 use Rattle.prl_base.specs.declared.numbers.FlowNo.{FlowNo}
 use Rattle.prl_base.specs.declared.operators.Clock.{Clock}
+use Rattle.prl_ast.specs.InRange.{IsInRange}
 use Rattle.prl_ast.specs.Trees.{ProgramTree}
-use Rattle.prl_ast.specs.declared.declarations.Import.{Import}
 use Rattle.prl_body.specs.declared.bodies.CheckedBody.{CheckedBody}
-use Rattle.prl_body.specs.Checks.{body_tree, checked}
-use Rattle.prl_body.specs.Texts.{TextTree}
+use Rattle.prl_body.specs.Checks.{body_tree}
 use Rattle.prl_body.specs.Used.{HaveBodiesOf}
 use Rattle.prl_track.specs.declared.seen.Seen.{Seen}
 use Rattle.prl_flow.specs.declared.programs.OutFlow.{OutFlow}
@@ -15,56 +13,55 @@ use Rattle.prl_flow.specs.Actuators.{AreUpTo, actuator_text}
 use Rattle.prl_flow.specs.Programs.{FlatProgram, IsFlat}
 use Rattle.prl_flow.specs.Rows.{Rows}
 use Rattle.prl_behaviours.specs.Behaviours.{Satisfies, state_in}
-use Rattle.prl_flow.specs.Uses.{HasNoCycle, IsOrder}
+use Rattle.prl_flow.specs.Uses.{IsOrder}
 use Rattle.prl_solutions.specs.Uniqueness.{ExactlyOne}
 use Rattle.prl_graph.specs.TaskGraphs.{IsGraphOf}
-use Rattle.prl_core.specs.Cores.{CoreView, opened}
+use Rattle.prl_core.specs.Cores.{opened, opened_on}
 use Rattle.prl_names.specs.Uses.{used_imports}
 use Rattle.prl_plan.specs.declared.events.Event.{Event}
-use Rattle.prl_plan.specs.declared.graphs.TaskGraph.{TaskGraph}
 use Rattle.prl_plan.specs.declared.horizons.Horizon.{Horizon}
 use Rattle.prl_plan.specs.Facts.{HasPlanFacts}
-use Rattle.prl_plan.specs.Horizons.{IsHorizon, constants_of}
+use Rattle.prl_plan.specs.Horizons.{Placement, alone, constants_of, constants_on}
 use Rattle.prl_expand.specs.Flats.{flat_of}
 use Rattle.prl_flow.specs.States.{IsSolution}
 use Rattle.prl_solutions.specs.Conditions.{clocks_in}
-use Rattle.prl_plan.specs.Jobs.{IsHorizonJob, job_count, task_at}
 use Rattle.prl_plan.specs.Plans.{IsPlan, PlanView}
-use Rattle.prl_plan.specs.Rules.{IsComplete, IsGated, IsLegal}
-use Rattle.prl_plan.specs.Runs.{RunConstants, after_events, opening}
+use Rattle.prl_plan.specs.Rules.{IsComplete, IsLegal}
+use Rattle.prl_plan.specs.Runs.{after_events, opening}
+use Rattle.prl_results.specs.Shown.{AreShown}
+use Rattle.prl_rule.specs.declared.views.Constants.{Constants}
+use Rattle.prl_rule.specs.declared.views.Gate.{Gate}
+use Rattle.prl_rule.specs.declared.views.Gate.TheVariants as gates
+use Rattle.prl_rule.specs.Known.{known}
+use Rattle.prl_schedules.specs.Dispatches.{IsDispatched}
 use Rattle.prl_schedules.specs.ReadTexts.{text_of_reads}
+use Rattle.prl_schedules.specs.Schedules.{schedule_of}
 use Rattle.prl_schedules.specs.ScheduleTexts.{task_names}
-use Rattle.prl_replay.specs.Replays.{IsTrace, after_all}
+use Rattle.prl_replay.specs.Replays.{AreFlowsBelow, IsTrace, after_all}
 use Rattle.prl_replay.proofs.Ends.{ended_all, flows_up_to}
+use Rattle.prl_tables.specs.declared.tables.Entry.{Entry}
 use Rattle.prl_values.specs.Fitting.{HaveTaskBodies, HaveTypedRows}
+use Rattle.prl_values.specs.JobValues.{job_values}
 use Rattle.prl_stages.specs.declared.faults.InputFile.TheVariants as parts
 use Rattle.prl_stages.specs.Given.{Given, text_of}
 use Rattle.prl_stages.specs.Flattened.{IsFlattened}
 use Rattle.prl_stages.specs.Parts.{AreBodies, IsMain}
 use Rattle.prl_stages.specs.Planned.{HasGraph, HasPlan}
-use Rattle.prl_stages.specs.Replayed.{IsReplayText, IsWholeRun}
-use Rattle.prl_stages.specs.Runs.{HasRows, Meaning, rows_for}
+use Rattle.prl_stages.specs.Placed.{IsCoresText, IsPlacedRun}
+use Rattle.prl_stages.specs.declared.ran.Ran.{Ran}
+use Rattle.prl_stages.specs.declared.ran.Ran.TheVariants as runs
+use Rattle.prl_stages.specs.Ran.{HasRun, IsCycleText, IsRunOf, IsRunText, IsSummary, sum_of, summary_line}
+use Rattle.prl_stages.specs.Replayed.{Execution, IsReplayText}
+use Rattle.prl_stages.specs.Runs.{HasRows, Meaning, meant_flows, rows_for}
+use Rattle.prl_stages.specs.Scheduled.{HasHorizon, IsWhole}
+use Rattle.prl_stages.specs.Tabled.{HasTable}
+use Rattle.prl_stages.specs.code.Ones.{PartLaws}
+use Rattle.prl_stages.specs.code.Wholes.{WholeLaws}
+use Rattle.prl_stages.proofs.Boards.{are_shown, board, has_ended}
 use Rattle.prl_stages.proofs.OneParts as ones
 use Rattle.prl_stages.proofs.Running as running
 
--- the laws of the crates below
-pub record Laws : Type 0 where
-  pub orders : (p : FlatProgram) → IsFlat p → HasNoCycle p → (order : List FlowNo) × IsOrder p order
-  pub used : (imports : List Import) (used : List (List ℕ)) (texts : List TextTree) (bodies : List CheckedBody)
-      → checked imports used texts ≡ Ok (map body_tree bodies) → HaveBodiesOf imports used bodies
-  pub facts : (plan : PlanView) (horizon : Horizon) → IsPlan plan → IsHorizon plan horizon → HasPlanFacts (constants_of plan horizon)
-  pub gated : (c : RunConstants) → HasPlanFacts c → (events : List Event) → IsLegal c (opening c) events → IsGated c (opening c) events
-  pub few : (c : RunConstants) → HasPlanFacts c → (events : List Event) → IsGated c (opening c) events
-      → (i : ℕ) → i < c.tasks → slice_index (after_events c (opening c) events).ended i ≤ c.jobs i
-  pub counted : (graph : TaskGraph) (until i n : ℕ) → i < length graph.tasks → 0 < (task_at graph i).clock.period
-      → IsHorizonJob graph until i n ↔ (n < job_count (task_at graph i) until)
-  pub replayed : (plan : PlanView) (bodies : List CheckedBody) (rows : Rows) (horizon : Horizon) → IsPlan plan → IsHorizon plan horizon
-      → HaveTaskBodies plan.graph bodies → HaveTypedRows plan.graph horizon.until rows
-      → (events : List Event) → IsLegal (constants_of plan horizon) (opening (constants_of plan horizon)) events
-      → IsComplete (constants_of plan horizon) (after_events (constants_of plan horizon) (opening (constants_of plan horizon)) events)
-      → (reads : List Seen) × (outs : List OutFlow) × IsTrace (opened plan bodies rows horizon) events reads outs
-
-module _ (one : ones.PartLaws) (law : running.Laws) (whole : Laws) (g : Given) (bodies : List CheckedBody) (trees : AreBodies g (map body_tree bodies))
+module _ (one : PartLaws) (law : running.Laws) (whole : WholeLaws) (g : Given) (bodies : List CheckedBody) (trees : AreBodies g (map body_tree bodies))
     (flat : FlatProgram) (clocks : List Clock) (rows : Rows) (has : HasRows g flat clocks rows) where
   made : IsFlattened g flat
   made = has.clocked.causal.flattened
@@ -124,29 +121,132 @@ module _ (one : ones.PartLaws) (law : running.Laws) (whole : Laws) (g : Given) (
         read = subst (λ (cs : List Clock). rows_for g flat cs ≡ Ok rows) (sym clocked) has.read;
       }
 
-  module _ (plan : PlanView) (horizon : Horizon) (run : IsWholeRun g plan horizon) where
+  module _ (plan : PlanView) (horizon : Horizon) (has_horizon : HasHorizon g plan horizon) where
+    is_plan : IsPlan plan
+    is_plan = has_horizon.has_plan.is_plan
+
     is_graph : IsGraphOf flat clocks plan.graph
-    is_graph = graph_there plan run.has_horizon.has_plan
+    is_graph = graph_there plan has_horizon.has_plan
 
-    abbrev core : CoreView
-    core = after_all (opened plan bodies rows horizon) run.events
+    range : IsInRange made.program
+    range = one.ranges (text_of g parts.Program) made.program made.is_main.program.written
 
-    pub some_text : (text : List ℕ) × IsReplayText g text
-    some_text =
-        let types = made.is_main.types in
-        let range = one.ranges (text_of g parts.Program) made.program made.is_main.program.written in
-        let is_plan = run.has_horizon.has_plan.is_plan in
-        let bodies_there = running.bodies_there law g made.program made.main types flat made.is_main.typed made.expanded range formed clocks order.0 order.1 bodies trees have
-        rows has plan is_plan is_graph in
-        let rows_there = running.rows_there law g made.program made.main types flat made.is_main.typed made.expanded range formed clocks order.0 order.1 bodies trees have
-        rows has plan is_plan is_graph horizon run.has_horizon.until in
-        let r = whole.replayed plan bodies rows horizon is_plan run.has_horizon.is_horizon bodies_there rows_there run.events run.whole.legal run.whole.complete in
-        let facts = whole.facts plan horizon is_plan run.has_horizon.is_horizon in
-        let few = whole.few (constants_of plan horizon) facts run.events (whole.gated (constants_of plan horizon) facts run.events run.whole.legal) in
-        let up_to : AreUpTo horizon.until r.1 =
-        flows_up_to core is_plan (whole.counted plan.graph horizon.until) (ended_all core run.whole.complete few) r.1 r.2.flows in
+    bodies_serve : HaveTaskBodies plan.graph bodies
+    bodies_serve =
+        running.bodies_there law g made.program made.main made.is_main.types flat made.is_main.typed made.expanded range formed clocks order.0 order.1 bodies trees have
+        rows has plan is_plan is_graph
+
+    rows_serve : HaveTypedRows plan.graph horizon.until rows
+    rows_serve =
+        running.rows_there law g made.program made.main made.is_main.types flat made.is_main.typed made.expanded range formed clocks order.0 order.1 bodies trees have
+        rows has plan is_plan is_graph horizon has_horizon.until
+
+    -- after a whole run the flows are up to the date
+    placed_up_to : (placement : Placement) → HasPlanFacts (constants_on plan placement horizon) → (events : List Event)
+        → IsLegal (constants_on plan placement horizon) (opening (constants_on plan placement horizon)) events
+        → IsComplete (constants_on plan placement horizon) (after_events (constants_on plan placement horizon) (opening (constants_on plan placement horizon)) events)
+        → (outs : List OutFlow) → AreFlowsBelow (after_all (opened_on plan placement bodies rows horizon) events) (length plan.graph.tasks) outs
+        → AreUpTo horizon.until outs
+    placed_up_to placement facts events legal complete outs below =
+        let c = constants_on plan placement horizon in
+        let few = whole.few c facts events (whole.gated c facts events legal) in
+        let core = after_all (opened_on plan placement bodies rows horizon) events in
+        flows_up_to core is_plan (whole.counted plan.graph horizon.until) (ended_all core complete few) outs below
+
+    -- what the texts mean with the plan is written of the reads and flows of a run
+    pub some_text : (events : List Event) → schedule_of (task_names plan) (text_of g parts.Schedule) ≡ Ok events → IsWhole plan horizon events
+        → (text : List ℕ) × IsReplayText g text
+    some_text events listed whole_list =
+        let r = whole.replayed plan (alone plan) bodies rows horizon is_plan has_horizon.is_horizon (whole.facts plan horizon is_plan has_horizon.is_horizon) bodies_serve rows_serve
+        events whole_list.legal whole_list.complete in
+        let up_to = placed_up_to (alone plan) (whole.facts plan horizon is_plan has_horizon.is_horizon) events whole_list.legal whole_list.complete r.1 r.2.flows in
         let text = text_of_reads (task_names plan) r.0 ++ actuator_text g.until r.1 in (
           text,
-          running.text_is law g made.program made.main types flat made.is_main.typed made.expanded range formed clocks order.0 order.1 bodies trees have
-              rows has plan is_plan is_graph horizon run.has_horizon made.is_main run.events run.listed r.0 r.1 r.2 up_to text refl,
+          running.text_is law g made.program made.main made.is_main.types flat made.is_main.typed made.expanded range formed clocks order.0 order.1 bodies trees have
+              rows has plan is_plan is_graph horizon has_horizon made.is_main events listed r.0 r.1 r.2 up_to text refl,
+        )
+
+    -- and on several processors
+    pub some_cores_text : (placement : Placement) → IsPlacedRun g plan placement horizon → (text : List ℕ) × IsCoresText g text
+    some_cores_text placement run =
+        let spread = run.has_placement.spread in
+        let facts = whole.spread_facts plan horizon placement is_plan has_horizon.is_horizon spread in
+        let gated = whole.spread_gated plan horizon placement is_plan has_horizon.is_horizon spread run.events run.legal in
+        let r = whole.replayed plan placement bodies rows horizon is_plan has_horizon.is_horizon facts bodies_serve rows_serve run.events run.legal run.complete in
+        let up_to = placed_up_to placement facts run.events run.legal run.complete r.1 r.2.flows in
+        let text = text_of_reads (task_names plan) r.0 ++ actuator_text g.until r.1 in (
+          text,
+          running.cores_text_is law g made.program made.main made.is_main.types flat made.is_main.typed made.expanded range formed clocks order.0 order.1 bodies trees have
+              rows has plan is_plan is_graph horizon has_horizon made.is_main placement run.has_placement run.events run.listed gated r.0 r.1 r.2 up_to text refl,
+        )
+
+    -- what the texts mean with the plan
+    abbrev meant : Execution g
+    meant =
+        running.execution law g made.program made.main made.is_main.types flat made.is_main.typed made.expanded range formed clocks order.0 order.1 bodies trees have
+        rows has plan is_plan is_graph horizon has_horizon made.is_main
+
+    dispatched : (events : List Event) × IsDispatched (constants_of plan horizon) (opening (constants_of plan horizon)) events
+    dispatched = whole.dispatched plan horizon is_plan has_horizon.is_horizon
+
+    facts : HasPlanFacts (constants_of plan horizon)
+    facts = whole.facts plan horizon is_plan has_horizon.is_horizon
+
+    legal : IsLegal (constants_of plan horizon) (opening (constants_of plan horizon)) dispatched.0
+    legal = whole.legal (constants_of plan horizon) facts (opening (constants_of plan horizon)) dispatched.0 dispatched.1
+
+    complete : IsComplete (constants_of plan horizon) (after_events (constants_of plan horizon) (opening (constants_of plan horizon)) dispatched.0)
+    complete = whole.complete (constants_of plan horizon) (opening (constants_of plan horizon)) dispatched.0 dispatched.1
+
+    replay : (reads : List Seen) × (outs : List OutFlow) × IsTrace (opened plan bodies rows horizon) dispatched.0 reads outs
+    replay = whole.replayed plan (alone plan) bodies rows horizon is_plan has_horizon.is_horizon facts bodies_serve rows_serve dispatched.0 legal complete
+
+    outs_meant : replay.1 ≡ meant_flows g meant.meaning
+    outs_meant =
+        running.placed_outs law g made.program made.main made.is_main.types flat made.is_main.typed made.expanded range formed clocks order.0 order.1 bodies trees have
+        rows has plan is_plan is_graph horizon has_horizon made.is_main (alone plan) (after_all (opened plan bodies rows horizon) dispatched.0).state replay.1 replay.2.flows
+        (placed_up_to (alone plan) facts dispatched.0 legal complete replay.1 replay.2.flows)
+
+    abbrev known_of : Gate → Constants
+    known_of under = known plan horizon under rows bodies
+
+    -- a board on which every job has ended, and which shows main's outputs
+    run_there : (under : Gate) → HasRun g meant under (board (known_of under))
+    run_there under =
+        let core = after_all (opened plan bodies rows horizon) dispatched.0 in
+        let few = whole.few (constants_of plan horizon) facts dispatched.0 (whole.gated (constants_of plan horizon) facts dispatched.0 legal) in
+        let values = law.exist plan is_plan bodies rows horizon.until in
+        let shown = are_shown (known_of under) is_plan core.state (whole.counted plan.graph horizon.until)
+        (whole.typed plan is_plan bodies rows horizon.until (job_values plan.graph bodies rows horizon.until) bodies_serve rows_serve values)
+        (ended_all core complete few) replay.1 replay.2.flows in
+        running.run_is law g made.program made.main made.is_main.types flat made.is_main.typed made.expanded range formed clocks order.0 order.1 bodies trees have
+        rows has plan is_plan is_graph horizon has_horizon made.is_main under (board (known_of under)) refl (has_ended (known_of under))
+        (subst (AreShown (board (known_of under)) plan.graph) outs_meant shown)
+
+    run_of_there : (under : Gate) → IsRunOf g meant under (actuator_text g.until (meant_flows g meant.meaning)) (runs.Ended (board (known_of under)))
+    run_of_there under = record { closed = board (known_of under); ended = refl; run = run_there under; written = refl }
+
+    pub some_run_text : (under : Gate) → (text : List ℕ) × (ran : Ran) × IsRunText g under text ran
+    some_run_text under = (actuator_text g.until (meant_flows g meant.meaning), runs.Ended (board (known_of under)), (meant, run_of_there under))
+
+    pub some_cycle_text : (entries : List Entry) → HasTable g plan entries → (text : List ℕ) × (ran : Ran) × IsCycleText g text ran
+    some_cycle_text entries table = (
+      actuator_text g.until (meant_flows g meant.meaning),
+      runs.Ended (board (known_of gates.Gated)),
+      running.cycle_is law g made.program made.main made.is_main.types flat made.is_main.typed made.expanded range formed clocks order.0 order.1 bodies trees have
+          rows has plan is_plan is_graph horizon has_horizon made.is_main entries table
+          (whole.table_gated plan horizon is_plan has_horizon.is_horizon entries table.good) (whole.table_complete plan horizon is_plan has_horizon.is_horizon entries table.good)
+          (actuator_text g.until (meant_flows g meant.meaning)) (runs.Ended (board (known_of gates.Gated))) (run_of_there gates.Gated),
+    )
+
+    pub some_summary : (seed size : ℕ) → (text : List ℕ) × (ran : Ran) × IsSummary g seed size text ran
+    some_summary seed size =
+        let outs : List OutFlow = meant_flows g meant.meaning in
+        let trace = subst (IsTrace (opened plan bodies rows horizon) dispatched.0 replay.0) outs_meant replay.2 in
+        let text = summary_line seed size (length plan.graph.tasks) (length plan.graph.edges) horizon.jobs (length replay.0) (sum_of outs) in (
+          text,
+          runs.Ended (board (known_of gates.Gated)),
+          running.summary_is law g made.program made.main made.is_main.types flat made.is_main.typed made.expanded range formed clocks order.0 order.1 bodies trees have
+              rows has plan is_plan is_graph horizon has_horizon made.is_main (board (known_of gates.Gated)) (run_there gates.Gated) dispatched.0 dispatched.1
+              replay.0 trace seed size text refl,
         )

@@ -44,10 +44,17 @@ use Rattle.prl_plan.specs.declared.graphs.TaskGraph.{TaskGraph}
 use Rattle.prl_plan.specs.declared.horizons.Horizon.{Horizon}
 use Rattle.prl_plan.specs.Graphs.{IsWellFormed}
 use Rattle.prl_plan.specs.Horizons.{Placement, alone, constants_of}
-use Rattle.prl_plan.specs.Rules.{IsGated}
+use Rattle.prl_plan.specs.Rules.{IsComplete, IsGated}
 use Rattle.prl_plan.specs.Jobs.{IsHorizonJob, task_at}
 use Rattle.prl_plan.specs.Plans.{IsPlan, PlanView, edge_at, no_edge}
-use Rattle.prl_plan.specs.Runs.{ExecState, opening}
+use Rattle.prl_plan.specs.Runs.{ExecState, after_events, opening}
+use Rattle.prl_board.specs.Closings.{ClosedView}
+use Rattle.prl_exec.specs.Runs.{HasEnded}
+use Rattle.prl_results.specs.Shown.{AreShown}
+use Rattle.prl_rule.specs.declared.views.Gate.{Gate}
+use Rattle.prl_rule.specs.declared.views.Gate.TheVariants as gates
+use Rattle.prl_rule.specs.Known.{known}
+use Rattle.prl_schedules.specs.Dispatches.{IsDispatched}
 use Rattle.prl_schedules.specs.ReadTexts.{text_of_reads}
 use Rattle.prl_schedules.specs.Schedules.{schedule_of}
 use Rattle.prl_schedules.specs.ScheduleTexts.{task_names}
@@ -63,10 +70,15 @@ use Rattle.prl_stages.specs.declared.faults.InputFile.TheVariants as parts
 use Rattle.prl_stages.specs.Given.{Given, text_of}
 use Rattle.prl_stages.specs.Parts.{AreBodies, IsMain}
 use Rattle.prl_stages.specs.Placed.{HasPlacement, IsCoresText, Lists}
+use Rattle.prl_stages.specs.declared.ran.Ran.{Ran}
+use Rattle.prl_stages.specs.declared.ran.Ran.TheVariants as runs
+use Rattle.prl_stages.specs.Ran.{HasRun, IsCycleText, IsRunOf, IsSummary, list_of, sum_of, summary_line}
 use Rattle.prl_stages.specs.Replayed.{Execution, IsReplayText, ReadFlows}
 use Rattle.prl_behaviours.specs.Behaviours.{Satisfies, state_in}
 use Rattle.prl_stages.specs.Runs.{HasRows, meant_flows, rows_for}
 use Rattle.prl_stages.specs.Scheduled.{HasHorizon}
+use Rattle.prl_stages.specs.Tabled.{HasTable}
+use Rattle.prl_tables.specs.declared.tables.Entry.{Entry}
 use Rattle.prl_stages.proofs.Inputs.{enough_rows, typed_rows}
 use Rattle.prl_stages.proofs.Meaning as meaning
 use Rattle.prl_stages.proofs.SmallClocks.{small_clocks}
@@ -293,5 +305,67 @@ module _ (law : Laws) (g : Given) (p : ProgramTree) (main : ℕ) (types : List T
         outs = outs;
         trace = trace;
         outputs = placed_outs (alone plan) (after_all (opened plan bodies rows horizon) events).state outs trace.flows up_to;
+        written = written;
+      }
+
+      -- the same on several processors
+      pub cores_text_is : (placement : Placement) → HasPlacement g plan placement → (events : List Event) → Lists g.listed g plan placement horizon events
+          → IsGated (constants_of plan horizon) (opening (constants_of plan horizon)) events → (reads : List Seen) (outs : List OutFlow)
+          → IsTrace (opened_on plan placement bodies rows horizon) events reads outs → AreUpTo horizon.until outs → (text : List ℕ)
+          → text ≡ text_of_reads (task_names plan) reads ++ actuator_text g.until outs → IsCoresText g text
+      unfolding execution
+      cores_text_is placement placed events listed gated reads outs trace up_to text written = record {
+        execution = execution horizon has_horizon is_main;
+        placement = placement;
+        has_placement = placed;
+        events = events;
+        listed = listed;
+        gated = gated;
+        reads = reads;
+        outs = outs;
+        trace = trace;
+        outputs = placed_outs placement (after_all (opened_on plan placement bodies rows horizon) events).state outs trace.flows up_to;
+        written = written;
+      }
+
+      -- a closed board on which every job has ended and which shows main's outputs
+      pub run_is : (under : Gate) (closed : ClosedView) → closed.constants ≡ Some (known plan horizon under rows bodies) → HasEnded closed
+          → AreShown closed plan.graph (meant_flows g (execution horizon has_horizon is_main).meaning) → HasRun g (execution horizon has_horizon is_main) under closed
+      unfolding execution
+      run_is under closed its ended shown = record { constants = its; ended = ended; shown = shown }
+
+      -- with the good table by which the tasks have run
+      pub cycle_is : (entries : List Entry) → HasTable g plan entries
+          → IsGated (constants_of plan horizon) (opening (constants_of plan horizon)) (list_of plan horizon entries)
+          → IsComplete (constants_of plan horizon) (after_events (constants_of plan horizon) (opening (constants_of plan horizon)) (list_of plan horizon entries))
+          → (text : List ℕ) (ran : Ran) → IsRunOf g (execution horizon has_horizon is_main) gates.Gated text ran → IsCycleText g text ran
+      unfolding execution
+      cycle_is entries table gated complete text ran run = record {
+        execution = execution horizon has_horizon is_main;
+        entries = entries;
+        has_table = table;
+        gated = gated;
+        complete = complete;
+        run = run;
+      }
+
+      -- with the replay of the dispatched list
+      pub summary_is : (closed : ClosedView) → HasRun g (execution horizon has_horizon is_main) gates.Gated closed → (events : List Event)
+          → IsDispatched (constants_of plan horizon) (opening (constants_of plan horizon)) events → (reads : List Seen)
+          → IsTrace (opened plan bodies rows horizon) events reads (meant_flows g (execution horizon has_horizon is_main).meaning)
+          → (seed size : ℕ) (text : List ℕ)
+          → text ≡ summary_line seed size (length plan.graph.tasks) (length plan.graph.edges) horizon.jobs (length reads)
+          (sum_of (meant_flows g (execution horizon has_horizon is_main).meaning))
+          → IsSummary g seed size text (runs.Ended closed)
+      unfolding execution
+      summary_is closed run events dispatched reads trace seed size text written = record {
+        execution = execution horizon has_horizon is_main;
+        closed = closed;
+        ended = refl;
+        run = run;
+        events = events;
+        dispatched = dispatched;
+        reads = reads;
+        trace = trace;
         written = written;
       }

@@ -16,7 +16,6 @@ use Rattle.prl_body.specs.Checks.{BodyTree, RegisterTree, body_tree, register_tr
 use Rattle.prl_body.specs.Expressions.{Expression}
 use Rattle.prl_body.specs.Values.{value}
 use Rattle.prl_body.specs.declared.bodies.CheckedBody.{CheckedBody}
-use Rattle.prl_body.specs.declared.bodies.Register.{Register}
 use Rattle.prl_flow.specs.Applications.{nth_step, registers_before}
 use Rattle.prl_flow.specs.Rows.{Rows}
 use Rattle.prl_flow.specs.Rules.{Rule, rated, constant, operator, applied, same, sensed}

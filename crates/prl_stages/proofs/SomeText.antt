@@ -1,5 +1,5 @@
 -- Where the stages of a mode hold, there is a text that it means.
-use Rattle.std.proofs.Common.{◌≡◌, ◌++◌, ℕ, Bool, true, false, List, [], ◌∷◌, map, Option, None, refl, arith}
+use Rattle.std.proofs.Common.{◌≡◌, ◌++◌, ℕ, Bool, true, false, List, [], ◌∷◌, map, Option, None, refl, subst, arith}
 use Rattle.std.specs.List.Sorted.{IsPermutation}
 use Rattle.prl_arguments.specs.declared.arguments.Mode.TheVariants as modes
 use Rattle.prl_body.specs.declared.bodies.CheckedBody.{CheckedBody}
@@ -25,6 +25,8 @@ use Rattle.prl_table.specs.Made.{IsSteadyRun, cut_from, cut_to, run_until}
 use Rattle.prl_tables.specs.declared.tables.Entry.{Entry}
 use Rattle.prl_tables.specs.Tables.{IsGood}
 use Rattle.prl_tables.specs.TableTexts.{text_of as table_text}
+use Rattle.prl_rule.specs.declared.views.Gate.{Gate}
+use Rattle.prl_stages.specs.declared.ran.Ran.{Ran}
 use Rattle.prl_stages.specs.declared.stages.Stage.{Stage}
 use Rattle.prl_stages.specs.declared.stages.Stage.TheVariants as stages
 use Rattle.prl_stages.specs.Given.{Given}
@@ -33,9 +35,11 @@ use Rattle.prl_stages.specs.Planned.{HasPlan, accepted_line}
 use Rattle.prl_stages.specs.Runs.{meant_flows}
 use Rattle.prl_stages.specs.Scheduled.{HasHorizon, IsScheduleText}
 use Rattle.prl_stages.specs.Stages.{Comes, Holds, IsText, front, graphed, planned, stages_after}
-use Rattle.prl_stages.specs.Tabled.{HasMadeTable}
+use Rattle.prl_stages.specs.Ran.{IsCycleText, IsRunText, IsSummary}
+use Rattle.prl_stages.specs.Tabled.{HasMadeTable, HasTable}
 use Rattle.prl_stages.proofs.AllHold.{behind, first_holds}
-use Rattle.prl_stages.proofs.OneParts.{PartLaws}
+use Rattle.prl_stages.specs.code.Ones.{PartLaws}
+use Rattle.prl_stages.specs.code.Wholes.{WholeLaws}
 use Rattle.prl_stages.proofs.Replaying as replaying
 use Rattle.prl_stages.proofs.Running as running
 
@@ -105,7 +109,7 @@ some_table_text law g named comes =
     (table_text plan.graph.hyper entries, record { plan = plan; entries = entries; made = has; good = good; written = refl })
 
 -- the texts of what is computed, where the bodies of the text are given
-module _ (one : PartLaws) (law : running.Laws) (whole : replaying.Laws) (g : Given) (bodies : List CheckedBody) (trees : AreBodies g (map body_tree bodies)) (named : Bool) where
+module _ (one : PartLaws) (law : running.Laws) (whole : WholeLaws) (g : Given) (bodies : List CheckedBody) (trees : AreBodies g (map body_tree bodies)) (named : Bool) where
   pub flows_text : Comes g (stages_after modes.Flows named) None → (text : List ℕ) × IsText g modes.Flows text
   flows_text comes =
       let rows = (first_holds g stages.Rows (stages.Values ∷ []) (behind g (front ++ stages.Bodies ∷ []) (stages.Rows ∷ stages.Values ∷ []) comes)).0 in
@@ -120,4 +124,45 @@ module _ (one : PartLaws) (law : running.Laws) (whole : replaying.Laws) (g : Giv
       let rest = first_holds g stages.Rows (stages.Schedule ∷ []) (behind g to_horizon (stages.Rows ∷ stages.Schedule ∷ []) comes) in
       let rows = rest.0 in
       let run = (first_holds g stages.Schedule [] rest.1).0 in
-      replaying.some_text one law whole g bodies trees rows.0 rows.1 rows.2 rows.3 run.0 run.1 run.2
+      replaying.some_text one law whole g bodies trees rows.0 rows.1 rows.2 rows.3 run.0 run.1 run.2.has_horizon run.2.events run.2.listed run.2.whole
+
+  pub cores_text : Comes g (stages_after modes.Cores named) None → (text : List ℕ) × IsText g modes.Cores text
+  cores_text comes =
+      let rest = first_holds g stages.Rows (stages.Cores ∷ stages.Placed ∷ []) (behind g to_horizon (stages.Rows ∷ stages.Cores ∷ stages.Placed ∷ []) comes) in
+      let rows = rest.0 in
+      let run = (first_holds g stages.Placed [] (first_holds g stages.Cores (stages.Placed ∷ []) rest.1).1).0 in
+      replaying.some_cores_text one law whole g bodies trees rows.0 rows.1 rows.2 rows.3 run.0 run.2 run.3.has_horizon run.1 run.3
+
+  abbrev to_planned : List Stage
+  to_planned = front ++ graphed ++ (stages.Bodies ∷ []) ++ planned
+
+  -- the horizon and the rows of a mode that runs the tasks, and what comes behind
+  executed : (rest : List Stage) → Comes g (to_planned ++ stages.Horizon ∷ stages.Rows ∷ rest) None → Holds g stages.Horizon × (Holds g stages.Rows × Comes g rest None)
+  executed rest comes =
+      let first = first_holds g stages.Horizon (stages.Rows ∷ rest) (behind g to_planned (stages.Horizon ∷ stages.Rows ∷ rest) comes) in
+      (first.0, first_holds g stages.Rows rest first.1)
+
+  pub run_text : Comes g (stages_after modes.Run named) None → (gate : Gate) → (text : List ℕ) × (ran : Ran) × IsRunText g gate text ran
+  run_text comes gate =
+      let both = executed [] comes in
+      let horizon : Holds g stages.Horizon = both.0 in
+      let rows : Holds g stages.Rows = both.1.0 in
+      replaying.some_run_text one law whole g bodies trees rows.0 rows.1 rows.2 rows.3 horizon.0 horizon.1 horizon.2 gate
+
+  pub summary_text : Comes g (stages_after modes.Generate named) None → (seed size : ℕ) → (text : List ℕ) × (ran : Ran) × IsSummary g seed size text ran
+  summary_text comes seed size =
+      let both = executed [] comes in
+      let horizon : Holds g stages.Horizon = both.0 in
+      let rows : Holds g stages.Rows = both.1.0 in
+      replaying.some_summary one law whole g bodies trees rows.0 rows.1 rows.2 rows.3 horizon.0 horizon.1 horizon.2 seed size
+
+  pub cycle_text : ((a b : PlanView) → HasPlan g a → HasPlan g b → a ≡ b) → Comes g (stages_after modes.Cycle named) None → (text : List ℕ) × (ran : Ran) × IsCycleText g text ran
+  cycle_text plans comes =
+      let both = executed (stages.Table ∷ []) comes in
+      let horizon : Holds g stages.Horizon = both.0 in
+      let rest = both.1 in
+      let rows : Holds g stages.Rows = rest.0 in
+      let table : Holds g stages.Table = (first_holds g stages.Table [] rest.1).0 in
+      let here : HasTable g horizon.0 table.1 =
+      subst (λ (p : PlanView). HasTable g p table.1) (plans table.0 horizon.0 table.2.has_plan horizon.2.has_plan) table.2 in
+      replaying.some_cycle_text one law whole g bodies trees rows.0 rows.1 rows.2 rows.3 horizon.0 horizon.1 horizon.2 table.1 here

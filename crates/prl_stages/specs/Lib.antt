@@ -22,7 +22,11 @@ pub mod Placed
 pub mod Stages
 -- What a command has run.
 pub mod Ran
+-- What a mode needs of the bodies of a text.
+pub mod Needs
 -- The plan of a program alone.
 pub mod PlansAlone
 -- How the faults of the crates below are told.
 pub mod Told
+-- what private functions say to one another
+pub mod code

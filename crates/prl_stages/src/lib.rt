@@ -14,8 +14,9 @@ pub use faults::{
     InputFile, MakeRefusal, ScheduleRefusal, SensorsRefusal, TableRefusal, TypesRefusal,
 };
 pub use laws::{
-    commands_come_to_an_end, front_is_decided, plans_have_schedules, stages_are_decided,
-    stages_come_to_an_end, stages_end_one_way, texts_are_one, texts_exist, texts_have_behaviours,
+    commands_come_to_an_end, commands_have_texts, cycles_are_told_by_name, front_is_decided,
+    plans_have_schedules, stages_are_decided, stages_come_to_an_end, stages_end_one_way,
+    texts_are_one, texts_exist, texts_have_behaviours,
 };
 pub use ran::Ran;
 pub use sizes::{

@@ -11,7 +11,7 @@ use Rattle.prl_types.specs.declared.solving.Unsolved.{Unsolved}
 use Rattle.prl_types.specs.declared.solving.Unsolved.TheVariants as unsolved
 use Rattle.prl_types.specs.Choices.{Choice, type_in, FitsRule, FitRules}
 use Rattle.prl_types.specs.Solutions.{IsFree, AreTypes}
-use Rattle.prl_types.specs.Marks.{mark_of, Follows, Solves, IsSettled, Refuses, Explains}
+use Rattle.prl_types.specs.code.Marks.{mark_of, Follows, Solves, IsSettled, Refuses, Explains}
 use Rattle.prl_types.proofs.Meeting.{chosen, chosen_follows}
 
 -- so many marks from the first on are the types

@@ -22,7 +22,7 @@ use Rattle.prl_types.specs.declared.terms.Term.{Term}
 use Rattle.prl_types.specs.declared.terms.Term.TheVariants as terms
 use Rattle.prl_types.specs.Arity.{arity_faults, first_at}
 use Rattle.prl_types.specs.Choices.{FitsRule, FitRules}
-use Rattle.prl_types.specs.Marks.{mark_of, resolved, replaced, Solves, IsSettled, IsReplaced, IsApart, Contradicts}
+use Rattle.prl_types.specs.code.Marks.{mark_of, resolved, replaced, Solves, IsSettled, IsReplaced, IsApart, Contradicts}
 use Rattle.prl_types.specs.Parameters.{parameters_of, count_of}
 use Rattle.prl_types.specs.Rules.{rules_of}
 use Rattle.prl_types.specs.Solutions.{IsMismatch, IsFree, AreTypes}

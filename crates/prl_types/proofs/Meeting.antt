@@ -8,7 +8,7 @@ use Rattle.prl_types.specs.declared.terms.Term.TheVariants as terms
 use Rattle.prl_types.specs.declared.solving.Unsolved.{Unsolved}
 use Rattle.prl_types.specs.declared.solving.Unsolved.TheVariants as unsolved
 use Rattle.prl_types.specs.Choices.{Choice, type_in, Meets, MeetsAll, FitsTerm}
-use Rattle.prl_types.specs.Marks.{mark_of, resolved, Follows, Solves, IsSettled, IsReplaced, IsApart, AreApart, AreJoined, Contradicts, Refuses}
+use Rattle.prl_types.specs.code.Marks.{mark_of, resolved, Follows, Solves, IsSettled, IsReplaced, IsApart, AreApart, AreJoined, Contradicts, Refuses}
 use Rattle.prl_types.proofs.Replacing.{follows_new, follows_old, same_type}
 
 pub meets_append : (c : Choice) (xs ys : List Rule) → MeetsAll c xs → MeetsAll c ys → MeetsAll c (xs ++ ys)

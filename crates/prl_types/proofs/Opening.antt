@@ -12,7 +12,7 @@ use Rattle.prl_types.specs.declared.contexts.Parameter.{Parameter}
 use Rattle.prl_types.specs.declared.faults.TypeFault.{TypeFault}
 use Rattle.prl_types.specs.declared.faults.TypeFault.TheVariants as faults
 use Rattle.prl_types.specs.Arity.{arity_faults}
-use Rattle.prl_types.specs.Contexts.{owned_of}
+use Rattle.prl_types.specs.code.Contexts.{owned_of}
 use Rattle.prl_types.specs.Parameters.{Owned, parameters_of, count_of}
 use Rattle.prl_types.specs.Rules.{rules_of}
 use Rattle.prl_types.specs.Solutions.{IsFree}

@@ -9,7 +9,7 @@ use Rattle.std.proofs.lemmas.List.Elements.{Contains-get_or, Contains-append_lef
 use Rattle.prl_types.specs.declared.terms.Term.{Term}
 use Rattle.prl_types.specs.declared.terms.Term.TheVariants as terms
 use Rattle.prl_types.specs.Choices.{Choice, type_in, FitsTerm}
-use Rattle.prl_types.specs.Marks.{mark_of, resolved, replaced, added, members_at, Follows, IsSettled, AreMembers, IsReplaced, IsApart}
+use Rattle.prl_types.specs.code.Marks.{mark_of, resolved, replaced, added, members_at, Follows, IsSettled, AreMembers, IsReplaced, IsApart}
 
 pub replaced_same : (a : ℕ) (by : Term) → replaced a by (terms.Parameter a) ≡ by
 replaced_same a by = elim (eqb_tells a a) [ inl e ↦ rw e.0 | inr ne ↦ absurd (ne.1 refl) ]

@@ -7,8 +7,8 @@ use Rattle.prl_types.specs.declared.solving.Marks.{Marks}
 use Rattle.prl_types.specs.declared.solving.Unsolved.TheVariants as unsolved
 use Rattle.prl_types.specs.Choices.{FitsRule, FitRules}
 use Rattle.prl_types.specs.Solutions.{IsMismatch}
-use Rattle.prl_types.specs.Marks.{resolved, IsKept, Solves, Refuses}
-use Rattle.prl_types.specs.States.{IsOpen, HasState}
+use Rattle.prl_types.specs.code.Marks.{resolved, IsKept, Solves, Refuses}
+use Rattle.prl_types.specs.code.States.{IsOpen, HasState}
 use Rattle.prl_types.specs.declared.progress.State.{State}
 use Rattle.prl_types.specs.declared.progress.State.TheVariants as states
 use Rattle.prl_types.proofs.Meeting.{Sides, solves_equal}

@@ -7,7 +7,7 @@ use Rattle.prl_types.specs.declared.terms.Term.{Term}
 use Rattle.prl_types.specs.declared.segments.Segment.{Segment}
 use Rattle.prl_types.specs.Flows.{Flow, placed, terms_of, operand}
 use Rattle.prl_types.specs.Rules.{argument_rules}
-use Rattle.prl_types.specs.Segments.{listed, terms_in, flows_in}
+use Rattle.prl_types.specs.code.Segments.{listed, terms_in, flows_in}
 use Rattle.prl_types.proofs.Walking.{terms_placed, no_arguments}
 
 flows_in_append : (xs ys : List Segment) → flows_in (xs ++ ys) ≡ flows_in xs ++ flows_in ys

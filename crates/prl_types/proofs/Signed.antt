@@ -9,7 +9,7 @@ use Rattle.prl_names.specs.declared.lookups.Callee.TheVariants as callees
 use Rattle.prl_types.specs.declared.terms.Signature.{Signature}
 use Rattle.prl_types.specs.Flows.{import_inputs, import_outputs, node_inputs, node_outputs}
 use Rattle.prl_types.specs.Parameters.{first_of}
-use Rattle.prl_types.specs.Signatures.{import_signature, node_signature, taken, given, Signs}
+use Rattle.prl_types.specs.code.Signatures.{import_signature, node_signature, taken, given, Signs}
 
 -- the element of such a list
 read : (f : ℕ → Signature) (n k : ℕ) → k < n → slice_get (map f (range_with_len 0 n)) k ≡ Some (f k)

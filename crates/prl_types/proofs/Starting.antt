@@ -8,7 +8,7 @@ use Rattle.std.proofs.lemmas.List.{map-append}
 use Rattle.prl_types.specs.declared.terms.Term.{Term}
 use Rattle.prl_types.specs.declared.terms.Term.TheVariants as terms
 use Rattle.prl_types.specs.Choices.{type_in}
-use Rattle.prl_types.specs.Marks.{mark_of, members_at, Solves, IsSettled, AreMembers}
+use Rattle.prl_types.specs.code.Marks.{mark_of, members_at, Solves, IsSettled, AreMembers}
 
 pub record AreSingle (marks : List Term) (lists : List (List ℕ)) (count : ℕ) : Type 0 where
   pub marks_count : length marks ≡ count

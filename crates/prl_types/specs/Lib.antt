@@ -1,14 +1,10 @@
 pub mod Choices
 pub mod Solutions
-pub mod Marks
 pub mod Parameters
 pub mod Flows
-pub mod Segments
 pub mod Rules
 pub mod Arity
-pub mod Contexts
 pub mod Typing
 pub mod Typings
-pub mod MetViews
-pub mod States
-pub mod Signatures
+-- what private functions say to one another
+pub mod code

@@ -4,7 +4,7 @@ ghost use Rattle.std.specs.Prelude.{◌≡◌, ◌<◌, ◌+◌, ◌^◌, ◌++�
 ghost use Rattle.std.specs.Option.{option_copied};
 ghost use Rattle.prl_ast.specs.Trees.{program_tree, node_tree};
 ghost use Rattle.prl_names.specs.Lookups.{callee_of};
-ghost use Rattle.prl_types.specs.Contexts.{owned_of, AreFirsts};
+ghost use Rattle.prl_types.specs.code.Contexts.{owned_of, AreFirsts};
 ghost use Rattle.prl_types.specs.Flows.{inputs_of, outputs_of, import_inputs, import_outputs, node_inputs, node_outputs, parameters_from, port_types};
 ghost use Rattle.prl_types.specs.Parameters.{owned, owned_by, parameters_of, first_of, named};
 
@@ -37,7 +37,7 @@ impl<'n, 'a> Model for Context<'n, 'a> {
     ghost use Rattle.prl_ast.specs.Trees.{program_tree};
     ghost use Rattle.prl_ast.specs.contracts.expressions.Base as base;
     ghost use Rattle.prl_ast.specs.declared.declarations.Program.{Program};
-    ghost use Rattle.prl_types.specs.Contexts.{AreParameters};
+    ghost use Rattle.prl_types.specs.code.Contexts.{AreParameters};
 
     ghost Value = { Program };
 

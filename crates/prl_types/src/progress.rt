@@ -3,8 +3,8 @@
 ghost use Rattle.std.specs.Prelude.{◌≡◌, ◌↔◌, true, ◌++◌, ◌∷◌, [], IsTrue, IfOk, OnOk, MatchResult};
 ghost use Rattle.prl_types.specs.Choices.{FitsTerm, FitsRule, FitRules};
 ghost use Rattle.prl_types.specs.Solutions.{AreTypes};
-ghost use Rattle.prl_types.specs.Marks.{Explains};
-ghost use Rattle.prl_types.specs.States.{IsOpen, HasState};
+ghost use Rattle.prl_types.specs.code.Marks.{Explains};
+ghost use Rattle.prl_types.specs.code.States.{IsOpen, HasState};
 
 use crate::met_rules::MetRules;
 use crate::solving::{Marks, Unsolved};
@@ -35,8 +35,8 @@ pub(crate) struct Met {
 }
 
 impl Model for Met {
-    ghost use Rattle.prl_types.specs.MetViews.{MetView};
-    ghost use Rattle.prl_types.specs.States.{HasState};
+    ghost use Rattle.prl_types.specs.code.MetViews.{MetView};
+    ghost use Rattle.prl_types.specs.code.States.{HasState};
 
     ghost Value = { MetView };
 

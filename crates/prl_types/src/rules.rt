@@ -3,9 +3,9 @@
 ghost use Rattle.std.specs.Prelude.{◌≡◌, ◌++◌, ◌∷◌, [], map, IfOk, OnOk};
 ghost use Rattle.prl_ast.specs.Trees.{tree_of, root_of, equation_tree, node_tree, program_tree};
 ghost use Rattle.prl_names.specs.ExprLists.{all_trees};
-ghost use Rattle.prl_types.specs.Contexts.{owned_of};
+ghost use Rattle.prl_types.specs.code.Contexts.{owned_of};
 ghost use Rattle.prl_types.specs.Flows.{flows_of, root_flows, placed, placed_flows};
-ghost use Rattle.prl_types.specs.Segments.{listed, terms_in, flows_in};
+ghost use Rattle.prl_types.specs.code.Segments.{listed, terms_in, flows_in};
 ghost use Rattle.prl_types.specs.Parameters.{count_of};
 ghost use Rattle.prl_types.specs.Rules.{declared_rules, constant_rule, constant_rules, argument_rules, rules_in, root_rules, all_rules, left_rules, equations_rules, nodes_rules, rules_of};
 

@@ -2,7 +2,7 @@
 
 ghost use Rattle.std.specs.Prelude.{◌≡◌, ◌++◌, ◌∷◌, [], length, drop, slice_get, IfOk, OnOk};
 ghost use Rattle.prl_types.specs.Flows.{operand, operated, placed};
-ghost use Rattle.prl_types.specs.Segments.{listed, terms_in, flows_in};
+ghost use Rattle.prl_types.specs.code.Segments.{listed, terms_in, flows_in};
 
 use crate::terms::Term;
 use prl_ast::Expr;

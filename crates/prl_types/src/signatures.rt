@@ -7,7 +7,7 @@ ghost use Rattle.prl_ast.specs.Trees.{program_tree};
 ghost use Rattle.prl_names.specs.Lookups.{callee_of};
 ghost use Rattle.prl_types.specs.Flows.{inputs_of, outputs_of};
 ghost use Rattle.prl_types.specs.Parameters.{named};
-ghost use Rattle.prl_types.specs.Signatures.{import_signature, node_signature, taken, given, Signs};
+ghost use Rattle.prl_types.specs.code.Signatures.{import_signature, node_signature, taken, given, Signs};
 
 use crate::contexts::Context;
 use crate::terms::{Signature, Term};
@@ -30,7 +30,7 @@ impl<'c, 'n, 'a> Model for Signatures<'c, 'n, 'a> {
     ghost use Rattle.prl_ast.specs.Trees.{program_tree};
     ghost use Rattle.prl_ast.specs.contracts.expressions.Base as base;
     ghost use Rattle.prl_ast.specs.declared.declarations.Program.{Program};
-    ghost use Rattle.prl_types.specs.Signatures.{AreSignatures};
+    ghost use Rattle.prl_types.specs.code.Signatures.{AreSignatures};
 
     ghost Value = { Program };
 

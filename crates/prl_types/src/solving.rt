@@ -5,7 +5,7 @@ ghost use Rattle.prl_types.specs.declared.terms.Rule.{Rule as RuleOf};
 ghost use Rattle.prl_types.specs.declared.terms.Term.TheVariants as terms;
 ghost use Rattle.prl_types.specs.Choices.{FitsTerm, FitsRule};
 ghost use Rattle.prl_types.specs.Solutions.{AreTypes};
-ghost use Rattle.prl_types.specs.Marks.{mark_of, resolved, added, IsKept, IsReplaced, IsApart, AreApart, AreJoined, Solves, Refuses, Explains};
+ghost use Rattle.prl_types.specs.code.Marks.{mark_of, resolved, added, IsKept, IsReplaced, IsApart, AreApart, AreJoined, Solves, Refuses, Explains};
 ghost use Rattle.prl_types.specs.declared.solving.Unsolved.TheVariants as unsolved;
 
 use crate::terms::{Rule, Term};

@@ -7,7 +7,7 @@ ghost use Rattle.prl_ast.specs.Trees.{program_tree};
 ghost use Rattle.prl_types.specs.Parameters.{count_of};
 ghost use Rattle.prl_types.specs.Rules.{rules_of};
 ghost use Rattle.prl_types.specs.Arity.{arity_faults};
-ghost use Rattle.prl_types.specs.Marks.{Explains};
+ghost use Rattle.prl_types.specs.code.Marks.{Explains};
 ghost use Rattle.prl_types.specs.Solutions.{AreTypes};
 ghost use Rattle.prl_names.specs.Checks.{names_of};
 ghost use Rattle.prl_types.specs.Typing.{IsTyped, IsRight, FailsWith, HasParameter, IsTypeOf};
@@ -42,7 +42,7 @@ impl<'a> Model for Typed<'a> {
     ghost use Rattle.prl_ast.specs.InRange.{IsInRange};
     ghost use Rattle.prl_ast.specs.Trees.{program_tree};
     ghost use Rattle.prl_ast.specs.contracts.expressions.Base as base;
-    ghost use Rattle.prl_types.specs.Contexts.{AreFirsts};
+    ghost use Rattle.prl_types.specs.code.Contexts.{AreFirsts};
     ghost use Rattle.prl_types.specs.Parameters.{count_of};
     ghost use Rattle.prl_types.specs.Typing.{IsRight};
     ghost use Rattle.prl_types.specs.Typings.{Typing};

@@ -1,7 +1,7 @@
 use Rattle.std.proofs.Common.{◌≡◌, true, false, Ok, Err}
 use Rattle.std.specs.Result.{IfOk}
 use Rattle.prl_flow.specs.Uses.{IsOnCycle, Leads}
-use Rattle.prl_causal.specs.Sources.{UsesBy}
+use Rattle.prl_causal.specs.code.Sources.{UsesBy}
 use Rattle.prl_causal.proofs.Meanings.{on_undelayed, on_inside, on_none, undelayed_sources, inside_sources}
 use Rattle.prl_causal.proofs.causality.is_on_cycle.Goals as goal
 

@@ -1,6 +1,6 @@
 use Rattle.std.proofs.Common.{take}
-use Rattle.prl_causal.specs.Searches.{Adds}
-use Rattle.prl_causal.specs.Sources.{IsAmong}
+use Rattle.prl_causal.specs.code.Searches.{Adds}
+use Rattle.prl_causal.specs.code.Sources.{IsAmong}
 use Rattle.prl_causal.proofs.searches.reach_all.Given as goal
 
 abbrev pub invariant-loop-arg : goal.invariant-loop-arg

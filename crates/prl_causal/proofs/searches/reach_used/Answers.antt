@@ -1,6 +1,6 @@
 use Rattle.std.proofs.Common.{◌≡◌, ℕ, Ok, Err}
 use Rattle.std.specs.Result.{IfOk}
-use Rattle.prl_causal.specs.Searches.{Adds, AreOpened}
+use Rattle.prl_causal.specs.code.Searches.{Adds, AreOpened}
 use Rattle.prl_causal.proofs.Searching.{opened_kept}
 use Rattle.prl_causal.proofs.searches.reach_used.Goals as goal
 

@@ -1,5 +1,5 @@
-use Rattle.prl_evaluation.specs.Dates.{IsPart, IsRest, place_after}
-use Rattle.prl_evaluation.specs.Fronts.{UnderWay}
+use Rattle.prl_evaluation.specs.code.Dates.{IsPart, IsRest, place_after}
+use Rattle.prl_evaluation.specs.code.Fronts.{UnderWay}
 use Rattle.prl_evaluation.proofs.by_date.advance_due.Given as goal
 
 abbrev pub invariant-loop-place : goal.invariant-loop-place

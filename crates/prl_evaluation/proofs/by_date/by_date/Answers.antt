@@ -1,7 +1,7 @@
 use Rattle.std.proofs.Common.{◌∙◌, ◌≤◌, ℕ, List, Option, subst, sym}
 use Rattle.prl_base.specs.declared.operators.Clock.{Clock}
 use Rattle.prl_calendar.specs.Calendars.{AreAllClocks, HasDate, Tells}
-use Rattle.prl_evaluation.specs.Dates.{AreAt}
+use Rattle.prl_evaluation.specs.code.Dates.{AreAt}
 use Rattle.prl_evaluation.proofs.ByDate.{at_later, clocks_are, full_at}
 use Rattle.prl_evaluation.proofs.by_date.by_date.Goals as goal
 

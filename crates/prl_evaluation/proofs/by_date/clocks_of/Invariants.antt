@@ -1,5 +1,5 @@
 use Rattle.std.proofs.Common.{◌≡◌, take}
-use Rattle.prl_evaluation.specs.Dates.{clocks_by}
+use Rattle.prl_evaluation.specs.code.Dates.{clocks_by}
 use Rattle.prl_evaluation.proofs.by_date.clocks_of.Given as goal
 
 abbrev pub invariant-loop-flow : goal.invariant-loop-flow

@@ -1,6 +1,6 @@
 use Rattle.std.proofs.Common.{◌≡◌, ℕ, Some, length, slice_get}
 use Rattle.prl_flow.specs.declared.programs.App.{App}
-use Rattle.prl_evaluation.specs.Runs.{IsNew}
+use Rattle.prl_evaluation.specs.code.Runs.{IsNew}
 use Rattle.prl_evaluation.specs.declared.runs.Run.{Run}
 use Rattle.prl_evaluation.proofs.evaluation.new_runs.Given as goal
 

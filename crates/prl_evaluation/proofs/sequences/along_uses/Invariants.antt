@@ -1,5 +1,5 @@
 use Rattle.std.proofs.Common.{◌≡◌, length}
-use Rattle.prl_evaluation.specs.Wholes.{AreFlows, AreVisited}
+use Rattle.prl_evaluation.specs.code.Wholes.{AreFlows, AreVisited}
 use Rattle.prl_evaluation.proofs.sequences.along_uses.Given as goal
 
 abbrev pub invariant-loop-i : goal.invariant-loop-i

@@ -1,6 +1,6 @@
 use Rattle.std.proofs.Common.{◌≡◌, ◌<◌, ℕ, Some, slice_get}
 use Rattle.prl_flow.specs.declared.programs.Arg.{Arg}
-use Rattle.prl_evaluation.specs.Dates.{IsFull}
+use Rattle.prl_evaluation.specs.code.Dates.{IsFull}
 use Rattle.prl_evaluation.proofs.wholes.are_full.Given as goal
 
 abbrev pub invariant-loop-arg : goal.invariant-loop-arg

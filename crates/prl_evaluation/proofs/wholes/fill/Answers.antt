@@ -1,5 +1,5 @@
 use Rattle.std.proofs.Common.{◌≡◌, subst, arith}
-use Rattle.prl_evaluation.specs.Wholes.{IsFilling}
+use Rattle.prl_evaluation.specs.code.Wholes.{IsFilling}
 use Rattle.prl_evaluation.proofs.Groups.{filling_begins, filling_ends}
 use Rattle.prl_evaluation.proofs.wholes.fill.Goals as goal
 

@@ -1,5 +1,5 @@
-use Rattle.prl_evaluation.specs.Fronts.{UnderWay}
-use Rattle.prl_evaluation.specs.Wholes.{IsFilling}
+use Rattle.prl_evaluation.specs.code.Fronts.{UnderWay}
+use Rattle.prl_evaluation.specs.code.Wholes.{IsFilling}
 use Rattle.prl_evaluation.proofs.wholes.fill.Given as goal
 
 abbrev pub invariant-loop-n : goal.invariant-loop-n

@@ -2,7 +2,7 @@ use Rattle.std.proofs.Common.{◌∙◌, ap, subst, sym, arith}
 use Rattle.std.proofs.lemmas.Option.{slice_get_within}
 use Rattle.prl_flow.specs.declared.programs.Def.{Def}
 use Rattle.prl_solutions.specs.Tables.{table_of, value_of}
-use Rattle.prl_evaluation.specs.Fronts.{IsPlain, IsThere}
+use Rattle.prl_evaluation.specs.code.Fronts.{IsPlain, IsThere}
 use Rattle.prl_evaluation.proofs.AllAtOnce.{all_there, set_under_way, set_whole}
 use Rattle.prl_evaluation.proofs.wholes.fill_alone.Goals as goal
 

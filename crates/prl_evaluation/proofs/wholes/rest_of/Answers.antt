@@ -4,7 +4,7 @@ use Rattle.std.proofs.lemmas.List.{append-nil, take_all}
 use Rattle.std.proofs.lemmas.List.Elements.{filter_more}
 use Rattle.std.proofs.lemmas.Option.{slice_get-get_or}
 use Rattle.prl_base.specs.declared.numbers.FlowNo.{FlowNo}
-use Rattle.prl_evaluation.specs.Dates.{AreAt, IsRest}
+use Rattle.prl_evaluation.specs.code.Dates.{AreAt, IsRest}
 use Rattle.prl_evaluation.proofs.Groups.{is_left, rest_at_first, rest_few, rest_in_order}
 use Rattle.prl_evaluation.proofs.Orders.{order_within}
 use Rattle.prl_evaluation.proofs.wholes.rest_of.Goals as goal

@@ -1,20 +1,17 @@
-use Rattle.prl_stages.proofs.OneParts.{PartLaws}
+use Rattle.prl_stages.specs.code.Ones.{FindOne, PartLaws}
+use Rattle.prl_stages.specs.code.Wholes.{WholeLaws}
+use Rattle.prl_stages.proofs.OneParts.{one_clocks, one_flat}
+use Rattle.prl_stages.proofs.OnePlan.{one_graph}
+use Rattle.prl_stages.proofs.OneRun.{one_plan}
 use Rattle.prl_stages.proofs.Running as running
-use Rattle.prl_stages.proofs.Replaying.{Laws, behaviour_there}
-use Rattle.prl_stages.proofs.SomeText.{flows_text, replay_text}
+use Rattle.prl_stages.proofs.Replaying.{behaviour_there}
+use Rattle.prl_stages.proofs.SomeText.{cores_text, cycle_text, flows_text, replay_text, run_text, summary_text}
 use Rattle.prl_stages.proofs.laws.texts_have_behaviours.Goals as goal
 
 pub returns : goal.returns
 returns c =
-    let one : PartLaws = record {
-      programs = c.each_text_has_one_outcome.ensures.one;
-      bodies = c.each_text_has_one_outcome-2.ensures.one;
-      one = c.outcome_is_unique.ensures;
-      ranges = c.programs_are_in_range.ensures;
-      expansions = c.expansions_are_unique.ensures;
-      formed = c.flats_are_well_formed.ensures;
-      clocks = c.outcomes_are_unique.ensures;
-    } in
+    let ones : FindOne = c.findings_are_one.ensures in
+    let one : PartLaws = ones.parts in
     let law : running.Laws = record {
       meaning_laws = record {
         solutions = c.behaviours_are_solutions.ensures;
@@ -34,17 +31,14 @@ returns c =
       clock_of_task = c.ports_have_the_clock_of_their_task.ensures;
       got = c.actuators_get_the_outputs.ensures;
     } in
-    let whole : Laws = record {
-      orders = c.acyclic_programs_have_orders.ensures;
-      used = c.used_imports_have_bodies.ensures;
-      facts = c.plans_keep_facts.ensures;
-      gated = c.legal_list_is_gated.ensures;
-      few = c.gated_list_keeps_halves.ensures.counted;
-      counted = c.horizon_jobs_are_counted.ensures;
-      replayed = c.whole_lists_are_replayed.ensures;
-    } in
+    let whole : WholeLaws = c.whole_lists_are_there.ensures in
     record {
       behaviour = λ g bodies trees flat clocks rows has p main is. behaviour_there one law whole g bodies trees flat clocks rows has p main is;
       flows = λ g bodies trees named comes. flows_text one law whole g bodies trees named comes;
       replay = λ g bodies trees named comes. replay_text one law whole g bodies trees named comes;
+      cores = λ g bodies trees named comes. cores_text one law whole g bodies trees named comes;
+      run = λ g bodies trees named comes gate. run_text one law whole g bodies trees named comes gate;
+      cycle = λ g bodies trees named comes.
+          cycle_text one law whole g bodies trees named (one_plan ones.runs g (one_graph ones.plans g (one_flat one g) (one_clocks one g))) comes;
+      generate = λ g bodies trees named comes seed size. summary_text one law whole g bodies trees named comes seed size;
     }

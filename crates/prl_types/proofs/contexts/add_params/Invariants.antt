@@ -1,5 +1,5 @@
 use Rattle.std.proofs.Common.{◌≡◌, ◌++◌, map, drop}
-use Rattle.prl_types.specs.Contexts.{owned_of}
+use Rattle.prl_types.specs.code.Contexts.{owned_of}
 use Rattle.prl_types.specs.Parameters.{owned}
 use Rattle.prl_types.proofs.contexts.add_params.Given as goal
 

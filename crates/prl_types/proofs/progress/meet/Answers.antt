@@ -1,6 +1,6 @@
 use Rattle.std.proofs.Common.{◌≡◌, false, true, subst}
 use Rattle.prl_types.specs.declared.solving.Unsolved.{Unsolved}
-use Rattle.prl_types.specs.Marks.{Refuses}
+use Rattle.prl_types.specs.code.Marks.{Refuses}
 use Rattle.prl_types.proofs.RuleStates.{passed_over, solved_too, contradicted}
 use Rattle.prl_types.proofs.progress.meet.Goals as goal
 

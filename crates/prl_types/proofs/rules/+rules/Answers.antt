@@ -6,7 +6,7 @@ use Rattle.prl_names.proofs.Rows.{root_of_Apply, root_of_Group}
 use Rattle.prl_types.specs.declared.terms.Rule.{Rule}
 use Rattle.prl_types.specs.Flows.{root_flows, inputs_of, placed_flows, terms_of}
 use Rattle.prl_types.specs.Rules.{root_rules, all_rules}
-use Rattle.prl_types.specs.Segments.{flows_in}
+use Rattle.prl_types.specs.code.Segments.{flows_in}
 use Rattle.prl_types.proofs.Segmented.{terms_of_flows}
 use Rattle.prl_types.proofs.Walking.{terms_placed_flows, application_rules}
 use Rattle.prl_types.proofs.rules.+rules.Goals as goal

@@ -1,5 +1,5 @@
 use Rattle.std.proofs.Common.{◌≡◌, ◌++◌, drop}
-use Rattle.prl_types.specs.Segments.{terms_in}
+use Rattle.prl_types.specs.code.Segments.{terms_in}
 use Rattle.prl_types.proofs.segments.terms.Given as goal
 
 abbrev pub invariant-loop-segment : goal.invariant-loop-segment

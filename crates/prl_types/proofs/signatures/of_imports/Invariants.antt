@@ -1,7 +1,7 @@
 use Rattle.std.proofs.Common.{◌≡◌, map}
 use Rattle.std.specs.List.{range_with_len}
 use Rattle.prl_ast.specs.Trees.{program_tree}
-use Rattle.prl_types.specs.Signatures.{import_signature}
+use Rattle.prl_types.specs.code.Signatures.{import_signature}
 use Rattle.prl_types.proofs.signatures.of_imports.Given as goal
 
 abbrev pub invariant-loop-k : goal.invariant-loop-k

@@ -1,7 +1,7 @@
 use Rattle.std.proofs.Common.{◌≡◌, ◌+◌, arith, sym}
 use Rattle.std.proofs.lemmas.List.FromFn.{map-range_with_len_more}
 use Rattle.prl_ast.specs.Trees.{program_tree}
-use Rattle.prl_types.specs.Signatures.{node_signature}
+use Rattle.prl_types.specs.code.Signatures.{node_signature}
 use Rattle.prl_types.proofs.Signed.{same_signature}
 use Rattle.prl_types.proofs.signatures.of_nodes.Goals as goal
 

@@ -1,6 +1,6 @@
 use Rattle.std.proofs.Common.{map}
 use Rattle.prl_ast.specs.Trees.{node_tree}
-use Rattle.prl_types.specs.Contexts.{AreListed}
+use Rattle.prl_types.specs.code.Contexts.{AreListed}
 use Rattle.prl_types.proofs.contexts.Context.new.Given as goal
 
 abbrev pub invariant-loop-node : goal.invariant-loop-node

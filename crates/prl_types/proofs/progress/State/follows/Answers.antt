@@ -1,5 +1,5 @@
 use Rattle.std.proofs.Common.{◌++◌, [], ◌∷◌, sym, subst}
-use Rattle.prl_types.specs.States.{HasState}
+use Rattle.prl_types.specs.code.States.{HasState}
 use Rattle.prl_types.specs.declared.progress.State.{State}
 use Rattle.prl_types.proofs.RuleStates.{says_nothing, agrees}
 use Rattle.prl_types.proofs.progress.State.follows.Goals as goal

@@ -1,7 +1,7 @@
 use Rattle.std.proofs.Common.{sym, subst}
 use Rattle.prl_ast.specs.Trees.{program_tree}
 use Rattle.prl_names.specs.declared.lookups.Callee.TheVariants as callees
-use Rattle.prl_types.specs.Signatures.{Signs}
+use Rattle.prl_types.specs.code.Signatures.{Signs}
 use Rattle.prl_types.proofs.Signed.{import_signed, node_signed}
 use Rattle.prl_types.proofs.signatures.Signatures.signature_of.Goals as goal
 

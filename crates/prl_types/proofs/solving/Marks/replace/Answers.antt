@@ -1,5 +1,5 @@
 use Rattle.std.proofs.Common.{◌≡◌, ap, ◌∙◌, map, set, [], arith}
-use Rattle.prl_types.specs.Marks.{lists_of, members_at}
+use Rattle.prl_types.specs.code.Marks.{lists_of, members_at}
 use Rattle.prl_types.proofs.Replacing.{replaced_marks, moved_is, changed_is, members_inside, members_after, settled_new}
 use Rattle.prl_types.proofs.solving.Marks.replace.Goals as goal
 

@@ -6,7 +6,7 @@ use Rattle.prl_base.specs.declared.values.Value.{Value}
 use Rattle.prl_flow.specs.Counts.{dates_before}
 use Rattle.prl_flow.specs.Solutions.{clock_of}
 use Rattle.prl_flow.specs.Uses.{UsesNow}
-use Rattle.prl_evaluation.specs.Fronts.{len}
+use Rattle.prl_evaluation.specs.code.Fronts.{len}
 use Rattle.prl_evaluation.specs.declared.settings.Setting.{Setting}
 
 -- the clocks of these flows

@@ -2,7 +2,7 @@
 use Rattle.std.specs.Prelude.{◌≡◌, ◌<◌, ◌≤◌, ◌⊎◌, ℕ, Bool, List, length, Some, slice_get}
 use Rattle.prl_flow.specs.Programs.{FlatProgram}
 use Rattle.prl_flow.specs.Uses.{IsArgument, Leads}
-use Rattle.prl_causal.specs.Parts.{IsMarked, marked_count}
+use Rattle.prl_causal.specs.code.Parts.{IsMarked, marked_count}
 
 -- the marks are of the flows in the list, where each stands once
 pub record IsList (reached : List ℕ) (marks : List Bool) : Type 0 where

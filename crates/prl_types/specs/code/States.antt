@@ -6,7 +6,7 @@ use Rattle.prl_types.specs.declared.progress.State.{State}
 use Rattle.prl_types.specs.declared.progress.State.TheVariants as states
 use Rattle.prl_types.specs.Choices.{FitRules}
 use Rattle.prl_types.specs.Solutions.{IsMismatch}
-use Rattle.prl_types.specs.Marks.{IsKept, Solves}
+use Rattle.prl_types.specs.code.Marks.{IsKept, Solves}
 
 -- the marks of so many parameters solve the rules
 pub record IsOpen (count : ℕ) (rules : List Rule) (marks : Marks) : Type 0 where

@@ -3,8 +3,8 @@ use Rattle.std.specs.Prelude.{◌≡◌, ◌<◌, ◌+◌, ◌-◌, ◌*◌, ◌
 use Rattle.prl_base.specs.declared.numbers.FlowNo.{FlowNo}
 use Rattle.prl_flow.specs.Programs.{FlatProgram}
 use Rattle.prl_causal.specs.declared.sources.Source.{Source}
-use Rattle.prl_causal.specs.Parts.{AreSeen, IsMarked, IsPart, marked_count}
-use Rattle.prl_causal.specs.Sources.{UsesBy}
+use Rattle.prl_causal.specs.code.Parts.{AreSeen, IsMarked, IsPart, marked_count}
+use Rattle.prl_causal.specs.code.Sources.{UsesBy}
 
 -- the number stands on the stack
 pub record IsOn (stack : List ℕ) (i : ℕ) : Type 0 where

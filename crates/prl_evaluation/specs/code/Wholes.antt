@@ -10,8 +10,8 @@ use Rattle.prl_flow.specs.declared.programs.App.{App}
 use Rattle.prl_flow.specs.declared.programs.Def.{Def}
 use Rattle.prl_flow.specs.declared.programs.Def.TheVariants as definitions
 use Rattle.prl_flow.specs.declared.programs.Flow.{Flow}
-use Rattle.prl_evaluation.specs.Dates.{IsFull}
-use Rattle.prl_evaluation.specs.Fronts.{len}
+use Rattle.prl_evaluation.specs.code.Dates.{IsFull}
+use Rattle.prl_evaluation.specs.code.Fronts.{len}
 use Rattle.prl_evaluation.specs.declared.sequences.Visited.{Visited}
 use Rattle.prl_evaluation.specs.declared.settings.Setting.{Setting}
 

@@ -1,0 +1,5 @@
+pub mod Parts
+pub mod Searches
+pub mod Sorting
+pub mod Sources
+pub mod Ways

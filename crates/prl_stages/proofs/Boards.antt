@@ -1,0 +1,147 @@
+-- A closed board on which every job of the horizon has ended, and which shows what the actuators got.
+use Rattle.std.proofs.Common.{◌≡◌, ◌<◌, ◌≤◌, ◌+◌, ◌++◌, ◌↔◌, ℕ, zero, suc, List, [], ◌∷◌, length, map, get_or, replicate, Option, Some, refl, sym, ap, ◌∙◌, subst, arith}
+use Rattle.std.specs.Prelude.{pos, slice_get, unwrap_or}
+use Rattle.std.specs.List.{range_with_len}
+use Rattle.std.proofs.lemmas.Option.{get_or_from_slice_get, slice_get-get_or, slice_get_within}
+use Rattle.prl_base.specs.Values.{type_of}
+use Rattle.prl_base.specs.declared.values.Value.{Value}
+use Rattle.prl_base.specs.declared.values.Value.TheVariants as values
+use Rattle.prl_board.specs.Closings.{AreOutputs as AreRead, ClosedView, IsLastState}
+use Rattle.prl_core.specs.Cores.{AreOutputs}
+use Rattle.prl_exec.specs.Runs.{HasEnded}
+use Rattle.prl_flow.specs.declared.programs.OutFlow.{OutFlow}
+use Rattle.prl_plan.specs.declared.graphs.Kind.{Kind}
+use Rattle.prl_plan.specs.declared.graphs.Kind.TheVariants as kinds
+use Rattle.prl_plan.specs.Graphs.{is_actuator}
+use Rattle.prl_plan.specs.Jobs.{IsHorizonJob, job_count, task_at}
+use Rattle.prl_plan.specs.Plans.{IsPlan, edge_at, no_edge}
+use Rattle.prl_plan.specs.Rules.{IsComplete}
+use Rattle.prl_plan.specs.Runs.{ExecState}
+use Rattle.prl_plan.proofs.RoundPeriods.{task_is}
+use Rattle.prl_replay.specs.Replays.{AddsFlow, AreFlowsBelow}
+use Rattle.prl_results.specs.Shown.{AddsShown, AreShown, AreShownBelow, core_in}
+use Rattle.prl_rule.specs.declared.views.Constants.{Constants}
+use Rattle.prl_rule.specs.Known.{job_values_of, run_of, values_of}
+use Rattle.prl_rule.specs.Steps.{spent}
+use Rattle.prl_seats.specs.declared.jobs.Stage.TheVariants as seat_stages
+use Rattle.prl_seats.specs.JobSeats.{JobSeatView}
+use Rattle.prl_values.specs.JobValues.{reads_of_job, value_on}
+use Rattle.prl_workers.proofs.PortReads.{read_at_port}
+
+some_inner : {A : Type 0} (x y : A) → Some x ≡ Some y → x ≡ y
+some_inner x y e = cc
+
+counted_word : (f : ℕ → ℕ) (s n i : ℕ) (rest : List ℕ) → i < n → get_or (map f (range_with_len s n) ++ rest) i 0 ≡ f (s + i)
+counted_word f s zero i rest below = absurd (omega (arith, below))
+counted_word f s (suc n) zero rest below = let e : s ≡ s + 0 = omega arith in ap f e
+counted_word f s (suc n) (suc i) rest below =
+    let e : (s + 1) + i ≡ s + suc i = omega arith in
+    counted_word f (s + 1) n i rest (omega (arith, below)) ∙ ap f e
+
+counted_seat : (f : ℕ → JobSeatView) (s n i : ℕ) (x : JobSeatView) → slice_get (map f (range_with_len s n)) i ≡ Some x → x ≡ f (s + i)
+counted_seat f s zero i x at = absurd (cc)
+counted_seat f s (suc n) zero x at = let e : s ≡ s + 0 = omega arith in sym (some_inner (f s) x at) ∙ ap f e
+counted_seat f s (suc n) (suc i) x at =
+    let e : (s + 1) + i ≡ s + suc i = omega arith in
+    counted_seat f (s + 1) n i x at ∙ ap f e
+
+-- what an actuator's jobs have read, by the jobs' reads
+read_by_jobs : (k : Constants) (i jobs : ℕ) (column : List Value) → length column ≡ jobs
+    → ((n : ℕ) → n < jobs → slice_get column n ≡ slice_get (reads_of_job k.plan.graph (job_values_of k) i n) 0) → AreRead k i jobs column
+unfolding values_of
+read_by_jobs k i jobs column count each = record { count = count; each = each }
+
+module _ (k : Constants) where
+  -- the seat of a task that has ended all its jobs
+  abbrev ended_seat : ℕ → JobSeatView
+  ended_seat i = record {
+    table = record { words = 0; slots = 0; views_name = 0; atom = 0; block = 0; offset = 0; slot_names = [] };
+    id = 0;
+    view = spent;
+    task = record { 0 = i };
+    job = (run_of k).jobs i;
+    place = 0;
+    stage = seat_stages.Over;
+  }
+
+  -- the words of a run that has come to its end
+  abbrev ended_words : List ℕ
+  ended_words = k.horizon.end ∷ (map (run_of k).jobs (range_with_len 0 (length k.plan.graph.tasks)) ++ replicate ((run_of k).slots + 1) 0)
+
+  abbrev ended_seats : List JobSeatView
+  ended_seats = map ended_seat (range_with_len 0 (length k.plan.graph.tasks))
+
+  abbrev pub board : ClosedView
+  board = record { constants = Some k; words = ended_words; seats = ended_seats }
+
+  complete_here : (s : ExecState) → IsLastState k ended_words ended_seats s → IsComplete (run_of k) s
+  complete_here s last j n inside below =
+      let done = last.done j inside in
+      let e : 1 + j ≡ suc j = omega arith in
+      let plain : 0 + j ≡ j = omega arith in
+      let word : get_or ended_words (1 + j) 0 ≡ (run_of k).jobs j =
+      ap (λ m. get_or ended_words m 0) e ∙ counted_word (run_of k).jobs 0 (length k.plan.graph.tasks) j (replicate ((run_of k).slots + 1) 0) inside ∙ ap (run_of k).jobs plain in
+      omega (arith, below, done, word)
+
+  pub has_ended : HasEnded board
+  has_ended other s same last =
+      subst (λ (x : Constants). (t : ExecState) → IsLastState x ended_words ended_seats t → IsComplete (run_of x) t) (some_inner k other same) complete_here s last
+
+  module _ (is_plan : IsPlan k.plan) (s : ExecState)
+      (counted : (i n : ℕ) → i < length k.plan.graph.tasks → 0 < (task_at k.plan.graph i).clock.period →
+      IsHorizonJob k.plan.graph k.horizon.until i n ↔ (n < job_count (task_at k.plan.graph i) k.horizon.until))
+      (typed : (e n : ℕ) → e < length k.plan.graph.edges → IsHorizonJob k.plan.graph k.horizon.until (edge_at k.plan.graph e).to.0 n →
+      (value : Value) × (value_on (job_values_of k) (edge_at k.plan.graph e) n ≡ Some value) × (type_of value ≡ (edge_at k.plan.graph e).ty))
+      (all_ended : (i : ℕ) → i < length k.plan.graph.tasks → get_or s.ended i 0 ≡ job_count (task_at k.plan.graph i) k.horizon.until) where
+    column_is : (i a : ℕ) → i < length k.plan.graph.tasks → (task_at k.plan.graph i).kind ≡ kinds.Actuator a → (column : List Value) → AreOutputs (core_in k s) i column
+        → AreRead k i ((run_of k).jobs i) column
+    column_is i a inside kind column are = read_by_jobs k i ((run_of k).jobs i) column (are.ended ∙ all_ended i inside) each
+      where
+        each : (n : ℕ) → n < (run_of k).jobs i → slice_get column n ≡ slice_get (reads_of_job k.plan.graph (job_values_of k) i n) 0
+        each n below =
+            let whole = all_ended i inside in
+            let port = is_plan.graph.actuators i inside (ap is_actuator kind) in
+            let e : ℕ = port.one.0 in
+            let there : e < length k.plan.graph.edges = slice_get_within k.plan.graph.edges e port.one.1 port.one.2 in
+            let stands = slice_get-get_or k.plan.graph.edges e no_edge there in
+            let to : (edge_at k.plan.graph e).to.0 ≡ i =
+            ap (λ x. x.to.0) (get_or_from_slice_get k.plan.graph.edges e port.one.1 no_edge port.one.2) ∙ port.one.3 in
+            let only : (edge_at k.plan.graph e).port ≡ 0 = port.only e (edge_at k.plan.graph e) stands to in
+            let period = (task_is k.plan.graph is_plan.graph i inside).period in
+            let job : IsHorizonJob k.plan.graph k.horizon.until i n = (counted i n inside (omega (arith, period.0))).1 below in
+            let has = typed e n there (subst (λ (j : ℕ). IsHorizonJob k.plan.graph k.horizon.until j n) (sym to) job) in
+            are.each e n there to (omega (arith, below, whole))
+            ∙ has.1 ∙ sym (ap (λ (o : Option Value). Some (unwrap_or o (values.Int (pos 0)))) has.1)
+            ∙ sym (read_at_port (job_values_of k) i n k.plan.graph.edges is_plan.graph.order e (edge_at k.plan.graph e) stands to)
+            ∙ ap (slice_get (reads_of_job k.plan.graph (job_values_of k) i n)) only
+
+    added : (i : ℕ) → i < length k.plan.graph.tasks → (kind : Kind) → (task_at k.plan.graph i).kind ≡ kind → (before outs : List OutFlow)
+        → AddsFlow (core_in k s) i kind before outs → AddsShown board k.plan.graph i kind before outs
+    added i inside (kinds.Sensor a) is before outs adds = adds
+    added i inside (kinds.Node a) is before outs adds = adds
+    added i inside (kinds.Actuator a) is before outs adds = (
+      adds.0,
+      adds.1,
+      record {
+        name = adds.2.name;
+        clock = adds.2.clock;
+        values = λ other x same at.
+            let plain : 0 + i ≡ i = omega arith in
+            let job : x.job ≡ (run_of k).jobs i =
+            ap (λ (y : JobSeatView). y.job) (counted_seat ended_seat 0 (length k.plan.graph.tasks) i x at) ∙ ap (run_of k).jobs plain in
+            subst (λ (y : Constants). AreRead y i x.job adds.0.values) (some_inner k other same)
+            (subst (λ (jobs : ℕ). AreRead k i jobs adds.0.values) (sym job) (column_is i a inside is adds.0.values adds.2.values));
+      },
+    )
+
+    shown_below : (n : ℕ) → n ≤ length k.plan.graph.tasks → (outs : List OutFlow) → AreFlowsBelow (core_in k s) n outs → AreShownBelow board k.plan.graph n outs
+    shown_below zero within outs are = are
+    shown_below (suc i) within outs are = (
+      are.0,
+      shown_below i (omega (arith, within)) are.0 are.1,
+      added i (omega (arith, within)) (task_at k.plan.graph i).kind refl are.0 outs are.2,
+    )
+
+    -- it shows what the machine of the plan has in a state in which every job has ended
+    pub are_shown : (outs : List OutFlow) → AreFlowsBelow (core_in k s) (length k.plan.graph.tasks) outs → AreShown board k.plan.graph outs
+    are_shown outs are = shown_below (length k.plan.graph.tasks) (omega arith) outs are

@@ -1,0 +1,4 @@
+-- that what the stages find is one
+pub mod Ones
+-- that whole lists of events are there, and are replayed
+pub mod Wholes

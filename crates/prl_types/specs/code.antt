@@ -1,0 +1,6 @@
+pub mod Contexts
+pub mod Marks
+pub mod MetViews
+pub mod Segments
+pub mod Signatures
+pub mod States
