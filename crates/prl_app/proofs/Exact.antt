@@ -167,7 +167,22 @@ written_ends words old new text ran ending means (inr h) none = subst (Ends word
 pub stop_ends : (words : List (List ℕ)) (old new : Outside) (c : Command) → command_of words ≡ Some c → (stop : Stop) → IsAnswerStop old.files new.files c stop
     → new.out ≡ old.out → Ends words old new (endings.Stopped stop)
 stop_ends words old new c asked (stops.Unread part) h same =
-    (record { command = c; asked = asked; name = h.0; named = h.1; failed = h.2 }, same)
+    let at = h.0.2 in (
+      record {
+        command = c;
+        asked = asked;
+        name = h.1;
+        named = h.2;
+        failed = h.3;
+        given = h.0.0;
+        is_given = h.0.1;
+        before = at.before;
+        after = at.after;
+        stands = at.stands;
+        hold = at.hold;
+      },
+      same,
+    )
 stop_ends words old new c asked (stops.Refused stage fault) h same =
     (record { command = c; asked = asked; given = h.0.0; is_given = h.0.1; comes = h.0.2 }, same, h.1)
 stop_ends words old new c asked stops.Memory h same = (same, h)

@@ -105,13 +105,19 @@ pub record IsRefused (words : List (List ℕ)) (told : Option Folder) (stage : S
   pub is_given : IsGivenTo told command given
   pub comes : Comes given (stages_of command) (Some (stage, fault))
 
--- the reading of this file of the command failed, and no other
+-- the reading of this file of the command failed, and no other; the files before it were read
 pub record IsUnread (words : List (List ℕ)) (old new : FolderView) (part : InputFile) : Type 0 where
   pub command : Command
   pub asked : command_of words ≡ Some command
   pub name : List ℕ
   pub named : file_of command part ≡ Some name
   pub failed : new.failed ≡ old.failed ++ (name ∷ [])
+  pub given : Given
+  pub is_given : IsGivenTo old.folder command given
+  pub before : List Stage
+  pub after : List Stage
+  pub stands : stages_of command ≡ before ++ (stages.File part ∷ after)
+  pub hold : Comes given before None
 
 -- no reading failed
 abbrev pub NoneFailed : Outside → Outside → Type 0

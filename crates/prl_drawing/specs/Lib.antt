@@ -8,3 +8,5 @@ pub mod Texts
 pub mod Windows
 -- rectangles over ticks
 pub mod Boxes
+-- times in a unit
+pub mod Times

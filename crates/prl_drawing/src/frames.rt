@@ -81,7 +81,7 @@ const LEGEND: &str = "<rect class=\"w t7\" x=\"1600\" y=\"330\" width=\"300\" he
     <rect class=\"t7\" x=\"4900\" y=\"410\" width=\"300\" height=\"80\"/>\
     <text x=\"5260\" y=\"455\">WCET</text>\
     <path class=\"o\" d=\"M5900 320v180\"/>\
-    <text x=\"5960\" y=\"455\">own release or deadline, where another</text>\n";
+    <text x=\"5960\" y=\"455\">own release or deadline</text>\n";
 
 /// What an arrow means.
 const PRECEDES: &str = "<path class=\"a\" d=\"M8400 415h320\"/>\

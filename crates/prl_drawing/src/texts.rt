@@ -7,7 +7,9 @@ use prl_base::push_number;
 use std::alloc::AllocError;
 
 /// Appends a text.
-pub fn push(text: &mut Vec<u8>, piece: &str) -> Result<(), AllocError> {
+pub fn push(text: &mut Vec<u8>, piece: &str) -> Result<(), AllocError>
+    ensures { OnOk result (text.new.items ≡ text.old.items ++ piece.now) }
+{
     text.extend_from_slice(piece.as_bytes())
 }
 

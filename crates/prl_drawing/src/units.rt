@@ -1,13 +1,13 @@
 //! Units of time: how long a tick is.
 
-ghost use Rattle.std.specs.Prelude.{◌≤◌, length};
+ghost use Rattle.std.specs.Prelude.{◌≡◌, ◌<◌, ◌≤◌, ◌++◌, OnOk, length};
+ghost use Rattle.prl_drawing.specs.Times.{behind_text, digits_text, time_text};
 
-use crate::texts::push;
 use prl_base::{decimal_of, push_number};
 use std::alloc::AllocError;
 
 /// How many digits may stand behind the point.
-const MOST_DIGITS: usize = 9;
+pub const MOST_DIGITS: usize = 9;
 
 /// How long a tick is: so many parts of a unit, of which the unit has so many.
 #[derive(Clone, Copy, Debug, PartialEq, Eq)]
@@ -97,28 +97,40 @@ pub fn unit_of(word: &[u8]) -> Option<Unit> {
     Some(Unit { parts, whole, name })
 }
 
-/// Appends the digits behind the point of so many parts of a whole, without zeros at the end.
-fn push_rest(text: &mut Vec<u8>, parts: u64, whole: u64) -> Result<(), AllocError> {
-    let mut rest = parts;
-    for _ in 0..MOST_DIGITS {
-        if rest == 0 {
-            return Ok(());
-        }
-        let tenths = rest.saturating_mul(10);
-        push_number(text, tenths / whole.max(1))?;
-        rest = tenths % whole.max(1);
+/// Appends the digits of a part of a whole, up to the last one that is not 0, and at most so many.
+fn push_digits(text: &mut Vec<u8>, most: usize, part: u64, whole: u64) -> Result<(), AllocError>
+    requires { 0 < whole }
+    ensures { OnOk result (text.new.items ≡ text.old.items ++ digits_text most part whole) }
+{
+    if most == 0 {
+        return Ok(());
     }
-    Ok(())
+    if part == 0 {
+        return Ok(());
+    }
+    let tenths = part.saturating_mul(10);
+    push_number(text, tenths / whole)?;
+    push_digits(text, most - 1, tenths % whole, whole)
+}
+
+/// Appends what stands behind the whole number: nothing where no part is left.
+fn push_behind(text: &mut Vec<u8>, part: u64, whole: u64) -> Result<(), AllocError>
+    requires { 0 < whole }
+    ensures { OnOk result (text.new.items ≡ text.old.items ++ behind_text part whole) }
+{
+    if part == 0 {
+        return Ok(());
+    }
+    text.extend_from_slice(b".")?;
+    push_digits(text, MOST_DIGITS, part, whole)
 }
 
 /// Appends when a tick is.
-pub fn push_time(text: &mut Vec<u8>, unit: &Unit, tick: u64) -> Result<(), AllocError> {
+pub fn push_time(text: &mut Vec<u8>, unit: &Unit, tick: u64) -> Result<(), AllocError>
+    ensures { OnOk result (text.new.items ≡ text.old.items ++ time_text unit.now tick) }
+{
     let whole = unit.whole.max(1);
     let parts = tick.saturating_mul(unit.parts);
     push_number(text, parts / whole)?;
-    if parts % whole == 0 {
-        return Ok(());
-    }
-    push(text, ".")?;
-    push_rest(text, parts % whole, whole)
+    push_behind(text, parts % whole, whole)
 }

@@ -51,11 +51,14 @@ pub record HasArrow (plan : PlanView) (rows : List ℕ) (from until e : ℕ) : T
   pub reader : is_in rows (edge_at plan.graph e).to.0 ≡ true
   pub arrow : IsArrow plan from until e i n m
 
--- the range up to the tick is the shortest that has this arrow of the edge, the first of those up to a limit
-pub record EndsFirst (plan : PlanView) (from limit e tick : ℕ) : Type 0 where
+-- the edge is drawn, from a task that has a row to one that has a row; the range up to the tick is the shortest that has this arrow
+-- of it, the first of those up to a limit
+pub record EndsFirst (plan : PlanView) (rows : List ℕ) (from limit e tick : ℕ) : Type 0 where
   pub i : ℕ
   pub n : ℕ
   pub m : ℕ
+  pub giver : is_in rows i ≡ true
+  pub reader : is_in rows (edge_at plan.graph e).to.0 ≡ true
   pub within : tick ≤ limit
   pub arrow : IsArrow plan from tick e i n m
   pub first : (k p : ℕ) → k < n → IsArrow plan from limit e i k p → ⊥
@@ -64,7 +67,7 @@ pub record EndsFirst (plan : PlanView) (from limit e tick : ℕ) : Type 0 where
 -- each range up to the tick or a later one has an arrow of the edge, and the tick is no later than its first one needs
 abbrev pub IsEndOf : PlanView → List ℕ → ℕ → ℕ → ℕ → ℕ → Type 0
 IsEndOf plan rows from limit e tick =
-    ((until : ℕ) → tick ≤ until → HasArrow plan rows from until e) × EndsFirst plan from limit e tick
+    ((until : ℕ) → tick ≤ until → HasArrow plan rows from until e) × EndsFirst plan rows from limit e tick
 
 -- how far arrows are looked for
 abbrev pub reach : PlanView → ℕ → ℕ
@@ -79,20 +82,26 @@ ShowsArrows plan rows from until =
 abbrev pub hyperperiod_end : PlanView → ℕ → ℕ
 hyperperiod_end plan from = min (from + plan.graph.hyper) MAX_UNTIL
 
--- the first arrow of some edge, of those as far as arrows are looked for, needs the range
-abbrev pub IsForArrow : PlanView → ℕ → ℕ → Type 0
-IsForArrow plan from until = (e : ℕ) × (e < length plan.graph.edges) × EndsFirst plan from (reach plan from) e until
+-- the first arrow of some edge that is drawn, of those as far as arrows are looked for, needs the range
+abbrev pub IsForArrow : PlanView → List ℕ → ℕ → ℕ → Type 0
+IsForArrow plan rows from until = (e : ℕ) × (e < length plan.graph.edges) × EndsFirst plan rows from (reach plan from) e until
+
+-- the range has the first hyperperiod of the task of each row, as far as may be asked for
+abbrev pub ShowsClasses : PlanView → List ℕ → ℕ → Type 0
+ShowsClasses plan rows until =
+    (r : ℕ) → r < length rows → min ((task_at plan.graph (slice_index rows r)).clock.start + plan.graph.hyper) MAX_UNTIL ≤ until
 
 -- the range is no longer than the task of some row needs, from its first release on, for the jobs of a hyperperiod
 abbrev pub IsForTable : PlanView → List ℕ → ℕ → Type 0
 IsForTable plan rows until = (r : ℕ) × (r < length rows) × (until ≤ (task_at plan.graph (slice_index rows r)).clock.start + plan.graph.hyper)
 
 -- The end of a range where the words do not say it: the range has a hyperperiod at least, and, but for a table, shows each precedence.
--- It is no longer than that needs: it is a hyperperiod, or ends with the first arrow of some edge; beside a table it is a
--- hyperperiod, or ends with the first hyperperiod of some task.
+-- It is no longer than that needs: it is a hyperperiod, or ends with the first arrow of some edge that is drawn. Beside a table it
+-- shows the first hyperperiod of each task, and it is a hyperperiod, or ends with that of some task.
 pub record IsDefaultEnd (plan : PlanView) (rows : List ℕ) (table : Bool) (from until : ℕ) : Type 0 where
   pub long : hyperperiod_end plan from ≤ until
   pub small : until ≤ MAX_UNTIL
   pub arrows : OnFalse table (ShowsArrows plan rows from until)
-  pub needed : OnFalse table ((until ≡ hyperperiod_end plan from) ⊎ IsForArrow plan from until)
+  pub needed : OnFalse table ((until ≡ hyperperiod_end plan from) ⊎ IsForArrow plan rows from until)
+  pub classes : OnTrue table (ShowsClasses plan rows until)
   pub tabled : OnTrue table ((until ≡ hyperperiod_end plan from) ⊎ IsForTable plan rows until)

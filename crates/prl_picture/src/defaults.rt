@@ -87,7 +87,7 @@ fn end_with(plan: &Plan, rows: &[u32], e: EdgeNo, from: u64, limit: u64, least: 
     requires limit { limit ≤ MAX_UNTIL }
     requires from { from ≤ MAX_UNTIL }
     ensures late { least ≤ result }
-    ensures needed { (result ≡ least) ⊎ EndsFirst plan.now from limit e.0 result }
+    ensures needed { (result ≡ least) ⊎ EndsFirst plan.now rows.now from limit e.0 result }
     ensures arrow { HasArrow plan.now rows.now from limit e.0 → (until : ℕ) → min result limit ≤ until → HasArrow plan.now rows.now from until e.0 }
 {
     match arrow_end(plan, rows, e, from, limit) {
@@ -102,7 +102,7 @@ fn arrows_end(plan: &Plan, rows: &[u32], from: u64, limit: u64, least: u64) -> u
     requires limit { limit ≤ MAX_UNTIL }
     requires from { from ≤ MAX_UNTIL }
     ensures late { least ≤ result }
-    ensures needed { (result ≡ least) ⊎ ((e : ℕ) × (e < length plan.now.graph.edges) × EndsFirst plan.now from limit e result) }
+    ensures needed { (result ≡ least) ⊎ ((e : ℕ) × (e < length plan.now.graph.edges) × EndsFirst plan.now rows.now from limit e result) }
     ensures arrows { (e : ℕ) → e < length plan.now.graph.edges → HasArrow plan.now rows.now from limit e → (until : ℕ) → min result limit ≤ until → HasArrow plan.now rows.now from until e }
 {
     plan_is_one(plan);
@@ -117,6 +117,7 @@ fn arrows_end(plan: &Plan, rows: &[u32], from: u64, limit: u64, least: u64) -> u
 fn latest_start(plan: &Plan, rows: &[u32]) -> u64
     requires rows { AreTasks plan.now rows.now }
     ensures small { result < 2 ^ 32 }
+    ensures late { (r : ℕ) → r < length rows.now → (task_at plan.now.graph (slice_index rows.now r)).clock.start ≤ result }
     ensures of_row { (result ≡ 0) ⊎ ((r : ℕ) × (r < length rows.now) × (result ≡ (task_at plan.now.graph (slice_index rows.now r)).clock.start)) }
 {
     let mut start: u64 = 0;

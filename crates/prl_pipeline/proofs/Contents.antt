@@ -1,5 +1,5 @@
 -- The files of a command, as they are read one after another.
-use Rattle.std.proofs.Common.{◌≡◌, ◌++◌, ℕ, List, [], ◌∷◌, Option, Some, None, Result, Ok, Err, refl, sym, ap, ◌∙◌, inl, inr, subst, arith}
+use Rattle.std.proofs.Common.{◌≡◌, ◌++◌, ℕ, List, [], ◌∷◌, take, drop, Option, Some, None, Result, Ok, Err, refl, sym, ap, ◌∙◌, inl, inr, subst, arith}
 use Rattle.std.specs.Prelude.{is_some}
 use Rattle.prl_arguments.specs.declared.arguments.Command.{Command}
 use Rattle.prl_io.specs.Views.{FolderView}
@@ -11,7 +11,8 @@ use Rattle.prl_stages.specs.declared.stages.Stage.TheVariants as stages
 use Rattle.prl_stages.specs.declared.stages.Stop.{Stop}
 use Rattle.prl_stages.specs.declared.stages.Stop.TheVariants as stops
 use Rattle.prl_stages.specs.Given.{Folder, Given, IsContent, IsGiven, file_of, content_of, read_as}
-use Rattle.prl_stages.specs.Stages.{Comes, files}
+use Rattle.prl_stages.specs.Stages.{Comes, Refuses, files}
+use Rattle.prl_pipeline.specs.Answers.{IsReached}
 use Rattle.prl_pipeline.specs.code.Stops.{IsFileStop, IsStopOfFiles}
 
 -- what a file may give
@@ -70,57 +71,75 @@ Gives told c part bytes = IsContent told part (file_of c part) (Ok bytes)
 pub kept : {old new : Option Folder} (c : Command) (part : InputFile) (bytes : List ℕ) → new ≡ old → Gives new c part bytes → Gives old c part bytes
 kept c part bytes same h = subst (λ (told : Option Folder). Gives told c part bytes) same h
 
--- a command comes to a refusal of this file
-abbrev pub RefusesFile : Option Folder → Command → InputFile → Fault → Type 0
-RefusesFile told c part fault = (g : Given) × IsGiven told c g × Comes g files (Some (stages.File part, fault))
+-- the files before this one are read, and this one gives this
+abbrev pub Reaches : Option Folder → Command → InputFile → Result (List ℕ) Fault → Type 0
+Reaches told c part content = (g : Given) × IsGiven told c g × (content_of g part ≡ content) × IsReached g files (stages.File part)
 
--- the file is refused with this fault
-abbrev Refused : Option Folder → Command → InputFile → Fault → Type 0
-Refused told c part fault = IsContent told part (file_of c part) (Err fault)
+-- the same of all that it may give
+abbrev pub IsNext : Option Folder → Command → InputFile → Type 0
+IsNext told c part = (content : Result (List ℕ) Fault) → IsContent told part (file_of c part) content → Reaches told c part content
 
-pub program_refused : (told : Option Folder) (c : Command) (fault : Fault) → Refused told c parts.Program fault → RefusesFile told c parts.Program fault
-program_refused told c fault h =
-    let of = each told c (Err fault, h) (some told c parts.Bodies) (some told c parts.Sensors) (some told c parts.Schedule) (some told c parts.Table) (some told c parts.Cores) in
-    (given told c of, is_given told c of, inr (fault, refl, refl))
+pub program_next : (told : Option Folder) (c : Command) → IsNext told c parts.Program
+program_next told c x hx =
+    let of = each told c (x, hx) (some told c parts.Bodies) (some told c parts.Sensors) (some told c parts.Schedule) (some told c parts.Table) (some told c parts.Cores) in
+    (given told c of, is_given told c of, refl, record { before = take 0 files; after = drop 1 files; stands = refl; hold = refl })
 
 module _ (told : Option Folder) (c : Command) (p : List ℕ) (hp : Gives told c parts.Program p) where
-  pub bodies_refused : (fault : Fault) → Refused told c parts.Bodies fault → RefusesFile told c parts.Bodies fault
-  bodies_refused fault h =
-      let of = each told c (Ok p, hp) (Err fault, h) (some told c parts.Sensors) (some told c parts.Schedule) (some told c parts.Table) (some told c parts.Cores) in
-      (given told c of, is_given told c of, inl ((p, refl), inr (fault, refl, refl)))
+  pub bodies_next : IsNext told c parts.Bodies
+  bodies_next x hx =
+      let of = each told c (Ok p, hp) (x, hx) (some told c parts.Sensors) (some told c parts.Schedule) (some told c parts.Table) (some told c parts.Cores) in
+      (given told c of, is_given told c of, refl, record { before = take 1 files; after = drop 2 files; stands = refl; hold = inl ((p, refl), refl) })
 
   module _ (b : List ℕ) (hb : Gives told c parts.Bodies b) where
-    pub sensors_refused : (fault : Fault) → Refused told c parts.Sensors fault → RefusesFile told c parts.Sensors fault
-    sensors_refused fault h =
-        let of = each told c (Ok p, hp) (Ok b, hb) (Err fault, h) (some told c parts.Schedule) (some told c parts.Table) (some told c parts.Cores) in
-        (given told c of, is_given told c of, inl ((p, refl), inl ((b, refl), inr (fault, refl, refl))))
+    pub sensors_next : IsNext told c parts.Sensors
+    sensors_next x hx =
+        let of = each told c (Ok p, hp) (Ok b, hb) (x, hx) (some told c parts.Schedule) (some told c parts.Table) (some told c parts.Cores) in
+        (given told c of, is_given told c of, refl, record { before = take 2 files; after = drop 3 files; stands = refl; hold = inl ((p, refl), inl ((b, refl), refl)) })
 
     module _ (s : List ℕ) (hs : Gives told c parts.Sensors s) where
-      pub schedule_refused : (fault : Fault) → Refused told c parts.Schedule fault → RefusesFile told c parts.Schedule fault
-      schedule_refused fault h =
-          let of = each told c (Ok p, hp) (Ok b, hb) (Ok s, hs) (Err fault, h) (some told c parts.Table) (some told c parts.Cores) in
-          (given told c of, is_given told c of, inl ((p, refl), inl ((b, refl), inl ((s, refl), inr (fault, refl, refl)))))
+      pub schedule_next : IsNext told c parts.Schedule
+      schedule_next x hx =
+          let of = each told c (Ok p, hp) (Ok b, hb) (Ok s, hs) (x, hx) (some told c parts.Table) (some told c parts.Cores) in
+          (given told c of, is_given told c of, refl, record { before = take 3 files; after = drop 4 files; stands = refl; hold = inl ((p, refl), inl ((b, refl), inl ((s, refl), refl))) })
 
       module _ (e : List ℕ) (he : Gives told c parts.Schedule e) where
-        pub table_refused : (fault : Fault) → Refused told c parts.Table fault → RefusesFile told c parts.Table fault
-        table_refused fault h =
-            let of = each told c (Ok p, hp) (Ok b, hb) (Ok s, hs) (Ok e, he) (Err fault, h) (some told c parts.Cores) in
-            (given told c of, is_given told c of, inl ((p, refl), inl ((b, refl), inl ((s, refl), inl ((e, refl), inr (fault, refl, refl))))))
+        pub table_next : IsNext told c parts.Table
+        table_next x hx =
+            let of = each told c (Ok p, hp) (Ok b, hb) (Ok s, hs) (Ok e, he) (x, hx) (some told c parts.Cores) in
+            (given told c of, is_given told c of, refl, record { before = take 4 files; after = drop 5 files; stands = refl; hold = inl ((p, refl), inl ((b, refl), inl ((s, refl), inl ((e, refl), refl)))) })
 
         module _ (t : List ℕ) (ht : Gives told c parts.Table t) where
-          pub cores_refused : (fault : Fault) → Refused told c parts.Cores fault → RefusesFile told c parts.Cores fault
-          cores_refused fault h =
-              let of = each told c (Ok p, hp) (Ok b, hb) (Ok s, hs) (Ok e, he) (Ok t, ht) (Err fault, h) in
-              (given told c of, is_given told c of, inl ((p, refl), inl ((b, refl), inl ((s, refl), inl ((e, refl), inl ((t, refl), inr (fault, refl, refl)))))))
+          pub cores_next : IsNext told c parts.Cores
+          cores_next x hx =
+              let of = each told c (Ok p, hp) (Ok b, hb) (Ok s, hs) (Ok e, he) (Ok t, ht) (x, hx) in
+              (given told c of, is_given told c of, refl, record { before = take 5 files; after = drop 6 files; stands = refl; hold = inl ((p, refl), inl ((b, refl), inl ((s, refl), inl ((e, refl), inl ((t, refl), refl))))) })
+
+none_some : (e : Stage × Fault) → None ≡ Some e → ⊥
+none_some e h = cc
+
+-- all stages of a list hold, and then comes this
+comes_after : (g : Given) (first rest : List Stage) (end : Option (Stage × Fault)) → Comes g first None → Comes g rest end → Comes g (first ++ rest) end
+comes_after g [] rest end h k = k
+comes_after g (stage ∷ first) rest end h k = elim h [
+  | inl x ↦ inl (x.0, comes_after g first rest end x.1 k)
+  | inr x ↦ absurd (none_some (stage, x.0) x.2)
+]
+
+-- a file that is reached and refused is the command's refusal
+refused_at : (g : Given) (list : List Stage) (stage : Stage) (fault : Fault) → IsReached g list stage → Refuses g stage fault → Comes g list (Some (stage, fault))
+refused_at g list stage fault r h =
+    subst (λ (all : List Stage). Comes g all (Some (stage, fault))) (sym r.stands) (comes_after g r.before (stage ∷ r.after) (Some (stage, fault)) r.hold (inr (fault, h, refl)))
 
 -- the reading of one of the files stops
 pub file_stop : (old mid new : FolderView) (c : Command) (part : InputFile) (stop : Stop) → mid.folder ≡ old.folder → mid.failed ≡ old.failed
-    → ((fault : Fault) → IsContent old.folder part (file_of c part) (Err fault) → RefusesFile old.folder c part fault)
-    → IsFileStop mid new part (file_of c part) stop → IsStopOfFiles old new c stop
-file_stop old mid new c part (stops.Unread at) folder failed refused h =
+    → IsNext old.folder c part → IsFileStop mid new part (file_of c part) stop → IsStopOfFiles old new c stop
+file_stop old mid new c part (stops.Unread at) folder failed next h =
+    let content = some old.folder c part in
+    let r = next content.0 content.1 in
     subst (λ (p : InputFile). IsStopOfFiles old new c (stops.Unread p)) (sym h.0)
-    (h.1, h.2, h.3 ∙ ap (λ (names : List (List ℕ)). names ++ (h.1 ∷ [])) failed)
-file_stop old mid new c part (stops.Refused stage fault) folder failed refused h =
+    ((r.0, r.1, r.3), h.1, h.2, h.3 ∙ ap (λ (names : List (List ℕ)). names ++ (h.1 ∷ [])) failed)
+file_stop old mid new c part (stops.Refused stage fault) folder failed next h =
+    let r = next (Err fault) (subst (λ (told : Option Folder). IsContent told part (file_of c part) (Err fault)) folder h.1) in
     subst (λ (s : Stage). IsStopOfFiles old new c (stops.Refused s fault)) (sym h.0)
-    (refused fault (subst (λ (told : Option Folder). IsContent told part (file_of c part) (Err fault)) folder h.1), h.2 ∙ failed)
-file_stop old mid new c part stops.Memory folder failed refused h = h ∙ failed
+    ((r.0, r.1, refused_at r.0 files (stages.File part) fault r.3 r.2), h.2 ∙ failed)
+file_stop old mid new c part stops.Memory folder failed next h = h ∙ failed

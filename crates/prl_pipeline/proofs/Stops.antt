@@ -1,5 +1,5 @@
 -- Stops of stages, of lists of stages and of files.
-use Rattle.std.proofs.Common.{◌≡◌, ◌≢◌, ◌++◌, ℕ, Bool, List, [], ◌∷◌, Option, Some, None, Result, Ok, Err, refl, sym, ap, ◌∙◌, inl, inr, subst, arith}
+use Rattle.std.proofs.Common.{◌≡◌, ◌≢◌, ◌++◌, ℕ, Bool, List, [], ◌∷◌, Option, Some, None, Result, Ok, Err, refl, sym, ap, ◌∙◌, inl, inr, subst, arith, append_assoc}
 use Rattle.std.specs.Prelude.{IfOk, IfErr, is_some}
 use Rattle.prl_ast.specs.Trees.{ProgramTree}
 use Rattle.prl_io.specs.Views.{FolderView}
@@ -69,7 +69,7 @@ use Rattle.prl_stages.specs.PlansAlone.{IsNoPlan}
 use Rattle.prl_stages.specs.Stages.{Comes, IsText, files, front, graphed, planned, ran, stages_after, stages_of}
 use Rattle.prl_pipeline.specs.declared.running.Outcome.{Outcome}
 use Rattle.prl_pipeline.specs.declared.running.Outcome.TheVariants as outcomes
-use Rattle.prl_pipeline.specs.Answers.{IsAnswer, IsAnswerOf, IsAnswerStop}
+use Rattle.prl_pipeline.specs.Answers.{IsAnswer, IsAnswerOf, IsAnswerStop, IsReached}
 use Rattle.prl_pipeline.specs.code.Ready.{HasFiles, IsOutcome, RunsNothing}
 use Rattle.prl_pipeline.specs.code.Stops.{given_of, IsRequestOf, StopsAt, StopsIn, AllHold, IsFileStop, IsStopOfFiles}
 use Rattle.prl_stages.specs.Told.{stop_of, told_parse, told_types, told_expand, told_causal, told_clocks, told_graph, told_words, told_cells, told_body, told_sensors, told_flow}
@@ -219,6 +219,15 @@ pub first_refused : (g : Given) (first rest : List Stage) (e : Stage × Fault) �
 first_refused g [] rest e h = absurd (none_some e h)
 first_refused g (s ∷ first) rest e h = elim h [ inl k ↦ inl (k.0, first_refused g first rest e k.1) | inr k ↦ inr k ]
 
+-- a stage that is reached in the first of two lists is reached in both
+first_reached : (g : Given) (first rest : List Stage) (stage : Stage) → IsReached g first stage → IsReached g (first ++ rest) stage
+first_reached g first rest stage r = record {
+  before = r.before;
+  after = r.after ++ rest;
+  stands = ap (λ (list : List Stage). list ++ rest) r.stands ∙ append_assoc r.before (stage ∷ r.after) rest;
+  hold = r.hold;
+}
+
 -- the files of a command whose texts are read
 files_hold : (r : Request) → AllHold (given_of r) files
 files_hold r = ((r.texts.program.items, refl), ((r.texts.bodies.items, refl), ((r.texts.sensors.items, refl), ((r.texts.schedule.items, refl), ((r.texts.table.items, refl), ((r.texts.cores.items, refl), tt))))))
@@ -292,7 +301,9 @@ answer_stop old new c r stops.Memory mode is none k = none
 
 -- the files stop
 pub files_stop : (old new : FolderView) (c : Command) (stop : Stop) → HasFiles c.mode → IsStopOfFiles old new c stop → IsAnswerStop old new c stop
-files_stop old new c (stops.Unread part) mode h = h
+files_stop old new c (stops.Unread part) mode h =
+    let reached = first_reached h.0.0 files (stages_after c.mode (is_some c.bodies)) (stages.File part) h.0.2 in
+    ((h.0.0, given_to c.mode mode old.folder c h.0.0 h.0.1, reached), h.1, h.2, h.3)
 files_stop old new c (stops.Refused stage fault) mode h =
     ((h.0.0, given_to c.mode mode old.folder c h.0.0 h.0.1, first_refused h.0.0 files (stages_after c.mode (is_some c.bodies)) (stage, fault) h.0.2), h.1)
 files_stop old new c stops.Memory mode h = h

@@ -4,6 +4,8 @@ use Rattle.prl_io.specs.Views.{FolderView}
 use Rattle.prl_arguments.specs.declared.arguments.Command.{Command}
 use Rattle.prl_pipeline.specs.declared.running.Outcome.{Outcome}
 use Rattle.prl_pipeline.specs.declared.running.Outcome.TheVariants as outcomes
+use Rattle.prl_stages.specs.declared.stages.Stage.{Stage}
+use Rattle.prl_stages.specs.declared.stages.Stage.TheVariants as stages
 use Rattle.prl_stages.specs.declared.stages.Stop.{Stop}
 use Rattle.prl_stages.specs.declared.stages.Stop.TheVariants as stops
 use Rattle.prl_stages.specs.Given.{Folder, Given, IsGivenTo, file_of}
@@ -16,10 +18,18 @@ abbrev pub IsAnswer : Option Folder → Command → List ℕ → Ran → Type 0
 IsAnswer told c text ran =
     (g : Given) × IsGivenTo told c g × Comes g (stages_of c) None × IsMeant g c text ran
 
--- a command comes to a refusal, a reading failed, or memory ran out
+-- a stage of the list is reached: those before it hold
+pub record IsReached (g : Given) (list : List Stage) (stage : Stage) : Type 0 where
+  pub before : List Stage
+  pub after : List Stage
+  pub stands : list ≡ before ++ (stage ∷ after)
+  pub hold : Comes g before None
+
+-- a command comes to a refusal, the reading of the file that it came to failed, or memory ran out
 abbrev pub IsAnswerStop : FolderView → FolderView → Command → Stop → Type 0
 IsAnswerStop old new c (stops.Unread part) =
-    (name : List ℕ) × (file_of c part ≡ Some name) × (new.failed ≡ old.failed ++ (name ∷ []))
+    ((g : Given) × IsGivenTo old.folder c g × IsReached g (stages_of c) (stages.File part))
+    × (name : List ℕ) × (file_of c part ≡ Some name) × (new.failed ≡ old.failed ++ (name ∷ []))
 IsAnswerStop old new c (stops.Refused stage fault) =
     ((g : Given) × IsGivenTo old.folder c g × Comes g (stages_of c) (Some (stage, fault))) × (new.failed ≡ old.failed)
 IsAnswerStop old new c stops.Memory = new.failed ≡ old.failed

@@ -3,6 +3,7 @@ use Rattle.std.specs.Prelude.{◌≡◌, ◌++◌, ◌<◌, ◌⊎◌, ℕ, Bool
 use Rattle.prl_io.specs.Views.{FolderView}
 use Rattle.prl_replay.specs.declared.faults.ReplayFault.{ReplayFault}
 use Rattle.prl_replay.specs.declared.faults.ReplayFault.TheVariants as causes
+use Rattle.prl_pipeline.specs.Answers.{IsReached}
 use Rattle.prl_pipeline.specs.declared.reading.Request.{Request}
 use Rattle.prl_pipeline.specs.declared.reading.Texts.{Texts}
 use Rattle.prl_stages.specs.declared.faults.Fault.{Fault}
@@ -85,10 +86,11 @@ IsFileStop old new part name (stops.Refused stage fault) =
     (stage ≡ stages.File part) × IsContent old.folder part name (Err fault) × (new.failed ≡ old.failed)
 IsFileStop old new part name stops.Memory = new.failed ≡ old.failed
 
--- the same of one of the files of a command
+-- the same of one of the files of a command, when those before it were read
 abbrev pub IsStopOfFiles : FolderView → FolderView → Command → Stop → Type 0
 IsStopOfFiles old new c (stops.Unread part) =
-    (name : List ℕ) × (file_of c part ≡ Some name) × (new.failed ≡ old.failed ++ (name ∷ []))
+    ((g : Given) × IsGiven old.folder c g × IsReached g files (stages.File part))
+    × (name : List ℕ) × (file_of c part ≡ Some name) × (new.failed ≡ old.failed ++ (name ∷ []))
 IsStopOfFiles old new c (stops.Refused stage fault) =
     ((g : Given) × IsGiven old.folder c g × Comes g files (Some (stage, fault))) × (new.failed ≡ old.failed)
 IsStopOfFiles old new c stops.Memory = new.failed ≡ old.failed

@@ -32,6 +32,8 @@ returns-in-Some c =
         i = c.in_ok-task.task.0;
         n = c.loop-n.n;
         m = now.0;
+        giver = c.in_ok-task.ensures.some.2;
+        reader = subst (λ (edge : Edge). is_in c.args.rows.now edge.to.0 ≡ true) c.edge_of-edge.ensures.edge c.in_ok-task.ensures.some.3;
         within = ends.0;
         arrow = now.1;
         first = λ k p less arrow. (let begins = arrow.after.first in c.loop-n.invariant k p (omega (arith, begins, first)) less arrow);

@@ -10,7 +10,7 @@ loop-e-preserved c = record {
       elim c.end_with-end.ensures.needed [
         | inl same ↦
             (let plan = c.args.plan.now in
-            subst (λ (end : ℕ). (end ≡ c.args.least) ⊎ ((k : ℕ) × (k < length plan.graph.edges) × EndsFirst plan c.args.from c.args.limit k end)) (sym same)
+            subst (λ (end : ℕ). (end ≡ c.args.least) ⊎ ((k : ℕ) × (k < length plan.graph.edges) × EndsFirst plan c.args.rows.now c.args.from c.args.limit k end)) (sym same)
             c.loop-e.invariant.needed)
         | inr ends ↦ inr (c.loop-e.e, search rules, ends)
       ];

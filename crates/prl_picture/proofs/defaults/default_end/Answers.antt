@@ -24,7 +24,7 @@ returns c =
       arrows = OnFalse_from c.args.table (ShowsArrows plan rows from c.min-2.result)
           (λ off e below has.
           c.arrows_end.ensures.arrows e below (subst (λ (tick : ℕ). HasArrow plan rows from tick e) (sym limit) has) c.min-2.result (omega (arith, end, few)));
-      needed = OnFalse_from c.args.table ((c.min-2.result ≡ hyperperiod_end plan from) ⊎ IsForArrow plan from c.min-2.result)
+      needed = OnFalse_from c.args.table ((c.min-2.result ≡ hyperperiod_end plan from) ⊎ IsForArrow plan rows from c.min-2.result)
           (λ off.
           elim c.arrows_end.ensures.needed [
             | inl same ↦ inl ((let e : c.min-2.result ≡ c.min-least.result = omega (arith, same, short, end) in e) ∙ least)
@@ -34,9 +34,10 @@ returns c =
                 inr (
                   ends.0,
                   ends.1,
-                  subst (λ (tick : ℕ). EndsFirst plan from tick ends.0 c.min-2.result) limit
-                      (subst (λ (tick : ℕ). EndsFirst plan from c.min-limit.result ends.0 tick) (sym same) ends.2),
+                  subst (λ (tick : ℕ). EndsFirst plan rows from tick ends.0 c.min-2.result) limit
+                      (subst (λ (tick : ℕ). EndsFirst plan rows from c.min-limit.result ends.0 tick) (sym same) ends.2),
                 ))
           ]);
+      classes = search rules;
       tabled = search rules;
     }

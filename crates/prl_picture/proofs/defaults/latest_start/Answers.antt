@@ -1,4 +1,4 @@
-use Rattle.std.proofs.Common.{◌≡◌, ◌<◌, ◌⊎◌, ℕ, inl, inr, length, max, ap, subst, sym, arith, rules}
+use Rattle.std.proofs.Common.{◌≡◌, ◌<◌, ◌≤◌, ◌⊎◌, ℕ, inl, inr, length, max, ap, subst, sym, arith, rules}
 use Rattle.std.specs.Prelude.{slice_index}
 use Rattle.std.proofs.lemmas.Bool.{cases_lt}
 use Rattle.prl_plan.specs.declared.graphs.Task.{Task}
@@ -13,6 +13,14 @@ loop-r-preserved c =
     let later : c.max-start.result ≡ max c.loop-r.start c.task_of.result.now.clock.start = c.max-start.ensures in
     record {
       small = search rules;
+      late = λ k below.
+          elim (cases_lt k c.loop-r.r) [
+            | inl less ↦ (let before = c.loop-r.invariant.late k less in omega (arith, before, later))
+            | inr more ↦
+                (let same : k ≡ c.loop-r.r = omega (arith, more, below) in
+                subst (λ (j : ℕ). (task_at c.args.plan.now.graph (slice_index rows j)).clock.start ≤ c.max-start.result) (sym same)
+                (omega (arith, later, first)))
+          ];
       of_row =
           elim (cases_lt c.loop-r.start c.task_of.result.now.clock.start) [
             | inl less ↦ inr (c.loop-r.r, search rules, omega (arith, less, later, first))
