@@ -1,19 +1,14 @@
 -- What is told, from its parts.
 use Rattle.std.proofs.Common.{◌≡◌, ◌++◌, ◌∙◌, ℕ, ℤ, List, [], Option, Some, None, Ok, Err, ap, inl, inr, refl, subst}
 use Rattle.prl_base.specs.Decimals.{decimal_of}
-use Rattle.prl_base.specs.declared.operators.Clock.{Clock}
-use Rattle.prl_base.specs.declared.values.Ty.{Ty}
-use Rattle.prl_ast.specs.Trees.{ProgramTree}
-use Rattle.prl_syntax.specs.Parsing.{IsParsed}
-use Rattle.prl_types.specs.Typing.{IsTyped}
-use Rattle.prl_expand.specs.Expanding.{IsExpanded}
 use Rattle.prl_flow.specs.Programs.{FlatProgram}
-use Rattle.prl_clock.specs.Outcomes.{AreOnlyClocks}
-use Rattle.prl_graph.specs.TaskGraphs.{AreSmallClocks, IsGraphOf}
 use Rattle.prl_plan.specs.declared.graphs.TaskGraph.{TaskGraph}
 use Rattle.prl_plan.specs.Jobs.{Job}
 use Rattle.prl_plan.specs.Plans.{PlanView}
-use Rattle.prl_stages.proofs.SmallClocks.{small_clocks}
+use Rattle.prl_clashes.specs.declared.clashes.Clash.{Clash}
+use Rattle.prl_clashes.specs.ClashTexts.{clash_text}
+use Rattle.prl_clashes.specs.ClockWays.{IsClash}
+use Rattle.prl_counts.specs.Counted.{IsCounted}
 use Rattle.prl_ways.specs.declared.chains.Chain.{Chain}
 use Rattle.prl_ways.specs.declared.rounds.Round.{Round}
 use Rattle.prl_ways.specs.Chains.{IsChainTo, IsCircle}
@@ -25,34 +20,10 @@ use Rattle.prl_sentences.specs.declared.kinds.Part.TheVariants as parts
 use Rattle.prl_sentences.specs.Kinds.{IsLineOf, rest_of}
 use Rattle.prl_explain.specs.declared.texts.Texts.{Texts}
 use Rattle.prl_explain.specs.Details.{IsPlanFrom}
-use Rattle.prl_explain.specs.Explanations.{IfPlan, IsByPlan, IsDetail, IsExplanation, IsFront, IsOfKind, program_in}
-use Rattle.prl_explain.specs.Programs.{IsFlatOf, IsGraphIn}
+use Rattle.prl_explain.specs.Explanations.{IfPlan, IsByPlan, IsCountedAt, IsDetail, IsExplanation, IsFront, IsOfKind, program_in}
+use Rattle.prl_programs.specs.Programs.{IsFlatOf, IsGraphIn}
 use Rattle.prl_explain.specs.Texts.{AreNamed, Folder, text_in}
-use Rattle.prl_explain.specs.Ways.{IsChainTold, IsCircleTold, IsCycleTold, IsDated, IsJobNamed}
-
-pub small : (flat : FlatProgram) (clocks : List Clock) → AreOnlyClocks flat clocks → AreSmallClocks clocks
-small flat clocks only = small_clocks flat clocks only
-
-pub flat_is : (text : List ℕ) (node : Option (List ℕ)) (p : ProgramTree) (main : ℕ) (types : List Ty) (flat : FlatProgram) → IsParsed text (Ok p)
-    → IsTyped p node main types → IsExpanded p main types flat → IsFlatOf text node flat
-flat_is text node p main types flat parsed typed expanded = record {
-  program = p;
-  main = main;
-  types = types;
-  parsed = parsed;
-  typed = typed;
-  expanded = expanded;
-}
-
-pub graph_is : (text : List ℕ) (node : Option (List ℕ)) (flat : FlatProgram) (clocks : List Clock) (graph : TaskGraph) → IsFlatOf text node flat
-    → AreOnlyClocks flat clocks → IsGraphOf flat clocks graph → IsGraphIn text node graph
-graph_is text node flat clocks graph is_flat only is_graph = record {
-  flat = flat;
-  clocks = clocks;
-  is_flat = is_flat;
-  only = only;
-  is_graph = is_graph;
-}
+use Rattle.prl_explain.specs.Ways.{IsChainTold, IsCircleTold, IsClashTold, IsCycleTold, IsDated, IsJobNamed}
 
 pub cycle_is : (program : List ℕ) (node : Option (List ℕ)) (label : List ℕ) (flat : FlatProgram) (first : ℕ) (round : Round) (text : List ℕ)
     → IsFlatOf program node flat → flow_label flat first ≡ label → IsRound flat first round → text ≡ round_text flat round
@@ -71,6 +42,15 @@ cycle_is program node label flat first round text is_flat labelled is_round is =
 
 pub no_cycle : (program : List ℕ) (node : Option (List ℕ)) (label text : List ℕ) → text ≡ [] → IsCycleTold (Some program) node label text
 no_cycle program node label text is = inl is
+
+pub clash_is : (program : List ℕ) (node : Option (List ℕ)) (number : List ℕ) (flat : FlatProgram) (at : ℕ) (clash : Clash) (text : List ℕ)
+    → IsFlatOf program node flat → decimal_of number ≡ Some at → IsClash flat at clash → text ≡ clash_text flat clash
+    → IsClashTold (Some program) node number text
+clash_is program node number flat at clash text is_flat told is_clash is =
+    inr (flat, clash, record { is_flat = is_flat; at = at; told = told; is_clash = is_clash }, is)
+
+pub no_clash : (program : List ℕ) (node : Option (List ℕ)) (number text : List ℕ) → text ≡ [] → IsClashTold (Some program) node number text
+no_clash program node number text is = inl is
 
 pub chain_is : (program : List ℕ) (node : Option (List ℕ)) (name number needs : List ℕ) (graph : TaskGraph) (chain : Chain) (job : Job) (date : ℤ) (text : List ℕ)
     → IsGraphIn program node graph → IsJobNamed graph name number job → IsDated needs date → IsChainTo graph job date chain
@@ -93,19 +73,28 @@ circle_is program node graph chain text is_graph is_circle is = inr (graph, chai
 pub no_circle : (program : List ℕ) (node : Option (List ℕ)) (text : List ℕ) → text ≡ [] → IsCircleTold (Some program) node text
 no_circle program node text is = inl is
 
-pub of_kind_is : (words : List (List ℕ)) (texts : Texts) (kind : Kind) (line front detail text : List ℕ) → IsFront kind line words texts front
-    → IsDetail texts kind.detail (rest_of kind line) detail → text ≡ front ++ detail → IsOfKind words texts kind line text
-of_kind_is words texts kind line front detail text is_front is_detail is = (front, is_front, detail, is_detail, is)
+pub of_kind_is : (words : List (List ℕ)) (command : Option (List (List ℕ))) (texts : Texts) (kind : Kind) (line front detail text : List ℕ)
+    → IsFront kind line words texts front → IsDetail texts command kind.detail (rest_of kind line) detail → text ≡ front ++ detail
+    → IsOfKind words command texts kind line text
+of_kind_is words command texts kind line front detail text is_front is_detail is = (front, is_front, detail, is_detail, is)
 
-pub explained : (folder : Folder) (words : List (List ℕ)) (line : List ℕ) (kind : Kind) (texts : Texts) (text : List ℕ) → IsLineOf kind line
-    → AreNamed folder words texts → IsOfKind words texts kind line text → IsExplanation folder words line text
-explained folder words line kind texts text is_line are_named is_text = record {
+pub explained : (folder : Folder) (words : List (List ℕ)) (command : Option (List (List ℕ))) (line : List ℕ) (kind : Kind) (texts : Texts) (text : List ℕ)
+    → IsLineOf kind line → AreNamed folder words texts → IsOfKind words command texts kind line text → IsExplanation folder words command line text
+explained folder words command line kind texts text is_line are_named is_text = record {
   kind = kind;
   is_line = is_line;
   texts = texts;
   are_named = are_named;
   is_text = is_text;
 }
+
+pub count_is : (source number : List ℕ) (at : ℕ) (text : List ℕ) → decimal_of number ≡ Some at → IsCounted source at text
+    → IsCountedAt source (decimal_of number) text
+count_is source number at text told is = rw told is
+
+pub no_count : (source : List ℕ) (found : Option ℕ) (text : List ℕ) → text ≡ [] → IsCountedAt source found text
+no_count source None text is = is
+no_count source (Some at) text is = inl is
 
 pub by_plan : (texts : Texts) (told : PlanView → List ℕ → Type 0) (plan : PlanView) (text : List ℕ)
     → IsPlanFrom (text_in texts parts.Plan) (program_in texts) texts.node (Some plan) → told plan text → IsByPlan texts told text

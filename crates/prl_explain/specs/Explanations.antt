@@ -2,6 +2,8 @@
 use Rattle.std.specs.Prelude.{◌≡◌, ◌++◌, ℕ, Bool, false, List, [], ◌∷◌, Option, Some, None, Result, IfOk, IfErr, codes, decimal}
 use Rattle.std.specs.Bool.{OnFalse}
 use Rattle.std.specs.Str.{bytes_eq}
+use Rattle.prl_base.specs.Decimals.{decimal_of}
+use Rattle.prl_counts.specs.Counted.{IsCounted}
 use Rattle.prl_io.specs.Views.{FolderView, SinkView}
 use Rattle.prl_companions.specs.declared.endings.Stop.{Stop}
 use Rattle.prl_companions.specs.declared.endings.Stop.TheVariants as stops
@@ -26,7 +28,9 @@ use Rattle.prl_spots.specs.Spots.{IsSpot, byte_at}
 use Rattle.prl_explain.specs.Texts.{AreNamed, Folder, IsStopOfFile, option_of, text_in}
 use Rattle.prl_spots.specs.Twice.{IsTwice}
 use Rattle.prl_spots.specs.Unexpected.{IsUnexpectedAt, IsWordTold}
-use Rattle.prl_explain.specs.Ways.{IsChainTold, IsCircleTold, IsCycleTold}
+use Rattle.prl_wrong.specs.Dashes.{before_dashes, from_dashes}
+use Rattle.prl_wrong.specs.WrongTexts.{words_text}
+use Rattle.prl_explain.specs.Ways.{IsChainTold, IsCircleTold, IsClashTold, IsCycleTold}
 
 -- the file in which a place is told
 abbrev pub part_of : Target → Option Part
@@ -103,39 +107,59 @@ abbrev pub IsTwiceIn : Option (List ℕ) → List ℕ → List ℕ → Type 0
 IsTwiceIn None name text = text ≡ []
 IsTwiceIn (Some source) name text = IsTwice source name text
 
+-- what is told of numbers of flows that differ at a byte, where there is one
+abbrev pub IsCountedAt : List ℕ → Option ℕ → List ℕ → Type 0
+IsCountedAt source None text = text ≡ []
+IsCountedAt source (Some at) text = IsCounted source at text
+
+abbrev pub IsCountedIn : Option (List ℕ) → List ℕ → List ℕ → Type 0
+IsCountedIn None number text = text ≡ []
+IsCountedIn (Some source) number text = IsCountedAt source (decimal_of number) text
+
+-- how to ask which word of a command is wrong
+unfoldable pub ask_text : List ℕ
+ask_text =
+    codes "Give the words of the command after `--`, as in `prelude_explain -- " ++ codes "check --program FILE`, and it is told which one is wrong.\n"
+
+-- what is told of the words of the command that was refused, where they are given
+abbrev pub words_told : Option (List (List ℕ)) → List ℕ
+words_told None = ask_text
+words_told (Some words) = words_text words
+
 -- what is told beside, where this stands after the front of the line
-abbrev pub IsDetail : Texts → Detail → List ℕ → List ℕ → Type 0
-IsDetail texts details.Nothing rest text = text ≡ []
-IsDetail texts details.Twice rest text = IsTwiceIn (program_in texts) (word_at 0 rest) text
-IsDetail texts (details.Unexpected part) rest text = IsUnexpectedIn part (text_in texts part) (word_at 0 rest) text
-IsDetail texts details.Numbers rest text = text ≡ []
-IsDetail texts (details.Broken rule) rest text =
+abbrev pub IsDetail : Texts → Option (List (List ℕ)) → Detail → List ℕ → List ℕ → Type 0
+IsDetail texts command details.Nothing rest text = text ≡ []
+IsDetail texts command details.Words rest text = text ≡ words_told command
+IsDetail texts command details.Twice rest text = IsTwiceIn (program_in texts) (word_at 0 rest) text
+IsDetail texts command (details.Unexpected part) rest text = IsUnexpectedIn part (text_in texts part) (word_at 0 rest) text
+IsDetail texts command details.Numbers rest text = IsCountedIn (program_in texts) (word_at 0 rest) text
+IsDetail texts command (details.Broken rule) rest text =
     IsByPlan texts (λ plan told. IsOfSchedule plan (text_in texts parts.Schedule) (word_at 0 rest) rule told) text
-IsDetail texts details.Left rest text =
+IsDetail texts command details.Left rest text =
     IsByPlan texts (λ plan told. IsLeftIn plan (text_in texts parts.Schedule) (word_at 0 rest) (word_at 1 rest) told) text
-IsDetail texts details.Tasks rest text = IsByPlan texts (λ plan told. told ≡ tasks_text (task_names plan)) text
-IsDetail texts details.Placing rest text =
+IsDetail texts command details.Tasks rest text = IsByPlan texts (λ plan told. told ≡ tasks_text (task_names plan)) text
+IsDetail texts command details.Placing rest text =
     IsByPlan texts (λ plan told. IsPlacingIn plan (text_in texts parts.Cores) (word_at 0 rest) told) text
-IsDetail texts details.Cycle rest text = IsCycleTold (program_in texts) texts.node (word_at 0 rest) text
-IsDetail texts details.Clocks rest text = text ≡ []
-IsDetail texts details.Chain rest text =
+IsDetail texts command details.Cycle rest text = IsCycleTold (program_in texts) texts.node (word_at 0 rest) text
+IsDetail texts command details.Clocks rest text = IsClashTold (program_in texts) texts.node (word_at 0 rest) text
+IsDetail texts command details.Chain rest text =
     IsChainTold (program_in texts) texts.node (word_at 0 rest) (word_at 1 rest) (word_at 3 rest) text
-IsDetail texts details.Circle rest text = IsCircleTold (program_in texts) texts.node text
+IsDetail texts command details.Circle rest text = IsCircleTold (program_in texts) texts.node text
 
 -- the explanation of a line of a kind, by the files that were read
-abbrev pub IsOfKind : List (List ℕ) → Texts → Kind → List ℕ → List ℕ → Type 0
-IsOfKind words texts kind line text =
+abbrev pub IsOfKind : List (List ℕ) → Option (List (List ℕ)) → Texts → Kind → List ℕ → List ℕ → Type 0
+IsOfKind words command texts kind line text =
     (front : List ℕ) × IsFront kind line words texts front
-    × (detail : List ℕ) × IsDetail texts kind.detail (rest_of kind line) detail
+    × (detail : List ℕ) × IsDetail texts command kind.detail (rest_of kind line) detail
     × (text ≡ front ++ detail)
 
--- the explanation of a line, by the files that the words name
-pub record IsExplanation (folder : Folder) (words : List (List ℕ)) (line text : List ℕ) : Type 0 where
+-- the explanation of a line, by the files that the words name and by those of the command that was refused
+pub record IsExplanation (folder : Folder) (words : List (List ℕ)) (command : Option (List (List ℕ))) (line text : List ℕ) : Type 0 where
   pub kind : Kind
   pub is_line : IsLineOf kind line
   pub texts : Texts
   pub are_named : AreNamed folder words texts
-  pub is_text : IsOfKind words texts kind line text
+  pub is_text : IsOfKind words command texts kind line text
 
 -- why there is no explanation
 abbrev pub IsStop : FolderView → FolderView → List (List ℕ) → Stop → Type 0
@@ -157,5 +181,5 @@ pub record Answers (words : List (List ℕ)) (line : List ℕ) (files files' : F
     (code : ℕ) : Type 0 where
   pub outcome : Result (List ℕ) Stop
   pub ends : Ends (λ text. text) outcome out out' err err' code
-  pub text : OnFalse (asks_help words) (IfOk outcome (IsExplanation files.folder words line))
-  pub stop : IfErr outcome (IsStop files files' words)
+  pub text : OnFalse (asks_help words) (IfOk outcome (IsExplanation files.folder (before_dashes words) (from_dashes words) line))
+  pub stop : IfErr outcome (IsStop files files' (before_dashes words))

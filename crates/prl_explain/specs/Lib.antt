@@ -1,7 +1,5 @@
 -- the files that the words name
 pub mod Texts
--- what comes of the text of a program
-pub mod Programs
 -- tasks, and lines that place none
 pub mod Placings
 -- what is told by the plan

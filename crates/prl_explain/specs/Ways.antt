@@ -1,16 +1,19 @@
--- What is told of a cycle, of a chain of jobs and of a loop of them.
+-- What is told of a cycle, of a clock mismatch, of a chain of jobs and of a loop of them.
 use Rattle.std.specs.Prelude.{◌≡◌, ◌⊎◌, ℕ, ℤ, pos, List, [], Option, Some, None}
 use Rattle.prl_base.specs.Decimals.{decimal_of}
 use Rattle.prl_flow.specs.Programs.{FlatProgram}
 use Rattle.prl_plan.specs.declared.graphs.TaskGraph.{TaskGraph}
 use Rattle.prl_plan.specs.Jobs.{Job, task_at}
+use Rattle.prl_clashes.specs.declared.clashes.Clash.{Clash}
+use Rattle.prl_clashes.specs.ClashTexts.{clash_text}
+use Rattle.prl_clashes.specs.ClockWays.{IsClash}
 use Rattle.prl_ways.specs.declared.chains.Chain.{Chain}
 use Rattle.prl_ways.specs.declared.rounds.Round.{Round}
 use Rattle.prl_ways.specs.Chains.{IsChainTo, IsCircle}
 use Rattle.prl_ways.specs.ChainTexts.{chain_text, circle_text}
 use Rattle.prl_ways.specs.Rounds.{IsRound}
 use Rattle.prl_ways.specs.RoundTexts.{flow_label, round_text}
-use Rattle.prl_explain.specs.Programs.{IsFlatOf, IsGraphIn}
+use Rattle.prl_programs.specs.Programs.{IsFlatOf, IsGraphIn}
 
 -- the flows round a cycle of the program through the flow of this label
 pub record IsCycleOf (program : List ℕ) (asked : Option (List ℕ)) (label : List ℕ) (flat : FlatProgram) (round : Round) : Type 0 where
@@ -23,6 +26,19 @@ abbrev pub IsCycleTold : Option (List ℕ) → Option (List ℕ) → List ℕ �
 IsCycleTold None asked label text = text ≡ []
 IsCycleTold (Some program) asked label text =
     (text ≡ []) ⊎ ((flat : FlatProgram) × (round : Round) × IsCycleOf program asked label flat round × (text ≡ round_text flat round))
+
+-- a flow of the program that is told at this byte, with two ways that give it two clocks
+pub record IsClashOf (program : List ℕ) (asked : Option (List ℕ)) (number : List ℕ) (flat : FlatProgram) (clash : Clash) : Type 0 where
+  pub is_flat : IsFlatOf program asked flat
+  pub at : ℕ
+  pub told : decimal_of number ≡ Some at
+  pub is_clash : IsClash flat at clash
+
+-- what is told of a clock mismatch: nothing, or two clocks of a flow with the ways that give it them
+abbrev pub IsClashTold : Option (List ℕ) → Option (List ℕ) → List ℕ → List ℕ → Type 0
+IsClashTold None asked number text = text ≡ []
+IsClashTold (Some program) asked number text =
+    (text ≡ []) ⊎ ((flat : FlatProgram) × (clash : Clash) × IsClashOf program asked number flat clash × (text ≡ clash_text flat clash))
 
 -- the number with a sign that a text writes
 abbrev pub IsDated : List ℕ → ℤ → Type 0

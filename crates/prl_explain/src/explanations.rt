@@ -17,14 +17,15 @@ use prl_companions::{Stop, after_name, are_pairs, finish, value_of};
 use prl_io::{Files, Sink};
 use prl_sentences::{Kind, Part, Target, argument_of, line_kind, push_sentence, rest_of};
 use prl_spots::{line_front, line_rest, place_of, push_lead, spot_of};
+use prl_wrong::{before_dashes, from_dashes};
 use std::alloc::{AllocError, Global};
 
 /// The form of the words.
 const FORM: &str = "prelude_explain [--program FILE] [--bodies FILE] [--sensors FILE] \
-    [--schedule FILE] [--table FILE] [--cores FILE] [--plan FILE] [--node NAME], or --help";
+    [--schedule FILE] [--table FILE] [--cores FILE] [--plan FILE] [--node NAME] [-- WORD ..], or --help";
 
 /// What the options mean.
-const HELP: &str = "prelude_explain [OPTION VALUE ..] < LINE\n\
+const HELP: &str = "prelude_explain [OPTION VALUE ..] [-- WORD ..] < LINE\n\
     Explains a line that `prelude` wrote on `err`: where it is, what is wrong, what would mend it.\n\n\
     --program FILE   the program\n\
     --bodies FILE    the bodies of its imported nodes\n\
@@ -34,8 +35,10 @@ const HELP: &str = "prelude_explain [OPTION VALUE ..] < LINE\n\
     --cores FILE     the text of processors\n\
     --plan FILE      the text of the plan; where none is named, the plan is the program's\n\
     --node NAME      the main node; where none is named, the last one\n\
-    --help           this text\n\n\
-    Name the files that the command had: the more there are, the more is told.\n";
+    --help           this text\n\
+    -- WORD ..       the words after `prelude` of the command that was refused\n\n\
+    Name the files that the command had: the more there are, the more is told. Of `usage` is told\n\
+    which word is wrong, where the words are given.\n";
 
 /// Why there is no explanation.
 const NO_LINE: &str = "standard input is not one line of prelude";
@@ -207,15 +210,16 @@ fn front_of(
 fn of_kind(
     alloc: Global,
     words: &[String],
+    command: Option<&[String]>,
     texts: &Texts,
     kind: &Kind,
     line: &[u8],
 ) -> Result<Vec<u8>, AllocError>
     requires { AreFew texts.now }
-    ensures { IfOk result (λ text. IsOfKind (map string_bytes words.now) texts.now kind.now line.now text.items) }
+    ensures { IfOk result (λ text. IsOfKind (map string_bytes words.now) (option_map (λ rest. map string_bytes rest.now) command.entry) texts.now kind.now line.now text.items) }
 {
     let mut text = front_of(alloc, words, texts, kind, line)?;
-    let detail = detail_of(alloc, texts, kind.detail, rest_of(kind, line))?;
+    let detail = detail_of(alloc, texts, command, kind.detail, rest_of(kind, line))?;
     text.extend_from_slice(&detail)?;
     Ok(text)
 }
@@ -225,27 +229,29 @@ fn of_kind(
 fn by_words<F: Files>(
     alloc: Global,
     words: &[String],
+    command: Option<&[String]>,
     kind: &Kind,
     line: &[u8],
     files: &mut F,
 ) -> Result<Vec<u8>, Stop>
     requires { IsLineOf kind.now line.now }
-    ensures text { IfOk result (λ text. IsExplanation (F.seen files.old).folder (map string_bytes words.now) line.now text.items) }
+    ensures text { IfOk result (λ text. IsExplanation (F.seen files.old).folder (map string_bytes words.now) (option_map (λ rest. map string_bytes rest.now) command.entry) line.now text.items) }
     ensures stop { IfErr result (IsStopOfFile (F.seen files.old) (F.seen files.new) (map string_bytes words.now)) }
     ensures kept { (F.seen files.new).folder ≡ (F.seen files.old).folder }
 {
     let texts = read_texts(alloc, files, words)?;
-    Ok(of_kind(alloc, words, &texts, kind, line)?)
+    Ok(of_kind(alloc, words, command, &texts, kind, line)?)
 }
 
-/// The explanation of a line.
+/// The explanation of a line, by the files that the words name and by those of the command that was refused.
 fn explanation<F: Files>(
     alloc: Global,
     words: &[String],
+    command: Option<&[String]>,
     line: &[u8],
     files: &mut F,
 ) -> Result<Vec<u8>, Stop>
-    ensures text { IfOk result (λ text. IsExplanation (F.seen files.old).folder (map string_bytes words.now) line.now text.items) }
+    ensures text { IfOk result (λ text. IsExplanation (F.seen files.old).folder (map string_bytes words.now) (option_map (λ rest. map string_bytes rest.now) command.entry) line.now text.items) }
     ensures stop { IfErr result (IsStop (F.seen files.old) (F.seen files.new) (map string_bytes words.now)) }
     ensures kept { (F.seen files.new).folder ≡ (F.seen files.old).folder }
 {
@@ -254,30 +260,33 @@ fn explanation<F: Files>(
     }
     match line_kind(line) {
         None => Err(Stop::Refused(NO_LINE)),
-        Some(kind) => by_words(alloc, words, kind, line, files),
+        Some(kind) => by_words(alloc, words, command, kind, line, files),
     }
 }
 
-/// What the words ask for: what the options mean, or the explanation of a line.
+/// What the words ask for: what the options mean, or the explanation of a line by these words before `--` and the command behind
+/// it.
 fn answer<F: Files>(
     alloc: Global,
     words: &[String],
+    own: &[String],
+    command: Option<&[String]>,
     line: &[u8],
     files: &mut F,
 ) -> Result<Vec<u8>, Stop>
     ensures text { OnFalse (asks_help (map string_bytes words.now))
-        (IfOk result (λ text. IsExplanation (F.seen files.old).folder (map string_bytes words.now) line.now text.items)) }
-    ensures stop { IfErr result (IsStop (F.seen files.old) (F.seen files.new) (map string_bytes words.now)) }
+        (IfOk result (λ text. IsExplanation (F.seen files.old).folder (map string_bytes own.now) (option_map (λ rest. map string_bytes rest.now) command.entry) line.now text.items)) }
+    ensures stop { IfErr result (IsStop (F.seen files.old) (F.seen files.new) (map string_bytes own.now)) }
 {
     if asks_help(words) {
         return Ok(Vec::from_slice(alloc, HELP.as_bytes())?);
     }
-    explanation(alloc, words, line, files)
+    explanation(alloc, own, command, line, files)
 }
 
 /// Explains a line that `prelude` wrote on `err`: the explanation goes to `out`, and at every status but 0 one line goes to
-/// `err`. The first word is the program's own name, which is passed over; where
-/// `--help` is the only other one, `out` gets what the options mean.
+/// `err`. The first word is the program's own name, which is passed over; behind `--` stand the words of the command that was
+/// refused. Where `--help` is the only other word, `out` gets what the options mean.
 pub fn explain<F: Files, S: Sink, E: Sink>(
     alloc: Global,
     words: &[String],
@@ -290,6 +299,9 @@ pub fn explain<F: Files, S: Sink, E: Sink>(
         (F.seen files.old) (F.seen files.new) (S.seen out.old) (S.seen out.new)
         (E.seen err.old) (E.seen err.new) result }
 {
-    let outcome = answer(alloc, after_name(words), line, files);
+    let words = after_name(words);
+    let own = before_dashes(words);
+    let command = from_dashes(words);
+    let outcome = answer(alloc, words, own, command, line, files);
     finish(out, err, &outcome)
 }

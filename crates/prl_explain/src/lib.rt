@@ -8,7 +8,6 @@
 mod details;
 mod explanations;
 mod placings;
-mod programs;
 mod texts;
 mod told;
 mod ways;

@@ -1,20 +1,25 @@
 //! What is told beside the place and the sentence of a line, by the files that the words name.
 
-ghost use Rattle.std.specs.Prelude.{◌≡◌, IfOk};
+ghost use Rattle.std.specs.Prelude.{◌≡◌, ◌++◌, ◌<◌, ◌^◌, IfOk, OnOk, length, map};
+ghost use Rattle.std.specs.Option.{option_map};
+ghost use Rattle.std.specs.String.{string_bytes};
+ghost use Rattle.prl_base.specs.Decimals.{decimal_of};
 ghost use Rattle.prl_schedules.specs.ScheduleTexts.{task_names};
 ghost use Rattle.prl_sentences.specs.Sentences.{word_at};
 ghost use Rattle.prl_explain.specs.Details.{IsLeftIn, IsOfSchedule, IsPlacingIn, IsPlanFrom};
-ghost use Rattle.prl_explain.specs.Explanations.{IsByPlan, IsDetail, IsTwiceIn, IsUnexpectedIn, program_in};
+ghost use Rattle.prl_explain.specs.Explanations.{IsByPlan, IsCountedAt, IsCountedIn, IsDetail, IsTwiceIn, IsUnexpectedIn, ask_text, program_in, words_told};
 ghost use Rattle.prl_explain.specs.Placings.{tasks_text};
 ghost use Rattle.prl_explain.specs.Texts.{AreFew, text_in};
-ghost use Rattle.prl_explain.specs.Ways.{IsChainTold, IsCircleTold, IsCycleTold};
+ghost use Rattle.prl_explain.specs.Ways.{IsChainTold, IsCircleTold, IsClashTold, IsCycleTold};
 
 use crate::details::{broken_told, left_told, placing_in, plan_from, tasks_told};
 use crate::texts::{Texts, text_in};
-use crate::ways::{chain_told, circle_told, cycle_told};
+use crate::ways::{byte_of, chain_told, circle_told, clash_told, cycle_told};
+use prl_counts::counts_told;
 use prl_plan::{Plan, Rule};
 use prl_sentences::{Detail, Part, word_at};
 use prl_spots::{here_of, twice_told, unexpected_told};
+use prl_wrong::words_told;
 use std::alloc::{AllocError, Global};
 
 /// The plan that the texts give.
@@ -112,6 +117,52 @@ fn unexpected_in(
     }
 }
 
+/// Appends how to ask which word of a command is wrong.
+#[tactic(auto, unfolding(crate::specs::Explanations::ask_text))]
+fn push_ask(text: &mut Vec<u8>) -> Result<(), AllocError>
+    ensures { OnOk result (text.new.items ≡ text.old.items ++ ask_text) }
+{
+    text.extend_from_slice(
+        b"Give the words of the command after `--`, as in `prelude_explain -- ",
+    )?;
+    text.extend_from_slice(b"check --program FILE`, and it is told which one is wrong.\n")
+}
+
+/// What is told of the words of the command that was refused: which is wrong first; or how to ask for that.
+fn words_in(alloc: Global, command: Option<&[String]>) -> Result<Vec<u8>, AllocError>
+    ensures { IfOk result (λ text. text.items ≡ words_told (option_map (λ rest. map string_bytes rest.now) command.entry)) }
+{
+    let Some(words) = command else {
+        let mut text = Vec::new(alloc);
+        push_ask(&mut text)?;
+        return Ok(text);
+    };
+    words_told(alloc, words)
+}
+
+/// What is told of numbers of flows that differ at this byte of a program.
+#[tactic(auto, using(crate::proofs::Sayings::count_is, crate::proofs::Sayings::no_count))]
+fn counts_at(alloc: Global, source: &[u8], number: &[u8]) -> Result<Vec<u8>, AllocError>
+    requires { length source.now < 2 ^ 32 }
+    ensures { IfOk result (λ text. IsCountedAt source.now (decimal_of number.now) text.items) }
+{
+    match byte_of(number) {
+        None => Ok(Vec::new(alloc)),
+        Some(at) => counts_told(alloc, source, at as usize),
+    }
+}
+
+/// What is told of numbers of flows that differ.
+fn counts_in(alloc: Global, texts: &Texts, number: &[u8]) -> Result<Vec<u8>, AllocError>
+    requires { AreFew texts.now }
+    ensures { IfOk result (λ text. IsCountedIn (program_in texts.now) number.now text.items) }
+{
+    match text_in(texts, Part::Program) {
+        None => Ok(Vec::new(alloc)),
+        Some(source) => counts_at(alloc, source, number),
+    }
+}
+
 /// What is told of a cycle of flows.
 fn cycle_in(alloc: Global, texts: &Texts, label: &[u8]) -> Result<Vec<u8>, AllocError>
     requires { AreFew texts.now }
@@ -119,6 +170,15 @@ fn cycle_in(alloc: Global, texts: &Texts, label: &[u8]) -> Result<Vec<u8>, Alloc
 {
     let program = text_in(texts, Part::Program);
     cycle_told(alloc, program, texts.node.as_ref(), label)
+}
+
+/// What is told of a clock mismatch.
+fn clash_in(alloc: Global, texts: &Texts, number: &[u8]) -> Result<Vec<u8>, AllocError>
+    requires { AreFew texts.now }
+    ensures { IfOk result (λ text. IsClashTold (program_in texts.now) texts.now.node number.now text.items) }
+{
+    let program = text_in(texts, Part::Program);
+    clash_told(alloc, program, texts.node.as_ref(), number)
 }
 
 /// What is told of a chain of jobs.
@@ -143,15 +203,18 @@ fn circle_in(alloc: Global, texts: &Texts, rest: &[u8]) -> Result<Vec<u8>, Alloc
 pub(crate) fn detail_of(
     alloc: Global,
     texts: &Texts,
+    command: Option<&[String]>,
     detail: Detail,
     rest: &[u8],
 ) -> Result<Vec<u8>, AllocError>
     requires { AreFew texts.now }
-    ensures { IfOk result (λ text. IsDetail texts.now detail rest.now text.items) }
+    ensures { IfOk result (λ text. IsDetail texts.now (option_map (λ rest. map string_bytes rest.now) command.entry) detail rest.now text.items) }
 {
     let word = word_at(rest, 0);
     match detail {
-        Detail::Nothing | Detail::Numbers | Detail::Clocks => Ok(Vec::new(alloc)),
+        Detail::Nothing => Ok(Vec::new(alloc)),
+        Detail::Numbers => counts_in(alloc, texts, word),
+        Detail::Words => words_in(alloc, command),
         Detail::Twice => twice_in(alloc, texts, word),
         Detail::Unexpected(part) => unexpected_in(alloc, texts, part, word),
         Detail::Broken(rule) => broken_in(alloc, texts, word, rule),
@@ -159,6 +222,7 @@ pub(crate) fn detail_of(
         Detail::Tasks => tasks_in(alloc, texts),
         Detail::Placing => placing_told(alloc, texts, word),
         Detail::Cycle => cycle_in(alloc, texts, word),
+        Detail::Clocks => clash_in(alloc, texts, word),
         Detail::Chain => chain_in(alloc, texts, rest),
         Detail::Circle => circle_in(alloc, texts, rest),
     }

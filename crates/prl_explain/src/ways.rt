@@ -2,42 +2,23 @@
 
 ghost use Rattle.std.specs.Prelude.{◌≡◌, ◌<◌, ◌^◌, IfOk, IfSome, Some, length};
 ghost use Rattle.std.specs.Option.{option_copied, option_map};
-ghost use Rattle.prl_explain.specs.Programs.{IsFlatOf, IsGraphIn};
-ghost use Rattle.prl_explain.specs.Ways.{IsChainTold, IsCircleTold, IsCycleTold, IsDated, IsJobNamed};
+ghost use Rattle.prl_programs.specs.Programs.{IsFlatOf, IsGraphIn};
+ghost use Rattle.prl_explain.specs.Ways.{IsChainTold, IsCircleTold, IsClashTold, IsCycleTold, IsDated, IsJobNamed};
 ghost use Rattle.prl_plan.specs.Jobs.{task_at};
 ghost use Rattle.prl_sentences.specs.Sentences.{word_at};
 ghost use Rattle.prl_ways.specs.Chains.{job_of};
-ghost use Rattle.prl_ways.specs.RoundTexts.{flow_label};
+ghost use Rattle.prl_base.specs.Decimals.{decimal_of};
 
-use crate::programs::{flat_of, graph_of};
 use prl_base::{Label, TaskNo, decimal_of};
+use prl_clashes::{clash_at, push_clash};
 use prl_flow::Flat;
 use prl_plan::TaskGraph;
+use prl_programs::{flat_of, graph_of};
 use prl_sentences::word_at;
-use prl_ways::{WayJob, chain_to, circle_before, push_chain, push_circle, push_round, round_from};
+use prl_ways::{
+    WayJob, chain_to, circle_before, flow_named, push_chain, push_circle, push_round, round_from,
+};
 use std::alloc::{AllocError, Global};
-
-/// The label of a flow; no bytes where that is not there.
-fn label_of(flat: &Flat, flow: u32) -> &[u8]
-    ensures { result.now ≡ flow_label flat.now flow }
-{
-    match flat.flows().get(flow as usize) {
-        None => &[],
-        Some(flow) => flow.label.bytes(),
-    }
-}
-
-/// The flow of a label.
-fn flow_named(flat: &Flat, label: &[u8]) -> Option<u32>
-    ensures { IfSome result (λ i. flow_label flat.now i ≡ label.now) }
-{
-    for i in 0..flat.flows().len() as u32 {
-        if label_of(flat, i) == label {
-            return Some(i);
-        }
-    }
-    None
-}
 
 /// What is told of a cycle of the flat program.
 #[tactic(auto, using(crate::proofs::Sayings::cycle_is, crate::proofs::Sayings::no_cycle))]
@@ -82,6 +63,62 @@ pub(crate) fn cycle_told(
         None => Ok(Vec::new(alloc)),
         Some(flat) => cycle_in(alloc, program, node, &flat, label),
     }
+}
+
+/// What is told of a clock mismatch of the flat program.
+#[tactic(auto, using(crate::proofs::Sayings::clash_is, crate::proofs::Sayings::no_clash))]
+fn clash_in(
+    alloc: Global,
+    program: &[u8],
+    node: Option<&Label>,
+    flat: &Flat,
+    number: &[u8],
+) -> Result<Vec<u8>, AllocError>
+    requires { IsFlatOf program.now (option_copied node) flat.now }
+    ensures { IfOk result (λ text. IsClashTold (Some program.now) (option_copied node.entry) number.now text.items) }
+{
+    let mut text = Vec::new(alloc);
+    let Some(at) = byte_of(number) else {
+        return Ok(text);
+    };
+    match clash_at(alloc, flat, at)? {
+        None => Ok(text),
+        Some(clash) => {
+            push_clash(&mut text, flat, &clash)?;
+            Ok(text)
+        }
+    }
+}
+
+/// What is told of a clock mismatch at this byte: two clocks of a flow, and the ways that give it them.
+#[tactic(auto, using(crate::proofs::Sayings::no_clash))]
+pub(crate) fn clash_told(
+    alloc: Global,
+    program: Option<&[u8]>,
+    node: Option<&Label>,
+    number: &[u8],
+) -> Result<Vec<u8>, AllocError>
+    requires { IfSome program (λ text. length text.now < 2 ^ 32) }
+    ensures { IfOk result (λ text. IsClashTold (option_map (λ text. text.now) program.entry) (option_copied node.entry) number.now text.items) }
+{
+    let Some(program) = program else {
+        return Ok(Vec::new(alloc));
+    };
+    match flat_of(alloc, program, node)? {
+        None => Ok(Vec::new(alloc)),
+        Some(flat) => clash_in(alloc, program, node, &flat, number),
+    }
+}
+
+/// The byte that a number tells; None past 32 bits.
+pub(crate) fn byte_of(number: &[u8]) -> Option<u32>
+    ensures { IfSome result (λ at. decimal_of number.now ≡ Some at) }
+{
+    let at = decimal_of(number)?;
+    if at > u64::from(u32::MAX) {
+        return None;
+    }
+    Some(at as u32)
 }
 
 /// The task of a name.

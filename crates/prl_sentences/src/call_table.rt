@@ -33,7 +33,7 @@ static KINDS: [Kind; 21] = [
                     A DATE is 0 to 2147483647, a COUNT 1 to 16, a NUMBER below 2^64, and there \
                     are 1 to 20 LANES.",
         )],
-        detail: Detail::Nothing,
+        detail: Detail::Words,
     },
     Kind {
         front: "read fault ",
@@ -82,7 +82,8 @@ static KINDS: [Kind; 21] = [
         sentence: &[Words(
             "This file has more bytes than may be read: 1 MB for a program or bodies, 32 \
                     MB for sensor rows, 80 MB for a schedule, 16 MB for a table, 64 KB for a \
-                    text of processors.",
+                    text of processors. Take out what the command does not need, or run it for \
+                    fewer ticks.",
         )],
         detail: Detail::Nothing,
     },

@@ -43,11 +43,13 @@ pub enum Target {
 pub enum Detail {
     /// Nothing.
     Nothing,
+    /// Which word of the command is wrong first.
+    Words,
     /// Where in the program a name stands a first and a second time.
     Twice,
     /// What stands at a byte of the file, and what might stand there in its place.
     Unexpected(Part),
-    /// How many flows are declared and are there.
+    /// How many inputs and outputs a node declares that is named there.
     Numbers,
     /// Which job acts at an event that breaks this rule, and which other one it overtakes.
     Broken(Rule),

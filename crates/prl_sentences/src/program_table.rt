@@ -24,7 +24,7 @@ static KINDS: [Kind; 25] = [
             "Something else has to stand here. Look just before the mark for a missing \
                     comma, semicolon or bracket, and at the mark for a keyword that is used as \
                     a name. A node only connects flows: arithmetic, comparisons and choices \
-                    stand in the bodies of imported nodes.",
+                    stand in the bodies of imported nodes. A comment begins with `--`.",
         )],
         detail: Detail::Unexpected(Part::Program),
     },
@@ -77,8 +77,10 @@ static KINDS: [Kind; 25] = [
         tail: "\n",
         target: Target::Byte(Part::Program),
         sentence: &[Words(
-            "The numbers of flows differ: an imported node or a node has as many \
-                    arguments and results as it declares, and an operator takes one flow.",
+            "The numbers of flows differ. Where the mark is under the name of a node, write \
+                    as many arguments as it declares inputs; under the first word of an \
+                    equation, as many names on the left as the right side gives flows, which \
+                    are the outputs that a node declares; an operator takes one flow.",
         )],
         detail: Detail::Numbers,
     },

@@ -1,5 +1,5 @@
 -- The job that a chain ends in.
-use Rattle.std.proofs.Common.{◌≡◌, ℕ, ap}
+use Rattle.std.proofs.Common.{◌≡◌, ap}
 use Rattle.prl_plan.specs.declared.graphs.TaskGraph.{TaskGraph}
 use Rattle.prl_plan.specs.Jobs.{Job, task_at}
 use Rattle.prl_ways.specs.declared.jobs.WayJob.{WayJob}

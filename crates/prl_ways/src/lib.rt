@@ -14,6 +14,6 @@ mod uses;
 pub use chain_texts::{push_chain, push_circle};
 pub use chains::{Chain, chain_to, circle_before};
 pub use jobs::WayJob;
-pub use round_texts::push_round;
+pub use round_texts::{flow_named, push_round};
 pub use rounds::{Round, round_from};
 pub use uses::Along;

@@ -1,6 +1,6 @@
 //! Cycles of flows in words.
 
-ghost use Rattle.std.specs.Prelude.{◌≡◌, ◌++◌, OnOk};
+ghost use Rattle.std.specs.Prelude.{◌≡◌, ◌++◌, IfSome, OnOk};
 ghost use Rattle.std.specs.List.{flat_map};
 ghost use Rattle.prl_flow.specs.Uses.{is_made};
 ghost use Rattle.prl_ways.specs.RoundTexts.{back_text, flow_label, need_text, quoted, round_text, way_text};
@@ -17,6 +17,18 @@ fn label_of(flat: &Flat, flow: u32) -> &[u8]
         None => &[],
         Some(flow) => flow.label.bytes(),
     }
+}
+
+/// The flow of a label; None where there is none.
+pub fn flow_named(flat: &Flat, label: &[u8]) -> Option<u32>
+    ensures { IfSome result (λ i. flow_label flat.now i ≡ label.now) }
+{
+    for i in 0..flat.flows().len() as u32 {
+        if label_of(flat, i) == label {
+            return Some(i);
+        }
+    }
+    None
 }
 
 /// Whether the label is that of a flow without a name.

@@ -1,4 +1,4 @@
-use Rattle.std.proofs.Common.{◌≡◌, ◌∙◌, ℕ, List, map, drop, Result, Ok, Err, ap, sym, subst}
+use Rattle.std.proofs.Common.{◌≡◌, ◌∙◌, ℕ, List, Option, map, drop, Result, Ok, Err, ap, sym, subst}
 use Rattle.std.specs.Prelude.{IfOk, IfErr, vec_items}
 use Rattle.std.specs.String.{string_bytes}
 use Rattle.std.proofs.lemmas.List.{drop-map}
@@ -8,6 +8,7 @@ use Rattle.prl_companions.specs.Endings.{Ends}
 use Rattle.std.specs.Bool.{OnFalse}
 use Rattle.std.proofs.lemmas.Bool.{OnFalse_at, OnFalse_from}
 use Rattle.prl_explain.specs.Explanations.{IsExplanation, IsStop, asks_help}
+use Rattle.prl_wrong.specs.Dashes.{before_dashes, from_dashes}
 use Rattle.prl_explain.proofs.explanations.explain.Goals as goal
 
 -- an outcome with its text as a list of bytes
@@ -29,18 +30,27 @@ stop_so : {A : Type 0} (view : A → List ℕ) (r : Result A Stop) (P : Stop →
 stop_so view (Ok text) P h = h
 stop_so view (Err stop) P h = h
 
+given_so : (P : List (List ℕ) → Option (List (List ℕ)) → Type 0) (own own' : List (List ℕ)) (command command' : Option (List (List ℕ)))
+    → own ≡ own' → command ≡ command' → P own command → P own' command'
+given_so P own own' command command' same given h =
+    subst (λ (ws : Option (List (List ℕ))). P own' ws) given (subst (λ (ws : List (List ℕ)). P ws command) same h)
+
 pub returns : goal.returns
 returns g c =
-    let words : map string_bytes c.after_name.result.now ≡ drop 1 (map string_bytes c.args.words.now) =
-    ap (map string_bytes) c.after_name.ensures ∙ sym (drop-map string_bytes 1 c.args.words.now) in
+    let all = map string_bytes c.args.words.now in
+    let words : map string_bytes c.after_name-words.result.now ≡ drop 1 all = ap (map string_bytes) c.after_name-words.ensures ∙ sym (drop-map string_bytes 1 c.args.words.now) in
+    let own = c.before_dashes-own.ensures ∙ ap before_dashes words in
+    let command = c.from_dashes-command.ensures ∙ ap from_dashes words in
     let files = g.F.Files.seen c.args.files.now in
     let after = g.F.Files.seen c.answer-outcome.new.files in
+    let line = c.args.line.now in
+    let outcome = seen vec_items c.answer-outcome.result in
     record {
-      outcome = seen vec_items c.answer-outcome.result;
+      outcome = outcome;
       ends = ends_so vec_items c.answer-outcome.result _ _ _ _ _ c.finish.ensures;
-      text = subst (λ (ws : List (List ℕ)). OnFalse (asks_help ws) (IfOk (seen vec_items c.answer-outcome.result) (IsExplanation files.folder ws c.args.line.now))) words
-          (OnFalse_from (asks_help (map string_bytes c.after_name.result.now)) _
-          (λ no. text_so vec_items c.answer-outcome.result _ (OnFalse_at no c.answer-outcome.ensures.text)));
-      stop = subst (λ (ws : List (List ℕ)). IfErr (seen vec_items c.answer-outcome.result) (IsStop files after ws)) words
-          (stop_so vec_items c.answer-outcome.result _ c.answer-outcome.ensures.stop);
+      text = subst (λ (ws : List (List ℕ)). OnFalse (asks_help ws) (IfOk outcome (IsExplanation files.folder (before_dashes (drop 1 all)) (from_dashes (drop 1 all)) line))) words
+          (OnFalse_from (asks_help (map string_bytes c.after_name-words.result.now)) _
+          (λ no. given_so (λ (ws : List (List ℕ)) (rest : Option (List (List ℕ))). IfOk outcome (IsExplanation files.folder ws rest line)) _ _ _ _ own command
+          (text_so vec_items c.answer-outcome.result _ (OnFalse_at no c.answer-outcome.ensures.text))));
+      stop = subst (λ (ws : List (List ℕ)). IfErr outcome (IsStop files after ws)) own (stop_so vec_items c.answer-outcome.result _ c.answer-outcome.ensures.stop);
     }

@@ -9,7 +9,7 @@ ghost use Rattle.prl_types.specs.Typing.{IsTyped};
 ghost use Rattle.prl_clock.specs.Outcomes.{AreOnlyClocks};
 ghost use Rattle.prl_flow.specs.Uses.{HasNoCycle};
 ghost use Rattle.prl_graph.specs.TaskGraphs.{IsGraphOf};
-ghost use Rattle.prl_explain.specs.Programs.{IsFlatOf, IsGraphIn};
+ghost use Rattle.prl_programs.specs.Programs.{IsFlatOf, IsGraphIn};
 
 use prl_ast::Program;
 use prl_base::Label;
@@ -25,7 +25,7 @@ use prl_types::{TypeFault, Typed, check_names_types};
 use std::alloc::{AllocError, Global};
 
 /// The program of a text; None where that is none.
-pub(crate) fn program_of(alloc: Global, text: &[u8]) -> Result<Option<Program>, AllocError>
+pub fn program_of(alloc: Global, text: &[u8]) -> Result<Option<Program>, AllocError>
     requires { length text.now < 2 ^ 32 }
     ensures { IfOk result (λ found. IfSome found (λ p. IsParsed text.now (Ok (program_tree p)))) }
 {
@@ -37,7 +37,7 @@ pub(crate) fn program_of(alloc: Global, text: &[u8]) -> Result<Option<Program>, 
 }
 
 /// The flat program of a typed one; None where it has too many flows.
-#[tactic(auto, using(crate::proofs::Sayings::flat_is))]
+#[tactic(auto, using(crate::proofs::Flats::flat_is))]
 fn expanded(
     alloc: Global,
     text: &[u8],
@@ -65,11 +65,7 @@ fn parsed_in_range(text: &[u8], program: &Program)
 
 /// The flat program of a program, where main is the node of this name, or the last one where none is given; None where it has
 /// none.
-pub(crate) fn flat_of(
-    alloc: Global,
-    text: &[u8],
-    node: Option<&Label>,
-) -> Result<Option<Flat>, AllocError>
+pub fn flat_of(alloc: Global, text: &[u8], node: Option<&Label>) -> Result<Option<Flat>, AllocError>
     requires { length text.now < 2 ^ 32 }
     ensures { IfOk result (λ found. IfSome found (IsFlatOf text.now (option_copied node.entry))) }
 {
@@ -101,7 +97,7 @@ fn clocks_of(alloc: Global, flat: &Flat) -> Result<Option<Clocks>, AllocError>
 }
 
 /// The task graph of a flat program; None where it has none.
-#[tactic(auto, using(crate::proofs::Sayings::small))]
+#[tactic(auto, using(crate::proofs::Flats::small))]
 fn graph_in(alloc: Global, flat: &Flat, clocks: &Clocks) -> Result<Option<TaskGraph>, AllocError>
     requires clocks { AreOnlyClocks flat.now clocks.now.of }
     requires acyclic { HasNoCycle flat.now }
@@ -115,8 +111,8 @@ fn graph_in(alloc: Global, flat: &Flat, clocks: &Clocks) -> Result<Option<TaskGr
 }
 
 /// The task graph of a program, where main is the node of this name, or the last one where none is given; None where it has none.
-#[tactic(auto, using(crate::proofs::Sayings::graph_is))]
-pub(crate) fn graph_of(
+#[tactic(auto, using(crate::proofs::Flats::graph_is))]
+pub fn graph_of(
     alloc: Global,
     text: &[u8],
     node: Option<&Label>,

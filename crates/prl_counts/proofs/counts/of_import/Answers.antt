@@ -1,0 +1,18 @@
+use Rattle.std.proofs.Common.{◌∙◌, length, refl, sym}
+use Rattle.std.proofs.lemmas.Option.{slice_get_read}
+use Rattle.std.proofs.lemmas.Slice.Eq.{bytes_eq-Decides}
+use Rattle.prl_counts.proofs.Named.{import_is}
+use Rattle.prl_counts.proofs.counts.of_import.Goals as goal
+
+pub loop-import-init : goal.loop-import-init
+loop-import-init c = tt
+
+pub returns-then-eq : goal.returns-then-eq
+returns-then-eq c =
+    import_is c.args.imports.now c.args.name.now c.import_counts.result c.loop-import.import-index c.import-item.result
+    (slice_get_read c.args.imports.now (length c.args.imports.now) c.loop-import.import-index c.import-item.result refl c.loop-import-test.true c.import-item.is)
+    (sym c.bytes.ensures.bytes ∙ (bytes_eq-Decides c.bytes.result.now c.args.name.now).0 (sym c.eq.ensures ∙ c.if-eq.true))
+    c.import_counts.ensures.ins c.import_counts.ensures.outs
+
+pub loop-import-preserved : goal.loop-import-preserved
+loop-import-preserved c = tt

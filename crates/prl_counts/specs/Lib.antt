@@ -1,0 +1,2 @@
+-- how many inputs and outputs a node declares
+pub mod Counted

@@ -1,0 +1,2 @@
+-- what comes of the text of a program
+pub mod Programs

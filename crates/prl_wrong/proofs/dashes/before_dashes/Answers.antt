@@ -1,0 +1,8 @@
+use Rattle.std.proofs.Common.{◌∙◌, ℕ, ap, map, sym, take}
+use Rattle.std.proofs.lemmas.List.{take-map}
+use Rattle.std.specs.String.{string_bytes}
+use Rattle.prl_wrong.proofs.dashes.before_dashes.Goals as goal
+
+pub returns : goal.returns
+returns c =
+    sym (take-map string_bytes c.dashes_at.result c.args.words.now) ∙ ap (λ (n : ℕ). take n (map string_bytes c.args.words.now)) c.dashes_at.ensures.exact

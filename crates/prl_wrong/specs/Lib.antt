@@ -1,0 +1,6 @@
+-- which word of a command line is wrong
+pub mod Wrong
+-- how it is told
+pub mod WrongTexts
+-- the words of a command among others
+pub mod Dashes

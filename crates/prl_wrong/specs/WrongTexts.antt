@@ -1,0 +1,105 @@
+-- How it is told which word of a command line is wrong.
+use Rattle.std.specs.Prelude.{◌++◌, ℕ, List, [], Option, Some, None, codes, drop}
+use Rattle.prl_arguments.specs.declared.arguments.Command.{Command}
+use Rattle.prl_arguments.specs.declared.arguments.Mode.{Mode}
+use Rattle.prl_arguments.specs.declared.arguments.Mode.TheVariants as modes
+use Rattle.prl_arguments.specs.declared.arguments.Setting.{Setting}
+use Rattle.prl_arguments.specs.declared.arguments.Setting.TheVariants as settings
+use Rattle.prl_arguments.specs.Arguments.{command_of, name_of}
+use Rattle.prl_wrong.specs.Wrong.{Fault, NoMode, NoSuchMode, NoOption, NotTaken, Again, NoValue, BadValue, Missing, wrong_of}
+
+-- the name of a mode
+abbrev pub mode_name : Mode → List ℕ
+mode_name modes.Check = codes "check"
+mode_name modes.Cores = codes "cores"
+mode_name modes.Cycle = codes "cycle"
+mode_name modes.Edf = codes "edf"
+mode_name modes.Flows = codes "flows"
+mode_name modes.Generate = codes "generate"
+mode_name modes.Plan = codes "plan"
+mode_name modes.Print = codes "print"
+mode_name modes.Replay = codes "replay"
+mode_name modes.Run = codes "run"
+mode_name modes.Schedule = codes "schedule"
+mode_name modes.Table = codes "table"
+
+-- a word between others
+unfoldable pub worded : List ℕ → List ℕ → List ℕ → List ℕ
+worded front word end = front ++ word ++ end
+
+unfoldable pub no_mode_text : List ℕ
+no_mode_text = codes "No word stands after the program's name: a mode has to.\n"
+
+unfoldable pub no_such_mode_text : List ℕ → List ℕ
+no_such_mode_text word = worded (codes "The first wrong word is `") word (codes "`: it is no mode.\n")
+
+unfoldable pub no_option_text : List ℕ → List ℕ
+no_option_text word = worded (codes "The first wrong word is `") word (codes "`: an option has to stand there, and it is none.\n")
+
+unfoldable pub again_text : Setting → List ℕ
+again_text setting = worded (codes "The first wrong word is `--") (name_of setting) (codes "`: it stands there twice.\n")
+
+unfoldable pub no_value_text : Setting → List ℕ
+no_value_text setting =
+    worded (codes "The first wrong word is `--") (name_of setting) (codes "`: its value is not there, which is no empty word and does not begin with `-`.\n")
+
+unfoldable pub no_option_of_text : Setting → List ℕ
+no_option_of_text setting = worded (codes "The first wrong word is `--") (name_of setting) (codes "`: it is no option of mode `")
+
+unfoldable pub mode_end_text : Mode → List ℕ
+mode_end_text mode = mode_name mode ++ codes "`.\n"
+
+unfoldable pub not_taken_text : Mode → Setting → List ℕ
+not_taken_text mode setting = no_option_of_text setting ++ mode_end_text mode
+
+unfoldable pub needs_text : Mode → List ℕ
+needs_text mode = worded (codes "Each word is right, and one is missing: mode `") (mode_name mode) (codes "` needs `--")
+
+unfoldable pub too_text : Setting → List ℕ
+too_text setting = name_of setting ++ codes "` too.\n"
+
+unfoldable pub missing_text : Mode → Setting → List ℕ
+missing_text mode setting = needs_text mode ++ too_text setting
+
+-- what an option wants
+abbrev pub wanted_text : Setting → List ℕ
+wanted_text settings.Until = codes "a date from 0 to 2147483647"
+wanted_text settings.Workers = codes "a number from 1 to 16"
+wanted_text settings.Seed = codes "a number from 0 to 18446744073709551615"
+wanted_text settings.Size = codes "a number from 1 to 20"
+wanted_text settings.Clock = codes "`gated` or `free`"
+wanted_text other = codes "a word"
+
+unfoldable pub wants_text : Setting → List ℕ
+wants_text setting = name_of setting ++ codes "` wants " ++ wanted_text setting ++ codes ".\n"
+
+unfoldable pub wrong_value_text : List ℕ → List ℕ
+wrong_value_text value = worded (codes "The first wrong word is `") value (codes "`: `--")
+
+unfoldable pub bad_value_text : Setting → List ℕ → List ℕ
+bad_value_text setting value = wrong_value_text value ++ wants_text setting
+
+abbrev pub fault_text : Fault → List ℕ
+fault_text NoMode = no_mode_text
+fault_text (NoSuchMode word) = no_such_mode_text word
+fault_text (NoOption word) = no_option_text word
+fault_text (NotTaken mode setting) = not_taken_text mode setting
+fault_text (Again setting) = again_text setting
+fault_text (NoValue setting) = no_value_text setting
+fault_text (BadValue setting value) = bad_value_text setting value
+fault_text (Missing mode setting) = missing_text mode setting
+
+abbrev pub fault_told : Option Fault → List ℕ
+fault_told None = []
+fault_told (Some fault) = fault_text fault
+
+unfoldable pub command_text : List ℕ
+command_text = codes "These words are a command, which was not refused: give the words of the one that was.\n"
+
+abbrev pub told_of : List (List ℕ) → Option Command → List ℕ
+told_of words None = fault_told (wrong_of words)
+told_of words (Some command) = command_text
+
+-- what is told of the words of a command line, of which the first is not read
+abbrev pub words_text : List (List ℕ) → List ℕ
+words_text words = told_of (drop 1 words) (command_of words)
