@@ -1,6 +1,8 @@
 -- What the machine's columns and machines are by instance.
 use Rattle.std.proofs.Common.{◌≡◌, ◌+◌, ◌<◌, ◌≤◌, ◌↔◌, ◌++◌, ℕ, zero, suc, Bool, List, [], ◌∷◌, length, length-append, inl, inr, get_or, take, Option, Some, None, refl, sym, ◌∙◌, ap, subst, arith}
 use Rattle.std.specs.Prelude.{slice_get, pos, unwrap_or, MatchOption}
+use Rattle.std.specs.declared.vec.Vec.{Vec}
+use Rattle.std.specs.declared.alloc.Global.{Global}
 use Rattle.std.proofs.lemmas.Bool.{cases_eq}
 use Rattle.std.proofs.lemmas.List.{length-take-le}
 use Rattle.std.proofs.lemmas.Option.{slice_get-get_or, slice_get_read}
@@ -18,6 +20,7 @@ use Rattle.prl_plan.specs.Jobs.{task_at, job_count, IsHorizonJob}
 use Rattle.prl_plan.specs.Plans.{IsPlan, edge_at, no_edge}
 use Rattle.prl_plan.specs.States.{IsSound}
 use Rattle.prl_plan.proofs.RoundPeriods.{task_is}
+use Rattle.prl_track.specs.Machine.{Drives}
 use Rattle.prl_track.proofs.Places.{slice_get_take}
 use Rattle.prl_values.specs.JobValues.{value_on, read_on, reads_of_job, body_of_task}
 use Rattle.prl_workers.specs.declared.workers.Work.{Work}
@@ -31,7 +34,7 @@ use Rattle.prl_workers.proofs.PortReads.{read_at_port}
 
 module _ (core : CoreView) (is_plan : IsPlan core.plan) (sound : IsSound (constants core) core.state) where
   -- the column of an actuator task up to its ended jobs
-  pub column_is_output : (i k : ℕ) → i < length core.plan.graph.tasks → (task_at core.plan.graph i).kind ≡ kinds.Actuator k → (column : List Value) (steps : ℕ) →
+  column_is_output : (i k : ℕ) → i < length core.plan.graph.tasks → (task_at core.plan.graph i).kind ≡ kinds.Actuator k → (column : List Value) (steps : ℕ) →
       get_or core.state.ended i 0 ≤ steps → length column ≡ job_count (task_at core.plan.graph i) core.horizon.until →
       ((m : ℕ) → m < steps → slice_get column m ≡ slice_get (reads_of_job core.plan.graph (values_of core) i m) 0) →
       ((i n : ℕ) → i < length core.plan.graph.tasks → 0 < (task_at core.plan.graph i).clock.period →
@@ -138,11 +141,46 @@ sensor_no_node core i k is other node = absurd (let e : kinds.Sensor k ≡ kinds
 actuator_no_node : (core : CoreView) (i k : ℕ) → (task_at core.plan.graph i).kind ≡ kinds.Actuator k → IsNoNode core i
 actuator_no_node core i k is other node = absurd (let e : kinds.Actuator k ≡ kinds.Node other = sym is ∙ node in cc)
 
-pub sensor_no_actuator : (core : CoreView) (i k other : ℕ) → (task_at core.plan.graph i).kind ≡ kinds.Sensor k → (task_at core.plan.graph i).kind ≡ kinds.Actuator other → ⊥
+sensor_no_actuator : (core : CoreView) (i k other : ℕ) → (task_at core.plan.graph i).kind ≡ kinds.Sensor k → (task_at core.plan.graph i).kind ≡ kinds.Actuator other → ⊥
 sensor_no_actuator core i k other is drives = absurd (let e : kinds.Sensor k ≡ kinds.Actuator other = sym is ∙ drives in cc)
 
-pub node_no_actuator : (core : CoreView) (i k other : ℕ) → (task_at core.plan.graph i).kind ≡ kinds.Node k → (task_at core.plan.graph i).kind ≡ kinds.Actuator other → ⊥
+node_no_actuator : (core : CoreView) (i k other : ℕ) → (task_at core.plan.graph i).kind ≡ kinds.Node k → (task_at core.plan.graph i).kind ≡ kinds.Actuator other → ⊥
 node_no_actuator core i k other is drives = absurd (let e : kinds.Node k ≡ kinds.Actuator other = sym is ∙ drives in cc)
+
+abbrev pub IsColumn : Work → Type 0
+IsColumn (works.Sensor device) = ⊥
+IsColumn (works.Node word own) = ⊥
+IsColumn (works.Actuator column) = Unit {0}
+
+-- a core of these fields, seen as v, where a task drives an actuator
+module _ (core v : CoreView) (seen : core ≡ v) (halves : List Value) (workers : List Worker) (kept : IsKept core halves workers) (i k : ℕ) (told : Drives v.plan i k)
+    (worker : Worker) (read : worker ≡ get_or workers i worker) where
+  drives : Drives core.plan i k
+  drives = subst (λ (w : CoreView). Drives w.plan i k) (sym seen) told
+
+  driven_work : (work : Work) → worker.work ≡ work → IsWork core.plan core.bodies core.horizon.until (values_of core) i (get_or core.state.ended i 0 + once worker.ran) work
+  driven_work work is = (work_at core halves workers kept i drives.0 worker read work is).1
+
+  pub driven_column : (work : Work) → worker.work ≡ work → IsColumn work
+  driven_column (works.Sensor device) is = sensor_no_actuator core i device k (driven_work (works.Sensor device) is) drives.1
+  driven_column (works.Node word own) is = let its = driven_work (works.Node word own) is in node_no_actuator core i its.0.0 k its.0.1 drives.1
+  driven_column (works.Actuator column) is = tt
+
+  -- the front of its column that has the ended jobs
+  module _ (column : Vec Value Global) (is : worker.work ≡ works.Actuator column) (ended : ℕ) (ended_is : ended ≡ get_or core.state.ended i 0) (xs : List Value) (xs_is : xs ≡ column.items) where
+    pub driven_room : ended ≤ length xs
+    driven_room =
+        let all = kept.sound.tagged.counted i drives.0 in
+        let room = (driven_work (works.Actuator column) is).1 in
+        omega (arith, all, room, ap length xs_is, ended_is)
+
+    pub driven_outputs : HasCoreLaws core → AreOutputs v i (take ended xs)
+    driven_outputs laws =
+        let its = driven_work (works.Actuator column) is in
+        subst (λ (w : CoreView). AreOutputs w i (take ended xs)) seen
+        (subst (λ (ys : List Value). AreOutputs core i (take ended ys)) (sym xs_is)
+        (subst (λ (n : ℕ). AreOutputs core i (take n column.items)) (sym ended_is)
+        (column_is_output core kept.plan kept.sound i k drives.0 drives.1 column.items (get_or core.state.ended i 0 + once worker.ran) (omega arith) its.1 its.2 laws.counted laws.edges)))
 
 -- what follows from each case of an option
 pub match_mono : {A : Type 0} (P Q : Type 0) (R S : A → Type 0) (o : Option A) → (P → Q) → ((a : A) → R a → S a) → MatchOption o P R → MatchOption o Q S

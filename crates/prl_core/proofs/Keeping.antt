@@ -9,6 +9,8 @@ use Rattle.prl_base.specs.declared.numbers.EdgeNo.{EdgeNo}
 use Rattle.prl_base.specs.declared.numbers.TaskNo.{TaskNo}
 use Rattle.prl_base.specs.declared.values.Value.{Value}
 use Rattle.prl_base.specs.declared.values.Value.TheVariants as values
+use Rattle.prl_body.specs.declared.bodies.CheckedBody.{CheckedBody}
+use Rattle.prl_flow.specs.Rows.{Rows}
 use Rattle.prl_plan.specs.declared.events.Action.{Action}
 use Rattle.prl_plan.specs.declared.events.Action.TheVariants as actions
 use Rattle.prl_plan.specs.declared.events.Event.TheVariants as events
@@ -17,15 +19,16 @@ use Rattle.prl_plan.specs.declared.graphs.Producer.{Producer}
 use Rattle.prl_plan.specs.declared.graphs.Producer.TheVariants as producers
 use Rattle.prl_plan.specs.declared.walks.Operand.TheVariants as operands
 use Rattle.prl_plan.specs.Facts.{IsJob, ReadsAt, WritesAt}
-use Rattle.prl_plan.specs.Plans.{edge_at, no_edge, completes, IsAtPort, IsActionOf}
+use Rattle.prl_plan.specs.Plans.{PlanView, edge_at, no_edge, completes, IsAtPort, IsActionOf}
 use Rattle.prl_plan.specs.Precedence.{ComesFrom}
 use Rattle.prl_plan.specs.Horizons.{constants_of}
-use Rattle.prl_plan.specs.Rules.{MayTick, HasJob, KeepsLegal}
-use Rattle.prl_plan.specs.Runs.{action_at, next_action, moved, after_action}
+use Rattle.prl_plan.specs.Rules.{MayTick, HasJob, KeepsLegal, first_unfinished}
+use Rattle.prl_plan.specs.Runs.{action_at, next_action, moved, after_action, after_event}
 use Rattle.prl_plan.specs.States.{IsSound}
 use Rattle.prl_plan.proofs.StateLaws.{gated_event_keeps_sound, legal_event_is_gated, write_finds_half_free}
 use Rattle.prl_track.specs.declared.seen.Seen.{Seen}
 use Rattle.prl_track.specs.Machine.{cell_no}
+use Rattle.prl_track.specs.Tracks.{TrackView}
 use Rattle.prl_track.proofs.Places.{slice_get_set_same, slice_get_set_other}
 use Rattle.prl_values.specs.JobValues.{value_from, value_on, reads_of_job}
 use Rattle.prl_workers.specs.declared.workers.Worker.{Worker}
@@ -432,7 +435,7 @@ module _ (core : CoreView) (halves : List Value) (workers : List Worker) (kept :
         high_completes : (half : ℕ) → slot.0 % 2 ≡ suc half → slot.0 % 2 ≡ 1
         high_completes half odd = omega (arith, odd)
 
-    pub act_kept : (action : Action) → next_action (constants core) core.state task.0 ≡ action → (halves' : List Value) (workers' : List Worker) (seen : Seen) →
+    act_kept : (action : Action) → next_action (constants core) core.state task.0 ≡ action → (halves' : List Value) (workers' : List Worker) (seen : Seen) →
         Serves core.plan.graph core.rows core.bodies task (get_or core.state.ended task.0 0) halves halves' workers workers' action seen →
         IsKept (record core { state = after_action core.state task.0 action }) halves' workers' × IsSightOf core task (get_or core.state.ended task.0 0) action seen
     act_kept (actions.ReadConst port value) is halves' workers' seen serves =
@@ -471,7 +474,7 @@ module _ (core : CoreView) (halves : List Value) (workers : List Worker) (kept :
               (read_value port edge m slot is there.0 there.1),
         )
 
-    pub can_act : (action : Action) → next_action (constants core) core.state task.0 ≡ action →
+    can_act : (action : Action) → next_action (constants core) core.state task.0 ≡ action →
         CanServe core.plan.graph core.rows core.bodies halves workers task.0 (get_or core.state.ended task.0 0) action
     can_act (actions.ReadConst port value) is =
         let reads = constant_on core kept.plan kept.sound laws task keeps port value is in
@@ -483,3 +486,26 @@ module _ (core : CoreView) (halves : List Value) (workers : List Worker) (kept :
       can_give edge m slot is,
     )
     can_act actions.End is = can_begin actions.End is (λ reads. reads)
+
+-- what is seen of a core with this track
+abbrev pub core_on : List CheckedBody → Rows → TrackView → CoreView
+core_on bodies rows track = record { plan = track.plan; placement = track.placement; bodies = bodies; rows = rows; horizon = track.horizon; state = track.state }
+
+-- an act, as the track and the store tell it
+module _ (core : CoreView) (halves : List Value) (workers : List Worker) (kept : IsKept core halves workers) (laws : HasCoreLaws core) (task : TaskNo)
+    (keeps : KeepsLegal (constants core) core.state (events.Act task)) (plan : PlanView) (same : plan ≡ core.plan) (job : ℕ) (job_is : job ≡ first_unfinished core.state task.0)
+    (action : Action) (action_is : action ≡ next_action (constants core) core.state task.0) where
+  pub can_serve : CanServe plan.graph core.rows core.bodies halves workers task.0 job action
+  can_serve =
+      subst (λ (p : PlanView). CanServe p.graph core.rows core.bodies halves workers task.0 job action) (sym same)
+      (subst (λ (n : ℕ). CanServe core.plan.graph core.rows core.bodies halves workers task.0 n action) (sym job_is)
+      (can_act core halves workers kept laws task keeps action (sym action_is)))
+
+  pub act_served : (halves' : List Value) (workers' : List Worker) (seen : Seen) → Serves plan.graph core.rows core.bodies task job halves halves' workers workers' action seen →
+      IsKept (record core { state = after_event (constants core) core.state (events.Act task) }) halves' workers'
+      × IsSightOf core task (first_unfinished core.state task.0) (next_action (constants core) core.state task.0) seen
+  act_served halves' workers' seen serves =
+      subst (λ (a : Action). IsKept (record core { state = after_action core.state task.0 a }) halves' workers' × IsSightOf core task (first_unfinished core.state task.0) a seen) action_is
+      (act_kept core halves workers kept laws task keeps action (sym action_is) halves' workers' seen
+      (subst (λ (p : PlanView). Serves p.graph core.rows core.bodies task (first_unfinished core.state task.0) halves halves' workers workers' action seen) same
+      (subst (λ (n : ℕ). Serves plan.graph core.rows core.bodies task n halves halves' workers workers' action seen) job_is serves)))

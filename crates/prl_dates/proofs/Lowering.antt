@@ -18,7 +18,7 @@ use Rattle.prl_dates.specs.code.Lanes.{no_link, link_at, IsLink, IsLane}
 use Rattle.prl_dates.specs.code.Indices.{jobs_before, index_of, dates_of}
 use Rattle.prl_dates.specs.code.Tables.{Leaves, AreUpperDates, IsLowering, ArePassed}
 use Rattle.prl_dates.proofs.Links.{link_from, link_precedes}
-use Rattle.prl_dates.proofs.RoundSteps.{links_from, links_to}
+use Rattle.prl_dates.proofs.RoundSteps.{lane_more, links_from, links_to}
 use Rattle.prl_dates.proofs.Indices.{one_index, place_below, some_jobs}
 
 -- an index that is written, or another
@@ -252,15 +252,6 @@ module _ (graph : TaskGraph) (floor : List ℕ) (lanes : List Lane) (l : ℕ) (l
     dates = dates;
     less = λ yes. (let d = so_far.less yes in let e = ap (λ (xs : List ℕ). sum xs) same in omega (arith, d, e));
     same = λ no. same ∙ so_far.same no;
-    asks = λ no j other below at.
-        elim (cases_lt j l) [
-          | inl less ↦ subst (λ (xs : List ℕ). (k : ℕ) → k < length other.links → Leaves other (task_at graph other.to.0).wcet xs xs k) (sym same) (so_far.asks no j other less at)
-          | inr above ↦
-              (let e : j ≡ l = omega (arith, above, below) in
-              let s : lane ≡ other = one_lane lanes l lane other stands (subst (λ (x : ℕ). slice_get lanes x ≡ Some other) e at) in
-              subst (λ (x : Lane). (k : ℕ) → k < length x.links → Leaves x (task_at graph x.to.0).wcet later later k) s leaves)
-        ];
+    asks = λ no. lane_more (λ (x : Lane). (k : ℕ) → k < length x.links → Leaves x (task_at graph x.to.0).wcet later later k) lanes l lane stands
+        (λ j other less at. subst (λ (xs : List ℕ). (k : ℕ) → k < length other.links → Leaves other (task_at graph other.to.0).wcet xs xs k) (sym same) (so_far.asks no j other less at)) leaves;
   }
-    where
-      one_lane : (xs : List Lane) (n : ℕ) (a b : Lane) → slice_get xs n ≡ Some a → slice_get xs n ≡ Some b → a ≡ b
-      one_lane xs n a b x y = cc

@@ -1,5 +1,5 @@
 -- What is read from a graph, and that the numbers of its jobs fit.
-use Rattle.std.proofs.Common.{◌≡◌, ◌+◌, ◌<◌, ◌≤◌, ℕ, suc, List, [], ◌∷◌, length, get_or, Some, inl, inr, sym, ◌∙◌, ap, subst, arith}
+use Rattle.std.proofs.Common.{◌≡◌, ◌+◌, ◌<◌, ◌≤◌, ℕ, suc, List, ◌∷◌, length, get_or, Some, inl, inr, sym, ◌∙◌, ap, subst, arith}
 use Rattle.std.specs.Prelude.{ℤ, pos, ◌-ℤ◌, slice_get}
 use Rattle.std.proofs.lemmas.Int.{ints}
 use Rattle.std.proofs.Math.IntN.{pred_ℤ}
@@ -47,14 +47,6 @@ pub indices_inside : (graph : TaskGraph) (i : ℕ) → i < length graph.tasks �
 indices_inside graph i inside = (let r = before_rises graph i (length graph.tasks) inside in let a = before_all graph in omega (arith, r, a))
 
 -- the numbers on the way to a job that precedes fit one operator after the other
-pub fits_first : (op : Op) (ops : List Op) (n : ℤ) → PrecedingFits (op ∷ ops) n → PrecedingFits (op ∷ []) n
-fits_first (operators.Up k) ops n fits = (fits.0, tt)
-fits_first (operators.Down k) ops n fits = (fits.0, fits.1, tt)
-fits_first (operators.Shift q) ops n fits = tt
-fits_first operators.Tail ops n fits = (fits.0, tt)
-fits_first (operators.Cons c) ops n fits = (fits.0, tt)
-fits_first (operators.Fby c) ops n fits = (fits.0, tt)
-
 pub pred_same : (n : ℤ) → n -ℤ pos 1 ≡ pred_ℤ n
 pred_same n = (let e = pred_is n in omega (arith, ints, e))
 

@@ -18,23 +18,24 @@ use Rattle.prl_dates.proofs.Indices.{before_rises, before_all, index_below, plac
 same_lane : (lanes : List Lane) (l : ℕ) (a b : Lane) → slice_get lanes l ≡ Some a → slice_get lanes l ≡ Some b → a ≡ b
 same_lane lanes l a b x y = cc
 
+-- what holds of the first lanes and of the next one holds of one lane more
+pub lane_more : (P : Lane → Type 0) (lanes : List Lane) (l : ℕ) (lane : Lane) → slice_get lanes l ≡ Some lane → ((j : ℕ) (other : Lane) → j < l → slice_get lanes j ≡ Some other → P other) → P lane →
+    (j : ℕ) (other : Lane) → j < l + 1 → slice_get lanes j ≡ Some other → P other
+lane_more P lanes l lane stands before here j other below at =
+    elim (cases_lt j l) [
+      | inl less ↦ before j other less at
+      | inr above ↦ (let e : j ≡ l = omega (arith, above, below) in subst P (same_lane lanes l lane other stands (subst (λ (x : ℕ). slice_get lanes x ≡ Some other) e at)) here)
+    ]
+
 module _ (graph : TaskGraph) (lanes : List Lane) (l : ℕ) (lane : Lane) (stands : slice_get lanes l ≡ Some lane) (now next : List ℕ)
     (round : AreRound graph lanes l now next) where
   pub round_more : (later : List ℕ) → AreRaised lane (task_at graph lane.to.0).wcet (length lane.links) now next later → AreRound graph lanes (l + 1) now later
   round_more later raised = record {
     long = raised.long ∙ round.long;
     up = λ q. (let a = round.up q in let b = raised.up q in omega (arith, a, b));
-    asks = λ j other below at k inside.
-        elim (cases_lt j l) [
-          | inl less ↦
-              (let a : Leaves other (task_at graph other.to.0).wcet now next k = round.asks j other less at k inside in
-              let b = raised.up (other.first + k) in
-              omega (arith, a, b))
-          | inr above ↦
-              (let e : j ≡ l = omega (arith, above, below) in
-              let s : lane ≡ other = same_lane lanes l lane other stands (subst (λ (x : ℕ). slice_get lanes x ≡ Some other) e at) in
-              subst (λ (x : Lane). (k : ℕ) → k < length x.links → Leaves x (task_at graph x.to.0).wcet now later k) s raised.asks k inside)
-        ];
+    asks = lane_more (λ (x : Lane). (k : ℕ) → k < length x.links → Leaves x (task_at graph x.to.0).wcet now later k) lanes l lane stands
+        (λ j other less at k inside. let a : Leaves other (task_at graph other.to.0).wcet now next k = round.asks j other less at k inside in let b = raised.up (other.first + k) in omega (arith, a, b))
+        raised.asks;
     only = λ q.
         elim (raised.only q) [
           | inl same ↦
@@ -63,17 +64,8 @@ module _ (graph : TaskGraph) (lanes : List Lane) (l : ℕ) (lane : Lane) (stands
   round_same settled = record {
     long = round.long;
     up = round.up;
-    asks = λ j other below at k inside.
-        elim (cases_lt j l) [
-          | inl less ↦ round.asks j other less at k inside
-          | inr above ↦
-              (let e : j ≡ l = omega (arith, above, below) in
-              let s : lane ≡ other = same_lane lanes l lane other stands (subst (λ (x : ℕ). slice_get lanes x ≡ Some other) e at) in
-              let a : Leaves other (task_at graph other.to.0).wcet now now k =
-              subst (λ (x : Lane). (k : ℕ) → k < length x.links → Leaves x (task_at graph x.to.0).wcet now now k) s settled k inside in
-              let u = round.up (other.first + k) in
-              omega (arith, a, u))
-        ];
+    asks = lane_more (λ (x : Lane). (k : ℕ) → k < length x.links → Leaves x (task_at graph x.to.0).wcet now next k) lanes l lane stands round.asks
+        (λ k inside. let a : Leaves lane (task_at graph lane.to.0).wcet now now k = settled k inside in let u = round.up (lane.first + k) in omega (arith, a, u));
     only = round.only;
   }
 

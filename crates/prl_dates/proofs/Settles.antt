@@ -1,5 +1,5 @@
 -- The first bests, and what the last ones show.
-use Rattle.std.proofs.Common.{◌≡◌, ◌+◌, ◌-◌, ◌*◌, ◌<◌, ◌≤◌, ◌^◌, ◌⊎◌, ℕ, true, false, List, [], ◌∷◌, length, replicate, inl, inr, refl, sym, ◌∙◌, ap, subst, arith}
+use Rattle.std.proofs.Common.{◌≡◌, ◌+◌, ◌-◌, ◌*◌, ◌<◌, ◌≤◌, ◌^◌, ◌⊎◌, ℕ, true, false, List, [], ◌∷◌, length, get_or, replicate, inl, inr, refl, sym, ◌∙◌, ap, subst, arith}
 use Rattle.std.specs.Prelude.{ℤ, pos, ◌+ℤ◌, ◌*ℤ◌, ◌≤ℤ◌, ◌<ℤ◌, slice_index}
 use Rattle.std.proofs.Math.IntN.{*ℤ_comm}
 use Rattle.std.proofs.lemmas.Bool.{cases_lt}
@@ -26,6 +26,7 @@ use Rattle.prl_dates.proofs.BestRounds.{next_bests}
 use Rattle.prl_dates.proofs.Indices.{place_below, place_self, some_jobs, index_below}
 use Rattle.prl_dates.proofs.LaneSteps.{date_small}
 use Rattle.prl_dates.proofs.FirstTables.{get_same}
+use Rattle.prl_dates.proofs.Readings.{task_read}
 use Rattle.prl_dates.proofs.TableRounds.{round_of_tables}
 
 -- releases rise along a task
@@ -43,13 +44,26 @@ date_here graph table i p below =
     ap (λ (x : ℕ). release_of (task_at graph i) (pos p) +ℤ pos (slice_index table (jobs_before graph i + x))) (place_self (jobs_of graph i) p below)
 
 -- the parts of a job's dates are small
-pub job_small : (graph : TaskGraph) (good : IsWellFormed graph) (i n : ℕ) → i < length graph.tasks → n < jobs_of graph i → (t : Task) → t ≡ task_at graph i →
+job_small : (graph : TaskGraph) (good : IsWellFormed graph) (i n : ℕ) → i < length graph.tasks → n < jobs_of graph i → (t : Task) → t ≡ task_at graph i →
     (t.clock.start + n * t.clock.period ≤ 2 ^ 32) × (t.due < 2 ^ 31)
 job_small graph good i n inside below t is =
     subst (λ (x : Task). (x.clock.start + n * x.clock.period ≤ 2 ^ 32) × (x.due < 2 ^ 31)) (sym is)
     (let task = task_is graph good i inside in
     let s = task.start in let p = task.period.1 in let d = task.due.1 in let n = date_small graph good i n inside below in
     ((omega (arith, s, n)), (omega (arith, p, d))))
+
+-- a task that is read, and the parts of the dates of a job of it
+pub record IsSmall (graph : TaskGraph) (i n : ℕ) (t : Task) : Type 0 where
+  pub is : t ≡ task_at graph i
+  pub release : t.clock.start + n * t.clock.period ≤ 2 ^ 32
+  pub due : t.due < 2 ^ 31
+
+pub read_small : (graph : TaskGraph) → IsWellFormed graph → (i n : ℕ) → i < length graph.tasks → n < jobs_of graph i → (tasks : List Task) → tasks ≡ graph.tasks → (t : Task) → t ≡ get_or tasks i t →
+    IsSmall graph i n t
+read_small graph good i n inside below tasks same t read =
+    let is : t ≡ task_at graph i = read ∙ task_read graph tasks i t same inside in
+    let small = job_small graph good i n inside below t is in
+    record { is = is; release = small.0; due = small.1 }
 
 -- the fault, by its parts
 pub narrow_is : (graph : TaskGraph) (bests : List ℕ) (task : TaskNo) (n : ℕ) (t : Task) → t ≡ task_at graph task.0 → n < jobs_of graph task.0 →

@@ -16,12 +16,10 @@ use Rattle.prl_dates.specs.code.Spreads.{AreRaisedAcross, IsBelow, KeepsLanes, H
 use Rattle.prl_dates.specs.code.Tables.{Leaves, Meets, AreRaised, AreRound, AreWithin}
 use Rattle.prl_dates.proofs.FirstTables.{get_past, index_found}
 use Rattle.prl_dates.proofs.Indices.{before_all}
+use Rattle.prl_dates.proofs.RoundSteps.{lane_more}
 use Rattle.prl_dates.proofs.Settles.{date_here}
 use Rattle.prl_dates.proofs.SpreadSteps.{sum_rises, sum_bound}
 use Rattle.prl_dates.proofs.TableRounds.{Met, met}
-
-same_lane : (lanes : List Lane) (l : ℕ) (a b : Lane) → slice_get lanes l ≡ Some a → slice_get lanes l ≡ Some b → a ≡ b
-same_lane lanes l a b x y = cc
 
 pub across_begins : (graph : TaskGraph) (lanes : List Lane) (processors : List ℕ) (now ends : List ℕ) → AreRaisedAcross graph lanes processors 0 now ends ends
 across_begins graph lanes processors now ends = record {
@@ -39,17 +37,9 @@ module _ (graph : TaskGraph) (lanes : List Lane) (processors : List ℕ) (l : �
   across_more apart later one = record {
     long = one.long ∙ raised.long;
     up = λ q. (let a = raised.up q in let b = one.up q in omega (arith, a, b));
-    asks = λ j other below at apart' k inside.
-        elim (cases_lt j l) [
-          | inl less ↦
-              (let a : Leaves other (task_at graph other.to.0).wcet now next k = raised.asks j other less at apart' k inside in
-              let b = one.up (other.first + k) in
-              omega (arith, a, b))
-          | inr above ↦
-              (let e : j ≡ l = omega (arith, above, below) in
-              let s : lane ≡ other = same_lane lanes l lane other stands (subst (λ (x : ℕ). slice_get lanes x ≡ Some other) e at) in
-              subst (λ (x : Lane). (k : ℕ) → k < length x.links → Leaves x (task_at graph x.to.0).wcet now later k) s one.asks k inside)
-        ];
+    asks = lane_more (λ (x : Lane). (AreTogether processors x.from.0 x.to.0 → ⊥) → (k : ℕ) → k < length x.links → Leaves x (task_at graph x.to.0).wcet now later k) lanes l lane stands
+        (λ j other less at far k inside. let a : Leaves other (task_at graph other.to.0).wcet now next k = raised.asks j other less at far k inside in let b = one.up (other.first + k) in omega (arith, a, b))
+        (λ far. one.asks);
     only = λ q.
         elim (one.only q) [
           | inl same ↦
@@ -79,15 +69,8 @@ module _ (graph : TaskGraph) (lanes : List Lane) (processors : List ℕ) (l : �
   across_same together = record {
     long = raised.long;
     up = raised.up;
-    asks = λ j other below at apart k inside.
-        elim (cases_lt j l) [
-          | inl less ↦ raised.asks j other less at apart k inside
-          | inr above ↦
-              absurd
-              (let e : j ≡ l = omega (arith, above, below) in
-              let s : lane ≡ other = same_lane lanes l lane other stands (subst (λ (x : ℕ). slice_get lanes x ≡ Some other) e at) in
-              apart (subst (λ (x : Lane). AreTogether processors x.from.0 x.to.0) s together))
-        ];
+    asks = lane_more (λ (x : Lane). (AreTogether processors x.from.0 x.to.0 → ⊥) → (k : ℕ) → k < length x.links → Leaves x (task_at graph x.to.0).wcet now next k) lanes l lane stands raised.asks
+        (λ far. absurd (far together));
     only = raised.only;
   }
 

@@ -5,15 +5,13 @@ use Rattle.std.specs.Int.{IsGcd}
 use lib.IntN.{suc_ℤ, pred_ℤ}
 use Rattle.std.proofs.Math.Nat.{div-mul_cancel, div-le_self, mul-le-mul_left}
 use Rattle.std.proofs.lemmas.Int.{ints, to_z-of_z, to_z_pos}
-use Rattle.std.proofs.lemmas.List.{take_more, take_all}
+use Rattle.std.proofs.lemmas.List.{get_or_default, take_more}
 use Rattle.prl_base.specs.declared.operators.Op.{Op}
 use Rattle.prl_base.specs.declared.operators.Op.TheVariants as operators
-use Rattle.prl_base.specs.declared.ratios.Ratio.{Ratio}
-use Rattle.prl_base.specs.declared.values.Value.{Value}
 use Rattle.prl_base.specs.Operators.{preceding_number, floor_div}
 use Rattle.prl_plan.specs.Precedence.{preceding}
 use Rattle.prl_plan.specs.Ranges.{Fits64, HasFactor, PrecedingFits}
-use Rattle.prl_plan.proofs.Floors.{suc_is, pred_is}
+use Rattle.prl_plan.proofs.Floors.{suc_is}
 use Rattle.prl_plan.proofs.Periods.{floor_shift, mul_plus}
 use Rattle.prl_dates.specs.declared.turns.Turn.{Turn}
 use Rattle.prl_dates.specs.code.Runs.{AreFitting}
@@ -68,9 +66,6 @@ steps_next ops i op turn after below is steps under =
     let split : take (i + 1) ops ≡ take i ops ++ op ∷ [] = take_more ops i op below ∙ ap (λ (o : Op). take i ops ++ o ∷ []) (sym is) in
     subst (λ (front : List Op). StepsBy front after.jobs after.higher) (sym split) (steps_append (take i ops) op turn after steps under)
 
-pub steps_all : (ops : List Op) (i jobs higher : ℕ) → length ops ≤ i → StepsBy (take i ops) jobs higher → StepsBy ops jobs higher
-steps_all ops i jobs higher past steps = subst (λ (front : List Op). StepsBy front jobs higher) (take_all i ops past) steps
-
 pub under_up : (k g jobs higher : ℕ) → 1 ≤ k → IsGcd k higher g → (more : ℕ) → more ≡ jobs * (k / g) →
     IsTurnUnder (operators.Up k) (record { jobs = jobs; higher = higher }) (record { jobs = more; higher = higher / g })
 under_up k g jobs higher some gcd more more_is =
@@ -95,35 +90,6 @@ under_down k jobs higher more more_is = record {
   jobs = omega arith;
   steps = λ n. mul_plus k (higher * 1) n ∙ ap (λ (h : ℕ). preceding_number (operators.Down k) n +ℤ pos h) ((let e : k * (higher * 1) ≡ higher * k = omega arith in e) ∙ sym more_is);
 }
-
-same_turn : (op : Op) (turn : Turn) → StepsBy (op ∷ []) turn.higher turn.higher → IsTurnUnder op turn turn
-same_turn op turn steps = record {
-  times = 1;
-  some = omega arith;
-  jobs = omega arith;
-  steps = subst (λ (h : ℕ). StepsBy (op ∷ []) h turn.higher) (let e : turn.higher ≡ turn.higher * 1 = omega arith in e) steps;
-}
-
-suc_plus : (n : ℤ) (c : ℕ) → suc_ℤ (n +ℤ pos c) ≡ suc_ℤ n +ℤ pos c
-suc_plus n c = (let a = suc_is (n +ℤ pos c) in let b = suc_is n in omega (arith, ints, a, b))
-
-pred_plus : (n : ℤ) (c : ℕ) → pred_ℤ (n +ℤ pos c) ≡ pred_ℤ n +ℤ pos c
-pred_plus n c = (let a = pred_is (n +ℤ pos c) in let b = pred_is n in omega (arith, ints, a, b))
-
-pub under_shift : (q : Ratio) (turn : Turn) → IsTurnUnder (operators.Shift q) turn turn
-under_shift q turn = same_turn (operators.Shift q) turn (λ n. refl)
-
-pub under_tail : (turn : Turn) → IsTurnUnder operators.Tail turn turn
-under_tail turn = same_turn operators.Tail turn (λ n. suc_plus n turn.higher)
-
-pub under_cons : (v : Value) (turn : Turn) → IsTurnUnder (operators.Cons v) turn turn
-under_cons v turn = same_turn (operators.Cons v) turn (λ n. pred_plus n turn.higher)
-
-pub under_fby : (v : Value) (turn : Turn) → IsTurnUnder (operators.Fby v) turn turn
-under_fby v turn = same_turn (operators.Fby v) turn (λ n. pred_plus n turn.higher)
-
-pub one_turn : StepsBy [] 1 1
-one_turn n = refl
 
 -- the factors on the way
 factor_first : (op : Op) (ops : List Op) (n : ℤ) → PrecedingFits (op ∷ ops) n → HasFactor op
@@ -169,3 +135,13 @@ first_fits ops jobs n fits few below = preceding_small ops (pos n) (fits_between
 pub sum_computed : (before : ℤ) (higher : ℕ) → Fits64 before → higher < 2 ^ 63 → to_z w64 (of_z w64 before) +ℤ to_z w64 higher ≡ before +ℤ pos higher
 sum_computed before higher fits small =
     ap (λ (z : ℤ). z +ℤ to_z w64 higher) (to_z-of_z w64 before fits) ∙ ap (λ (z : ℤ). before +ℤ z) (to_z_pos w64 higher small)
+
+-- the number of the job that precedes, from that of a turn before
+pub next_sum : (ops : List Op) (jobs n : ℕ) → AreFitting ops jobs → jobs < 2 ^ 32 → n < jobs → (turn : Turn) → 1 ≤ turn.jobs → turn.jobs ≤ n → turn.higher < 2 ^ 63 → StepsBy ops turn.jobs turn.higher →
+    (numbers : List ℤ) → length numbers ≡ n → ((k : ℕ) → k < n → get_or numbers k (pos 0) ≡ preceding ops (pos k)) → (before : ℤ) → before ≡ get_or numbers (n - turn.jobs) before →
+    to_z w64 (of_z w64 before) +ℤ to_z w64 turn.higher ≡ preceding ops (pos n)
+next_sum ops jobs n fits few below turn some past small steps numbers long each before found =
+    let at : ℕ = n - turn.jobs in
+    let read : before ≡ preceding ops (pos at) = found ∙ get_or_default numbers at before (pos 0) (omega (arith, long, some, past)) ∙ each at (omega (arith, some, past)) in
+    sum_computed before turn.higher (subst (λ (z : ℤ). Fits64 z) (sym read) (first_fits ops jobs at fits few (omega (arith, below)))) small
+    ∙ ap (λ (z : ℤ). z +ℤ pos turn.higher) read ∙ turned ops jobs turn.jobs turn.higher n fits few below past steps

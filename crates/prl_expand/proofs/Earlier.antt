@@ -3,7 +3,7 @@ use Rattle.std.proofs.Common.{◌≡◌, ◌≤◌, ◌<◌, ◌+◌, ◌⊎◌,
 use Rattle.std.specs.Prelude.{◌==◌, T, reverse}
 use Rattle.std.specs.List.{AllByRecursion, range_with_len}
 use Rattle.std.specs.Option.{option_map}
-use Rattle.std.proofs.lemmas.List.{length-append, length-map, append_assoc}
+use Rattle.std.proofs.lemmas.List.{length-append}
 use Rattle.std.proofs.lemmas.Option.{slice_get-map}
 use Rattle.prl_base.specs.Names.{IsName}
 use Rattle.prl_base.specs.declared.places.Span.{Span}
@@ -21,19 +21,19 @@ use Rattle.prl_flow.specs.Rules.{Rule}
 use Rattle.prl_flow.specs.Uses.{IsArgument, NamesInside, NamesNow, is_made}
 use Rattle.prl_names.specs.Lookups.{callee_of, param_of, params_of}
 use Rattle.prl_names.specs.Named.{IsKnown, IsKnownRoot, AreKnown, AreKnownEquations}
-use Rattle.prl_types.specs.Arity.{equations_faults, equation_faults, faults_in, root_faults, all_faults, prefix_fault, postfix_fault, unless_equal}
+use Rattle.prl_types.specs.Arity.{equations_faults, faults_in, root_faults, all_faults}
 use Rattle.prl_types.specs.Flows as flows
 use Rattle.prl_types.specs.Parameters.{first_of}
 use Rattle.prl_behaviours.specs.Annotations.{Entered, entered, Rights, done, next, Part, part, Core, Parts, imports_in, right_imports, part_imports, core_imports, parts_imports}
 use Rattle.prl_behaviours.specs.Annotations as notes
 use Rattle.prl_behaviours.specs.Asked.{inputs_of, outputs_of, one, at_index, at_variable, last_of, first_of as first_flow, given, root_given, all_given}
-use Rattle.prl_behaviours.specs.Texts.{node_at, node_or, node_of, HasVariables, IsText, AreRights, IsPart, IsCore, AreParts}
+use Rattle.prl_behaviours.specs.Texts.{node_at, node_of, IsText, AreRights, IsPart, IsCore, AreParts}
 use Rattle.prl_expand.specs.Cycles.{HasName}
-use Rattle.prl_expand.specs.Flats.{Numbered, Types, flow_no, copy_of, resolved, variable_flows, equated, copies, source_of, operator_flows, output_flows, import_at, ports_of, wcet_of, label_of_node, arguments, entered_flows, right_flows, part_flows, root_flows_of, all_flows, entered_apps, right_apps, part_apps, root_apps, all_apps}
+use Rattle.prl_expand.specs.Flats.{Numbered, Types, copy_of, resolved, variable_flows, equated, copies, operator_flows, output_flows, import_at, ports_of, label_of_node, entered_flows, right_flows, part_flows, root_flows_of, all_flows, entered_apps, right_apps, part_apps, root_apps, all_apps}
 use Rattle.prl_expand.proofs.FlatRules.{all_tells, part_tells, arguments_are}
 use Rattle.prl_expand.proofs.FlowTypes.{HasFlow, all_reversed}
-use Rattle.prl_expand.proofs.Lists.{some_inner, at_place, all_both, all_first, all_second, no_first, no_second, equal_unless, lengths_append}
-use Rattle.prl_expand.proofs.Sound.{IsRightNode, IsSound, there, variables_count, all_length, inputs_length}
+use Rattle.prl_expand.proofs.Lists.{some_inner, at_place, all_both, all_first, all_second, no_first, no_second}
+use Rattle.prl_expand.proofs.Sound.{IsRightNode, IsSound, operated_right, argued_right, enough_given, equated_right, entered_is, all_defined, call_of}
 use Rattle.prl_expand.proofs.WellDefined.{HaveApps, have_first, have_second}
 
 -- numbers one after another, from this one on
@@ -193,16 +193,14 @@ module _ (p : ProgramTree) (tys : Types) (flat : FlatProgram) where
           → AllUse (part_flows p tys k n env t q) × AreEarly (s + length (notes.part_flows q)) (given n env t q)
       part_use k n env found count named d (tree pre root post at) (part pres core posts) h known arity range_of flow apps s counted =
           let of : List ℕ = root_given n env root core in
-          let needed : ℕ = length (flows.root_flows p k root) in
           let ty : Ty = resolved tys (flows.operand (flows.root_flows p k root)) in
-          let both = no_first (prefix_fault needed pre post ++ root_faults p k root) (postfix_fault needed post) arity in
-          let inner = no_second (prefix_fault needed pre post) (root_faults p k root) both in
+          let arities = operated_right p k pre root post arity in
           let cs : List ℕ = notes.core_flows core in
           let a : List Numbered = root_flows_of p tys k n env root at core in
           let b : List Numbered = operator_flows ty post posts of in
           let c : List Numbered = operator_flows ty (reverse pre) (reverse pres) (last_of of posts) in
           let front = counted_first s (cs ++ posts) (reverse pres) counted in
-          let r = root_use k n env found count named d root at core h.1 known inner range_of.1 (all_first (HasFlow p tys flat) a (b ++ c) flow) apps s (counted_first s cs posts front) in
+          let r = root_use k n env found count named d root at core h.1 known arities.inner range_of.1 (all_first (HasFlow p tys flat) a (b ++ c) flow) apps s (counted_first s cs posts front) in
           let after : Counted (s + length cs) posts = counted_second s cs posts front in
           let last : Counted (s + length (cs ++ posts)) (reverse pres) = counted_second s (cs ++ posts) (reverse pres) counted in
           let l = length-append cs posts in
@@ -231,22 +229,16 @@ module _ (p : ProgramTree) (tys : Types) (flat : FlatProgram) where
           (tt, named_early (s + 0) (at_variable n env name) (index_named env (param_of n name) named))
       root_use k n env found count named d (apply name place args) at (notes.import parts x outs) h known arity range_of flow apps s counted =
           let callee = callee_of p name in
-          let inner = no_second (unless_equal (length (flows.all_flows p k args)) (length (flows.inputs_of p callee)) place.at) (all_faults p k args) arity in
+          let argued = argued_right p k name place args arity in
           let ports : List Port = ports_of (import_at p callee) in
           let a : List Numbered = all_flows p tys k n env args parts in
           let b : List Numbered = output_flows x 0 place ports outs in
-          let call : App = record {
-            name = name;
-            wcet = wcet_of (import_at p callee);
-            args = arguments n env args parts;
-            outs = map flow_no outs;
-            at = place;
-          } in
-          let number = (all_tells (λ (r : Rule ℕ ℕ). Unit {0}) p tys sound k n env found count args parts h.1 known.1 inner).count in
+          let call : App = call_of p n env name place args parts outs in
+          let number = (all_tells (λ (r : Rule ℕ ℕ). Unit {0}) p tys sound k n env found count args parts h.1 known.1 argued.inner).count in
           let arg_apps = have_first p tys flat (parts_imports parts) (x ∷ []) (all_apps p n env args parts) (call ∷ []) number apps in
           let own_app : slice_get flat.apps x ≡ Some call = (have_second p tys flat (parts_imports parts) (x ∷ []) (all_apps p n env args parts) (call ∷ []) number apps).0 in
           let ps : List ℕ = notes.parts_flows parts in
-          let r = all_use k n env found count named (d + 1) args parts h.1 known.1 inner range_of.2 (all_first (HasFlow p tys flat) a b flow) arg_apps s (counted_first s ps outs counted) in
+          let r = all_use k n env found count named (d + 1) args parts h.1 known.1 argued.inner range_of.2 (all_first (HasFlow p tys flat) a b flow) arg_apps s (counted_first s ps outs counted) in
           let after : Counted (s + length ps) outs = counted_second s ps outs counted in
           let l = length-append ps outs in (
             all_both UsesEarlier a b r.0
@@ -259,19 +251,15 @@ module _ (p : ProgramTree) (tys : Types) (flat : FlatProgram) where
           let callee = node_of (callee_of p name) in
           let gs : List ℕ = all_given n env args parts in
           let label : List ℕ = label_of_node name x in
-          let needed : length (flows.all_flows p k args) ≡ length (flows.inputs_of p (callee_of p name)) =
-          equal_unless (length (flows.all_flows p k args)) (length (flows.inputs_of p (callee_of p name))) place.at
-          (no_first (unless_equal (length (flows.all_flows p k args)) (length (flows.inputs_of p (callee_of p name))) place.at) (all_faults p k args) arity) in
-          let inner = no_second (unless_equal (length (flows.all_flows p k args)) (length (flows.inputs_of p (callee_of p name))) place.at) (all_faults p k args) arity in
-          let enough : length (map copy_of gs) ≡ length (inputs_of child) =
-          length-map gs copy_of ∙ all_length p k n env found count args parts h.1 known.1 ∙ needed ∙ sym (inputs_length p (callee_of p name) child h.0 h.2) in
+          let argued = argued_right p k name place args arity in
+          let enough = enough_given p k n env found count name args parts child h.0 h.1 h.2 known.1 argued in
           let a : List Numbered = all_flows p tys k n env args parts in
           let b : List Numbered = entered_flows p tys label callee (map copy_of gs) child in
-          let number = (all_tells (λ (r : Rule ℕ ℕ). Unit {0}) p tys sound k n env found count args parts h.1 known.1 inner).count in
+          let number = (all_tells (λ (r : Rule ℕ ℕ). Unit {0}) p tys sound k n env found count args parts h.1 known.1 argued.inner).count in
           let arg_apps = have_first p tys flat (parts_imports parts) (imports_in child) (all_apps p n env args parts) (entered_apps p callee child) number apps in
           let child_apps = have_second p tys flat (parts_imports parts) (imports_in child) (all_apps p n env args parts) (entered_apps p callee child) number apps in
           let ps : List ℕ = notes.parts_flows parts in
-          let r = all_use k n env found count named (d + 1) args parts h.1 known.1 inner range_of.2
+          let r = all_use k n env found count named (d + 1) args parts h.1 known.1 argued.inner range_of.2
           (all_first (HasFlow p tys flat) a b flow) arg_apps s (counted_first s ps (notes.flows_in child) counted) in
           let e = entered_use label (node_start name x range_of.0) callee (map copy_of gs) child h.2 enough (all_second (HasFlow p tys flat) a b flow) child_apps (s + length ps)
           (counted_second s ps (notes.flows_in child) counted) in
@@ -331,16 +319,14 @@ module _ (p : ProgramTree) (tys : Types) (flat : FlatProgram) where
       right_use k n env found count named (e ∷ es) (next q rest) h known arity range_of flow apps s counted =
           let a : List Numbered = part_flows p tys k n env e.right q in
           let b : List Numbered = right_flows p tys k n env es rest in
-          let here = no_first (equation_faults p k e) (equations_faults p k es) arity in
-          let first = no_second (unless_equal (length (flows.flows_of p k e.right)) (length e.lefts) e.at.at) (faults_in p k e.right) here in
-          let second = no_second (equation_faults p k e) (equations_faults p k es) arity in
-          let number = (part_tells (λ (r : Rule ℕ ℕ). Unit {0}) p tys sound k n env found count e.right q h.0 known.1 first).count in
+          let arities = equated_right p k e es arity in
+          let number = (part_tells (λ (r : Rule ℕ ℕ). Unit {0}) p tys sound k n env found count e.right q h.0 known.1 arities.first).count in
           let qs : List ℕ = notes.part_flows q in
           let rs : List ℕ = notes.right_flows rest in
           all_both UsesEarlier a b
-          (part_use k n env found count named 0 e.right q h.0 known.1 first range_of.0.right (all_first (HasFlow p tys flat) a b flow)
+          (part_use k n env found count named 0 e.right q h.0 known.1 arities.first range_of.0.right (all_first (HasFlow p tys flat) a b flow)
           (have_first p tys flat (part_imports q) (right_imports rest) (part_apps p n env e.right q) (right_apps p n env es rest) number apps) s (counted_first s qs rs counted)).0
-          (right_use k n env found count named es rest h.1 known.2 second range_of.1 (all_second (HasFlow p tys flat) a b flow)
+          (right_use k n env found count named es rest h.1 known.2 arities.second range_of.1 (all_second (HasFlow p tys flat) a b flow)
           (have_second p tys flat (part_imports q) (right_imports rest) (part_apps p n env e.right q) (right_apps p n env es rest) number apps) (s + length qs) (counted_second s qs rs counted))
 
       -- of a node that is entered; its outputs have names
@@ -350,23 +336,17 @@ module _ (p : ProgramTree) (tys : Types) (flat : FlatProgram) where
       entered_use label start k sources (entered ins outs locals rights) text enough flow apps s counted =
           let n : NodeTree = node_at p k in
           let env : List ℕ = (ins ++ outs) ++ locals in
-          let at = there (slice_get p.nodes k) (length ins) (length outs) (length locals) text.0 in
-          let found : slice_get p.nodes k ≡ Some n = at.1 ∙ ap Some (sym (ap node_or at.1)) in
-          let has : HasVariables (Some n) (length ins) (length outs) (length locals) = subst (λ (o : Option NodeTree). HasVariables o (length ins) (length outs) (length locals)) found text.0 in
-          let count : length env ≡ length (params_of n) = variables_count n ins outs locals has in
-          let right : IsRightNode p k n = sound.node k n found in
-          let node = at_place ranges.IsNodeInRange p.nodes k n range.nodes found in
+          let is = entered_is p k ins outs locals text.0 in
+          let right : IsRightNode p k n = sound.node k n is.found in
+          let node = at_place ranges.IsNodeInRange p.nodes k n range.nodes is.found in
           let cs : List Def = copies (equated n env n.eqs rights) (n.outs ++ n.locals) in
-          let copied : length cs ≡ length (n.outs ++ n.locals) = length-map (n.outs ++ n.locals) (λ (q : Param). copy_of (source_of (equated n env n.eqs rights) q.name)) in
-          let rest_count : length (outs ++ locals) ≡ length (n.outs ++ n.locals) = lengths_append outs locals n.outs n.locals has.1 has.2 in
-          let as_many : length env ≡ length (sources ++ cs) =
-          ap length (append_assoc ins outs locals) ∙ lengths_append ins (outs ++ locals) sources cs (sym enough) (rest_count ∙ sym copied) in
+          let as_many = all_defined p k ins outs locals is sources enough (equated n env n.eqs rights) in
           let params = all_both ranges.IsParamInRange (n.ins ++ n.outs) n.locals (all_both ranges.IsParamInRange n.ins n.outs node.ins node.outs) node.locals in
           let vars : List Numbered = variable_flows label tys (first_of p k) (params_of n) env (sources ++ cs) in
           let others : List Numbered = right_flows p tys k n env n.eqs rights in
-          let named : AreNamed env = variables_named label start (first_of p k) (params_of n) env (sources ++ cs) params count as_many (all_first (HasFlow p tys flat) vars others flow) in (
+          let named : AreNamed env = variables_named label start (first_of p k) (params_of n) env (sources ++ cs) params is.count as_many (all_first (HasFlow p tys flat) vars others flow) in (
             all_both UsesEarlier vars others (variables_use label start (first_of p k) (params_of n) env (sources ++ cs) params)
-                (right_use k n env found count named n.eqs rights text.1 right.named.known right.arity node.eqs (all_second (HasFlow p tys flat) vars others flow) apps
+                (right_use k n env is.found is.count named n.eqs rights text.1 right.named.known right.arity node.eqs (all_second (HasFlow p tys flat) vars others flow) apps
                 (s + length env) (counted_second s env (notes.right_flows rights) counted)),
             all_second (HasName flat) ins outs (all_first (HasName flat) (ins ++ outs) locals named),
           )

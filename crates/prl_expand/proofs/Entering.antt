@@ -31,17 +31,8 @@ use Rattle.prl_names.specs.Lookups.{params_of}
 use Rattle.prl_behaviours.proofs.Lists.{head_same, tail_same}
 use Rattle.prl_expand.specs.Flats.{copies, type_at, variable_flow, variable_flows}
 use Rattle.prl_expand.specs.code.Variables.{variables_made}
+use Rattle.prl_expand.proofs.Existence.{ranges}
 use Rattle.prl_expand.proofs.Expressions.{next_of}
-
-pub ranges : (a x y : ℕ) → range_with_len a x ++ range_with_len (a + x) y ≡ range_with_len a (x + y)
-ranges a zero y =
-    let here : a + 0 ≡ a = omega arith in
-    let all : y ≡ 0 + y = omega arith in
-    ap (λ b. range_with_len b y) here ∙ ap (range_with_len a) all
-ranges a (suc x) y =
-    let e : a + suc x ≡ (a + 1) + x = omega arith in
-    let all : suc (x + y) ≡ suc x + y = omega arith in
-    ap (λ xs. a ∷ xs) (ap (λ b. range_with_len (a + 1) x ++ range_with_len b y) e ∙ ranges (a + 1) x y) ∙ ap (range_with_len a) all
 
 take_first : {A : Type 0} (ys zs : List A) → take (length ys) (ys ++ zs) ≡ ys
 take_first [] zs = refl

@@ -26,7 +26,7 @@ use Rattle.prl_expand.proofs.Ranks.{rank, rank_falls}
 abbrev pub From : ℕ → List ℕ → Type 0
 From f xs = xs ≡ range_with_len f (length xs)
 
-ranges : (a x y : ℕ) → range_with_len a x ++ range_with_len (a + x) y ≡ range_with_len a (x + y)
+pub ranges : (a x y : ℕ) → range_with_len a x ++ range_with_len (a + x) y ≡ range_with_len a (x + y)
 ranges a zero y =
     let here : a + 0 ≡ a = omega arith in
     let all : y ≡ 0 + y = omega arith in

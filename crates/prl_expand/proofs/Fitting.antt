@@ -3,7 +3,6 @@ use Rattle.std.proofs.Common.{◌≡◌, ℕ, suc, Bool, true, List, [], ◌∷�
 use Rattle.std.specs.Prelude.{reverse}
 use Rattle.std.specs.List.{AllByRecursion, flat_map}
 use Rattle.std.specs.Option.{option_map}
-use Rattle.std.proofs.lemmas.List.{length-map}
 use Rattle.std.proofs.lemmas.Option.{slice_get-map}
 use Rattle.prl_base.specs.declared.numbers.FlowNo.{FlowNo}
 use Rattle.prl_base.specs.declared.places.Span.{Span}
@@ -25,25 +24,22 @@ use Rattle.prl_names.specs.Lookups.{callee_of, index_of, import_names, node_name
 use Rattle.prl_names.specs.Named.{IsNamed, IsKnown, IsKnownRoot, AreKnown, AreKnownEquations}
 use Rattle.prl_names.specs.Uses.{applied_names, root_names, all_applied, node_applied, is_expanded, used_imports}
 use Rattle.prl_names.proofs.Marking.{index_found}
-use Rattle.prl_types.specs.Arity.{equations_faults, equation_faults, faults_in, root_faults, all_faults, prefix_fault, postfix_fault, unless_equal}
-use Rattle.prl_types.specs.Flows.{Flow as TermFlow}
-use Rattle.prl_types.specs.declared.terms.Term.{Term}
+use Rattle.prl_types.specs.Arity.{equations_faults, faults_in, root_faults, all_faults}
 use Rattle.prl_types.specs.Flows as flows
 use Rattle.prl_types.specs.Rules as typing
 use Rattle.prl_types.specs.Parameters.{first_of}
-use Rattle.prl_types.proofs.Walking.{terms_placed_flows}
 use Rattle.prl_behaviours.specs.Annotations.{Entered, entered, Rights, done, next, Part, part, Core, Parts}
 use Rattle.prl_behaviours.specs.Annotations as notes
 use Rattle.prl_behaviours.specs.Asked.{inputs_of, last_of, root_given, all_given}
-use Rattle.prl_behaviours.specs.Texts.{node_at, node_or, node_of, IsNodeCall, IsImportCall, HasVariables, IsText, AreRights, IsPart, IsCore, AreParts}
-use Rattle.prl_expand.specs.Flats.{Numbered, Types, resolved, flow_no, copy_of, variable_flows, equated, copies, operator_flows, output_flows, import_at, ports_of, wcet_of, label_of_node, arguments, entered_flows, right_flows, part_flows, root_flows_of, all_flows, entered_apps, right_apps, part_apps, root_apps, all_apps}
+use Rattle.prl_behaviours.specs.Texts.{node_at, node_of, IsNodeCall, IsImportCall, IsText, AreRights, IsPart, IsCore, AreParts}
+use Rattle.prl_expand.specs.Flats.{Numbered, Types, resolved, copy_of, variable_flows, equated, copies, operator_flows, output_flows, import_at, ports_of, label_of_node, arguments, entered_flows, right_flows, part_flows, root_flows_of, all_flows, entered_apps, right_apps, part_apps, root_apps, all_apps}
 use Rattle.prl_expand.proofs.Bodies.{Has, has_left, has_right, import_is, import_used, expanded_more, port_types_are, numbers_are}
 use Rattle.prl_expand.proofs.Existence.{same_node, or_true, true_or}
 use Rattle.prl_expand.proofs.FlatRules.{arguments_are}
 use Rattle.prl_expand.proofs.FlowTypes.{HasFlow, AreTyped, IsEnvironment, entered_environment, all_typed, import_typed}
-use Rattle.prl_expand.proofs.Lists.{some_inner, all_both, all_first, all_second, no_first, no_second, equal_unless}
-use Rattle.prl_expand.proofs.Sound.{IsRightNode, IsSound, there, variables_count, all_length, inputs_length}
-use Rattle.prl_expand.proofs.WellDefined.{Met, AllMet, AreTypedNodes, arguments_typed}
+use Rattle.prl_expand.proofs.Lists.{some_inner, all_both, all_first, all_second, no_first, no_second}
+use Rattle.prl_expand.proofs.Sound.{IsRightNode, IsSound, operated_right, argued_right, enough_given, equated_right, entered_is, call_of}
+use Rattle.prl_expand.proofs.WellDefined.{Met, AllMet, AreTypedNodes, applied_typed}
 
 import_of : (p : ProgramTree) (count : ℕ) (o : Option Callee) → IsImportCall p count o → (j : ℕ) × (i : Import) × (o ≡ Some (callees.Import j)) × (slice_get p.imports j ≡ Some i)
 import_of p count None h = absurd h
@@ -87,10 +83,9 @@ module _ (p : ProgramTree) (tys : Types) (flat : FlatProgram) (sound : IsSound p
         → faults_in p k t ≡ [] → AllMet tys (typing.rules_in p k t) → AllByRecursion (HasFlow p tys flat) (part_flows p tys k n env t q) → Inside p main n (applied_names t) (λ j. applied_in p j t) → AllUsed (part_apps p n env t q)
     part_used k n env found expanded count typed (tree pre root post at) (part pres core posts) h known arity met flow inside =
         let of : List ℕ = root_given n env root core in
-        let needed : ℕ = length (flows.root_flows p k root) in
         let ty : Ty = resolved tys (flows.operand (flows.root_flows p k root)) in
-        let both = no_first (prefix_fault needed pre post ++ root_faults p k root) (postfix_fault needed post) arity in
-        root_used k n env found expanded count typed root at core h.1 known (no_second (prefix_fault needed pre post) (root_faults p k root) both)
+        let arities = operated_right p k pre root post arity in
+        root_used k n env found expanded count typed root at core h.1 known arities.inner
         (all_first (Met tys) (typing.root_rules p k root) (typing.constant_rules (flows.operand (flows.root_flows p k root)) pre) met)
         (all_first (HasFlow p tys flat) (root_flows_of p tys k n env root at core) (operator_flows ty post posts of ++ operator_flows ty (reverse pre) (reverse pres) (last_of of posts)) flow)
         (record { named = inside.named; enters = inside.enters })
@@ -102,21 +97,14 @@ module _ (p : ProgramTree) (tys : Types) (flat : FlatProgram) (sound : IsSound p
     root_used k n env found expanded count typed (apply name place args) at (notes.import parts x outs) h known arity met flow inside =
         let callee = callee_of p name in
         let gs : List ℕ = all_given n env args parts in
-        let needed : length (flows.all_flows p k args) ≡ length (flows.inputs_of p (callee_of p name)) =
-        equal_unless (length (flows.all_flows p k args)) (length (flows.inputs_of p (callee_of p name))) place.at
-        (no_first (unless_equal (length (flows.all_flows p k args)) (length (flows.inputs_of p (callee_of p name))) place.at) (all_faults p k args) arity) in
-        let inner = no_second (unless_equal (length (flows.all_flows p k args)) (length (flows.inputs_of p callee)) place.at) (all_faults p k args) arity in
+        let argued = argued_right p k name place args arity in
         let a : List Numbered = all_flows p tys k n env args parts in
         let b : List Numbered = output_flows x 0 place (ports_of (import_at p callee)) outs in
         let arg_flow = all_first (HasFlow p tys flat) a b flow in
         let met_args = all_first (Met tys) (typing.all_rules p k args) (typing.argument_rules (flows.inputs_of p callee) (flows.placed_flows p k args)) met in
         let met_own = all_second (Met tys) (typing.all_rules p k args) (typing.argument_rules (flows.inputs_of p callee) (flows.placed_flows p k args)) met in
-        let kinds = all_typed p tys flat sound k n env found count typed args parts h.1 known.1 inner arg_flow in
-        let placed_terms : flows.terms_of (flows.placed_flows p k args) ≡ flows.all_flows p k args = terms_placed_flows p k args in
-        let as_many : length (flows.placed_flows p k args) ≡ length (flows.inputs_of p callee) =
-        sym (length-map (flows.placed_flows p k args) (λ (f : TermFlow). f.term)) ∙ ap length placed_terms ∙ needed in
-        let inputs : AreTyped p tys flat gs (flows.inputs_of p callee) =
-        arguments_typed p tys flat (flows.inputs_of p callee) (flows.placed_flows p k args) gs as_many met_own (subst (λ (ts : List Term). AreTyped p tys flat gs ts) (sym placed_terms) kinds) in
+        let kinds = all_typed p tys flat sound k n env found count typed args parts h.1 known.1 argued.inner arg_flow in
+        let inputs = applied_typed p tys flat k name args gs argued met_own kinds in
         let outputs : AreTyped p tys flat outs (flows.outputs_of p callee) = import_typed p tys flat callee x place outs h.0 (all_second (HasFlow p tys flat) a b flow) in
         let i = import_of p (length outs) callee h.0 in
         let own_name : i.1.name ≡ name = name_of_import p name i.0 i.1 i.2 i.3 in
@@ -125,13 +113,7 @@ module _ (p : ProgramTree) (tys : Types) (flat : FlatProgram) (sound : IsSound p
         let out_ports : AreTyped p tys flat outs (flows.port_types i.1.outs) =
         subst (λ (o : Option Import). AreTyped p tys flat outs (flows.import_outputs o)) i.3 (subst (λ (c : Option Callee). AreTyped p tys flat outs (flows.outputs_of p c)) i.2 outputs) in
         let there : Has (node_applied n) name = inside.named name (0, refl) in
-        let call : App = record {
-          name = name;
-          wcet = wcet_of (import_at p callee);
-          args = arguments n env args parts;
-          outs = map flow_no outs;
-          at = place;
-        } in
+        let call : App = call_of p n env name place args parts outs in
         let own_use : IsOfUsed p main flat call = record {
           import = i.1;
           declared = import_is p.imports i.0 i.1 name right.imports_apart i.3 own_name;
@@ -141,7 +123,7 @@ module _ (p : ProgramTree) (tys : Types) (flat : FlatProgram) (sound : IsSound p
           outputs = port_types_are p tys flat outs i.1.outs out_ports;
         } in
         all_both (IsOfUsed p main flat) (all_apps p n env args parts) (call ∷ [])
-        (all_used k n env found expanded count typed args parts h.1 known.1 inner met_args arg_flow
+        (all_used k n env found expanded count typed args parts h.1 known.1 argued.inner met_args arg_flow
         (record { named = λ m has. inside.named m (suc has.0, has.1); enters = λ j by. inside.enters j (or_true (is_node j (callee_of p name)) (applied_trees p j args) by) }))
         (own_use, tt)
     root_used k n env found expanded count typed (apply name place args) at (notes.node parts x child) h known arity met flow inside =
@@ -149,17 +131,13 @@ module _ (p : ProgramTree) (tys : Types) (flat : FlatProgram) (sound : IsSound p
         let callee = node_of (callee_of p name) in
         let gs : List ℕ = all_given n env args parts in
         let label : List ℕ = label_of_node name x in
-        let needed : length (flows.all_flows p k args) ≡ length (flows.inputs_of p (callee_of p name)) =
-        equal_unless (length (flows.all_flows p k args)) (length (flows.inputs_of p (callee_of p name))) place.at
-        (no_first (unless_equal (length (flows.all_flows p k args)) (length (flows.inputs_of p (callee_of p name))) place.at) (all_faults p k args) arity) in
-        let inner = no_second (unless_equal (length (flows.all_flows p k args)) (length (flows.inputs_of p (callee_of p name))) place.at) (all_faults p k args) arity in
-        let enough : length (map copy_of gs) ≡ length (inputs_of child) =
-        length-map gs copy_of ∙ all_length p k n env found count args parts h.1 known.1 ∙ needed ∙ sym (inputs_length p (callee_of p name) child h.0 h.2) in
+        let argued = argued_right p k name place args arity in
+        let enough = enough_given p k n env found count name args parts child h.0 h.1 h.2 known.1 argued in
         let a : List Numbered = all_flows p tys k n env args parts in
         let b : List Numbered = entered_flows p tys label callee (map copy_of gs) child in
         let met_args = all_first (Met tys) (typing.all_rules p k args) (typing.argument_rules (flows.inputs_of p o) (flows.placed_flows p k args)) met in
         all_both (IsOfUsed p main flat) (all_apps p n env args parts) (entered_apps p callee child)
-        (all_used k n env found expanded count typed args parts h.1 known.1 inner met_args (all_first (HasFlow p tys flat) a b flow)
+        (all_used k n env found expanded count typed args parts h.1 known.1 argued.inner met_args (all_first (HasFlow p tys flat) a b flow)
         (record { named = λ m has. inside.named m (suc has.0, has.1); enters = λ j by. inside.enters j (or_true (is_node j (callee_of p name)) (applied_trees p j args) by) }))
         (entered_used label callee (map copy_of gs) child h.2 enough
         (inside.enters callee (true_or (is_node callee (callee_of p name)) (applied_trees p callee args) (same_node callee (callee_of p name) (node_call (callee_of p name) h.0))))
@@ -208,14 +186,13 @@ module _ (p : ProgramTree) (tys : Types) (flat : FlatProgram) (sound : IsSound p
         let a : List Numbered = part_flows p tys k n env e.right q in
         let b : List Numbered = right_flows p tys k n env es rest in
         let later : List (List ℕ) = flat_map (λ (x : EquationTree). applied_names x.right) es in
-        let here = no_first (equation_faults p k e) (equations_faults p k es) arity in
-        let first = no_second (unless_equal (length (flows.flows_of p k e.right)) (length e.lefts) e.at.at) (faults_in p k e.right) here in
+        let arities = equated_right p k e es arity in
         let own_met = all_first (Met tys) (typing.equation_rules p k e) (typing.equations_rules p k es) met in
         all_both (IsOfUsed p main flat) (part_apps p n env e.right q) (right_apps p n env es rest)
-        (part_used k n env found expanded count typed e.right q h.0 known.1 first
+        (part_used k n env found expanded count typed e.right q h.0 known.1 arities.first
         (all_first (Met tys) (typing.rules_in p k e.right) (typing.left_rules p k e.lefts (flows.flows_of p k e.right)) own_met) (all_first (HasFlow p tys flat) a b flow)
         (record { named = λ m has. inside.named m (has_left (applied_names e.right) later m has); enters = λ j by. inside.enters j (true_or (applied_in p j e.right) (applied_equations p j es) by) }))
-        (right_used k n env found expanded count typed es rest h.1 known.2 (no_second (equation_faults p k e) (equations_faults p k es) arity) (all_second (Met tys) (typing.equation_rules p k e) (typing.equations_rules p k es) met)
+        (right_used k n env found expanded count typed es rest h.1 known.2 arities.second (all_second (Met tys) (typing.equation_rules p k e) (typing.equations_rules p k es) met)
         (all_second (HasFlow p tys flat) a b flow)
         (record { named = λ m has. inside.named m (has_right (applied_names e.right) later m has); enters = λ j by. inside.enters j (or_true (applied_in p j e.right) (applied_equations p j es) by) }))
 
@@ -224,18 +201,15 @@ module _ (p : ProgramTree) (tys : Types) (flat : FlatProgram) (sound : IsSound p
     entered_used label k sources (entered ins outs locals rights) text enough expanded flow =
         let n : NodeTree = node_at p k in
         let env : List ℕ = (ins ++ outs) ++ locals in
-        let at = there (slice_get p.nodes k) (length ins) (length outs) (length locals) text.0 in
-        let found : slice_get p.nodes k ≡ Some n = at.1 ∙ ap Some (sym (ap node_or at.1)) in
-        let has : HasVariables (Some n) (length ins) (length outs) (length locals) = subst (λ (o : Option NodeTree). HasVariables o (length ins) (length outs) (length locals)) found text.0 in
-        let count : length env ≡ length (params_of n) = variables_count n ins outs locals has in
-        let own : IsRightNode p k n = sound.node k n found in
-        let node = known_types.node k n found in
+        let is = entered_is p k ins outs locals text.0 in
+        let own : IsRightNode p k n = sound.node k n is.found in
+        let node = known_types.node k n is.found in
         let cs : List Def = copies (equated n env n.eqs rights) (n.outs ++ n.locals) in
         let vars : List Numbered = variable_flows label tys (first_of p k) (params_of n) env (sources ++ cs) in
         let others : List Numbered = right_flows p tys k n env n.eqs rights in
-        right_used k n env found expanded count (entered_environment p tys flat sound label k sources ins outs locals rights text enough flow) n.eqs rights text.1 own.named.known own.arity node.rules
+        right_used k n env is.found expanded is.count (entered_environment p tys flat sound label k sources ins outs locals rights text enough flow) n.eqs rights text.1 own.named.known own.arity node.rules
         (all_second (HasFlow p tys flat) vars others flow)
-        (record { named = λ m h. h; enters = λ j by. expanded_more p main k j expanded (ap (applied_by p j) found ∙ by) })
+        (record { named = λ m h. h; enters = λ j by. expanded_more p main k j expanded (ap (applied_by p j) is.found ∙ by) })
 
 -- an application of a used import has that import's body
 pub body_of : (p : ProgramTree) (main : ℕ) (flat : FlatProgram) (bodies : List CheckedBody) (app : App) → HaveBodiesOf p.imports (used_imports p main) bodies → IsOfUsed p main flat app → HasBody flat bodies app

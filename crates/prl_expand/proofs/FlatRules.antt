@@ -1,5 +1,5 @@
 -- The rules of the flat program of an expansion are those that the text asks: the same hold.
-use Rattle.std.proofs.Common.{suc, ◌≡◌, ◌+◌, ℕ, List, [], ◌∷◌, ◌++◌, map, length, Option, Some, slice_get, refl, sym, ap, ◌∙◌, subst, arith}
+use Rattle.std.proofs.Common.{suc, ◌≡◌, ◌+◌, ℕ, List, [], ◌∷◌, ◌++◌, map, length, Some, slice_get, refl, sym, ap, ◌∙◌, subst, arith}
 use Rattle.std.specs.Prelude.{reverse}
 use Rattle.std.specs.List.{AllByRecursion}
 use Rattle.std.proofs.lemmas.List.{length-map, map-append, append_assoc, append-nil}
@@ -16,16 +16,16 @@ use Rattle.prl_flow.specs.declared.programs.Def.{Def}
 use Rattle.prl_flow.specs.Rules.{Rule, operator, applied, same, sensed, rate_rules, definition_rules, flow_rules, app_rule}
 use Rattle.prl_names.specs.Lookups.{callee_of, params_of}
 use Rattle.prl_names.specs.Named.{IsKnown, IsKnownRoot, AreKnown, AreKnownEquations}
-use Rattle.prl_types.specs.Arity.{equations_faults, equation_faults, faults_in, root_faults, all_faults, prefix_fault, postfix_fault, unless_equal}
+use Rattle.prl_types.specs.Arity.{equations_faults, faults_in, root_faults, all_faults}
 use Rattle.prl_types.specs.Flows as flows
 use Rattle.prl_types.specs.Parameters.{first_of}
 use Rattle.prl_behaviours.specs.Annotations.{Entered, entered, Rights, done, next, Part, part, Core, Parts, imports_in, right_imports, part_imports, core_imports, parts_imports}
 use Rattle.prl_behaviours.specs.Annotations as notes
 use Rattle.prl_behaviours.specs.Asked.{inputs_of, last_of, given, root_given, all_given, constant_rules, all_same, operator_rules, declared_rules, entered_rules, rights_rules, part_rules, root_rules, all_rules, sensed_rules, at_lefts}
-use Rattle.prl_behaviours.specs.Texts.{node_at, node_or, node_of, HasVariables, IsText, AreRights, IsPart, IsCore, AreParts}
-use Rattle.prl_expand.specs.Flats.{Numbered, Types, flow_no, copy_of, resolved, variable_flows, equated, copies, operator_flows, output_flows, import_at, ports_of, constant_flows, entered_flows, right_flows, part_flows, root_flows_of, all_flows, placed, arguments, entered_apps, right_apps, part_apps, root_apps, all_apps, sensors_from, label_of_node, wcet_of, source_of}
-use Rattle.prl_expand.proofs.Lists.{all_both, all_first, all_second, no_first, no_second, equal_unless, lengths_append}
-use Rattle.prl_expand.proofs.Sound.{IsRightNode, IsSound, there, variables_count, all_length, inputs_length}
+use Rattle.prl_behaviours.specs.Texts.{node_at, node_of, IsText, AreRights, IsPart, IsCore, AreParts}
+use Rattle.prl_expand.specs.Flats.{Numbered, Types, flow_no, copy_of, resolved, variable_flows, equated, copies, operator_flows, output_flows, import_at, ports_of, constant_flows, entered_flows, right_flows, part_flows, root_flows_of, all_flows, placed, arguments, entered_apps, right_apps, part_apps, root_apps, all_apps, sensors_from, label_of_node, source_of}
+use Rattle.prl_expand.proofs.Lists.{all_both, all_first, all_second, no_first, no_second, lengths_append}
+use Rattle.prl_expand.proofs.Sound.{IsRightNode, IsSound, operated_right, argued_right, enough_given, equated_right, entered_is, call_of}
 use Rattle.prl_expand.proofs.Sources.{definitions_rules, left_rules, lefts_from, lefts_to}
 
 abbrev pub numbered_rules : List Numbered → List (Rule ℕ ℕ)
@@ -245,13 +245,11 @@ module _ (P : Rule ℕ ℕ → Type 0) where
       part_tells k n env found count (tree pre root post at) (part pres core posts) h known arity =
           let of : List ℕ = root_given n env root core in
           let ty : Ty = resolved tys (flows.operand (flows.root_flows p k root)) in
-          let needed : ℕ = length (flows.root_flows p k root) in
-          let inner = no_second (prefix_fault needed pre post) (root_faults p k root)
-          (no_first (prefix_fault needed pre post ++ root_faults p k root) (postfix_fault needed post) arity) in
+          let arities = operated_right p k pre root post arity in
           tells_more (root_flows_of p tys k n env root at core) (operator_flows ty post posts of ++ operator_flows ty (reverse pre) (reverse pres) (last_of of posts))
           (core_imports core) (root_apps p n env root at core) (root_rules p n env root core)
           (operator_rules post posts of ++ operator_rules (reverse pre) (reverse pres) (last_of of posts))
-          (root_tells k n env found count root at core h.1 known inner)
+          (root_tells k n env found count root at core h.1 known arities.inner)
           (numbered_append (operator_flows ty post posts of) (operator_flows ty (reverse pre) (reverse pres) (last_of of posts))
           ∙ rw (operators_are ty post posts of, operators_are ty (reverse pre) (reverse pres) (last_of of posts)) refl)
 
@@ -261,19 +259,13 @@ module _ (P : Rule ℕ ℕ → Type 0) where
       root_tells k n env found count (const v) at (notes.constant i) h known arity = tells_flows (constant_flows (const v) i at) (constant_rules (const v) i) (constants_are (const v) i at)
       root_tells k n env found count (var name) at notes.name h known arity = tells_nothing
       root_tells k n env found count (apply name place args) at (notes.import parts x outs) h known arity =
-          let inner = no_second (unless_equal (length (flows.all_flows p k args)) (length (flows.inputs_of p (callee_of p name))) place.at) (all_faults p k args) arity in
+          let argued = argued_right p k name place args arity in
           let ports : List Port = ports_of (import_at p (callee_of p name)) in
-          let call : App = record {
-            name = name;
-            wcet = wcet_of (import_at p (callee_of p name));
-            args = arguments n env args parts;
-            outs = map flow_no outs;
-            at = place;
-          } in
+          let call : App = call_of p n env name place args parts outs in
           let rule : app_rule x call ≡ applied name (all_given n env args parts) outs x = rw (arguments_are n env args parts, outs_are outs) refl in
           tells_both (all_flows p tys k n env args parts) (output_flows x 0 place ports outs) (parts_imports parts) (x ∷ []) (all_apps p n env args parts) (call ∷ [])
           (all_rules p n env args parts) (applied name (all_given n env args parts) outs x ∷ [])
-          (all_tells k n env found count args parts h.1 known.1 inner)
+          (all_tells k n env found count args parts h.1 known.1 argued.inner)
           (record {
             to = λ f g. (subst P rule g.0, tt);
             flows = λ g. subst All (sym (outputs_are x 0 place ports outs)) tt;
@@ -283,15 +275,11 @@ module _ (P : Rule ℕ ℕ → Type 0) where
       root_tells k n env found count (apply name place args) at (notes.node parts x child) h known arity =
           let callee = node_of (callee_of p name) in
           let gs : List ℕ = all_given n env args parts in
-          let needed : length (flows.all_flows p k args) ≡ length (flows.inputs_of p (callee_of p name)) =
-          equal_unless (length (flows.all_flows p k args)) (length (flows.inputs_of p (callee_of p name))) place.at
-          (no_first (unless_equal (length (flows.all_flows p k args)) (length (flows.inputs_of p (callee_of p name))) place.at) (all_faults p k args) arity) in
-          let inner = no_second (unless_equal (length (flows.all_flows p k args)) (length (flows.inputs_of p (callee_of p name))) place.at) (all_faults p k args) arity in
-          let enough : length (map copy_of gs) ≡ length (inputs_of child) =
-          length-map gs copy_of ∙ all_length p k n env found count args parts h.1 known.1 ∙ needed ∙ sym (inputs_length p (callee_of p name) child h.0 h.2) in
+          let argued = argued_right p k name place args arity in
+          let enough = enough_given p k n env found count name args parts child h.0 h.1 h.2 known.1 argued in
           tells_both (all_flows p tys k n env args parts) (entered_flows p tys (label_of_node name x) callee (map copy_of gs) child) (parts_imports parts) (imports_in child)
           (all_apps p n env args parts) (entered_apps p callee child) (all_rules p n env args parts) (all_same (inputs_of child) gs ++ entered_rules p callee child)
-          (all_tells k n env found count args parts h.1 known.1 inner)
+          (all_tells k n env found count args parts h.1 known.1 argued.inner)
           (entered_tells (label_of_node name x) callee (map copy_of gs) (all_same (inputs_of child) gs) child h.2 enough (definitions_copies (inputs_of child) gs))
       root_tells k n env found count (group args) at (notes.group parts) h known arity = all_tells k n env found count args parts h known arity
       root_tells k n env found count (const v) at notes.name h known arity = absurd h
@@ -327,22 +315,18 @@ module _ (P : Rule ℕ ℕ → Type 0) where
       right_tells k n env found count [] (next q rest) h known arity = absurd h
       right_tells k n env found count (e ∷ es) done h known arity = absurd h
       right_tells k n env found count (e ∷ es) (next q rest) h known arity =
-          let here = no_first (equation_faults p k e) (equations_faults p k es) arity in
+          let arities = equated_right p k e es arity in
           tells_both (part_flows p tys k n env e.right q) (right_flows p tys k n env es rest) (part_imports q) (right_imports rest) (part_apps p n env e.right q) (right_apps p n env es rest)
           (part_rules p n env e.right q) (right_part_rules p n env es rest)
-          (part_tells k n env found count e.right q h.0 known.1 (no_second (unless_equal (length (flows.flows_of p k e.right)) (length e.lefts) e.at.at) (faults_in p k e.right) here))
-          (right_tells k n env found count es rest h.1 known.2 (no_second (equation_faults p k e) (equations_faults p k es) arity))
+          (part_tells k n env found count e.right q h.0 known.1 arities.first)
+          (right_tells k n env found count es rest h.1 known.2 arities.second)
 
       pub entered_tells : (label : List ℕ) (k : ℕ) (sources : List Def) (extra : List (Rule ℕ ℕ)) (e : Entered ℕ ℕ ℕ) → IsText p k e → length sources ≡ length (inputs_of e)
           → definitions_rules (inputs_of e) sources ≡ extra → Tells (entered_flows p tys label k sources e) (imports_in e) (entered_apps p k e) (extra ++ entered_rules p k e)
       entered_tells label k sources extra (entered ins outs locals rights) text enough are =
           let n : NodeTree = node_at p k in
           let env : List ℕ = (ins ++ outs) ++ locals in
-          let at = there (slice_get p.nodes k) (length ins) (length outs) (length locals) text.0 in
-          let found : slice_get p.nodes k ≡ Some n = at.1 ∙ ap Some (sym (ap node_or at.1)) in
-          let has : HasVariables (Some n) (length ins) (length outs) (length locals) = subst (λ (o : Option NodeTree). HasVariables o (length ins) (length outs) (length locals)) found text.0 in
-          let count : length env ≡ length (params_of n) = variables_count n ins outs locals has in
-          let right : IsRightNode p k n = sound.node k n found in
-          let rest_count : length (outs ++ locals) ≡ length (n.outs ++ n.locals) = lengths_append outs locals n.outs n.locals has.1 has.2 in
-          let rs = right_tells k n env found count n.eqs rights text.1 right.named.known right.arity in
-          entered_made label k sources extra ins outs locals rights n right text.1 enough are has.0 rest_count count rs
+          let is = entered_is p k ins outs locals text.0 in
+          let right : IsRightNode p k n = sound.node k n is.found in
+          let rs = right_tells k n env is.found is.count n.eqs rights text.1 right.named.known right.arity in
+          entered_made label k sources extra ins outs locals rights n right text.1 enough are is.has.0 is.rest_count is.count rs

@@ -17,19 +17,19 @@ use Rattle.prl_names.specs.declared.lookups.Callee.{Callee}
 use Rattle.prl_names.specs.declared.lookups.Callee.TheVariants as callees
 use Rattle.prl_names.specs.Lookups.{callee_of, param_at, param_of, param_names, params_of}
 use Rattle.prl_names.specs.Named.{IsKnown, IsKnownRoot, AreKnown}
-use Rattle.prl_types.specs.Arity.{faults_in, root_faults, all_faults, prefix_fault, postfix_fault, unless_equal}
+use Rattle.prl_types.specs.Arity.{faults_in, root_faults, all_faults}
 use Rattle.prl_types.specs.declared.terms.Term.{Term}
 use Rattle.prl_types.specs.declared.terms.Term.TheVariants as terms
 use Rattle.prl_types.specs.Flows as flows
 use Rattle.prl_types.specs.Parameters.{first_of, parameter_or}
-use Rattle.prl_behaviours.specs.Annotations.{Entered, entered, Rights, done, next, Part, part, Core, Parts}
+use Rattle.prl_behaviours.specs.Annotations.{Entered, entered, Rights, Part, part, Core, Parts}
 use Rattle.prl_behaviours.specs.Annotations as notes
 use Rattle.prl_behaviours.specs.Asked.{inputs_of, outputs_of, one, at_index, last_of, first_of as first_flow, given, root_given, all_given}
-use Rattle.prl_behaviours.specs.Texts.{node_at, node_or, node_of, IsNodeCall, IsImportCall, HasVariables, IsText, IsPart, IsCore, AreParts}
-use Rattle.prl_expand.specs.Flats.{Numbered, Types, type_at, resolved, flow_no, copy_of, variable_flows, equated, copies, source_of, operator_flows, output_flows, import_at, ports_of, label_of_node, entered_flows, right_flows, part_flows, root_flows_of, all_flows}
-use Rattle.prl_expand.proofs.Lists.{some_inner, all_both, all_first, all_second, no_first, no_second, equal_unless, lengths_append}
+use Rattle.prl_behaviours.specs.Texts.{node_at, node_of, IsNodeCall, IsImportCall, IsText, IsPart, IsCore, AreParts}
+use Rattle.prl_expand.specs.Flats.{Numbered, Types, type_at, resolved, flow_no, copy_of, variable_flows, equated, copies, operator_flows, output_flows, import_at, ports_of, label_of_node, entered_flows, right_flows, part_flows, root_flows_of, all_flows}
+use Rattle.prl_expand.proofs.Lists.{some_inner, all_both, all_first, all_second, no_first, no_second}
 use Rattle.prl_expand.proofs.Numbers.{postfix_one, prefix_one}
-use Rattle.prl_expand.proofs.Sound.{IsSound, there, variables_count, all_length, inputs_length, root_length, param_known, index_within}
+use Rattle.prl_expand.proofs.Sound.{IsSound, root_length, param_known, index_within, operated_right, argued_right, enough_given, entered_is, all_defined}
 use Rattle.prl_expand.proofs.Sources.{get_second}
 
 pub all_reverse : {A : Type 0} (P : A → Type 0) (xs : List A) → AllByRecursion P xs → AllByRecursion P (reverse xs)
@@ -171,32 +171,24 @@ module _ (p : ProgramTree) (tys : Types) (flat : FlatProgram) where
     entered_environment label k sources ins outs locals rights text enough h =
         let n : NodeTree = node_at p k in
         let env : List ℕ = (ins ++ outs) ++ locals in
-        let at = there (slice_get p.nodes k) (length ins) (length outs) (length locals) text.0 in
-        let found : slice_get p.nodes k ≡ Some n = at.1 ∙ ap Some (sym (ap node_or at.1)) in
-        let has : HasVariables (Some n) (length ins) (length outs) (length locals) = subst (λ (o : Option NodeTree). HasVariables o (length ins) (length outs) (length locals)) found text.0 in
-        let count : length env ≡ length (params_of n) = variables_count n ins outs locals has in
+        let is = entered_is p k ins outs locals text.0 in
         let given_flows : List Def = copies (equated n env n.eqs rights) (n.outs ++ n.locals) in
-        let copied : length given_flows ≡ length (n.outs ++ n.locals) = length-map (n.outs ++ n.locals) (λ (q : Param). copy_of (source_of (equated n env n.eqs rights) q.name)) in
-        let rest_count : length (outs ++ locals) ≡ length (n.outs ++ n.locals) = lengths_append outs locals n.outs n.locals has.1 has.2 in
-        let as_many : length env ≡ length (sources ++ given_flows) =
-        ap length (append_assoc ins outs locals) ∙ lengths_append ins (outs ++ locals) sources given_flows (sym enough) (rest_count ∙ sym copied) in
-        variables_typed label (first_of p k) (params_of n) env (sources ++ given_flows) count as_many
+        let as_many = all_defined p k ins outs locals is sources enough (equated n env n.eqs rights) in
+        variables_typed label (first_of p k) (params_of n) env (sources ++ given_flows) is.count as_many
         (all_first HasFlow (variable_flows label tys (first_of p k) (params_of n) env (sources ++ given_flows)) (right_flows p tys k n env n.eqs rights) h)
 
     child_outputs : (label : List ℕ) (k : ℕ) (sources : List Def) (e : Entered ℕ ℕ ℕ) → IsText p k e → length sources ≡ length (inputs_of e)
         → AllByRecursion HasFlow (entered_flows p tys label k sources e) → AreTyped (outputs_of e) (flows.node_outputs (first_of p k) (slice_get p.nodes k))
     child_outputs label k sources (entered ins outs locals rights) text enough h =
         let n : NodeTree = node_at p k in
-        let at = there (slice_get p.nodes k) (length ins) (length outs) (length locals) text.0 in
-        let found : slice_get p.nodes k ≡ Some n = at.1 ∙ ap Some (sym (ap node_or at.1)) in
-        let has : HasVariables (Some n) (length ins) (length outs) (length locals) = subst (λ (o : Option NodeTree). HasVariables o (length ins) (length outs) (length locals)) found text.0 in
+        let is = entered_is p k ins outs locals text.0 in
         let env = entered_environment label k sources ins outs locals rights text enough h in
         let range : AreTyped outs (flows.parameters_from (first_of p k + length ins) (length outs)) =
         typed_range outs (first_of p k + length ins) (λ j i e.
         let moved : first_of p k + (length ins + j) ≡ (first_of p k + length ins) + j = omega arith in
         subst (λ m. HasType flat (type_at tys m) (flow_no i)) moved (env (length ins + j) i (middle ins outs locals j i e))) in
-        subst (λ (o : Option NodeTree). AreTyped outs (flows.node_outputs (first_of p k) o)) (sym found)
-        (subst (λ m. AreTyped outs (flows.parameters_from (first_of p k + length n.ins) m)) has.1 (subst (λ m. AreTyped outs (flows.parameters_from (first_of p k + m) (length outs))) has.0 range))
+        subst (λ (o : Option NodeTree). AreTyped outs (flows.node_outputs (first_of p k) o)) (sym is.found)
+        (subst (λ m. AreTyped outs (flows.parameters_from (first_of p k + length n.ins) m)) is.has.1 (subst (λ m. AreTyped outs (flows.parameters_from (first_of p k + m) (length outs))) is.has.0 range))
 
     call_outputs : (o : Option Callee) (label : List ℕ) (sources : List Def) (e : Entered ℕ ℕ ℕ) → IsNodeCall o → IsText p (node_of o) e → length sources ≡ length (inputs_of e)
         → AllByRecursion HasFlow (entered_flows p tys label (node_of o) sources e) → AreTyped (outputs_of e) (flows.outputs_of p o)
@@ -212,9 +204,7 @@ module _ (p : ProgramTree) (tys : Types) (flat : FlatProgram) where
             let of : List ℕ = root_given n env root core in
             let needed : ℕ = length (flows.root_flows p k root) in
             let ty : Ty = resolved tys (flows.operand (flows.root_flows p k root)) in
-            let both = no_first (prefix_fault needed pre post ++ root_faults p k root) (postfix_fault needed post) arity in
-            let front = no_first (prefix_fault needed pre post) (root_faults p k root) both in
-            let back = no_second (prefix_fault needed pre post ++ root_faults p k root) (postfix_fault needed post) arity in
+            let arities = operated_right p k pre root post arity in
             let a : List Numbered = root_flows_of p tys k n env root at core in
             let b : List Numbered = operator_flows ty post posts of in
             let c : List Numbered = operator_flows ty (reverse pre) (reverse pres) (last_of of posts) in
@@ -222,11 +212,11 @@ module _ (p : ProgramTree) (tys : Types) (flat : FlatProgram) where
             let one : length of ≡ needed = root_length p k n env found count root core h.1 known in
             let turned : length (reverse pres) ≡ length (reverse pre) = length-reverse pres ∙ h.0 ∙ sym (length-reverse pre) in
             operated_typed pre post pres posts of (flows.root_flows p k root) h.0 h.2
-            (root_typed root at core h.1 known (no_second (prefix_fault needed pre post) (root_faults p k root) both) (all_first HasFlow a (b ++ c) flow))
-            (operators_typed ty post posts of h.2 (λ some. one ∙ postfix_one needed post back some) (all_first HasFlow b c later))
+            (root_typed root at core h.1 known arities.inner (all_first HasFlow a (b ++ c) flow))
+            (operators_typed ty post posts of h.2 (λ some. one ∙ postfix_one needed post arities.back some) (all_first HasFlow b c later))
             (all_reversed (λ (i : ℕ). HasType flat ty (flow_no i)) pres
             (operators_typed ty (reverse pre) (reverse pres) (last_of of posts) turned
-            (λ some. prefix_one needed pre post of posts front h.2 one (omega (arith, some, length-reverse pre))) (all_second HasFlow b c later)))
+            (λ some. prefix_one needed pre post of posts arities.front h.2 one (omega (arith, some, length-reverse pre))) (all_second HasFlow b c later)))
 
         pub root_typed : (root : Root) (at : Span) (c : Core ℕ ℕ ℕ) → IsCore p root c → IsKnownRoot p k root → root_faults p k root ≡ [] → AllByRecursion HasFlow (root_flows_of p tys k n env root at c)
             → AreTyped (root_given n env root c) (flows.root_flows p k root)
@@ -242,11 +232,8 @@ module _ (p : ProgramTree) (tys : Types) (flat : FlatProgram) where
         root_typed (apply name place args) at (notes.node parts x child) h known arity flow =
             let callee = node_of (callee_of p name) in
             let gs : List ℕ = all_given n env args parts in
-            let needed : length (flows.all_flows p k args) ≡ length (flows.inputs_of p (callee_of p name)) =
-            equal_unless (length (flows.all_flows p k args)) (length (flows.inputs_of p (callee_of p name))) place.at
-            (no_first (unless_equal (length (flows.all_flows p k args)) (length (flows.inputs_of p (callee_of p name))) place.at) (all_faults p k args) arity) in
-            let enough : length (map copy_of gs) ≡ length (inputs_of child) =
-            length-map gs copy_of ∙ all_length p k n env found count args parts h.1 known.1 ∙ needed ∙ sym (inputs_length p (callee_of p name) child h.0 h.2) in
+            let argued = argued_right p k name place args arity in
+            let enough = enough_given p k n env found count name args parts child h.0 h.1 h.2 known.1 argued in
             call_outputs (callee_of p name) (label_of_node name x) (map copy_of gs) child h.0 h.2 enough
             (all_second HasFlow (all_flows p tys k n env args parts) (entered_flows p tys (label_of_node name x) callee (map copy_of gs) child) flow)
         root_typed (group args) at (notes.group parts) h known arity flow = all_typed args parts h known arity flow

@@ -1,7 +1,7 @@
 -- The flows of an expansion are made in the order of their numbers.
-use Rattle.std.proofs.Common.{◌≡◌, ◌<◌, ◌+◌, ℕ, List, [], ◌∷◌, ◌++◌, map, length, Option, Some, None, slice_get, refl, sym, ap, ◌∙◌, subst, arith}
+use Rattle.std.proofs.Common.{◌≡◌, ◌<◌, ◌+◌, ℕ, List, [], ◌∷◌, ◌++◌, map, length, Option, Some, None, slice_get, refl, sym, ap, ◌∙◌, arith}
 use Rattle.std.specs.Prelude.{reverse}
-use Rattle.std.proofs.lemmas.List.{length-map, length-reverse, map-append, append_assoc}
+use Rattle.std.proofs.lemmas.List.{length-reverse, map-append, append_assoc}
 use Rattle.prl_base.specs.declared.places.Span.{Span}
 use Rattle.prl_base.specs.declared.values.Ty.{Ty}
 use Rattle.prl_ast.specs.declared.declarations.Import.{Import}
@@ -14,16 +14,16 @@ use Rattle.prl_names.specs.declared.lookups.Callee.{Callee}
 use Rattle.prl_names.specs.declared.lookups.Callee.TheVariants as callees
 use Rattle.prl_names.specs.Lookups.{callee_of, params_of}
 use Rattle.prl_names.specs.Named.{IsKnown, IsKnownRoot, AreKnown, AreKnownEquations}
-use Rattle.prl_types.specs.Arity.{equations_faults, equation_faults, faults_in, root_faults, all_faults, prefix_fault, postfix_fault, unless_equal, last_at}
+use Rattle.prl_types.specs.Arity.{equations_faults, faults_in, root_faults, all_faults, prefix_fault, postfix_fault, last_at}
 use Rattle.prl_types.specs.Flows as flows
 use Rattle.prl_types.specs.Parameters.{first_of}
 use Rattle.prl_behaviours.specs.Annotations.{Entered, entered, Rights, done, next, Part, part, Core, Parts}
 use Rattle.prl_behaviours.specs.Annotations as notes
 use Rattle.prl_behaviours.specs.Asked.{inputs_of, last_of, root_given, all_given}
-use Rattle.prl_behaviours.specs.Texts.{node_at, node_or, node_of, IsImportCall, HasVariables, IsText, AreRights, IsPart, IsCore, AreParts}
-use Rattle.prl_expand.specs.Flats.{Numbered, Types, copy_of, resolved, label_of_node, variable_flows, equated, copies, operator_flows, output_flows, import_at, ports_of, entered_flows, right_flows, part_flows, root_flows_of, all_flows, source_of}
-use Rattle.prl_expand.proofs.Lists.{no_first, no_second, equal_unless, lengths_append}
-use Rattle.prl_expand.proofs.Sound.{IsRightNode, IsSound, there, variables_count, all_length, inputs_length, root_length, last_length}
+use Rattle.prl_behaviours.specs.Texts.{node_at, node_of, IsImportCall, IsText, AreRights, IsPart, IsCore, AreParts}
+use Rattle.prl_expand.specs.Flats.{Numbered, Types, copy_of, resolved, label_of_node, variable_flows, equated, copies, operator_flows, output_flows, import_at, ports_of, entered_flows, right_flows, part_flows, root_flows_of, all_flows}
+use Rattle.prl_expand.proofs.Lists.{no_first, no_second, equal_unless}
+use Rattle.prl_expand.proofs.Sound.{IsRightNode, IsSound, root_length, last_length, operated_right, argued_right, enough_given, equated_right, entered_is, all_defined}
 
 abbrev pub numbers_of : List Numbered → List ℕ
 numbers_of fs = map (λ (f : Numbered). f.0) fs
@@ -77,15 +77,13 @@ module _ (p : ProgramTree) (tys : Types) (sound : IsSound p) where
         let of : List ℕ = root_given n env root core in
         let needed : ℕ = length (flows.root_flows p k root) in
         let ty : Ty = resolved tys (flows.operand (flows.root_flows p k root)) in
-        let both = no_first (prefix_fault needed pre post ++ root_faults p k root) (postfix_fault needed post) arity in
-        let front = no_first (prefix_fault needed pre post) (root_faults p k root) both in
-        let back = no_second (prefix_fault needed pre post ++ root_faults p k root) (postfix_fault needed post) arity in
+        let arities = operated_right p k pre root post arity in
         let one : length of ≡ needed = root_length p k n env found count root core h.1 known in
-        let a = root_numbered k n env found count root at core h.1 known (no_second (prefix_fault needed pre post) (root_faults p k root) both) in
-        let b = operators_numbered ty post posts of h.2 (λ some. one ∙ postfix_one needed post back some) in
+        let a = root_numbered k n env found count root at core h.1 known arities.inner in
+        let b = operators_numbered ty post posts of h.2 (λ some. one ∙ postfix_one needed post arities.back some) in
         let turned : length (reverse pres) ≡ length (reverse pre) = length-reverse pres ∙ h.0 ∙ sym (length-reverse pre) in
         let c = operators_numbered ty (reverse pre) (reverse pres) (last_of of posts) turned
-        (λ some. prefix_one needed pre post of posts front h.2 one (omega (arith, some, length-reverse pre))) in
+        (λ some. prefix_one needed pre post of posts arities.front h.2 one (omega (arith, some, length-reverse pre))) in
         two_numbered (root_flows_of p tys k n env root at core) (operator_flows ty post posts of ++ operator_flows ty (reverse pre) (reverse pres) (last_of of posts))
         (notes.core_flows core) (posts ++ reverse pres) a
         (two_numbered (operator_flows ty post posts of) (operator_flows ty (reverse pre) (reverse pres) (last_of of posts)) posts (reverse pres) b c)
@@ -96,21 +94,17 @@ module _ (p : ProgramTree) (tys : Types) (sound : IsSound p) where
     root_numbered k n env found count (const v) at (notes.constant i) h known arity = refl
     root_numbered k n env found count (var name) at notes.name h known arity = refl
     root_numbered k n env found count (apply name place args) at (notes.import parts x outs) h known arity =
-        let inner = no_second (unless_equal (length (flows.all_flows p k args)) (length (flows.inputs_of p (callee_of p name))) place.at) (all_faults p k args) arity in
+        let argued = argued_right p k name place args arity in
         two_numbered (all_flows p tys k n env args parts) (output_flows x 0 place (ports_of (import_at p (callee_of p name))) outs) (notes.parts_flows parts) outs
-        (all_numbered k n env found count args parts h.1 known.1 inner)
+        (all_numbered k n env found count args parts h.1 known.1 argued.inner)
         (outputs_numbered x 0 place (ports_of (import_at p (callee_of p name))) outs (import_ports p (callee_of p name) (length outs) h.0))
     root_numbered k n env found count (apply name place args) at (notes.node parts x child) h known arity =
         let callee = node_of (callee_of p name) in
         let gs : List ℕ = all_given n env args parts in
-        let needed : length (flows.all_flows p k args) ≡ length (flows.inputs_of p (callee_of p name)) =
-        equal_unless (length (flows.all_flows p k args)) (length (flows.inputs_of p (callee_of p name))) place.at
-        (no_first (unless_equal (length (flows.all_flows p k args)) (length (flows.inputs_of p (callee_of p name))) place.at) (all_faults p k args) arity) in
-        let inner = no_second (unless_equal (length (flows.all_flows p k args)) (length (flows.inputs_of p (callee_of p name))) place.at) (all_faults p k args) arity in
-        let enough : length (map copy_of gs) ≡ length (inputs_of child) =
-        length-map gs copy_of ∙ all_length p k n env found count args parts h.1 known.1 ∙ needed ∙ sym (inputs_length p (callee_of p name) child h.0 h.2) in
+        let argued = argued_right p k name place args arity in
+        let enough = enough_given p k n env found count name args parts child h.0 h.1 h.2 known.1 argued in
         two_numbered (all_flows p tys k n env args parts) (entered_flows p tys (label_of_node name x) callee (map copy_of gs) child) (notes.parts_flows parts) (notes.flows_in child)
-        (all_numbered k n env found count args parts h.1 known.1 inner)
+        (all_numbered k n env found count args parts h.1 known.1 argued.inner)
         (entered_numbered (label_of_node name x) callee (map copy_of gs) child h.2 enough)
     root_numbered k n env found count (group args) at (notes.group parts) h known arity = all_numbered k n env found count args parts h known arity
     root_numbered k n env found count (const v) at notes.name h known arity = absurd h
@@ -145,26 +139,20 @@ module _ (p : ProgramTree) (tys : Types) (sound : IsSound p) where
     right_numbered k n env found count [] (next q rest) h known arity = absurd h
     right_numbered k n env found count (e ∷ es) done h known arity = absurd h
     right_numbered k n env found count (e ∷ es) (next q rest) h known arity =
-        let here = no_first (equation_faults p k e) (equations_faults p k es) arity in
+        let arities = equated_right p k e es arity in
         two_numbered (part_flows p tys k n env e.right q) (right_flows p tys k n env es rest) (notes.part_flows q) (notes.right_flows rest)
-        (part_numbered k n env found count e.right q h.0 known.1 (no_second (unless_equal (length (flows.flows_of p k e.right)) (length e.lefts) e.at.at) (faults_in p k e.right) here))
-        (right_numbered k n env found count es rest h.1 known.2 (no_second (equation_faults p k e) (equations_faults p k es) arity))
+        (part_numbered k n env found count e.right q h.0 known.1 arities.first)
+        (right_numbered k n env found count es rest h.1 known.2 arities.second)
 
     pub entered_numbered : (label : List ℕ) (k : ℕ) (sources : List Def) (e : Entered ℕ ℕ ℕ) → IsText p k e → length sources ≡ length (inputs_of e)
         → numbers_of (entered_flows p tys label k sources e) ≡ notes.flows_in e
     entered_numbered label k sources (entered ins outs locals rights) text enough =
         let n : NodeTree = node_at p k in
         let env : List ℕ = (ins ++ outs) ++ locals in
-        let at = there (slice_get p.nodes k) (length ins) (length outs) (length locals) text.0 in
-        let found : slice_get p.nodes k ≡ Some n = at.1 ∙ ap Some (sym (ap node_or at.1)) in
-        let has : HasVariables (Some n) (length ins) (length outs) (length locals) = subst (λ (o : Option NodeTree). HasVariables o (length ins) (length outs) (length locals)) found text.0 in
-        let count : length env ≡ length (params_of n) = variables_count n ins outs locals has in
-        let right : IsRightNode p k n = sound.node k n found in
+        let is = entered_is p k ins outs locals text.0 in
+        let right : IsRightNode p k n = sound.node k n is.found in
         let given_flows : List Def = copies (equated n env n.eqs rights) (n.outs ++ n.locals) in
-        let copied : length given_flows ≡ length (n.outs ++ n.locals) = length-map (n.outs ++ n.locals) (λ (q : Param). copy_of (source_of (equated n env n.eqs rights) q.name)) in
-        let rest_count : length (outs ++ locals) ≡ length (n.outs ++ n.locals) = lengths_append outs locals n.outs n.locals has.1 has.2 in
-        let as_many : length env ≡ length (sources ++ given_flows) =
-        ap length (append_assoc ins outs locals) ∙ lengths_append ins (outs ++ locals) sources given_flows (sym enough) (rest_count ∙ sym copied) in
+        let as_many = all_defined p k ins outs locals is sources enough (equated n env n.eqs rights) in
         two_numbered (variable_flows label tys (first_of p k) (params_of n) env (sources ++ given_flows)) (right_flows p tys k n env n.eqs rights) env (notes.right_flows rights)
-        (variables_numbered label tys (first_of p k) (params_of n) env (sources ++ given_flows) count as_many)
-        (right_numbered k n env found count n.eqs rights text.1 right.named.known right.arity)
+        (variables_numbered label tys (first_of p k) (params_of n) env (sources ++ given_flows) is.count as_many)
+        (right_numbered k n env is.found is.count n.eqs rights text.1 right.named.known right.arity)

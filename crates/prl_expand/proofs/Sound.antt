@@ -1,22 +1,25 @@
 -- What is known of the nodes of a program whose names and arity are right, and how many flows expressions give.
-use Rattle.std.proofs.Common.{◌≡◌, ◌<◌, ◌+◌, ℕ, zero, suc, List, [], ◌∷◌, ◌++◌, length, Option, Some, None, IsSome, slice_get, refl, sym, ap, ◌∙◌, subst, arith}
+use Rattle.std.proofs.Common.{◌≡◌, ◌<◌, ◌+◌, ℕ, zero, suc, List, [], ◌∷◌, ◌++◌, length, Option, Some, None, IsSome, map, slice_get, refl, sym, ap, ◌∙◌, subst, arith}
 use Rattle.std.specs.Option.{option_and_then}
 use Rattle.std.specs.List.{range_with_len}
-use Rattle.std.proofs.lemmas.List.{length-append, length-map}
+use Rattle.std.proofs.lemmas.List.{append_assoc, length-append, length-map}
 use Rattle.std.proofs.lemmas.List.FromFn.{length-range_with_len}
 use Rattle.std.proofs.lemmas.Option.{slice_get_within}
+use Rattle.prl_base.specs.declared.places.Span.{Span}
 use Rattle.prl_ast.specs.declared.declarations.Import.{Import}
 use Rattle.prl_ast.specs.declared.declarations.Param.{Param}
 use Rattle.prl_ast.specs.declared.declarations.Port.{Port}
 use Rattle.prl_ast.specs.declared.expressions.PlacedOp.{PlacedOp}
-use Rattle.prl_ast.specs.Trees.{Tree, tree, Root, const, var, apply, group, Trees, none, more, NodeTree, ProgramTree}
+use Rattle.prl_ast.specs.Trees.{Tree, tree, Root, const, var, apply, group, Trees, none, more, EquationTree, NodeTree, ProgramTree}
+use Rattle.prl_flow.specs.declared.programs.App.{App}
+use Rattle.prl_flow.specs.declared.programs.Def.{Def}
 use Rattle.prl_flow.proofs.Lists.{element_at}
 use Rattle.prl_names.specs.declared.lookups.Callee.{Callee}
 use Rattle.prl_names.specs.declared.lookups.Callee.TheVariants as callees
 use Rattle.prl_names.specs.Lookups.{callee_of, param_at, param_of, param_names, params_of, index_of}
 use Rattle.prl_names.specs.Named.{IsNamedNode, IsKnown, IsKnownRoot, AreKnown}
 use Rattle.prl_names.proofs.Marking.{index_found}
-use Rattle.prl_types.specs.Arity.{arity_faults, nodes_faults, equations_faults}
+use Rattle.prl_types.specs.Arity.{arity_faults, nodes_faults, equations_faults, equation_faults, faults_in, root_faults, all_faults, prefix_fault, postfix_fault, unless_equal}
 use Rattle.prl_types.specs.declared.terms.Term.{Term}
 use Rattle.prl_types.specs.declared.terms.Term.TheVariants as terms
 use Rattle.prl_types.specs.Flows.{operated, flows_of, root_flows, all_flows, outputs_of, inputs_of, import_outputs, node_inputs, node_outputs, parameters_from}
@@ -25,8 +28,9 @@ use Rattle.prl_behaviours.specs.Annotations.{Entered, entered, Rights, done, nex
 use Rattle.prl_behaviours.specs.Annotations as notes
 use Rattle.prl_behaviours.specs.Asked as asked
 use Rattle.prl_behaviours.specs.Asked.{one, at_index, at_variable, last_of, first_of as first_flow, given, root_given, all_given}
-use Rattle.prl_behaviours.specs.Texts.{node_of, IsNodeCall, IsImportCall, HasVariables, IsText, IsPart, IsCore, AreParts}
-use Rattle.prl_expand.proofs.Lists.{some_inner, no_first, no_second, lengths_append}
+use Rattle.prl_behaviours.specs.Texts.{node_at, node_or, node_of, IsNodeCall, IsImportCall, HasVariables, IsText, IsPart, IsCore, AreParts}
+use Rattle.prl_expand.specs.Flats.{arguments, copies, copy_of, flow_no, import_at, source_of, wcet_of}
+use Rattle.prl_expand.proofs.Lists.{some_inner, no_first, no_second, equal_unless, lengths_append}
 
 -- the node of this number, whose names and arity are right
 pub record IsRightNode (p : ProgramTree) (k : ℕ) (n : NodeTree) : Type 0 where
@@ -166,3 +170,89 @@ module _ {F R N : Type 0} where
       all_length (more t ts) notes.none h known = absurd h
       all_length (more t ts) (notes.more q rest) h known =
           lengths_append (given n env t q) (all_given n env ts rest) (flows_of p k t) (all_flows p k ts) (given_length t q h.0 known.0) (all_length ts rest h.1 known.1)
+
+-- what right arity says of the parts of an expression
+pub record IsOperated (p : ProgramTree) (k : ℕ) (pre : List PlacedOp) (root : Root) (post : List PlacedOp) : Type 0 where
+  pub front : prefix_fault (length (root_flows p k root)) pre post ≡ []
+  pub inner : root_faults p k root ≡ []
+  pub back : postfix_fault (length (root_flows p k root)) post ≡ []
+
+pub operated_right : (p : ProgramTree) (k : ℕ) (pre : List PlacedOp) (root : Root) (post : List PlacedOp) →
+    prefix_fault (length (root_flows p k root)) pre post ++ root_faults p k root ++ postfix_fault (length (root_flows p k root)) post ≡ [] → IsOperated p k pre root post
+operated_right p k pre root post arity =
+    let needed : ℕ = length (root_flows p k root) in
+    let both = no_first (prefix_fault needed pre post ++ root_faults p k root) (postfix_fault needed post) arity in
+    record {
+      front = no_first (prefix_fault needed pre post) (root_faults p k root) both;
+      inner = no_second (prefix_fault needed pre post) (root_faults p k root) both;
+      back = no_second (prefix_fault needed pre post ++ root_faults p k root) (postfix_fault needed post) arity;
+    }
+
+-- of the arguments of what is applied
+pub record AreArgued (p : ProgramTree) (k : ℕ) (name : List ℕ) (args : Trees) : Type 0 where
+  pub needed : length (all_flows p k args) ≡ length (inputs_of p (callee_of p name))
+  pub inner : all_faults p k args ≡ []
+
+pub argued_right : (p : ProgramTree) (k : ℕ) (name : List ℕ) (place : Span) (args : Trees) →
+    unless_equal (length (all_flows p k args)) (length (inputs_of p (callee_of p name))) place.at ++ all_faults p k args ≡ [] → AreArgued p k name args
+argued_right p k name place args arity =
+    let a : ℕ = length (all_flows p k args) in
+    let b : ℕ = length (inputs_of p (callee_of p name)) in
+    record {
+      needed = equal_unless a b place.at (no_first (unless_equal a b place.at) (all_faults p k args) arity);
+      inner = no_second (unless_equal a b place.at) (all_faults p k args) arity;
+    }
+
+-- a node that is applied is given as many flows as it has inputs
+pub enough_given : (p : ProgramTree) (k : ℕ) (n : NodeTree) (env : List ℕ) → slice_get p.nodes k ≡ Some n → length env ≡ length (params_of n) → (name : List ℕ) (args : Trees) (parts : Parts ℕ ℕ ℕ)
+    (child : Entered ℕ ℕ ℕ) → IsNodeCall (callee_of p name) → AreParts p args parts → IsText p (node_of (callee_of p name)) child → AreKnown p k args → AreArgued p k name args →
+    length (map copy_of (all_given n env args parts)) ≡ length (asked.inputs_of child)
+enough_given p k n env found count name args parts child call are text known argued =
+    length-map (all_given n env args parts) copy_of ∙ all_length p k n env found count args parts are known ∙ argued.needed ∙ sym (inputs_length p (callee_of p name) child call text)
+
+-- of an equation and those after it
+pub record IsEquated (p : ProgramTree) (k : ℕ) (e : EquationTree) (es : List EquationTree) : Type 0 where
+  pub first : faults_in p k e.right ≡ []
+  pub second : equations_faults p k es ≡ []
+
+pub equated_right : (p : ProgramTree) (k : ℕ) (e : EquationTree) (es : List EquationTree) → equation_faults p k e ++ equations_faults p k es ≡ [] → IsEquated p k e es
+equated_right p k e es arity = record {
+  first = no_second (unless_equal (length (flows_of p k e.right)) (length e.lefts) e.at.at) (faults_in p k e.right) (no_first (equation_faults p k e) (equations_faults p k es) arity);
+  second = no_second (equation_faults p k e) (equations_faults p k es) arity;
+}
+
+-- a node that is entered is there, with what stands at its variables
+pub record IsEntered (p : ProgramTree) (k : ℕ) (ins outs locals : List ℕ) : Type 0 where
+  pub found : slice_get p.nodes k ≡ Some (node_at p k)
+  pub has : HasVariables (Some (node_at p k)) (length ins) (length outs) (length locals)
+  pub count : length ((ins ++ outs) ++ locals) ≡ length (params_of (node_at p k))
+  pub rest_count : length (outs ++ locals) ≡ length ((node_at p k).outs ++ (node_at p k).locals)
+
+pub entered_is : (p : ProgramTree) (k : ℕ) (ins outs locals : List ℕ) → HasVariables (slice_get p.nodes k) (length ins) (length outs) (length locals) → IsEntered p k ins outs locals
+entered_is p k ins outs locals vars =
+    let at = there (slice_get p.nodes k) (length ins) (length outs) (length locals) vars in
+    let found : slice_get p.nodes k ≡ Some (node_at p k) = at.1 ∙ ap Some (sym (ap node_or at.1)) in
+    let has : HasVariables (Some (node_at p k)) (length ins) (length outs) (length locals) = subst (λ (o : Option NodeTree). HasVariables o (length ins) (length outs) (length locals)) found vars in
+    record {
+      found = found;
+      has = has;
+      count = variables_count (node_at p k) ins outs locals has;
+      rest_count = lengths_append outs locals (node_at p k).outs (node_at p k).locals has.1 has.2;
+    }
+
+-- and a definition of each, where its inputs have theirs
+pub all_defined : (p : ProgramTree) (k : ℕ) (ins outs locals : List ℕ) → IsEntered p k ins outs locals → (sources : List Def) → length sources ≡ length ins → (qs : List (List ℕ × ℕ)) →
+    length ((ins ++ outs) ++ locals) ≡ length (sources ++ copies qs ((node_at p k).outs ++ (node_at p k).locals))
+all_defined p k ins outs locals is sources enough qs =
+    ap length (append_assoc ins outs locals) ∙ lengths_append ins (outs ++ locals) sources (copies qs ((node_at p k).outs ++ (node_at p k).locals)) (sym enough)
+    (is.rest_count ∙ sym (length-map ((node_at p k).outs ++ (node_at p k).locals) (λ (q : Param). copy_of (source_of qs q.name))))
+
+-- the application of an import
+abbrev pub call_of : ProgramTree → NodeTree → List ℕ → List ℕ → Span → Trees → Parts ℕ ℕ ℕ → List ℕ → App
+call_of p n env name place args parts outs = record {
+  name = name;
+  wcet = wcet_of (import_at p (callee_of p name));
+  args = arguments n env args parts;
+  outs = map flow_no outs;
+  at = place;
+}

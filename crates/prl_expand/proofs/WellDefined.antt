@@ -1,6 +1,7 @@
 -- The flows of an expansion are well defined where names, arity and types are right.
-use Rattle.std.proofs.Common.{◌≡◌, ◌<◌, ◌+◌, ℕ, zero, suc, List, [], ◌∷◌, ◌++◌, length, Some, slice_get, true, false, cond, refl, sym, ap, subst, arith}
+use Rattle.std.proofs.Common.{◌≡◌, ◌<◌, ◌+◌, ℕ, zero, suc, List, [], ◌∷◌, ◌++◌, length, Some, slice_get, true, false, cond, refl, sym, ap, subst, ◌∙◌, arith}
 use Rattle.std.specs.List.{AllByRecursion}
+use Rattle.std.proofs.lemmas.List.{length-map}
 use Rattle.std.specs.Str.{bytes_eq}
 use Rattle.std.specs.Cmp.Lexicographic.{bytes_decides}
 use Rattle.prl_base.specs.Operators.{IsOperatorFor}
@@ -13,19 +14,22 @@ use Rattle.prl_ast.specs.declared.declarations.Param.{Param}
 use Rattle.prl_ast.specs.declared.declarations.Placed.{Placed}
 use Rattle.prl_ast.specs.declared.declarations.Port.{Port}
 use Rattle.prl_ast.specs.declared.expressions.PlacedOp.{PlacedOp}
-use Rattle.prl_ast.specs.Trees.{NodeTree, ProgramTree}
+use Rattle.prl_ast.specs.Trees.{NodeTree, ProgramTree, Trees}
 use Rattle.prl_flow.specs.declared.programs.App.{App}
 use Rattle.prl_flow.specs.declared.programs.Def.{Def}
 use Rattle.prl_flow.specs.Programs.{FlatProgram, HasType, IsWellDefined, IsNoted}
+use Rattle.prl_names.specs.Lookups.{callee_of}
 use Rattle.prl_types.specs.Flows.{Flow as TermFlow}
 use Rattle.prl_types.specs.declared.terms.Rule.{Rule as TypeRule}
 use Rattle.prl_types.specs.declared.terms.Term.{Term}
 use Rattle.prl_types.specs.Flows as flows
 use Rattle.prl_types.specs.Rules as typing
 use Rattle.prl_types.specs.Parameters.{named}
+use Rattle.prl_types.proofs.Walking.{terms_placed_flows}
 use Rattle.prl_expand.specs.Flats.{Numbered, Types, type_at, resolved, flow_no, variable_flows, paired, source_of, operator_flows, output_flows}
 use Rattle.prl_expand.proofs.FlowTypes.{HasFlow, AreTyped, HaveKind}
 use Rattle.prl_expand.proofs.Lists.{some_inner, all_first, all_second}
+use Rattle.prl_expand.proofs.Sound.{AreArgued}
 use Rattle.prl_expand.proofs.Sources.{names_of}
 
 -- a type rule that holds of the types
@@ -154,6 +158,15 @@ module _ (p : ProgramTree) (tys : Types) (flat : FlatProgram) where
   arguments_typed (t ∷ ts) (f ∷ fs) [] e met typed = absurd typed
   arguments_typed (t ∷ ts) (f ∷ fs) (i ∷ is) e met typed =
       (subst (λ ty. HasType flat ty (flow_no i)) (sym met.0) typed.0, arguments_typed ts fs is (omega (arith, e)) met.1 typed.1)
+
+  -- what is applied is given flows of the types of its inputs
+  pub applied_typed : (k : ℕ) (name : List ℕ) (args : Trees) (gs : List ℕ) → AreArgued p k name args → AllMet tys (typing.argument_rules (flows.inputs_of p (callee_of p name)) (flows.placed_flows p k args))
+      → AreTyped p tys flat gs (flows.all_flows p k args) → AreTyped p tys flat gs (flows.inputs_of p (callee_of p name))
+  applied_typed k name args gs argued met kinds =
+      let placed_terms : flows.terms_of (flows.placed_flows p k args) ≡ flows.all_flows p k args = terms_placed_flows p k args in
+      arguments_typed (flows.inputs_of p (callee_of p name)) (flows.placed_flows p k args) gs
+      (sym (length-map (flows.placed_flows p k args) (λ (f : TermFlow). f.term)) ∙ ap length placed_terms ∙ argued.needed) met
+      (subst (λ (ts : List Term). AreTyped p tys flat gs ts) (sym placed_terms) kinds)
 
   -- flows of the types of parameters that follow one another
   pub parameter_typed : (is : List ℕ) (m count : ℕ) → AreTyped p tys flat is (flows.parameters_from m count) → (j i : ℕ) → slice_get is j ≡ Some i → HasType flat (type_at tys (m + j)) (flow_no i)

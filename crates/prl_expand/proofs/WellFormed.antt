@@ -29,25 +29,23 @@ use Rattle.prl_names.specs.Named.{IsKnown, IsKnownRoot, AreKnown, AreKnownEquati
 use Rattle.prl_names.specs.Repeats.{is_among}
 use Rattle.prl_names.specs.Unknowns.{left_names}
 use Rattle.prl_names.proofs.Marking.{index_found}
-use Rattle.prl_types.specs.Arity.{equations_faults, equation_faults, faults_in, root_faults, all_faults, prefix_fault, postfix_fault, unless_equal, last_at}
-use Rattle.prl_types.specs.Flows.{Flow as TermFlow}
+use Rattle.prl_types.specs.Arity.{equations_faults, faults_in, root_faults, all_faults, prefix_fault, postfix_fault, last_at}
 use Rattle.prl_types.specs.declared.terms.Term.{Term}
 use Rattle.prl_types.specs.Flows as flows
 use Rattle.prl_types.specs.Rules as typing
 use Rattle.prl_types.specs.Parameters.{first_of, parameter_or}
-use Rattle.prl_types.proofs.Walking.{terms_placed_flows}
 use Rattle.prl_behaviours.specs.Annotations.{Entered, entered, Rights, done, next, Part, part, Core, Parts, imports_in, right_imports, part_imports, core_imports, parts_imports}
 use Rattle.prl_behaviours.specs.Annotations as notes
 use Rattle.prl_behaviours.specs.Asked.{inputs_of, last_of, given, root_given, all_given}
-use Rattle.prl_behaviours.specs.Texts.{node_at, node_or, node_of, IsNodeCall, IsImportCall, HasVariables, IsText, AreRights, IsPart, IsCore, AreParts}
+use Rattle.prl_behaviours.specs.Texts.{node_at, node_of, IsNodeCall, IsImportCall, IsText, AreRights, IsPart, IsCore, AreParts}
 use Rattle.prl_expand.specs.Flats.{Numbered, Types, type_at, resolved, flow_no, copy_of, variable_flows, paired, equated, copies, source_of, operator_flows, output_flows, import_at, ports_of, wcet_of, label_of_node, arguments, entered_flows, right_flows, part_flows, root_flows_of, all_flows, entered_apps, right_apps, part_apps, root_apps, all_apps}
 use Rattle.prl_expand.proofs.FlatRules.{all_tells, part_tells, arguments_are}
 use Rattle.prl_expand.proofs.FlowTypes.{HasFlow, AreTyped, IsEnvironment, HaveKind, all_reverse, last_kind, operand_kind, operators_typed, entered_environment, given_typed, root_typed, all_typed}
 use Rattle.prl_expand.proofs.Lists.{at_place, some_inner, all_both, all_first, all_second, no_first, no_second, equal_unless}
 use Rattle.prl_expand.proofs.Numbers.{postfix_one, import_ports}
-use Rattle.prl_expand.proofs.Sound.{IsRightNode, IsSound, there, variables_count, all_length, inputs_length, root_length, param_known}
+use Rattle.prl_expand.proofs.Sound.{IsRightNode, IsSound, root_length, param_known, operated_right, argued_right, enough_given, equated_right, entered_is, call_of}
 use Rattle.prl_expand.proofs.Sources.{equated_names, index_is, names_of, get_second, mapped_from}
-use Rattle.prl_expand.proofs.WellDefined.{Met, AllMet, AreTypedNodes, postfixes_fit, prefixes_fit, source_holds, IsSoundFlow, HaveApps, have_first, have_second, operators_sound, outputs_sound, variables_sound, arguments_typed, parameter_typed, IsGiven, pairs_given}
+use Rattle.prl_expand.proofs.WellDefined.{Met, AllMet, AreTypedNodes, postfixes_fit, prefixes_fit, source_holds, IsSoundFlow, HaveApps, have_first, have_second, operators_sound, outputs_sound, variables_sound, applied_typed, parameter_typed, IsGiven, pairs_given}
 
 -- what operators stand on is one flow, where there are prefixes
 one_before : (count : ℕ) (pre post : List PlacedOp) → prefix_fault count pre post ≡ [] → postfix_fault count post ≡ [] → 0 < length pre → count ≡ 1
@@ -142,14 +140,13 @@ module _ (p : ProgramTree) (tys : Types) (flat : FlatProgram) where
     equated_given k n env found count typed (e ∷ es) (next q rest) h known arity met flow =
         let a : List Numbered = part_flows p tys k n env e.right q in
         let b : List Numbered = right_flows p tys k n env es rest in
-        let here = no_first (equation_faults p k e) (equations_faults p k es) arity in
-        let first = no_second (unless_equal (length (flows.flows_of p k e.right)) (length e.lefts) e.at.at) (faults_in p k e.right) here in
+        let arities = equated_right p k e es arity in
         let own_met = all_first (Met tys) (typing.equation_rules p k e) (typing.equations_rules p k es) met in
         all_both (IsGiven p tys flat k) (paired e.lefts (given n env e.right q)) (equated n env es rest)
         (pairs_given p tys flat k e.lefts (given n env e.right q) (flows.flows_of p k e.right)
         (all_second (Met tys) (typing.rules_in p k e.right) (typing.left_rules p k e.lefts (flows.flows_of p k e.right)) own_met)
-        (given_typed p tys flat sound k n env found count typed e.right q h.0 known.1 first (all_first (HasFlow p tys flat) a b flow)))
-        (equated_given k n env found count typed es rest h.1 known.2 (no_second (equation_faults p k e) (equations_faults p k es) arity)
+        (given_typed p tys flat sound k n env found count typed e.right q h.0 known.1 arities.first (all_first (HasFlow p tys flat) a b flow)))
+        (equated_given k n env found count typed es rest h.1 known.2 arities.second
         (all_second (Met tys) (typing.equation_rules p k e) (typing.equations_rules p k es) met) (all_second (HasFlow p tys flat) a b flow))
 
     -- the definition of each variable of a node
@@ -191,29 +188,26 @@ module _ (p : ProgramTree) (tys : Types) (flat : FlatProgram) where
           let terms_of : List Term = flows.root_flows p k root in
           let needed : ℕ = length (flows.root_flows p k root) in
           let ty : Ty = resolved tys (flows.operand (flows.root_flows p k root)) in
-          let both = no_first (prefix_fault needed pre post ++ root_faults p k root) (postfix_fault needed post) arity in
-          let front = no_first (prefix_fault needed pre post) (root_faults p k root) both in
-          let inner = no_second (prefix_fault needed pre post) (root_faults p k root) both in
-          let back = no_second (prefix_fault needed pre post ++ root_faults p k root) (postfix_fault needed post) arity in
+          let arities = operated_right p k pre root post arity in
           let a : List Numbered = root_flows_of p tys k n env root at core in
           let b : List Numbered = operator_flows ty post posts of in
           let c : List Numbered = operator_flows ty (reverse pre) (reverse pres) (last_of of posts) in
           let later = all_second (HasFlow p tys flat) a (b ++ c) flow in
           let root_flow = all_first (HasFlow p tys flat) a (b ++ c) flow in
           let one : length of ≡ needed = root_length p k n env found count root core h.1 known in
-          let root_kinds = root_typed p tys flat sound k n env found count typed root at core h.1 known inner root_flow in
+          let root_kinds = root_typed p tys flat sound k n env found count typed root at core h.1 known arities.inner root_flow in
           let root_met = all_first (Met tys) (typing.root_rules p k root) (typing.constant_rules (flows.operand terms_of) pre) met in
           let pre_met = all_second (Met tys) (typing.root_rules p k root) (typing.constant_rules (flows.operand terms_of) pre) met in
-          let r = root_sound k n env found count typed d root at core h.1 known inner range.1 root_met root_flow apps in
+          let r = root_sound k n env found count typed d root at core h.1 known arities.inner range.1 root_met root_flow apps in
           let kinds : (length of ≡ 1) → HaveKind p tys flat ty of = λ e. operand_kind p tys flat of terms_of e root_kinds in
           let post_flow = all_first (HasFlow p tys flat) b c later in
           let pre_flow = all_second (HasFlow p tys flat) b c later in
-          let posts_kind = operators_typed p tys flat ty post posts of h.2 (λ some. one ∙ postfix_one needed post back some) post_flow in (
+          let posts_kind = operators_typed p tys flat ty post posts of h.2 (λ some. one ∙ postfix_one needed post arities.back some) post_flow in (
             all_both (IsSoundFlow p tys flat) a (b ++ c) r.0
                 (all_both (IsSoundFlow p tys flat) b c
-                (operators_sound p tys flat ty post posts of (postfixes_fit ty post range.2) (λ some. kinds (one ∙ postfix_one needed post back some)) post_flow)
+                (operators_sound p tys flat ty post posts of (postfixes_fit ty post range.2) (λ some. kinds (one ∙ postfix_one needed post arities.back some)) post_flow)
                 (operators_sound p tys flat ty (reverse pre) (reverse pres) (last_of of posts) (all_reverse (λ (o : PlacedOp). IsOperatorFor ty o.op) pre (prefixes_fit tys (flows.operand terms_of) pre range.0 pre_met))
-                (λ some. last_kind p tys flat ty of posts (kinds (one ∙ one_before needed pre post front back (omega (arith, some, length-reverse pre)))) posts_kind) pre_flow)),
+                (λ some. last_kind p tys flat ty of posts (kinds (one ∙ one_before needed pre post arities.front arities.back (omega (arith, some, length-reverse pre)))) posts_kind) pre_flow)),
             r.1,
           )
 
@@ -224,24 +218,18 @@ module _ (p : ProgramTree) (tys : Types) (flat : FlatProgram) where
       root_sound k n env found count typed d (var name) at notes.name h known arity range met flow apps = (tt, tt)
       root_sound k n env found count typed d (apply name place args) at (notes.import parts x outs) h known arity range met flow apps =
           let callee = callee_of p name in
-          let inner = no_second (unless_equal (length (flows.all_flows p k args)) (length (flows.inputs_of p callee)) place.at) (all_faults p k args) arity in
+          let argued = argued_right p k name place args arity in
           let ports : List Port = ports_of (import_at p callee) in
           let a : List Numbered = all_flows p tys k n env args parts in
           let b : List Numbered = output_flows x 0 place ports outs in
-          let call : App = record {
-            name = name;
-            wcet = wcet_of (import_at p callee);
-            args = arguments n env args parts;
-            outs = map flow_no outs;
-            at = place;
-          } in
+          let call : App = call_of p n env name place args parts outs in
           let arg_flow = all_first (HasFlow p tys flat) a b flow in
           let out_flow = all_second (HasFlow p tys flat) a b flow in
-          let number = (all_tells (λ (r : Rule ℕ ℕ). Unit {0}) p tys sound k n env found count args parts h.1 known.1 inner).count in
+          let number = (all_tells (λ (r : Rule ℕ ℕ). Unit {0}) p tys sound k n env found count args parts h.1 known.1 argued.inner).count in
           let arg_apps = have_first p tys flat (parts_imports parts) (x ∷ []) (all_apps p n env args parts) (call ∷ []) number apps in
           let own_app : slice_get flat.apps x ≡ Some call = (have_second p tys flat (parts_imports parts) (x ∷ []) (all_apps p n env args parts) (call ∷ []) number apps).0 in
           let met_args = all_first (Met tys) (typing.all_rules p k args) (typing.argument_rules (flows.inputs_of p callee) (flows.placed_flows p k args)) met in
-          let kinds = all_typed p tys flat sound k n env found count typed args parts h.1 known.1 inner arg_flow in
+          let kinds = all_typed p tys flat sound k n env found count typed args parts h.1 known.1 argued.inner arg_flow in
           let range_of = import_range known_types.imports callee (length outs) h.0 in
           let many : length outs ≡ length ports = import_ports p callee (length outs) h.0 in
           let application : IsApplication flat x call = record {
@@ -258,7 +246,7 @@ module _ (p : ProgramTree) (tys : Types) (flat : FlatProgram) where
             has_output = let some = range_of.1 in omega (arith, some, length-map outs flow_no);
           } in
           sound_both a b (parts_imports parts) (x ∷ []) (all_apps p n env args parts) (call ∷ []) number
-          (all_sound k n env found count typed (d + 1) args parts h.1 known.1 inner range.2 met_args arg_flow arg_apps) (
+          (all_sound k n env found count typed (d + 1) args parts h.1 known.1 argued.inner range.2 met_args arg_flow arg_apps) (
             outputs_sound p tys flat x 0 place ports outs call own_app
                 (λ j i e.
                 let plain : 0 + j ≡ j = omega arith in
@@ -270,29 +258,21 @@ module _ (p : ProgramTree) (tys : Types) (flat : FlatProgram) where
           let callee = node_of (callee_of p name) in
           let gs : List ℕ = all_given n env args parts in
           let label : List ℕ = label_of_node name x in
-          let needed : length (flows.all_flows p k args) ≡ length (flows.inputs_of p (callee_of p name)) =
-          equal_unless (length (flows.all_flows p k args)) (length (flows.inputs_of p (callee_of p name))) place.at
-          (no_first (unless_equal (length (flows.all_flows p k args)) (length (flows.inputs_of p (callee_of p name))) place.at) (all_faults p k args) arity) in
-          let inner = no_second (unless_equal (length (flows.all_flows p k args)) (length (flows.inputs_of p (callee_of p name))) place.at) (all_faults p k args) arity in
-          let enough : length (map copy_of gs) ≡ length (inputs_of child) =
-          length-map gs copy_of ∙ all_length p k n env found count args parts h.1 known.1 ∙ needed ∙ sym (inputs_length p (callee_of p name) child h.0 h.2) in
+          let argued = argued_right p k name place args arity in
+          let enough = enough_given p k n env found count name args parts child h.0 h.1 h.2 known.1 argued in
           let a : List Numbered = all_flows p tys k n env args parts in
           let b : List Numbered = entered_flows p tys label callee (map copy_of gs) child in
           let arg_flow = all_first (HasFlow p tys flat) a b flow in
           let child_flow = all_second (HasFlow p tys flat) a b flow in
-          let number = (all_tells (λ (r : Rule ℕ ℕ). Unit {0}) p tys sound k n env found count args parts h.1 known.1 inner).count in
+          let number = (all_tells (λ (r : Rule ℕ ℕ). Unit {0}) p tys sound k n env found count args parts h.1 known.1 argued.inner).count in
           let arg_apps = have_first p tys flat (parts_imports parts) (imports_in child) (all_apps p n env args parts) (entered_apps p callee child) number apps in
           let child_apps = have_second p tys flat (parts_imports parts) (imports_in child) (all_apps p n env args parts) (entered_apps p callee child) number apps in
           let met_args = all_first (Met tys) (typing.all_rules p k args) (typing.argument_rules (flows.inputs_of p o) (flows.placed_flows p k args)) met in
           let met_own = all_second (Met tys) (typing.all_rules p k args) (typing.argument_rules (flows.inputs_of p o) (flows.placed_flows p k args)) met in
-          let kinds = all_typed p tys flat sound k n env found count typed args parts h.1 known.1 inner arg_flow in
-          let placed_terms : flows.terms_of (flows.placed_flows p k args) ≡ flows.all_flows p k args = terms_placed_flows p k args in
-          let as_many : length (flows.placed_flows p k args) ≡ length (flows.inputs_of p o) =
-          sym (length-map (flows.placed_flows p k args) (λ (f : TermFlow). f.term)) ∙ ap length placed_terms ∙ needed in
-          let inputs : AreTyped p tys flat gs (flows.inputs_of p o) =
-          arguments_typed p tys flat (flows.inputs_of p o) (flows.placed_flows p k args) gs as_many met_own (subst (λ (ts : List Term). AreTyped p tys flat gs ts) (sym placed_terms) kinds) in
+          let kinds = all_typed p tys flat sound k n env found count typed args parts h.1 known.1 argued.inner arg_flow in
+          let inputs = applied_typed p tys flat k name args gs argued met_own kinds in
           sound_both a b (parts_imports parts) (imports_in child) (all_apps p n env args parts) (entered_apps p callee child) number
-          (all_sound k n env found count typed (d + 1) args parts h.1 known.1 inner range.2 met_args arg_flow arg_apps)
+          (all_sound k n env found count typed (d + 1) args parts h.1 known.1 argued.inner range.2 met_args arg_flow arg_apps)
           (entered_sound label callee (map copy_of gs) child h.2 enough
           (λ j i s e f.
           let g = mapped_from copy_of gs j s f in
@@ -344,16 +324,14 @@ module _ (p : ProgramTree) (tys : Types) (flat : FlatProgram) where
       right_sound k n env found count typed (e ∷ es) (next q rest) h known arity range met flow apps =
           let a : List Numbered = part_flows p tys k n env e.right q in
           let b : List Numbered = right_flows p tys k n env es rest in
-          let here = no_first (equation_faults p k e) (equations_faults p k es) arity in
-          let first = no_second (unless_equal (length (flows.flows_of p k e.right)) (length e.lefts) e.at.at) (faults_in p k e.right) here in
-          let second = no_second (equation_faults p k e) (equations_faults p k es) arity in
-          let number = (part_tells (λ (r : Rule ℕ ℕ). Unit {0}) p tys sound k n env found count e.right q h.0 known.1 first).count in
+          let arities = equated_right p k e es arity in
+          let number = (part_tells (λ (r : Rule ℕ ℕ). Unit {0}) p tys sound k n env found count e.right q h.0 known.1 arities.first).count in
           let own_met = all_first (Met tys) (typing.equation_rules p k e) (typing.equations_rules p k es) met in
           sound_both a b (part_imports q) (right_imports rest) (part_apps p n env e.right q) (right_apps p n env es rest) number
-          (part_sound k n env found count typed 0 e.right q h.0 known.1 first range.0.right
+          (part_sound k n env found count typed 0 e.right q h.0 known.1 arities.first range.0.right
           (all_first (Met tys) (typing.rules_in p k e.right) (typing.left_rules p k e.lefts (flows.flows_of p k e.right)) own_met) (all_first (HasFlow p tys flat) a b flow)
           (have_first p tys flat (part_imports q) (right_imports rest) (part_apps p n env e.right q) (right_apps p n env es rest) number apps))
-          (right_sound k n env found count typed es rest h.1 known.2 second range.1 (all_second (Met tys) (typing.equation_rules p k e) (typing.equations_rules p k es) met)
+          (right_sound k n env found count typed es rest h.1 known.2 arities.second range.1 (all_second (Met tys) (typing.equation_rules p k e) (typing.equations_rules p k es) met)
           (all_second (HasFlow p tys flat) a b flow) (have_second p tys flat (part_imports q) (right_imports rest) (part_apps p n env e.right q) (right_apps p n env es rest) number apps))
 
       pub entered_sound : (label : List ℕ) (k : ℕ) (sources : List Def) (e : Entered ℕ ℕ ℕ) → IsText p k e → length sources ≡ length (inputs_of e)
@@ -363,21 +341,18 @@ module _ (p : ProgramTree) (tys : Types) (flat : FlatProgram) where
       entered_sound label k sources (entered ins outs locals rights) text enough defined flow apps =
           let n : NodeTree = node_at p k in
           let env : List ℕ = (ins ++ outs) ++ locals in
-          let at = there (slice_get p.nodes k) (length ins) (length outs) (length locals) text.0 in
-          let found : slice_get p.nodes k ≡ Some n = at.1 ∙ ap Some (sym (ap node_or at.1)) in
-          let has : HasVariables (Some n) (length ins) (length outs) (length locals) = subst (λ (o : Option NodeTree). HasVariables o (length ins) (length outs) (length locals)) found text.0 in
-          let count : length env ≡ length (params_of n) = variables_count n ins outs locals has in
-          let right : IsRightNode p k n = sound.node k n found in
-          let node = known_types.node k n found in
+          let is = entered_is p k ins outs locals text.0 in
+          let right : IsRightNode p k n = sound.node k n is.found in
+          let node = known_types.node k n is.found in
           let cs : List Def = copies (equated n env n.eqs rights) (n.outs ++ n.locals) in
           let vars : List Numbered = variable_flows label tys (first_of p k) (params_of n) env (sources ++ cs) in
           let others : List Numbered = right_flows p tys k n env n.eqs rights in
           let typed = entered_environment p tys flat sound label k sources ins outs locals rights text enough flow in
-          let rs = right_sound k n env found count typed n.eqs rights text.1 right.named.known right.arity node.range.eqs node.rules (all_second (HasFlow p tys flat) vars others flow) apps in (
+          let rs = right_sound k n env is.found is.count typed n.eqs rights text.1 right.named.known right.arity node.range.eqs node.rules (all_second (HasFlow p tys flat) vars others flow) apps in (
             all_both (IsSoundFlow p tys flat) vars others
                 (variables_sound p tys flat label (first_of p k) (params_of n) env (sources ++ cs)
                 (all_both ranges.IsParamInRange (n.ins ++ n.outs) n.locals (all_both ranges.IsParamInRange n.ins n.outs node.range.ins node.range.outs) node.range.locals)
-                (defined_at k n right found sources ins (outs ++ locals) env (append_assoc ins outs locals) count enough has.0 rights text.1 typed node.rules (all_second (HasFlow p tys flat) vars others flow) defined))
+                (defined_at k n right is.found sources ins (outs ++ locals) env (append_assoc ins outs locals) is.count enough is.has.0 rights text.1 typed node.rules (all_second (HasFlow p tys flat) vars others flow) defined))
                 rs.0,
             rs.1,
           )

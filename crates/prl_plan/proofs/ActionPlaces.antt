@@ -81,17 +81,6 @@ unique_second P (x ∷ xs) ys none unique (suc k) zero h g = absurd (none 0 g)
 unique_second P (x ∷ xs) ys none unique (suc k) (suc l) h g =
     ap (λ (n : ℕ). suc n) (unique_second P xs ys (λ n. none (suc n)) unique k l h g)
 
-unique_test : (P : Action → Type 0) → (P actions.End → ⊥) → (b : Bool) (x : Action) → Unique P (cond b (x ∷ []) [])
-unique_test P end true x zero zero h g = refl
-unique_test P end true x zero (suc l) h g = absurd (end g)
-unique_test P end true x (suc k) l h g = absurd (end h)
-unique_test P end false x k l h g = absurd (end h)
-
-none_test : (P : Action → Type 0) → (P actions.End → ⊥) → (b : Bool) (x : Action) → (P x → ⊥) → NoneOf P (cond b (x ∷ []) [])
-none_test P end true x not zero h = not h
-none_test P end true x not (suc k) h = end h
-none_test P end false x not k h = end h
-
 -- an action stands at a place of the list
 pub record Stands (xs : List Action) (x : Action) : Type 0 where
   pub place : ℕ

@@ -1,7 +1,7 @@
 -- Quotients rounded up.
 use Rattle.std.proofs.Common.{◌≡◌, ◌+◌, ◌*◌, ◌/◌, ◌%◌, ◌<◌, ◌≤◌, ℕ, inl, inr, ap, arith}
 use Rattle.std.specs.Int.{div_ceil}
-use Rattle.std.proofs.Math.Nat.{mul-le-mul_left, mul-le-mul_right}
+use Rattle.std.proofs.Math.Nat.{mul-le-mul_left}
 use Rattle.std.proofs.lemmas.Bool.{cases_lt}
 
 -- the least whole number whose product is not below
@@ -38,13 +38,3 @@ ceil_least p n k some h =
           let f : k * (p / k) ≡ k * n = ap (λ (x : ℕ). k * x) same in
           omega (arith, e, f, none))
     ]
-
--- a number rounded up to a multiple is less than one multiple higher
-pub ceil_times : (p k : ℕ) → 1 ≤ k → div_ceil p k * k ≤ p + k
-ceil_times p k some =
-    let e : k * (p / k) + p % k ≡ p = omega arith in
-    let f : (p / k + 1) * k ≡ p / k * k + k = omega arith in
-    let g : k * (p / k) ≡ p / k * k = omega arith in
-    let h : div_ceil p k ≤ p / k + 1 = omega arith in
-    let up : div_ceil p k * k ≤ (p / k + 1) * k = mul-le-mul_right k h in
-    omega (arith, e, f, g, up)

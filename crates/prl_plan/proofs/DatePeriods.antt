@@ -96,31 +96,28 @@ module _ (graph : TaskGraph) (good : IsWellFormed graph) where
         (h.0, edge, h.2, record { from = along.from; to = along.to; number = omega (arith, ints, here, same) }));
   }
 
-  pub least_repeat : (date : Family) → AreLeastReleases graph date → RepeatsByHyper graph date
-  least_repeat date is = record {
+  -- dates that are a hyperperiod later as many jobs later repeat
+  repeat_each : (date : Family) → ((i : ℕ) (m : ℤ) → i < length graph.tasks → date i ((m +ℤ pos (jobs_of i)) +ℤ neg_ℤ (pos (jobs_of i))) ≡ date i m →
+      date i (m +ℤ pos (jobs_of i)) ≡ date i m +ℤ pos graph.hyper) → RepeatsByHyper graph date
+  repeat_each date each = record {
     again = λ i c inside repeats m.
-        (let one : jobs_of i ≡ c = jobs_one i c inside repeats in
-        let up = is.least (moved (λ i. pos (jobs_of i)) (pos graph.hyper) date) (moved_releases (λ i. pos (jobs_of i)) (pos graph.hyper) moves_up date is.releases) i m inside in
-        let down = is.least (moved (λ i. neg_ℤ (pos (jobs_of i))) (neg_ℤ (pos graph.hyper)) date)
-        (moved_releases (λ i. neg_ℤ (pos (jobs_of i))) (neg_ℤ (pos graph.hyper)) moves_down date is.releases) i (m +ℤ pos (jobs_of i)) inside in
-        let back : (m +ℤ pos (jobs_of i)) +ℤ neg_ℤ (pos (jobs_of i)) ≡ m = omega (arith, ints) in
-        let s = ap (λ (z : ℤ). date i z) back in
-        let both : date i (m +ℤ pos (jobs_of i)) ≡ date i m +ℤ pos graph.hyper = omega (arith, ints, up, down, s) in
-        subst (λ (k : ℕ). date i (m +ℤ pos k) ≡ date i m +ℤ pos graph.hyper) one both);
+        (let back : (m +ℤ pos (jobs_of i)) +ℤ neg_ℤ (pos (jobs_of i)) ≡ m = omega (arith, ints) in
+        subst (λ (k : ℕ). date i (m +ℤ pos k) ≡ date i m +ℤ pos graph.hyper) (jobs_one i c inside repeats) (each i m inside (ap (λ (z : ℤ). date i z) back)));
   }
 
+  pub least_repeat : (date : Family) → AreLeastReleases graph date → RepeatsByHyper graph date
+  least_repeat date is = repeat_each date (λ i m inside back.
+      (let up = is.least (moved (λ i. pos (jobs_of i)) (pos graph.hyper) date) (moved_releases (λ i. pos (jobs_of i)) (pos graph.hyper) moves_up date is.releases) i m inside in
+      let down = is.least (moved (λ i. neg_ℤ (pos (jobs_of i))) (neg_ℤ (pos graph.hyper)) date)
+      (moved_releases (λ i. neg_ℤ (pos (jobs_of i))) (neg_ℤ (pos graph.hyper)) moves_down date is.releases) i (m +ℤ pos (jobs_of i)) inside in
+      omega (arith, ints, up, down, back)))
+
   pub greatest_repeat : (date : Family) → AreGreatestDeadlines graph date → RepeatsByHyper graph date
-  greatest_repeat date is = record {
-    again = λ i c inside repeats m.
-        (let one : jobs_of i ≡ c = jobs_one i c inside repeats in
-        let up = is.greatest (moved (λ i. pos (jobs_of i)) (pos graph.hyper) date) (moved_deadlines (λ i. pos (jobs_of i)) (pos graph.hyper) moves_up date is.deadlines) i m inside in
-        let down = is.greatest (moved (λ i. neg_ℤ (pos (jobs_of i))) (neg_ℤ (pos graph.hyper)) date)
-        (moved_deadlines (λ i. neg_ℤ (pos (jobs_of i))) (neg_ℤ (pos graph.hyper)) moves_down date is.deadlines) i (m +ℤ pos (jobs_of i)) inside in
-        let back : (m +ℤ pos (jobs_of i)) +ℤ neg_ℤ (pos (jobs_of i)) ≡ m = omega (arith, ints) in
-        let s = ap (λ (z : ℤ). date i z) back in
-        let both : date i (m +ℤ pos (jobs_of i)) ≡ date i m +ℤ pos graph.hyper = omega (arith, ints, up, down, s) in
-        subst (λ (k : ℕ). date i (m +ℤ pos k) ≡ date i m +ℤ pos graph.hyper) one both);
-  }
+  greatest_repeat date is = repeat_each date (λ i m inside back.
+      (let up = is.greatest (moved (λ i. pos (jobs_of i)) (pos graph.hyper) date) (moved_deadlines (λ i. pos (jobs_of i)) (pos graph.hyper) moves_up date is.deadlines) i m inside in
+      let down = is.greatest (moved (λ i. neg_ℤ (pos (jobs_of i))) (neg_ℤ (pos graph.hyper)) date)
+      (moved_deadlines (λ i. neg_ℤ (pos (jobs_of i))) (neg_ℤ (pos graph.hyper)) moves_down date is.deadlines) i (m +ℤ pos (jobs_of i)) inside in
+      omega (arith, ints, up, down, back)))
 
   some_jobs : (jobs period : ℕ) → graph.hyper ≡ jobs * period → 1 ≤ jobs
   some_jobs zero period is = absurd (let z : 0 * period ≡ 0 = omega arith in let h = good.hyper in omega (arith, z, is, h))

@@ -53,24 +53,3 @@ floor_least n x k some =
           absurd (omega (arith, ints, g, e, h, rest.1, rest.2))))
           (λ above. above)),
     )
-
-pub floor_most : (n y : ℤ) (k : ℕ) → 1 ≤ k → (floor_div n k ≤ℤ y) ↔ (n ≤ℤ ((pos k *ℤ y) +ℤ pos (k - 1)))
-floor_most n y k some =
-    let rest = floor_rest n k some in
-    let q : ℤ = floor_div n k in (
-      (λ h. (let g = mono k q y h in omega (arith, ints, g, rest.1, rest.2))),
-      (λ h. by_lt_z y q
-          (λ below. (let g : (pos k *ℤ (y +ℤ pos 1)) ≤ℤ (pos k *ℤ q) = mono k (y +ℤ pos 1) q (omega (arith, ints, below)) in
-          let e = mul_next k y in
-          absurd (omega (arith, ints, g, e, h, rest.1, rest.2))))
-          (λ above. above)),
-    )
-
--- the quotient rounded up, by that of the opposite
-pub ceiling_least : (l n : ℤ) (k : ℕ) → 1 ≤ k → (neg_ℤ (floor_div (neg_ℤ l) k) ≤ℤ n) ↔ (l ≤ℤ (pos k *ℤ n))
-ceiling_least l n k some =
-    let f = floor_least (neg_ℤ l) (neg_ℤ n) k some in
-    let e = mul_neg k n in (
-      (λ h. (let g = f.0 (omega (arith, ints, h)) in omega (arith, ints, g, e))),
-      (λ h. (let g = f.1 (omega (arith, ints, h, e)) in omega (arith, ints, g))),
-    )

@@ -19,7 +19,7 @@ use Rattle.prl_base.specs.Operators.{floor_div}
 use Rattle.prl_plan.specs.Precedence.{preceding, ComesFrom}
 use Rattle.prl_plan.specs.Cells.{Reads, IsUsed}
 use Rattle.prl_plan.specs.FirstReaders.{IsFirstReader, first_reader, natural, first_instance}
-use Rattle.prl_plan.specs.CellTurns.{IsAsked, IsAskedFrom}
+use Rattle.prl_plan.specs.CellTurns.{IsAsked}
 use Rattle.prl_plan.proofs.Ceilings.{ceil_most, ceil_least}
 use Rattle.prl_plan.proofs.Floors.{floor_least, mono, suc_is, pred_is}
 use Rattle.prl_plan.proofs.WalkLaws.{walk_preceding, operand_walks}
@@ -105,9 +105,6 @@ first_precedes ty ops are =
     let e : preceding ops (pos (first_reader ops)) ≡ pos r.0 = walk_preceding ops (first_reader ops) r.0 r.1 in
     let f : first_instance ops ≡ r.0 = ap natural e in
     e ∙ ap (λ (x : ℕ). pos x) (sym f)
-
-pub first_asked : (ty : Ty) (ops : List Op) → AreOperators ty ops → IsAskedFrom ops (first_instance ops) 0
-first_asked ty ops are = (pos (first_reader ops), (let e = first_precedes ty ops are in omega (arith, ints, e)))
 
 module _ (edge : Edge) (i : ℕ) (comes : ComesFrom edge.from i) (are : AreOperators edge.ty edge.ops) where
   from_walk : (from : Producer) → ComesFrom from i → (o : Operand) → operand_from from o ≡ o

@@ -1,10 +1,7 @@
 -- For the crates above: lemmas over public definitions alone, those of the laws of states in `src/laws.rt` and what a proof
 -- about actions and halves asks for.
-use Rattle.std.proofs.Common.{◌≡◌, ◌+◌, ◌%◌, ◌<◌, ◌⊎◌, ℕ, length, get_or, set, inl, inr, refl, ◌∙◌, ap, arith}
+use Rattle.std.proofs.Common.{◌≡◌, ◌+◌, ◌%◌, ◌<◌, ◌⊎◌, ℕ, length, get_or, inl, inr, refl, ◌∙◌, ap, arith}
 use Rattle.std.specs.Prelude.{slice_index}
-use Rattle.std.proofs.lemmas.Bool.{cases_eq, cases_lt, cases_order}
-use Rattle.std.proofs.lemmas.Grind.{get_or-set_at}
-use Rattle.std.proofs.lemmas.List.{get_or-set_other}
 use Rattle.prl_base.specs.declared.numbers.EdgeNo.{EdgeNo}
 use Rattle.prl_base.specs.declared.numbers.TaskNo.{TaskNo}
 use Rattle.prl_plan.specs.declared.events.Action.{Action}
@@ -17,7 +14,7 @@ use Rattle.prl_plan.specs.Rules.{HasJob, ActsReleased, FindsTag, KeepsLegal, Kee
 use Rattle.prl_plan.specs.Facts.{ReadsAt, HasPlanFacts}
 use Rattle.prl_plan.specs.States.{IsDone, IsTagged, IsSound}
 use Rattle.prl_plan.proofs.Actions.{actions_fit}
-use Rattle.prl_plan.proofs.Tagged.{done_moved}
+use Rattle.prl_plan.proofs.Tagged.{done_moved, ends_once}
 use Rattle.prl_plan.proofs.Sound.{sound_opening, sound_event}
 use Rattle.prl_plan.proofs.Legal.{legal_finds, legal_gated, write_finds_free}
 
@@ -50,47 +47,6 @@ module _ (c : RunConstants) (facts : HasPlanFacts c) where
       n < slice_index s.ended j
   write_finds_half_free = write_finds_free c facts
 
-  -- the end of a job of task i does this end and nothing else
-  ends_once : (s : ExecState) → IsTagged c s → (i : ℕ) → HasJob c s i → next_action c s i ≡ actions.End → (j n place : ℕ) →
-      IsDone (record s { ended = set s.ended i (get_or s.ended i 0 + 1); places = set s.places i 0 }) j n place →
-      IsDone s j n place ⊎ ((j ≡ i) × (n ≡ get_or s.ended i 0) × (action_at c j n place ≡ actions.End))
-  ends_once s tagged i has is j n place done =
-      let inside : i < length s.ended = (let l = tagged.ended in let t = has.task in omega (arith, l, t)) in
-      let inside_places : i < length s.places = (let l = tagged.places in let t = has.task in omega (arith, l, t)) in
-      elim (cases_eq j i) [
-        | inl same ↦
-            (let at : get_or s.ended j 0 ≡ get_or s.ended i 0 = ap (λ x. get_or s.ended x 0) same in
-            let at_place : get_or s.places j 0 ≡ get_or s.places i 0 = ap (λ x. get_or s.places x 0) same in
-            let counted : get_or (set s.ended i (get_or s.ended i 0 + 1)) j 0 ≡ get_or s.ended i 0 + 1 = get_or-set_at s.ended i j (get_or s.ended i 0 + 1) 0 same inside in
-            let cleared : get_or (set s.places i 0) j 0 ≡ 0 = get_or-set_at s.places i j 0 0 same inside_places in
-            elim done [
-              | inl below ↦
-                  (elim (cases_lt n (get_or s.ended i 0)) [
-                    | inl earlier ↦ inl (inl (omega (arith, earlier, at)))
-                    | inr not_earlier ↦
-                        (let now : n ≡ get_or s.ended i 0 = omega (arith, below, counted, not_earlier) in
-                        let its : action_at c j n place ≡ action_at c i (get_or s.ended i 0) place =
-                        ap (λ x. action_at c x n place) same ∙ ap (λ x. action_at c i x place) now in
-                        elim (cases_order place (get_or s.places i 0)) [
-                          | inl here ↦ inr (same, now, its ∙ ap (λ x. action_at c i (get_or s.ended i 0) x) here ∙ is)
-                          | inr apart ↦
-                              (elim apart [
-                                | inl before ↦ inl (inr ((omega (arith, now, at)), (omega (arith, before, at_place))))
-                                | inr past ↦ inr (same, now, its ∙ facts.last i (get_or s.ended i 0) (get_or s.places i 0) place (record { task = has.task; job = has.job }) is past)
-                              ])
-                        ])
-                  ])
-              | inr present ↦ absurd (let p : place < get_or (set s.places i 0) j 0 = present.1 in omega (arith, p, cleared))
-            ])
-        | inr other ↦
-            (let counted : get_or (set s.ended i (get_or s.ended i 0 + 1)) j 0 ≡ get_or s.ended j 0 = get_or-set_other s.ended i j (get_or s.ended i 0 + 1) 0 other in
-            let placed : get_or (set s.places i 0) j 0 ≡ get_or s.places j 0 = get_or-set_other s.places i j 0 0 other in
-            elim done [
-              | inl below ↦ inl (inl (omega (arith, below, counted)))
-              | inr present ↦ inl (inr ((omega (arith, present.0, counted)), (omega (arith, present.1, placed))))
-            ])
-      ]
-
   one_move : (s : ExecState) → IsTagged c s → (i : ℕ) → HasJob c s i → (action : Action) → next_action c s i ≡ action → (j n place : ℕ) → IsDone (moved s i) j n place →
       IsDone s j n place ⊎ ((j ≡ i) × (n ≡ get_or s.ended i 0) × (action_at c j n place ≡ action))
   one_move s tagged i has action is j n place done =
@@ -115,4 +71,5 @@ module _ (c : RunConstants) (facts : HasPlanFacts c) where
       one_move s tagged i has (actions.Write e m slot) is j n place (inl below)
   act_does_one_action s tagged i has (actions.Write e m slot) is j n place (inr here) =
       one_move s tagged i has (actions.Write e m slot) is j n place (inr here)
-  act_does_one_action s tagged i has actions.End is j n place done = ends_once s tagged i has is j n place done
+  act_does_one_action s tagged i has actions.End is j n place done =
+      ends_once c facts s i has is (let l = tagged.ended in let t = has.task in omega (arith, l, t)) (let l = tagged.places in let t = has.task in omega (arith, l, t)) j n place done

@@ -45,6 +45,20 @@ IsGated_free c [] s gated = tt
 IsGated_free c (event ∷ list) s gated = (gated_free c s event gated.0, IsGated_free c list (after_event c s event) gated.1)
 
 module _ (c : RunConstants) (facts : HasPlanFacts c) where
+  -- where what is done stays done, a tag that stays has its origin
+  origin_stays : (s t : ExecState) (slot : ℕ) → ((j n place : ℕ) → IsDone s j n place → IsDone t j n place) → get_or t.tags slot 0 ≡ get_or s.tags slot 0 →
+      (get_or s.tags slot 0 ≡ 0) ⊎ IsOrigin c s slot → (get_or t.tags slot 0 ≡ 0) ⊎ IsOrigin c t slot
+  origin_stays s t slot stays tag (inl none) = inl (tag ∙ none)
+  origin_stays s t slot stays tag (inr from) = inr (record {
+    task = from.task;
+    job = from.job;
+    place = from.place;
+    instance = from.instance;
+    writes = from.writes;
+    done = stays from.task from.job from.place from.done;
+    holds = tag ∙ from.holds;
+  })
+
   -- a tick moves the clock alone, past no deadline of an unfinished job
   tagged_tick : (s : ExecState) → IsTagged c s → IsTagged c (record s { now = s.now + 1 })
   tagged_tick s tagged = record {
@@ -54,10 +68,7 @@ module _ (c : RunConstants) (facts : HasPlanFacts c) where
     counted = tagged.counted;
     written = tagged.written;
     ahead = tagged.ahead;
-    origin = λ slot. elim (tagged.origin slot) [
-      | inl none ↦ inl none
-      | inr from ↦ inr (record { task = from.task; job = from.job; place = from.place; instance = from.instance; writes = from.writes; done = from.done; holds = from.holds })
-    ];
+    origin = λ slot. origin_stays s (record s { now = s.now + 1 }) slot (λ j n place done. done) refl (tagged.origin slot);
   }
 
   -- done after a move of task i: done before it, or what the move did
@@ -97,18 +108,6 @@ module _ (c : RunConstants) (facts : HasPlanFacts c) where
         ],
       )
 
-  origin_moved : (s : ExecState) (i slot : ℕ) → i < length s.places → (get_or s.tags slot 0 ≡ 0) ⊎ IsOrigin c s slot → (get_or s.tags slot 0 ≡ 0) ⊎ IsOrigin c (moved s i) slot
-  origin_moved s i slot inside (inl none) = inl none
-  origin_moved s i slot inside (inr from) = inr (record {
-    task = from.task;
-    job = from.job;
-    place = from.place;
-    instance = from.instance;
-    writes = from.writes;
-    done = done_stays s i inside from.task from.job from.place from.done;
-    holds = from.holds;
-  })
-
   -- a place moves past an action that writes nothing
   tagged_moved : (s : ExecState) → IsTagged c s → (i : ℕ) → i < c.tasks →
       ((e : EdgeNo) (m cell : ℕ) → next_action c s i ≡ actions.Write e m (record { 0 = cell }) → ⊥) → IsTagged c (moved s i)
@@ -130,7 +129,7 @@ module _ (c : RunConstants) (facts : HasPlanFacts c) where
             ];
         ahead = λ j n place m cell writes ahead.
             tagged.ahead j n place m cell writes (ahead_moved s i inside j n place ahead);
-        origin = λ slot. origin_moved s i slot inside (tagged.origin slot);
+        origin = λ slot. origin_stays s (moved s i) slot (done_stays s i inside) refl (tagged.origin slot);
       }
 
   origin_written : (s : ExecState) (i cell m slot : ℕ) → i < length s.places → cell < length s.tags →
@@ -147,18 +146,7 @@ module _ (c : RunConstants) (facts : HasPlanFacts c) where
           done = inr (refl, (let e : get_or (set s.places i (get_or s.places i 0 + 1)) i 0 ≡ get_or s.places i 0 + 1 = get_or-set_at s.places i i (get_or s.places i 0 + 1) 0 refl inside in omega (arith, e)));
           holds = same.1;
         })
-        | inr other ↦ (elim before [
-          | inl none ↦ inl (other.1 ∙ none)
-          | inr from ↦ inr (record {
-            task = from.task;
-            job = from.job;
-            place = from.place;
-            instance = from.instance;
-            writes = from.writes;
-            done = done_stays s i inside from.task from.job from.place from.done;
-            holds = other.1 ∙ from.holds;
-          })
-        ])
+        | inr other ↦ origin_stays s (record (moved s i) { tags = set s.tags cell (m + 1) }) slot (done_stays s i inside) other.1 before
       ]
 
   -- a job writes its instance to a cell
@@ -219,80 +207,86 @@ module _ (c : RunConstants) (facts : HasPlanFacts c) where
         origin = λ slot. origin_written s i cell m slot inside in_tags now_written (tagged.origin slot);
       }
 
-  -- done after the end of a job of task i: done before it
+  -- where each task stands after the end of a job of task i
+  finished : (s : ExecState) (i : ℕ) → i < length s.ended → i < length s.places → (j : ℕ) →
+      ((j ≡ i) × (get_or (set s.ended i (get_or s.ended i 0 + 1)) j 0 ≡ get_or s.ended j 0 + 1) × (get_or (set s.places i 0) j 0 ≡ 0))
+      ⊎ ((get_or (set s.ended i (get_or s.ended i 0 + 1)) j 0 ≡ get_or s.ended j 0) × (get_or (set s.places i 0) j 0 ≡ get_or s.places j 0))
+  finished s i inside inside_places j = elim (cases_eq j i) [
+    | inl same ↦ inl (
+      same,
+      get_or-set_at s.ended i j (get_or s.ended i 0 + 1) 0 same inside ∙ ap (λ x. get_or s.ended x 0 + 1) (sym same),
+      get_or-set_at s.places i j 0 0 same inside_places,
+    )
+    | inr other ↦ inr (get_or-set_other s.ended i j (get_or s.ended i 0 + 1) 0 other, get_or-set_other s.places i j 0 0 other)
+  ]
+
+  -- the end of a job of task i does this end and nothing else
+  pub ends_once : (s : ExecState) (i : ℕ) → HasJob c s i → next_action c s i ≡ actions.End → i < length s.ended → i < length s.places → (j n place : ℕ) →
+      IsDone (record s { ended = set s.ended i (get_or s.ended i 0 + 1); places = set s.places i 0 }) j n place →
+      IsDone s j n place ⊎ ((j ≡ i) × (n ≡ get_or s.ended i 0) × (action_at c j n place ≡ actions.End))
+  ends_once s i has is inside inside_places j n place done =
+      elim (finished s i inside inside_places j) [
+        | inl own ↦
+            (let at : get_or s.ended j 0 ≡ get_or s.ended i 0 = ap (λ x. get_or s.ended x 0) own.0 in
+            let at_place : get_or s.places j 0 ≡ get_or s.places i 0 = ap (λ x. get_or s.places x 0) own.0 in
+            elim done [
+              | inl below ↦
+                  (elim (cases_lt n (get_or s.ended i 0)) [
+                    | inl earlier ↦ inl (inl (omega (arith, earlier, at)))
+                    | inr not_earlier ↦
+                        (let now : n ≡ get_or s.ended i 0 = omega (arith, below, own.1, at, not_earlier) in
+                        let its : action_at c j n place ≡ action_at c i (get_or s.ended i 0) place =
+                        ap (λ x. action_at c x n place) own.0 ∙ ap (λ x. action_at c i x place) now in
+                        elim (cases_order place (get_or s.places i 0)) [
+                          | inl here ↦ inr (own.0, now, its ∙ ap (λ x. action_at c i (get_or s.ended i 0) x) here ∙ is)
+                          | inr apart ↦
+                              (elim apart [
+                                | inl before ↦ inl (inr ((omega (arith, now, at)), (omega (arith, before, at_place))))
+                                | inr past ↦ inr (own.0, now, its ∙ facts.last i (get_or s.ended i 0) (get_or s.places i 0) place (record { task = has.task; job = has.job }) is past)
+                              ])
+                        ])
+                  ])
+              | inr present ↦ absurd (let p : place < get_or (set s.places i 0) j 0 = present.1 in omega (arith, p, own.2))
+            ])
+        | inr other ↦
+            elim done [
+              | inl below ↦ inl (inl (omega (arith, below, other.0)))
+              | inr present ↦ inl (inr ((omega (arith, present.0, other.0)), (omega (arith, present.1, other.1))))
+            ]
+      ]
+
+  -- a write that is done after the end of a job was done before it
   done_finished : (s : ExecState) (i : ℕ) → HasJob c s i → next_action c s i ≡ actions.End → i < length s.ended → i < length s.places →
       (j k place m cell : ℕ) → WritesAt c j k place m cell →
       IsDone (record s { ended = set s.ended i (get_or s.ended i 0 + 1); places = set s.places i 0 }) j k place → IsDone s j k place
   done_finished s i has is inside inside_places j k place m cell writes done =
-      elim (cases_eq j i) [
-        | inl same ↦
-            (let at : get_or s.ended j 0 ≡ get_or s.ended i 0 = ap (λ x. get_or s.ended x 0) same in
-            let at_place : get_or s.places j 0 ≡ get_or s.places i 0 = ap (λ x. get_or s.places x 0) same in
-            let counted : get_or (set s.ended i (get_or s.ended i 0 + 1)) j 0 ≡ get_or s.ended i 0 + 1 = get_or-set_at s.ended i j (get_or s.ended i 0 + 1) 0 same inside in
-            let cleared : get_or (set s.places i 0) j 0 ≡ 0 = get_or-set_at s.places i j 0 0 same inside_places in
-            elim done [
-              | inl below ↦
-                  (elim (cases_lt k (get_or s.ended i 0)) [
-                    | inl earlier ↦ inl (omega (arith, earlier, at))
-                    | inr not_earlier ↦
-                        (let now : k ≡ get_or s.ended i 0 = omega (arith, below, counted, not_earlier) in
-                        let its : action_at c i (get_or s.ended i 0) place ≡ actions.Write (writes.action.0) m (record { 0 = cell }) =
-                        sym (ap (λ x. action_at c x (get_or s.ended i 0) place) same) ∙ sym (ap (λ x. action_at c j x place) now) ∙ writes.action.1 in
-                        elim (cases_order place (get_or s.places i 0)) [
-                          | inl here ↦ absurd (write_not_finish (writes.action.0) m (record { 0 = cell }) (sym its ∙ ap (λ x. action_at c i (get_or s.ended i 0) x) here ∙ is))
-                          | inr apart ↦
-                              (elim apart [
-                                | inl before ↦ inr ((omega (arith, now, at)), (omega (arith, before, at_place)))
-                                | inr past ↦ absurd (write_not_finish (writes.action.0) m (record { 0 = cell }) (sym its ∙ facts.last i (get_or s.ended i 0) (get_or s.places i 0) place (record { task = has.task; job = has.job }) is past))
-                              ])
-                        ])
-                  ])
-              | inr present ↦ absurd (let p : place < get_or (set s.places i 0) j 0 = present.1 in omega (arith, p, cleared))
-            ])
-        | inr other ↦
-            (let counted : get_or (set s.ended i (get_or s.ended i 0 + 1)) j 0 ≡ get_or s.ended j 0 = get_or-set_other s.ended i j (get_or s.ended i 0 + 1) 0 other in
-            let placed : get_or (set s.places i 0) j 0 ≡ get_or s.places j 0 = get_or-set_other s.places i j 0 0 other in
-            elim done [
-              | inl below ↦ inl (omega (arith, below, counted))
-              | inr present ↦ inr ((omega (arith, present.0, counted)), (omega (arith, present.1, placed)))
-            ])
+      elim (ends_once s i has is inside inside_places j k place done) [
+        | inl before ↦ before
+        | inr end ↦ absurd (write_not_finish (writes.action.0) m (record { 0 = cell }) (sym writes.action.1 ∙ end.2))
       ]
 
   -- ahead after the end of a job of task i: ahead before it
   ahead_finished : (s : ExecState) (i : ℕ) → i < length s.ended → i < length s.places → (j k place : ℕ) →
       IsAhead (record s { ended = set s.ended i (get_or s.ended i 0 + 1); places = set s.places i 0 }) j k place → IsAhead s j k place
   ahead_finished s i inside inside_places j k place ahead =
-      elim (cases_eq j i) [
-        | inl same ↦
-            (let at : get_or s.ended j 0 ≡ get_or s.ended i 0 = ap (λ x. get_or s.ended x 0) same in
-            let counted : get_or (set s.ended i (get_or s.ended i 0 + 1)) j 0 ≡ get_or s.ended i 0 + 1 = get_or-set_at s.ended i j (get_or s.ended i 0 + 1) 0 same inside in
-            elim ahead [
-              | inl later ↦ inl (omega (arith, later, counted, at))
-              | inr present ↦ inl (omega (arith, present.0, counted, at))
-            ])
+      elim (finished s i inside inside_places j) [
+        | inl own ↦ inl (elim ahead [ inl later ↦ omega (arith, later, own.1) | inr present ↦ omega (arith, present.0, own.1) ])
         | inr other ↦
-            (let counted : get_or (set s.ended i (get_or s.ended i 0 + 1)) j 0 ≡ get_or s.ended j 0 = get_or-set_other s.ended i j (get_or s.ended i 0 + 1) 0 other in
-            let placed : get_or (set s.places i 0) j 0 ≡ get_or s.places j 0 = get_or-set_other s.places i j 0 0 other in
             elim ahead [
-              | inl later ↦ inl (omega (arith, later, counted))
-              | inr present ↦ inr ((omega (arith, present.0, counted)), (omega (arith, present.1, placed)))
-            ])
+              | inl later ↦ inl (omega (arith, later, other.0))
+              | inr present ↦ inr ((omega (arith, present.0, other.0)), (omega (arith, present.1, other.1)))
+            ]
       ]
 
   done_stays_finished : (s : ExecState) (i : ℕ) → i < length s.ended → i < length s.places → (j n place : ℕ) → IsDone s j n place →
       IsDone (record s { ended = set s.ended i (get_or s.ended i 0 + 1); places = set s.places i 0 }) j n place
   done_stays_finished s i inside inside_places j n place done =
-      elim (get_set s.ended i (get_or s.ended i 0 + 1) j inside) [
-        | inl same ↦
-            (let at : get_or s.ended j 0 ≡ get_or s.ended i 0 = ap (λ x. get_or s.ended x 0) same.0 in
-            elim done [
-              | inl below ↦ inl (omega (arith, below, same.1, at))
-              | inr here ↦ inl (let e : n ≡ get_or s.ended j 0 = here.0 in omega (arith, e, same.1, at))
-            ])
+      elim (finished s i inside inside_places j) [
+        | inl own ↦ inl (elim done [ inl below ↦ omega (arith, below, own.1) | inr here ↦ omega (arith, here.0, own.1) ])
         | inr other ↦
             elim done [
-              | inl below ↦ inl (omega (arith, below, other.1))
-              | inr here ↦ inr (here.0 ∙ sym other.1, (let p : get_or (set s.places i 0) j 0 ≡ get_or s.places j 0 = get_or-set_other s.places i j 0 0 other.0 in let h : place < get_or s.places j 0 = here.1 in omega (arith, h, p)))
+              | inl below ↦ inl (omega (arith, below, other.0))
+              | inr here ↦ inr ((omega (arith, here.0, other.0)), (omega (arith, here.1, other.1)))
             ]
       ]
 
@@ -304,11 +298,6 @@ module _ (c : RunConstants) (facts : HasPlanFacts c) where
       let job : IsJob c i n = record { task = has.task; job = has.job } in
       let inside : i < length s.ended = omega (arith, tagged.ended, has.task) in
       let inside_places : i < length s.places = omega (arith, tagged.places, has.task) in
-      let grows : (j : ℕ) → get_or s.ended j 0 ≤ get_or (set s.ended i (n + 1)) j 0 =
-      λ j. elim (get_set s.ended i (n + 1) j inside) [
-        | inl same ↦ (let at : get_or s.ended j 0 ≡ get_or s.ended i 0 = ap (λ x. get_or s.ended x 0) same.0 in omega (arith, same.1, at))
-        | inr other ↦ omega (arith, other.1)
-      ] in
       record {
         ended = length-set s.ended i (n + 1) ∙ tagged.ended;
         places = length-set s.places i 0 ∙ tagged.places;
@@ -320,18 +309,7 @@ module _ (c : RunConstants) (facts : HasPlanFacts c) where
             ];
         written = λ j k place m cell writes done. tagged.written j k place m cell writes (done_finished s i has is inside inside_places j k place m cell writes done);
         ahead = λ j k place m cell writes ahead. tagged.ahead j k place m cell writes (ahead_finished s i inside inside_places j k place ahead);
-        origin = λ slot. elim (tagged.origin slot) [
-          | inl none ↦ inl none
-          | inr from ↦ inr (record {
-            task = from.task;
-            job = from.job;
-            place = from.place;
-            instance = from.instance;
-            writes = from.writes;
-            done = done_stays_finished s i inside inside_places from.task from.job from.place from.done;
-            holds = from.holds;
-          })
-        ];
+        origin = λ slot. origin_stays s (record s { ended = set s.ended i (n + 1); places = set s.places i 0 }) slot (done_stays_finished s i inside inside_places) refl (tagged.origin slot);
       }
 
   -- an act does its next action

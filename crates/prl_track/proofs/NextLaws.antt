@@ -8,9 +8,17 @@ use Rattle.prl_plan.specs.Rules.{first_unfinished, IsUnfinished, HasJob, ActsRel
 use Rattle.prl_plan.specs.Runs.{RunConstants, ExecState}
 use Rattle.prl_track.specs.declared.firsts.First.{First}
 use Rattle.prl_track.specs.declared.firsts.Chosen.{Chosen}
-use Rattle.prl_track.specs.Tracks.{IsEarliest, IsIdle, IsNext}
+use Rattle.prl_track.specs.Tracks.{IsEarliest, IsIdle, IsNext, TrackView, run_of}
 use Rattle.prl_track.specs.code.Firsts.{IsFirst}
 use Rattle.prl_track.specs.code.Nexts.{IsChosen, NoneReleased, IsChoice}
+
+-- what a track's fields say of its view: the facts of its plan, and its tick
+pub record IsKnown (v : TrackView) (now : ℕ) : Type 0 where
+  pub facts : HasPlanFacts (run_of v)
+  pub clock : now ≡ v.state.now
+
+pub known : (track v : TrackView) → track ≡ v → HasPlanFacts (run_of track) → IsKnown v track.state.now
+known track v seen facts = record { facts = subst (λ (w : TrackView). HasPlanFacts (run_of w)) seen facts; clock = ap (λ (w : TrackView). w.state.now) seen }
 
 module _ (c : RunConstants) (facts : HasPlanFacts c) (s : ExecState) where
   -- an unfinished job has no earlier dates than the first one of its task

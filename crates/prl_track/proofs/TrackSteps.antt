@@ -2,8 +2,9 @@
 use Rattle.std.proofs.Common.{◌≡◌, ◌≢◌, ◌+◌, ◌<◌, ◌≤◌, ◌⊎◌, ◌++◌, ℕ, zero, suc, List, [], ◌∷◌, length, replicate, get_or, set, take, Option, Some, None, refl, sym, ◌∙◌, ap, subst, arith, inl, inr}
 use Rattle.std.specs.Prelude.{slice_get, MatchOption}
 use Rattle.std.proofs.lemmas.Bool.{cases_eq}
-use Rattle.std.proofs.lemmas.Grind.{get_or-set_at}
+use Rattle.std.proofs.lemmas.Grind.{get_or_default_zero, get_or-set_at}
 use Rattle.std.proofs.lemmas.List.{length-set, get_or-set_other, length-replicate}
+use Rattle.std.proofs.lemmas.Option.{slice_get_read}
 use Rattle.prl_base.specs.declared.numbers.EdgeNo.{EdgeNo}
 use Rattle.prl_base.specs.declared.numbers.TaskNo.{TaskNo}
 use Rattle.prl_plan.specs.declared.events.Action.{Action}
@@ -191,6 +192,68 @@ module _ (track : TrackView) (facts : HasPlanFacts (run_of track)) (firsts : Lis
           (sym (get_or-set_at track.state.places task.0 task.0 0 0 refl in_places))
           (cursor_opens track.plan task.0 (get_or (set track.state.ended task.0 (get_or track.state.ended task.0 0 + 1)) task.0 0)));
     }
+
+-- what a call of a track is told of its view, and what it keeps of its fields
+module _ (track v : TrackView) (seen : track ≡ v) (firsts : List (Option First)) (routes : List (List Access)) (cursors : List Cursor) (is : IsTrack track firsts routes cursors) where
+  pub ticks_on : MayTick (run_of v) v.state → IsTrack (record track { state = record track.state { now = track.state.now + 1 } }) firsts routes cursors
+  ticks_on may = tick_kept track is.facts firsts routes cursors is (subst (λ (w : TrackView). MayTick (run_of w) w.state) (sym seen) may)
+
+  module _ (task : TaskNo) (allowed : KeepsLegal (run_of v) v.state (events.Act task)) where
+    keeps : KeepsLegal (run_of track) track.state (events.Act task)
+    keeps = subst (λ (w : TrackView). KeepsLegal (run_of w) w.state (events.Act task)) (sym seen) allowed
+
+    -- the place that is read is the task's
+    place_read : (p : ℕ) → p ≡ get_or track.state.places task.0 p → p ≡ get_or track.state.places task.0 0
+    place_read p read = read ∙ get_or_default_zero track.state.places task.0 p (let l = is.sound.tagged.places in let t = keeps.0.task in omega (arith, l, t))
+
+    writes : (edge : EdgeNo) (job : ℕ) (slot : SlotNo) → next_action (run_of v) v.state task.0 ≡ actions.Write edge job slot →
+        next_action (run_of track) track.state task.0 ≡ actions.Write edge job slot
+    writes edge job slot its = subst (λ (w : TrackView). next_action (run_of w) w.state task.0 ≡ actions.Write edge job slot) (sym seen) its
+
+    -- the half that is written is there
+    pub slot_inside : (edge : EdgeNo) (job : ℕ) (slot : SlotNo) → next_action (run_of v) v.state task.0 ≡ actions.Write edge job slot → slot.0 < length track.state.tags
+    slot_inside edge job slot its = written_in_tags track is.facts firsts routes cursors is task keeps edge job slot (writes edge job slot its)
+
+    module _ (p : ℕ) (read : p ≡ get_or track.state.places task.0 p) (cursor next : Cursor) (at : IsAt v.plan task.0 (first_unfinished v.state task.0) (get_or v.state.places task.0 0) cursor)
+        (moves : next ≡ record { index = cursor.index; rest = cursor.rest + 1 }) where
+      stands_next : IsAt track.plan task.0 (first_unfinished track.state task.0) (get_or track.state.places task.0 0 + 1) next
+      stands_next = cursor_moves track.plan task.0 (first_unfinished track.state task.0) (get_or track.state.places task.0 0) cursor next
+          (subst (λ (w : TrackView). IsAt w.plan task.0 (first_unfinished w.state task.0) (get_or w.state.places task.0 0) cursor) (sym seen) at)
+          (ap (λ (x : Cursor). x.index) moves) (ap (λ (x : Cursor). x.rest) moves)
+
+      pub passes_on : IsReading (next_action (run_of v) v.state task.0) →
+          IsTrack (record track { state = record track.state { places = set track.state.places task.0 (p + 1) } }) firsts routes (set cursors task.0 next)
+      passes_on reads = subst (λ (q : ℕ). IsTrack (record track { state = record track.state { places = set track.state.places task.0 (q + 1) } }) firsts routes (set cursors task.0 next))
+          (sym (place_read p read)) (pass_kept track is.facts firsts routes cursors is task keeps (subst (λ (w : TrackView). IsReading (next_action (run_of w) w.state task.0)) (sym seen) reads) next stands_next)
+
+      pub writes_on : (edge : EdgeNo) (job : ℕ) (slot : SlotNo) → next_action (run_of v) v.state task.0 ≡ actions.Write edge job slot →
+          IsTrack (record track { state = record track.state { places = set track.state.places task.0 (p + 1); tags = set track.state.tags slot.0 (job + 1) } }) firsts routes (set cursors task.0 next)
+      writes_on edge job slot its =
+          subst (λ (q : ℕ). IsTrack (record track { state = record track.state { places = set track.state.places task.0 (q + 1); tags = set track.state.tags slot.0 (job + 1) } }) firsts routes (set cursors task.0 next))
+          (sym (place_read p read)) (write_kept track is.facts firsts routes cursors is task keeps edge job slot (writes edge job slot its) next stands_next)
+
+    module _ (job : ℕ) (now : job ≡ first_unfinished v.state task.0) where
+      job_now : job ≡ first_unfinished track.state task.0
+      job_now = subst (λ (w : TrackView). job ≡ first_unfinished w.state task.0) (sym seen) now
+
+      pub ends_on : next_action (run_of v) v.state task.0 ≡ actions.End → (next : Option First) →
+          MatchOption next ((run_of track).jobs task.0 ≤ job + 1) (IsFirstAt (run_of track) task.0 (job + 1)) →
+          IsTrack (record track { state = record track.state { ended = set track.state.ended task.0 (job + 1); places = set track.state.places task.0 0 } })
+          (set firsts task.0 next) routes (set cursors task.0 (record { index = 0; rest = 0 }))
+      ends_on its next first =
+          subst (λ (n : ℕ). MatchOption next ((run_of track).jobs task.0 ≤ n + 1) (IsFirstAt (run_of track) task.0 (n + 1)) →
+          IsTrack (record track { state = record track.state { ended = set track.state.ended task.0 (n + 1); places = set track.state.places task.0 0 } })
+          (set firsts task.0 next) routes (set cursors task.0 (record { index = 0; rest = 0 }))) (sym job_now)
+          (end_kept track is.facts firsts routes cursors is task keeps (subst (λ (w : TrackView). next_action (run_of w) w.state task.0 ≡ actions.End) (sym seen) its) next) first
+
+      -- the cursor that is read stands at the task's place
+      pub stands_there : (p : ℕ) → p ≡ get_or track.state.places task.0 p → (cursor : Cursor) → cursor ≡ get_or cursors task.0 cursor → IsAt track.plan task.0 job p cursor
+      stands_there p read cursor there =
+          let l = is.standing.tasks in
+          let inside = keeps.0.task in
+          subst (λ (n : ℕ). IsAt track.plan task.0 n p cursor) (sym job_now)
+          (subst (λ (q : ℕ). IsAt track.plan task.0 (first_unfinished track.state task.0) q cursor) (sym (place_read p read))
+          (is.standing.each task.0 cursor (slice_get_read cursors (length cursors) task.0 cursor refl (omega (arith, l, inside)) there)))
 
 -- what is kept of a task is its first unfinished job
 pub first_of : (c : RunConstants) (s : ExecState) (j : ℕ) (kept : Option First) → j < c.tasks →

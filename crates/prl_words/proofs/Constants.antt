@@ -169,3 +169,14 @@ edge_bound graph well e edge found =
 pub edge_read : (xs edges : List Edge) (i : ℕ) (edge : Edge) → xs ≡ edges → i < length xs → edge ≡ get_or xs i edge → slice_get edges i ≡ Some edge
 edge_read xs edges i edge same below is =
     subst (λ (ys : List Edge). slice_get ys i ≡ Some edge) same (slice_get_read xs (length xs) i edge refl below is)
+
+-- what is known of its operators
+pub edge_jobs : (graph : TaskGraph) → IsWellFormed graph → (xs : List Edge) (i : ℕ) (edge : Edge) → xs ≡ graph.edges → i < length xs → edge ≡ get_or xs i edge → (ops : List Op) → ops ≡ edge.ops →
+    (jobs : ℕ) × HaveCounts ops jobs
+edge_jobs graph well xs i edge same below is ops of_edge =
+    let has = edge_counts graph well i edge (edge_read xs graph.edges i edge same below is) in
+    (has.jobs, subst (λ (os : List Op). HaveCounts os has.jobs) (sym of_edge) has.counts)
+
+pub edge_few : (graph : TaskGraph) → IsWellFormed graph → (xs : List Edge) (i : ℕ) (edge : Edge) → xs ≡ graph.edges → i < length xs → edge ≡ get_or xs i edge → (ops : List Op) → ops ≡ edge.ops →
+    length ops < 2 ^ 32
+edge_few graph well xs i edge same below is ops of_edge = omega (arith, ap length of_edge, (well.edges i edge (edge_read xs graph.edges i edge same below is)).few)

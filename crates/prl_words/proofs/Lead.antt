@@ -11,14 +11,6 @@ use Rattle.prl_words.specs.code.Holding.{IsLeading}
 use Rattle.prl_words.proofs.SoFar.{counts_here}
 use Rattle.prl_words.proofs.Turns.{first_some}
 
-pub no_leading : (ops : List Op) → IsLeading ops 0 1
-no_leading ops = record {
-  within = omega arith;
-  some = omega arith;
-  walks = λ n. ap (λ (k : ℕ). walk ops k) (let e : n ≡ n / 1 = omega arith in e);
-  counts = λ jobs counts. (jobs, counts, omega arith);
-}
-
 -- the operators from this place on begin with this one
 split_at : (ops : List Op) (i : ℕ) (op : Op) → i < length ops → op ≡ get_or ops i op → drop i ops ≡ op ∷ drop (i + 1) ops
 split_at ops i op below is = drop_more ops i op below ∙ ap (λ (o : Op). o ∷ drop (i + 1) ops) (sym is)

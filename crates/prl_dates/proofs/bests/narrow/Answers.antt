@@ -1,21 +1,15 @@
-use Rattle.std.proofs.Common.{◌≡◌, ◌+◌, ◌*◌, w64, to_z, ◌∙◌, arith}
+use Rattle.std.proofs.Common.{◌+◌, ◌*◌, w64, to_z, arith}
 use Rattle.std.specs.Prelude.{slice_index}
 use Rattle.std.proofs.lemmas.Int.{to_z_pos}
-use Rattle.prl_plan.specs.Jobs.{task_at}
-use Rattle.prl_dates.proofs.Readings.{task_read}
-use Rattle.prl_dates.proofs.Settles.{job_small, narrow_is}
+use Rattle.prl_dates.proofs.Settles.{narrow_is, read_small}
 use Rattle.prl_dates.proofs.Indices.{index_below}
 use Rattle.prl_dates.proofs.LaneSteps.{few_jobs}
 use Rattle.prl_dates.proofs.bests.narrow.Goals as goal
 
 pub overflow_add-released : goal.overflow_add-released
 overflow_add-released c =
-    let graph = c.args.graph.now in
-    let e : c.index-as_slice-task.result ≡ task_at graph c.args.task.0 =
-    c.index-as_slice-task.is ∙ task_read graph c.as_slice.result.now c.args.task.0 c.index-as_slice-task.result c.as_slice.ensures c.requires.task in
-    let small = job_small graph c.requires.well c.args.task.0 c.args.n c.requires.task c.requires.job c.index-as_slice-task.result e in
-    let s = small.0 in
-    record { fits = omega (arith, s) }
+    let small = read_small c.args.graph.now c.requires.well c.args.task.0 c.args.n c.requires.task c.requires.job _ c.as_slice.ensures c.index-as_slice-task.result c.index-as_slice-task.is in
+    record { fits = omega arith }
 
 pub bounds-bests-index : goal.bounds-bests-index
 bounds-bests-index c =
@@ -26,58 +20,36 @@ bounds-bests-index c =
 
 pub overflow_add-result : goal.overflow_add-result
 overflow_add-result c =
-    let graph = c.args.graph.now in
-    let e : c.index-as_slice-task.result ≡ task_at graph c.args.task.0 =
-    c.index-as_slice-task.is ∙ task_read graph c.as_slice.result.now c.args.task.0 c.index-as_slice-task.result c.as_slice.ensures c.requires.task in
-    let small = job_small graph c.requires.well c.args.task.0 c.args.n c.requires.task c.requires.job c.index-as_slice-task.result e in
+    let small = read_small c.args.graph.now c.requires.well c.args.task.0 c.args.n c.requires.task c.requires.job _ c.as_slice.ensures c.index-as_slice-task.result c.index-as_slice-task.is in
     let w = c.requires.within (c.jobs_before.result + c.args.n) in
-    let s = small.0 in
-    record { fits = omega (arith, s, w) }
+    record { fits = omega arith }
 
 pub overflow_cast-result-2 : goal.overflow_cast-result-2
 overflow_cast-result-2 c =
-    let graph = c.args.graph.now in
-    let e : c.index-as_slice-task.result ≡ task_at graph c.args.task.0 =
-    c.index-as_slice-task.is ∙ task_read graph c.as_slice.result.now c.args.task.0 c.index-as_slice-task.result c.as_slice.ensures c.requires.task in
-    let small = job_small graph c.requires.well c.args.task.0 c.args.n c.requires.task c.requires.job c.index-as_slice-task.result e in
+    let small = read_small c.args.graph.now c.requires.well c.args.task.0 c.args.n c.requires.task c.requires.job _ c.as_slice.ensures c.index-as_slice-task.result c.index-as_slice-task.is in
     let w = c.requires.within (c.jobs_before.result + c.args.n) in
-    let s = small.0 in
-    record { sfits = omega (arith, s, w) }
+    record { sfits = omega arith }
 
 pub overflow_add-result-2 : goal.overflow_add-result-2
 overflow_add-result-2 c =
-    let graph = c.args.graph.now in
-    let e : c.index-as_slice-task.result ≡ task_at graph c.args.task.0 =
-    c.index-as_slice-task.is ∙ task_read graph c.as_slice.result.now c.args.task.0 c.index-as_slice-task.result c.as_slice.ensures c.requires.task in
-    let small = job_small graph c.requires.well c.args.task.0 c.args.n c.requires.task c.requires.job c.index-as_slice-task.result e in
-    let s = small.0 in
-    let d = small.1 in
-    record { fits = omega (arith, s, d) }
+    let small = read_small c.args.graph.now c.requires.well c.args.task.0 c.args.n c.requires.task c.requires.job _ c.as_slice.ensures c.index-as_slice-task.result c.index-as_slice-task.is in
+    record { fits = omega arith }
 
 pub overflow_cast-result-3 : goal.overflow_cast-result-3
 overflow_cast-result-3 c =
-    let graph = c.args.graph.now in
-    let e : c.index-as_slice-task.result ≡ task_at graph c.args.task.0 =
-    c.index-as_slice-task.is ∙ task_read graph c.as_slice.result.now c.args.task.0 c.index-as_slice-task.result c.as_slice.ensures c.requires.task in
-    let small = job_small graph c.requires.well c.args.task.0 c.args.n c.requires.task c.requires.job c.index-as_slice-task.result e in
-    let s = small.0 in
-    let d = small.1 in
-    record { sfits = omega (arith, s, d) }
+    let small = read_small c.args.graph.now c.requires.well c.args.task.0 c.args.n c.requires.task c.requires.job _ c.as_slice.ensures c.index-as_slice-task.result c.index-as_slice-task.is in
+    record { sfits = omega arith }
 
 pub returns : goal.returns
 returns c =
     let graph = c.args.graph.now in
     let t = c.index-as_slice-task.result in
-    let e : c.index-as_slice-task.result ≡ task_at graph c.args.task.0 =
-    c.index-as_slice-task.is ∙ task_read graph c.as_slice.result.now c.args.task.0 c.index-as_slice-task.result c.as_slice.ensures c.requires.task in
-    let small = job_small graph c.requires.well c.args.task.0 c.args.n c.requires.task c.requires.job c.index-as_slice-task.result e in
+    let small = read_small c.args.graph.now c.requires.well c.args.task.0 c.args.n c.requires.task c.requires.job _ c.as_slice.ensures c.index-as_slice-task.result c.index-as_slice-task.is in
     let w = c.requires.within (c.jobs_before.result + c.args.n) in
     let few = few_jobs graph c.requires.well c.args.task.0 c.args.n c.requires.task c.requires.job in
-    let s = small.0 in
-    let d = small.1 in
-    narrow_is graph c.args.bests.now c.args.task c.args.n c.index-as_slice-task.result e c.requires.job (c.jobs_before.result + c.args.n)
+    narrow_is graph c.args.bests.now c.args.task c.args.n t small.is c.requires.job (c.jobs_before.result + c.args.n)
     (let j = c.jobs_before.ensures.jobs in omega (arith, j)) (to_z w64 c.args.n) (to_z_pos w64 c.args.n (omega (arith, few)))
     (to_z w64 (t.clock.start + c.args.n * t.clock.period + slice_index c.args.bests.now (c.jobs_before.result + c.args.n)))
-    (to_z_pos w64 (t.clock.start + c.args.n * t.clock.period + slice_index c.args.bests.now (c.jobs_before.result + c.args.n)) (omega (arith, s, w)))
+    (to_z_pos w64 (t.clock.start + c.args.n * t.clock.period + slice_index c.args.bests.now (c.jobs_before.result + c.args.n)) (omega arith))
     (to_z w64 (t.clock.start + c.args.n * t.clock.period + t.due))
-    (to_z_pos w64 (t.clock.start + c.args.n * t.clock.period + t.due) (omega (arith, s, d)))
+    (to_z_pos w64 (t.clock.start + c.args.n * t.clock.period + t.due) (omega arith))

@@ -18,12 +18,7 @@ pub rounds-still-requires-clause-long : goal.rounds-still-requires-clause-long
 rounds-still-requires-clause-long c = c.requires.wcets.long ∙ before_all c.args.graph.now
 
 pub rounds-still-requires-clause-few : goal.rounds-still-requires-clause-few
-rounds-still-requires-clause-few c =
-    let l = c.requires.wcets.long in
-    let a = before_all c.args.graph.now in
-    let f = c.requires.well.few_jobs in
-    let m = c.saturating_sub-most.ensures in
-    omega (arith, l, a, f, m)
+rounds-still-requires-clause-few c = omega (arith, c.requires.wcets.long, before_all c.args.graph.now, c.requires.well.few_jobs, c.saturating_sub-most.ensures)
 
 pub rounds-still-requires-clause-within : goal.rounds-still-requires-clause-within
 rounds-still-requires-clause-within c =
@@ -51,34 +46,27 @@ small_bound most table few within q =
 
 pub narrow-requires-clause-within : goal.narrow-requires-clause-within
 narrow-requires-clause-within c =
-    let l = c.requires.wcets.long in
-    let a = before_all c.args.graph.now in
-    let f = c.requires.well.few_jobs in
-    let m = c.saturating_sub-most.ensures in
-    small_bound c.saturating_sub-most.result c.rounds-still.new.now (omega (arith, l, a, f, m)) c.rounds-still.ensures.within
+    small_bound c.saturating_sub-most.result c.rounds-still.new.now
+    (omega (arith, c.requires.wcets.long, before_all c.args.graph.now, c.requires.well.few_jobs, c.saturating_sub-most.ensures)) c.rounds-still.ensures.within
 
 pub returns-in-Some : goal.returns-in-Some
 returns-in-Some c =
     let graph = c.args.graph.now in
-    let l = c.requires.wcets.long in
-    let a = before_all c.args.graph.now in
-    let m = c.saturating_sub-most.ensures in
     subst (λ (fault : DateFault). IsDateFault graph fault) (sym c.narrow.ensures)
-    (late_fault graph c.requires.well c.saturating_sub-most.result (omega (arith, l, a, m)) c.rounds-still.new.now c.rounds-still.ensures.bests c.args.dues.now c.requires.dues
+    (late_fault graph c.requires.well c.saturating_sub-most.result
+    (omega (arith, c.requires.wcets.long, before_all graph, c.saturating_sub-most.ensures)) c.rounds-still.new.now c.rounds-still.ensures.bests c.args.dues.now c.requires.dues
     c.in-Some.task c.in-Some.n c.in-Some.ensures)
 
 pub returns-then-still : goal.returns-then-still
 returns-then-still c =
     let graph = c.args.graph.now in
-    let l = c.requires.wcets.long in
-    let a = before_all c.args.graph.now in
-    let m = c.saturating_sub-most.ensures in
     record {
       rounds = c.saturating_sub-most.result;
       bests = c.rounds-still.ensures.bests;
       still = c.rounds-still.ensures.still c.if-still.true;
       long = c.rounds-still.ensures.long ∙ c.requires.wcets.long ∙ before_all c.args.graph.now;
-      due = within_dues graph c.requires.well c.saturating_sub-most.result (omega (arith, l, a, m)) c.rounds-still.new.now c.rounds-still.ensures.bests c.args.dues.now c.requires.dues
+      due = within_dues graph c.requires.well c.saturating_sub-most.result
+          (omega (arith, c.requires.wcets.long, before_all graph, c.saturating_sub-most.ensures)) c.rounds-still.new.now c.rounds-still.ensures.bests c.args.dues.now c.requires.dues
           c.in_default.ensures;
     }
 
@@ -87,11 +75,8 @@ round-requires-clause-long c = c.rounds-still.ensures.long ∙ c.requires.wcets.
 
 pub round-requires-clause-small : goal.round-requires-clause-small
 round-requires-clause-small c =
-    let l = c.requires.wcets.long in
-    let a = before_all c.args.graph.now in
-    let f = c.requires.well.few_jobs in
-    let m = c.saturating_sub-most.ensures in
-    small_bound c.saturating_sub-most.result c.rounds-still.new.now (omega (arith, l, a, f, m)) c.rounds-still.ensures.within
+    small_bound c.saturating_sub-most.result c.rounds-still.new.now
+    (omega (arith, c.requires.wcets.long, before_all c.args.graph.now, c.requires.well.few_jobs, c.saturating_sub-most.ensures)) c.rounds-still.ensures.within
 
 pub first_above-requires-2-clause-high : goal.first_above-requires-2-clause-high
 first_above-requires-2-clause-high c =
@@ -103,27 +88,24 @@ first_above-requires-2-clause-low c = c.rounds-still.ensures.long ∙ c.requires
 pub returns-in-Some-first_above : goal.returns-in-Some-first_above
 returns-in-Some-first_above c =
     let graph = c.args.graph.now in
-    let l = c.requires.wcets.long in
-    let a = before_all c.args.graph.now in
-    let m = c.saturating_sub-most.ensures in
     let first = c.in-Some-first_above.ensures in
     let few = few_jobs graph c.requires.well c.in-Some-first_above.task.0 c.in-Some-first_above.n first.of_period.0 first.of_period.1 in
     subst (λ (z : ℤ). IsDateFault graph (faults.Loop c.in-Some-first_above.task z)) (sym (to_z_pos w64 c.in-Some-first_above.n (omega (arith, few))))
-    (loop_fault graph c.requires.well c.saturating_sub-most.result (omega (arith, l, a, m)) c.rounds-still.new.now c.rounds-still.ensures.bests c.args.dues.now c.requires.dues
+    (loop_fault graph c.requires.well c.saturating_sub-most.result
+    (omega (arith, c.requires.wcets.long, before_all graph, c.saturating_sub-most.ensures)) c.rounds-still.new.now c.rounds-still.ensures.bests c.args.dues.now c.requires.dues
     c.args.lanes.now c.requires.lanes c.round.new.next c.round.ensures c.in_default.ensures c.in-Some-first_above.task c.in-Some-first_above.n first)
 
 pub returns : goal.returns
 returns c =
     let graph = c.args.graph.now in
-    let l = c.requires.wcets.long in
-    let a = before_all c.args.graph.now in
-    let m = c.saturating_sub-most.ensures in
     record {
       rounds = c.saturating_sub-most.result;
       bests = c.rounds-still.ensures.bests;
-      still = round_still graph c.requires.well c.saturating_sub-most.result (omega (arith, l, a, m)) c.rounds-still.new.now c.rounds-still.ensures.bests c.args.dues.now c.requires.dues
+      still = round_still graph c.requires.well c.saturating_sub-most.result
+          (omega (arith, c.requires.wcets.long, before_all graph, c.saturating_sub-most.ensures)) c.rounds-still.new.now c.rounds-still.ensures.bests c.args.dues.now c.requires.dues
           c.args.lanes.now c.requires.lanes c.round.new.next c.round.ensures c.in_default-first_above.ensures;
       long = c.rounds-still.ensures.long ∙ c.requires.wcets.long ∙ before_all c.args.graph.now;
-      due = within_dues graph c.requires.well c.saturating_sub-most.result (omega (arith, l, a, m)) c.rounds-still.new.now c.rounds-still.ensures.bests c.args.dues.now c.requires.dues
+      due = within_dues graph c.requires.well c.saturating_sub-most.result
+          (omega (arith, c.requires.wcets.long, before_all graph, c.saturating_sub-most.ensures)) c.rounds-still.new.now c.rounds-still.ensures.bests c.args.dues.now c.requires.dues
           c.in_default.ensures;
     }

@@ -5,51 +5,42 @@ use Rattle.prl_dates.proofs.latest.lower.Goals.{then-limit-dates, else-limit-dat
 
 pub overflow_add-limit : goal.overflow_add-limit
 overflow_add-limit c =
-    let t = index_to c.args.graph.now c.requires.well c.args.floor.now c.args.lane.now c.requires.lane c.requires.floor c.loop-k.k c.args.dates.now c.loop-k.dates c.loop-k.lowered c.loop-k.invariant
-    c.as_slice-links.result.now c.as_slice-links.ensures c.loop-k-test.true c.from-wcet.result (c.from-wcet.ensures ∙ c.wcet_of.ensures) in
-    let f = few_indices c.args.graph.now c.requires.well c.args.floor.now c.args.lane.now c.requires.lane c.requires.floor c.loop-k.k c.args.dates.now c.loop-k.dates c.loop-k.lowered c.loop-k.invariant
-    c.as_slice-links.result.now c.as_slice-links.ensures c.loop-k-test.true c.from-wcet.result (c.from-wcet.ensures ∙ c.wcet_of.ensures) in
+    let t = index_to _ c.requires.well _ _ c.requires.lane c.requires.floor _ _ _ _ c.loop-k.invariant _ c.as_slice-links.ensures c.loop-k-test.true _ (c.from-wcet.ensures ∙ c.wcet_of.ensures) in
+    let f = few_indices _ c.requires.well _ _ c.requires.lane c.requires.floor _ _ _ _ c.loop-k.invariant _ c.as_slice-links.ensures c.loop-k-test.true _ (c.from-wcet.ensures ∙ c.wcet_of.ensures) in
     record { fits = omega (arith, t, f) }
 
 pub offset_bounds-dates-first : goal.offset_bounds-dates-first
 offset_bounds-dates-first c =
-    let t = index_to c.args.graph.now c.requires.well c.args.floor.now c.args.lane.now c.requires.lane c.requires.floor c.loop-k.k c.args.dates.now c.loop-k.dates c.loop-k.lowered c.loop-k.invariant
-    c.as_slice-links.result.now c.as_slice-links.ensures c.loop-k-test.true c.from-wcet.result (c.from-wcet.ensures ∙ c.wcet_of.ensures) in
-    let f = few_indices c.args.graph.now c.requires.well c.args.floor.now c.args.lane.now c.requires.lane c.requires.floor c.loop-k.k c.args.dates.now c.loop-k.dates c.loop-k.lowered c.loop-k.invariant
-    c.as_slice-links.result.now c.as_slice-links.ensures c.loop-k-test.true c.from-wcet.result (c.from-wcet.ensures ∙ c.wcet_of.ensures) in
+    let t = index_to _ c.requires.well _ _ c.requires.lane c.requires.floor _ _ _ _ c.loop-k.invariant _ c.as_slice-links.ensures c.loop-k-test.true _ (c.from-wcet.ensures ∙ c.wcet_of.ensures) in
+    let f = few_indices _ c.requires.well _ _ c.requires.lane c.requires.floor _ _ _ _ c.loop-k.invariant _ c.as_slice-links.ensures c.loop-k-test.true _ (c.from-wcet.ensures ∙ c.wcet_of.ensures) in
     record { fits = omega (arith, t, f) }
 
 pub bounds-dates-first : goal.bounds-dates-first
-bounds-dates-first c = index_to c.args.graph.now c.requires.well c.args.floor.now c.args.lane.now c.requires.lane c.requires.floor c.loop-k.k c.args.dates.now c.loop-k.dates c.loop-k.lowered c.loop-k.invariant
-    c.as_slice-links.result.now c.as_slice-links.ensures c.loop-k-test.true c.from-wcet.result (c.from-wcet.ensures ∙ c.wcet_of.ensures)
+bounds-dates-first c =
+    index_to _ c.requires.well _ _ c.requires.lane c.requires.floor _ _ _ _ c.loop-k.invariant _ c.as_slice-links.ensures c.loop-k-test.true _ (c.from-wcet.ensures ∙ c.wcet_of.ensures)
 
 pub overflow_add-limit-in-loop-k : goal.overflow_add-limit-in-loop-k
 overflow_add-limit-in-loop-k c = record {
-  fits = sum_fits c.args.graph.now c.requires.well c.args.floor.now c.args.lane.now c.requires.lane c.requires.floor c.loop-k.k c.args.dates.now c.loop-k.dates c.loop-k.lowered c.loop-k.invariant
-      c.as_slice-links.result.now c.as_slice-links.ensures c.loop-k-test.true c.from-wcet.result (c.from-wcet.ensures ∙ c.wcet_of.ensures);
+  fits = sum_fits _ c.requires.well _ _ c.requires.lane c.requires.floor _ _ _ _ c.loop-k.invariant _ c.as_slice-links.ensures c.loop-k-test.true _ (c.from-wcet.ensures ∙ c.wcet_of.ensures);
 }
 
 pub offset_bounds-dates-from : goal.offset_bounds-dates-from
 offset_bounds-dates-from c =
-    let t = index_from c.args.graph.now c.requires.well c.args.floor.now c.args.lane.now c.requires.lane c.requires.floor c.loop-k.k c.args.dates.now c.loop-k.dates c.loop-k.lowered c.loop-k.invariant
-    c.as_slice-links.result.now c.as_slice-links.ensures c.loop-k-test.true c.from-wcet.result (c.from-wcet.ensures ∙ c.wcet_of.ensures) in
-    let f = few_indices c.args.graph.now c.requires.well c.args.floor.now c.args.lane.now c.requires.lane c.requires.floor c.loop-k.k c.args.dates.now c.loop-k.dates c.loop-k.lowered c.loop-k.invariant
-    c.as_slice-links.result.now c.as_slice-links.ensures c.loop-k-test.true c.from-wcet.result (c.from-wcet.ensures ∙ c.wcet_of.ensures) in
+    let t = index_from _ c.requires.well _ _ c.requires.lane c.requires.floor _ _ _ _ c.loop-k.invariant _ c.as_slice-links.ensures c.loop-k-test.true _ (c.from-wcet.ensures ∙ c.wcet_of.ensures) in
+    let f = few_indices _ c.requires.well _ _ c.requires.lane c.requires.floor _ _ _ _ c.loop-k.invariant _ c.as_slice-links.ensures c.loop-k-test.true _ (c.from-wcet.ensures ∙ c.wcet_of.ensures) in
     record { fits = omega (arith, t, f) }
 
 pub bounds-dates-from : goal.bounds-dates-from
-bounds-dates-from c = index_from c.args.graph.now c.requires.well c.args.floor.now c.args.lane.now c.requires.lane c.requires.floor c.loop-k.k c.args.dates.now c.loop-k.dates c.loop-k.lowered c.loop-k.invariant
-    c.as_slice-links.result.now c.as_slice-links.ensures c.loop-k-test.true c.from-wcet.result (c.from-wcet.ensures ∙ c.wcet_of.ensures)
+bounds-dates-from c =
+    index_from _ c.requires.well _ _ c.requires.lane c.requires.floor _ _ _ _ c.loop-k.invariant _ c.as_slice-links.ensures c.loop-k-test.true _ (c.from-wcet.ensures ∙ c.wcet_of.ensures)
 
 pub loop-k-preserved : goal.loop-k-preserved
 loop-k-preserved c =
     elim c.if-limit-dates.branch [
       | then-limit-dates w ↦
-          lowered_to c.args.graph.now c.requires.well c.args.floor.now c.args.lane.now c.requires.lane c.requires.floor c.loop-k.k c.args.dates.now c.loop-k.dates c.loop-k.lowered c.loop-k.invariant
-          c.as_slice-links.result.now c.as_slice-links.ensures c.loop-k-test.true c.from-wcet.result (c.from-wcet.ensures ∙ c.wcet_of.ensures)
+          lowered_to _ c.requires.well _ _ c.requires.lane c.requires.floor _ _ _ _ c.loop-k.invariant _ c.as_slice-links.ensures c.loop-k-test.true _ (c.from-wcet.ensures ∙ c.wcet_of.ensures)
           c.if-limit-dates.lowered c.if-limit-dates.dates w.dates-is w.lowered-is w.if-limit-dates.true
       | else-limit-dates w ↦
-          kept_to c.args.graph.now c.requires.well c.args.floor.now c.args.lane.now c.requires.lane c.requires.floor c.loop-k.k c.args.dates.now c.loop-k.dates c.loop-k.lowered c.loop-k.invariant
-          c.as_slice-links.result.now c.as_slice-links.ensures c.loop-k-test.true c.from-wcet.result (c.from-wcet.ensures ∙ c.wcet_of.ensures)
+          kept_to _ c.requires.well _ _ c.requires.lane c.requires.floor _ _ _ _ c.loop-k.invariant _ c.as_slice-links.ensures c.loop-k-test.true _ (c.from-wcet.ensures ∙ c.wcet_of.ensures)
           c.if-limit-dates.lowered c.if-limit-dates.dates w.dates-is w.lowered-is w.if-limit-dates.false
     ]

@@ -2,11 +2,10 @@ use Rattle.std.proofs.Common.{◌≡◌, ◌+◌, ◌-◌, ◌<◌, ◌≤◌, �
 use Rattle.std.specs.Prelude.{ℤ, pos, ◌+ℤ◌, FitsSigned}
 use Rattle.std.proofs.lemmas.Bool.{cases_lt}
 use Rattle.std.proofs.lemmas.Int.{to_z-of_z}
-use Rattle.std.proofs.lemmas.List.{get_or_append_left, get_or_default, get_or_push, length_push}
+use Rattle.std.proofs.lemmas.List.{get_or_append_left, get_or_push, length_push}
 use Rattle.prl_plan.specs.Precedence.{preceding}
 use Rattle.prl_plan.specs.Ranges.{Fits64}
-use Rattle.prl_dates.specs.code.Turns.{StepsBy}
-use Rattle.prl_dates.proofs.TurnSteps.{turned, first_fits, sum_computed}
+use Rattle.prl_dates.proofs.TurnSteps.{first_fits, next_sum}
 use Rattle.prl_dates.proofs.runs.numbers_over.Goals as goal
 
 pub overflow_add-before : goal.overflow_add-before
@@ -18,15 +17,8 @@ overflow_add-before c =
     let some = c.turn_within-turn.ensures.some in
     let past : turn.jobs ≤ n = omega arith in
     let below : n < jobs = omega arith in
-    let at : ℕ = n - turn.jobs in
-    let before = c.index-before.result.now in
-    let inside : at < length c.loop-n.numbers.items = (let l = c.loop-n.invariant.long in omega (arith, l, some, past)) in
-    let read : before ≡ preceding ops (pos at) = c.index-before.ensures ∙ get_or_default c.loop-n.numbers.items at before (pos 0) inside ∙ c.loop-n.invariant.each at (omega (arith, some, past)) in
-    let fits : Fits64 before = subst (λ (z : ℤ). Fits64 z) (sym read) (first_fits ops jobs at c.requires.fits c.requires.few (omega (arith, below))) in
-    let steps : StepsBy ops turn.jobs turn.higher = c.turn_within-turn.ensures.steps (omega (arith, past, below)) in
-    let sum : to_z w64 (of_z w64 before) +ℤ to_z w64 turn.higher ≡ preceding ops (pos n) =
-    sum_computed before turn.higher fits c.turn_within-turn.ensures.small ∙ ap (λ (z : ℤ). z +ℤ pos turn.higher) read
-    ∙ turned ops jobs turn.jobs turn.higher n c.requires.fits c.requires.few below past steps in
+    let sum = next_sum ops jobs n c.requires.fits c.requires.few below turn some past c.turn_within-turn.ensures.small (c.turn_within-turn.ensures.steps (omega (arith, past, below)))
+    c.loop-n.numbers.items c.loop-n.invariant.long c.loop-n.invariant.each c.index-before.result.now c.index-before.ensures in
     subst (λ (z : ℤ). FitsSigned w64 z) (sym sum) (first_fits ops jobs n c.requires.fits c.requires.few below)
 
 pub loop-n-preserved : goal.loop-n-preserved
@@ -38,17 +30,11 @@ loop-n-preserved c =
     let some = c.turn_within-turn.ensures.some in
     let past : turn.jobs ≤ n = omega arith in
     let below : n < jobs = omega arith in
-    let at : ℕ = n - turn.jobs in
-    let before = c.index-before.result.now in
     let numbers = c.loop-n.numbers.items in
-    let inside : at < length numbers = (let l = c.loop-n.invariant.long in omega (arith, l, some, past)) in
-    let read : before ≡ preceding ops (pos at) = c.index-before.ensures ∙ get_or_default numbers at before (pos 0) inside ∙ c.loop-n.invariant.each at (omega (arith, some, past)) in
-    let fits : Fits64 before = subst (λ (z : ℤ). Fits64 z) (sym read) (first_fits ops jobs at c.requires.fits c.requires.few (omega (arith, below))) in
-    let steps : StepsBy ops turn.jobs turn.higher = c.turn_within-turn.ensures.steps (omega (arith, past, below)) in
-    let computed : ℤ = to_z w64 (of_z w64 before) +ℤ to_z w64 turn.higher in
+    let computed : ℤ = to_z w64 (of_z w64 c.index-before.result.now) +ℤ to_z w64 turn.higher in
     let sum : computed ≡ preceding ops (pos n) =
-    sum_computed before turn.higher fits c.turn_within-turn.ensures.small ∙ ap (λ (z : ℤ). z +ℤ pos turn.higher) read
-    ∙ turned ops jobs turn.jobs turn.higher n c.requires.fits c.requires.few below past steps in
+    next_sum ops jobs n c.requires.fits c.requires.few below turn some past c.turn_within-turn.ensures.small (c.turn_within-turn.ensures.steps (omega (arith, past, below)))
+    numbers c.loop-n.invariant.long c.loop-n.invariant.each c.index-before.result.now c.index-before.ensures in
     let pushed : to_z w64 (of_z w64 computed) ≡ preceding ops (pos n) =
     to_z-of_z w64 computed (subst (λ (z : ℤ). Fits64 z) (sym sum) (first_fits ops jobs n c.requires.fits c.requires.few below)) ∙ sum in
     let items : c.push.new.self.items ≡ numbers ++ to_z w64 (of_z w64 computed) ∷ [] = c.in_ok-push.ensures.items in

@@ -1,24 +1,25 @@
 use Rattle.std.proofs.Common.{◌≡◌, ◌*◌, ◌/◌, ◌≤◌, ℕ, sym, ap, subst, ◌∙◌, arith}
 use Rattle.std.specs.Int.{IsGcd}
 use Rattle.prl_base.specs.declared.operators.Op.{Op}
+use Rattle.prl_base.specs.declared.operators.Op.TheVariants as operators
 use Rattle.prl_plan.specs.Ranges.{HasFactor}
 use Rattle.prl_dates.specs.code.Turns.{IsTurnUnder}
 use Rattle.prl_dates.proofs.TurnSteps.{divisor_some, under_up, under_down}
 use Rattle.prl_dates.proofs.turns.turn_under.Goals as goal
 
+-- the common divisor of a factor is some
+common_some : (op : Op) (k from g higher : ℕ) → op ≡ operators.Up k → HasFactor op → from ≡ k → IsGcd from higher g → 1 ≤ g
+common_some op k from g higher is has same gcd =
+    let some : 1 ≤ k = subst (λ (o : Op). HasFactor o) is has in
+    divisor_some from higher g (omega (arith, some, same)) gcd
+
 pub nonzero_div-from : goal.nonzero_div-from
 nonzero_div-from c =
-    let some : 1 ≤ c.in-Up.k = subst (λ (o : Op). HasFactor o) c.in-Up.is c.requires in
-    let same : c.from.result ≡ c.in-Up.k = c.from.ensures in
-    let found : 1 ≤ c.gcd-common.result = divisor_some c.from.result c.args.turn.higher c.gcd-common.result (omega (arith, some, same)) c.gcd-common.ensures in
-    omega (arith, found)
+    omega (arith, common_some _ _ _ _ c.args.turn.higher c.in-Up.is c.requires c.from.ensures c.gcd-common.ensures)
 
 pub nonzero_div-result : goal.nonzero_div-result
 nonzero_div-result c =
-    let some : 1 ≤ c.in-Up.k = subst (λ (o : Op). HasFactor o) c.in-Up.is c.requires in
-    let same : c.from.result ≡ c.in-Up.k = c.from.ensures in
-    let found : 1 ≤ c.gcd-common.result = divisor_some c.from.result c.args.turn.higher c.gcd-common.result (omega (arith, some, same)) c.gcd-common.ensures in
-    omega (arith, found)
+    omega (arith, common_some _ _ _ _ c.args.turn.higher c.in-Up.is c.requires c.from.ensures c.gcd-common.ensures)
 
 pub returns-in_ok-checked_mul-in-Up : goal.returns-in_ok-checked_mul-in-Up
 returns-in_ok-checked_mul-in-Up c =

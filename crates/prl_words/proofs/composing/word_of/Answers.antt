@@ -21,8 +21,11 @@ record Slow (ops : List Op) (count times : ℕ) (w : Word) : Type 0 where
   step : w.step_in * times ≤ 10000000
   at : (n : ℕ) → word_at w n ≡ walk (drop count ops) n
 
-slow : (ops : List Op) (count times : ℕ) (w : Word) → length ops < 2 ^ 32 → (jobs : ℕ) → HaveCounts ops jobs → IsLeading ops count times → IsComposed (drop count ops) w → Slow ops count times w
-slow ops count times w few jobs counts lead composed =
+slow : (ops : List Op) (count times : ℕ) (w : Word) → length ops < 2 ^ 32 → (jobs : ℕ) × HaveCounts ops jobs → IsLeading ops count times → (rest : List Op) → rest ≡ drop count ops → IsComposed rest w → Slow ops count times w
+slow ops count times w few has lead rest is made =
+    let jobs : ℕ = has.0 in
+    let counts = has.1 in
+    let composed : IsComposed (drop count ops) w = subst (λ (xs : List Op). IsComposed xs w) is made in
     let b = lead.counts jobs counts in
     let s : IsSoFar b.0 (drop count ops) [] w = composed.each b.0 b.1 in
     let fit = counts_here ops jobs counts in
@@ -48,37 +51,29 @@ slow ops count times w few jobs counts lead composed =
 pub held-requires-clause-prefix : goal.held-requires-clause-prefix
 held-requires-clause-prefix c =
     let lead = c.leading_rates-operators.ensures in
-    let composed : IsComposed (drop c.leading_rates-operators.result.operators c.args.ops.now) c.in_ok-slow.slow =
-    subst (λ (xs : List Op). IsComposed xs c.in_ok-slow.slow) (take_rest c.args.ops.now c.leading_rates-operators.result.operators) c.in_ok-slow.ensures in
-    let s = slow c.args.ops.now c.leading_rates-operators.result.operators c.leading_rates-operators.result.times c.in_ok-slow.slow c.requires.few c.requires.counts.0 c.requires.counts.1 lead composed in
-    (let p = s.prefix in omega (arith, p))
+    let s = slow c.args.ops.now _ _ c.in_ok-slow.slow c.requires.few c.requires.counts lead _ (take_rest c.args.ops.now c.leading_rates-operators.result.operators) c.in_ok-slow.ensures in
+    omega (arith, s.prefix)
 
 pub held-requires-clause-repeat : goal.held-requires-clause-repeat
 held-requires-clause-repeat c =
     let lead = c.leading_rates-operators.ensures in
-    let composed : IsComposed (drop c.leading_rates-operators.result.operators c.args.ops.now) c.in_ok-slow.slow =
-    subst (λ (xs : List Op). IsComposed xs c.in_ok-slow.slow) (take_rest c.args.ops.now c.leading_rates-operators.result.operators) c.in_ok-slow.ensures in
-    let s = slow c.args.ops.now c.leading_rates-operators.result.operators c.leading_rates-operators.result.times c.in_ok-slow.slow c.requires.few c.requires.counts.0 c.requires.counts.1 lead composed in
+    let s = slow c.args.ops.now _ _ c.in_ok-slow.slow c.requires.few c.requires.counts lead _ (take_rest c.args.ops.now c.leading_rates-operators.result.operators) c.in_ok-slow.ensures in
     let l : length c.in_ok-slow.slow.repeat * c.leading_rates-operators.result.times ≡ c.in_ok-slow.slow.step_in * c.leading_rates-operators.result.times =
     ap (λ (x : ℕ). x * c.leading_rates-operators.result.times) s.steady.word.long in
-    (let p = s.step in omega (arith, p, l))
+    omega (arith, s.step, l)
 
 pub held-requires-clause-step : goal.held-requires-clause-step
 held-requires-clause-step c =
     let lead = c.leading_rates-operators.ensures in
-    let composed : IsComposed (drop c.leading_rates-operators.result.operators c.args.ops.now) c.in_ok-slow.slow =
-    subst (λ (xs : List Op). IsComposed xs c.in_ok-slow.slow) (take_rest c.args.ops.now c.leading_rates-operators.result.operators) c.in_ok-slow.ensures in
-    let s = slow c.args.ops.now c.leading_rates-operators.result.operators c.leading_rates-operators.result.times c.in_ok-slow.slow c.requires.few c.requires.counts.0 c.requires.counts.1 lead composed in
-    (let p = s.step in omega (arith, p))
+    let s = slow c.args.ops.now _ _ c.in_ok-slow.slow c.requires.few c.requires.counts lead _ (take_rest c.args.ops.now c.leading_rates-operators.result.operators) c.in_ok-slow.ensures in
+    omega (arith, s.step)
 
 pub shortened-requires : goal.shortened-requires
 shortened-requires c =
     let lead = c.leading_rates-operators.ensures in
-    let composed : IsComposed (drop c.leading_rates-operators.result.operators c.args.ops.now) c.in_ok-slow.slow =
-    subst (λ (xs : List Op). IsComposed xs c.in_ok-slow.slow) (take_rest c.args.ops.now c.leading_rates-operators.result.operators) c.in_ok-slow.ensures in
-    let s = slow c.args.ops.now c.leading_rates-operators.result.operators c.leading_rates-operators.result.times c.in_ok-slow.slow c.requires.few c.requires.counts.0 c.requires.counts.1 lead composed in
+    let s = slow c.args.ops.now _ _ c.in_ok-slow.slow c.requires.few c.requires.counts lead _ (take_rest c.args.ops.now c.leading_rates-operators.result.operators) c.in_ok-slow.ensures in
     steady_held c.leading_rates-operators.result.times lead.some c.in_ok-slow.slow c.in_ok-long.long s.steady.word c.in_ok-long.ensures s.steady
-    (let p = s.step in let e = c.in_ok-long.ensures.step_in in omega (arith, p, e))
+    (omega (arith, s.step, c.in_ok-long.ensures.step_in))
 
 word_made : (ops : List Op) (count times : ℕ) (w t r : Word) → IsLeading ops count times → Slow ops count times w → IsHeld times w t → IsShortened t r → IsWordOf ops r
 word_made ops count times w t r lead s held shortened =
@@ -89,8 +84,6 @@ word_made ops count times w t r lead s held shortened =
 pub returns : goal.returns
 returns c =
     let lead = c.leading_rates-operators.ensures in
-    let composed : IsComposed (drop c.leading_rates-operators.result.operators c.args.ops.now) c.in_ok-slow.slow =
-    subst (λ (xs : List Op). IsComposed xs c.in_ok-slow.slow) (take_rest c.args.ops.now c.leading_rates-operators.result.operators) c.in_ok-slow.ensures in
-    let s = slow c.args.ops.now c.leading_rates-operators.result.operators c.leading_rates-operators.result.times c.in_ok-slow.slow c.requires.few c.requires.counts.0 c.requires.counts.1 lead composed in
+    let s = slow c.args.ops.now _ _ c.in_ok-slow.slow c.requires.few c.requires.counts lead _ (take_rest c.args.ops.now c.leading_rates-operators.result.operators) c.in_ok-slow.ensures in
     word_made c.args.ops.now c.leading_rates-operators.result.operators c.leading_rates-operators.result.times c.in_ok-slow.slow c.in_ok-long.long c.in_ok-word.word
     lead s c.in_ok-long.ensures c.in_ok-word.ensures

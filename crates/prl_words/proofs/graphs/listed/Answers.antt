@@ -3,10 +3,9 @@ use Rattle.std.specs.Prelude.{slice_get}
 use Rattle.std.proofs.lemmas.Option.{slice_get_within}
 use Rattle.prl_base.specs.declared.operators.Op.{Op}
 use Rattle.prl_plan.specs.declared.words.Word.{Word}
-use Rattle.prl_words.specs.Counts.{HaveCounts}
 use Rattle.prl_plan.specs.Words.{IsWordOf}
 use Rattle.prl_plan.specs.Words.{AreWords}
-use Rattle.prl_words.proofs.Constants.{edge_counts, edge_read}
+use Rattle.prl_words.proofs.Constants.{edge_few, edge_jobs, edge_read}
 use Rattle.prl_plan.specs.declared.graphs.Edge.{Edge}
 use Rattle.prl_plan.specs.FirstReaders.{first_reader}
 use Rattle.prl_plan.proofs.ReaderLaws.{is_first_reader}
@@ -16,20 +15,11 @@ use Rattle.prl_words.proofs.graphs.listed.Goals as goal
 
 pub word_of-requires-clause-counts : goal.word_of-requires-clause-counts
 word_of-requires-clause-counts c =
-    let graph = c.args.graph.now in
-    let edge = c.edge-item.result in
-    let found : slice_get graph.edges c.loop-edge.edge-index ≡ Some edge =
-    edge_read c.as_slice-edge-items.result.now graph.edges c.loop-edge.edge-index edge c.as_slice-edge-items.ensures c.loop-edge-test.true c.edge-item.is in
-    let has = edge_counts graph c.requires.well c.loop-edge.edge-index edge found in
-    (has.jobs, subst (λ (ops : List Op). HaveCounts ops has.jobs) (sym c.as_slice.ensures) has.counts)
+    edge_jobs c.args.graph.now c.requires.well _ c.loop-edge.edge-index c.edge-item.result c.as_slice-edge-items.ensures c.loop-edge-test.true c.edge-item.is _ c.as_slice.ensures
 
 pub word_of-requires-clause-few : goal.word_of-requires-clause-few
 word_of-requires-clause-few c =
-    let graph = c.args.graph.now in
-    let edge = c.edge-item.result in
-    let found : slice_get graph.edges c.loop-edge.edge-index ≡ Some edge =
-    edge_read c.as_slice-edge-items.result.now graph.edges c.loop-edge.edge-index edge c.as_slice-edge-items.ensures c.loop-edge-test.true c.edge-item.is in
-    omega (arith, ap length c.as_slice.ensures, (c.requires.well.edges c.loop-edge.edge-index edge found).few)
+    edge_few c.args.graph.now c.requires.well _ c.loop-edge.edge-index c.edge-item.result c.as_slice-edge-items.ensures c.loop-edge-test.true c.edge-item.is _ c.as_slice.ensures
 
 pub loop-edge-preserved : goal.loop-edge-preserved
 loop-edge-preserved c =

@@ -1,29 +1,18 @@
-use Rattle.std.proofs.Common.{◌≡◌, ◌+◌, ◌<◌, ◌≤◌, List, Some, length, take, get_or, sym, ap, subst, ◌∙◌, arith}
+use Rattle.std.proofs.Common.{◌≡◌, ◌+◌, ◌<◌, ◌≤◌, List, Some, length, take, get_or, ap, ◌∙◌, arith}
 use Rattle.std.specs.Prelude.{slice_get, sum_by}
 use Rattle.std.proofs.lemmas.List.Sums.{sum_by_more}
-use Rattle.prl_base.specs.declared.operators.Op.{Op}
 use Rattle.prl_plan.specs.declared.graphs.Edge.{Edge}
 use Rattle.prl_plan.specs.FirstReaders.{first_reader}
-use Rattle.prl_words.specs.Counts.{HaveCounts}
-use Rattle.prl_words.proofs.Constants.{edge_counts, edge_bound, edge_read}
+use Rattle.prl_words.proofs.Constants.{edge_bound, edge_few, edge_jobs, edge_read}
 use Rattle.prl_words.proofs.prefixes.all_constants.Goals as goal
 
 pub constants-count-requires-clause-counts : goal.constants-count-requires-clause-counts
 constants-count-requires-clause-counts c =
-    let graph = c.args.graph.now in
-    let edge = c.edge-item.result in
-    let found : slice_get graph.edges c.loop-edge.edge-index ≡ Some edge =
-    edge_read c.as_slice-edge-items.result.now graph.edges c.loop-edge.edge-index edge c.as_slice-edge-items.ensures c.loop-edge-test.true c.edge-item.is in
-    let has = edge_counts graph c.requires.well c.loop-edge.edge-index edge found in
-    (has.jobs, subst (λ (ops : List Op). HaveCounts ops has.jobs) (sym c.as_slice.ensures) has.counts)
+    edge_jobs c.args.graph.now c.requires.well _ c.loop-edge.edge-index c.edge-item.result c.as_slice-edge-items.ensures c.loop-edge-test.true c.edge-item.is _ c.as_slice.ensures
 
 pub constants-count-requires-clause-few : goal.constants-count-requires-clause-few
 constants-count-requires-clause-few c =
-    let graph = c.args.graph.now in
-    let edge = c.edge-item.result in
-    let found : slice_get graph.edges c.loop-edge.edge-index ≡ Some edge =
-    edge_read c.as_slice-edge-items.result.now graph.edges c.loop-edge.edge-index edge c.as_slice-edge-items.ensures c.loop-edge-test.true c.edge-item.is in
-    omega (arith, ap length c.as_slice.ensures, (c.requires.well.edges c.loop-edge.edge-index edge found).few)
+    edge_few c.args.graph.now c.requires.well _ c.loop-edge.edge-index c.edge-item.result c.as_slice-edge-items.ensures c.loop-edge-test.true c.edge-item.is _ c.as_slice.ensures
 
 pub overflow_add-count : goal.overflow_add-count
 overflow_add-count c =

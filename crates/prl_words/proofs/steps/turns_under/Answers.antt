@@ -8,23 +8,21 @@ use Rattle.prl_words.proofs.Turns.{first_some}
 use Rattle.prl_words.proofs.Rooms.{gcd_some}
 use Rattle.prl_words.proofs.steps.turns_under.Goals as goal
 
+-- the common divisor of a factor is some
+common_some : (op : Op) (k count before from step g : ℕ) → op ≡ operators.Up k → IsCountBefore op count before → 1 ≤ count → from ≡ k → IsGcd from step g → 1 ≤ g
+common_some op k count before from step g is counts some same gcd =
+    let factor : IsCountBefore (operators.Up k) count before = subst (λ (o : Op). IsCountBefore o count before) is counts in
+    gcd_some from step g (omega (arith, first_some k before count factor some, same)) gcd
+
 pub nonzero_div-result : goal.nonzero_div-result
 nonzero_div-result c =
     let room = c.requires in
-    let factor : IsCountBefore (operators.Up c.in-Up.k) room.count room.before = subst (λ (o : Op). IsCountBefore o room.count room.before) c.in-Up.is room.step in
-    let some : 1 ≤ c.in-Up.k = first_some c.in-Up.k room.before room.count factor room.count_fits.0 in
-    let some_from : 1 ≤ c.from.result = omega (arith, some, c.from.ensures) in
-    let found : 1 ≤ c.gcd-common.result = gcd_some c.from.result c.args.word.now.step_out c.gcd-common.result some_from c.gcd-common.ensures in
-    omega (arith, found)
+    omega (arith, common_some _ c.in-Up.k room.count room.before _ _ _ c.in-Up.is room.step room.count_fits.0 c.from.ensures c.gcd-common.ensures)
 
 pub nonzero_div-result-in-Up : goal.nonzero_div-result-in-Up
 nonzero_div-result-in-Up c =
     let room = c.requires in
-    let factor : IsCountBefore (operators.Up c.in-Up.k) room.count room.before = subst (λ (o : Op). IsCountBefore o room.count room.before) c.in-Up.is room.step in
-    let some : 1 ≤ c.in-Up.k = first_some c.in-Up.k room.before room.count factor room.count_fits.0 in
-    let some_from : 1 ≤ c.from.result = omega (arith, some, c.from.ensures) in
-    let found : 1 ≤ c.gcd-common.result = gcd_some c.from.result c.args.word.now.step_out c.gcd-common.result some_from c.gcd-common.ensures in
-    omega (arith, found)
+    omega (arith, common_some _ c.in-Up.k room.count room.before _ _ _ c.in-Up.is room.step room.count_fits.0 c.from.ensures c.gcd-common.ensures)
 
 pub returns-in-Up : goal.returns-in-Up
 returns-in-Up c =

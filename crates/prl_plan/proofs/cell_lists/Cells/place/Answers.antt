@@ -23,26 +23,22 @@ returns-then-m-used c =
 
 pub nonzero_rem-past : goal.nonzero_rem-past
 nonzero_rem-past c =
-    let none = c.if-gaps-eq0.false in
-    let k = known (slice_index_or c.args.self.now.used c.args.e.0 no_used) c.used-used.result.now c.args.m c.len-gaps.result c.sum_of-total.result c.used-used.ensures c.requires.order c.len-gaps.ensures
-    (λ zero. omega (arith, zero, none)) c.if-m-used.false c.sum_of-total.ensures in
-    let s = some_total (slice_index_or c.args.self.now.used c.args.e.0 no_used) c.args.m c.len-gaps.result c.sum_of-total.result k in
-    omega (arith, s)
+    let k = known _ _ c.args.m c.len-gaps.result c.sum_of-total.result c.used-used.ensures c.requires.order c.len-gaps.ensures
+    (λ zero. omega (arith, zero, c.if-gaps-eq0.false)) c.if-m-used.false c.sum_of-total.ensures in
+    omega (arith, some_total _ _ _ _ k)
 
 pub gaps_to-last-requires-clause-rest : goal.gaps_to-last-requires-clause-rest
 gaps_to-last-requires-clause-rest c =
-    let none = c.if-gaps-eq0.false in
-    let k = known (slice_index_or c.args.self.now.used c.args.e.0 no_used) c.used-used.result.now c.args.m c.len-gaps.result c.sum_of-total.result c.used-used.ensures c.requires.order c.len-gaps.ensures
-    (λ zero. omega (arith, zero, none)) c.if-m-used.false c.sum_of-total.ensures in
-    let b = rest_below (slice_index_or c.args.self.now.used c.args.e.0 no_used) c.args.m c.len-gaps.result c.sum_of-total.result k in
+    let k = known _ _ c.args.m c.len-gaps.result c.sum_of-total.result c.used-used.ensures c.requires.order c.len-gaps.ensures
+    (λ zero. omega (arith, zero, c.if-gaps-eq0.false)) c.if-m-used.false c.sum_of-total.ensures in
+    let b = rest_below _ _ _ _ k in
     let f = ap (λ (u : Used). (c.args.m - u.first) % c.sum_of-total.result) c.used-used.ensures in
     omega (arith, b, f)
 
 pub returns-then-sum_of-past : goal.returns-then-sum_of-past
 returns-then-sum_of-past c =
-    let none = c.if-gaps-eq0.false in
-    let k = known (slice_index_or c.args.self.now.used c.args.e.0 no_used) c.used-used.result.now c.args.m c.len-gaps.result c.sum_of-total.result c.used-used.ensures c.requires.order c.len-gaps.ensures
-    (λ zero. omega (arith, zero, none)) c.if-m-used.false c.sum_of-total.ensures in
+    let k = known _ _ c.args.m c.len-gaps.result c.sum_of-total.result c.used-used.ensures c.requires.order c.len-gaps.ensures
+    (λ zero. omega (arith, zero, c.if-gaps-eq0.false)) c.if-m-used.false c.sum_of-total.ensures in
     let f = ap (λ (u : Used). (c.args.m - u.first) % c.sum_of-total.result) c.used-used.ensures in
     let differs = c.if-sum_of-past.true in
     let e = c.gaps_to-last.ensures in
@@ -58,28 +54,18 @@ at_last used now m gaps total last reached same k below sum_is is = rw same (is_
 
 pub returns : goal.returns
 returns c =
-    let none = c.if-gaps-eq0.false in
-    let k = known (slice_index_or c.args.self.now.used c.args.e.0 no_used) c.used-used.result.now c.args.m c.len-gaps.result c.sum_of-total.result c.used-used.ensures c.requires.order c.len-gaps.ensures
-    (λ zero. omega (arith, zero, none)) c.if-m-used.false c.sum_of-total.ensures in
-    (at_last (slice_index_or c.args.self.now.used c.args.e.0 no_used) c.used-used.result.now c.args.m c.len-gaps.result c.sum_of-total.result c.gaps_to-last.result c.sum_of.result
-    c.used-used.ensures k c.gaps_to-last.ensures.inside c.sum_of.ensures c.if-sum_of-past.false).0
+    let k = known _ _ c.args.m c.len-gaps.result c.sum_of-total.result c.used-used.ensures c.requires.order c.len-gaps.ensures
+    (λ zero. omega (arith, zero, c.if-gaps-eq0.false)) c.if-m-used.false c.sum_of-total.ensures in
+    (at_last _ _ c.args.m _ _ c.gaps_to-last.result _ c.used-used.ensures k c.gaps_to-last.ensures.inside c.sum_of.ensures c.if-sum_of-past.false).0
 
 pub overflow_add-result : goal.overflow_add-result
 overflow_add-result c =
-    let none = c.if-gaps-eq0.false in
-    let k = known (slice_index_or c.args.self.now.used c.args.e.0 no_used) c.used-used.result.now c.args.m c.len-gaps.result c.sum_of-total.result c.used-used.ensures c.requires.order c.len-gaps.ensures
-    (λ zero. omega (arith, zero, none)) c.if-m-used.false c.sum_of-total.ensures in
-    let small = (at_last (slice_index_or c.args.self.now.used c.args.e.0 no_used) c.used-used.result.now c.args.m c.len-gaps.result c.sum_of-total.result c.gaps_to-last.result c.sum_of.result
-    c.used-used.ensures k c.gaps_to-last.ensures.inside c.sum_of.ensures c.if-sum_of-past.false).1 in
-    let fits = c.ranges.m.fits in
-    omega (arith, small, fits)
+    let k = known _ _ c.args.m c.len-gaps.result c.sum_of-total.result c.used-used.ensures c.requires.order c.len-gaps.ensures
+    (λ zero. omega (arith, zero, c.if-gaps-eq0.false)) c.if-m-used.false c.sum_of-total.ensures in
+    omega (arith, (at_last _ _ c.args.m _ _ c.gaps_to-last.result _ c.used-used.ensures k c.gaps_to-last.ensures.inside c.sum_of.ensures c.if-sum_of-past.false).1, c.ranges.m.fits)
 
 pub overflow_mul-result : goal.overflow_mul-result
 overflow_mul-result c =
-    let none = c.if-gaps-eq0.false in
-    let k = known (slice_index_or c.args.self.now.used c.args.e.0 no_used) c.used-used.result.now c.args.m c.len-gaps.result c.sum_of-total.result c.used-used.ensures c.requires.order c.len-gaps.ensures
-    (λ zero. omega (arith, zero, none)) c.if-m-used.false c.sum_of-total.ensures in
-    let small = (at_last (slice_index_or c.args.self.now.used c.args.e.0 no_used) c.used-used.result.now c.args.m c.len-gaps.result c.sum_of-total.result c.gaps_to-last.result c.sum_of.result
-    c.used-used.ensures k c.gaps_to-last.ensures.inside c.sum_of.ensures c.if-sum_of-past.false).1 in
-    let fits = c.ranges.m.fits in
-    omega (arith, small, fits)
+    let k = known _ _ c.args.m c.len-gaps.result c.sum_of-total.result c.used-used.ensures c.requires.order c.len-gaps.ensures
+    (λ zero. omega (arith, zero, c.if-gaps-eq0.false)) c.if-m-used.false c.sum_of-total.ensures in
+    omega (arith, (at_last _ _ c.args.m _ _ c.gaps_to-last.result _ c.used-used.ensures k c.gaps_to-last.ensures.inside c.sum_of.ensures c.if-sum_of-past.false).1, c.ranges.m.fits)

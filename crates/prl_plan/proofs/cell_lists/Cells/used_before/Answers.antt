@@ -1,7 +1,5 @@
 use Rattle.std.proofs.Common.{◌≡◌, ◌+◌, ◌-◌, ◌*◌, ◌/◌, ◌%◌, ◌<◌, ◌≤◌, ℕ, length, sum, take, refl, sym, ap, subst, arith}
-use Rattle.std.specs.Prelude.{slice_index_or}
 use Rattle.prl_plan.specs.declared.tables.Used.{Used}
-use Rattle.prl_plan.specs.Cells.{no_used}
 use Rattle.prl_plan.specs.CellLists.{IsOrdered, CountsUsed}
 use Rattle.prl_plan.proofs.PlaceLaws.{Known, known, some_total, rest_below, number, counts_at}
 use Rattle.prl_plan.proofs.cell_lists.Cells.used_before.Goals as goal
@@ -24,63 +22,47 @@ counted used now m gaps total last same k first below low high =
 
 pub nonzero_div-result : goal.nonzero_div-result
 nonzero_div-result c =
-    let none = c.if-gaps-eq0.false in
-    let k = here (slice_index_or c.args.self.now.used c.args.e.0 no_used) c.used-used.result.now c.args.m c.len-gaps.result c.sum_of-total.result c.used-used.ensures c.requires.order c.len-gaps.ensures
-    (λ zero. omega (arith, zero, none)) c.if-m-used.false c.sum_of-total.ensures in
-    let s = some_total (slice_index_or c.args.self.now.used c.args.e.0 no_used) (c.args.m - 1) c.len-gaps.result c.sum_of-total.result k in
-    omega (arith, s)
+    let k = here _ _ c.args.m c.len-gaps.result c.sum_of-total.result c.used-used.ensures c.requires.order c.len-gaps.ensures
+    (λ zero. omega (arith, zero, c.if-gaps-eq0.false)) c.if-m-used.false c.sum_of-total.ensures in
+    omega (arith, some_total _ _ _ _ k)
 
 pub nonzero_rem-past : goal.nonzero_rem-past
 nonzero_rem-past c =
-    let none = c.if-gaps-eq0.false in
-    let k = here (slice_index_or c.args.self.now.used c.args.e.0 no_used) c.used-used.result.now c.args.m c.len-gaps.result c.sum_of-total.result c.used-used.ensures c.requires.order c.len-gaps.ensures
-    (λ zero. omega (arith, zero, none)) c.if-m-used.false c.sum_of-total.ensures in
-    let s = some_total (slice_index_or c.args.self.now.used c.args.e.0 no_used) (c.args.m - 1) c.len-gaps.result c.sum_of-total.result k in
-    omega (arith, s)
+    let k = here _ _ c.args.m c.len-gaps.result c.sum_of-total.result c.used-used.ensures c.requires.order c.len-gaps.ensures
+    (λ zero. omega (arith, zero, c.if-gaps-eq0.false)) c.if-m-used.false c.sum_of-total.ensures in
+    omega (arith, some_total _ _ _ _ k)
 
 pub gaps_to-last-requires-clause-rest : goal.gaps_to-last-requires-clause-rest
 gaps_to-last-requires-clause-rest c =
-    let none = c.if-gaps-eq0.false in
-    let k = here (slice_index_or c.args.self.now.used c.args.e.0 no_used) c.used-used.result.now c.args.m c.len-gaps.result c.sum_of-total.result c.used-used.ensures c.requires.order c.len-gaps.ensures
-    (λ zero. omega (arith, zero, none)) c.if-m-used.false c.sum_of-total.ensures in
-    let b = rest_below (slice_index_or c.args.self.now.used c.args.e.0 no_used) (c.args.m - 1) c.len-gaps.result c.sum_of-total.result k in
+    let k = here _ _ c.args.m c.len-gaps.result c.sum_of-total.result c.used-used.ensures c.requires.order c.len-gaps.ensures
+    (λ zero. omega (arith, zero, c.if-gaps-eq0.false)) c.if-m-used.false c.sum_of-total.ensures in
+    let b = rest_below _ _ _ _ k in
     let f = ap (λ (u : Used). (c.args.m - 1 - u.first) % c.sum_of-total.result) c.used-used.ensures in
     omega (arith, b, f)
 
 pub returns : goal.returns
 returns c =
-    let none = c.if-gaps-eq0.false in
-    let k = here (slice_index_or c.args.self.now.used c.args.e.0 no_used) c.used-used.result.now c.args.m c.len-gaps.result c.sum_of-total.result c.used-used.ensures c.requires.order c.len-gaps.ensures
-    (λ zero. omega (arith, zero, none)) c.if-m-used.false c.sum_of-total.ensures in
-    (counted (slice_index_or c.args.self.now.used c.args.e.0 no_used) c.used-used.result.now c.args.m c.len-gaps.result c.sum_of-total.result c.gaps_to-last.result c.used-used.ensures k c.if-m-used.false
-    c.gaps_to-last.ensures.inside c.gaps_to-last.ensures.reached c.gaps_to-last.ensures.not_passed).0
+    let k = here _ _ c.args.m c.len-gaps.result c.sum_of-total.result c.used-used.ensures c.requires.order c.len-gaps.ensures
+    (λ zero. omega (arith, zero, c.if-gaps-eq0.false)) c.if-m-used.false c.sum_of-total.ensures in
+    (counted _ _ c.args.m _ _ c.gaps_to-last.result c.used-used.ensures k c.if-m-used.false c.gaps_to-last.ensures.inside c.gaps_to-last.ensures.reached c.gaps_to-last.ensures.not_passed).0
 
 pub overflow_add-result : goal.overflow_add-result
 overflow_add-result c =
-    let none = c.if-gaps-eq0.false in
-    let k = here (slice_index_or c.args.self.now.used c.args.e.0 no_used) c.used-used.result.now c.args.m c.len-gaps.result c.sum_of-total.result c.used-used.ensures c.requires.order c.len-gaps.ensures
-    (λ zero. omega (arith, zero, none)) c.if-m-used.false c.sum_of-total.ensures in
-    let s = (counted (slice_index_or c.args.self.now.used c.args.e.0 no_used) c.used-used.result.now c.args.m c.len-gaps.result c.sum_of-total.result c.gaps_to-last.result c.used-used.ensures k c.if-m-used.false
-    c.gaps_to-last.ensures.inside c.gaps_to-last.ensures.reached c.gaps_to-last.ensures.not_passed).1 in
-    let small = c.requires.small in
-    omega (arith, s, small)
+    let k = here _ _ c.args.m c.len-gaps.result c.sum_of-total.result c.used-used.ensures c.requires.order c.len-gaps.ensures
+    (λ zero. omega (arith, zero, c.if-gaps-eq0.false)) c.if-m-used.false c.sum_of-total.ensures in
+    let s = (counted _ _ c.args.m _ _ c.gaps_to-last.result c.used-used.ensures k c.if-m-used.false c.gaps_to-last.ensures.inside c.gaps_to-last.ensures.reached c.gaps_to-last.ensures.not_passed).1 in
+    omega (arith, s, c.requires.small)
 
 pub overflow_add-result-2 : goal.overflow_add-result-2
 overflow_add-result-2 c =
-    let none = c.if-gaps-eq0.false in
-    let k = here (slice_index_or c.args.self.now.used c.args.e.0 no_used) c.used-used.result.now c.args.m c.len-gaps.result c.sum_of-total.result c.used-used.ensures c.requires.order c.len-gaps.ensures
-    (λ zero. omega (arith, zero, none)) c.if-m-used.false c.sum_of-total.ensures in
-    let s = (counted (slice_index_or c.args.self.now.used c.args.e.0 no_used) c.used-used.result.now c.args.m c.len-gaps.result c.sum_of-total.result c.gaps_to-last.result c.used-used.ensures k c.if-m-used.false
-    c.gaps_to-last.ensures.inside c.gaps_to-last.ensures.reached c.gaps_to-last.ensures.not_passed).1 in
-    let small = c.requires.small in
-    omega (arith, s, small)
+    let k = here _ _ c.args.m c.len-gaps.result c.sum_of-total.result c.used-used.ensures c.requires.order c.len-gaps.ensures
+    (λ zero. omega (arith, zero, c.if-gaps-eq0.false)) c.if-m-used.false c.sum_of-total.ensures in
+    let s = (counted _ _ c.args.m _ _ c.gaps_to-last.result c.used-used.ensures k c.if-m-used.false c.gaps_to-last.ensures.inside c.gaps_to-last.ensures.reached c.gaps_to-last.ensures.not_passed).1 in
+    omega (arith, s, c.requires.small)
 
 pub overflow_mul-result : goal.overflow_mul-result
 overflow_mul-result c =
-    let none = c.if-gaps-eq0.false in
-    let k = here (slice_index_or c.args.self.now.used c.args.e.0 no_used) c.used-used.result.now c.args.m c.len-gaps.result c.sum_of-total.result c.used-used.ensures c.requires.order c.len-gaps.ensures
-    (λ zero. omega (arith, zero, none)) c.if-m-used.false c.sum_of-total.ensures in
-    let s = (counted (slice_index_or c.args.self.now.used c.args.e.0 no_used) c.used-used.result.now c.args.m c.len-gaps.result c.sum_of-total.result c.gaps_to-last.result c.used-used.ensures k c.if-m-used.false
-    c.gaps_to-last.ensures.inside c.gaps_to-last.ensures.reached c.gaps_to-last.ensures.not_passed).1 in
-    let small = c.requires.small in
-    omega (arith, s, small)
+    let k = here _ _ c.args.m c.len-gaps.result c.sum_of-total.result c.used-used.ensures c.requires.order c.len-gaps.ensures
+    (λ zero. omega (arith, zero, c.if-gaps-eq0.false)) c.if-m-used.false c.sum_of-total.ensures in
+    let s = (counted _ _ c.args.m _ _ c.gaps_to-last.result c.used-used.ensures k c.if-m-used.false c.gaps_to-last.ensures.inside c.gaps_to-last.ensures.reached c.gaps_to-last.ensures.not_passed).1 in
+    omega (arith, s, c.requires.small)

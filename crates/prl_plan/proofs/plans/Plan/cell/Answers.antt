@@ -2,7 +2,6 @@ use Rattle.std.proofs.Common.{◌≡◌, ◌+◌, ◌<◌, ◌≤◌, ℕ, Optio
 use Rattle.std.specs.Prelude.{slice_index}
 use Rattle.std.proofs.lemmas.Nat.{mod_below}
 use Rattle.prl_plan.specs.Cells.{IsUsed}
-use Rattle.prl_plan.specs.CellLists.{plan_of}
 use Rattle.prl_plan.specs.Plans.{PlanView, IsPlan, edge_at, place_on}
 use Rattle.prl_plan.proofs.PlanParts.{used_place, place_used}
 use Rattle.prl_plan.proofs.plans.Plan.cell.Goals as goal
@@ -26,50 +25,26 @@ used_somewhere plan is e m inside used none =
 
 pub nonzero_rem-result : goal.nonzero_rem-result
 nonzero_rem-result c =
-    let r = room (plan_of c.self.inside.graph c.self.inside.words.of c.self.inside.dates c.self.inside.cells) c.args.self.now c.self.view_is c.self.invariant c.args.e.0 c.args.m c.in-Some.k
-    c.requires.edge (sym c.place.ensures.at ∙ c.in-Some.is) in
-    let some = r.some in
-    let f = c.from.ensures in
-    let n = c.count.ensures in
-    omega (arith, some, f, n)
+    let r = room _ _ c.self.view_is c.self.invariant c.args.e.0 c.args.m c.in-Some.k c.requires.edge (sym c.place.ensures.at ∙ c.in-Some.is) in
+    omega (arith, r.some, c.from.ensures, c.count.ensures)
 
 pub overflow_cast-result : goal.overflow_cast-result
 overflow_cast-result c =
-    let r = room (plan_of c.self.inside.graph c.self.inside.words.of c.self.inside.dates c.self.inside.cells) c.args.self.now c.self.view_is c.self.invariant c.args.e.0 c.args.m c.in-Some.k
-    c.requires.edge (sym c.place.ensures.at ∙ c.in-Some.is) in
-    let some = r.some in
-    let within = r.within in
-    let few = r.few in
-    let f = c.from.ensures in
-    let n = c.count.ensures in
-    let below = mod_below c.in-Some.k c.from.result (omega (arith, some, f, n)) in
-    omega (arith, below, f, n, within, few)
+    let r = room _ _ c.self.view_is c.self.invariant c.args.e.0 c.args.m c.in-Some.k c.requires.edge (sym c.place.ensures.at ∙ c.in-Some.is) in
+    let below = mod_below c.in-Some.k c.from.result (omega (arith, r.some, c.from.ensures, c.count.ensures)) in
+    omega (arith, below, c.from.ensures, c.count.ensures, r.within, r.few)
 
 pub overflow_add-result : goal.overflow_add-result
 overflow_add-result c =
-    let r = room (plan_of c.self.inside.graph c.self.inside.words.of c.self.inside.dates c.self.inside.cells) c.args.self.now c.self.view_is c.self.invariant c.args.e.0 c.args.m c.in-Some.k
-    c.requires.edge (sym c.place.ensures.at ∙ c.in-Some.is) in
-    let some = r.some in
-    let within = r.within in
-    let few = r.few in
-    let f = c.from.ensures in
-    let n = c.count.ensures in
-    let b = c.base.ensures in
-    let below = mod_below c.in-Some.k c.from.result (omega (arith, some, f, n)) in
-    omega (arith, below, f, n, b, within, few)
+    let r = room _ _ c.self.view_is c.self.invariant c.args.e.0 c.args.m c.in-Some.k c.requires.edge (sym c.place.ensures.at ∙ c.in-Some.is) in
+    let below = mod_below c.in-Some.k c.from.result (omega (arith, r.some, c.from.ensures, c.count.ensures)) in
+    omega (arith, below, c.from.ensures, c.count.ensures, c.base.ensures, r.within, r.few)
 
 pub unreachable-requires : goal.unreachable-requires
 unreachable-requires c = used_somewhere c.args.self.now c.place.ensures.plan c.args.e.0 c.args.m c.requires.edge c.requires.used (sym c.place.ensures.at ∙ c.in-None.is)
 
 pub returns-clause-small : goal.returns-clause-small
 returns-clause-small c =
-    let r = room (plan_of c.self.inside.graph c.self.inside.words.of c.self.inside.dates c.self.inside.cells) c.args.self.now c.self.view_is c.self.invariant c.args.e.0 c.args.m c.in-Some.k
-    c.requires.edge (sym c.place.ensures.at ∙ c.in-Some.is) in
-    let some = r.some in
-    let within = r.within in
-    let few = r.few in
-    let f = c.from.ensures in
-    let n = c.count.ensures in
-    let b = c.base.ensures in
-    let below = mod_below c.in-Some.k c.from.result (omega (arith, some, f, n)) in
-    omega (arith, below, f, n, b, within, few)
+    let r = room _ _ c.self.view_is c.self.invariant c.args.e.0 c.args.m c.in-Some.k c.requires.edge (sym c.place.ensures.at ∙ c.in-Some.is) in
+    let below = mod_below c.in-Some.k c.from.result (omega (arith, r.some, c.from.ensures, c.count.ensures)) in
+    omega (arith, below, c.from.ensures, c.count.ensures, c.base.ensures, r.within, r.few)
