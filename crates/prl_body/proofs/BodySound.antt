@@ -19,7 +19,8 @@ use Rattle.prl_body.specs.Expressions.{Expression, name}
 use Rattle.prl_body.specs.NameChecks.{name_fault}
 use Rattle.prl_body.specs.Texts.{StatementTree, TextTree}
 use Rattle.prl_body.specs.TypeChecks.{typed}
-use Rattle.prl_body.specs.Types.{is_same_type, HasType}
+use Rattle.prl_bodyops.specs.Types.{is_same_type}
+use Rattle.prl_body.specs.Types.{HasType}
 use Rattle.prl_body.proofs.Inversion.{both_ok, passed_ok}
 use Rattle.prl_body.proofs.TypedSound.{port_types, text_types, same_type, typed_sound}
 

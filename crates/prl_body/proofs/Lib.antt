@@ -1,4 +1,3 @@
-pub mod Quotients
 pub mod Series
 pub mod Typing
 pub mod Lists

@@ -7,13 +7,14 @@ use Rattle.prl_base.specs.declared.values.Value.TheVariants as values
 use Rattle.prl_base.specs.Values.{type_of}
 use Rattle.prl_body.specs.declared.codes.Variable.{Variable}
 use Rattle.prl_body.specs.declared.codes.Variable.TheVariants as variables
-use Rattle.prl_body.specs.declared.operators.Operator.{Operator}
-use Rattle.prl_body.specs.declared.operators.Operator.TheVariants as operators
-use Rattle.prl_body.specs.declared.operators.Prefix.{Prefix}
-use Rattle.prl_body.specs.declared.operators.Prefix.TheVariants as prefixes
+use Rattle.prl_bodyops.specs.declared.operators.Operator.{Operator}
+use Rattle.prl_bodyops.specs.declared.operators.Operator.TheVariants as operators
+use Rattle.prl_bodyops.specs.declared.operators.Prefix.{Prefix}
+use Rattle.prl_bodyops.specs.declared.operators.Prefix.TheVariants as prefixes
 use Rattle.prl_body.specs.Expressions.{Expression, constant, name, run, series, choice, Rights, none, more}
-use Rattle.prl_body.specs.Operators.{truth_of, prefixed, result_of}
-use Rattle.prl_body.specs.Types.{variable_type, result_type, prefix_type, HasType, RightsHaveType}
+use Rattle.prl_bodyops.specs.Operators.{truth_of, prefixed, result_of}
+use Rattle.prl_bodyops.specs.Types.{result_type, prefix_type}
+use Rattle.prl_body.specs.Types.{variable_type, HasType, RightsHaveType}
 use Rattle.prl_body.specs.Values.{variable_value, prefixed_times, value, value_along}
 use Rattle.prl_body.specs.declared.bodies.CheckedBody.{CheckedBody}
 use Rattle.prl_body.specs.Bodies.{HaveTypes, IsWellTyped, input_types, output_types, register_types, value_expressions, next_expressions}

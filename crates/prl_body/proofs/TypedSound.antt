@@ -18,7 +18,8 @@ use Rattle.prl_body.specs.Expressions.{Expression, Rights}
 use Rattle.prl_body.specs.Expressions as expressions
 use Rattle.prl_body.specs.Texts.{Tree, constant, name, run, series, choice, TreeRights, none, more}
 use Rattle.prl_body.specs.TypeChecks.{input_named, register_named, either_variable, named, typed_name, last_at, typed, typed_rights}
-use Rattle.prl_body.specs.Types.{is_same_type, are_allowed, operand_type, result_type, prefix_type, variable_type, HasType, RightsHaveType}
+use Rattle.prl_bodyops.specs.Types.{is_same_type, are_allowed, operand_type, result_type, prefix_type}
+use Rattle.prl_body.specs.Types.{variable_type, HasType, RightsHaveType}
 use Rattle.prl_body.proofs.Inversion.{both_ok, passed_ok}
 
 abbrev pub port_types : List Port → List Ty

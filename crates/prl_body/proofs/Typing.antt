@@ -15,7 +15,7 @@ use Rattle.prl_body.specs.Texts.{Tree, TreeRights}
 use Rattle.prl_body.specs.Texts as trees
 use Rattle.prl_body.specs.declared.texts.ExprRight.{ExprRight}
 use Rattle.prl_body.specs.Texts.{tree_of, pair_trees}
-use Rattle.prl_body.specs.Types.{are_allowed, operand_type, result_type}
+use Rattle.prl_bodyops.specs.Types.{are_allowed, operand_type, result_type}
 use Rattle.prl_body.specs.TypeChecks.{typed, typed_rights}
 
 rights_of_row : (n : _) (row : Row_of-OperatorAndRight n) → rights_of row ≡ pair_expressions (items-the_row-OperatorAndRight n row)

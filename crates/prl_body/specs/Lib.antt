@@ -1,4 +1,3 @@
-pub mod Operators
 pub mod Expressions
 pub mod Codes
 pub mod Values

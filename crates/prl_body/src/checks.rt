@@ -1,7 +1,6 @@
 //! Bodies, checked against their imports.
 
-ghost use Rattle.std.specs.Prelude.{◌≡◌, ◌++◌, [], map, IfOk, OnOk};
-ghost use Rattle.std.specs.Option.{option_map};
+ghost use Rattle.std.specs.Prelude.{◌≡◌, map, IfOk};
 ghost use Rattle.prl_base.specs.Reading.{GivesBut};
 ghost use Rattle.prl_base.specs.Values.{type_of};
 ghost use Rattle.prl_names.specs.Tables.{AreIndices};
@@ -16,9 +15,10 @@ use crate::faults::BodyFault;
 use crate::names::name_fault;
 use crate::scopes::{Scope, left_indices, statement_named};
 use crate::texts::{BodyText, RegisterText, Statement};
-use crate::types::{is_same_type, typed};
+use crate::types::typed;
 use prl_ast::{Import, Port};
 use prl_base::{Seq, Ty};
+use prl_bodyops::is_same_type;
 use prl_names::Indices;
 use std::alloc::{AllocError, Global};
 

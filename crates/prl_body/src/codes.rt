@@ -1,7 +1,7 @@
 //! Expressions whose names are resolved to inputs and registers.
 
-use crate::operators::{Operator, Prefix};
 use prl_base::{Seq, Value};
+use prl_bodyops::{Operator, Prefix};
 
 /// What a name of an expression stands for.
 #[derive(Clone, Copy, Debug, PartialEq, Eq)]

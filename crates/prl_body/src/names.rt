@@ -1,6 +1,6 @@
 //! The first name of a body that it may not have there.
 
-ghost use Rattle.std.specs.Prelude.{◌≡◌, [], ◌∷◌, map};
+ghost use Rattle.std.specs.Prelude.{◌≡◌, [], map};
 ghost use Rattle.prl_names.specs.Tables.{AreIndices};
 ghost use Rattle.prl_body.specs.NameChecks.{either_fault, register_fault, unknown_name, statement_fault};
 ghost use Rattle.prl_body.specs.Scopes.{left_names};

@@ -1,7 +1,7 @@
 //! The trees of bodies as the text has them.
 
-use crate::operators::{Operator, Prefix};
 use prl_base::{Name, Seq, Span, Value};
+use prl_bodyops::{Operator, Prefix};
 
 /// The bodies of a text, in order.
 #[derive(Debug, Drop)]

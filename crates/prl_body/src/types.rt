@@ -5,79 +5,14 @@ ghost use Rattle.prl_base.specs.Reading.{GivesBut};
 ghost use Rattle.prl_body.specs.Codes.{expression_of, pair_expressions};
 ghost use Rattle.prl_body.specs.Texts.{tree_of, pair_trees};
 ghost use Rattle.prl_body.specs.TypeChecks.{last_at, typed, typed_rights};
-ghost use Rattle.prl_body.specs.Types.{is_same_type, are_allowed, operand_type, result_type, prefix_type};
 
 use crate::codes::{Code, OperatorAndRight};
 use crate::faults::BodyFault;
-use crate::operators::{Operator, Prefix};
 use crate::scopes::Scope;
 use crate::texts::{Expr, ExprRight};
 use prl_base::{Span, Ty};
+use prl_bodyops::is_same_type;
 use std::alloc::Global;
-
-impl Operator {
-    /// The type of its operands; none where it takes two of any one type.
-    fn operand_type(self) -> Option<Ty>
-        ensures { result ≡ operand_type self }
-    {
-        match self {
-            Operator::Or | Operator::Xor | Operator::And => Some(Ty::Bool),
-            Operator::Equal | Operator::Unequal => None,
-            Operator::Less | Operator::AtMost | Operator::Greater | Operator::AtLeast => {
-                Some(Ty::Int)
-            }
-            Operator::Plus
-            | Operator::Minus
-            | Operator::Times
-            | Operator::Over
-            | Operator::Modulo => Some(Ty::Int),
-        }
-    }
-
-    /// The type of its result.
-    fn result_type(self) -> Ty
-        ensures { result ≡ result_type self }
-    {
-        match self {
-            Operator::Plus
-            | Operator::Minus
-            | Operator::Times
-            | Operator::Over
-            | Operator::Modulo => Ty::Int,
-            Operator::Or | Operator::Xor | Operator::And => Ty::Bool,
-            Operator::Equal | Operator::Unequal => Ty::Bool,
-            Operator::Less | Operator::AtMost | Operator::Greater | Operator::AtLeast => Ty::Bool,
-        }
-    }
-
-    /// Whether operands of these types fit the operator.
-    fn allows(self, left: Ty, right: Ty) -> bool
-        ensures { result ≡ are_allowed (operand_type self) left right }
-    {
-        match self.operand_type() {
-            None => is_same_type(left, right),
-            Some(ty) => is_same_type(left, ty) && is_same_type(right, ty),
-        }
-    }
-}
-
-impl Prefix {
-    /// The type of its operand and of its result.
-    fn ty(self) -> Ty
-        ensures { result ≡ prefix_type self }
-    {
-        match self {
-            Prefix::Not => Ty::Bool,
-            Prefix::Negated => Ty::Int,
-        }
-    }
-}
-
-pub fn is_same_type(a: Ty, b: Ty) -> bool
-    ensures { result ≡ is_same_type a b }
-{
-    a == b
-}
 
 /// Where the operator next to the operand stands, in bytes.
 fn last_at(ats: &[Span]) -> u32

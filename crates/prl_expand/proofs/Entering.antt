@@ -21,7 +21,7 @@ use Rattle.prl_expand.specs.code.Limits.{IsPast}
 use Rattle.prl_expand.specs.code.Made.{a_node, all_resolved, the_rights, types_of}
 use Rattle.prl_expand.specs.code.Numbering.{past_entered, past_rights}
 use Rattle.prl_expand.specs.code.Terms.{flow_of, flows_of}
-use Rattle.prl_types.specs.declared.terms.Term.TheVariants as terms
+use Rattle.prl_terms.specs.declared.terms.Term.TheVariants as terms
 use Rattle.prl_types.specs.Parameters.{first_of as first_param}
 use Rattle.prl_expand.specs.code.Made.{have_types}
 use Rattle.prl_expand.proofs.Adding.{past_more}

@@ -21,7 +21,7 @@ use Rattle.prl_flow.specs.declared.programs.Arg.{Arg}
 use Rattle.prl_names.specs.declared.lookups.Callee.{Callee}
 use Rattle.prl_names.specs.declared.lookups.Callee.TheVariants as callees
 use Rattle.prl_names.specs.Lookups.{callee_of}
-use Rattle.prl_types.specs.declared.terms.Term.{Term}
+use Rattle.prl_terms.specs.declared.terms.Term.{Term}
 use Rattle.prl_types.specs.Flows as types
 use Rattle.prl_behaviours.specs.Annotations.{Entered, entered, Rights, done, next, Part, part, Core, Parts}
 use Rattle.prl_behaviours.specs.Annotations as notes
@@ -43,7 +43,7 @@ use Rattle.prl_expand.specs.code.Variables.{copied, def_of}
 use Rattle.prl_behaviours.specs.Asked.{at_index, at_variable, one}
 use Rattle.prl_behaviours.specs.Texts.{node_or}
 use Rattle.prl_names.specs.Lookups.{param_at, param_of}
-use Rattle.prl_types.specs.declared.terms.Term.TheVariants as terms
+use Rattle.prl_terms.specs.declared.terms.Term.TheVariants as terms
 use Rattle.prl_types.specs.Parameters.{first_of as first_param}
 use Rattle.prl_expand.proofs.Sound.{param_known}
 use Rattle.prl_expand.specs.code.Made.{have_types}

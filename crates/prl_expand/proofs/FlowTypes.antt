@@ -18,8 +18,8 @@ use Rattle.prl_names.specs.declared.lookups.Callee.TheVariants as callees
 use Rattle.prl_names.specs.Lookups.{callee_of, param_at, param_of, param_names, params_of}
 use Rattle.prl_names.specs.Named.{IsKnown, IsKnownRoot, AreKnown}
 use Rattle.prl_types.specs.Arity.{faults_in, root_faults, all_faults}
-use Rattle.prl_types.specs.declared.terms.Term.{Term}
-use Rattle.prl_types.specs.declared.terms.Term.TheVariants as terms
+use Rattle.prl_terms.specs.declared.terms.Term.{Term}
+use Rattle.prl_terms.specs.declared.terms.Term.TheVariants as terms
 use Rattle.prl_types.specs.Flows as flows
 use Rattle.prl_types.specs.Parameters.{first_of, parameter_or}
 use Rattle.prl_behaviours.specs.Annotations.{Entered, entered, Rights, Part, part, Core, Parts}

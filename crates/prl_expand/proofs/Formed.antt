@@ -26,10 +26,10 @@ use Rattle.prl_names.specs.Checks.{device_names}
 use Rattle.prl_names.specs.Lookups.{param_names, params_of}
 use Rattle.prl_names.specs.Named.{AllAreAmong, IsNamed}
 use Rattle.prl_names.proofs.Right.{named}
-use Rattle.prl_types.specs.Choices.{Choice, type_in, MeetsAll, FitsTerm, FitRules}
-use Rattle.prl_types.specs.declared.terms.Rule.{Rule as TypeRule}
-use Rattle.prl_types.specs.declared.terms.Term.{Term}
-use Rattle.prl_types.specs.declared.terms.Term.TheVariants as terms
+use Rattle.prl_terms.specs.Choices.{Choice, type_in, MeetsAll, FitsTerm, FitRules}
+use Rattle.prl_terms.specs.declared.terms.Rule.{Rule as TypeRule}
+use Rattle.prl_terms.specs.declared.terms.Term.{Term}
+use Rattle.prl_terms.specs.declared.terms.Term.TheVariants as terms
 use Rattle.prl_types.specs.Parameters.{first_of, count_of, parameters_of}
 use Rattle.prl_types.specs.Rules.{rules_of, declared_rules, nodes_rules, equations_rules}
 use Rattle.prl_types.specs.Typing.{IsTyped}

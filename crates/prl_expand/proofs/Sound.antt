@@ -20,8 +20,8 @@ use Rattle.prl_names.specs.Lookups.{callee_of, param_at, param_of, param_names, 
 use Rattle.prl_names.specs.Named.{IsNamedNode, IsKnown, IsKnownRoot, AreKnown}
 use Rattle.prl_names.proofs.Marking.{index_found}
 use Rattle.prl_types.specs.Arity.{arity_faults, nodes_faults, equations_faults, equation_faults, faults_in, root_faults, all_faults, prefix_fault, postfix_fault, unless_equal}
-use Rattle.prl_types.specs.declared.terms.Term.{Term}
-use Rattle.prl_types.specs.declared.terms.Term.TheVariants as terms
+use Rattle.prl_terms.specs.declared.terms.Term.{Term}
+use Rattle.prl_terms.specs.declared.terms.Term.TheVariants as terms
 use Rattle.prl_types.specs.Flows.{operated, flows_of, root_flows, all_flows, outputs_of, inputs_of, import_outputs, node_inputs, node_outputs, parameters_from}
 use Rattle.prl_types.specs.Parameters.{first_of}
 use Rattle.prl_behaviours.specs.Annotations.{Entered, entered, Rights, done, next, Part, part, Core, Parts}

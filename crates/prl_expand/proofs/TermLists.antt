@@ -7,7 +7,7 @@ use Rattle.prl_ast.specs.declared.declarations.Param.{Param}
 use Rattle.prl_ast.specs.declared.declarations.Placed.{Placed}
 use Rattle.prl_flow.specs.declared.programs.Def.{Def}
 use Rattle.prl_flow.specs.declared.programs.Flow.{Flow}
-use Rattle.prl_types.specs.declared.terms.Term.TheVariants as terms
+use Rattle.prl_terms.specs.declared.terms.Term.TheVariants as terms
 use Rattle.prl_ast.specs.Trees.{ProgramTree}
 use Rattle.prl_base.specs.declared.values.Ty.TheVariants as kinds
 use Rattle.prl_types.specs.Parameters.{first_of}

@@ -20,8 +20,8 @@ use Rattle.prl_flow.specs.declared.programs.Def.{Def}
 use Rattle.prl_flow.specs.Programs.{FlatProgram, HasType, IsWellDefined, IsNoted}
 use Rattle.prl_names.specs.Lookups.{callee_of}
 use Rattle.prl_types.specs.Flows.{Flow as TermFlow}
-use Rattle.prl_types.specs.declared.terms.Rule.{Rule as TypeRule}
-use Rattle.prl_types.specs.declared.terms.Term.{Term}
+use Rattle.prl_terms.specs.declared.terms.Rule.{Rule as TypeRule}
+use Rattle.prl_terms.specs.declared.terms.Term.{Term}
 use Rattle.prl_types.specs.Flows as flows
 use Rattle.prl_types.specs.Rules as typing
 use Rattle.prl_types.specs.Parameters.{named}

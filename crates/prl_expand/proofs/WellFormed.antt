@@ -30,7 +30,7 @@ use Rattle.prl_names.specs.Repeats.{is_among}
 use Rattle.prl_names.specs.Unknowns.{left_names}
 use Rattle.prl_names.proofs.Marking.{index_found}
 use Rattle.prl_types.specs.Arity.{equations_faults, faults_in, root_faults, all_faults, prefix_fault, postfix_fault, last_at}
-use Rattle.prl_types.specs.declared.terms.Term.{Term}
+use Rattle.prl_terms.specs.declared.terms.Term.{Term}
 use Rattle.prl_types.specs.Flows as flows
 use Rattle.prl_types.specs.Rules as typing
 use Rattle.prl_types.specs.Parameters.{first_of, parameter_or}

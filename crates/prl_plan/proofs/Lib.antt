@@ -24,6 +24,9 @@ pub mod PlanNumbers
 pub mod PartsOfSums
 pub mod Searches
 pub mod OnePlan
+pub mod PlanFacts
+pub mod JobTableLaws
+pub mod TableMade
 -- For this crate alone.
 mod Halves
 mod Ports
@@ -35,9 +38,7 @@ mod Counts
 mod EventCounts
 mod Actions
 mod ActionPlaces
-mod PlanFacts
 mod ReadPlaces
-mod JobTableLaws
 mod LastTags
 mod Progress
 mod Decided
@@ -45,7 +46,6 @@ mod HorizonLaws
 mod Examples
 mod WorkedGraphs
 mod WorkedPlan
-mod TableMade
 mod DateOrder
 mod PlaceLaws
 mod PlanParts

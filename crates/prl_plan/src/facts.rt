@@ -1,9 +1,7 @@
 //! What holds of plans, as functions that do nothing: the contract of each is the fact.
 
-ghost use Rattle.std.specs.Prelude.{◌≡◌, ◌+◌, ◌*◌, ◌<◌, ◌≤◌, ◌^◌, ◌↔◌, ℕ, ℤ, pos, ◌+ℤ◌, ◌≤ℤ◌, ◌<ℤ◌, List, length, IsSome, slice_get, slice_index_or};
-ghost use Rattle.prl_base.specs.Values.{IsOfType};
+ghost use Rattle.std.specs.Prelude.{◌≡◌, ◌+◌, ◌<◌, ◌≤◌, ◌^◌, ◌↔◌, ℕ, ℤ, pos, ◌+ℤ◌, ◌≤ℤ◌, ◌<ℤ◌, List, length, IsSome, slice_get, slice_index_or};
 ghost use Rattle.prl_base.specs.declared.operators.Op.{Op};
-ghost use Rattle.prl_base.specs.declared.values.Value.{Value};
 ghost use Rattle.prl_plan.specs.declared.events.Action.{Action};
 ghost use Rattle.prl_plan.specs.declared.events.Action.TheVariants as actions;
 ghost use Rattle.prl_plan.specs.declared.graphs.TaskGraph.{TaskGraph};
@@ -12,7 +10,7 @@ ghost use Rattle.prl_plan.specs.declared.walks.Operand.TheVariants as operands;
 ghost use Rattle.prl_plan.specs.Graphs.{IsWellFormed};
 ghost use Rattle.prl_plan.specs.Operands.{walk, operand_of};
 ghost use Rattle.prl_plan.specs.Precedence.{preceding, ComesFrom, Precedes};
-ghost use Rattle.prl_plan.specs.Dates.{Family, AreLeastReleases, AreGreatestDeadlines, AreEncodedDates, RepeatsByHyper, encoded_release, encoded_deadline};
+ghost use Rattle.prl_plan.specs.Dates.{AreEncodedDates, encoded_release, encoded_deadline};
 ghost use Rattle.prl_plan.specs.Chains.{IsNarrow, IsBest};
 ghost use Rattle.prl_plan.specs.declared.graphs.Edge.{Edge};
 ghost use Rattle.prl_plan.specs.declared.tables.Window.{Window};
@@ -22,10 +20,9 @@ ghost use Rattle.prl_plan.specs.Cells.{EnumeratesUsed};
 ghost use Rattle.prl_plan.specs.FirstReaders.{IsFirstReader};
 ghost use Rattle.prl_plan.specs.Repeats.{IsShortestRepeat};
 ghost use Rattle.prl_plan.specs.Words.{IsWordOf};
-ghost use Rattle.prl_plan.specs.Jobs.{Job, task_at, release_of, job_count, IsHorizonJob};
+ghost use Rattle.prl_plan.specs.Jobs.{Job, task_at, job_count, IsHorizonJob};
 ghost use Rattle.prl_plan.specs.Plans.{PlanView, HaveRoom, AreShortWindows, IsPlan, edge_at, release_at, deadline_at, place_on, cell_of, IsHalfOf, reading, actions_of, reads_before, operands_before, IsAtPort, IsActionOf};
 ghost use Rattle.prl_plan.specs.Facts.{HasPlanFacts};
-ghost use Rattle.prl_plan.specs.JobTables.{TableRow, IsJobTable, job_table};
 ghost use Rattle.prl_plan.specs.Horizons.{IsHorizon, constants_of};
 
 use crate::{Horizon, Plan};
@@ -83,34 +80,6 @@ pub fn operands_precede()
     ensures { (ops : List Op) (n m : ℕ) → walk ops n ≡ operands.From m → preceding ops (pos n) ≡ pos m }
 {}
 
-/// A constant that a job reads on an edge has the type of the edge.
-pub fn constants_are_of_their_type()
-    ensures { (graph : TaskGraph) → IsWellFormed graph → (e n : ℕ) (c : Value) → e < length graph.edges →
-        operand_of (edge_at graph e) n ≡ operands.Const c → IsOfType (edge_at graph e).ty c }
-{}
-
-/// An instance that a horizon job reads is one that a horizon job gives.
-pub fn operands_are_of_horizon_jobs()
-    ensures { (graph : TaskGraph) → IsWellFormed graph → (until e i n m : ℕ) → e < length graph.edges →
-        ComesFrom (edge_at graph e).from i → IsHorizonJob graph until (edge_at graph e).to.0 n →
-        operand_of (edge_at graph e) n ≡ operands.From m → IsHorizonJob graph until i m }
-{}
-
-/// In a job table, the job that gives an instance stands before each job that reads it.
-pub fn operands_stand_earlier()
-    ensures { (plan : PlanView) → IsPlan plan → (until : ℕ) (table : List TableRow) → IsJobTable plan until table →
-        (k : ℕ) (row : TableRow) → slice_get table k ≡ Some row → (e i m : ℕ) → e < length plan.graph.edges →
-        (edge_at plan.graph e).to.0 ≡ row.task → ComesFrom (edge_at plan.graph e).from i →
-        operand_of (edge_at plan.graph e) row.job ≡ operands.From m →
-        (l : ℕ) × (earlier : TableRow) × (l < k) × (slice_get table l ≡ Some earlier) × (earlier.task ≡ i) × (earlier.job ≡ m) }
-{}
-
-/// Each plan has one job table up to a date.
-pub fn plan_has_one_job_table()
-    ensures made { (plan : PlanView) → IsPlan plan → (until : ℕ) → IsJobTable plan until (job_table plan until) }
-    ensures one { (plan : PlanView) (until : ℕ) (a b : List TableRow) → IsJobTable plan until a → IsJobTable plan until b → a ≡ b }
-{}
-
 /// What the jobs of every plan keep, in each of its horizons.
 pub fn plans_keep_facts()
     ensures { (plan : PlanView) (horizon : Horizon) → IsPlan plan → IsHorizon plan horizon → HasPlanFacts (constants_of plan horizon) }
@@ -132,47 +101,6 @@ pub fn room_leaves_no_narrow_chain()
     ensures narrow { (graph : TaskGraph) (windows : List (List Window)) → AreEncodedDates graph windows → HaveRoom graph windows →
         (first : Job) (rest : List Job) → IsNarrow graph first rest → ⊥ }
     ensures best { (graph : TaskGraph) (most : ℕ) (job : Job) (a b : ℤ) → IsBest graph most job a → IsBest graph most job b → a ≡ b }
-{}
-
-/// The number of the job that precedes along an edge goes on by the producer's jobs in a hyperperiod where the consumer's does,
-/// and does not fall, over all whole numbers.
-pub fn precedence_repeats_and_rises()
-    ensures repeats { (graph : TaskGraph) → IsWellFormed graph → (e i c d : ℕ) → e < length graph.edges → ComesFrom (edge_at graph e).from i →
-        graph.hyper ≡ c * (task_at graph (edge_at graph e).to.0).clock.period → graph.hyper ≡ d * (task_at graph i).clock.period →
-        (n : ℤ) → preceding (edge_at graph e).ops (n +ℤ pos c) ≡ preceding (edge_at graph e).ops n +ℤ pos d }
-    ensures rises { (graph : TaskGraph) → IsWellFormed graph → (e : ℕ) → e < length graph.edges → (a b : ℤ) → a ≤ℤ b →
-        preceding (edge_at graph e).ops a ≤ℤ preceding (edge_at graph e).ops b }
-{}
-
-/// A job that precedes another is not released later, over all whole numbers.
-pub fn precedence_is_not_later()
-    ensures { (graph : TaskGraph) → IsWellFormed graph → (before after : Job) → Precedes graph before after →
-        release_of (task_at graph before.task) before.number ≤ℤ release_of (task_at graph after.task) after.number }
-{}
-
-/// Two families that come again with the hyperperiod and agree over the jobs of one agree; and where the one is nowhere above
-/// the other over these, it is nowhere so.
-pub fn hyperperiod_shows_all_jobs()
-    ensures agree { (graph : TaskGraph) → IsWellFormed graph → (one other : Family) → RepeatsByHyper graph one → RepeatsByHyper graph other →
-        (i jobs : ℕ) → i < length graph.tasks → graph.hyper ≡ jobs * (task_at graph i).clock.period →
-        ((n : ℕ) → n < jobs → one i (pos n) ≡ other i (pos n)) → (m : ℤ) → one i m ≡ other i m }
-    ensures below { (graph : TaskGraph) → IsWellFormed graph → (one other : Family) → RepeatsByHyper graph one → RepeatsByHyper graph other →
-        (i jobs : ℕ) → i < length graph.tasks → graph.hyper ≡ jobs * (task_at graph i).clock.period →
-        ((n : ℕ) → n < jobs → one i (pos n) ≤ℤ other i (pos n)) → (m : ℤ) → one i m ≤ℤ other i m }
-{}
-
-/// The least releases and the greatest deadlines come again a hyperperiod later, over all whole numbers.
-pub fn encoded_dates_repeat()
-    ensures releases { (graph : TaskGraph) → IsWellFormed graph → (date : Family) → AreLeastReleases graph date → RepeatsByHyper graph date }
-    ensures deadlines { (graph : TaskGraph) → IsWellFormed graph → (date : Family) → AreGreatestDeadlines graph date → RepeatsByHyper graph date }
-{}
-
-/// A later job of a task has no earlier encoded date, over all whole numbers.
-pub fn encoded_dates_rise()
-    ensures releases { (graph : TaskGraph) → IsWellFormed graph → (windows : List (List Window)) → AreEncodedDates graph windows →
-        (i : ℕ) (a b : ℤ) → i < length graph.tasks → a ≤ℤ b → encoded_release graph windows i a ≤ℤ encoded_release graph windows i b }
-    ensures deadlines { (graph : TaskGraph) → IsWellFormed graph → (windows : List (List Window)) → AreEncodedDates graph windows →
-        (i : ℕ) (a b : ℤ) → i < length graph.tasks → a ≤ℤ b → encoded_deadline graph windows i a ≤ℤ encoded_deadline graph windows i b }
 {}
 
 /// Over all whole numbers: each job has room for its WCET between its encoded dates; along a precedence both dates leave room

@@ -1,7 +1,7 @@
 //! Laws of states, of events and of lists of events, as functions that do nothing: the contract of each is the law, over the
 //! definitions alone.
 
-ghost use Rattle.std.specs.Prelude.{◌≡◌, ◌+◌, ◌<◌, ◌≤◌, ◌⊎◌, ◌^◌, ◌++◌, ◌↔◌, ℕ, List, IsSome, length, slice_index};
+ghost use Rattle.std.specs.Prelude.{◌≡◌, ◌+◌, ◌<◌, ◌≤◌, ◌⊎◌, ◌^◌, ◌++◌, ◌↔◌, ℕ, List, length, slice_index};
 ghost use Rattle.prl_base.specs.declared.numbers.EdgeNo.{EdgeNo};
 ghost use Rattle.prl_base.specs.declared.numbers.TaskNo.{TaskNo};
 ghost use Rattle.prl_plan.specs.declared.events.Action.{Action};
@@ -12,8 +12,7 @@ ghost use Rattle.prl_plan.specs.declared.events.Rule.{Rule};
 ghost use Rattle.prl_plan.specs.declared.horizons.Horizon.{Horizon};
 ghost use Rattle.prl_plan.specs.declared.walks.Operand.TheVariants as operands;
 ghost use Rattle.prl_plan.specs.Operands.{operand_of};
-ghost use Rattle.prl_plan.specs.Precedence.{ComesFrom};
-ghost use Rattle.prl_plan.specs.Plans.{PlanView, IsPlan, edge_at, release_at, deadline_at, place_on, cell_of, low, high};
+ghost use Rattle.prl_plan.specs.Plans.{PlanView, IsPlan, edge_at, release_at, deadline_at, low, high};
 ghost use Rattle.prl_base.specs.declared.limits.Limit.{Limit};
 ghost use Rattle.prl_plan.specs.Horizons.{IsHorizon, IsPastLimit, Placement, constants_of, constants_on};
 ghost use Rattle.prl_plan.specs.Runs.{RunConstants, ExecState, opening, action_at, next_action, after_action, after_event, after_events};
@@ -157,14 +156,6 @@ pub fn gated_list_goes_on()
         × KeepsGated c (after_events c (opening c) list) (events.Act (record { 0 = i })))
         ⊎ (((i : ℕ) → HasJob c (after_events c (opening c) list) i → ActsReleased c (after_events c (opening c) list) i → ⊥)
         × KeepsGated c (after_events c (opening c) list) events.Tick) }
-{}
-
-/// Instances of an edge that stand in one cell take turns: no job that reads the one, of any horizon, is due after the
-/// release of the job that gives the later one.
-pub fn instances_take_turns()
-    ensures { (plan : PlanView) → IsPlan plan → (e i l m k : ℕ) → e < length plan.graph.edges → ComesFrom (edge_at plan.graph e).from i →
-        IsSome (place_on plan e l) → IsSome (place_on plan e m) → cell_of plan e l ≡ cell_of plan e m → l < m →
-        operand_of (edge_at plan.graph e) k ≡ operands.From l → deadline_at plan (edge_at plan.graph e).to.0 k ≤ release_at plan i m }
 {}
 
 /// Where a state of a free list may go on by a write over another instance, no job that reads this instance, of the

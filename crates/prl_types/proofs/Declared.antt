@@ -14,7 +14,7 @@ use Rattle.prl_ast.specs.declared.declarations.Node.{Node}
 use Rattle.prl_ast.specs.declared.declarations.Port.{Port}
 use Rattle.prl_ast.specs.Trees.{NodeTree, ProgramTree, node_tree}
 use Rattle.prl_names.specs.Lookups.{index_from, params_of, param_names, param_of, param_at}
-use Rattle.prl_types.specs.declared.terms.Term.TheVariants as terms
+use Rattle.prl_terms.specs.declared.terms.Term.TheVariants as terms
 use Rattle.prl_types.specs.declared.contexts.Parameter.{Parameter}
 use Rattle.prl_types.specs.code.Contexts.{owned_of, AreListed, AreParameters, AreFirsts}
 use Rattle.prl_types.specs.Typing.{HasParameter}

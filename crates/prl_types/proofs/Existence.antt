@@ -17,21 +17,21 @@ use Rattle.prl_names.specs.Repeats.{repeat_of}
 use Rattle.prl_names.specs.Unknowns.{unknown_of, undefined_of}
 use Rattle.prl_types.specs.declared.faults.TypeFault.{TypeFault}
 use Rattle.prl_types.specs.declared.faults.TypeFault.TheVariants as faults
-use Rattle.prl_types.specs.declared.terms.Rule.{Rule}
-use Rattle.prl_types.specs.declared.terms.Term.{Term}
-use Rattle.prl_types.specs.declared.terms.Term.TheVariants as terms
+use Rattle.prl_terms.specs.declared.terms.Rule.{Rule}
+use Rattle.prl_terms.specs.declared.terms.Term.{Term}
+use Rattle.prl_terms.specs.declared.terms.Term.TheVariants as terms
 use Rattle.prl_types.specs.Arity.{arity_faults, first_at}
-use Rattle.prl_types.specs.Choices.{FitsRule, FitRules}
-use Rattle.prl_types.specs.code.Marks.{mark_of, resolved, replaced, Solves, IsSettled, IsReplaced, IsApart, Contradicts}
+use Rattle.prl_terms.specs.Choices.{FitsRule, FitRules}
+use Rattle.prl_terms.specs.code.Marks.{mark_of, resolved, replaced, Solves, IsSettled, IsReplaced, IsApart, Contradicts}
 use Rattle.prl_types.specs.Parameters.{parameters_of, count_of}
 use Rattle.prl_types.specs.Rules.{rules_of}
-use Rattle.prl_types.specs.Solutions.{IsMismatch, IsFree, AreTypes}
+use Rattle.prl_terms.specs.Solutions.{IsMismatch, IsFree, AreTypes}
 use Rattle.prl_types.specs.Typing.{IsOutcome}
-use Rattle.prl_types.proofs.Ending.{AreKnown, types_are, free_is}
+use Rattle.prl_terms.proofs.Ending.{AreKnown, types_are, free_is}
 use Rattle.prl_types.proofs.Fitting.{rules_fit}
-use Rattle.prl_types.proofs.Meeting.{Sides, solves_equal, solves_wanted, solves_found, contradicts, apart_known, apart_both, apart_left}
-use Rattle.prl_types.proofs.Replacing.{replaced_other, settled_new}
-use Rattle.prl_types.proofs.Starting.{AreSingle, get_push_here, single_none, single_next, single_settled, single_solves}
+use Rattle.prl_terms.proofs.Meeting.{Sides, solves_equal, solves_wanted, solves_found, contradicts, apart_known, apart_both, apart_left}
+use Rattle.prl_terms.proofs.Replacing.{replaced_other, settled_new}
+use Rattle.prl_terms.proofs.Starting.{AreSingle, get_push_here, single_none, single_next, single_settled, single_solves}
 
 -- marks of so many parameters that say what the rules say
 record HasMarks (rules : List Rule) (count : ℕ) : Type 0 where

@@ -1,11 +1,5 @@
-pub mod MarkLemmas
-pub mod Replacing
-pub mod Meeting
-pub mod Starting
-pub mod Ending
 pub mod Declared
 pub mod Counting
-pub mod RuleStates
 pub mod Signed
 pub mod Segmented
 pub mod Opening

@@ -15,7 +15,7 @@ use Rattle.prl_types.specs.Arity.{arity_faults}
 use Rattle.prl_types.specs.code.Contexts.{owned_of}
 use Rattle.prl_types.specs.Parameters.{Owned, parameters_of, count_of}
 use Rattle.prl_types.specs.Rules.{rules_of}
-use Rattle.prl_types.specs.Solutions.{IsFree}
+use Rattle.prl_terms.specs.Solutions.{IsFree}
 use Rattle.prl_types.specs.Typing.{FailsWith, of_names}
 
 pub open_fault : (p : ProgramTree) (main : Option (List ℕ)) (node : ℕ) → names_of p main ≡ Ok node → arity_faults p ≡ [] → (k : ℕ) → IsFree (rules_of p) k → (q : Parameter) → slice_get (parameters_of p) k ≡ Some (owned_of q)

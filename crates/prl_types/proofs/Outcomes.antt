@@ -10,14 +10,14 @@ use Rattle.prl_names.specs.declared.checks.NameFault.TheVariants as naming
 use Rattle.prl_names.specs.Checks.{names_of}
 use Rattle.prl_types.specs.declared.faults.TypeFault.{TypeFault}
 use Rattle.prl_types.specs.declared.faults.TypeFault.TheVariants as faults
-use Rattle.prl_types.specs.declared.terms.Rule.{Rule}
+use Rattle.prl_terms.specs.declared.terms.Rule.{Rule}
 use Rattle.prl_types.specs.Arity.{arity_faults, first_at}
-use Rattle.prl_types.specs.Choices.{Choice, type_in, MeetsAll}
+use Rattle.prl_terms.specs.Choices.{Choice, type_in, MeetsAll}
 use Rattle.prl_types.specs.Parameters.{Owned, parameters_of, count_of}
 use Rattle.prl_types.specs.Rules.{rules_of}
-use Rattle.prl_types.specs.Solutions.{IsMismatch, IsFree, AreTypes}
+use Rattle.prl_terms.specs.Solutions.{IsMismatch, IsFree, AreTypes}
 use Rattle.prl_types.specs.Typing.{HasFreeType, IsOutcome, of_names}
-use Rattle.prl_types.proofs.Meeting.{meets_first, meets_second}
+use Rattle.prl_terms.proofs.Meeting.{meets_first, meets_second}
 
 -- no choice meets the rules up to a contradiction
 no_choice : (rules : List Rule) (at : ℕ) (wanted found : Ty) → (m : IsMismatch rules at wanted found) → (c : Choice) → MeetsAll c m.earlier → type_in c m.rule.wanted ≡ type_in c m.rule.found → ⊥

@@ -2,8 +2,8 @@
 use Rattle.std.proofs.Common.{◌≡◌, ◌<◌, ◌≤◌, ◌+◌, ◌++◌, ◌∙◌, ℕ, List, [], ◌∷◌, length, drop, slice_index_or, refl, sym, ap, append_assoc, Some, None}
 use Rattle.std.specs.List.{slice_get}
 use Rattle.std.proofs.lemmas.List.{append-nil, map-append, drop_all, at_drop_more}
-use Rattle.prl_types.specs.declared.terms.Rule.{Rule}
-use Rattle.prl_types.specs.declared.terms.Term.{Term}
+use Rattle.prl_terms.specs.declared.terms.Rule.{Rule}
+use Rattle.prl_terms.specs.declared.terms.Term.{Term}
 use Rattle.prl_types.specs.declared.segments.Segment.{Segment}
 use Rattle.prl_types.specs.Flows.{Flow, placed, terms_of, operand}
 use Rattle.prl_types.specs.Rules.{argument_rules}

@@ -3,8 +3,8 @@ use Rattle.std.proofs.Common.{◌≡◌, ◌≤◌, ◌++◌, ◌∙◌, ℕ, Li
 use Rattle.std.proofs.lemmas.List.{append-nil, map-append, drop_all}
 use Rattle.prl_ast.specs.declared.declarations.Placed.{Placed}
 use Rattle.prl_ast.specs.Trees.{Trees, none, more, ProgramTree}
-use Rattle.prl_types.specs.declared.terms.Rule.{Rule}
-use Rattle.prl_types.specs.declared.terms.Term.{Term}
+use Rattle.prl_terms.specs.declared.terms.Rule.{Rule}
+use Rattle.prl_terms.specs.declared.terms.Term.{Term}
 use Rattle.prl_types.specs.Flows.{Flow, placed, placed_flows, terms_of, flows_of, all_flows, place_of}
 use Rattle.prl_types.specs.Rules.{argument_rules, left_rules}
 

@@ -10,8 +10,8 @@ use Rattle.prl_ast.specs.Trees.{Tree, tree, Root, const, var, apply, group, Tree
 use Rattle.prl_names.specs.declared.lookups.Callee.{Callee}
 use Rattle.prl_names.specs.declared.lookups.Callee.TheVariants as callees
 use Rattle.prl_names.specs.Lookups.{callee_of}
-use Rattle.prl_types.specs.declared.terms.Term.{Term}
-use Rattle.prl_types.specs.declared.terms.Term.TheVariants as terms
+use Rattle.prl_terms.specs.declared.terms.Term.{Term}
+use Rattle.prl_terms.specs.declared.terms.Term.TheVariants as terms
 use Rattle.prl_types.specs.Parameters.{first_of, named}
 
 abbrev pub port_types : List Port → List Term

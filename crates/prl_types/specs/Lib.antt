@@ -1,5 +1,3 @@
-pub mod Choices
-pub mod Solutions
 pub mod Parameters
 pub mod Flows
 pub mod Rules

@@ -5,8 +5,8 @@ use Rattle.prl_base.specs.declared.values.Ty.TheVariants as types
 use Rattle.prl_ast.specs.declared.declarations.Param.{Param}
 use Rattle.prl_ast.specs.Trees.{NodeTree, ProgramTree}
 use Rattle.prl_names.specs.Lookups.{params_of, param_at}
-use Rattle.prl_types.specs.declared.terms.Term.{Term}
-use Rattle.prl_types.specs.declared.terms.Term.TheVariants as terms
+use Rattle.prl_terms.specs.declared.terms.Term.{Term}
+use Rattle.prl_terms.specs.declared.terms.Term.TheVariants as terms
 
 -- a parameter and the name of its node
 pub record Owned : Type 0 where

@@ -8,9 +8,9 @@ use Rattle.prl_ast.specs.declared.declarations.Placed.{Placed}
 use Rattle.prl_ast.specs.declared.expressions.PlacedOp.{PlacedOp}
 use Rattle.prl_ast.specs.Trees.{Tree, tree, Root, const, var, apply, group, Trees, none, more, EquationTree, NodeTree, ProgramTree}
 use Rattle.prl_names.specs.Lookups.{callee_of}
-use Rattle.prl_types.specs.declared.terms.Rule.{Rule}
-use Rattle.prl_types.specs.declared.terms.Term.{Term}
-use Rattle.prl_types.specs.declared.terms.Term.TheVariants as terms
+use Rattle.prl_terms.specs.declared.terms.Rule.{Rule}
+use Rattle.prl_terms.specs.declared.terms.Term.{Term}
+use Rattle.prl_terms.specs.declared.terms.Term.TheVariants as terms
 use Rattle.prl_types.specs.Flows.{Flow, inputs_of, operand, flows_of, root_flows, placed_flows}
 use Rattle.prl_types.specs.Parameters.{Owned, parameters_of, named}
 

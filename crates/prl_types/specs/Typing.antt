@@ -11,7 +11,7 @@ use Rattle.prl_types.specs.declared.faults.TypeFault.TheVariants as faults
 use Rattle.prl_types.specs.Arity.{arity_faults, first_at}
 use Rattle.prl_types.specs.Parameters.{Owned, parameters_of, count_of, first_of}
 use Rattle.prl_types.specs.Rules.{rules_of}
-use Rattle.prl_types.specs.Solutions.{IsMismatch, IsFree, AreTypes}
+use Rattle.prl_terms.specs.Solutions.{IsMismatch, IsFree, AreTypes}
 
 -- nothing is wrong: this is the main node, and these are the only types that the rules allow
 pub record IsTyped (p : ProgramTree) (main : Option (List ℕ)) (node : ℕ) (types : List Ty) : Type 0 where

@@ -4,7 +4,7 @@ ghost use Rattle.std.specs.Prelude.{◌≡◌, ◌+◌, ◌++◌, ℕ, List, map
 ghost use Rattle.prl_ast.specs.Trees.{tree_of, root_of, equation_tree, program_tree};
 ghost use Rattle.prl_names.specs.ExprLists.{all_trees};
 ghost use Rattle.prl_types.specs.Flows.{operated, flows_of, root_flows, all_flows};
-ghost use Rattle.prl_types.specs.declared.terms.Term.{Term};
+ghost use Rattle.prl_terms.specs.declared.terms.Term.{Term};
 ghost use Rattle.prl_types.specs.Arity.{counted, first_at, unless_equal, last_at, prefix_fault, postfix_fault, faults_in, root_faults, all_faults, equations_faults, arity_faults};
 
 use crate::contexts::Context;

@@ -8,10 +8,10 @@ ghost use Rattle.prl_types.specs.code.Contexts.{owned_of, AreFirsts};
 ghost use Rattle.prl_types.specs.Flows.{inputs_of, outputs_of, import_inputs, import_outputs, node_inputs, node_outputs, parameters_from, port_types};
 ghost use Rattle.prl_types.specs.Parameters.{owned, owned_by, parameters_of, first_of, named};
 
-use crate::terms::Term;
 use prl_ast::{Import, Node, Param, Port, Program};
 use prl_base::{Name, Ty};
 use prl_names::{Callee, Names};
+use prl_terms::Term;
 use std::alloc::{AllocError, Global};
 use std::marker::Model;
 

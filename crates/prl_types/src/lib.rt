@@ -2,20 +2,16 @@
 //!
 //! A program whose names are right (`prl_names`) has rules between the types of its parameters; they are listed in
 //! their order (declared types first; then by the text, the parts of an expression before the whole) and each is met as it is
-//! made, so that the first contradiction is found, or else the first parameter that they leave open. It stands on the syntax tree of `prl_ast`.
+//! made (`prl_terms`). It stands on the syntax tree of `prl_ast`.
 #![tactic(auto)]
 
 mod arities;
 mod contexts;
 mod faults;
 mod laws;
-mod met_rules;
-mod progress;
 mod rules;
 mod segments;
 mod signatures;
-mod solving;
-mod terms;
 mod typing;
 
 pub use faults::TypeFault;

@@ -10,12 +10,11 @@ ghost use Rattle.prl_types.specs.Parameters.{count_of};
 ghost use Rattle.prl_types.specs.Rules.{declared_rules, constant_rule, constant_rules, argument_rules, rules_in, root_rules, all_rules, left_rules, equations_rules, nodes_rules, rules_of};
 
 use crate::contexts::{Context, Parameter};
-use crate::progress::Met;
 use crate::segments::{Flows, Segment, add_flows, after, all, one, operand, operated, terms};
 use crate::signatures::Signatures;
-use crate::terms::{Rule, Term};
 use prl_ast::{Base, Equation, Expr, Placed, PlacedOp};
 use prl_base::Op;
+use prl_terms::{Met, Rule, Term};
 use std::alloc::{AllocError, Global};
 
 /// Adds the rules of the declared types.

@@ -4,9 +4,9 @@ ghost use Rattle.std.specs.Prelude.{◌≡◌, ◌++◌, ◌∷◌, [], length, 
 ghost use Rattle.prl_types.specs.Flows.{operand, operated, placed};
 ghost use Rattle.prl_types.specs.code.Segments.{listed, terms_in, flows_in};
 
-use crate::terms::Term;
 use prl_ast::Expr;
 use prl_base::Ty;
+use prl_terms::Term;
 use std::alloc::{AllocError, Global};
 
 /// One flow, or all that something applied gives.

@@ -10,12 +10,19 @@ ghost use Rattle.prl_types.specs.Parameters.{named};
 ghost use Rattle.prl_types.specs.code.Signatures.{import_signature, node_signature, taken, given, Signs};
 
 use crate::contexts::Context;
-use crate::terms::{Signature, Term};
 use prl_ast::Program;
 use prl_base::Seq;
 use prl_names::Callee;
+use prl_terms::Term;
 use std::alloc::{AllocError, Global};
 use std::marker::Model;
+
+/// The types of what an import or a node takes, and of what it gives.
+#[derive(Debug, Drop)]
+pub(crate) struct Signature {
+    pub ins: Seq<Term>,
+    pub outs: Seq<Term>,
+}
 
 /// The parameters of a program, and the signatures of its imports and nodes. Contracts see the program.
 #[derive(Drop)]
@@ -42,7 +49,11 @@ impl<'c, 'n, 'a> Model for Signatures<'c, 'n, 'a> {
 }
 
 /// What this takes and gives.
-fn signature(alloc: Global, context: &Context<'_, '_>, of: Callee) -> Result<Signature, AllocError>
+fn made_signature(
+    alloc: Global,
+    context: &Context<'_, '_>,
+    of: Callee,
+) -> Result<Signature, AllocError>
     ensures ins { IfOk result (λ s. s.ins ≡ inputs_of (program_tree context.now) (Some of)) }
     ensures outs { IfOk result (λ s. s.outs ≡ outputs_of (program_tree context.now) (Some of)) }
 {
@@ -62,7 +73,7 @@ fn of_imports(
 {
     let mut list = Vec::with_capacity(alloc, count)?;
     for k in 0..count {
-        let signature = signature(alloc, context, Callee::Import(k))?;
+        let signature = made_signature(alloc, context, Callee::Import(k))?;
         list.push(signature)?;
     }
     Ok(list)
@@ -78,7 +89,7 @@ fn of_nodes(
 {
     let mut list = Vec::with_capacity(alloc, count)?;
     for k in 0..count {
-        let signature = signature(alloc, context, Callee::Node(k))?;
+        let signature = made_signature(alloc, context, Callee::Node(k))?;
         list.push(signature)?;
     }
     Ok(list)

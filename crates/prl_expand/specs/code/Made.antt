@@ -11,7 +11,7 @@ use Rattle.prl_flow.specs.declared.programs.App.{App}
 use Rattle.prl_flow.specs.declared.programs.Arg.{Arg}
 use Rattle.prl_names.specs.declared.lookups.Callee.{Callee}
 use Rattle.prl_names.specs.Lookups.{params_of}
-use Rattle.prl_types.specs.declared.terms.Term.{Term}
+use Rattle.prl_terms.specs.declared.terms.Term.{Term}
 use Rattle.prl_types.specs.Parameters.{first_of}
 use Rattle.prl_types.specs.Flows as types
 use Rattle.prl_types.specs.Flows.{parameters_from}

@@ -1,6 +1,6 @@
 -- Flows as the code lists them: one, or all that something applied gives.
 use Rattle.std.specs.Prelude.{List, [], ◌∷◌, ◌++◌}
-use Rattle.prl_types.specs.declared.terms.Term.{Term}
+use Rattle.prl_terms.specs.declared.terms.Term.{Term}
 use Rattle.prl_types.specs.declared.segments.Segment.{Segment}
 use Rattle.prl_types.specs.declared.segments.Flows.{Flows}
 use Rattle.prl_types.specs.declared.segments.Flows.TheVariants as given

@@ -4,8 +4,8 @@ use Rattle.std.specs.List.{range_with_len}
 use Rattle.prl_ast.specs.Trees.{ProgramTree}
 use Rattle.prl_names.specs.declared.lookups.Callee.{Callee}
 use Rattle.prl_names.specs.declared.lookups.Callee.TheVariants as callees
-use Rattle.prl_types.specs.declared.terms.Signature.{Signature}
-use Rattle.prl_types.specs.declared.terms.Term.{Term}
+use Rattle.prl_types.specs.declared.signatures.Signature.{Signature}
+use Rattle.prl_terms.specs.declared.terms.Term.{Term}
 use Rattle.prl_types.specs.Flows.{inputs_of, outputs_of}
 
 abbrev pub signature_of : ProgramTree → Callee → Signature

@@ -3,7 +3,7 @@ use Rattle.prl_ast.specs.Trees.{program_tree}
 use Rattle.prl_names.specs.ExprLists.{all_trees}
 use Rattle.prl_names.specs.Lookups.{callee_of}
 use Rattle.prl_names.proofs.Rows.{root_of_Apply, root_of_Group}
-use Rattle.prl_types.specs.declared.terms.Rule.{Rule}
+use Rattle.prl_terms.specs.declared.terms.Rule.{Rule}
 use Rattle.prl_types.specs.Flows.{root_flows, inputs_of, placed_flows, terms_of}
 use Rattle.prl_types.specs.Rules.{root_rules, all_rules}
 use Rattle.prl_types.specs.code.Segments.{flows_in}

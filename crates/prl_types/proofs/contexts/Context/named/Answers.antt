@@ -1,6 +1,6 @@
 use Rattle.std.proofs.Common.{arith, ap, sym, ◌∙◌, ◌+◌}
 use Rattle.prl_ast.specs.Trees.{program_tree}
-use Rattle.prl_types.specs.declared.terms.Term.TheVariants as terms
+use Rattle.prl_terms.specs.declared.terms.Term.TheVariants as terms
 use Rattle.prl_types.specs.Parameters.{parameter_or}
 use Rattle.prl_types.proofs.Declared.{IsOfNode, param_inside, number_fits, listed_first}
 use Rattle.prl_types.proofs.contexts.Context.named.Goals as goal

@@ -1,0 +1,5 @@
+pub mod Choices
+pub mod Solutions
+pub mod MetViews
+-- what private functions say to one another
+pub mod code

@@ -1,6 +1,0 @@
-use Rattle.std.proofs.Common.{map}
-use Rattle.prl_types.proofs.Starting.{AreSingle}
-use Rattle.prl_types.proofs.solving.Marks.new.Given as goal
-
-abbrev pub invariant-loop-k : goal.invariant-loop-k
-invariant-loop-k l = AreSingle l.marks.items (map (λ c. c.items) l.members.items) l.k

@@ -1,5 +1,0 @@
-use Rattle.prl_types.proofs.Ending.{AreKnown}
-use Rattle.prl_types.proofs.solving.Marks.types.Given as goal
-
-abbrev pub invariant-loop-k : goal.invariant-loop-k
-invariant-loop-k l = AreKnown l.self.marks.items l.types.items l.k
