@@ -3,7 +3,7 @@
 ghost use Rattle.std.specs.Prelude.{◌≡◌, map, IfOk, IfSome, Some, Err, None};
 ghost use Rattle.std.specs.Option.{option_map};
 ghost use Rattle.std.specs.String.{string_bytes};
-ghost use Rattle.prl_arguments.specs.Arguments.{AreInRange, after_front, asked_of, asked_of_mode, asked_with, clock_of, command_of, first_option, has, is_value, mode_named, name_of, named_by, named_in, needed, needs, nothing, number_or, own_value, possible, value_from, with_option, with_options, with_value};
+ghost use Rattle.prl_arguments.specs.Arguments.{AreInRange, after_front, all_settings, asked_of, asked_of_mode, asked_with, clock_of, command_of, first_option, has, is_value, mode_named, name_of, named_by, named_in, needed, needs, nothing, number_or, own_value, possible, value_from, with_option, with_options, with_value};
 ghost use Rattle.prl_arguments.specs.code.Settings.{bytes_of, given_by, named_as, place_of, wanted_by, wanted_command};
 
 use crate::options::are_options_of;
@@ -139,7 +139,7 @@ struct Given<'a> {
 }
 
 /// An option, with its value where that stands in the same word.
-type Named<'a> = (Setting, Option<&'a [u8]>);
+pub type Named<'a> = (Setting, Option<&'a [u8]>);
 
 /// The value of an option, and the words after it.
 type Taken<'a> = (&'a [u8], &'a [String]);
@@ -167,7 +167,7 @@ pub(crate) static SETTINGS: [Setting; OPTIONS] = [
 ];
 
 /// The mode of a name.
-fn mode_named(name: &[u8]) -> Option<Mode>
+pub fn mode_named(name: &[u8]) -> Option<Mode>
     ensures { result ≡ mode_named name.now }
 {
     if name == b"check".as_slice() {
@@ -200,7 +200,7 @@ fn mode_named(name: &[u8]) -> Option<Mode>
 }
 
 /// The options that a mode needs.
-fn needed<'a>(mode: Mode) -> &'a [Setting]
+pub fn needed<'a>(mode: Mode) -> &'a [Setting]
     ensures { result.now ≡ needed mode }
 {
     match mode {
@@ -257,14 +257,14 @@ pub(crate) fn needs(mode: Mode, setting: Setting) -> bool
 }
 
 /// Whether the mode needs the option, or may have it.
-pub(crate) fn has(mode: Mode, setting: Setting) -> bool
+pub fn has(mode: Mode, setting: Setting) -> bool
     ensures { result ≡ has mode setting }
 {
     needs(mode, setting) || possible(mode).contains(&setting)
 }
 
 /// The name of an option, which is written after `--`.
-pub(crate) fn name_of<'a>(setting: Setting) -> &'a str
+pub fn name_of<'a>(setting: Setting) -> &'a str
     ensures { result.now ≡ name_of setting }
 {
     match setting {
@@ -307,7 +307,7 @@ fn own_value(rest: &[u8]) -> Option<Option<&[u8]>>
 }
 
 /// The option, where the word names it.
-fn named_by<'a>(setting: Setting, word: &'a [u8]) -> Option<Named<'a>>
+pub fn named_by<'a>(setting: Setting, word: &'a [u8]) -> Option<Named<'a>>
     ensures { option_map named_as result ≡ named_by setting word.now }
 {
     let dashed = after_front(b"--", word)?;
@@ -327,6 +327,13 @@ fn named_in<'a>(settings: &[Setting], word: &'a [u8]) -> Option<Named<'a>>
             None => named_in(rest, word),
         },
     }
+}
+
+/// The option that the word names.
+pub fn option_named(word: &[u8]) -> Option<Named<'_>>
+    ensures { option_map named_as result ≡ named_in all_settings word.now }
+{
+    named_in(&SETTINGS, word)
 }
 
 /// Where an option stands in `SETTINGS`.
@@ -374,7 +381,8 @@ impl<'a> Given<'a> {
     }
 }
 
-fn is_value(word: &[u8]) -> bool
+/// Whether the word has the form of a value.
+pub fn is_value(word: &[u8]) -> bool
     ensures { result ≡ is_value word.now }
 {
     match word {
@@ -400,7 +408,7 @@ fn value_from<'a>(own: Option<&'a [u8]>, later: &'a [String]) -> Option<Taken<'a
 fn first_option<'a>(given: Given<'a>, word: &'a [u8], later: &'a [String]) -> Option<Read<'a>>
     ensures { option_map (λ r. (given_by r.0, map string_bytes r.1.now)) result ≡ first_option (given_by given.entry) word.now (map string_bytes later.now) }
 {
-    let (setting, own) = named_in(&SETTINGS, word)?;
+    let (setting, own) = option_named(word)?;
     let (value, after) = value_from(own, later)?;
     let more = given.with_option(setting, value)?;
     Some((more, after))

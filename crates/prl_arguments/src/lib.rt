@@ -6,6 +6,7 @@ mod arguments;
 mod options;
 
 pub use arguments::{
-    Command, MAX_SIZE, MAX_UNTIL, MAX_WORKERS, Mode, Setting, WordsFault, read_words,
+    Command, MAX_SIZE, MAX_UNTIL, MAX_WORKERS, Mode, Named, Setting, WordsFault, has, is_value,
+    mode_named, name_of, named_by, needed, option_named, read_words,
 };
 pub use prl_rule::Gate;

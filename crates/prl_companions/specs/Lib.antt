@@ -4,3 +4,5 @@ pub mod Pairs
 pub mod Endings
 -- the files that are read
 pub mod Files
+-- how a call ends where something may not fit
+pub mod Faults

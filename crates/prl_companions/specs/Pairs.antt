@@ -1,5 +1,5 @@
 -- Words that come in pairs, an option and its value.
-use Rattle.std.specs.Prelude.{◌==◌, ◌&&◌, ◌||◌, ℕ, Bool, true, false, not, List, [], ◌∷◌, Option, Some, None, is_some, if◌then◌else◌}
+use Rattle.std.specs.Prelude.{◌==◌, ◌&&◌, ◌||◌, ℕ, Bool, true, false, not, List, [], ◌∷◌, Option, Some, None, codes, is_some, if◌then◌else◌}
 use Rattle.std.specs.Str.{bytes_eq}
 
 -- the word after the first option of this name
@@ -26,3 +26,9 @@ abbrev pub are_pairs : List (List ℕ) → List (List ℕ) → Bool
 are_pairs options [] = true
 are_pairs options (word ∷ []) = false
 are_pairs options (word ∷ value ∷ rest) = is_pair options word value rest && are_pairs options rest
+
+-- the words ask for what the options mean
+abbrev pub asks_help : List (List ℕ) → Bool
+asks_help [] = false
+asks_help (word ∷ []) = bytes_eq word (codes "--help")
+asks_help (word ∷ other ∷ words) = false

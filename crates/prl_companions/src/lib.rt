@@ -3,9 +3,11 @@
 #![tactic(auto)]
 
 mod endings;
+mod faults;
 mod reading;
 mod words;
 
 pub use endings::{Stop, finish};
+pub use faults::{Fault, end, unfit, unfit_for, why_of};
 pub use reading::read_named;
-pub use words::{after_name, are_pairs, value_of};
+pub use words::{after_name, are_pairs, asks_help, number_up_to, value_of};

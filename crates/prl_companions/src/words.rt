@@ -1,9 +1,12 @@
 //! The words of a command line that come in pairs, an option and its value.
 
-ghost use Rattle.std.specs.Prelude.{◌≡◌, ◌&&◌, ◌==◌, drop, map, not};
+ghost use Rattle.std.specs.Prelude.{◌≡◌, ◌≤◌, ◌&&◌, ◌==◌, IfSome, Some, drop, map, not};
 ghost use Rattle.std.specs.Option.{option_map};
 ghost use Rattle.std.specs.String.{string_bytes};
-ghost use Rattle.prl_companions.specs.Pairs.{are_pairs, is_option, is_pair, is_value, value_of};
+ghost use Rattle.prl_base.specs.Decimals.{decimal_of};
+ghost use Rattle.prl_companions.specs.Pairs.{are_pairs, asks_help, is_option, is_pair, is_value, value_of};
+
+use prl_base::decimal_of;
 
 /// The words after the program's own name.
 pub fn after_name(words: &[String]) -> &[String]
@@ -69,5 +72,26 @@ pub fn are_pairs(options: &[&[u8]], words: &[String]) -> bool
         [word, value, rest @ ..] => {
             is_pair(options, word.as_bytes(), value.as_bytes(), rest) && are_pairs(options, rest)
         }
+    }
+}
+
+/// Whether the words ask for what the options mean.
+pub fn asks_help(words: &[String]) -> bool
+    ensures { result ≡ asks_help (map string_bytes words.now) }
+{
+    match words {
+        [word] => word.as_bytes() == b"--help".as_slice(),
+        _ => false,
+    }
+}
+
+/// The number that a word writes, where it is at most this one.
+pub fn number_up_to(most: u64, word: &[u8]) -> Option<u64>
+    ensures small { IfSome result (λ number. number ≤ most) }
+    ensures exact { IfSome result (λ number. decimal_of word.now ≡ Some number) }
+{
+    match decimal_of(word) {
+        None => None,
+        Some(number) => { if number <= most { Some(number) } else { None } }
     }
 }

@@ -1,2 +1,1 @@
-mod Five
 mod Digits

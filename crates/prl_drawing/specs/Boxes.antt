@@ -6,14 +6,17 @@ use Rattle.prl_drawing.specs.declared.scales.Scale.{Scale}
 use Rattle.prl_drawing.specs.Texts.{attribute_text}
 use Rattle.prl_drawing.specs.Scales.{x_within}
 
--- the rest of a rectangle
-abbrev pub place_text : ℕ → ℕ → ℕ → ℕ → List ℕ
-place_text left top width height =
+-- where a rectangle stands, and how wide and high it is
+abbrev pub sides_text : ℕ → ℕ → ℕ → ℕ → List ℕ
+sides_text left top width height =
     attribute_text (codes "\" x=\"") left
     ++ attribute_text (codes "\" y=\"") top
     ++ attribute_text (codes "\" width=\"") width
     ++ attribute_text (codes "\" height=\"") height
-    ++ codes "\"/>\n"
+
+-- the rest of a rectangle
+abbrev pub place_text : ℕ → ℕ → ℕ → ℕ → List ℕ
+place_text left top width height = sides_text left top width height ++ codes "\"/>\n"
 
 -- a rectangle in the colour of a task
 abbrev pub coloured_text : ℕ → ℕ → ℕ → ℕ → ℕ → List ℕ

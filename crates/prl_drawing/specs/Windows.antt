@@ -2,6 +2,8 @@
 use Rattle.std.specs.Prelude.{◌+◌, ◌-◌, ◌%◌, ◌++◌, ℕ, List, codes}
 use Rattle.prl_drawing.specs.declared.shapes.Shape.{Shape}
 use Rattle.prl_drawing.specs.declared.rows.TheConstants.{COLOURS, GAP}
+use Rattle.prl_drawing.specs.declared.window_texts.TheConstants.{HIGH}
+use Rattle.prl_drawing.specs.Boxes.{place_text}
 use Rattle.prl_drawing.specs.Rows.{row_of}
 use Rattle.prl_drawing.specs.Texts.{attribute_text}
 
@@ -9,7 +11,4 @@ use Rattle.prl_drawing.specs.Texts.{attribute_text}
 abbrev pub window_text : Shape → List ℕ
 window_text shape =
     attribute_text (codes "<rect class=\"w t") (shape.task % COLOURS)
-    ++ attribute_text (codes "\" x=\"") shape.left
-    ++ attribute_text (codes "\" y=\"") (row_of shape.row + GAP)
-    ++ attribute_text (codes "\" width=\"") (shape.right - shape.left)
-    ++ codes "\" height=\"200\"/>\n"
+    ++ place_text shape.left (row_of shape.row + GAP) (shape.right - shape.left) HIGH

@@ -1,15 +1,31 @@
 //! Rectangles in the colours of tasks, and over the ticks of an interval.
 
 ghost use Rattle.std.specs.Prelude.{◌≡◌, ◌++◌, ◌<◌, ◌^◌, OnOk};
-ghost use Rattle.prl_drawing.specs.Boxes.{box_text, coloured_text, place_text};
+ghost use Rattle.prl_drawing.specs.Boxes.{box_text, coloured_text, place_text, sides_text};
 
 use crate::rows::colour_of;
 use crate::scales::{Scale, x_within};
-use crate::texts::push_attribute;
+use crate::texts::{push, push_attribute};
 use std::alloc::AllocError;
 
 /// How wide a rectangle over some ticks is at least, in tenths of a pixel.
 pub const LEAST: u64 = 20;
+
+/// Appends where a rectangle stands, and how wide and high it is.
+fn push_sides(
+    text: &mut Vec<u8>,
+    left: u64,
+    top: u64,
+    width: u64,
+    height: u64,
+) -> Result<(), AllocError>
+    ensures { OnOk result (text.new.items ≡ text.old.items ++ sides_text left top width height) }
+{
+    push_attribute(text, "\" x=\"", left)?;
+    push_attribute(text, "\" y=\"", top)?;
+    push_attribute(text, "\" width=\"", width)?;
+    push_attribute(text, "\" height=\"", height)
+}
 
 /// Appends the rest of a rectangle.
 pub fn push_place(
@@ -21,12 +37,21 @@ pub fn push_place(
 ) -> Result<(), AllocError>
     ensures { OnOk result (text.new.items ≡ text.old.items ++ place_text left top width height) }
 {
-    push_attribute(text, "\" x=\"", left)?;
-    push_attribute(text, "\" y=\"", top)?;
-    push_attribute(text, "\" width=\"", width)?;
-    push_attribute(text, "\" height=\"", height)?;
+    push_sides(text, left, top, width, height)?;
     text.extend_from_slice(b"\"/>\n")?;
     Ok(())
+}
+
+/// Appends the rest of a rectangle that tells something where the mouse rests on it, up to what it tells.
+pub fn push_telling(
+    text: &mut Vec<u8>,
+    left: u64,
+    top: u64,
+    width: u64,
+    height: u64,
+) -> Result<(), AllocError> {
+    push_sides(text, left, top, width, height)?;
+    push(text, "\"><title>")
 }
 
 /// Appends a rectangle in the colour of a task.

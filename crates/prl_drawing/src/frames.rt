@@ -2,14 +2,12 @@
 
 ghost use Rattle.std.specs.Prelude.{◌<◌, ◌^◌};
 
+use crate::axes::{Axis, push_svg, push_times, push_unit_name};
 use crate::rows::{TOP, row_of};
-use crate::scales::{LEFT, Scale, WIDTH, x_of};
+use crate::scales::{LEFT, Scale, WIDTH};
 use crate::texts::{push, push_attribute};
-use crate::units::{Unit, push_time};
+use crate::units::Unit;
 use std::alloc::AllocError;
-
-/// How wide a picture is, in tenths of a pixel.
-const WHOLE: u64 = 12_000;
 
 /// How wide a name may be.
 const NAME_WIDTH: u64 = 1_450;
@@ -19,41 +17,6 @@ const NAME_BYTES: usize = 20;
 
 /// How many ticks have a number, at most.
 const LABELS: u64 = 20;
-
-/// How far numbers of ticks may lie apart.
-static STEPS: [u64; 31] = [
-    1,
-    2,
-    5,
-    10,
-    20,
-    50,
-    100,
-    200,
-    500,
-    1_000,
-    2_000,
-    5_000,
-    10_000,
-    20_000,
-    50_000,
-    100_000,
-    200_000,
-    500_000,
-    1_000_000,
-    2_000_000,
-    5_000_000,
-    10_000_000,
-    20_000_000,
-    50_000_000,
-    100_000_000,
-    200_000_000,
-    500_000_000,
-    1_000_000_000,
-    2_000_000_000,
-    5_000_000_000,
-    10_000_000_000,
-];
 
 /// How things look. Colours are those that most eyes tell apart.
 const STYLE: &str = "<style>text{font-family:sans-serif;font-size:120px;fill:#222}\
@@ -91,22 +54,9 @@ const PRECEDES: &str = "<path class=\"a\" d=\"M8400 415h320\"/>\
 const AFTER_DELAY: &str = "<path class=\"a d\" d=\"M9500 415h320\"/>\
     <text x=\"9880\" y=\"455\">after a delay</text>\n";
 
-/// How high a picture of so many rows is.
-fn height_of(rows: u32) -> u64 {
-    row_of(rows) + 200
-}
-
 /// Appends what a picture of so many rows begins with.
 pub fn push_opening(text: &mut Vec<u8>, rows: u32) -> Result<(), AllocError> {
-    let height = height_of(rows);
-    push(
-        text,
-        "<svg xmlns=\"http://www.w3.org/2000/svg\" width=\"1200\"",
-    )?;
-    push_attribute(text, " height=\"", height / 10)?;
-    push_attribute(text, "\" viewBox=\"0 0 ", WHOLE)?;
-    push_attribute(text, " ", height)?;
-    push(text, "\">\n")?;
+    push_svg(text, row_of(rows) + 200)?;
     push(text, STYLE)?;
     push(text, LEGEND)
 }
@@ -122,36 +72,6 @@ pub fn push_arrow_legend(text: &mut Vec<u8>, plain: bool, delayed: bool) -> Resu
     Ok(())
 }
 
-/// How far the numbers of ticks lie apart.
-fn step_of(span: u64) -> u64
-    ensures { 0 < result }
-{
-    for step in STEPS {
-        if step > 0 && span / step < LABELS {
-            return step;
-        }
-    }
-    span.max(1)
-}
-
-/// Appends a line at a tick, and when it is.
-fn push_tick(
-    text: &mut Vec<u8>,
-    unit: &Unit,
-    x: u64,
-    tick: u64,
-    bottom: u64,
-) -> Result<(), AllocError> {
-    push_attribute(text, "<path class=\"g\" d=\"M", x)?;
-    push_attribute(text, " ", TOP)?;
-    push_attribute(text, "V", bottom)?;
-    push_attribute(text, "\"/><text class=\"x\" x=\"", x)?;
-    push_attribute(text, "\" y=\"", TOP - 60)?;
-    push(text, "\">")?;
-    push_time(text, unit, tick)?;
-    push(text, "</text>\n")
-}
-
 /// Appends lines at some ticks, and when they are, in this unit.
 pub fn push_ticks(
     text: &mut Vec<u8>,
@@ -162,17 +82,22 @@ pub fn push_ticks(
     requires from { scale.from < 2 ^ 32 }
     requires span { (0 < scale.span) × (scale.span < 2 ^ 33) }
 {
-    let step = step_of(scale.span);
-    let end = scale.from + scale.span;
-    let first = scale.from.div_ceil(step);
-    for k in first..end / step + 1 {
-        let tick = k * step;
-        push_tick(text, unit, x_of(scale, tick), tick, bottom)?;
-    }
-    push_attribute(text, "<text class=\"u\" x=\"1500\" y=\"", TOP - 60)?;
-    push(text, "\">")?;
-    push(text, unit.name)?;
-    push(text, "</text>\n")
+    let axis = Axis {
+        top: TOP,
+        bottom,
+        times: TOP - 60,
+    };
+    push_times(text, scale, unit, axis, LABELS)?;
+    push_unit_name(text, unit, axis)
+}
+
+/// Appends the line above a row, and what its name begins with.
+fn push_row(text: &mut Vec<u8>, y: u64) -> Result<(), AllocError>
+    requires { y < 2 ^ 42 }
+{
+    push_attribute(text, "<path class=\"l\" d=\"M100 ", y)?;
+    push_attribute(text, "H", LEFT + WIDTH + 200)?;
+    push_attribute(text, "\"/><text x=\"100\" y=\"", y + 190)
 }
 
 /// Appends the name of a task, its period and its WCET, and a line above its row.
@@ -185,9 +110,7 @@ pub fn push_name(
 ) -> Result<(), AllocError>
     requires { y < 2 ^ 42 }
 {
-    push_attribute(text, "<path class=\"l\" d=\"M100 ", y)?;
-    push_attribute(text, "H", LEFT + WIDTH + 200)?;
-    push_attribute(text, "\"/><text x=\"100\" y=\"", y + 190)?;
+    push_row(text, y)?;
     if name.len() > NAME_BYTES {
         push_attribute(
             text,
@@ -205,9 +128,6 @@ pub fn push_name(
 
 /// Appends what a row of the processor begins with.
 pub fn push_processor(text: &mut Vec<u8>, row: u32) -> Result<(), AllocError> {
-    let y = row_of(row);
-    push_attribute(text, "<path class=\"l\" d=\"M100 ", y)?;
-    push_attribute(text, "H", LEFT + WIDTH + 200)?;
-    push_attribute(text, "\"/><text x=\"100\" y=\"", y + 190)?;
+    push_row(text, row_of(row))?;
     push(text, "\">processor")
 }

@@ -2,8 +2,11 @@
 //! of. It stands on `prl_base` and knows no plan.
 #![tactic(auto)]
 
+mod axes;
 mod boxes;
 mod frames;
+mod labels;
+mod loads;
 mod marks;
 mod numbers;
 mod rows;
@@ -13,9 +16,12 @@ mod texts;
 mod units;
 mod window_texts;
 
-pub use boxes::{LEAST, push_box, push_coloured, push_place};
+pub use axes::{Axis, push_svg, push_times, push_unit_name};
+pub use boxes::{LEAST, push_box, push_coloured, push_telling};
 pub use frames::{push_arrow_legend, push_name, push_opening, push_processor, push_ticks};
-pub use marks::{is_followed, push_arrow, push_bar, push_frame, push_own_dates};
+pub use labels::{push_part_name, push_sign, push_title};
+pub use loads::{Load, Overload, push_all_counted, push_load, push_overload, push_second};
+pub use marks::{is_followed, push_arrow, push_bar, push_own_dates};
 pub use numbers::push_numbers;
 pub use rows::{COLOURS, GAP, ROW, TOP, colour_of, row_of};
 pub use scales::{LEFT, Scale, WIDTH, is_seen, x_of, x_within};

@@ -1,17 +1,15 @@
 //! Marks of jobs: the bars of their WCETs, lines at their own dates, frames round their windows, and
 //! arrows from one to another.
 
-use crate::boxes::LEAST;
+use crate::boxes::{LEAST, push_place};
 use crate::rows::{COLOURS, GAP, colour_of, row_of};
 use crate::shapes::Shape;
 use crate::texts::{push, push_attribute};
+use crate::window_texts::HIGH;
 use std::alloc::AllocError;
 
 /// From which width on, in tenths of a pixel, a window has the arrows that begin and end there.
 const WIDE: u64 = 200;
-
-/// How high the frame round a window is.
-const HIGH: u64 = 200;
 
 /// How far the lane of a row, in which its arrows begin, is below the top of the row.
 const LANE: u64 = 285;
@@ -26,10 +24,7 @@ const APART: u64 = 13;
 pub fn push_bar(text: &mut Vec<u8>, shape: &Shape) -> Result<(), AllocError> {
     let width = shape.bar.saturating_sub(shape.left).max(LEAST);
     push_attribute(text, "<rect class=\"v t", colour_of(shape.task))?;
-    push_attribute(text, "\" x=\"", shape.left)?;
-    push_attribute(text, "\" y=\"", row_of(shape.row) + 180)?;
-    push_attribute(text, "\" width=\"", width)?;
-    push(text, "\" height=\"80\"/>\n")
+    push_place(text, shape.left, row_of(shape.row) + 180, width, 80)
 }
 
 /// Appends a line at an own date of a job.
@@ -52,11 +47,9 @@ pub fn push_own_dates(text: &mut Vec<u8>, shape: &Shape) -> Result<(), AllocErro
 
 /// Appends a frame round the window of a job.
 pub fn push_frame(text: &mut Vec<u8>, shape: &Shape) -> Result<(), AllocError> {
-    push_attribute(text, "<rect class=\"c\" x=\"", shape.left)?;
-    push_attribute(text, "\" y=\"", row_of(shape.row) + GAP)?;
-    push_attribute(text, "\" width=\"", shape.right.saturating_sub(shape.left))?;
-    push_attribute(text, "\" height=\"", HIGH)?;
-    push(text, "\"/>\n")
+    let width = shape.right.saturating_sub(shape.left);
+    push(text, "<rect class=\"c")?;
+    push_place(text, shape.left, row_of(shape.row) + GAP, width, HIGH)
 }
 
 /// Where the arrows from a row go up or down to a window: left of it, the arrows from one row together.

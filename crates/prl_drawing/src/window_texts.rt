@@ -5,10 +5,14 @@ ghost use Rattle.std.specs.List.{flat_map};
 ghost use Rattle.prl_drawing.specs.Rows.{row_of};
 ghost use Rattle.prl_drawing.specs.Windows.{window_text};
 
+use crate::boxes::push_place;
 use crate::rows::{GAP, colour_of, row_of};
 use crate::shapes::Shape;
 use crate::texts::push_attribute;
 use std::alloc::{AllocError, Global};
+
+/// How high a window is.
+pub const HIGH: u64 = 200;
 
 /// How far the windows of a row are from the top.
 fn window_top(row: u32) -> u64
@@ -29,11 +33,8 @@ fn push_window(text: &mut Vec<u8>, shape: &Shape) -> Result<(), AllocError>
     ensures { OnOk result (text.new.items ≡ text.old.items ++ window_text shape.now) }
 {
     push_attribute(text, "<rect class=\"w t", colour_of(shape.task))?;
-    push_attribute(text, "\" x=\"", shape.left)?;
-    push_attribute(text, "\" y=\"", window_top(shape.row))?;
-    push_attribute(text, "\" width=\"", width_of(shape))?;
-    text.extend_from_slice(b"\" height=\"200\"/>\n")?;
-    Ok(())
+    let top = window_top(shape.row);
+    push_place(text, shape.left, top, width_of(shape), HIGH)
 }
 
 /// The windows of jobs, each once, in order.

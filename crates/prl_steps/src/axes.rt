@@ -3,20 +3,16 @@
 ghost use Rattle.std.specs.Prelude.{◌<◌, ◌^◌};
 
 use crate::panes::{BETWEEN, FIRST};
-use prl_drawing::{LEFT, Scale, Unit, WIDTH, push, push_attribute, push_time, x_within};
+use prl_drawing::{
+    Axis, LEFT, Scale, Unit, WIDTH, push, push_attribute, push_svg, push_times, push_unit_name,
+};
 use std::alloc::AllocError;
 
 /// How many times the axis has at most, about.
 const LABELS: u64 = 11;
 
-/// How wide the picture is, in tenths of a pixel.
-const WHOLE: u64 = 12_000;
-
 /// How much stands below the last pane.
 const BELOW: u64 = 320;
-
-/// The times of the axis lie so many powers of ten apart, or twice or five times as many.
-static SHARES: [u64; 3] = [1, 2, 5];
 
 /// How things look. Colours are those that most eyes tell apart.
 const STYLE: &str = "<style>text{font-family:sans-serif;font-size:120px;fill:#222}\
@@ -35,71 +31,16 @@ const STYLE: &str = "<style>text{font-family:sans-serif;font-size:120px;fill:#22
 
 /// Appends what a picture begins with whose last pane ends there.
 pub(crate) fn push_opening(text: &mut Vec<u8>, bottom: u64) -> Result<(), AllocError> {
-    let height = bottom.saturating_add(BELOW);
-    push(
-        text,
-        "<svg xmlns=\"http://www.w3.org/2000/svg\" width=\"1200\"",
-    )?;
-    push_attribute(text, " height=\"", height / 10)?;
-    push_attribute(text, "\" viewBox=\"0 0 ", WHOLE)?;
-    push_attribute(text, " ", height)?;
-    push(text, "\">\n")?;
+    push_svg(text, bottom.saturating_add(BELOW))?;
     push(text, STYLE)
 }
 
-/// How far times lie apart that are so many powers of ten or a share of them apart, where the axis has room.
-fn fitting(span: u64, power: u64) -> Option<u64> {
-    for share in SHARES {
-        let step = power.saturating_mul(share);
-        if span / step.max(1) < LABELS {
-            return Some(step);
-        }
-    }
-    None
-}
-
-/// How far the times of the axis lie apart.
-fn step_of(span: u64) -> u64
-    ensures { 0 < result }
-{
-    let mut power: u64 = 1;
-    for _ in 0..11 {
-        if let Some(step) = fitting(span, power) {
-            return step.max(1);
-        }
-        power = power.saturating_mul(10);
-    }
-    span.max(1)
-}
-
-/// Appends a line at a tick, and below the panes when it is.
-fn push_tick(
-    text: &mut Vec<u8>,
-    unit: &Unit,
-    x: u64,
-    tick: u64,
-    bottom: u64,
-) -> Result<(), AllocError> {
-    push_attribute(text, "<path class=\"g\" d=\"M", x)?;
-    push_attribute(text, " ", FIRST + BETWEEN / 2)?;
-    push_attribute(text, "V", bottom.saturating_add(80))?;
-    push_attribute(text, "\"/><text class=\"x\" x=\"", x)?;
-    push_attribute(text, "\" y=\"", bottom.saturating_add(200))?;
-    push(text, "\">")?;
-    push_time(text, unit, tick)?;
-    push(text, "</text>\n")
-}
-
-/// Appends the line of the axis, and what its numbers are.
-fn push_unit(text: &mut Vec<u8>, unit: &Unit, bottom: u64) -> Result<(), AllocError> {
+/// Appends the line of the axis.
+fn push_line(text: &mut Vec<u8>, axis: Axis) -> Result<(), AllocError> {
     push_attribute(text, "<path class=\"l\" d=\"M", LEFT)?;
-    push_attribute(text, " ", bottom.saturating_add(80))?;
+    push_attribute(text, " ", axis.bottom)?;
     push_attribute(text, "H", LEFT + WIDTH)?;
-    push(text, "\"/><text class=\"u\" x=\"1500\"")?;
-    push_attribute(text, " y=\"", bottom.saturating_add(200))?;
-    push(text, "\">")?;
-    push(text, unit.name)?;
-    push(text, "</text>\n")
+    push(text, "\"/>")
 }
 
 /// Appends lines at some ticks, and below the last pane when they are, in this unit.
@@ -112,12 +53,12 @@ pub(crate) fn push_axis(
     requires from { scale.from < 2 ^ 32 }
     requires span { (0 < scale.span) × (scale.span < 2 ^ 33) }
 {
-    let step = step_of(scale.span);
-    let end = scale.from + scale.span;
-    let first = scale.from.div_ceil(step);
-    for k in first..end / step + 1 {
-        let tick = k * step;
-        push_tick(text, unit, x_within(scale, tick), tick, bottom)?;
-    }
-    push_unit(text, unit, bottom)
+    let axis = Axis {
+        top: FIRST + BETWEEN / 2,
+        bottom: bottom.saturating_add(80),
+        times: bottom.saturating_add(200),
+    };
+    push_times(text, scale, unit, axis, LABELS)?;
+    push_line(text, axis)?;
+    push_unit_name(text, unit, axis)
 }

@@ -5,7 +5,7 @@ use crate::levels::{ZERO, push_level};
 use crate::panes::{Pane, y_of};
 use crate::samples::Step;
 use prl_base::Ty;
-use prl_drawing::{LEFT, WIDTH, push, push_attribute};
+use prl_drawing::{LEFT, WIDTH, push, push_attribute, push_telling};
 use std::alloc::AllocError;
 
 /// How many letters of a name there is room for; longer ones are smaller.
@@ -121,11 +121,9 @@ pub(crate) fn push_told(
     if steps.is_empty() {
         return Ok(());
     }
-    push_attribute(text, "<rect class=\"h\" x=\"", LEFT)?;
-    push_attribute(text, "\" y=\"", pane.bottom.saturating_sub(pane.height))?;
-    push_attribute(text, "\" width=\"", WIDTH)?;
-    push_attribute(text, "\" height=\"", pane.height)?;
-    push(text, "\"><title>")?;
+    let top = pane.bottom.saturating_sub(pane.height);
+    push(text, "<rect class=\"h")?;
+    push_telling(text, LEFT, top, WIDTH, pane.height)?;
     text.extend_from_slice(flow.name())?;
     push_attribute(text, ": values ", steps.len() as u64)?;
     push_told_levels(text, flow.ty(), pane)?;

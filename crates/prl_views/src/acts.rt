@@ -8,7 +8,7 @@ use prl_plan::Event;
 use std::alloc::{AllocError, Global};
 
 /// A task acts at a tick.
-#[derive(Clone, Copy, Debug, PartialEq, Eq)]
+#[derive(Clone, Copy)]
 pub struct Act {
     pub tick: u64,
     pub task: TaskNo,

@@ -31,7 +31,7 @@ fn is_delayed(edge: &Edge) -> bool {
 }
 
 /// How many arrows there are: plain ones, those with a delay, and those that are left out.
-#[derive(Clone, Copy, Debug, PartialEq, Eq)]
+#[derive(Clone, Copy)]
 pub(crate) struct Arrows {
     plain: u64,
     delayed: u64,

@@ -4,7 +4,9 @@ ghost use Rattle.std.specs.Prelude.{◌<◌, ◌^◌, length};
 
 use crate::look_ups::{edge_of, job_count, operand_of, task_of};
 use prl_base::{EdgeNo, TaskNo};
-use prl_drawing::{Scale, Shape, push, push_attribute, push_bar, push_own_dates, row_of};
+use prl_drawing::{
+    Scale, Shape, push, push_attribute, push_bar, push_own_dates, push_telling, row_of,
+};
 use prl_plan::{Operand, Plan, Producer, plan_is_one};
 use std::alloc::AllocError;
 
@@ -97,10 +99,9 @@ fn push_told(text: &mut Vec<u8>, plan: &Plan, scale: Scale, shape: &Shape) -> Re
     requires task { shape.now.task < length plan.now.graph.tasks }
     requires until { scale.until < 2 ^ 32 }
 {
-    push_attribute(text, "<rect class=\"h\" x=\"", shape.left)?;
-    push_attribute(text, "\" y=\"", row_of(shape.row) + 60)?;
-    push_attribute(text, "\" width=\"", shape.right.saturating_sub(shape.left))?;
-    push(text, "\" height=\"200\"><title>")?;
+    let width = shape.right.saturating_sub(shape.left);
+    push(text, "<rect class=\"h")?;
+    push_telling(text, shape.left, row_of(shape.row) + 60, width, 200)?;
     push_dates(text, plan, shape)?;
     push_edges(text, plan, scale, shape)?;
     push(text, "</title></rect>\n")

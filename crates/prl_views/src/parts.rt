@@ -21,7 +21,7 @@ pub const MOST_PROCESSORS: u32 = 16;
 pub const LEAST: u64 = 20;
 
 /// A part of the tick of an act: where it begins, and how wide it is.
-#[derive(Clone, Copy, Debug, PartialEq, Eq)]
+#[derive(Clone, Copy)]
 pub struct Part {
     pub act: Act,
     pub left: u64,

@@ -12,18 +12,22 @@ use crate::acts::acts_of;
 use crate::parts::{part_texts, parts_of, used_of};
 use crate::processors::{push_labels, push_rows};
 use crate::signs::push_signs;
-use crate::tables::{pieces_of, push_busy};
-use crate::verdicts::{push_all_counted, push_load, push_overload, push_piece};
+use crate::tables::{load_of, pieces_of};
+use crate::verdicts::push_piece;
 use crate::views::View;
 use prl_cores::Spread;
-use prl_drawing::Shape;
+use prl_drawing::{Load, Overload, Shape, push_all_counted, push_load, push_overload};
 use prl_edf::{Piece, Verdict};
 use prl_plan::{Event, Horizon, Plan};
 use prl_tables::Table;
 use std::alloc::{AllocError, Global};
 
+/// What the pieces of a run mean.
+const LEGEND: &str = "<rect class=\"s t7\" x=\"1600\" y=\"590\" width=\"300\" height=\"80\"/>\
+    <text x=\"1960\" y=\"670\">processor's time, earliest deadline first</text>\n";
+
 /// What is drawn beside the windows.
-#[derive(Debug, Drop)]
+#[derive(Drop)]
 pub enum Shown {
     /// What a schedule does; nothing where it has no event.
     Events(Vec<Event>),
@@ -139,6 +143,16 @@ fn push_run(
     push_labels(text, plan, view.count(), processors, &used, &parts)
 }
 
+/// The load of a processor that is busy for so many of these ticks.
+fn load_of_run(busy: u64, ticks: u64) -> Load {
+    Load {
+        legend: LEGEND,
+        name: ": load ",
+        busy,
+        ticks,
+    }
+}
+
 /// Appends the signs of what a schedule does.
 fn push_events(
     alloc: Global,
@@ -170,13 +184,24 @@ pub(crate) fn push_shown(
     match shown {
         Shown::Events(events) => push_events(alloc, text, plan, view, events),
         Shown::Verdict(horizon, Verdict::Run(timed)) => {
-            push_load(text, row, timed.ticks(), horizon.end)
+            push_load(text, row, load_of_run(timed.ticks(), horizon.end))
         }
         Shown::Verdict(_, Verdict::Overload { from, to, demand }) => {
-            push_overload(text, view.scale, row, *from, *to, *demand)?;
-            push_all_counted(text, shapes, *from, *to)
+            let overload = Overload {
+                from: *from,
+                to: *to,
+                demand: *demand,
+            };
+            push_overload(text, view.scale, row, overload)?;
+            push_all_counted(text, shapes, overload)
         }
         Shown::Cores(spread, events) => push_run(alloc, text, plan, view, spread, events),
-        Shown::Table(table) => push_busy(text, row, table.entries.as_slice(), plan.graph().hyper),
+        Shown::Table(table) => {
+            push_load(
+                text,
+                row,
+                load_of(table.entries.as_slice(), plan.graph().hyper),
+            )
+        }
     }
 }

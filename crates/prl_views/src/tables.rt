@@ -4,7 +4,7 @@ ghost use Rattle.std.specs.Prelude.{◌≡◌, ◌+◌, ◌<◌, ◌^◌, IfOk, 
 ghost use Rattle.prl_tables.specs.Tables.{IsGood};
 ghost use Rattle.prl_views.specs.Shown.{piece_of};
 
-use prl_drawing::{push, push_attribute, push_processor, row_of};
+use prl_drawing::Load;
 use prl_edf::Piece;
 use prl_plan::{Plan, plan_is_one};
 use prl_tables::{Entry, Table, pieces_are_short};
@@ -51,23 +51,12 @@ fn busy_of(entries: &[Entry]) -> u64 {
     busy
 }
 
-/// Appends the load of the processor: for how many ticks of a hyperperiod it is busy.
-pub(crate) fn push_busy(
-    text: &mut Vec<u8>,
-    row: u32,
-    entries: &[Entry],
-    hyper: u64,
-) -> Result<(), AllocError> {
-    let busy = busy_of(entries);
-    push(text, LEGEND)?;
-    push_processor(text, row)?;
-    push_attribute(text, ": table ", busy.saturating_mul(100) / hyper.max(1))?;
-    push_attribute(
-        text,
-        " %</text><text class=\"k\" x=\"100\" y=\"",
-        row_of(row) + 320,
-    )?;
-    push_attribute(text, "\">busy ", busy)?;
-    push_attribute(text, " of ", hyper)?;
-    push(text, " ticks</text>\n")
+/// For how many ticks of a hyperperiod the processor is busy.
+pub(crate) fn load_of(entries: &[Entry], hyper: u64) -> Load {
+    Load {
+        legend: LEGEND,
+        name: ": table ",
+        busy: busy_of(entries),
+        ticks: hyper,
+    }
 }

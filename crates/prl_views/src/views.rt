@@ -8,7 +8,7 @@ use prl_base::{Seq, TaskNo};
 use prl_drawing::Scale;
 
 /// What of a plan is drawn.
-#[derive(Debug, Drop)]
+#[derive(Drop)]
 pub struct View {
     pub scale: Scale,
     /// The tasks of the rows, from the top.

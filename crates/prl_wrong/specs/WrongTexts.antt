@@ -30,21 +30,23 @@ worded front word end = front ++ word ++ end
 unfoldable pub no_mode_text : List ℕ
 no_mode_text = codes "No word stands after the program's name: a mode has to.\n"
 
-unfoldable pub no_such_mode_text : List ℕ → List ℕ
-no_such_mode_text word = worded (codes "The first wrong word is `") word (codes "`: it is no mode.\n")
+-- a word is wrong, and why
+unfoldable pub word_text : List ℕ → List ℕ → List ℕ
+word_text word end = worded (codes "The first wrong word is `") word end
 
-unfoldable pub no_option_text : List ℕ → List ℕ
-no_option_text word = worded (codes "The first wrong word is `") word (codes "`: an option has to stand there, and it is none.\n")
+-- an option is wrong, and why
+unfoldable pub option_text : Setting → List ℕ → List ℕ
+option_text setting end = worded (codes "The first wrong word is `--") (name_of setting) end
 
-unfoldable pub again_text : Setting → List ℕ
-again_text setting = worded (codes "The first wrong word is `--") (name_of setting) (codes "`: it stands there twice.\n")
+abbrev pub no_option_text : List ℕ → List ℕ
+no_option_text word = word_text word (codes "`: an option has to stand there, and it is none.\n")
 
-unfoldable pub no_value_text : Setting → List ℕ
+abbrev pub no_value_text : Setting → List ℕ
 no_value_text setting =
-    worded (codes "The first wrong word is `--") (name_of setting) (codes "`: its value is not there, which is no empty word and does not begin with `-`.\n")
+    option_text setting (codes "`: its value is not there, which is no empty word and does not begin with `-`.\n")
 
 unfoldable pub no_option_of_text : Setting → List ℕ
-no_option_of_text setting = worded (codes "The first wrong word is `--") (name_of setting) (codes "`: it is no option of mode `")
+no_option_of_text setting = option_text setting (codes "`: it is no option of mode `")
 
 unfoldable pub mode_end_text : Mode → List ℕ
 mode_end_text mode = mode_name mode ++ codes "`.\n"
@@ -73,18 +75,15 @@ wanted_text other = codes "a word"
 unfoldable pub wants_text : Setting → List ℕ
 wants_text setting = name_of setting ++ codes "` wants " ++ wanted_text setting ++ codes ".\n"
 
-unfoldable pub wrong_value_text : List ℕ → List ℕ
-wrong_value_text value = worded (codes "The first wrong word is `") value (codes "`: `--")
-
 unfoldable pub bad_value_text : Setting → List ℕ → List ℕ
-bad_value_text setting value = wrong_value_text value ++ wants_text setting
+bad_value_text setting value = word_text value (codes "`: `--") ++ wants_text setting
 
 abbrev pub fault_text : Fault → List ℕ
 fault_text NoMode = no_mode_text
-fault_text (NoSuchMode word) = no_such_mode_text word
+fault_text (NoSuchMode word) = word_text word (codes "`: it is no mode.\n")
 fault_text (NoOption word) = no_option_text word
 fault_text (NotTaken mode setting) = not_taken_text mode setting
-fault_text (Again setting) = again_text setting
+fault_text (Again setting) = option_text setting (codes "`: it stands there twice.\n")
 fault_text (NoValue setting) = no_value_text setting
 fault_text (BadValue setting value) = bad_value_text setting value
 fault_text (Missing mode setting) = missing_text mode setting

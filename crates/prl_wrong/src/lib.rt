@@ -4,7 +4,6 @@
 #![tactic(auto)]
 
 mod dashes;
-mod names;
 mod told;
 mod wrongs;
 

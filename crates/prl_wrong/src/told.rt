@@ -3,12 +3,31 @@
 ghost use Rattle.std.specs.Prelude.{◌≡◌, ◌++◌, IfOk, OnOk, drop, map};
 ghost use Rattle.std.specs.String.{string_bytes};
 ghost use Rattle.prl_wrong.specs.Wrong.{shown};
-ghost use Rattle.prl_wrong.specs.WrongTexts.{again_text, bad_value_text, command_text, fault_text, missing_text, mode_end_text, needs_text, no_mode_text, no_option_of_text, no_option_text, no_such_mode_text, no_value_text, not_taken_text, too_text, wanted_text, wants_text, words_text, worded, wrong_value_text};
+ghost use Rattle.prl_wrong.specs.WrongTexts.{bad_value_text, command_text, fault_text, missing_text, mode_end_text, mode_name, needs_text, no_mode_text, no_option_of_text, no_option_text, no_value_text, not_taken_text, option_text, too_text, wanted_text, wants_text, word_text, words_text, worded};
 
-use crate::names::{mode_name, name_of};
 use crate::wrongs::{Wrong, wrong_of};
-use prl_arguments::{Mode, Setting, WordsFault, read_words};
+use prl_arguments::{Mode, Setting, WordsFault, name_of, read_words};
 use std::alloc::{AllocError, Global};
+
+/// The name of a mode.
+fn mode_name(mode: Mode) -> &'static str
+    ensures { result.now ≡ mode_name mode }
+{
+    match mode {
+        Mode::Check => "check",
+        Mode::Cores => "cores",
+        Mode::Cycle => "cycle",
+        Mode::Edf => "edf",
+        Mode::Flows => "flows",
+        Mode::Generate => "generate",
+        Mode::Plan => "plan",
+        Mode::Print => "print",
+        Mode::Replay => "replay",
+        Mode::Run => "run",
+        Mode::Schedule => "schedule",
+        Mode::Table => "table",
+    }
+}
 
 /// Appends a word between others.
 #[tactic(auto, unfolding(crate::specs::WrongTexts::worded))]
@@ -28,69 +47,37 @@ fn push_no_mode(told: &mut Vec<u8>) -> Result<(), AllocError>
     told.extend_from_slice(b"No word stands after the program's name: a mode has to.\n")
 }
 
-/// Appends that a word is no mode.
-#[tactic(auto, unfolding(crate::specs::WrongTexts::no_such_mode_text))]
-fn push_no_such_mode(told: &mut Vec<u8>, word: &[u8]) -> Result<(), AllocError>
-    ensures { OnOk result (told.new.items ≡ told.old.items ++ no_such_mode_text word.now) }
+/// Appends that a word is wrong, and why.
+#[tactic(auto, unfolding(crate::specs::WrongTexts::word_text))]
+fn push_word(told: &mut Vec<u8>, word: &[u8], end: &[u8]) -> Result<(), AllocError>
+    ensures { OnOk result (told.new.items ≡ told.old.items ++ word_text word.now end.now) }
 {
-    push_worded(
-        told,
-        b"The first wrong word is `",
-        word,
-        b"`: it is no mode.\n",
-    )
+    push_worded(told, b"The first wrong word is `", word, end)
+}
+
+/// Appends that an option is wrong, and why.
+#[tactic(auto, unfolding(crate::specs::WrongTexts::option_text))]
+fn push_option(told: &mut Vec<u8>, setting: Setting, end: &[u8]) -> Result<(), AllocError>
+    ensures { OnOk result (told.new.items ≡ told.old.items ++ option_text setting end.now) }
+{
+    let name = name_of(setting).as_bytes();
+    push_worded(told, b"The first wrong word is `--", name, end)
 }
 
 /// Appends that a word is no option.
-#[tactic(auto, unfolding(crate::specs::WrongTexts::no_option_text))]
 fn push_no_option(told: &mut Vec<u8>, word: &[u8]) -> Result<(), AllocError>
     ensures { OnOk result (told.new.items ≡ told.old.items ++ no_option_text word.now) }
 {
-    push_worded(
-        told,
-        b"The first wrong word is `",
-        word,
-        b"`: an option has to stand there, and it is none.\n",
-    )
-}
-
-/// Appends that an option stands twice.
-#[tactic(auto, unfolding(crate::specs::WrongTexts::again_text))]
-fn push_again(told: &mut Vec<u8>, setting: Setting) -> Result<(), AllocError>
-    ensures { OnOk result (told.new.items ≡ told.old.items ++ again_text setting) }
-{
-    push_worded(
-        told,
-        b"The first wrong word is `--",
-        name_of(setting).as_bytes(),
-        b"`: it stands there twice.\n",
-    )
+    let end = b"`: an option has to stand there, and it is none.\n";
+    push_word(told, word, end)
 }
 
 /// Appends that an option has no value.
-#[tactic(auto, unfolding(crate::specs::WrongTexts::no_value_text))]
 fn push_no_value(told: &mut Vec<u8>, setting: Setting) -> Result<(), AllocError>
     ensures { OnOk result (told.new.items ≡ told.old.items ++ no_value_text setting) }
 {
-    push_worded(
-        told,
-        b"The first wrong word is `--",
-        name_of(setting).as_bytes(),
-        b"`: its value is not there, which is no empty word and does not begin with `-`.\n",
-    )
-}
-
-/// Appends that an option is none of a mode, but for the mode.
-#[tactic(auto, unfolding(crate::specs::WrongTexts::no_option_of_text))]
-fn push_no_option_of(told: &mut Vec<u8>, setting: Setting) -> Result<(), AllocError>
-    ensures { OnOk result (told.new.items ≡ told.old.items ++ no_option_of_text setting) }
-{
-    push_worded(
-        told,
-        b"The first wrong word is `--",
-        name_of(setting).as_bytes(),
-        b"`: it is no option of mode `",
-    )
+    let end = b"`: its value is not there, which is no empty word and does not begin with `-`.\n";
+    push_option(told, setting, end)
 }
 
 /// Appends the name of a mode at the end of the line.
@@ -100,6 +87,14 @@ fn push_mode_end(told: &mut Vec<u8>, mode: Mode) -> Result<(), AllocError>
 {
     told.extend_from_slice(mode_name(mode).as_bytes())?;
     told.extend_from_slice(b"`.\n")
+}
+
+/// Appends that an option is none of a mode, but for the mode.
+#[tactic(auto, unfolding(crate::specs::WrongTexts::no_option_of_text))]
+fn push_no_option_of(told: &mut Vec<u8>, setting: Setting) -> Result<(), AllocError>
+    ensures { OnOk result (told.new.items ≡ told.old.items ++ no_option_of_text setting) }
+{
+    push_option(told, setting, b"`: it is no option of mode `")
 }
 
 /// Appends that a mode has not the option.
@@ -152,13 +147,7 @@ fn wanted_text(setting: Setting) -> &'static str
         Setting::Seed => "a number from 0 to 18446744073709551615",
         Setting::Size => "a number from 1 to 20",
         Setting::Clock => "`gated` or `free`",
-        Setting::Program
-        | Setting::Bodies
-        | Setting::Sensors
-        | Setting::Schedule
-        | Setting::Table
-        | Setting::Cores
-        | Setting::Node => "a word",
+        _ => "a word",
     }
 }
 
@@ -173,20 +162,12 @@ fn push_wants(told: &mut Vec<u8>, setting: Setting) -> Result<(), AllocError>
     told.extend_from_slice(b".\n")
 }
 
-/// Appends that a value is wrong.
-#[tactic(auto, unfolding(crate::specs::WrongTexts::wrong_value_text))]
-fn push_wrong_value(told: &mut Vec<u8>, value: &[u8]) -> Result<(), AllocError>
-    ensures { OnOk result (told.new.items ≡ told.old.items ++ wrong_value_text value.now) }
-{
-    push_worded(told, b"The first wrong word is `", value, b"`: `--")
-}
-
 /// Appends that an option may not have a value.
 #[tactic(auto, using(crate::proofs::Joins::joined), unfolding(crate::specs::WrongTexts::bad_value_text))]
 fn push_bad_value(told: &mut Vec<u8>, setting: Setting, value: &[u8]) -> Result<(), AllocError>
     ensures { OnOk result (told.new.items ≡ told.old.items ++ bad_value_text setting value.now) }
 {
-    push_wrong_value(told, value)?;
+    push_word(told, value, b"`: `--")?;
     push_wants(told, setting)
 }
 
@@ -196,10 +177,10 @@ fn push_wrong(told: &mut Vec<u8>, wrong: &Wrong<'_>) -> Result<(), AllocError>
 {
     match wrong {
         Wrong::NoMode => push_no_mode(told),
-        Wrong::NoSuchMode(word) => push_no_such_mode(told, word),
+        Wrong::NoSuchMode(word) => push_word(told, word, b"`: it is no mode.\n"),
         Wrong::NoOption(word) => push_no_option(told, word),
         Wrong::NotTaken(mode, setting) => push_not_taken(told, *mode, *setting),
-        Wrong::Again(setting) => push_again(told, *setting),
+        Wrong::Again(setting) => push_option(told, *setting, b"`: it stands there twice.\n"),
         Wrong::NoValue(setting) => push_no_value(told, *setting),
         Wrong::BadValue(setting, value) => push_bad_value(told, *setting, value),
         Wrong::Missing(mode, setting) => push_missing(told, *mode, *setting),

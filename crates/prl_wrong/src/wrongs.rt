@@ -3,16 +3,18 @@
 ghost use Rattle.std.specs.Prelude.{◌≡◌, is_some, map};
 ghost use Rattle.std.specs.Option.{option_map};
 ghost use Rattle.std.specs.String.{string_bytes};
-ghost use Rattle.prl_arguments.specs.Arguments.{clock_of, is_in, is_value, number_spelled, range_of};
+ghost use Rattle.prl_arguments.specs.Arguments.{clock_of, is_in, number_spelled, range_of};
 ghost use Rattle.prl_arguments.specs.code.Settings.{bytes_of, named_as};
 ghost use Rattle.prl_wrong.specs.Wrong.{is_named, is_right, is_spelled, missing, named_sight, own_sight, seen, shown, sight_of, value_fault, walked, wrong_after, wrong_of};
 
-use crate::names::{Named, has, mode_named, named_by, needed, option_named};
-use prl_arguments::{MAX_SIZE, MAX_UNTIL, MAX_WORKERS, Mode, Setting};
+use prl_arguments::{
+    MAX_SIZE, MAX_UNTIL, MAX_WORKERS, Mode, Named, Setting, has, is_value, mode_named, named_by,
+    needed, option_named,
+};
 use prl_base::decimal_of;
 
 /// What is wrong in words that are no command.
-#[derive(Clone, Copy, Debug)]
+#[derive(Clone, Copy)]
 pub enum Wrong<'a> {
     /// There is no word.
     NoMode,
@@ -33,7 +35,7 @@ pub enum Wrong<'a> {
 }
 
 /// What a word is, where an option has to stand.
-#[derive(Clone, Copy, Debug)]
+#[derive(Clone, Copy)]
 pub enum Look<'a> {
     /// Something is wrong there.
     Faulty(Wrong<'a>),
@@ -67,13 +69,7 @@ fn is_spelled(setting: Setting, value: &[u8]) -> bool
     match setting {
         Setting::Until | Setting::Workers | Setting::Seed | Setting::Size => is_number(value),
         Setting::Clock => is_clock(value),
-        Setting::Program
-        | Setting::Bodies
-        | Setting::Sensors
-        | Setting::Schedule
-        | Setting::Table
-        | Setting::Cores
-        | Setting::Node => true,
+        _ => true,
     }
 }
 
@@ -85,15 +81,7 @@ fn range_of(setting: Setting) -> Option<(u64, u64)>
         Setting::Until => Some((0, u64::from(MAX_UNTIL))),
         Setting::Workers => Some((1, u64::from(MAX_WORKERS))),
         Setting::Size => Some((1, u64::from(MAX_SIZE))),
-        Setting::Program
-        | Setting::Bodies
-        | Setting::Sensors
-        | Setting::Schedule
-        | Setting::Table
-        | Setting::Cores
-        | Setting::Node
-        | Setting::Clock
-        | Setting::Seed => None,
+        _ => None,
     }
 }
 
@@ -115,16 +103,6 @@ fn is_right(setting: Setting, value: &[u8]) -> bool
     ensures { result ≡ is_right setting value.now }
 {
     is_spelled(setting, value) && is_in(range_of(setting), value)
-}
-
-/// Whether the word has the form of a value.
-fn is_value(word: &[u8]) -> bool
-    ensures { result ≡ is_value word.now }
-{
-    match word {
-        [] => false,
-        [first, ..] => *first != b'-',
-    }
 }
 
 /// What is wrong with the value of an option.

@@ -25,69 +25,120 @@ fn count_of(plan: &Plan, e: u32) -> Option<u32> {
     }
 }
 
+/// The dates of some jobs, by task and job.
+const DATES: [(u32, u64, (u64, u64)); 6] = [
+    (0, 0, (0, 7)),
+    (0, 2, (20, 27)),
+    (1, 1, (11, 19)),
+    (2, 0, (3, 30)),
+    (3, 0, (3, 10)),
+    (3, 2, (23, 30)),
+];
+
+/// The first of the jobs that has other dates.
+fn other_dates(plan: &Plan) -> Option<(u32, u64)> {
+    for (task, job, dates) in DATES {
+        if dates_of(plan, task, job) != Some(dates) {
+            return Some((task, job));
+        }
+    }
+    None
+}
+
 #[test]
 fn dates_of_a_fast_and_a_slow_task(rt: HostRuntime) -> Result<(), Fail> {
     let plan = plan_of(rt.alloc(), SAMPLING_PLAN.as_bytes())?;
-    assert_eq!(rt; dates_of(&plan, 0, 0), Some((0, 7)));
-    assert_eq!(rt; dates_of(&plan, 0, 2), Some((20, 27)));
-    assert_eq!(rt; dates_of(&plan, 1, 1), Some((11, 19)));
-    assert_eq!(rt; dates_of(&plan, 2, 0), Some((3, 30)));
-    assert_eq!(rt; dates_of(&plan, 3, 0), Some((3, 10)));
-    assert_eq!(rt; dates_of(&plan, 3, 2), Some((23, 30)));
+    assert!(rt; other_dates(&plan).is_none());
     Ok(())
+}
+
+/// How many cells each edge has.
+const COUNTS: [u32; 4] = [1, 2, 1, 1];
+
+/// The first of the edges that has another count of cells.
+fn other_count(plan: &Plan) -> Option<u32> {
+    for (e, count) in COUNTS.iter().enumerate() {
+        if count_of(plan, e as u32) != Some(*count) {
+            return Some(e as u32);
+        }
+    }
+    None
+}
+
+/// The cells of some instances, by edge and instance.
+const CELLS: [(u32, u64, Option<CellNo>); 7] = [
+    (0, 8, Some(CellNo(0))),
+    (1, 0, Some(CellNo(1))),
+    (1, 7, Some(CellNo(2))),
+    (2, 0, Some(CellNo(3))),
+    (2, 1, None),
+    (2, 300, Some(CellNo(3))),
+    (3, 5, Some(CellNo(4))),
+];
+
+/// The first of the instances that has another cell.
+fn other_cell(plan: &Plan) -> Option<(u32, u64)> {
+    for (e, instance, cell) in CELLS {
+        if cell_of(plan, e, instance) != cell {
+            return Some((e, instance));
+        }
+    }
+    None
 }
 
 // S may write its first instance to F as early as 3, and F's last reader of it may end as late as 59: two cells.
 #[test]
 fn cells_of_a_fast_and_a_slow_task(rt: HostRuntime) -> Result<(), Fail> {
     let plan = plan_of(rt.alloc(), SAMPLING_PLAN.as_bytes())?;
-    assert_eq!(rt; count_of(&plan, 0), Some(1));
-    assert_eq!(rt; count_of(&plan, 1), Some(2));
-    assert_eq!(rt; count_of(&plan, 2), Some(1));
-    assert_eq!(rt; count_of(&plan, 3), Some(1));
-    assert_eq!(rt; plan.total(), 5);
-    assert_eq!(rt; cell_of(&plan, 0, 8), Some(CellNo(0)));
-    assert_eq!(rt; cell_of(&plan, 1, 0), Some(CellNo(1)));
-    assert_eq!(rt; cell_of(&plan, 1, 7), Some(CellNo(2)));
-    assert_eq!(rt; cell_of(&plan, 2, 0), Some(CellNo(3)));
-    assert_eq!(rt; cell_of(&plan, 2, 1), None);
-    assert_eq!(rt; cell_of(&plan, 2, 300), Some(CellNo(3)));
-    assert_eq!(rt; cell_of(&plan, 3, 5), Some(CellNo(4)));
+    let others = (other_count(&plan), other_cell(&plan), plan.total());
+    assert!(rt; others == (None, None, 5));
     Ok(())
+}
+
+/// What some jobs read, by edge and job.
+const OPERANDS: [(u32, u64, Operand); 5] = [
+    (1, 0, Operand::Const(Value::Int(0))),
+    (1, 2, Operand::Const(Value::Int(0))),
+    (1, 3, Operand::From(0)),
+    (1, 8, Operand::From(1)),
+    (2, 4, Operand::From(12)),
+];
+
+/// The first of the jobs that reads something else.
+fn other_operand(plan: &Plan) -> Option<(u32, u64)> {
+    for (e, job, operand) in OPERANDS {
+        if operand_of(plan, e, job) != Some(operand) {
+            return Some((e, job));
+        }
+    }
+    None
 }
 
 #[test]
 fn operands_of_a_fast_and_a_slow_task(rt: HostRuntime) -> Result<(), Fail> {
     let plan = plan_of(rt.alloc(), SAMPLING_PLAN.as_bytes())?;
-    assert_eq!(rt;
-        operand_of(&plan, 1, 0),
-        Some(Operand::Const(Value::Int(0)))
-    );
-    assert_eq!(rt;
-        operand_of(&plan, 1, 2),
-        Some(Operand::Const(Value::Int(0)))
-    );
-    assert_eq!(rt; operand_of(&plan, 1, 3), Some(Operand::From(0)));
-    assert_eq!(rt; operand_of(&plan, 1, 8), Some(Operand::From(1)));
-    assert_eq!(rt; operand_of(&plan, 2, 4), Some(Operand::From(12)));
+    assert!(rt; other_operand(&plan).is_none());
     Ok(())
 }
 
-// Six jobs each of three tasks and two of S have 89 actions.
+/// Six jobs each of three tasks and two of S have 89 actions.
+const HORIZON: Horizon = Horizon {
+    until: 60,
+    end: 60,
+    jobs: 20,
+    events: 149,
+};
+
+/// How many jobs there are up to 600,010.
+const LIMIT: Limit = Limit {
+    what: What::Jobs,
+    found: 200_004,
+};
+
 #[test]
 fn horizons_of_a_fast_and_a_slow_task(rt: HostRuntime) -> Result<(), Fail> {
     let plan = plan_of(rt.alloc(), SAMPLING_PLAN.as_bytes())?;
-    let horizon = Horizon {
-        until: 60,
-        end: 60,
-        jobs: 20,
-        events: 149,
-    };
-    assert_eq!(rt; Horizon::new(&plan, 60).ok(), Some(horizon));
-    let limit = Limit {
-        what: What::Jobs,
-        found: 200_004,
-    };
-    assert_eq!(rt; Horizon::new(&plan, 600_010).err(), Some(limit));
+    let two = (Horizon::new(&plan, 60), Horizon::new(&plan, 600_010));
+    assert!(rt; two == (Ok(HORIZON), Err(LIMIT)));
     Ok(())
 }

@@ -6,4 +6,4 @@ mod devices;
 mod texts;
 
 pub use devices::are_served;
-pub use texts::{SAMPLING_PLAN, horizon_of, plan_of};
+pub use texts::{COPIED_PLAN, SAMPLING_PLAN, horizon_of, plan_of};

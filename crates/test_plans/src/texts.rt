@@ -33,6 +33,18 @@ cells 2 base 3 count 1
 cells 3 base 4 count 1
 ";
 
+/// The plan of an actuator that takes each value of a sensor.
+pub const COPIED_PLAN: &[u8] = b"plan 1
+hyperperiod 10
+task 0 i sensor period 10 start 0 due 10 wcet 1
+task 1 o actuator period 10 start 0 due 10 wcet 1
+dates 0 0:9
+dates 1 1:10
+edge 0 from 0.0 to 1.0 type int period 10 ops none
+word 0 prefix 0 repeat 0 step 1 1
+cells 0 base 0 count 1
+";
+
 /// The plan of a text.
 pub fn plan_of(alloc: Global, text: &[u8]) -> Result<Plan, Fail> {
     match read_plan(alloc, text) {

@@ -1,0 +1,87 @@
+//! How a call ends where something that its words name may not fit, and why there is no text then.
+
+ghost use Rattle.std.specs.Prelude.{◌≡◌, vec_items};
+ghost use Rattle.prl_companions.specs.Endings.{IsTold};
+ghost use Rattle.prl_companions.specs.Faults.{EndsSo, unfit_line};
+
+use crate::endings::{Stop, finish};
+use prl_base::{Label, push_number};
+use prl_io::{Sink, write_pieces};
+use std::alloc::{AllocError, Global};
+
+/// Why there is no text.
+#[derive(Debug, Drop)]
+pub enum Fault {
+    /// It is a stop.
+    Stop(Stop),
+    /// What this name stands for, a file or a flow, does not fit, for this reason.
+    Unfit(Label, Vec<u8>),
+}
+
+impl From<Stop> for Fault {
+    ghost use Rattle.std.specs.Prelude.{◌≡◌};
+    ghost use Rattle.prl_companions.specs.declared.faults.Fault.TheVariants as faults;
+
+    ghost from_gives = { λ stop fault. fault ≡ faults.Stop stop };
+
+    fn from(stop: Stop) -> Fault {
+        Fault::Stop(stop)
+    }
+}
+
+impl From<AllocError> for Fault {
+    ghost use Rattle.std.specs.Prelude.{◌≡◌};
+    ghost use Rattle.prl_companions.specs.declared.endings.Stop.TheVariants.{Memory};
+    ghost use Rattle.prl_companions.specs.declared.faults.Fault.TheVariants as faults;
+
+    ghost from_gives = { λ _ fault. fault ≡ faults.Stop Memory };
+
+    fn from(_error: AllocError) -> Fault {
+        Fault::Stop(Stop::Memory)
+    }
+}
+
+/// The line of a fault and its number.
+pub fn why_of(alloc: Global, front: &str, number: u64) -> Result<Vec<u8>, AllocError> {
+    let mut why = Vec::new(alloc);
+    why.extend_from_slice(front.as_bytes())?;
+    push_number(&mut why, number)?;
+    Ok(why)
+}
+
+/// What this name stands for does not fit: the line of this front and this number tells why. Or memory
+/// ran out.
+pub fn unfit(alloc: Global, name: &[u8], front: &str, number: u64) -> Fault {
+    unfit_for(alloc, name, why_of(alloc, front, number))
+}
+
+/// What this name stands for does not fit, for this reason. Or memory ran out.
+pub fn unfit_for(alloc: Global, name: &[u8], why: Result<Vec<u8>, AllocError>) -> Fault {
+    match (Label::new(alloc, name), why) {
+        (Ok(label), Ok(why)) => Fault::Unfit(label, why),
+        _ => Fault::Stop(Stop::Memory),
+    }
+}
+
+/// Tells on `err` what does not fit, in one line.
+fn tell_unfit<E: Sink>(err: &mut E, name: &[u8], why: &[u8])
+    ensures { IsTold (E.seen err.old) (E.seen err.new) (unfit_line name.now why.now) }
+{
+    let colon = b": ".as_slice();
+    let end = b"\n".as_slice();
+    let _ = write_pieces(err, &[b"refused: ", name, colon, why, end]);
+}
+
+/// Ends a call: writes the text to `out`, or tells on `err` why there is none, and answers the status.
+pub fn end<S: Sink, E: Sink>(out: &mut S, err: &mut E, outcome: Result<Vec<u8>, Fault>) -> u8
+    ensures { EndsSo vec_items outcome (S.seen out.old) (S.seen out.new) (E.seen err.old) (E.seen err.new) result }
+{
+    match outcome {
+        Ok(text) => finish(out, err, &Ok(text)),
+        Err(Fault::Stop(stop)) => finish(out, err, &Err(stop)),
+        Err(Fault::Unfit(name, why)) => {
+            tell_unfit(err, name.bytes(), &why);
+            1
+        }
+    }
+}

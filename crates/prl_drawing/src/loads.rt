@@ -1,0 +1,135 @@
+//! What the row of a processor tells: for how many ticks it is busy, or the interval in which its jobs
+//! ask for more than there is.
+
+ghost use Rattle.std.specs.Prelude.{◌<◌, ◌^◌};
+
+use crate::boxes::push_place;
+use crate::frames::push_processor;
+use crate::marks::push_frame;
+use crate::rows::{TOP, row_of};
+use crate::scales::{Scale, is_seen, x_within};
+use crate::shapes::Shape;
+use crate::texts::{push, push_attribute};
+use std::alloc::AllocError;
+
+/// How wide an overloaded interval is that has its demand written in it.
+const WIDE: u64 = 1_700;
+
+/// What the signs of an overload mean.
+const LEGEND: &str = "<rect class=\"b\" x=\"1600\" y=\"590\" width=\"300\" height=\"80\"/>\
+    <text x=\"1960\" y=\"670\">overloaded ticks</text>\
+    <rect class=\"c\" x=\"3200\" y=\"590\" width=\"300\" height=\"80\"/>\
+    <text x=\"3560\" y=\"670\">windows inside</text>\n";
+
+/// For how many ticks of how many a processor is busy, what its pieces mean, and what is said of it.
+#[derive(Clone, Copy)]
+pub struct Load {
+    pub legend: &'static str,
+    pub name: &'static str,
+    pub busy: u64,
+    pub ticks: u64,
+}
+
+/// An interval, and how many units its jobs ask for, which are more than its ticks.
+#[derive(Clone, Copy)]
+pub struct Overload {
+    pub from: u64,
+    pub to: u64,
+    pub demand: u64,
+}
+
+/// Appends the load of the processor.
+pub fn push_load(text: &mut Vec<u8>, row: u32, load: Load) -> Result<(), AllocError> {
+    push(text, load.legend)?;
+    push_processor(text, row)?;
+    let share = load.busy.saturating_mul(100) / load.ticks.max(1);
+    push_attribute(text, load.name, share)?;
+    push(text, " %")?;
+    push_second(text, row)?;
+    push_attribute(text, "\">busy ", load.busy)?;
+    push_attribute(text, " of ", load.ticks)?;
+    push(text, " ticks</text>\n")
+}
+
+/// Appends what the second line of the processor's row begins with.
+pub fn push_second(text: &mut Vec<u8>, row: u32) -> Result<(), AllocError> {
+    push_attribute(
+        text,
+        "</text><text class=\"k\" x=\"100\" y=\"",
+        row_of(row) + 320,
+    )
+}
+
+/// Appends the demand of an overloaded interval, and its length.
+fn push_demand(text: &mut Vec<u8>, row: u32, overload: Overload) -> Result<(), AllocError> {
+    push_processor(text, row)?;
+    push(text, ": overload")?;
+    push_second(text, row)?;
+    push_attribute(text, "\">", overload.from)?;
+    push_attribute(text, " to ", overload.to)?;
+    push_attribute(text, ": demand ", overload.demand)?;
+    push_attribute(text, ", has ", overload.to.saturating_sub(overload.from))?;
+    push(text, "</text>\n")
+}
+
+/// Appends the demand of an overloaded interval in its mark, where that is wide enough.
+fn push_inside(
+    text: &mut Vec<u8>,
+    row: u32,
+    left: u64,
+    width: u64,
+    overload: Overload,
+) -> Result<(), AllocError> {
+    if width < WIDE {
+        return Ok(());
+    }
+    push_attribute(text, "<text class=\"k\" x=\"", left.saturating_add(40))?;
+    push_attribute(text, "\" y=\"", row_of(row) + 190)?;
+    push_attribute(text, "\">demand ", overload.demand)?;
+    push_attribute(text, " in ", overload.to.saturating_sub(overload.from))?;
+    push(text, " ticks</text>\n")
+}
+
+/// Appends the mark of an overloaded interval, over the rows of all tasks and that of the processor,
+/// with its demand.
+pub fn push_overload(
+    text: &mut Vec<u8>,
+    scale: Scale,
+    row: u32,
+    overload: Overload,
+) -> Result<(), AllocError>
+    requires from { scale.from < 2 ^ 32 }
+    requires span { (0 < scale.span) × (scale.span < 2 ^ 33) }
+{
+    push(text, LEGEND)?;
+    push_demand(text, row, overload)?;
+    if !is_seen(scale, overload.from, overload.to) {
+        return Ok(());
+    }
+    let left = x_within(scale, overload.from);
+    let width = x_within(scale, overload.to).saturating_sub(left);
+    push(text, "<rect class=\"b")?;
+    push_place(text, left, TOP, width, row_of(row) + 400 - TOP)?;
+    push_inside(text, row, left, width, overload)
+}
+
+/// Appends a frame round the window of a job that lies within an overloaded interval.
+fn push_counted(text: &mut Vec<u8>, shape: &Shape, overload: Overload) -> Result<(), AllocError> {
+    if shape.release < overload.from || overload.to < shape.deadline {
+        return Ok(());
+    }
+    push_frame(text, shape)
+}
+
+/// Appends frames round the windows that lie within an overloaded interval: those whose jobs make up
+/// its demand.
+pub fn push_all_counted(
+    text: &mut Vec<u8>,
+    shapes: &[Shape],
+    overload: Overload,
+) -> Result<(), AllocError> {
+    for shape in shapes {
+        push_counted(text, shape, overload)?;
+    }
+    Ok(())
+}
