@@ -5,12 +5,12 @@ ghost use Rattle.std.specs.Option.{option_map, is_some};
 ghost use Rattle.prl_ast.specs.declared.declarations.Placed.{Placed};
 ghost use Rattle.prl_ast.specs.Trees.{node_tree, program_tree};
 ghost use Rattle.prl_names.specs.Lookups.{param_at};
-ghost use Rattle.prl_names.specs.Mentions.{placed_of, placed_param, all_placed};
-ghost use Rattle.prl_names.specs.Repeats.{repeat_in, front_before, rest_from, merged, first_of, earliest_repeat, port_space, flow_space, lefts_of, definition_space, global_spaces, repeat_of};
+ghost use Rattle.prl_names.specs.Mentions.{placed_of, placed_device, placed_param, all_placed};
+ghost use Rattle.prl_names.specs.Repeats.{repeat_in, front_before, rest_from, merged, first_of, callee_space, earliest_repeat, port_space, flow_space, lefts_of, definition_space, global_spaces, repeat_of};
 
 use crate::lookups::Names;
 use crate::mentions::{Mention, devices, flows, imports, inputs, nodes, ports};
-use prl_ast::{Import, Node, Placed};
+use prl_ast::{Device, Import, Node, Placed, Program};
 use std::alloc::{AllocError, Global};
 use std::collections::BTreeMap;
 
@@ -168,6 +168,37 @@ fn repeat_in_definitions<'a>(
     Ok(first)
 }
 
+/// The nodes and imports, which share one space, in the order of the text.
+fn callees<'a>(alloc: Global, program: &'a Program) -> Result<Vec<Mention<'a>>, AllocError>
+    ensures { IfOk result (λ list. all_placed list.items ≡ callee_space (program_tree program.now)) }
+{
+    let import_list = imports(alloc, program.imports.as_slice())?;
+    let node_list = nodes(alloc, program.nodes.as_slice())?;
+    merged(alloc, import_list.as_slice(), node_list.as_slice())
+}
+
+/// The first repeat of the names of nodes and imports.
+fn repeat_of_callees<'a>(
+    alloc: Global,
+    program: &'a Program,
+) -> Result<Option<Mention<'a>>, AllocError>
+    ensures { IfOk result (λ repeat. option_map placed_of repeat ≡ repeat_in (callee_space (program_tree program.now))) }
+{
+    let space = callees(alloc, program)?;
+    repeat_in(alloc, space.as_slice())
+}
+
+/// The first repeat of the names of sensors, or of actuators.
+fn repeat_of_devices<'a>(
+    alloc: Global,
+    list: &'a [Device],
+) -> Result<Option<Mention<'a>>, AllocError>
+    ensures { IfOk result (λ repeat. option_map placed_of repeat ≡ repeat_in (map placed_device list.now)) }
+{
+    let space = devices(alloc, list)?;
+    repeat_in(alloc, space.as_slice())
+}
+
 /// The first repeat of the names of nodes and imports, of sensors and of actuators.
 fn repeat_of_globals<'a>(
     alloc: Global,
@@ -176,14 +207,9 @@ fn repeat_of_globals<'a>(
     ensures { IfOk result (λ repeat. option_map placed_of repeat ≡ earliest_repeat None (global_spaces (program_tree names.now))) }
 {
     let program = names.program();
-    let import_list = imports(alloc, program.imports.as_slice())?;
-    let node_list = nodes(alloc, program.nodes.as_slice())?;
-    let callees = merged(alloc, import_list.as_slice(), node_list.as_slice())?;
-    let sensors = devices(alloc, program.sensors.as_slice())?;
-    let actuators = devices(alloc, program.actuators.as_slice())?;
-    let callee = repeat_in(alloc, callees.as_slice())?;
-    let sensor = repeat_in(alloc, sensors.as_slice())?;
-    let actuator = repeat_in(alloc, actuators.as_slice())?;
+    let callee = repeat_of_callees(alloc, program)?;
+    let sensor = repeat_of_devices(alloc, program.sensors.as_slice())?;
+    let actuator = repeat_of_devices(alloc, program.actuators.as_slice())?;
     Ok(first_of(first_of(callee, sensor), actuator))
 }
 
