@@ -6,7 +6,7 @@ use anyhow::{Context, Result, bail};
 use std::alloc::Global;
 
 /// What the line before belongs to.
-#[derive(Clone, Copy, Debug, PartialEq, Eq)]
+#[derive(Clone, Copy, PartialEq, Eq)]
 enum Place {
     Head,
     File,
@@ -214,7 +214,7 @@ fn set_other(alloc: Global, call: &mut Call, line: &str) -> Result<()> {
 }
 
 /// What the next numbers of limits are.
-#[derive(Clone, Copy, Debug, PartialEq, Eq)]
+#[derive(Clone, Copy, PartialEq, Eq)]
 enum Meant {
     Nothing,
     Room,

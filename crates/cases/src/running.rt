@@ -8,7 +8,7 @@ use anyhow::{Context, Result};
 use std::{fmt, fs};
 
 /// How many cases passed, and how many did not.
-#[derive(Debug, Drop)]
+#[derive(Drop)]
 pub struct Tally {
     passed: u64,
     failed: u64,

@@ -3,7 +3,7 @@
 use std::alloc::{AllocError, Global};
 
 /// How the lines of a file end.
-#[derive(Clone, Copy, Debug, PartialEq, Eq)]
+#[derive(Clone, Copy, PartialEq, Eq)]
 pub enum LineEnd {
     /// Each by a line feed.
     Feed,

@@ -24,7 +24,7 @@ pub const MAX_SIZE: u32 = 20;
 const OPTIONS: usize = 12;
 
 /// What the command is to do.
-#[derive(Clone, Copy, Debug, PartialEq, Eq)]
+#[derive(Clone, Copy, PartialEq, Eq)]
 pub enum Mode {
     /// Says that the program has a plan, and how large it is.
     Check,
@@ -54,7 +54,7 @@ pub enum Mode {
 }
 
 /// What an option of the command line gives.
-#[derive(Clone, Copy, Debug, PartialEq, Eq)]
+#[derive(Clone, Copy, PartialEq, Eq)]
 pub enum Setting {
     /// `--program`: the file of the program.
     Program,
@@ -84,7 +84,7 @@ pub enum Setting {
 
 /// What the arguments of a command line ask for. An option that is not given is None, and a number that is
 /// not given is 0, but there is one worker then.
-#[derive(Debug, Drop)]
+#[derive(Drop)]
 pub struct Command {
     pub mode: Mode,
     /// The file of the program.
@@ -114,7 +114,7 @@ pub struct Command {
 }
 
 /// Why arguments are no command.
-#[derive(Clone, Copy, Debug, PartialEq, Eq)]
+#[derive(Clone, Copy, PartialEq, Eq)]
 pub enum WordsFault {
     /// The arguments are not of the form of a command.
     Refused,

@@ -4,7 +4,7 @@ use crate::expressions::Expr;
 use prl_base::{Name, Ratio, Seq, Span, Ty};
 
 /// A program: its declarations, each kind in the order of the text.
-#[derive(Debug, Drop)]
+#[derive(Drop)]
 pub struct Program {
     pub imports: Seq<Import>,
     pub sensors: Seq<Device>,
@@ -13,7 +13,7 @@ pub struct Program {
 }
 
 /// An imported node.
-#[derive(Debug, Drop)]
+#[derive(Drop)]
 pub struct Import {
     pub name: Name,
     pub ins: Seq<Port>,
@@ -25,7 +25,7 @@ pub struct Import {
 }
 
 /// An input or an output of an import.
-#[derive(Debug, Drop)]
+#[derive(Drop)]
 pub struct Port {
     pub name: Name,
     pub ty: Ty,
@@ -34,7 +34,7 @@ pub struct Port {
 }
 
 /// A sensor or an actuator.
-#[derive(Debug, Drop)]
+#[derive(Drop)]
 pub struct Device {
     pub name: Name,
     /// Its worst-case execution time in ticks, 1 to 2^31 - 1.
@@ -44,7 +44,7 @@ pub struct Device {
 }
 
 /// A node of the program.
-#[derive(Debug, Drop)]
+#[derive(Drop)]
 pub struct Node {
     pub name: Name,
     pub ins: Seq<Param>,
@@ -56,7 +56,7 @@ pub struct Node {
 }
 
 /// An input, an output or a local variable of a node, with what its note says.
-#[derive(Debug, Drop)]
+#[derive(Drop)]
 pub struct Param {
     pub name: Name,
     pub ty: Option<Ty>,
@@ -68,7 +68,7 @@ pub struct Param {
 }
 
 /// The clock `rate (period, phase)`: its first date is `period * phase`.
-#[derive(Clone, Copy, Debug, PartialEq, Eq)]
+#[derive(Clone, Copy, PartialEq, Eq)]
 pub struct Rate {
     /// In ticks, 1 to 2^31 - 1.
     pub period: u32,
@@ -77,7 +77,7 @@ pub struct Rate {
 }
 
 /// The flows on the left are those of the expression.
-#[derive(Debug, Drop)]
+#[derive(Drop)]
 pub struct Equation {
     pub lefts: Seq<Placed>,
     pub right: Expr,
@@ -86,7 +86,7 @@ pub struct Equation {
 }
 
 /// A name where it stands in the text.
-#[derive(Debug, Drop)]
+#[derive(Drop)]
 pub struct Placed {
     pub name: Name,
     pub at: Span,

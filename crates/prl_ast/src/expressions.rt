@@ -3,7 +3,7 @@
 use prl_base::{Name, Op, Seq, Span, Value};
 
 /// An operator where it stands in the text.
-#[derive(Clone, Copy, Debug, PartialEq, Eq)]
+#[derive(Clone, Copy, PartialEq, Eq)]
 pub struct PlacedOp {
     pub op: Op,
     /// The operator's own token: `fby`, `::`, `tail`, `*^`, `/^` or `~>`.
@@ -11,7 +11,7 @@ pub struct PlacedOp {
 }
 
 /// An expression. All of its postfixes bind stronger than all of its prefixes.
-#[derive(Debug, Drop)]
+#[derive(Drop)]
 #[cycle(tree)]
 pub struct Expr {
     /// `c fby`, `c ::` and `tail`, the outermost first.
@@ -24,7 +24,7 @@ pub struct Expr {
 }
 
 /// What the operators of an expression are applied to.
-#[derive(Debug, Drop)]
+#[derive(Drop)]
 #[cycle(tree)]
 pub enum Base {
     Const(Value),

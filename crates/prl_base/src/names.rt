@@ -41,7 +41,7 @@ pub fn is_word(bytes: &[u8]) -> bool
 }
 
 /// Why bytes are no name.
-#[derive(Clone, Copy, Debug, PartialEq, Eq)]
+#[derive(Clone, Copy, PartialEq, Eq)]
 pub enum NameFault {
     /// The bytes are no word.
     Shape,

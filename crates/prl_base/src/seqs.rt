@@ -7,7 +7,7 @@ use std::marker::Model;
 
 /// A vector whose model is its list of items. A public field that a clause compares with a definition's value has this type
 /// and not `Vec`, of which contracts see more than the items.
-#[derive(Debug, Drop)]
+#[derive(Drop)]
 pub struct Seq<T> {
     items: Vec<T>,
 }

@@ -16,7 +16,7 @@ use std::marker::Model;
 use std::mem;
 
 /// What a tick answers.
-#[derive(Clone, Copy, Debug, PartialEq, Eq)]
+#[derive(Clone, Copy, PartialEq, Eq)]
 pub enum Ticked {
     /// The clock went on to this `now`.
     Now(u64),

@@ -26,14 +26,14 @@ use std::alloc::{AllocError, Global};
 use std::marker::Model;
 
 /// A half of a value.
-#[derive(Clone, Copy, Debug, PartialEq, Eq)]
+#[derive(Clone, Copy, PartialEq, Eq)]
 pub enum Half {
     Low,
     High,
 }
 
 /// Where a task stands.
-#[derive(Clone, Copy, Debug, PartialEq, Eq)]
+#[derive(Clone, Copy, PartialEq, Eq)]
 pub enum Place {
     /// The next job has not begun.
     Idle,
@@ -48,7 +48,7 @@ pub enum Place {
 }
 
 /// What a read answers.
-#[derive(Clone, Copy, Debug, PartialEq, Eq)]
+#[derive(Clone, Copy, PartialEq, Eq)]
 pub enum Got {
     /// The low half of the wanted instance was there.
     Half,
@@ -69,7 +69,7 @@ pub enum Got {
 }
 
 /// What a write did.
-#[derive(Clone, Copy, Debug, PartialEq, Eq)]
+#[derive(Clone, Copy, PartialEq, Eq)]
 pub struct Wrote {
     pub edge: EdgeNo,
     pub cell: CellNo,

@@ -6,7 +6,7 @@ use prl_base::{Name, Seq, Value};
 use std::marker::Model;
 
 /// A register of a checked body.
-#[derive(Debug, Drop)]
+#[derive(Drop)]
 pub struct Register {
     pub name: Name,
     /// Its value before the first step.
@@ -16,7 +16,7 @@ pub struct Register {
 }
 
 /// The parts of a checked body.
-#[derive(Debug, Drop)]
+#[derive(Drop)]
 pub struct CheckedBody {
     /// The import's name.
     pub name: Name,
@@ -32,7 +32,7 @@ pub struct CheckedBody {
 
 /// A body that fits its import, with its names resolved. Contracts see its tree, with the names and types
 /// of the import's ports.
-#[derive(Debug, Drop)]
+#[derive(Drop)]
 pub struct Body {
     parts: CheckedBody,
 }

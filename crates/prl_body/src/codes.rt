@@ -4,7 +4,7 @@ use prl_base::{Seq, Value};
 use prl_bodyops::{Operator, Prefix};
 
 /// What a name of an expression stands for.
-#[derive(Clone, Copy, Debug, PartialEq, Eq)]
+#[derive(Clone, Copy, PartialEq, Eq)]
 pub enum Variable {
     /// The input of this number, from 0.
     Input(usize),
@@ -13,7 +13,7 @@ pub enum Variable {
 }
 
 /// An expression. A series and a run are one level, however long they are, so that only parentheses nest.
-#[derive(Debug, Drop)]
+#[derive(Drop)]
 #[cycle(tree)]
 pub enum Code {
     Const(Value),
@@ -37,7 +37,7 @@ pub enum Code {
 }
 
 /// An operator and its right operand.
-#[derive(Debug, Drop)]
+#[derive(Drop)]
 #[cycle(tree)]
 pub struct OperatorAndRight {
     pub operator: Operator,

@@ -4,7 +4,7 @@ use prl_base::{Limit, Name};
 use std::alloc::{AllocError, AllocFailed};
 
 /// Why bodies are refused. Numbers count the bytes of the text from 0.
-#[derive(Debug, Drop)]
+#[derive(Drop)]
 pub enum BodyFault {
     /// A token that no text of the grammar has there, or a number out of range; number 23.
     Syntax(u32),

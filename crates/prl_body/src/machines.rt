@@ -12,7 +12,7 @@ use std::marker::Model;
 use std::mem;
 
 /// The registers of a body and the number of its steps. Contracts see these two.
-#[derive(Debug, Drop)]
+#[derive(Drop)]
 pub struct Machine {
     registers: Vec<Value>,
     /// Where a step builds the next registers: as many values as there are registers.

@@ -18,7 +18,7 @@ use std::alloc::Global;
 use std::marker::Model;
 
 /// The bodies of a program's imports. Contracts see the list of their parts, in the order of the text.
-#[derive(Debug, Drop)]
+#[derive(Drop)]
 pub struct Bodies {
     bodies: Vec<Body>,
 }

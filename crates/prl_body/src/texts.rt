@@ -4,13 +4,13 @@ use prl_base::{Name, Seq, Span, Value};
 use prl_bodyops::{Operator, Prefix};
 
 /// The bodies of a text, in order.
-#[derive(Debug, Drop)]
+#[derive(Drop)]
 pub struct BodyTexts {
     pub bodies: Seq<BodyText>,
 }
 
 /// One body.
-#[derive(Debug, Drop)]
+#[derive(Drop)]
 pub struct BodyText {
     pub name: Name,
     /// The name.
@@ -20,7 +20,7 @@ pub struct BodyText {
 }
 
 /// `reg NAME = const;`
-#[derive(Debug, Drop)]
+#[derive(Drop)]
 pub struct RegisterText {
     pub name: Name,
     pub first: Value,
@@ -29,7 +29,7 @@ pub struct RegisterText {
 }
 
 /// `NAME = e;`
-#[derive(Debug, Drop)]
+#[derive(Drop)]
 pub struct Statement {
     pub left: Name,
     pub right: Expr,
@@ -38,7 +38,7 @@ pub struct Statement {
 }
 
 /// An expression. A series and a run are one level, however long they are, so that only parentheses nest.
-#[derive(Debug, Drop)]
+#[derive(Drop)]
 #[cycle(text)]
 pub enum Expr {
     Const(Value),
@@ -67,7 +67,7 @@ pub enum Expr {
 }
 
 /// An operator, where it stands, and its right operand.
-#[derive(Debug, Drop)]
+#[derive(Drop)]
 #[cycle(text)]
 pub struct ExprRight {
     pub operator: Operator,

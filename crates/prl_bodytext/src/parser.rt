@@ -14,7 +14,7 @@ use std::alloc::Global;
 use std::marker::Model;
 
 /// A parser of bodies. Contracts see what is left of the tokens.
-#[derive(Debug, Drop)]
+#[derive(Drop)]
 pub struct Parser<'a> {
     pub alloc: Global,
     pub rest: &'a [Terminal],

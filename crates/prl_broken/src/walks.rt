@@ -12,7 +12,7 @@ use prl_plan::{Action, Event, Plan, plan_is_one, plans_keep_facts};
 use std::alloc::{AllocError, Global};
 
 /// Where a list of events leads to.
-#[derive(Debug, Drop)]
+#[derive(Drop)]
 pub(crate) struct Walk {
     pub(crate) tick: u64,
     /// By task, how many jobs have ended, and how many actions the next one has done.

@@ -15,7 +15,7 @@ use prl_plan::{Dates, Edge, Producer, TaskGraph, Used, Word, shortest_repeat};
 use std::alloc::{AllocError, Global};
 
 /// The least number of cells of an edge, its used instances and the sums of their gaps.
-#[derive(Debug, Drop)]
+#[derive(Drop)]
 pub(crate) struct EdgeCells {
     pub count: u64,
     pub used: Used,

@@ -17,7 +17,7 @@ use prl_plan::{Cells, Dates, MAX_CELLS, TaskGraph, Used, Words};
 use std::alloc::{AllocError, Global};
 
 /// Why there are no cells.
-#[derive(Clone, Copy, Debug, PartialEq, Eq)]
+#[derive(Clone, Copy, PartialEq, Eq)]
 pub enum CellFault {
     /// All edges together need more than 4,096 cells.
     Limit(Limit),
@@ -36,7 +36,7 @@ impl From<AllocError> for CellFault {
 }
 
 /// The least number of cells of each edge, its used instances and the sums of their gaps, and how many cells there are.
-#[derive(Debug, Drop)]
+#[derive(Drop)]
 struct EdgeLists {
     counts: Seq<u64>,
     used: Seq<Used>,

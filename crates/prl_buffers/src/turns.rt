@@ -10,7 +10,7 @@ use prl_plan::Word;
 use std::alloc::{AllocError, Global};
 
 /// What the jobs of a hyperperiod read on an edge.
-#[derive(Debug, Drop)]
+#[derive(Drop)]
 pub(crate) struct Turn {
     /// The differences between the instances that are read, in order; the last one leads to what the first job of the next
     /// hyperperiod reads.

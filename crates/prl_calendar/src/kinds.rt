@@ -9,7 +9,7 @@ use std::collections::BTreeMap;
 
 /// For each clock the place of the next one that equals it, and the number of clocks where there
 /// is none.
-#[derive(Debug, Drop)]
+#[derive(Drop)]
 pub(crate) struct Chains {
     pub(crate) following: Vec<u32>,
     /// The places of the first clocks of each kind.

@@ -14,7 +14,7 @@ use prl_flow::{Flat, Order};
 use std::alloc::{AllocError, Global};
 
 /// Why there is no order.
-#[derive(Debug, Drop)]
+#[derive(Drop)]
 pub enum CausalFault {
     /// There is a cycle without a delay, or one that passes through no application: the label of the lowest flow
     /// on such a cycle that has a name, or of the lowest where none has.

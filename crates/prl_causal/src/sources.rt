@@ -9,7 +9,7 @@ use prl_flow::{Arg, Def, Flat};
 use std::alloc::{AllocError, Global};
 
 /// What a flow uses, along uses of one kind.
-#[derive(Clone, Copy, Debug, PartialEq, Eq)]
+#[derive(Clone, Copy, PartialEq, Eq)]
 pub enum Source {
     Nothing,
     Flow(FlowNo),

@@ -10,7 +10,7 @@ use prl_flow::Flat;
 use std::alloc::{AllocError, Global};
 
 /// A flow, and two ways that give it two clocks.
-#[derive(Debug, Drop)]
+#[derive(Drop)]
 pub struct Clash {
     pub flow: u32,
     pub one: Way,

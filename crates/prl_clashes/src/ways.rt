@@ -10,14 +10,14 @@ use prl_clock::Timing;
 use prl_flow::Flat;
 
 /// A flow after another one: it is defined over that, or, back, that over it.
-#[derive(Clone, Copy, Debug, PartialEq, Eq)]
+#[derive(Clone, Copy, PartialEq, Eq)]
 pub struct Hop {
     pub flow: u32,
     pub back: bool,
 }
 
 /// A flow with a declared rate, the flows after it, and the clock that follows for the last.
-#[derive(Debug, Drop)]
+#[derive(Drop)]
 pub struct Way {
     pub first: u32,
     pub rest: Seq<Hop>,

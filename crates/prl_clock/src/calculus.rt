@@ -15,7 +15,7 @@ use prl_flow::{Clocks, Flat};
 use std::alloc::{AllocError, Global};
 
 /// Why a flat program has no clocks.
-#[derive(Debug, Drop)]
+#[derive(Drop)]
 pub enum ClockFault {
     /// The first constraint that leaves no clocks: its byte in the source text.
     Mismatch(u32),

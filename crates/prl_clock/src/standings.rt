@@ -11,7 +11,7 @@ use prl_base::Past;
 use std::alloc::{AllocError, Global};
 
 /// Where a flow stands among those that constraints connect with it.
-#[derive(Clone, Copy, Debug)]
+#[derive(Clone, Copy)]
 pub struct Standing {
     /// The lowest of them.
     pub root: u32,

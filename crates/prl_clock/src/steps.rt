@@ -10,7 +10,7 @@ use crate::timings::{Timing, agree, composed, fits, over};
 use prl_base::Past;
 
 /// Why a constraint is refused.
-#[derive(Clone, Copy, Debug)]
+#[derive(Clone, Copy)]
 pub enum Refusal {
     /// It leaves no clocks.
     Mismatch,

@@ -10,7 +10,7 @@ use prl_base::{Past, Ratio};
 
 /// A period and a start in ticks; or those of a flow over another one: its period in periods of
 /// the other, and by how many of these it starts after the other.
-#[derive(Clone, Copy, Debug, PartialEq, Eq)]
+#[derive(Clone, Copy, PartialEq, Eq)]
 pub struct Timing {
     pub period: Ratio,
     pub start: Ratio,

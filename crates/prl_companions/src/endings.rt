@@ -8,7 +8,7 @@ use prl_base::Label;
 use prl_io::{Failed, Sink, write_all, write_pieces};
 
 /// Why there is no text.
-#[derive(Debug, Drop)]
+#[derive(Drop)]
 pub enum Stop {
     /// The words are no command: the line tells the form of one.
     Words(&'static str),

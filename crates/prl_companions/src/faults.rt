@@ -10,7 +10,7 @@ use prl_io::{Sink, write_pieces};
 use std::alloc::{AllocError, Global};
 
 /// Why there is no text.
-#[derive(Debug, Drop)]
+#[derive(Drop)]
 pub enum Fault {
     /// It is a stop.
     Stop(Stop),

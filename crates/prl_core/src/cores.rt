@@ -22,7 +22,7 @@ use std::alloc::{AllocError, Global};
 use std::marker::Model;
 
 /// The machine of a plan, its bodies, the rows of its sensors and a horizon. Contracts see a `CoreView`.
-#[derive(Debug, Drop)]
+#[derive(Drop)]
 pub struct Core<'a> {
     plan: &'a Plan,
     bodies: &'a Bodies,

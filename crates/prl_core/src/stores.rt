@@ -19,7 +19,7 @@ use prl_workers::Worker;
 use std::alloc::{AllocError, Global};
 
 /// The values of a machine.
-#[derive(Debug, Drop)]
+#[derive(Drop)]
 pub(crate) struct Store {
     /// By half of a cell, the value of which it holds a half.
     pub(crate) halves: Vec<Value>,

@@ -22,7 +22,7 @@ use std::marker::Model;
 
 /// The machine of a plan that is spread over processors, with its bodies, the rows of its sensors and a horizon. All processors
 /// share one clock. Contracts see the `CoreView` of its one machine.
-#[derive(Debug, Drop)]
+#[derive(Drop)]
 pub struct Cores<'a> {
     core: Core<'a>,
 }

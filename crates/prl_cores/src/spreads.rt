@@ -9,7 +9,7 @@ use prl_plan::{Dates, Placed};
 use std::marker::Model;
 
 /// The tasks of a plan on their processors, and the windows by which their jobs are released. Contracts see a `SpreadView`.
-#[derive(Debug, Drop)]
+#[derive(Drop)]
 pub struct Spread {
     processors: Vec<u32>,
     dates: Dates,

@@ -18,7 +18,7 @@ use prl_plan::{Edge, Producer, TaskGraph};
 use std::alloc::{AllocError, Global};
 
 /// The job before a job: its index, and how much earlier it is released.
-#[derive(Clone, Copy, Debug, PartialEq, Eq)]
+#[derive(Clone, Copy, PartialEq, Eq)]
 pub(crate) struct Link {
     pub from: u64,
     /// In ticks.
@@ -26,7 +26,7 @@ pub(crate) struct Link {
 }
 
 /// For each job of a hyperperiod of one task, the greatest job of another that precedes it.
-#[derive(Debug, Drop)]
+#[derive(Drop)]
 pub(crate) struct Lane {
     pub from: TaskNo,
     pub to: TaskNo,

@@ -12,7 +12,7 @@ use prl_base::Op;
 use std::alloc::{AllocError, Global};
 
 /// A job of a run, and a step on from it.
-#[derive(Clone, Copy, Debug, PartialEq, Eq)]
+#[derive(Clone, Copy, PartialEq, Eq)]
 struct Stride {
     last: u64,
     step: u64,

@@ -10,7 +10,7 @@ pub const LEFT: u64 = 1_600;
 pub const WIDTH: u64 = 10_000;
 
 /// What ticks are drawn, and how wide.
-#[derive(Clone, Copy, Debug, PartialEq, Eq)]
+#[derive(Clone, Copy, PartialEq, Eq)]
 pub struct Scale {
     /// The first tick.
     pub from: u64,

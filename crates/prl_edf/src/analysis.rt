@@ -19,7 +19,7 @@ use prl_plan::{Horizon, Plan, look_ups_fit, plan_facts, plan_is_one};
 use std::alloc::{AllocError, Global};
 
 /// What the analysis tells.
-#[derive(Debug, Drop)]
+#[derive(Drop)]
 pub enum Verdict {
     /// The plain run by earliest deadline first meets all windows.
     Run(Timed),

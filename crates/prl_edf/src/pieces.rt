@@ -9,7 +9,7 @@ use prl_base::TaskNo;
 use std::alloc::AllocError;
 
 /// Ticks one after another that go to one job.
-#[derive(Clone, Copy, Debug, PartialEq, Eq)]
+#[derive(Clone, Copy, PartialEq, Eq)]
 pub struct Piece {
     pub task: TaskNo,
     pub job: u64,

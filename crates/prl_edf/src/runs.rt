@@ -15,7 +15,7 @@ use prl_plan::{Horizon, Plan, look_ups_fit, plan_facts};
 use std::alloc::{AllocError, Global};
 
 /// A timed run: its pieces, in order of time, each as long as possible.
-#[derive(Debug, Drop)]
+#[derive(Drop)]
 pub struct Timed {
     pub pieces: Seq<Piece>,
 }
@@ -35,7 +35,7 @@ impl Timed {
 }
 
 /// What the plain run comes to.
-#[derive(Debug, Drop)]
+#[derive(Drop)]
 pub enum Outcome {
     /// It meets all windows.
     Met(Timed),

@@ -9,7 +9,7 @@ use std::marker::Model;
 
 /// The first values of a flow: its own, or lent where the same values stand elsewhere. Contracts see
 /// their list.
-#[derive(Debug, Drop)]
+#[derive(Drop)]
 pub(crate) struct Values<'a> {
     lent: Option<&'a [Value]>,
     /// The values, where none are lent.
@@ -106,7 +106,7 @@ pub(crate) fn count(flows: &[Values<'_>], i: usize) -> usize
 }
 
 /// The flows of a program up to a date; those that only hand rows on are lent them. Contracts see the list of the lists of their values.
-#[derive(Debug, Drop)]
+#[derive(Drop)]
 pub struct FlowTable<'a> {
     flows: Vec<Values<'a>>,
 }

@@ -11,7 +11,7 @@ ghost use Rattle.prl_rule.specs.declared.views.ClockPart.{ClockPart};
 ghost use Rattle.prl_rule.specs.Known.{known, run_of};
 ghost use Rattle.prl_rule.specs.Rule.{reached};
 ghost use Rattle.prl_board.specs.Lones.{IsLoneOf, IsPlacedAt};
-ghost use Rattle.prl_board.specs.TaskSeats.{MayFinish, MayRead, MayWrite};
+ghost use Rattle.prl_board.specs.TaskSeats.{MayRead};
 ghost use Rattle.prl_exec.specs.Runs.{HasEnded};
 ghost use Rattle.prl_exec.specs.Standing.{HasSeen, StandsIn, TellsPoll};
 ghost use Rattle.prl_exec.specs.code.Alone.{HasActed, HasGoneOn, IsIdle, IsLeftOver, IsOver, MayAct};
@@ -44,36 +44,6 @@ fn read<L: Ledger>(lone: &mut Lone, board: &Board, task: TaskNo, steps: &mut Ste
     }
 }
 
-/// Writes.
-fn write<L: Ledger>(lone: &mut Lone, board: &Board, task: TaskNo, steps: &mut Steps<L>) -> bool
-    requires lone { IsLoneOf board.now lone.old }
-    requires place { IsPlacedAt MayWrite lone.old task.0 }
-    ensures lone { IsLoneOf board.now lone.new }
-    ensures tasks { length lone.new.seats ≡ length lone.old.seats }
-    ensures step { steps.new ≡ steps.old + 1 }
-    ensures told { TellsPoll (run_of board.now.known) task.0 lone.old lone.new result }
-{
-    run_laws(board);
-    lone.stands();
-    lone.write(board, task, steps);
-    true
-}
-
-/// Ends a job.
-fn finish<L: Ledger>(lone: &mut Lone, board: &Board, task: TaskNo, steps: &mut Steps<L>) -> bool
-    requires lone { IsLoneOf board.now lone.old }
-    requires place { IsPlacedAt MayFinish lone.old task.0 }
-    ensures lone { IsLoneOf board.now lone.new }
-    ensures tasks { length lone.new.seats ≡ length lone.old.seats }
-    ensures step { steps.new ≡ steps.old + 1 }
-    ensures told { TellsPoll (run_of board.now.known) task.0 lone.old lone.new result }
-{
-    run_laws(board);
-    lone.stands();
-    lone.finish(board, task, steps);
-    true
-}
-
 /// Does the next action of a task whose job is open.
 fn act<L: Ledger>(lone: &mut Lone, board: &Board, task: TaskNo, steps: &mut Steps<L>) -> bool
     requires lone { IsLoneOf board.now lone.old }
@@ -83,10 +53,18 @@ fn act<L: Ledger>(lone: &mut Lone, board: &Board, task: TaskNo, steps: &mut Step
     ensures step { steps.new ≡ steps.old + 1 }
     ensures told { TellsPoll (run_of board.now.known) task.0 lone.old lone.new result }
 {
+    run_laws(board);
+    lone.stands();
     match lone.place(task) {
         Place::Reading(_, _) => read(lone, board, task, steps),
-        Place::Writing(_, _) => write(lone, board, task, steps),
-        Place::Ending => finish(lone, board, task, steps),
+        Place::Writing(_, _) => {
+            lone.write(board, task, steps);
+            true
+        }
+        Place::Ending => {
+            lone.finish(board, task, steps);
+            true
+        }
         Place::Idle => unreachable!(),
         Place::Over => unreachable!(),
     }

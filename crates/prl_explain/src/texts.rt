@@ -31,7 +31,7 @@ pub const MAX_TABLE: u64 = 16_777_216;
 pub const MAX_CORES: u64 = 65_536;
 
 /// The bytes of the files that the words name, None where they name none; and the name of the node that is to be main.
-#[derive(Debug, Drop)]
+#[derive(Drop)]
 pub struct Texts {
     pub program: Option<Vec<u8>>,
     pub bodies: Option<Vec<u8>>,

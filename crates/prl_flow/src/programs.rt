@@ -23,7 +23,7 @@ pub enum Def {
 }
 
 /// A flow of a flat program.
-#[derive(Debug, Drop)]
+#[derive(Drop)]
 pub struct Flow {
     /// Its name in the program, or a made one.
     pub label: Label,
@@ -38,7 +38,7 @@ pub struct Flow {
 }
 
 /// An application of an imported node.
-#[derive(Debug, Drop)]
+#[derive(Drop)]
 pub struct App {
     /// The node's name.
     pub name: Name,
@@ -62,7 +62,7 @@ pub struct Arg {
 /// A flat program: its flows, its applications of imported nodes, and which flows are main's inputs and
 /// outputs, in order. A device of an input is a sensor and one of an output an actuator: a name and a WCET
 /// in ticks. Contracts see a `FlatProgram`.
-#[derive(Debug, Drop)]
+#[derive(Drop)]
 pub struct Flat {
     pub flows: Seq<Flow>,
     pub apps: Seq<App>,
@@ -186,19 +186,19 @@ impl Flat {
 }
 
 /// The clocks of the flows of a flat program, in the order of the flows.
-#[derive(Debug, Drop)]
+#[derive(Drop)]
 pub struct Clocks {
     pub of: Seq<Clock>,
 }
 
 /// An order of the flows of a flat program, each once, after those that it uses undelayed.
-#[derive(Debug, Drop)]
+#[derive(Drop)]
 pub struct Order {
     pub flows: Seq<FlowNo>,
 }
 
 /// The values of an actuator's flow, one for each date of its clock, in order.
-#[derive(Debug, Drop)]
+#[derive(Drop)]
 pub struct OutFlow {
     /// The actuator.
     pub name: Name,

@@ -8,7 +8,7 @@ use std::marker::Model;
 
 /// The rows of main's inputs: list `k` has the values of input `k` in order of their instance, from
 /// instance 0 on. Contracts see the list of these lists.
-#[derive(Debug, Drop)]
+#[derive(Drop)]
 pub struct Sensors {
     rows: Vec<Seq<Value>>,
 }

@@ -5,7 +5,7 @@ ghost use Rattle.std.specs.Prelude.{◌≡◌, ◌==◌, ◌≤◌, [], false, M
 use prl_base::{Name, Span};
 use std::marker::Model;
 
-#[derive(Debug, Drop)]
+#[derive(Drop)]
 pub enum Word {
     Name(Name),
     Number(u64),
@@ -15,7 +15,7 @@ pub enum Word {
 
 /// A token as a grammar sees it: a name, a number, or a keyword or symbol of the language. Contracts see its
 /// class and what it holds.
-#[derive(Debug, Drop)]
+#[derive(Drop)]
 pub struct Terminal {
     word: Word,
     at: Span,

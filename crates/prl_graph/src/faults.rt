@@ -4,7 +4,7 @@ use prl_base::{Label, Limit};
 use std::alloc::AllocError;
 
 /// Why there is no task graph. A due is the relative deadline that a flow notes.
-#[derive(Debug, Drop)]
+#[derive(Drop)]
 pub enum GraphFault {
     /// A due stands on a flow of no task: neither on main's input or output, nor on a copy of an
     /// output of an application. The label of the lowest such flow.

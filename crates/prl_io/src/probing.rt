@@ -10,7 +10,7 @@ pub trait Probe: Sync {
 }
 
 /// A probe that does nothing.
-#[derive(Clone, Copy, Debug)]
+#[derive(Clone, Copy)]
 pub struct NoProbe;
 
 impl Probe for NoProbe {

@@ -7,7 +7,7 @@ use prl_base::{Limit, Span};
 use std::alloc::{AllocError, AllocFailed};
 
 /// What a token is.
-#[derive(Clone, Copy, Debug, PartialEq, Eq)]
+#[derive(Clone, Copy, PartialEq, Eq)]
 pub enum Kind {
     /// An ASCII letter or `_`, and then ASCII letters, digits and `_`: a name or a keyword.
     Word,
@@ -18,7 +18,7 @@ pub enum Kind {
 }
 
 /// A token of a text.
-#[derive(Clone, Copy, Debug, PartialEq, Eq)]
+#[derive(Clone, Copy, PartialEq, Eq)]
 pub struct Token {
     pub kind: Kind,
     /// Its bytes.
@@ -28,7 +28,7 @@ pub struct Token {
 }
 
 /// Why a text has no tokens. The first fault, in order of place, is answered.
-#[derive(Clone, Copy, Debug, PartialEq, Eq)]
+#[derive(Clone, Copy, PartialEq, Eq)]
 pub enum LexFault {
     /// No token begins at this byte; a comment that is not closed counts as such.
     BadToken(u32),

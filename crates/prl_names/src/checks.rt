@@ -16,7 +16,7 @@ use prl_base::{Label, Name};
 use std::alloc::{AllocError, Global};
 
 /// Why the names of a program are refused.
-#[derive(Debug, Drop)]
+#[derive(Drop)]
 pub enum NameFault {
     /// A name that is declared or defined a second time; number 11.
     Twice(Name),

@@ -10,7 +10,7 @@ use prl_io::{Sink, write_pieces};
 use std::alloc::{AllocError, AllocFailed, Global};
 
 /// Why there is no picture.
-#[derive(Debug, Drop)]
+#[derive(Drop)]
 pub enum Fault {
     /// It is a stop of the programs beside `prelude`.
     Stop(Stop),

@@ -59,7 +59,7 @@ fn print_text(alloc: Global, request: &Request) -> Result<Vec<u8>, Stop>
 }
 
 /// A program with its main node, its flat program and the clocks of its flows.
-#[derive(Debug, Drop)]
+#[derive(Drop)]
 struct Front {
     program: Program,
     main: u32,

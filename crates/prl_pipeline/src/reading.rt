@@ -11,7 +11,7 @@ use prl_stages::{Fault, InputFile, MAX_BODIES, MAX_PROGRAM, Stage, Stop, most_of
 use std::alloc::{AllocError, Global};
 
 /// The bytes of the files of a command: none where no file is named.
-#[derive(Debug, Drop)]
+#[derive(Drop)]
 pub struct Texts {
     pub program: Vec<u8>,
     pub bodies: Vec<u8>,
@@ -23,7 +23,7 @@ pub struct Texts {
 
 /// What the stages of a command are asked about: the texts of its files, whether one of bodies and whether a schedule is named, the
 /// name of the node that is to be main, or none where it is the last one, and the date up to which it runs, in ticks.
-#[derive(Debug, Drop)]
+#[derive(Drop)]
 pub struct Request {
     pub texts: Texts,
     pub named: bool,

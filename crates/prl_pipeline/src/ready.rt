@@ -39,7 +39,7 @@ use prl_values::{job_values_are_one, job_values_exist};
 use std::alloc::Global;
 
 /// What a run of the tasks of a program needs: its plan with the horizon, the bodies, and the rows of the sensors.
-#[derive(Debug, Drop)]
+#[derive(Drop)]
 pub struct Ready {
     pub plan: Plan,
     pub bodies: Bodies,

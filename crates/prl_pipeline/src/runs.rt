@@ -58,7 +58,7 @@ fn rows_stop(fault: SensorFault) -> Stop
 }
 
 /// What is evaluated: a flat program with the clocks and an order of its flows, bodies, and the rows of its sensors.
-#[derive(Debug, Drop)]
+#[derive(Drop)]
 pub struct Run {
     pub flat: Flat,
     pub clocks: Clocks,

@@ -9,7 +9,7 @@ use prl_base::{EdgeNo, Seq};
 use std::marker::Model;
 
 /// The cells of the edges of a graph. Contracts see the three lists.
-#[derive(Debug, Drop)]
+#[derive(Drop)]
 pub struct Cells {
     bases: Seq<u32>,
     counts: Seq<u32>,

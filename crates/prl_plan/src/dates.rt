@@ -9,7 +9,7 @@ use prl_base::{Seq, TaskNo};
 use std::marker::Model;
 
 /// By task, the shortest list of windows that repeats from job 0 on. Contracts see the lists.
-#[derive(Debug, Drop)]
+#[derive(Drop)]
 pub struct Dates {
     windows: Seq<Seq<Window>>,
 }

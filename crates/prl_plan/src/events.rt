@@ -38,7 +38,7 @@ pub enum Event {
 /// One action of a job. A job reads its ports in order, then it writes to the edges that use its instance, in the order
 /// of edges, and then it ends. A constant is read at once; an instance is read, and written, by its low half and then by
 /// its high half.
-#[derive(Clone, Copy, Debug, PartialEq, Eq)]
+#[derive(Clone, Copy, PartialEq, Eq)]
 pub enum Action {
     /// It takes a constant at a port.
     ReadConst {

@@ -3,7 +3,7 @@
 use prl_base::{Clock, Label, Op, Seq, TaskNo, Ty, Value};
 
 /// What a task is for.
-#[derive(Clone, Copy, Debug, PartialEq, Eq)]
+#[derive(Clone, Copy, PartialEq, Eq)]
 pub enum Kind {
     /// It reads the sensor of main's input of this number.
     Sensor(u32),
@@ -14,7 +14,7 @@ pub enum Kind {
 }
 
 /// A strictly periodic task. Its jobs are numbered from 0 and released at the dates of its clock.
-#[derive(Debug, Drop)]
+#[derive(Drop)]
 pub struct Task {
     pub name: Label,
     pub kind: Kind,
@@ -26,7 +26,7 @@ pub struct Task {
 }
 
 /// Where the values of an edge come from.
-#[derive(Clone, Copy, Debug, PartialEq, Eq)]
+#[derive(Clone, Copy, PartialEq, Eq)]
 pub enum Producer {
     /// An output of a task.
     Port { task: TaskNo, out: u32 },
@@ -35,7 +35,7 @@ pub enum Producer {
 }
 
 /// An edge of a task graph: one input port of its consumer.
-#[derive(Debug, Drop)]
+#[derive(Drop)]
 pub struct Edge {
     pub from: Producer,
     /// The consumer.
@@ -51,7 +51,7 @@ pub struct Edge {
 }
 
 /// Tasks and the edges among them.
-#[derive(Debug, Drop)]
+#[derive(Drop)]
 pub struct TaskGraph {
     pub tasks: Seq<Task>,
     pub edges: Seq<Edge>,

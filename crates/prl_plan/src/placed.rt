@@ -9,7 +9,7 @@ use prl_base::TaskNo;
 use std::marker::Model;
 
 /// The processor of each task of a plan, and the windows by which jobs are released. Contracts see a `Placement`.
-#[derive(Debug, Drop)]
+#[derive(Drop)]
 pub struct Placed<'a> {
     /// By task, the processor that it runs on, 0 where none is told.
     processors: &'a [u32],

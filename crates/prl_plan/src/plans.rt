@@ -21,7 +21,7 @@ use prl_base::{CellNo, Clock, EdgeNo, TaskNo, Value};
 use std::marker::Model;
 
 /// A plan of a well-formed task graph, with its words, its encoded dates and its buffer cells. Contracts see a `PlanView`.
-#[derive(Debug, Drop)]
+#[derive(Drop)]
 pub struct Plan {
     graph: TaskGraph,
     words: Words,

@@ -3,7 +3,7 @@
 use prl_base::Seq;
 
 /// The window of a job, in ticks after its release.
-#[derive(Clone, Copy, Debug, PartialEq, Eq)]
+#[derive(Clone, Copy, PartialEq, Eq)]
 pub struct Window {
     /// How much later the encoded release is.
     pub lead: u64,
@@ -13,7 +13,7 @@ pub struct Window {
 
 /// The used instances of an edge in order: the first of them, and the differences between one and the next, which
 /// repeat.
-#[derive(Debug, Drop)]
+#[derive(Drop)]
 pub struct Used {
     pub first: u64,
     pub gaps: Seq<u64>,

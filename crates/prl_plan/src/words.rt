@@ -9,7 +9,7 @@ use prl_base::{Seq, Value};
 
 /// What the jobs of a consumer read on an edge, job after job: constants first, and then instances
 /// of the producer that repeat with a step.
-#[derive(Debug, Drop)]
+#[derive(Drop)]
 pub struct Word {
     /// What the first jobs read.
     pub prefix: Seq<Value>,
@@ -22,7 +22,7 @@ pub struct Word {
 }
 
 /// The words of the edges of a graph, in the order of the edges.
-#[derive(Debug, Drop)]
+#[derive(Drop)]
 pub struct Words {
     pub of: Seq<Word>,
 }

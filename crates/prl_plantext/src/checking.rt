@@ -18,7 +18,7 @@ use prl_plan::{
 const NAME_BYTES: usize = 64;
 
 /// How many tasks of each kind there are.
-#[derive(Clone, Copy, Debug)]
+#[derive(Clone, Copy)]
 pub(crate) struct Counts {
     sensors: u32,
     nodes: u32,

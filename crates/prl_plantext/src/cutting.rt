@@ -35,7 +35,7 @@ pub(crate) fn small_in(word: &[u8]) -> u32
 }
 
 /// The words of a line that are left. Contracts see their list.
-#[derive(Debug, Drop)]
+#[derive(Drop)]
 pub(crate) struct Words<'a> {
     line: &'a [u8],
 }

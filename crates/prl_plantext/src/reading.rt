@@ -199,7 +199,7 @@ fn task_in(alloc: Global, earlier: &[Task], mut words: Words<'_>) -> Result<Task
 }
 
 /// The graph of the lines so far. Contracts see it as a graph.
-#[derive(Debug, Drop)]
+#[derive(Drop)]
 struct Found {
     tasks: Vec<Task>,
     edges: Vec<Edge>,

@@ -11,7 +11,7 @@ use prl_readings::RowFault;
 use std::alloc::{AllocError, Global};
 
 /// Why there is no picture.
-#[derive(Debug, Drop)]
+#[derive(Drop)]
 pub enum Fault {
     /// It is a stop of the programs beside `prelude`.
     Stop(Stop),

@@ -5,7 +5,7 @@ use std::alloc::AllocError;
 
 /// Why a text is no rows of flows. A record's number counts the records before it, from 1; a header counts, and empty
 /// lines do not.
-#[derive(Clone, Copy, Debug, PartialEq, Eq)]
+#[derive(Clone, Copy, PartialEq, Eq)]
 pub enum RowFault {
     /// The record of this number has not as many fields as a row, or no name of a flow.
     Row(u64),

@@ -29,7 +29,7 @@ use prl_schedules::read_schedule;
 use std::alloc::{AllocFailed, Global};
 
 /// What a whole run tells.
-#[derive(Debug, Drop)]
+#[derive(Drop)]
 pub struct Trace {
     /// What its jobs read, instances and constants, in the order of the events.
     pub reads: Seq<Seen>,

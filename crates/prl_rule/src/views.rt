@@ -9,7 +9,7 @@ use prl_plan::{Horizon, Plan};
 use std::collections::LinkedList;
 
 /// Whether the clock waits for the jobs that are due.
-#[derive(Clone, Copy, Debug, PartialEq, Eq)]
+#[derive(Clone, Copy, PartialEq, Eq)]
 pub enum Gate {
     /// A tick comes only when every horizon job that is due by it has ended.
     Gated,

@@ -21,7 +21,7 @@ use std::marker::Model;
 use std::mem;
 
 /// What a release answers.
-#[derive(Clone, Copy, Debug, PartialEq, Eq)]
+#[derive(Clone, Copy, PartialEq, Eq)]
 pub enum Release {
     /// This job of the task is open now.
     Open { job: u64 },
@@ -32,7 +32,7 @@ pub enum Release {
 }
 
 /// How far a task is.
-#[derive(Clone, Copy, Debug, PartialEq, Eq)]
+#[derive(Clone, Copy, PartialEq, Eq)]
 pub enum Stage {
     /// No horizon job is left.
     Over,

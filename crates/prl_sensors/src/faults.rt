@@ -6,7 +6,7 @@ use std::alloc::AllocError;
 
 /// Why a text gives an input of main no row, or too few. A record's number counts the records before it, from 1; a
 /// header counts, and empty lines do not.
-#[derive(Debug, Drop)]
+#[derive(Drop)]
 pub enum SensorFault {
     /// The record of this number has not three fields.
     Row(u64),

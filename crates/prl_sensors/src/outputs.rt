@@ -8,7 +8,7 @@ use std::alloc::{AllocError, Global};
 use std::marker::Model;
 
 /// An actuator's flow whose name and values are lent. Contracts see the `OutFlow`.
-#[derive(Debug, Drop)]
+#[derive(Drop)]
 pub struct OutRows<'a> {
     pub(crate) name: &'a Name,
     pub(crate) clock: Clock,

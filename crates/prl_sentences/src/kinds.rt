@@ -8,7 +8,7 @@ use prl_base::line_len;
 use prl_plan::Rule;
 
 /// The files that a line may speak of, or by which more is told of it.
-#[derive(Clone, Copy, Debug, PartialEq, Eq)]
+#[derive(Clone, Copy, PartialEq, Eq)]
 pub enum Part {
     Program,
     Bodies,
@@ -20,7 +20,7 @@ pub enum Part {
 }
 
 /// How a line tells the place of its fault.
-#[derive(Clone, Copy, Debug, PartialEq, Eq)]
+#[derive(Clone, Copy, PartialEq, Eq)]
 pub enum Target {
     /// It tells no place.
     Nowhere,
@@ -39,7 +39,7 @@ pub enum Target {
 }
 
 /// What is told beside the place and the sentence, of the files that are named.
-#[derive(Clone, Copy, Debug, PartialEq, Eq)]
+#[derive(Clone, Copy, PartialEq, Eq)]
 pub enum Detail {
     /// Nothing.
     Nothing,
@@ -70,7 +70,7 @@ pub enum Detail {
 }
 
 /// A piece of what is said of a line.
-#[derive(Clone, Copy, Debug)]
+#[derive(Clone, Copy)]
 pub enum Piece {
     /// These words.
     Words(&'static str),
@@ -79,7 +79,7 @@ pub enum Piece {
 }
 
 /// What lines of a kind begin and end with, how they tell the place, what is wrong there, and what is told beside.
-#[derive(Clone, Copy, Debug)]
+#[derive(Clone, Copy)]
 pub struct Kind {
     pub front: &'static str,
     pub tail: &'static str,

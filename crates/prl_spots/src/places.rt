@@ -7,7 +7,7 @@ use prl_base::line_len;
 use std::alloc::AllocError;
 
 /// A place of a text.
-#[derive(Clone, Copy, Debug, PartialEq, Eq)]
+#[derive(Clone, Copy, PartialEq, Eq)]
 pub struct Place {
     /// The line, counted from 1.
     pub line: u64,

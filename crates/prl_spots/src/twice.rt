@@ -12,7 +12,7 @@ use prl_lex::{LexFault, Token, lex, token_text};
 use std::alloc::{AllocError, Global};
 
 /// What names share: each of these is a space of names, where the number is that of the node or the import.
-#[derive(Clone, Copy, Debug, PartialEq, Eq)]
+#[derive(Clone, Copy, PartialEq, Eq)]
 enum Space {
     Callees,
     Sensors,
@@ -24,7 +24,7 @@ enum Space {
 }
 
 /// Where in a program the tokens are.
-#[derive(Clone, Copy, Debug, PartialEq, Eq)]
+#[derive(Clone, Copy, PartialEq, Eq)]
 enum Area {
     Outside,
     /// After `imported`.
@@ -41,7 +41,7 @@ enum Area {
 }
 
 /// Which spaces of names are looked at: those of declarations, or those of what defines a flow.
-#[derive(Clone, Copy, Debug, PartialEq, Eq)]
+#[derive(Clone, Copy, PartialEq, Eq)]
 enum Look {
     Declared,
     Defined,

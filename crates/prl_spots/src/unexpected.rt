@@ -16,7 +16,7 @@ use prl_syntax::{ParseFault, parse};
 use std::alloc::{AllocError, Global};
 
 /// A word that is tried, and what is said of it.
-#[derive(Clone, Copy, Debug)]
+#[derive(Clone, Copy)]
 pub struct Trial {
     pub word: &'static [u8],
     pub said: &'static str,

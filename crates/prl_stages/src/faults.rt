@@ -4,7 +4,7 @@ use prl_base::{EdgeNo, Label, Limit, Name, Ratio, Ty};
 use prl_plan::Rule;
 
 /// A file that a command names.
-#[derive(Clone, Copy, Debug, PartialEq, Eq)]
+#[derive(Clone, Copy, PartialEq, Eq)]
 pub enum InputFile {
     Program,
     Bodies,
@@ -15,7 +15,7 @@ pub enum InputFile {
 }
 
 /// Why a text is no program of the grammar. Numbers count the bytes of the text from 0.
-#[derive(Clone, Copy, Debug, PartialEq, Eq)]
+#[derive(Clone, Copy, PartialEq, Eq)]
 pub enum GrammarRefusal {
     /// No token begins here.
     BadToken(u32),
@@ -28,7 +28,7 @@ pub enum GrammarRefusal {
 }
 
 /// Why the names, the arity or the types of a program are not right, as `TypeFault` of `prl_types` has it.
-#[derive(Debug, Drop)]
+#[derive(Drop)]
 pub enum TypesRefusal {
     /// A name that is declared or defined a second time.
     Twice(Name),
@@ -49,7 +49,7 @@ pub enum TypesRefusal {
 }
 
 /// Why the flows of a program have no clocks, as `ClockFault` of `prl_clock` has it.
-#[derive(Debug, Drop)]
+#[derive(Drop)]
 pub enum ClocksRefusal {
     /// The constraint here, in bytes of the text, contradicts the earlier ones.
     Mismatch(u32),
@@ -66,7 +66,7 @@ pub enum ClocksRefusal {
 }
 
 /// Why a program has no task graph, as `GraphFault` of `prl_graph` has it. A due is the relative deadline that a flow notes.
-#[derive(Debug, Drop)]
+#[derive(Drop)]
 pub enum GraphRefusal {
     /// A flow with a due that binds no task.
     DueOnNonTask(Label),
@@ -78,7 +78,7 @@ pub enum GraphRefusal {
 
 /// Why the jobs of a task graph have no encoded dates, as `DateFault` of `prl_dates` has it, with the name of the task for its
 /// number. Jobs count from 0, and dates are in ticks.
-#[derive(Debug, Drop)]
+#[derive(Drop)]
 pub enum DatesRefusal {
     /// A chain of jobs that ends in this one ends at `needs` at the earliest, after its deadline `has`.
     Narrow {
@@ -95,7 +95,7 @@ pub enum DatesRefusal {
 }
 
 /// Why the bodies of imported nodes are refused, as `BodyFault` of `prl_body` has it.
-#[derive(Debug, Drop)]
+#[derive(Drop)]
 pub enum BodiesRefusal {
     /// No text of bodies has this token here, or the number here is out of its range.
     Syntax(u32),
@@ -112,7 +112,7 @@ pub enum BodiesRefusal {
 }
 
 /// Why the rows of the sensors are refused, as `SensorFault` of `prl_sensors` has it. Records count from 1.
-#[derive(Debug, Drop)]
+#[derive(Drop)]
 pub enum SensorsRefusal {
     /// The record of this number has not three fields.
     Row(u64),
@@ -127,7 +127,7 @@ pub enum SensorsRefusal {
 }
 
 /// Why a schedule is no whole run of the program's tasks. Lines count from 1.
-#[derive(Debug, Drop)]
+#[derive(Drop)]
 pub enum ScheduleRefusal {
     /// The line of this number is no event.
     Syntax(u64),
@@ -138,7 +138,7 @@ pub enum ScheduleRefusal {
 }
 
 /// Why no table is made of a plan, as `MakeFault` of `prl_table` has it. Ticks count from 0.
-#[derive(Clone, Copy, Debug, PartialEq, Eq)]
+#[derive(Clone, Copy, PartialEq, Eq)]
 pub enum MakeRefusal {
     /// The run from which a table is cut would go up to this tick, which is above 2147483647.
     TooFar(u64),
@@ -152,7 +152,7 @@ pub enum MakeRefusal {
 
 /// Why a text is no good table of the plan, as `TableFault` of `prl_tables` has it, with the name of the task for its number.
 /// Lines count from 1, classes from 0.
-#[derive(Debug, Drop)]
+#[derive(Drop)]
 pub enum TableRefusal {
     /// The line of this number is not of the text.
     Syntax(u64),
@@ -168,7 +168,7 @@ pub enum TableRefusal {
 
 /// Why a text does not place the tasks on processors, as `CoresFault` of `prl_cores` has it, with the name of the task for its
 /// number. Lines count from 1.
-#[derive(Debug, Drop)]
+#[derive(Drop)]
 pub enum CoresRefusal {
     /// The line of this number is no task and its processor, or is a second line for its task.
     Syntax(u64),
@@ -177,7 +177,7 @@ pub enum CoresRefusal {
 }
 
 /// Why a stage refuses.
-#[derive(Debug, Drop)]
+#[derive(Drop)]
 pub enum Fault {
     /// There is no file of this name.
     Absent(InputFile),

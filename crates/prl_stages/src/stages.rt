@@ -4,7 +4,7 @@ use crate::faults::{Fault, InputFile};
 use std::alloc::AllocError;
 
 /// What is looked at, one after another.
-#[derive(Clone, Copy, Debug, PartialEq, Eq)]
+#[derive(Clone, Copy, PartialEq, Eq)]
 pub enum Stage {
     /// The bytes of a file.
     File(InputFile),
@@ -47,7 +47,7 @@ pub enum Stage {
 }
 
 /// Why a command gives no text.
-#[derive(Debug, Drop)]
+#[derive(Drop)]
 pub enum Stop {
     /// A reading of the file failed.
     Unread(InputFile),

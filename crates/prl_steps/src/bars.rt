@@ -15,7 +15,7 @@ pub const COLUMNS: usize = 1_000;
 pub const PIXEL: u64 = 10;
 
 /// Some steps that begin in one column.
-#[derive(Clone, Copy, Debug, PartialEq, Eq)]
+#[derive(Clone, Copy, PartialEq, Eq)]
 pub struct Bar {
     /// Where the first one begins.
     pub x: u64,

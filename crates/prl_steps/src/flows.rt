@@ -9,7 +9,7 @@ use std::alloc::{AllocError, Global};
 use std::marker::Model;
 
 /// A flow with its values by date. Contracts see a `FlowView`.
-#[derive(Debug, Drop)]
+#[derive(Drop)]
 pub struct Flow {
     name: Name,
     ty: Ty,

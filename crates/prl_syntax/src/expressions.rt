@@ -80,7 +80,7 @@ impl<'a> Parser<'a> {
 }
 
 /// A prefix, or what the prefixes are applied to.
-#[derive(Debug, Drop)]
+#[derive(Drop)]
 enum Link {
     Prefix(PlacedOp),
     Base(Base),

@@ -116,7 +116,7 @@ impl<'a> Parser<'a> {
 }
 
 /// A declaration.
-#[derive(Debug, Drop)]
+#[derive(Drop)]
 enum Declaration {
     Import(Import),
     Sensor(Device),
@@ -170,7 +170,7 @@ impl<'a> Parser<'a> {
 }
 
 /// Declarations by kind.
-#[derive(Debug, Drop)]
+#[derive(Drop)]
 struct Declarations {
     imports: Vec<Import>,
     sensors: Vec<Device>,

@@ -67,7 +67,7 @@ impl<'a> Parser<'a> {
 }
 
 /// What a note says of a name.
-#[derive(Clone, Copy, Debug, PartialEq, Eq)]
+#[derive(Clone, Copy, PartialEq, Eq)]
 pub struct Note {
     pub ty: Option<Ty>,
     pub rate: Option<Rate>,
@@ -172,7 +172,7 @@ impl<'a> Parser<'a> {
 }
 
 /// A name, with the note that stands after it.
-#[derive(Debug, Drop)]
+#[derive(Drop)]
 pub struct Item {
     pub name: Placed,
     pub note: Option<Note>,

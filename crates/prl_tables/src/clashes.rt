@@ -14,7 +14,7 @@ use prl_plan::Plan;
 use std::alloc::{AllocError, Global};
 
 /// Where an entry begins and ends, its beginning taken within the first hyperperiod.
-#[derive(Clone, Copy, Debug)]
+#[derive(Clone, Copy)]
 pub(crate) struct Spot {
     pub(crate) from: u64,
     pub(crate) to: u64,

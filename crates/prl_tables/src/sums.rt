@@ -18,7 +18,7 @@ use std::alloc::{AllocError, Global};
 
 /// What the entries of a class come to: their units, and where the first one begins and the last
 /// one ends.
-#[derive(Clone, Copy, Debug)]
+#[derive(Clone, Copy)]
 pub(crate) struct Sums {
     pub(crate) units: u64,
     pub(crate) first: u64,

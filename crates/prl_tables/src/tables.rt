@@ -4,7 +4,7 @@ use prl_base::{Seq, TaskNo};
 
 /// So many units of a job of the first hyperperiod from a tick on, and of the later jobs of its
 /// class in the later ones.
-#[derive(Clone, Copy, Debug, PartialEq, Eq)]
+#[derive(Clone, Copy, PartialEq, Eq)]
 pub struct Entry {
     pub at: u64,
     pub task: TaskNo,
@@ -13,7 +13,7 @@ pub struct Entry {
 }
 
 /// A static cyclic table.
-#[derive(Debug, Drop)]
+#[derive(Drop)]
 pub struct Table {
     pub entries: Seq<Entry>,
 }

@@ -12,7 +12,7 @@ use std::alloc::{AllocError, AllocFailed, Global};
 use std::marker::Model;
 
 /// An edge that the jobs of a task go through.
-#[derive(Clone, Copy, Debug, PartialEq, Eq)]
+#[derive(Clone, Copy, PartialEq, Eq)]
 pub enum Access {
     /// They read on it.
     Reads(EdgeNo),
@@ -21,7 +21,7 @@ pub enum Access {
 }
 
 /// Where a job stands: past so many edges of its task's route, and then so many actions.
-#[derive(Clone, Copy, Debug, PartialEq, Eq)]
+#[derive(Clone, Copy, PartialEq, Eq)]
 pub struct Cursor {
     pub index: usize,
     pub rest: u32,
@@ -41,7 +41,7 @@ impl Cursor {
 }
 
 /// An action, and where it stands.
-#[derive(Clone, Copy, Debug, PartialEq, Eq)]
+#[derive(Clone, Copy, PartialEq, Eq)]
 pub struct NextAction {
     pub cursor: Cursor,
     pub action: Action,
@@ -157,7 +157,7 @@ fn stop_at(
 }
 
 /// The edges that the jobs of each task go through. Contracts see a list of them for each task.
-#[derive(Debug, Drop)]
+#[derive(Drop)]
 pub struct Routes {
     of: Vec<Seq<Access>>,
 }

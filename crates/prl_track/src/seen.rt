@@ -4,7 +4,7 @@ use prl_base::{CellNo, EdgeNo, TaskNo, Value};
 use prl_plan::{Action, Rule};
 
 /// An action that a job did.
-#[derive(Clone, Copy, Debug, PartialEq, Eq)]
+#[derive(Clone, Copy, PartialEq, Eq)]
 pub struct Acted {
     pub job: u64,
     pub action: Action,
@@ -54,7 +54,7 @@ pub enum Seen {
 }
 
 /// An event that breaks a rule.
-#[derive(Clone, Copy, Debug, PartialEq, Eq)]
+#[derive(Clone, Copy, PartialEq, Eq)]
 pub struct Illegal {
     /// The rule that it breaks. Where an act breaks more than one, L2 goes before L1, and L1 before L3.
     pub rule: Rule,

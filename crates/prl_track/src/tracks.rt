@@ -26,7 +26,7 @@ use std::marker::Model;
 
 /// The state of an executive of a plan in a horizon: the tick, how far each task is, and which instance stands in each half of
 /// a cell. It tests an event, does it, and tells the next one; values are no part of it. Contracts see a `TrackView`.
-#[derive(Debug, Drop)]
+#[derive(Drop)]
 pub struct Track<'a> {
     plan: &'a Plan,
     /// Where the tasks run, and by which windows their jobs are released.

@@ -5,7 +5,7 @@ use prl_names::NameFault;
 use std::alloc::AllocError;
 
 /// Why a program is refused. `check_names_types` says in which order the faults are looked for.
-#[derive(Debug, Drop)]
+#[derive(Drop)]
 pub enum TypeFault {
     /// A name that is declared or defined a second time; number 11.
     Twice(Name),

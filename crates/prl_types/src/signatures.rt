@@ -18,7 +18,7 @@ use std::alloc::{AllocError, Global};
 use std::marker::Model;
 
 /// The types of what an import or a node takes, and of what it gives.
-#[derive(Debug, Drop)]
+#[derive(Drop)]
 pub(crate) struct Signature {
     pub ins: Seq<Term>,
     pub outs: Seq<Term>,

@@ -12,7 +12,7 @@ use prl_plan::TaskGraph;
 use std::alloc::{AllocError, Global};
 
 /// Jobs of which each precedes the next: a first one, and those after it; with dates in ticks.
-#[derive(Debug, Drop)]
+#[derive(Drop)]
 pub struct Chain {
     pub first: WayJob,
     pub rest: Seq<WayJob>,

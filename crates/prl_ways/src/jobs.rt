@@ -12,7 +12,7 @@ use prl_base::{Op, TaskNo};
 use prl_plan::{Edge, Producer, Task, TaskGraph};
 
 /// A job: its task, and its number, which may be any whole number.
-#[derive(Clone, Copy, Debug, PartialEq, Eq)]
+#[derive(Clone, Copy, PartialEq, Eq)]
 pub struct WayJob {
     pub task: TaskNo,
     pub number: i64,

@@ -13,7 +13,7 @@ use std::alloc::{AllocError, Global};
 const NO_FLOW: u32 = u32::MAX;
 
 /// A cycle: a flow, and those after it round the cycle, each used by the one before it and the last using the first.
-#[derive(Debug, Drop)]
+#[derive(Drop)]
 pub struct Round {
     pub along: Along,
     pub first: u32,

@@ -10,7 +10,7 @@ use prl_base::{FlowNo, Op};
 use prl_flow::{Arg, Def, Flat};
 
 /// Which uses are followed: those without a delay, or those that go through no application.
-#[derive(Clone, Copy, Debug, PartialEq, Eq)]
+#[derive(Clone, Copy, PartialEq, Eq)]
 pub enum Along {
     Undelayed,
     Inside,

@@ -12,7 +12,7 @@ use prl_plan::{MAX_PREFIX, TaskGraph, Words};
 use std::alloc::{AllocError, Global};
 
 /// Why there are no words.
-#[derive(Clone, Copy, Debug, PartialEq, Eq)]
+#[derive(Clone, Copy, PartialEq, Eq)]
 pub enum WordFault {
     /// The prefixes have more than 1,000,000 constants.
     Limit(Limit),

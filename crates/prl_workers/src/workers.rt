@@ -11,7 +11,7 @@ use prl_body::{Bodies, Machine};
 use prl_flow::Sensors;
 
 /// How the jobs of a task come to what they give.
-#[derive(Debug, Drop)]
+#[derive(Drop)]
 pub enum Work {
     /// They give the rows of main's input of this number.
     Sensor(u32),
@@ -22,7 +22,7 @@ pub enum Work {
 }
 
 /// What a task works with.
-#[derive(Debug, Drop)]
+#[derive(Drop)]
 pub struct Worker {
     /// By port, what the open job has read so far.
     pub operands: Vec<Value>,

@@ -86,17 +86,31 @@ fn twenty_lanes(rt: HostRuntime) -> Result<(), Fail> {
     Ok(())
 }
 
-// The program is in its printed form, and the bodies are a text of bodies.
+/// Whether a program is in its printed form.
+fn is_printed(alloc: Global, text: &[u8]) -> Result<bool, Fail> {
+    if text.len() >= 10_000 {
+        return Err("too long".into());
+    }
+    let program = parse(alloc, text)?;
+    Ok(print(alloc, &program)?.as_slice() == text)
+}
+
+/// How many bodies a text has.
+fn count_of_bodies(alloc: Global, text: &[u8]) -> Result<usize, Fail> {
+    if text.len() >= 10_000 {
+        return Err("too long".into());
+    }
+    match parse_bodies(alloc, text) {
+        Ok(text) => Ok(text.bodies.as_slice().len()),
+        Err(_) => Err("no bodies".into()),
+    }
+}
+
 #[test]
 fn printed_form(rt: HostRuntime) -> Result<(), Fail> {
     let alloc = rt.alloc();
     let texts = generate(alloc, 7, 20)?;
-    assert!(rt; texts.program.len() < 10_000);
-    let program = parse(alloc, texts.program.as_slice())?;
-    let printed = print(alloc, &program)?;
-    assert!(rt; printed.as_slice() == texts.program.as_slice());
-    assert!(rt; texts.bodies.len() < 10_000);
-    let bodies = parse_bodies(alloc, texts.bodies.as_slice())?;
-    assert_eq!(rt; bodies.bodies.as_slice().len(), 20);
+    assert!(rt; is_printed(alloc, texts.program.as_slice())?);
+    assert!(rt; count_of_bodies(alloc, texts.bodies.as_slice())? == 20);
     Ok(())
 }
