@@ -1,6 +1,7 @@
 -- What the words ask for beside the windows.
-use Rattle.std.specs.Prelude.{◌≡◌, ℕ, List, [], Option, Some, Ok, IfSome, MatchOption, codes}
+use Rattle.std.specs.Prelude.{◌≡◌, ℕ, List, [], Some, Ok, IfSome, MatchOption, codes}
 use Rattle.prl_base.specs.Decimals.{decimal_of}
+use Rattle.prl_companions.specs.Faults.{Folder}
 use Rattle.prl_companions.specs.Pairs.{value_of}
 use Rattle.prl_plan.specs.declared.events.Event.{Event}
 use Rattle.prl_plan.specs.declared.horizons.Horizon.{Horizon}
@@ -14,10 +15,6 @@ use Rattle.prl_cores.specs.Processors.{processors_of}
 use Rattle.prl_tables.specs.TableTexts.{entries_of}
 use Rattle.prl_views.specs.declared.shown.Shown.{Shown}
 use Rattle.prl_views.specs.declared.shown.Shown.TheVariants as kinds
-
--- files by name; none where they are not known
-abbrev pub Folder : Type 0
-Folder = Option (List ℕ → Option (List ℕ))
 
 -- the file of this name has a text of which this holds
 abbrev pub HasText : Folder → List ℕ → (List ℕ → Type 0) → Type 0

@@ -4,7 +4,5 @@ pub mod Ranges
 pub mod Chosen
 -- what the words ask for
 pub mod Asked
--- how a call ends
-pub mod Faults
 -- the picture
 pub mod Pictures

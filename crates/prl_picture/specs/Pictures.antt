@@ -1,18 +1,15 @@
 -- The picture of a plan.
-use Rattle.std.specs.Prelude.{◌≡◌, ◌<◌, ℕ, Bool, false, List, [], ◌∷◌, Some, Result, IfOk, IfSome, MatchOption, codes, is_some, length}
-use Rattle.std.specs.Bool.{OnFalse}
-use Rattle.std.specs.Str.{bytes_eq}
+use Rattle.std.specs.Prelude.{◌≡◌, ◌<◌, ℕ, List, Some, IfSome, MatchOption, codes, is_some, length}
 use Rattle.prl_io.specs.Views.{FolderView, SinkView}
+use Rattle.prl_companions.specs.Faults.{AnswersBy, Folder}
 use Rattle.prl_companions.specs.Pairs.{value_of}
 use Rattle.prl_base.specs.Decimals.{decimal_of}
 use Rattle.prl_plan.specs.Jobs.{task_at}
 use Rattle.prl_plan.specs.Plans.{PlanView}
 use Rattle.prl_plantext.specs.ReadTexts.{IsTextOf}
-use Rattle.prl_picture.specs.declared.faults.Fault.{Fault}
 use Rattle.prl_views.specs.declared.shown.Shown.{Shown}
 use Rattle.prl_views.specs.declared.views.View.{View}
-use Rattle.prl_picture.specs.Asked.{Folder, IsAsked}
-use Rattle.prl_picture.specs.Faults.{EndsSo}
+use Rattle.prl_picture.specs.Asked.{IsAsked}
 use Rattle.prl_picture.specs.Ranges.{IsDefaultEnd, IsRange}
 use Rattle.prl_views.specs.Drawn.{IsPictureOf}
 use Rattle.prl_views.specs.Shown.{IsOfPlan}
@@ -61,14 +58,6 @@ IsPicture folder words text =
     (name source : List ℕ) × (value_of (codes "--plan") words ≡ Some name) × IfSome folder (λ f. f name ≡ Some source)
     × ((plan : PlanView) × IsTextOf plan source × IsDrawn folder plan words text)
 
--- the words ask for what the options mean
-abbrev pub asks_help : List (List ℕ) → Bool
-asks_help [] = false
-asks_help (word ∷ []) = bytes_eq word (codes "--help")
-asks_help (word ∷ other ∷ words) = false
-
--- what a call answers: its outcome, and how it ends
-pub record Answers (words : List (List ℕ)) (files : FolderView) (out out' err err' : SinkView) (code : ℕ) : Type 0 where
-  pub outcome : Result (List ℕ) Fault
-  pub ends : EndsSo (λ text. text) outcome out out' err err' code
-  pub text : OnFalse (asks_help words) (IfOk outcome (IsPicture files.folder words))
+-- what a call answers: a picture, unless the words ask for what the options mean, and how it ends
+abbrev pub Answers : List (List ℕ) → FolderView → SinkView → SinkView → SinkView → SinkView → ℕ → Type 0
+Answers = AnswersBy IsPicture

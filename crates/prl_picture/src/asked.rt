@@ -9,10 +9,10 @@ ghost use Rattle.prl_tables.specs.TableTexts.{entries_of};
 ghost use Rattle.prl_tables.specs.Tables.{IsGood};
 ghost use Rattle.prl_views.specs.Shown.{IsOfPlan};
 
-use crate::faults::{Fault, unfit, unfit_for, why_of};
-use crate::words::{FORM, tick_of};
+use crate::ranges::MAX_UNTIL;
+use crate::words::FORM;
 use prl_base::{TaskNo, push_number};
-use prl_companions::{Stop, read_named, value_of};
+use prl_companions::{Fault, Stop, number_up_to, read_named, unfit, unfit_for, value_of, why_of};
 use prl_cores::{CoresFault, Spread, read_cores, spread, spread_plans_keep_facts};
 use prl_edf::analyse;
 use prl_io::Files;
@@ -73,10 +73,7 @@ fn unplaced(alloc: Global, plan: &Plan, name: &[u8], fault: CoresFault) -> Fault
 {
     match fault {
         CoresFault::Syntax(line) => unfit(alloc, name, "98 core syntax line ", line),
-        CoresFault::Missing(task) => match missing(alloc, plan, task) {
-            Ok(why) => unfit_for(alloc, name, why),
-            Err(_) => Fault::Stop(Stop::Memory),
-        },
+        CoresFault::Missing(task) => unfit_for(alloc, name, missing(alloc, plan, task)),
         CoresFault::Memory => Fault::Stop(Stop::Memory),
     }
 }
@@ -158,7 +155,7 @@ fn verdict_of(alloc: Global, word: &[u8], plan: &Plan) -> Result<Shown, Fault>
     ensures plan { IfOk result (IsOfPlan plan.now) }
     ensures until { IfOk result (IsUpTo word.now) }
 {
-    let Some(until) = tick_of(word) else {
+    let Some(until) = number_up_to(MAX_UNTIL, word) else {
         return Err(Fault::Stop(Stop::Words(FORM)));
     };
     let Ok(horizon) = Horizon::new(plan, until as u32) else {
@@ -231,10 +228,7 @@ fn table_line(alloc: Global, plan: &Plan, fault: TableFault) -> Result<Vec<u8>, 
 
 /// Why a table does not fit.
 fn unfit_table(alloc: Global, plan: &Plan, name: &[u8], fault: TableFault) -> Fault {
-    match table_line(alloc, plan, fault) {
-        Ok(why) => unfit_for(alloc, name, why),
-        Err(_) => Fault::Stop(Stop::Memory),
-    }
+    unfit_for(alloc, name, table_line(alloc, plan, fault))
 }
 
 /// The good table of this text.

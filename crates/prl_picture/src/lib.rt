@@ -6,10 +6,8 @@
 mod asked;
 mod chosen;
 mod defaults;
-mod faults;
 mod pictures;
 mod ranges;
 mod words;
 
-pub use faults::Fault;
 pub use pictures::draw;

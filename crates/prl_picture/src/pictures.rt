@@ -3,22 +3,24 @@
 ghost use Rattle.std.specs.Prelude.{◌≡◌, ◌<◌, ◌≤◌, drop, map, IfOk};
 ghost use Rattle.std.specs.Bool.{OnFalse};
 ghost use Rattle.std.specs.String.{string_bytes};
-ghost use Rattle.prl_picture.specs.Pictures.{Answers, AreAsked, AreRows, IsDrawn, IsNearRows, IsPicture, asks_help};
+ghost use Rattle.prl_companions.specs.Pairs.{asks_help};
+ghost use Rattle.prl_picture.specs.Pictures.{Answers, AreAsked, AreRows, IsDrawn, IsNearRows, IsPicture};
 ghost use Rattle.prl_picture.specs.Ranges.{IsRange};
 ghost use Rattle.prl_views.specs.Views.{AreTasks, IsView};
 
 use crate::asked::shown;
 use crate::chosen::{all_rows, near_rows, task_named};
-use crate::faults::{Fault, end, unfit_for};
 use crate::ranges::{MAX_UNTIL, left_out, scale_of};
-use crate::words::{FORM, HELP, OPTIONS, asks_help, range_of, tick_unit, whole_before};
+use crate::words::{FORM, HELP, OPTIONS, range_of, tick_unit, whole_before};
 use prl_base::Seq;
-use prl_companions::{Stop, after_name, are_pairs, read_named, value_of};
+use prl_companions::{
+    Fault, Stop, after_name, are_pairs, asks_help, end, read_named, unfit_for, value_of,
+};
 use prl_io::{Files, Sink};
 use prl_plan::Plan;
 use prl_plantext::{PlanFault, read_plan};
 use prl_views::{View, picture_of};
-use std::alloc::Global;
+use std::alloc::{AllocError, Global};
 
 /// The most bytes of a plan's text.
 pub const MAX_PLAN: u64 = 33_554_432;
@@ -26,14 +28,12 @@ pub const MAX_PLAN: u64 = 33_554_432;
 /// Why there is no picture.
 const NO_PLAN: &str = "not the text of a plan";
 
-/// Says that the file of a plan has no task of the name that the words ask for.
-fn no_task(alloc: Global, words: &[String], name: &[u8]) -> Fault {
+/// The words that the plan has no task of this name.
+fn no_task(alloc: Global, name: &[u8]) -> Result<Vec<u8>, AllocError> {
     let mut why = Vec::new(alloc);
-    let front = why.extend_from_slice(b"no task ");
-    if front.is_err() || why.extend_from_slice(name).is_err() {
-        return Fault::Stop(Stop::Memory);
-    }
-    unfit_for(alloc, value_of(b"--plan", words).unwrap_or(b""), why)
+    why.extend_from_slice(b"no task ")?;
+    why.extend_from_slice(name)?;
+    Ok(why)
 }
 
 /// The rows of the task of a name and its neighbours.
@@ -43,7 +43,10 @@ fn near_of(alloc: Global, words: &[String], plan: &Plan, name: &[u8]) -> Result<
 {
     match task_named(plan, name) {
         Some(task) => Ok(near_rows(alloc, plan, task)?),
-        None => Err(no_task(alloc, words, name)),
+        None => {
+            let file = value_of(b"--plan", words).unwrap_or(b"");
+            Err(unfit_for(alloc, file, no_task(alloc, name)))
+        }
     }
 }
 
@@ -120,10 +123,7 @@ fn drawn<F: Files>(
 
 /// Says that the file of a name is no plan.
 fn no_plan(alloc: Global, name: &[u8]) -> Fault {
-    match Vec::from_slice(alloc, NO_PLAN.as_bytes()) {
-        Ok(why) => unfit_for(alloc, name, why),
-        Err(_) => Fault::Stop(Stop::Memory),
-    }
+    unfit_for(alloc, name, Vec::from_slice(alloc, NO_PLAN.as_bytes()))
 }
 
 /// The picture that the words ask for.

@@ -1,15 +1,13 @@
 //! The words of a command line, and the range that they ask for.
 
-ghost use Rattle.std.specs.Prelude.{◌≡◌, ◌<◌, ◌≤◌, IfSome, Some, map};
+ghost use Rattle.std.specs.Prelude.{◌<◌, ◌≤◌, IfSome, map};
 ghost use Rattle.std.specs.String.{string_bytes};
-ghost use Rattle.prl_base.specs.Decimals.{decimal_of};
-ghost use Rattle.prl_picture.specs.Pictures.{AreAsked, IsFirst, IsLast, asks_help};
+ghost use Rattle.prl_picture.specs.Pictures.{AreAsked, IsFirst, IsLast};
 ghost use Rattle.prl_views.specs.Views.{AreTasks};
 
 use crate::defaults::default_end;
 use crate::ranges::MAX_UNTIL;
-use prl_base::decimal_of;
-use prl_companions::value_of;
+use prl_companions::{number_up_to, value_of};
 use prl_drawing::{Unit, unit_of};
 use prl_plan::Plan;
 
@@ -48,27 +46,6 @@ pub static OPTIONS: [&[u8]; 9] = [
     b"--tick",
 ];
 
-/// Whether the words ask for what the options mean.
-pub(crate) fn asks_help(words: &[String]) -> bool
-    ensures { result ≡ asks_help (map string_bytes words.now) }
-{
-    match words {
-        [word] => word.as_bytes() == b"--help".as_slice(),
-        _ => false,
-    }
-}
-
-/// The tick that a word writes.
-pub(crate) fn tick_of(word: &[u8]) -> Option<u64>
-    ensures small { IfSome result (λ tick. tick ≤ MAX_UNTIL) }
-    ensures exact { IfSome result (λ tick. decimal_of word.now ≡ Some tick) }
-{
-    match decimal_of(word) {
-        None => None,
-        Some(tick) => { if tick <= MAX_UNTIL { Some(tick) } else { None } }
-    }
-}
-
 /// The first tick that the words ask for.
 fn first_of(words: &[String]) -> Option<u64>
     ensures small { IfSome result (λ tick. tick ≤ MAX_UNTIL) }
@@ -76,7 +53,7 @@ fn first_of(words: &[String]) -> Option<u64>
 {
     match value_of(b"--from", words) {
         None => Some(0),
-        Some(word) => tick_of(word),
+        Some(word) => number_up_to(MAX_UNTIL, word),
     }
 }
 
@@ -89,7 +66,7 @@ fn last_of(words: &[String], plan: &Plan, rows: &[u32], from: u64) -> Option<u64
 {
     match value_of(b"--until", words) {
         None => Some(default_end(plan, rows, from, value_of(b"--table", words).is_some())),
-        Some(word) => tick_of(word),
+        Some(word) => number_up_to(MAX_UNTIL, word),
     }
 }
 

@@ -1,9 +1,1 @@
-mod Found
-mod Schedules
-mod AcceptedLines
-mod Stops
-mod Contents
-mod Preparing
-mod TableFaults
-mod Summaries
-mod TooMany
+mod Answered

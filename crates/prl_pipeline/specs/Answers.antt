@@ -2,9 +2,9 @@
 use Rattle.std.specs.Prelude.{◌≡◌, ◌++◌, ℕ, List, [], ◌∷◌, Option, Some, None}
 use Rattle.prl_io.specs.Views.{FolderView}
 use Rattle.prl_arguments.specs.declared.arguments.Command.{Command}
-use Rattle.prl_pipeline.specs.declared.running.Outcome.{Outcome}
-use Rattle.prl_pipeline.specs.declared.running.Outcome.TheVariants as outcomes
-use Rattle.prl_stages.specs.declared.stages.Stage.{Stage}
+use Rattle.prl_calls.specs.Stops.{IsReached}
+use Rattle.prl_executions.specs.declared.running.Outcome.{Outcome}
+use Rattle.prl_executions.specs.declared.running.Outcome.TheVariants as outcomes
 use Rattle.prl_stages.specs.declared.stages.Stage.TheVariants as stages
 use Rattle.prl_stages.specs.declared.stages.Stop.{Stop}
 use Rattle.prl_stages.specs.declared.stages.Stop.TheVariants as stops
@@ -17,13 +17,6 @@ use Rattle.prl_stages.specs.Stages.{Comes, stages_of}
 abbrev pub IsAnswer : Option Folder → Command → List ℕ → Ran → Type 0
 IsAnswer told c text ran =
     (g : Given) × IsGivenTo told c g × Comes g (stages_of c) None × IsMeant g c text ran
-
--- a stage of the list is reached: those before it hold
-pub record IsReached (g : Given) (list : List Stage) (stage : Stage) : Type 0 where
-  pub before : List Stage
-  pub after : List Stage
-  pub stands : list ≡ before ++ (stage ∷ after)
-  pub hold : Comes g before None
 
 -- a command comes to a refusal, the reading of the file that it came to failed, or memory ran out
 abbrev pub IsAnswerStop : FolderView → FolderView → Command → Stop → Type 0

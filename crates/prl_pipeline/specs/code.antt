@@ -1,5 +1,1 @@
-pub mod Stops
-pub mod Placed
-pub mod Ready
-pub mod Generated
-pub mod Flows
+pub mod Modes

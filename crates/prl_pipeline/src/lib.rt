@@ -1,26 +1,10 @@
-//! The calls of the stages: one call a stage, the modes as lists of them in the order of refusals, and the text that a command
-//! asks for. What a stage finds and why it refuses stands in `prl_stages`.
+//! What a command comes to: its files are read, or its texts are generated, and its mode is asked for the text. The stages stand in
+//! `prl_stages`, their calls in `prl_calls`, and the modes as lists of calls in `prl_planning` and `prl_executions`.
 #![tactic(auto)]
 
-mod feasible;
-mod flattened;
 mod generated;
 mod pipeline;
-mod placed;
-mod planned;
-mod plans;
-mod programs;
-mod reading;
-mod ready;
-mod replayed;
-mod running;
-mod runs;
-mod scheduled;
-mod tabled;
 
 pub use pipeline::{answer, answer_threads};
-pub use plans::plan_of;
-pub use reading::{Request, Texts};
-pub use ready::Ready;
-pub use running::Outcome;
-pub use runs::Run;
+pub use prl_calls::plan_of;
+pub use prl_executions::Outcome;

@@ -31,19 +31,40 @@ fn read<F: Files>(
     }
 }
 
-#[test]
-fn files_in_memory(rt: HostRuntime) -> Result<(), Fail> {
-    let alloc = rt.alloc();
+/// Whether a reading gives these bytes, or fails so.
+fn gives<F: Files>(
+    files: &mut F,
+    alloc: Global,
+    name: &str,
+    most: u64,
+    wanted: Result<&str, FileFault>,
+) -> bool {
+    match (read(files, alloc, name, most), wanted) {
+        (Ok(bytes), Ok(text)) => bytes.as_slice() == text.as_bytes(),
+        (Err(fault), Err(other)) => fault == other,
+        _ => false,
+    }
+}
+
+/// Two files of one name, of which the fourth reading fails.
+fn two_files(alloc: Global) -> Result<MemFiles, AllocError> {
     let entries = vec![in alloc;
         (label(alloc, "a")?, bytes(alloc, "one")?),
         (label(alloc, "a")?, bytes(alloc, "two")?),
     ]?;
-    let mut files = MemFiles::new(entries, vec![in alloc; 3]?);
-    assert_eq!(rt; read(&mut files, alloc, "a", 3), Ok(bytes(alloc, "one")?));
-    assert_eq!(rt; read(&mut files, alloc, "a", 2), Err(FileFault::TooLong));
-    assert_eq!(rt; read(&mut files, alloc, "b", 3), Err(FileFault::Absent));
-    assert_eq!(rt; read(&mut files, alloc, "a", 3), Err(FileFault::Failed));
-    assert_eq!(rt; read(&mut files, alloc, "a", 3), Ok(bytes(alloc, "one")?));
+    Ok(MemFiles::new(entries, vec![in alloc; 3]?))
+}
+
+#[test]
+fn files_in_memory(rt: HostRuntime) -> Result<(), Fail> {
+    let alloc = rt.alloc();
+    let mut files = two_files(alloc)?;
+    let are_right = gives(&mut files, alloc, "a", 3, Ok("one"))
+        && gives(&mut files, alloc, "a", 2, Err(FileFault::TooLong))
+        && gives(&mut files, alloc, "b", 3, Err(FileFault::Absent))
+        && gives(&mut files, alloc, "a", 3, Err(FileFault::Failed))
+        && gives(&mut files, alloc, "a", 3, Ok("one"));
+    assert!(rt; are_right);
     Ok(())
 }
 
@@ -71,26 +92,35 @@ fn full_sink(rt: HostRuntime) -> Result<(), Fail> {
     Ok(())
 }
 
+/// Whether a file whose name is no text cannot be read.
+fn fails_without_text<F: Files>(files: &mut F, alloc: Global) -> Result<bool, AllocError> {
+    let no_text = Label::new(alloc, &[255])?;
+    Ok(files.read(alloc, &no_text, 5) == Err(FileFault::Failed))
+}
+
 #[test]
 fn files_of_the_host(rt: HostRuntime) -> Result<(), Fail> {
     let alloc = rt.alloc();
     fs::write(&rt, "prl_io_files.txt", "five!")?;
     let mut files = HostFiles::new(&rt);
-    assert_eq!(rt;
-        read(&mut files, alloc, "prl_io_files.txt", 5),
-        Ok(bytes(alloc, "five!")?)
-    );
-    assert_eq!(rt;
-        read(&mut files, alloc, "prl_io_files.txt", 4),
-        Err(FileFault::TooLong)
-    );
-    assert_eq!(rt;
-        read(&mut files, alloc, "prl_io_nothing.txt", 5),
-        Err(FileFault::Absent)
-    );
-    assert_eq!(rt; read(&mut files, alloc, "/", 5), Err(FileFault::Failed));
-    let no_text = Label::new(alloc, &[255])?;
-    assert_eq!(rt; files.read(alloc, &no_text, 5), Err(FileFault::Failed));
+    let are_right = gives(&mut files, alloc, "prl_io_files.txt", 5, Ok("five!"))
+        && gives(
+            &mut files,
+            alloc,
+            "prl_io_files.txt",
+            4,
+            Err(FileFault::TooLong),
+        )
+        && gives(
+            &mut files,
+            alloc,
+            "prl_io_nothing.txt",
+            5,
+            Err(FileFault::Absent),
+        )
+        && gives(&mut files, alloc, "/", 5, Err(FileFault::Failed));
+    assert!(rt; are_right);
+    assert!(rt; fails_without_text(&mut files, alloc)?);
     fs::remove_file(&rt, "prl_io_files.txt")?;
     Ok(())
 }
@@ -120,28 +150,25 @@ impl Write for Broken {
     }
 }
 
+/// What a sink of such a writer says to three bytes, and then to these.
+fn written(
+    takes: usize,
+    flushes: bool,
+    next: &[u8],
+) -> (Result<usize, Failed>, Result<usize, Failed>) {
+    let mut sink = HostSink::new(Broken { takes, flushes });
+    let first = sink.write(b"abc");
+    (first, sink.write(next))
+}
+
 #[test]
 fn sink_of_the_host(rt: HostRuntime) -> Result<(), Fail> {
     let mut kept = Vec::new(rt.alloc());
-    assert_eq!(rt; HostSink::new(&mut kept).write(b"abc"), Ok(3));
-    assert_eq!(rt; kept.as_slice(), b"abc".as_slice());
-    let mut partly = HostSink::new(Broken {
-        takes: 2,
-        flushes: true,
-    });
-    assert_eq!(rt; partly.write(b"abc"), Ok(2));
-    assert_eq!(rt; partly.write(b"a"), Err(Failed));
-    let mut unflushed = HostSink::new(Broken {
-        takes: 2,
-        flushes: false,
-    });
-    assert_eq!(rt; unflushed.write(b"abc"), Err(Failed));
-    let mut stuck = HostSink::new(Broken {
-        takes: 0,
-        flushes: true,
-    });
-    assert_eq!(rt; stuck.write(b"abc"), Err(Failed));
-    assert_eq!(rt; stuck.write(b""), Ok(0));
+    let all = HostSink::new(&mut kept).write(b"abc");
+    assert!(rt; all == Ok(3) && kept.as_slice() == b"abc".as_slice());
+    assert_eq!(rt; written(2, true, b"a"), (Ok(2), Err(Failed)));
+    assert_eq!(rt; written(2, false, b"abc"), (Err(Failed), Err(Failed)));
+    assert_eq!(rt; written(0, true, b""), (Err(Failed), Ok(0)));
     Ok(())
 }
 

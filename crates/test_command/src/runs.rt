@@ -1,6 +1,6 @@
 //! Runs of several workers through the top call, with probes that hold jobs until other ones have begun.
 
-use holders::{Hold, Holder};
+use holders::Holder;
 use prl_app::{Ran, prelude, prelude_alone};
 use prl_base::Label;
 use prl_io::{MemFiles, MemSink, NoProbe, Probe};
@@ -58,20 +58,12 @@ const BODIES: &[u8] = b"body F { o = i + j; p = i; }\nbody S { o = 2 * i; }\n";
 
 const SIX: &[u8] = b"i,0,1\ni,1,2\ni,2,3\ni,3,4\ni,4,5\ni,5,6\n";
 
-/// A hold of a job that no program here has.
-const NO_HOLD: Hold = Hold {
-    task: 9,
-    job: 0,
-    other: 9,
-    begun: 0,
-};
-
 /// What came of a call.
 #[derive(Drop)]
 struct Answered {
+    out: MemSink,
+    err: MemSink,
     status: u8,
-    out: Vec<u8>,
-    err: Vec<u8>,
     ended: bool,
     stopped: bool,
 }
@@ -114,140 +106,137 @@ fn words(alloc: Global, line: &str) -> Result<Vec<String>, Fail> {
     Ok(words)
 }
 
-/// What a command line tells.
+/// Nothing is told yet.
+fn nothing(alloc: Global) -> Result<Answered, Fail> {
+    let out = MemSink::new(alloc, 1000, 1000, Vec::new(alloc))?;
+    let err = MemSink::new(alloc, 1000, 1000, Vec::new(alloc))?;
+    Ok(Answered {
+        out,
+        err,
+        status: 0,
+        ended: false,
+        stopped: false,
+    })
+}
+
+/// Makes a call, and notes how it ended.
+fn call<R: Threads + Wait + Sync, P: Probe>(
+    rt: &R,
+    alloc: Global,
+    words: &[String],
+    files: &mut MemFiles,
+    probe: &P,
+    told: &mut Answered,
+) {
+    let status = prelude(rt, alloc, words, files, &mut told.out, &mut told.err, probe);
+    told.status = status.code;
+    told.ended = is_ended(&status.ran);
+    told.stopped = is_stopped(&status.ran);
+}
+
+/// What a command line tells of a program with rows.
 fn told<R: Threads + Wait + Sync, P: Probe>(
     rt: &R,
     alloc: Global,
     line: &str,
-    files: MemFiles,
+    program: &[u8],
+    rows: &[u8],
     probe: &P,
 ) -> Result<Answered, Fail> {
     let words = words(alloc, line)?;
-    let mut files = files;
-    let mut out = MemSink::new(alloc, 1000, 1000, Vec::new(alloc))?;
-    let mut err = MemSink::new(alloc, 1000, 1000, Vec::new(alloc))?;
-    let status = prelude(rt, alloc, &words, &mut files, &mut out, &mut err, probe);
-    Ok(Answered {
-        status: status.code,
-        out: Vec::from_slice(alloc, out.bytes())?,
-        err: Vec::from_slice(alloc, err.bytes())?,
-        ended: is_ended(&status.ran),
-        stopped: is_stopped(&status.ran),
-    })
+    let mut files = folder(alloc, program, rows)?;
+    let mut told = nothing(alloc)?;
+    call(rt, alloc, &words, &mut files, probe, &mut told);
+    Ok(told)
+}
+
+/// Whether a call ended so, with this on `out` and nothing on `err`.
+fn wrote(told: &Answered, out: &[u8]) -> bool {
+    told.status == 0 && told.out.bytes() == out && told.err.bytes().is_empty()
+}
+
+/// Each third value of a sensor, three times.
+const THIRDS: &[u8] = b"sensor i wcet 1;
+actuator o wcet 1;
+node main (i: int rate (10, 0)) returns (o)
+let
+  o = i /^ 3 *^ 3;
+tel
+";
+
+#[test]
+fn each_third_value_three_times(rt: HostRuntime) -> Result<(), Fail> {
+    let line = "prelude flows --program p.prl --sensors p.csv --until 60";
+    let made = told(&rt, rt.alloc(), line, THIRDS, SIX, &NoProbe)?;
+    let thirds = b"o,0,0,1\no,1,10,1\no,2,20,1\no,3,30,4\no,4,40,4\no,5,50,4\n";
+    assert!(rt; wrote(&made, thirds));
+    Ok(())
 }
 
 #[test]
 fn several_workers_write_the_flows(rt: HostRuntime) -> Result<(), Fail> {
-    let alloc = rt.alloc();
     let line = "prelude run --program p.prl --bodies p.bod --sensors p.csv --until 60 --workers 4";
-    let made = told(&rt, alloc, line, folder(alloc, SAMPLING, SIX)?, &NoProbe)?;
-    assert_eq!(rt; made.status, 0);
-    assert_eq!(rt;
-        made.out.as_slice(),
-        b"o,0,0,1\no,1,10,2\no,2,20,3\no,3,30,6\no,4,40,7\no,5,50,8\n".as_slice()
-    );
-    assert!(rt; made.ended);
+    let made = told(&rt, rt.alloc(), line, SAMPLING, SIX, &NoProbe)?;
+    let flows = b"o,0,0,1\no,1,10,2\no,2,20,3\no,3,30,6\no,4,40,7\no,5,50,8\n";
+    assert!(rt; wrote(&made, flows) && made.ended);
     Ok(())
 }
 
 #[test]
 fn two_workers_run_at_once(rt: HostRuntime) -> Result<(), Fail> {
-    let alloc = rt.alloc();
-    let holder = Holder::new([
-        Hold {
-            task: 0,
-            job: 1,
-            other: 1,
-            begun: 1,
-        },
-        Hold {
-            task: 1,
-            job: 1,
-            other: 0,
-            begun: 1,
-        },
-    ]);
-    let files = folder(alloc, LANES, b"i,0,1\ni,1,2\nj,0,3\nj,1,4\n")?;
+    let holder = Holder::of_two_lanes();
+    let rows = b"i,0,1\ni,1,2\nj,0,3\nj,1,4\n";
     let line = "prelude run --program p.prl --sensors p.csv --until 20 --workers 2";
-    let made = told(&rt, alloc, line, files, &holder)?;
-    assert_eq!(rt; made.status, 0);
-    assert_eq!(rt;
-        made.out.as_slice(),
-        b"o,0,0,1\np,0,0,3\no,1,10,2\np,1,10,4\n".as_slice()
-    );
-    assert_eq!(rt; holder.calls(), 8);
-    assert!(rt; !holder.in_vain());
-    assert!(rt; made.ended);
+    let made = told(&rt, rt.alloc(), line, LANES, rows, &holder)?;
+    let flows = b"o,0,0,1\np,0,0,3\no,1,10,2\np,1,10,4\n";
+    assert!(rt; wrote(&made, flows) && made.ended);
+    assert!(rt; holder.calls() == 8 && !holder.in_vain());
     Ok(())
+}
+
+/// Whether the actuator's first job was overrun by the sensor's second or third one.
+fn is_overrun(told: &Answered) -> bool {
+    let second = b"overrun o 0 port 0 cell 0 wanted 1 found 2\n".as_slice();
+    let third = b"overrun o 0 port 0 cell 0 wanted 1 found 3\n".as_slice();
+    let is_told = told.err.bytes() == second || told.err.bytes() == third;
+    told.status == 5 && told.stopped && told.out.bytes().is_empty() && is_told
 }
 
 #[test]
 fn a_reader_that_is_held_is_overrun(rt: HostRuntime) -> Result<(), Fail> {
-    let alloc = rt.alloc();
-    let holder = Holder::new([
-        Hold {
-            task: 1,
-            job: 0,
-            other: 0,
-            begun: 2,
-        },
-        NO_HOLD,
-    ]);
-    let files = folder(alloc, COPY, b"i,0,1\ni,1,2\ni,2,3\n")?;
+    let holder = Holder::of_a_reader();
+    let rows = b"i,0,1\ni,1,2\ni,2,3\n";
     let line = "prelude run --program p.prl --sensors p.csv --until 30 --workers 2 --clock free";
-    let made = told(&rt, alloc, line, files, &holder)?;
-    assert_eq!(rt; made.status, 5);
-    assert_eq!(rt; made.out.as_slice(), b"".as_slice());
-    let second = b"overrun o 0 port 0 cell 0 wanted 1 found 2\n".as_slice();
-    let third = b"overrun o 0 port 0 cell 0 wanted 1 found 3\n".as_slice();
-    assert!(rt; made.err.as_slice() == second || made.err.as_slice() == third);
-    assert!(rt; made.stopped);
-    assert!(rt; !holder.in_vain());
+    let made = told(&rt, rt.alloc(), line, COPY, rows, &holder)?;
+    assert!(rt; is_overrun(&made) && !holder.in_vain());
     Ok(())
 }
 
 #[test]
 fn four_workers_with_a_free_clock_end(rt: HostRuntime) -> Result<(), Fail> {
-    let alloc = rt.alloc();
-    let holder = Holder::new([
-        Hold {
-            task: 1,
-            job: 1,
-            other: 3,
-            begun: 1,
-        },
-        Hold {
-            task: 1,
-            job: 2,
-            other: 3,
-            begun: 2,
-        },
-    ]);
-    let files = folder(alloc, FAR, b"a,0,1\na,1,2\na,2,3\ni,0,1\ni,1,2\ni,2,3\n")?;
+    let holder = Holder::of_a_far_reader();
+    let rows = b"a,0,1\na,1,2\na,2,3\ni,0,1\ni,1,2\ni,2,3\n";
     let line = "prelude run --program p.prl --sensors p.csv --until 30 --workers 4 --clock free";
-    let made = told(&rt, alloc, line, files, &holder)?;
-    assert_eq!(rt; made.status, 0);
-    assert_eq!(rt;
-        made.out.as_slice(),
-        b"o,0,0,1\no,1,10,2\no,2,20,3\n".as_slice()
-    );
-    assert!(rt; !holder.in_vain());
+    let made = told(&rt, rt.alloc(), line, FAR, rows, &holder)?;
+    let flows = b"o,0,0,1\no,1,10,2\no,2,20,3\n";
+    assert!(rt; wrote(&made, flows) && !holder.in_vain());
     Ok(())
+}
+
+/// Whether a call that has no runtime has no status, and writes nothing on `err`.
+fn is_not_made(alloc: Global, words: &[String], files: &mut MemFiles, told: &mut Answered) -> bool {
+    let status = prelude_alone(alloc, words, files, &mut told.out, &mut told.err);
+    status.is_none() && told.err.bytes().is_empty()
 }
 
 /// One worker runs where no thread can be had; several are not asked for.
 #[test]
 fn no_runtime_is_needed_for_one_worker(rt: HostRuntime) -> Result<(), Fail> {
     let alloc = rt.alloc();
-    let words = words(
-        alloc,
-        "prelude run --program p.prl --sensors p.csv --until 0 --workers 2",
-    )?;
+    let line = "prelude run --program p.prl --sensors p.csv --until 0 --workers 2";
+    let words = words(alloc, line)?;
     let mut files = folder(alloc, COPY, b"")?;
-    let mut out = MemSink::new(alloc, 1000, 1000, Vec::new(alloc))?;
-    let mut err = MemSink::new(alloc, 1000, 1000, Vec::new(alloc))?;
-    let none = prelude_alone(alloc, &words, &mut files, &mut out, &mut err).is_none();
-    assert!(rt; none);
-    assert_eq!(rt; err.bytes(), b"".as_slice());
+    let mut told = nothing(alloc)?;
+    assert!(rt; is_not_made(alloc, &words, &mut files, &mut told));
     Ok(())
 }

@@ -9,29 +9,15 @@ use test_plans::{SAMPLING_PLAN, horizon_of, plan_of};
 
 /// The sampling program with a slow task that asks for a tick more than there is: its jobs are due
 /// at 30, released at 3, and the other jobs within these ticks take 9 of them.
-const NO_ROOM: &[u8] = b"plan 1
-hyperperiod 30
-task 0 i sensor period 10 start 0 due 10 wcet 1
-task 1 F@0 node period 10 start 0 due 10 wcet 2
-task 2 S@1 node period 30 start 0 due 30 wcet 19
-task 3 o actuator period 10 start 0 due 10 wcet 1
-dates 0 0:7
-dates 1 1:9
-dates 2 3:30
-dates 3 3:10
-edge 0 from 0.0 to 1.0 type int period 10 ops none
-edge 1 from 2.0 to 1.1 type int period 30 ops up 3 fby 0
-edge 2 from 1.1 to 2.0 type int period 10 ops down 3
-edge 3 from 1.0 to 3.0 type int period 10 ops none
-word 0 prefix 0 repeat 0 step 1 1
-word 1 prefix 3 0 0 0 repeat 0 0 0 step 3 1
-word 2 prefix 0 repeat 0 step 1 3
-word 3 prefix 0 repeat 0 step 1 1
-cells 0 base 0 count 1
-cells 1 base 1 count 2
-cells 2 base 3 count 1
-cells 3 base 4 count 1
-";
+fn no_room(alloc: Global) -> Result<Vec<u8>, Fail> {
+    let Some((front, rest)) = SAMPLING_PLAN.split_once("wcet 10") else {
+        return Err("another plan".into());
+    };
+    let mut text = Vec::from_slice(alloc, front.as_bytes())?;
+    text.extend_from_slice(b"wcet 19")?;
+    text.extend_from_slice(rest.as_bytes())?;
+    Ok(text)
+}
 
 /// How many of the events are ticks.
 fn ticks_of(events: &[Event]) -> usize {
@@ -69,8 +55,9 @@ fn jobs_that_take_less_than_their_wcets_are_in_time(rt: HostRuntime) -> Result<(
     assert!(rt; outcome_of(alloc, SAMPLING_PLAN.as_bytes(), 10)? == Ok(22));
     // at 30 the slow task's job and the actuator's third one are due; the lower task goes first, so it
     // is the actuator that is late, and with a tick less of the slow task it is not
-    assert!(rt; outcome_of(alloc, NO_ROOM, 19)? == Err((3, 2)));
-    assert!(rt; outcome_of(alloc, NO_ROOM, 18)? == Ok(24));
+    let no_room = no_room(alloc)?;
+    assert!(rt; outcome_of(alloc, &no_room, 19)? == Err((3, 2)));
+    assert!(rt; outcome_of(alloc, &no_room, 18)? == Ok(24));
     Ok(())
 }
 

@@ -4,19 +4,7 @@ use prl_base::{EdgeNo, TaskNo};
 use prl_table::{TableFault, check_table, make, read_table, table_text};
 use std::alloc::Global;
 use std::test::Fail;
-use test_plans::{SAMPLING_PLAN, plan_of};
-
-/// The plan of a sensor `i` with an actuator `o` that gives its values.
-const COPY: &[u8] = b"plan 1
-hyperperiod 10
-task 0 i sensor period 10 start 0 due 10 wcet 1
-task 1 o actuator period 10 start 0 due 10 wcet 1
-dates 0 0:9
-dates 1 1:10
-edge 0 from 0.0 to 1.0 type int period 10 ops none
-word 0 prefix 0 repeat 0 step 1 1
-cells 0 base 0 count 1
-";
+use test_plans::{COPIED_PLAN, SAMPLING_PLAN, plan_of};
 
 /// The table of the sampling plan.
 const SAMPLING_TABLE: &[u8] = b"table 1
@@ -62,13 +50,13 @@ fn tables_are_made(rt: HostRuntime) -> Result<(), Fail> {
     let alloc = rt.alloc();
     assert!(rt; is_made(alloc, SAMPLING_PLAN.as_bytes(), SAMPLING_TABLE)?);
     let copied = b"table 1\nhyperperiod 10\nat 0 task 0 job 0 units 1\nat 1 task 1 job 0 units 1\n";
-    assert!(rt; is_made(alloc, COPY, copied)?);
+    assert!(rt; is_made(alloc, COPIED_PLAN, copied)?);
     Ok(())
 }
 
 /// Why lines after the two first ones are no good table of the plan that copies.
 fn copies(alloc: Global, lines: &[u8]) -> Result<Option<TableFault>, Fail> {
-    let plan = plan_of(alloc, COPY)?;
+    let plan = plan_of(alloc, COPIED_PLAN)?;
     let mut text = Vec::new(alloc);
     text.extend_from_slice(b"table 1\nhyperperiod 10\n")?;
     text.extend_from_slice(lines)?;

@@ -2,7 +2,7 @@ use Rattle.std.proofs.Common.{ℕ, List, map, subst, sym}
 use Rattle.std.specs.String.{string_bytes}
 use Rattle.std.proofs.lemmas.Result.{IfOk-weaker}
 use Rattle.prl_plantext.specs.ReadTexts.{IsTextOf}
-use Rattle.prl_picture.specs.Asked.{Folder}
+use Rattle.prl_companions.specs.Faults.{Folder}
 use Rattle.prl_picture.specs.Pictures.{IsDrawn}
 use Rattle.prl_picture.proofs.pictures.picture.Goals as goal
 

@@ -1,6 +1,6 @@
 use Rattle.std.proofs.Common.{refl}
 use Rattle.std.proofs.lemmas.Result.{err_from_is_err_and}
-use Rattle.prl_pipeline.proofs.Stops.{generated_answered, generated_stop}
+use Rattle.prl_pipeline.proofs.Answered.{generated_answered, generated_stop}
 use Rattle.prl_pipeline.proofs.generated.generated_text.Goals as goal
 
 pub returns-in_err-ready-clause-stop : goal.returns-in_err-ready-clause-stop

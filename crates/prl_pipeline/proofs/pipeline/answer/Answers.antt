@@ -1,7 +1,7 @@
 use Rattle.prl_stages.specs.Given.{Folder}
 use Rattle.std.proofs.Common.{Option}
 use Rattle.prl_pipeline.specs.Answers.{IsAnswer}
-use Rattle.prl_pipeline.proofs.Stops.{ok_map}
+use Rattle.prl_calls.proofs.Stops.{ok_map}
 use Rattle.prl_pipeline.proofs.pipeline.answer.Goals as goal
 
 pub returns-then-eq-clause-text : goal.returns-then-eq-clause-text

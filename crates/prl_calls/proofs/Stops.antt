@@ -1,0 +1,93 @@
+-- Stops of stages and of lists of stages.
+use Rattle.std.proofs.Common.{◌≡◌, ◌≢◌, ◌++◌, ℕ, List, [], ◌∷◌, Option, Some, None, Result, Ok, Err, refl, sym, ap, inl, inr, subst}
+use Rattle.std.specs.Prelude.{IfOk, IfErr}
+use Rattle.prl_ast.specs.Trees.{ProgramTree}
+use Rattle.prl_body.specs.declared.faults.BodyFault.{BodyFault}
+use Rattle.prl_body.specs.declared.faults.BodyFault.TheVariants as body_faults
+use Rattle.prl_stages.specs.declared.faults.InputFile.{InputFile}
+use Rattle.prl_stages.specs.declared.faults.InputFile.TheVariants as parts
+use Rattle.prl_stages.specs.declared.faults.BodiesRefusal.TheVariants as bad_bodies
+use Rattle.prl_stages.specs.declared.faults.Fault.{Fault}
+use Rattle.prl_stages.specs.declared.stages.Stage.{Stage}
+use Rattle.prl_stages.specs.declared.stages.Stage.TheVariants as stages
+use Rattle.prl_stages.specs.declared.stages.Stop.{Stop}
+use Rattle.prl_stages.specs.declared.stages.Stop.TheVariants as stops
+use Rattle.prl_stages.specs.Given.{Given, text_of}
+use Rattle.prl_stages.specs.Parts.{IsMain, RefusesBodies}
+use Rattle.prl_stages.specs.PlansAlone.{IsNoPlan}
+use Rattle.prl_stages.specs.Stages.{Comes, front, graphed, planned}
+use Rattle.prl_calls.specs.Stops.{StopsAt, StopsIn, AllHold}
+use Rattle.prl_stages.specs.Told.{stop_of, told_body}
+
+-- bodies refuse
+pub bodies_stop : (g : Given) (p : ProgramTree) (main : ℕ) (fault : BodyFault) (stop : Stop) → IsMain g p main
+    → (fault ≢ body_faults.Memory → RefusesBodies p main (text_of g parts.Bodies) fault)
+    → stop ≡ stop_of stages.Bodies (told_body fault) → StopsAt g stages.Bodies stop
+bodies_stop g p main (body_faults.Syntax at) stop h e is = subst (StopsAt g stages.Bodies) (sym is) (refl, (p, main, h, bad_bodies.Syntax at, e (λ k. cc), refl))
+bodies_stop g p main (body_faults.Limit limit) stop h e is = subst (StopsAt g stages.Bodies) (sym is) (refl, (p, main, h, bad_bodies.Limit limit, e (λ k. cc), refl))
+bodies_stop g p main (body_faults.BodyName at) stop h e is = subst (StopsAt g stages.Bodies) (sym is) (refl, (p, main, h, bad_bodies.BodyName at, e (λ k. cc), refl))
+bodies_stop g p main (body_faults.BodyType at) stop h e is = subst (StopsAt g stages.Bodies) (sym is) (refl, (p, main, h, bad_bodies.BodyType at, e (λ k. cc), refl))
+bodies_stop g p main (body_faults.BodyArity at) stop h e is = subst (StopsAt g stages.Bodies) (sym is) (refl, (p, main, h, bad_bodies.BodyArity at, e (λ k. cc), refl))
+bodies_stop g p main (body_faults.Missing name) stop h e is = subst (StopsAt g stages.Bodies) (sym is) (refl, (p, main, h, bad_bodies.Missing name, e (λ k. cc), refl))
+bodies_stop g p main body_faults.Memory stop h e is = subst (StopsAt g stages.Bodies) (sym is) tt
+
+-- a stop of a list is a refusal of it
+pub stops_comes : (g : Given) (list : List Stage) (stage : Stage) (fault : Fault) → StopsIn g list (stops.Refused stage fault) → Comes g list (Some (stage, fault))
+stops_comes g [] stage fault h = absurd h
+stops_comes g (s ∷ rest) stage fault h = elim h [
+  | inl k ↦ inr (fault, k.1, ap (λ (x : Stage). Some (x, fault)) k.0)
+  | inr k ↦ inl (k.0, stops_comes g rest stage fault k.1)
+]
+
+-- no stage of a list is a failed reading
+pub stops_unread : (g : Given) (list : List Stage) (part : InputFile) → StopsIn g list (stops.Unread part) → ⊥
+stops_unread g [] part h = h
+stops_unread g (s ∷ rest) part h = elim h [ inl k ↦ k | inr k ↦ stops_unread g rest part k.1 ]
+
+-- a stop of the stages of a plan says why there is none
+pub stops_no_plan : (g : Given) (stop : Stop) → StopsIn g (front ++ graphed ++ planned) stop → IsNoPlan g stop
+stops_no_plan g (stops.Unread part) h = absurd (stops_unread g (front ++ graphed ++ planned) part h)
+stops_no_plan g (stops.Refused stage fault) h = stops_comes g (front ++ graphed ++ planned) stage fault h
+stops_no_plan g stops.Memory h = tt
+
+-- a stop of the first of two lists, or of the second after all of the first hold, is one of both
+pub stops_first : (g : Given) (first rest : List Stage) (stop : Stop) → StopsIn g first stop → StopsIn g (first ++ rest) stop
+stops_first g [] rest stop h = absurd h
+stops_first g (s ∷ first) rest stop h = elim h [ inl k ↦ inl k | inr k ↦ inr (k.0, stops_first g first rest stop k.1) ]
+
+pub stops_rest : (g : Given) (first rest : List Stage) (stop : Stop) → AllHold g first → StopsIn g rest stop → StopsIn g (first ++ rest) stop
+stops_rest g [] rest stop h k = k
+stops_rest g (s ∷ first) rest stop h k = inr (h.0, stops_rest g first rest stop h.1 k)
+
+pub both_hold : (g : Given) (first rest : List Stage) → AllHold g first → AllHold g rest → AllHold g (first ++ rest)
+both_hold g [] rest h k = k
+both_hold g (s ∷ first) rest h k = (h.0, both_hold g first rest h.1 k)
+
+pub hold_comes : (g : Given) (list : List Stage) → AllHold g list → Comes g list None
+hold_comes g [] h = refl
+hold_comes g (s ∷ rest) h = inl (h.0, hold_comes g rest h.1)
+
+-- lists one after another
+pub after_holds : (g : Given) (first rest : List Stage) (end : Option (Stage × Fault)) → AllHold g first → Comes g rest end → Comes g (first ++ rest) end
+after_holds g [] rest end h k = k
+after_holds g (s ∷ first) rest end h k = inl (h.0, after_holds g first rest end h.1 k)
+
+none_some : (e : Stage × Fault) → Some e ≡ None → ⊥
+none_some e h = cc
+
+pub first_refused : (g : Given) (first rest : List Stage) (e : Stage × Fault) → Comes g first (Some e) → Comes g (first ++ rest) (Some e)
+first_refused g [] rest e h = absurd (none_some e h)
+first_refused g (s ∷ first) rest e h = elim h [ inl k ↦ inl (k.0, first_refused g first rest e k.1) | inr k ↦ inr k ]
+
+-- what holds of results
+pub ok_map : {X F : Type 0} (r : Result X F) (P Q : X → Type 0) → ((x : X) → P x → Q x) → IfOk r P → IfOk r Q
+ok_map (Ok x) P Q f h = f x h
+ok_map (Err e) P Q f h = tt
+
+pub ok_both : {X F : Type 0} (r : Result X F) (P Q R : X → Type 0) → ((x : X) → P x → Q x → R x) → IfOk r P → IfOk r Q → IfOk r R
+ok_both (Ok x) P Q R f h k = f x h k
+ok_both (Err e) P Q R f h k = tt
+
+pub err_map : {X F : Type 0} (r : Result X F) (P Q : F → Type 0) → ((e : F) → P e → Q e) → IfErr r P → IfErr r Q
+err_map (Ok x) P Q f h = tt
+err_map (Err e) P Q f h = f e h

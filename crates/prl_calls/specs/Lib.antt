@@ -1,0 +1,2 @@
+-- What the stages are asked about, and what their stops say.
+pub mod Stops

@@ -1,0 +1,176 @@
+//! The stages that several modes have in common, one after another: up to the clocks of the flows, to the task graph with its words,
+//! and to the plan.
+
+ghost use Rattle.std.specs.Prelude.{◌≡◌, ◌≤◌, ◌++◌, IfOk, IfErr, [], ◌∷◌, length};
+ghost use Rattle.prl_ast.specs.Trees.{program_tree};
+ghost use Rattle.prl_expand.specs.Expanding.{IsExpanded};
+ghost use Rattle.prl_flow.specs.Uses.{IsOrder};
+ghost use Rattle.prl_graph.specs.TaskGraphs.{IsGraphOf};
+ghost use Rattle.prl_types.specs.Typing.{IsTyped};
+ghost use Rattle.prl_stages.specs.Flattened.{HasClocks};
+ghost use Rattle.prl_stages.specs.Parts.{IsMain, IsProgram};
+ghost use Rattle.prl_stages.specs.Planned.{HasPlan, HasWords};
+ghost use Rattle.prl_stages.specs.Stages.{front, graphed, named_bodies, planned, stages_after};
+ghost use Rattle.prl_calls.specs.Stops.{given_of, AllHold, StopsIn};
+
+use crate::flattened::{clocked, flattened, ordered};
+use crate::planned::{make_dates, make_graph, make_plan, make_words};
+use crate::programs::{check_types, read_bodies, read_program};
+use crate::reading::Request;
+use prl_arguments::Mode;
+use prl_ast::Program;
+use prl_flow::{Clocks, Flat, Order};
+use prl_plan::{Plan, TaskGraph, Words};
+use prl_stages::{MAX_BODIES, MAX_PROGRAM, Stage, Stop};
+use prl_types::Typed;
+use std::alloc::Global;
+
+/// The flat program with an order of its flows and their clocks.
+pub fn flat_of(
+    alloc: Global,
+    request: &Request,
+    typed: &Typed<'_>,
+) -> Result<(Flat, Order, Clocks), Stop>
+    requires program { IsProgram (given_of request.now) (program_tree typed.now.program) }
+    requires typed { IsTyped (program_tree typed.now.program) (given_of request.now).node typed.now.main typed.now.types }
+    ensures expanded { IfOk result (λ f. IsExpanded (program_tree typed.now.program) typed.now.main typed.now.types f.0) }
+    ensures order { IfOk result (λ f. IsOrder f.0 f.1.flows) }
+    ensures clocks { IfOk result (λ f. HasClocks (given_of request.now) f.0 f.2.of) }
+    ensures holds { IfOk result (λ _. AllHold (given_of request.now) (Stage.Expansion ∷ Stage.Causality ∷ Stage.Clocks ∷ [])) }
+    ensures stop { IfErr result (StopsIn (given_of request.now) (Stage.Expansion ∷ Stage.Causality ∷ Stage.Clocks ∷ [])) }
+{
+    let flat = flattened(alloc, request, typed)?;
+    let order = ordered(alloc, request, &flat)?;
+    let clocks = clocked(alloc, request, &flat)?;
+    Ok((flat, order, clocks))
+}
+
+/// A program with its main node, its flat program and the clocks of its flows.
+#[derive(Drop)]
+struct Front {
+    program: Program,
+    main: u32,
+    flat: Flat,
+    clocks: Clocks,
+}
+
+/// The main node, the flat program and the clocks of its flows.
+fn clocks_of(
+    alloc: Global,
+    request: &Request,
+    program: &Program,
+) -> Result<(u32, Flat, Clocks), Stop>
+    requires { IsProgram (given_of request.now) (program_tree program.now) }
+    ensures main { IfOk result (λ f. IsMain (given_of request.now) (program_tree program.now) f.0) }
+    ensures clocks { IfOk result (λ f. HasClocks (given_of request.now) f.1 f.2.of) }
+    ensures holds { IfOk result (λ _. AllHold (given_of request.now) front) }
+    ensures stop { IfErr result (StopsIn (given_of request.now) front) }
+{
+    let typed = check_types(alloc, request, program)?;
+    let made = flat_of(alloc, request, &typed)?;
+    let (flat, _order, clocks) = made;
+    Ok((typed.main(), flat, clocks))
+}
+
+/// What the modes that plan a program have in common first.
+fn read_front(alloc: Global, request: &Request) -> Result<Front, Stop>
+    requires program { length request.now.texts.program.items ≤ MAX_PROGRAM }
+    ensures main { IfOk result (λ f. IsMain (given_of request.now) (program_tree f.program) f.main) }
+    ensures clocks { IfOk result (λ f. HasClocks (given_of request.now) f.flat f.clocks.of) }
+    ensures holds { IfOk result (λ _. AllHold (given_of request.now) front) }
+    ensures stop { IfErr result (StopsIn (given_of request.now) front) }
+{
+    let program = read_program(alloc, request)?;
+    let (main, flat, clocks) = clocks_of(alloc, request, &program)?;
+    Ok(Front {
+        program,
+        main,
+        flat,
+        clocks,
+    })
+}
+
+/// The task graph with its words.
+pub fn make_graphed(
+    alloc: Global,
+    request: &Request,
+    flat: &Flat,
+    clocks: &Clocks,
+) -> Result<(TaskGraph, Words), Stop>
+    requires { HasClocks (given_of request.now) flat.now clocks.now.of }
+    ensures graph { IfOk result (λ made. IsGraphOf flat.now clocks.now.of made.0) }
+    ensures found { IfOk result (λ made. HasWords (given_of request.now) made.0 made.1.of) }
+    ensures holds { IfOk result (λ _. AllHold (given_of request.now) graphed) }
+    ensures stop { IfErr result (StopsIn (given_of request.now) graphed) }
+{
+    let graph = make_graph(alloc, request, flat, clocks)?;
+    let words = make_words(alloc, request, &graph)?;
+    Ok((graph, words))
+}
+
+/// The same, with the task graph and its words.
+fn read_graphed(alloc: Global, request: &Request) -> Result<(Front, (TaskGraph, Words)), Stop>
+    requires program { length request.now.texts.program.items ≤ MAX_PROGRAM }
+    ensures main { IfOk result (λ made. IsMain (given_of request.now) (program_tree made.0.program) made.0.main) }
+    ensures found { IfOk result (λ made. HasWords (given_of request.now) made.1.0 made.1.1.of) }
+    ensures holds { IfOk result (λ _. AllHold (given_of request.now) (front ++ graphed)) }
+    ensures stop { IfErr result (StopsIn (given_of request.now) (front ++ graphed)) }
+{
+    let front = read_front(alloc, request)?;
+    let made = make_graphed(alloc, request, &front.flat, &front.clocks)?;
+    Ok((front, made))
+}
+
+/// The plan of the task graph with its words.
+pub fn make_planned(
+    alloc: Global,
+    request: &Request,
+    made: (TaskGraph, Words),
+) -> Result<Plan, Stop>
+    requires { HasWords (given_of request.now) made.0 made.1.of }
+    ensures graph { IfOk result (λ plan. plan.graph ≡ made.0) }
+    ensures found { IfOk result (HasPlan (given_of request.now)) }
+    ensures holds { IfOk result (λ _. AllHold (given_of request.now) planned) }
+    ensures stop { IfErr result (StopsIn (given_of request.now) planned) }
+{
+    let (graph, words) = made;
+    let dates = make_dates(alloc, request, &graph)?;
+    make_plan(alloc, request, graph, words, dates)
+}
+
+/// The plan of the program.
+pub fn planned_program(alloc: Global, request: &Request) -> Result<Plan, Stop>
+    requires program { length request.now.texts.program.items ≤ MAX_PROGRAM }
+    ensures found { IfOk result (HasPlan (given_of request.now)) }
+    ensures holds { IfOk result (λ _. AllHold (given_of request.now) (front ++ graphed ++ planned)) }
+    ensures stop { IfErr result (StopsIn (given_of request.now) (front ++ graphed ++ planned)) }
+{
+    let made = read_graphed(alloc, request)?;
+    make_planned(alloc, request, made.1)
+}
+
+/// Looks at the bodies, where their file is named.
+fn check_named_bodies(alloc: Global, request: &Request, front: &Front) -> Result<(), Stop>
+    requires main { IsMain (given_of request.now) (program_tree front.now.program) front.now.main }
+    requires bodies { length request.now.texts.bodies.items ≤ MAX_BODIES }
+    ensures holds { IfOk result (λ _. AllHold (given_of request.now) (named_bodies request.now.named)) }
+    ensures stop { IfErr result (StopsIn (given_of request.now) (named_bodies request.now.named)) }
+{
+    if request.named {
+        read_bodies(alloc, request, &front.program, front.main)?;
+    }
+    Ok(())
+}
+
+/// The plan of the program, whose bodies are looked at where their file is named.
+pub fn checked_plan(alloc: Global, request: &Request) -> Result<Plan, Stop>
+    requires program { length request.now.texts.program.items ≤ MAX_PROGRAM }
+    requires bodies { length request.now.texts.bodies.items ≤ MAX_BODIES }
+    ensures found { IfOk result (HasPlan (given_of request.now)) }
+    ensures holds { IfOk result (λ _. AllHold (given_of request.now) (stages_after Mode.Check request.now.named)) }
+    ensures stop { IfErr result (StopsIn (given_of request.now) (stages_after Mode.Check request.now.named)) }
+{
+    let made = read_graphed(alloc, request)?;
+    check_named_bodies(alloc, request, &made.0)?;
+    make_planned(alloc, request, made.1)
+}

@@ -1,0 +1,117 @@
+//! The files of a command, which are read first.
+
+ghost use Rattle.std.specs.Prelude.{◌≡◌, ◌≤◌, Ok, IfOk, IfErr, is_some, length};
+ghost use Rattle.prl_stages.specs.Given.{IsContent, IsGiven, most_of};
+ghost use Rattle.prl_calls.specs.Stops.{texts_give, IsRequestOf, IsFileStop, IsStopOfFiles};
+
+use prl_arguments::Command;
+use prl_base::Label;
+use prl_io::{FileFault, Files};
+use prl_stages::{Fault, InputFile, MAX_BODIES, MAX_PROGRAM, Stage, Stop, most_of};
+use std::alloc::{AllocError, Global};
+
+/// The bytes of the files of a command: none where no file is named.
+#[derive(Drop)]
+pub struct Texts {
+    pub program: Vec<u8>,
+    pub bodies: Vec<u8>,
+    pub sensors: Vec<u8>,
+    pub schedule: Vec<u8>,
+    pub table: Vec<u8>,
+    pub cores: Vec<u8>,
+}
+
+/// What the stages of a command are asked about: the texts of its files, whether one of bodies and whether a schedule is named, the
+/// name of the node that is to be main, or none where it is the last one, and the date up to which it runs, in ticks.
+#[derive(Drop)]
+pub struct Request {
+    pub texts: Texts,
+    pub named: bool,
+    pub listed: bool,
+    pub node: Option<Label>,
+    pub until: u32,
+}
+
+/// What a file gives: nothing where none is named.
+fn read_part<F: Files>(
+    alloc: Global,
+    files: &mut F,
+    part: InputFile,
+    name: &Option<Label>,
+) -> Result<Vec<u8>, Stop>
+    ensures content { IfOk result (λ bytes. IsContent (F.seen files.old).folder part name.now (Ok bytes.items)) }
+    ensures few { IfOk result (λ bytes. length bytes.items ≤ most_of part) }
+    ensures failed { IfOk result (λ _. (F.seen files.new).failed ≡ (F.seen files.old).failed) }
+    ensures stop { IfErr result (IsFileStop (F.seen files.old) (F.seen files.new) part name.now) }
+    ensures kept { (F.seen files.new).folder ≡ (F.seen files.old).folder }
+{
+    let Some(name) = name else {
+        return Ok(Vec::new(alloc));
+    };
+    match files.read(alloc, name, most_of(part)) {
+        Ok(bytes) => Ok(bytes),
+        Err(FileFault::Absent) => Err(Stop::Refused(Stage::File(part), Fault::Absent(part))),
+        Err(FileFault::TooLong) => Err(Stop::Refused(Stage::File(part), Fault::TooLong(part))),
+        Err(FileFault::Failed) => Err(Stop::Unread(part)),
+        Err(FileFault::Memory) => Err(Stop::Memory),
+    }
+}
+
+/// The bytes of the files that the command names, read in the order of `Texts`.
+fn read_texts<F: Files>(alloc: Global, files: &mut F, command: &Command) -> Result<Texts, Stop>
+    ensures given { IfOk result (λ texts. IsGiven (F.seen files.old).folder command.now (texts_give texts (is_some command.now.schedule) command.now.node command.now.until)) }
+    ensures program { IfOk result (λ texts. length texts.program.items ≤ MAX_PROGRAM) }
+    ensures bodies { IfOk result (λ texts. length texts.bodies.items ≤ MAX_BODIES) }
+    ensures stop { IfErr result (IsStopOfFiles (F.seen files.old) (F.seen files.new) command.now) }
+    ensures failed { IfOk result (λ _. (F.seen files.new).failed ≡ (F.seen files.old).failed) }
+    ensures kept { (F.seen files.new).folder ≡ (F.seen files.old).folder }
+{
+    let program = read_part(alloc, files, InputFile::Program, &command.program)?;
+    let bodies = read_part(alloc, files, InputFile::Bodies, &command.bodies)?;
+    let sensors = read_part(alloc, files, InputFile::Sensors, &command.sensors)?;
+    let schedule = read_part(alloc, files, InputFile::Schedule, &command.schedule)?;
+    let table = read_part(alloc, files, InputFile::Table, &command.table)?;
+    let cores = read_part(alloc, files, InputFile::Cores, &command.cores)?;
+    Ok(Texts {
+        program,
+        bodies,
+        sensors,
+        schedule,
+        table,
+        cores,
+    })
+}
+
+/// The name again, where there is one.
+fn copied(alloc: Global, name: &Option<Label>) -> Result<Option<Label>, AllocError>
+    ensures { IfOk result (λ copy. copy ≡ name.now) }
+{
+    match name {
+        Some(label) => Ok(Some(Label::new(alloc, label.bytes())?)),
+        None => Ok(None),
+    }
+}
+
+/// What the stages of a command are asked about: its files are read.
+pub fn read_request<F: Files>(
+    alloc: Global,
+    files: &mut F,
+    command: &Command,
+) -> Result<Request, Stop>
+    ensures request { IfOk result (IsRequestOf (F.seen files.old).folder command.now) }
+    ensures program { IfOk result (λ request. length request.texts.program.items ≤ MAX_PROGRAM) }
+    ensures bodies { IfOk result (λ request. length request.texts.bodies.items ≤ MAX_BODIES) }
+    ensures stop { IfErr result (IsStopOfFiles (F.seen files.old) (F.seen files.new) command.now) }
+    ensures failed { IfOk result (λ _. (F.seen files.new).failed ≡ (F.seen files.old).failed) }
+    ensures kept { (F.seen files.new).folder ≡ (F.seen files.old).folder }
+{
+    let texts = read_texts(alloc, files, command)?;
+    let node = copied(alloc, &command.node)?;
+    Ok(Request {
+        texts,
+        named: command.bodies.is_some(),
+        listed: command.schedule.is_some(),
+        node,
+        until: command.until,
+    })
+}

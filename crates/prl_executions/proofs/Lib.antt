@@ -1,0 +1,4 @@
+mod Schedules
+mod Preparing
+mod TableFaults
+mod Summaries

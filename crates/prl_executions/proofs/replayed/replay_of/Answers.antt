@@ -1,0 +1,87 @@
+use Rattle.std.proofs.Common.{◌≡◌, ◌≢◌, ◌∙◌, ℕ, List, length, Some, None, Ok, refl, sym, ap, subst, arith}
+use Rattle.prl_plan.specs.declared.graphs.TaskGraph.{TaskGraph}
+use Rattle.prl_schedules.specs.Schedules.{schedule_of}
+use Rattle.prl_schedules.specs.ScheduleTexts.{task_names}
+use Rattle.prl_replay.specs.declared.faults.ReplayFault.TheVariants as causes
+use Rattle.prl_replay.specs.Replays.{IsReplayFault}
+use Rattle.prl_core.specs.Cores.{opened}
+use Rattle.prl_stages.specs.declared.faults.ScheduleRefusal.{ScheduleRefusal}
+use Rattle.prl_stages.specs.Replayed.{schedule_refusal}
+use Rattle.prl_calls.specs.Stops.{given_of}
+use Rattle.prl_executions.specs.code.Faults.{IsOfTask}
+use Rattle.prl_executions.proofs.Preparing.{has_horizon_there, horizon_there, replay_text_is}
+use Rattle.prl_executions.proofs.Schedules.{bare_fault, of_task}
+use Rattle.prl_executions.proofs.replayed.replay_of.Goals as goal
+
+none_some : (r : ScheduleRefusal) → None ≡ Some r → ⊥
+none_some r e = cc
+
+pub replay-requires-clause-horizon : goal.replay-requires-clause-horizon
+replay-requires-clause-horizon c = horizon_there (given_of c.args.request.now) c.args.ready.now c.requires
+
+pub replay-requires-clause-bodies : goal.replay-requires-clause-bodies
+replay-requires-clause-bodies c = c.requires.serve
+
+pub replay-requires-clause-rows : goal.replay-requires-clause-rows
+replay-requires-clause-rows c = c.requires.rows
+
+pub trace_text-requires-clause-reads : goal.trace_text-requires-clause-reads
+trace_text-requires-clause-reads c = c.in-Ok.ensures.reads
+
+pub trace_text-requires-clause-outputs : goal.trace_text-requires-clause-outputs
+trace_text-requires-clause-outputs c =
+    let is = horizon_there (given_of c.args.request.now) c.args.ready.now c.requires in
+    let small = is.until in
+    (c.args.ready.now.horizon.until, omega (arith, small), c.in-Ok.ensures.outputs)
+
+pub schedule_refusal-requires : goal.schedule_refusal-requires
+schedule_refusal-requires c =
+    let r = c.args.ready.now in
+    subst (λ (graph : TaskGraph). IsOfTask (length graph.tasks) c.in-Err.fault) (sym c.graph.ensures.graph)
+    (of_task r.plan r.horizon r.bodies r.sensors c.deref.result.now c.in-Err.fault c.in-Err.ensures.run)
+
+pub returns-in_ok-trace_text-in-Ok-clause-text : goal.returns-in_ok-trace_text-in-Ok-clause-text
+returns-in_ok-trace_text-in-Ok-clause-text c =
+    let r = c.args.ready.now in
+    let run = c.in-Ok.ensures.run in
+    let trace = c.in-Ok.trace in
+    let listed = subst (λ (text : List ℕ). schedule_of (task_names r.plan) text ≡ Ok run.0) c.deref.ensures.value run.1 in
+    replay_text_is (given_of c.args.request.now) r c.requires run.0 trace.reads trace.outputs c.in-Ok.ensures.outputs _
+    (c.in_ok-trace_text-in-Ok.ensures r.horizon.until c.in-Ok.ensures.outputs) listed run.2
+
+pub returns-in_ok-trace_text-in-Ok-clause-holds : goal.returns-in_ok-trace_text-in-Ok-clause-holds
+returns-in_ok-trace_text-in-Ok-clause-holds c =
+    let r = c.args.ready.now in
+    let run = c.in-Ok.ensures.run in
+    let listed = subst (λ (text : List ℕ). schedule_of (task_names r.plan) text ≡ Ok run.0) c.deref.ensures.value run.1 in (
+      r.plan,
+      r.horizon,
+      record {
+        has_horizon = has_horizon_there (given_of c.args.request.now) r c.requires;
+        events = run.0;
+        listed = listed;
+        whole = record { legal = run.2.run.legal; complete = run.2.run.complete };
+      },
+    )
+
+pub returns-in-Some-clause-stop : goal.returns-in-Some-clause-stop
+returns-in-Some-clause-stop c =
+    let r = c.args.ready.now in
+    let fault = c.in-Err.fault in
+    let refusal = c.in-Some.refusal in
+    let told : schedule_refusal r.plan.graph fault ≡ Some refusal =
+    subst (λ (graph : TaskGraph). schedule_refusal graph fault ≡ Some refusal) c.graph.ensures.graph c.in-Some.ensures in
+    let some : fault ≢ causes.Memory = λ m. none_some refusal (sym (ap (schedule_refusal r.plan.graph) m) ∙ told) in
+    let cause = subst (λ (text : List ℕ). IsReplayFault (opened r.plan r.bodies r.sensors r.horizon) text fault) c.deref.ensures.value (c.in-Err.ensures.run some) in (
+      refl,
+      (
+        r.plan,
+        r.horizon,
+        has_horizon_there (given_of c.args.request.now) r c.requires,
+        fault,
+        bare_fault r.plan r.horizon r.bodies r.sensors c.args.request.now.texts.schedule.items fault cause,
+        refusal,
+        told,
+        refl,
+      ),
+    )

@@ -1,0 +1,179 @@
+//! What the modes that run tasks have in common: all stages up to the rows, and what a run needs.
+
+ghost use Rattle.std.specs.Prelude.{◌≡◌, ◌≤◌, ◌++◌, IfOk, IfErr, [], ◌∷◌, length, map};
+ghost use Rattle.prl_ast.specs.Trees.{program_tree};
+ghost use Rattle.prl_body.specs.Checks.{body_tree};
+ghost use Rattle.prl_body.specs.Used.{HaveBodiesOf};
+ghost use Rattle.prl_expand.specs.Expanding.{IsExpanded};
+ghost use Rattle.prl_flow.specs.Uses.{IsOrder};
+ghost use Rattle.prl_graph.specs.TaskGraphs.{IsGraphOf};
+ghost use Rattle.prl_names.specs.Uses.{used_imports};
+ghost use Rattle.prl_types.specs.Typing.{IsTyped};
+ghost use Rattle.prl_stages.specs.Flattened.{HasClocks};
+ghost use Rattle.prl_stages.specs.Parts.{AreBodies, IsMain};
+ghost use Rattle.prl_stages.specs.Planned.{HasWords};
+ghost use Rattle.prl_stages.specs.Runs.{HasRows};
+ghost use Rattle.prl_stages.specs.Scheduled.{HasHorizon};
+ghost use Rattle.prl_stages.specs.Stages.{front, graphed, planned, ran};
+ghost use Rattle.prl_calls.specs.Stops.{given_of, AllHold, StopsIn};
+ghost use Rattle.prl_executions.specs.Ready.{IsReady};
+
+use prl_behaviours::{behaviours_are_of_their_states, solutions_are_of_their_clocks};
+use prl_body::Bodies;
+use prl_calls::{
+    Request, Run, check_types, flat_of, make_graphed, make_horizon, make_planned, read_bodies,
+    read_program, run_with,
+};
+use prl_clock::clocks_are_unique;
+use prl_expand::{behaviours_are_solutions, expansions_have_bodies};
+use prl_flow::{Clocks, Flat, Order, Sensors};
+use prl_graph::{
+    bodies_and_rows_serve_tasks, ports_have_the_clock_of_their_task, solutions_give_job_values,
+};
+use prl_plan::{Horizon, Plan, TaskGraph, Words, plan_is_one};
+use prl_replay::actuators_get_the_outputs;
+use prl_sensors::rows_are_typed_and_enough;
+use prl_solutions::programs_have_one_solution;
+use prl_stages::{MAX_BODIES, MAX_PROGRAM, Stage, Stop};
+use prl_types::Typed;
+use prl_values::{job_values_are_one, job_values_exist};
+use std::alloc::Global;
+
+/// What a run of the tasks of a program needs: its plan with the horizon, the bodies, and the rows of the sensors.
+#[derive(Drop)]
+pub struct Ready {
+    pub plan: Plan,
+    pub bodies: Bodies,
+    pub sensors: Sensors,
+    pub horizon: Horizon,
+}
+
+/// What a run needs has come of the texts, and what it tells is of the one behaviour.
+fn program_is_ready(request: &Request, typed: &Typed<'_>, run: &Run, plan: &Plan, horizon: Horizon)
+    requires main { IsMain (given_of request.now) (program_tree typed.now.program) typed.now.main }
+    requires typed { IsTyped (program_tree typed.now.program) (given_of request.now).node typed.now.main typed.now.types }
+    requires expanded { IsExpanded (program_tree typed.now.program) typed.now.main typed.now.types run.now.flat }
+    requires order { IsOrder run.now.flat run.now.order.flows }
+    requires bodies { AreBodies (given_of request.now) (map body_tree run.now.bodies) }
+    requires have { HaveBodiesOf (program_tree typed.now.program).imports (used_imports (program_tree typed.now.program) typed.now.main) run.now.bodies }
+    requires rows { HasRows (given_of request.now) run.now.flat run.now.clocks.of run.now.sensors }
+    requires graph { IsGraphOf run.now.flat run.now.clocks.of plan.now.graph }
+    requires horizon { HasHorizon (given_of request.now) plan.now horizon }
+    ensures { IsReady (given_of request.now) (record { plan = plan.now; bodies = run.now.bodies; sensors = run.now.sensors; horizon = horizon }) }
+{
+    behaviours_are_solutions();
+    behaviours_are_of_their_states();
+    clocks_are_unique();
+    expansions_have_bodies();
+    programs_have_one_solution();
+    solutions_are_of_their_clocks();
+    rows_are_typed_and_enough();
+    bodies_and_rows_serve_tasks();
+    job_values_exist();
+    job_values_are_one();
+    solutions_give_job_values();
+    ports_have_the_clock_of_their_task();
+    actuators_get_the_outputs();
+    let _main = typed.main();
+    let _flows = run.flat.flows();
+    plan_is_one(plan);
+}
+
+/// The task graph with its words, and the bodies.
+fn graph_and_bodies(
+    alloc: Global,
+    request: &Request,
+    typed: &Typed<'_>,
+    flat: &Flat,
+    clocks: &Clocks,
+) -> Result<((TaskGraph, Words), Bodies), Stop>
+    requires bodies { length request.now.texts.bodies.items ≤ MAX_BODIES }
+    requires main { IsMain (given_of request.now) (program_tree typed.now.program) typed.now.main }
+    requires clocks { HasClocks (given_of request.now) flat.now clocks.now.of }
+    ensures graph { IfOk result (λ made. IsGraphOf flat.now clocks.now.of made.0.0) }
+    ensures found { IfOk result (λ made. HasWords (given_of request.now) made.0.0 made.0.1.of) }
+    ensures bodies { IfOk result (λ made. AreBodies (given_of request.now) (map body_tree made.1)) }
+    ensures have { IfOk result (λ made. HaveBodiesOf (program_tree typed.now.program).imports (used_imports (program_tree typed.now.program) typed.now.main) made.1) }
+    ensures holds { IfOk result (λ _. AllHold (given_of request.now) (graphed ++ (Stage.Bodies ∷ []))) }
+    ensures stop { IfErr result (StopsIn (given_of request.now) (graphed ++ (Stage.Bodies ∷ []))) }
+{
+    let made = make_graphed(alloc, request, flat, clocks)?;
+    let bodies = read_bodies(alloc, request, typed.program(), typed.main())?;
+    Ok((made, bodies))
+}
+
+/// The bodies, the plan and its horizon.
+fn plan_of_replay(
+    alloc: Global,
+    request: &Request,
+    typed: &Typed<'_>,
+    flat: &Flat,
+    clocks: &Clocks,
+) -> Result<(Bodies, Plan, Horizon), Stop>
+    requires bodies { length request.now.texts.bodies.items ≤ MAX_BODIES }
+    requires main { IsMain (given_of request.now) (program_tree typed.now.program) typed.now.main }
+    requires clocks { HasClocks (given_of request.now) flat.now clocks.now.of }
+    ensures bodies { IfOk result (λ made. AreBodies (given_of request.now) (map body_tree made.0)) }
+    ensures have { IfOk result (λ made. HaveBodiesOf (program_tree typed.now.program).imports (used_imports (program_tree typed.now.program) typed.now.main) made.0) }
+    ensures graph { IfOk result (λ made. IsGraphOf flat.now clocks.now.of made.1.graph) }
+    ensures horizon { IfOk result (λ made. HasHorizon (given_of request.now) made.1 made.2) }
+    ensures holds { IfOk result (λ _. AllHold (given_of request.now) (graphed ++ (Stage.Bodies ∷ []) ++ planned ++ (Stage.Horizon ∷ []))) }
+    ensures stop { IfErr result (StopsIn (given_of request.now) (graphed ++ (Stage.Bodies ∷ []) ++ planned ++ (Stage.Horizon ∷ []))) }
+{
+    let made = graph_and_bodies(alloc, request, typed, flat, clocks)?;
+    let (graphed, bodies) = made;
+    let plan = make_planned(alloc, request, graphed)?;
+    let horizon = make_horizon(request, &plan)?;
+    Ok((bodies, plan, horizon))
+}
+
+/// The bodies and the rows of what is evaluated.
+fn bodies_and_rows(run: Run) -> (Bodies, Sensors)
+    ensures { result ≡ (run.bodies, run.sensors) }
+{
+    (run.bodies, run.sensors)
+}
+
+/// What a run needs, after the clocks of the flows.
+fn ready_with(
+    alloc: Global,
+    request: &Request,
+    typed: &Typed<'_>,
+    front: (Flat, Order, Clocks),
+) -> Result<Ready, Stop>
+    requires bodies { length request.now.texts.bodies.items ≤ MAX_BODIES }
+    requires main { IsMain (given_of request.now) (program_tree typed.now.program) typed.now.main }
+    requires typed { IsTyped (program_tree typed.now.program) (given_of request.now).node typed.now.main typed.now.types }
+    requires expanded { IsExpanded (program_tree typed.now.program) typed.now.main typed.now.types front.0 }
+    requires order { IsOrder front.0 front.1.flows }
+    requires clocks { HasClocks (given_of request.now) front.0 front.2.of }
+    ensures ready { IfOk result (IsReady (given_of request.now)) }
+    ensures holds { IfOk result (λ _. AllHold (given_of request.now) ran) }
+    ensures stop { IfErr result (StopsIn (given_of request.now) ran) }
+{
+    let made = plan_of_replay(alloc, request, typed, &front.0, &front.2)?;
+    let (bodies, plan, horizon) = made;
+    let run = run_with(alloc, request, front, bodies)?;
+    program_is_ready(request, typed, &run, &plan, horizon);
+    let (bodies, sensors) = bodies_and_rows(run);
+    Ok(Ready {
+        plan,
+        bodies,
+        sensors,
+        horizon,
+    })
+}
+
+/// What a run needs: the stages of the modes that run tasks.
+pub fn make_ready(alloc: Global, request: &Request) -> Result<Ready, Stop>
+    requires program { length request.now.texts.program.items ≤ MAX_PROGRAM }
+    requires bodies { length request.now.texts.bodies.items ≤ MAX_BODIES }
+    ensures ready { IfOk result (IsReady (given_of request.now)) }
+    ensures holds { IfOk result (λ _. AllHold (given_of request.now) (front ++ ran)) }
+    ensures stop { IfErr result (StopsIn (given_of request.now) (front ++ ran)) }
+{
+    let program = read_program(alloc, request)?;
+    let typed = check_types(alloc, request, &program)?;
+    let front = flat_of(alloc, request, &typed)?;
+    ready_with(alloc, request, &typed, front)
+}

@@ -1,0 +1,71 @@
+//! The last stage of mode `replay`: the schedule is done on the machine of the plan, and what this tells is written.
+
+ghost use Rattle.std.specs.Prelude.{◌≡◌, ◌≤◌, Some, IfOk, IfErr, IfSome, length};
+ghost use Rattle.prl_stages.specs.Replayed.{schedule_refusal};
+ghost use Rattle.prl_stages.specs.Stages.{Holds, IsText, stages_after};
+ghost use Rattle.prl_executions.specs.Ready.{IsReady};
+ghost use Rattle.prl_calls.specs.Stops.{given_of, AllHold, StopsAt, StopsIn};
+ghost use Rattle.prl_executions.specs.code.Faults.{IsOfTask};
+
+use crate::ready::{Ready, make_ready};
+use prl_arguments::Mode;
+use prl_calls::{Request, task_name};
+use prl_plan::TaskGraph;
+use prl_replay::{ReplayFault, replay, trace_text};
+use prl_stages::{Fault, MAX_BODIES, MAX_PROGRAM, ScheduleRefusal, Stage, Stop};
+use std::alloc::Global;
+
+/// The refusal that a fault of a schedule is; None is want of memory.
+pub(crate) fn schedule_refusal(
+    alloc: Global,
+    graph: &TaskGraph,
+    fault: ReplayFault,
+) -> Option<ScheduleRefusal>
+    requires { IsOfTask (length graph.now.tasks) fault }
+    ensures { IfSome result (λ refusal. schedule_refusal graph.now fault ≡ Some refusal) }
+{
+    match fault {
+        ReplayFault::Syntax(line) => Some(ScheduleRefusal::Syntax(line)),
+        ReplayFault::Illegal { line, rule } => Some(ScheduleRefusal::Illegal { line, rule }),
+        ReplayFault::Unfinished { task, job } => {
+            let name = task_name(alloc, graph, task).ok()?;
+            Some(ScheduleRefusal::Unfinished { name, job })
+        }
+        ReplayFault::Memory => None,
+    }
+}
+
+/// The text of the replay of the schedule.
+fn replay_of(alloc: Global, request: &Request, ready: &Ready) -> Result<Vec<u8>, Stop>
+    requires { IsReady (given_of request.now) ready.now }
+    ensures text { IfOk result (λ text. IsText (given_of request.now) Mode.Replay text.items) }
+    ensures holds { IfOk result (λ _. Holds (given_of request.now) Stage.Schedule) }
+    ensures stop { IfErr result (StopsAt (given_of request.now) Stage.Schedule) }
+{
+    match replay(
+        alloc,
+        &ready.plan,
+        &ready.bodies,
+        &ready.sensors,
+        ready.horizon,
+        &request.texts.schedule,
+    ) {
+        Ok(trace) => Ok(trace_text(alloc, &ready.plan, &trace)?),
+        Err(fault) => match schedule_refusal(alloc, ready.plan.graph(), fault) {
+            Some(refusal) => Err(Stop::Refused(Stage::Schedule, Fault::Schedule(refusal))),
+            None => Err(Stop::Memory),
+        },
+    }
+}
+
+/// Mode `replay`.
+pub fn replayed_text(alloc: Global, request: &Request) -> Result<Vec<u8>, Stop>
+    requires program { length request.now.texts.program.items ≤ MAX_PROGRAM }
+    requires bodies { length request.now.texts.bodies.items ≤ MAX_BODIES }
+    ensures text { IfOk result (λ text. IsText (given_of request.now) Mode.Replay text.items) }
+    ensures holds { IfOk result (λ _. AllHold (given_of request.now) (stages_after Mode.Replay request.now.named)) }
+    ensures stop { IfErr result (StopsIn (given_of request.now) (stages_after Mode.Replay request.now.named)) }
+{
+    let ready = make_ready(alloc, request)?;
+    replay_of(alloc, request, &ready)
+}

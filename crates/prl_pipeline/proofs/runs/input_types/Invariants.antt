@@ -1,9 +1,0 @@
-use Rattle.std.proofs.Common.{◌≡◌, map, take}
-use Rattle.std.specs.Prelude.{slice_get}
-use Rattle.prl_base.specs.declared.numbers.FlowNo.{FlowNo}
-use Rattle.prl_stages.specs.Runs.{type_of_flow}
-use Rattle.prl_pipeline.proofs.runs.input_types.Given as goal
-
--- the types of the flows so far
-abbrev pub invariant-loop-flow : goal.invariant-loop-flow
-invariant-loop-flow l = l.types.items ≡ map (λ (flow : FlowNo). type_of_flow (slice_get l.flat.flows flow.0)) (take l.flow-index l.flat.ins)

@@ -1,0 +1,15 @@
+-- What private functions say of modes.
+use Rattle.prl_arguments.specs.declared.arguments.Mode.{Mode}
+use Rattle.prl_arguments.specs.declared.arguments.Mode.TheVariants as modes
+
+-- the mode runs nothing
+abbrev pub RunsNothing : Mode → Type 0
+RunsNothing modes.Run = ⊥
+RunsNothing modes.Generate = ⊥
+RunsNothing modes.Cycle = ⊥
+RunsNothing mode = Unit {0}
+
+-- the texts of the mode are those of files
+abbrev pub HasFiles : Mode → Type 0
+HasFiles modes.Generate = ⊥
+HasFiles mode = Unit {0}

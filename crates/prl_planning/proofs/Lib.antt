@@ -1,0 +1,2 @@
+mod AcceptedLines
+mod TooMany

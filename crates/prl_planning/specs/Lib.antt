@@ -1,0 +1,2 @@
+-- What private functions say to one another.
+pub mod code
